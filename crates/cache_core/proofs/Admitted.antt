@@ -92,10 +92,10 @@ started-room n (Some t) b e = let le : n ≤ n = omega arith in subst (λ o. Mat
 pub forgot-started : (n : ℕ) (t : Option Taped) → IsAtRest t → t ≡ option_map forgets (option_map (started n) t)
 forgot-started n None rests = refl
 forgot-started n (Some t) rests =
-    ap (λ b. Some (record { records = t.records; begun = b; steps = t.steps; spare = t.spare; drafted = t.drafted })) rests.closed
-    ∙ ap (λ ss. Some (record { records = t.records; begun = false; steps = ss; spare = t.spare; drafted = t.drafted })) rests.steps
-    ∙ ap (λ k. Some (record { records = t.records; begun = false; steps = []; spare = k; drafted = t.drafted })) rests.spare
-    ∙ ap (λ d. Some (record { records = t.records; begun = false; steps = []; spare = 0; drafted = d })) rests.undrafted
+    ap (λ b. Some (record { journal = t.journal; begun = b; steps = t.steps; spare = t.spare; drafted = t.drafted })) rests.closed
+    ∙ ap (λ ss. Some (record { journal = t.journal; begun = false; steps = ss; spare = t.spare; drafted = t.drafted })) rests.steps
+    ∙ ap (λ k. Some (record { journal = t.journal; begun = false; steps = []; spare = k; drafted = t.drafted })) rests.spare
+    ∙ ap (λ d. Some (record { journal = t.journal; begun = false; steps = []; spare = 0; drafted = d })) rests.undrafted
 
 module _ {S T : Type 0} (view : S → Values) (tape : T → Option Taped) (base : Base S T) (latest : ℕ) (cs : List Connection) (order : IsInOrder view tape (state_of base latest cs)) where
   -- the record is begun

@@ -44,7 +44,7 @@ use Rattle.cache_loads.specs.declared.standing.Standing.TheVariants as now_is
 use Rattle.cache_store.specs.Promises.{Frame}
 use Rattle.cache_store.specs.Running.{is_bounded}
 use Rattle.cache_store.specs.Values.{IsSoundStore, Values}
-use Rattle.cache_tape.specs.Taped.{IsAtRest, IsBegun, Taped, finishes, started}
+use Rattle.cache_tape.specs.Taped.{IsAtRest, IsBegun, Taped, finishes, started, with_entry}
 use Rattle.cache_core.specs.Fed.{WantsMemory}
 use Rattle.cache_core.specs.Settled.{Absent, Closed, Course, Moves, Piece, Resting, Running, course_at, course_of, closing_of_steps, middle_of}
 use Rattle.cache_core.specs.Settling.{AllLookAsBefore, BeginsAnswer, Happens, PartsUnknown, answering, but_for, giving_up, known_of_loads, waiting_on}
@@ -162,12 +162,12 @@ settled-kept happened own notices steps n tape begun middle final rests starts a
     go (Some t) (Some m) r e f =
         let is : written m ≡ adds steps (written (started n t)) = same_Some _ _ e in
         f
-        ∙ ap (λ rs. Some (record { records = rs ++ entry m.steps ∷ []; begun = false; steps = []; spare = 0; drafted = None })) (ap (λ (x : Taped). x.records) is)
-        ∙ ap (λ ss. Some (record { records = t.records ++ entry ss ∷ []; begun = false; steps = []; spare = 0; drafted = None })) (ap (λ (x : Taped). x.steps) is)
-        ∙ ap (λ b. Some (record { records = t.records ++ entry steps ∷ []; begun = b; steps = []; spare = 0; drafted = None })) (sym r.closed)
-        ∙ ap (λ ss. Some (record { records = t.records ++ entry steps ∷ []; begun = t.begun; steps = ss; spare = 0; drafted = None })) (sym r.steps)
-        ∙ ap (λ k. Some (record { records = t.records ++ entry steps ∷ []; begun = t.begun; steps = t.steps; spare = k; drafted = None })) (sym r.spare)
-        ∙ ap (λ d. Some (record { records = t.records ++ entry steps ∷ []; begun = t.begun; steps = t.steps; spare = t.spare; drafted = d })) (sym r.undrafted)
+        ∙ ap (λ rs. Some (record { journal = with_entry (entry m.steps) rs; begun = false; steps = []; spare = 0; drafted = None })) (ap (λ (x : Taped). x.journal) is)
+        ∙ ap (λ ss. Some (record { journal = with_entry (entry ss) t.journal; begun = false; steps = []; spare = 0; drafted = None })) (ap (λ (x : Taped). x.steps) is)
+        ∙ ap (λ b. Some (record { journal = with_entry (entry steps) t.journal; begun = b; steps = []; spare = 0; drafted = None })) (sym r.closed)
+        ∙ ap (λ ss. Some (record { journal = with_entry (entry steps) t.journal; begun = t.begun; steps = ss; spare = 0; drafted = None })) (sym r.steps)
+        ∙ ap (λ k. Some (record { journal = with_entry (entry steps) t.journal; begun = t.begun; steps = t.steps; spare = k; drafted = None })) (sym r.spare)
+        ∙ ap (λ d. Some (record { journal = with_entry (entry steps) t.journal; begun = t.begun; steps = t.steps; spare = t.spare; drafted = d })) (sym r.undrafted)
 
 -- a record is under way
 pub begun-middle : (steps : List Step) (n : ℕ) (tape begun middle : Option Taped) → begun ≡ option_map (started n) tape → option_map written middle ≡ option_map (adds steps) (option_map written begun) → IsBegun middle

@@ -39,7 +39,7 @@ added-both false text mid last xs ys zs a c e = c ∙ ap (λ t. t ++ ys) a ∙ a
 
 adds-both : (xs ys : List Step) (t : Option Taped) → option_map (adds ys) (option_map (adds xs) t) ≡ option_map (adds (xs ++ ys)) t
 adds-both xs ys None = refl
-adds-both xs ys (Some t) = ap (λ ss. Some (record { records = t.records; begun = t.begun; steps = ss; spare = t.spare; drafted = t.drafted })) (append_assoc t.steps xs ys)
+adds-both xs ys (Some t) = ap (λ ss. Some (record { journal = t.journal; begun = t.begun; steps = ss; spare = t.spare; drafted = t.drafted })) (append_assoc t.steps xs ys)
 
 some-map : {A B : Type 0} (f : A → B) (t : Option A) → is_some (option_map f t) ≡ is_some t
 some-map f None = refl

@@ -14,6 +14,7 @@ mod Own
 mod Records
 mod Spots
 mod Steps
+mod Suiting
 mod Table
 mod Takings
 mod Touched

@@ -26,7 +26,7 @@ use Rattle.cache_loads.specs.Pending.{SameTaken, loads_pending, sent_of}
 use Rattle.cache_loads.specs.declared.loads.Loads.{Loads}
 use Rattle.cache_loads.specs.declared.standing.Standing.TheVariants as now
 use Rattle.cache_store.specs.Values.{IsSoundStore, Values}
-use Rattle.cache_tape.specs.Taped.{IsAtRest, Taped, finishes, started}
+use Rattle.cache_tape.specs.Taped.{IsAtRest, Taped, finishes, started, with_entry}
 use Rattle.cache_core.specs.Fed.{ReplacedAt}
 use Rattle.cache_connection.specs.Parts.{standing_as}
 use Rattle.cache_connection.specs.Shown.{open_from, shown}
@@ -47,10 +47,10 @@ pub kept-bare : (happened : Event) (tape middle final : Option Taped) → IsAtRe
 kept-bare happened None middle final rests begun ended = ended ∙ ap (option_map (finishes happened None [])) begun
 kept-bare happened (Some t) middle final rests begun ended =
     ended ∙ ap (option_map (finishes happened None [])) begun
-    ∙ ap (λ b. Some (record { records = t.records ++ record_of happened ∷ []; begun = b; steps = []; spare = 0; drafted = None })) (sym rests.closed)
-    ∙ ap (λ ss. Some (record { records = t.records ++ record_of happened ∷ []; begun = t.begun; steps = ss; spare = 0; drafted = None })) (sym rests.steps)
-    ∙ ap (λ n. Some (record { records = t.records ++ record_of happened ∷ []; begun = t.begun; steps = t.steps; spare = n; drafted = None })) (sym rests.spare)
-    ∙ ap (λ d. Some (record { records = t.records ++ record_of happened ∷ []; begun = t.begun; steps = t.steps; spare = t.spare; drafted = d })) (sym rests.undrafted)
+    ∙ ap (λ b. Some (record { journal = with_entry (record_of happened) t.journal; begun = b; steps = []; spare = 0; drafted = None })) (sym rests.closed)
+    ∙ ap (λ ss. Some (record { journal = with_entry (record_of happened) t.journal; begun = t.begun; steps = ss; spare = 0; drafted = None })) (sym rests.steps)
+    ∙ ap (λ n. Some (record { journal = with_entry (record_of happened) t.journal; begun = t.begun; steps = t.steps; spare = n; drafted = None })) (sym rests.spare)
+    ∙ ap (λ d. Some (record { journal = with_entry (record_of happened) t.journal; begun = t.begun; steps = t.steps; spare = t.spare; drafted = d })) (sym rests.undrafted)
 
 pub none-more : {A : Type 0} (b : Bool) (xs : List A) → xs ≡ xs ++ (if b then [] else [])
 none-more true xs = sym (append-nil xs)

@@ -55,7 +55,7 @@ use Rattle.cache_core.proofs.Turning.{found-is, found-open, outputs-by, put-situ
 
 adds-none : (t : Option Taped) → option_map written t ≡ option_map (adds []) (option_map written t)
 adds-none None = refl
-adds-none (Some t) = ap (λ ss. Some (record { records = t.records; begun = t.begun; steps = ss; spare = 0; drafted = None })) (sym (append-nil t.steps))
+adds-none (Some t) = ap (λ ss. Some (record { journal = t.journal; begun = t.begun; steps = ss; spare = 0; drafted = None })) (sym (append-nil t.steps))
 
 -- ---- how a connection goes on
 

@@ -1,5 +1,5 @@
 -- What a namespace is to whoever calls it.
-use Rattle.std.specs.Prelude.{◌≡◌, ℕ, zero, suc, ◌-◌, ◌<◌, ◌≤◌, ◌^◌, Bool, true, nat_lt, nat_le, ◌&&◌, List, [], length, map, Option, None, is_some, unwrap_or}
+use Rattle.std.specs.Prelude.{◌≡◌, ℕ, zero, suc, ◌-◌, ◌<◌, ◌≤◌, ◌^◌, Bool, true, nat_lt, nat_le, ◌&&◌, List, [], length, map, Option, None, is_none, is_some, unwrap_or, IsTrue}
 use Rattle.std.specs.List.{slice_get}
 use Rattle.audit_model.specs.Belongs.{Known}
 use Rattle.audit_model.specs.Follows.{known_in}
@@ -12,6 +12,7 @@ use Rattle.cache_leads.specs.Waiters.{WaitForLoads}
 use Rattle.cache_store.specs.Values.{Values}
 use Rattle.cache_tape.specs.Taped.{IsAtRest, Taped}
 use Rattle.cache_lines.specs.declared.base.Base.{Base}
+use Rattle.cache_loads.specs.Keys.{were_sent}
 use Rattle.cache_loads.specs.Pending.{loads_pending, namespace_of_loads, outgoing_loads, sent_of}
 use Rattle.cache_connection.specs.Shown.{open_from}
 use Rattle.cache_connection.specs.declared.connection.Connection.{Connection}
@@ -96,3 +97,11 @@ module _ {S T : Type 0} where
     -- those that wait for a load do wait, each once; and what waits are `LOAD`s
     pub tidy : Tidy [] (situation_with view n [])
     pub reads : WaitForLoads (view n.store).frame.config (situation_with view n [])
+
+-- how its parts suit one another: a connection that was opened has replies, and is listed just while it has not closed; no load was not sent,
+-- and no more went out than were
+pub record SuitsItself {S T : Type 0} (view : S → Values) (n : State S T) : Type 0 where
+  pub listed : (number : ℕ) → was_opened n number ≡ true → is_some (model.connection_in number (situation_with view n [])) ≡ is_none (closing_in n number)
+  pub counted : length n.outputs ≡ length n.closings
+  pub sent : IsTrue (were_sent n.sent n.pending)
+  pub fewer : length n.outgoing ≤ n.sent

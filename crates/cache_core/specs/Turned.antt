@@ -20,7 +20,7 @@ use Rattle.audit_model.specs.declared.transcript.Record.{Record}
 use Rattle.audit_model.specs.declared.transcript.Step.{Step}
 use Rattle.cache_store.specs.Running.{is_bounded}
 use Rattle.cache_store.specs.Values.{Values}
-use Rattle.cache_tape.specs.Taped.{Taped}
+use Rattle.cache_tape.specs.Taped.{Taped, with_entry}
 use Rattle.cache_lines.specs.Drawing.{StepsDraw, identifiers_in}
 use Rattle.cache_lines.specs.Ended.{ends_held, ends_silent}
 use Rattle.cache_lines.specs.Gathered.{reply_in}
@@ -62,7 +62,7 @@ notes_in entry = flat_map (λ step. step.notices) (steps_of entry)
 
 -- the record stands behind the others
 abbrev pub with_record : Record → Taped → Taped
-with_record entry t = record t { records = t.records ++ entry ∷ [] }
+with_record entry t = record t { journal = with_entry entry t.journal }
 
 -- From that situation the event's record followed to one that the new state stands for. Where records are kept it stands behind them; else the
 -- replies of its steps stand behind the output of each connection, and its notes behind the notes. Each connection is closed for the reason that

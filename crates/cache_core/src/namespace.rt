@@ -4,7 +4,7 @@ ghost use Rattle.audit_model.specs.Belongs.{refusal_of};
 ghost use Rattle.audit_model.specs.Situation.{Situation, is_holding_in};
 ghost use Rattle.audit_model.specs.declared.event.Event.TheVariants as event;
 ghost use Rattle.cache_core.specs.Settling.{Happens, answering, giving_up};
-ghost use Rattle.cache_core.specs.State.{IsInOrder, StandsFor, closing_in, known_of, loads_taken_of, output_in, situation_with, was_opened};
+ghost use Rattle.cache_core.specs.State.{IsInOrder, StandsFor, SuitsItself, closing_in, known_of, loads_taken_of, output_in, situation_with, was_opened};
 ghost use Rattle.cache_core.specs.Turned.{RefusesBy, Turns, feeding, is_waiting_in};
 ghost use Rattle.cache_loads.specs.Keys.{are_in_turn, have_their_keys};
 ghost use Rattle.cache_store.specs.Handing.{TakesFirstNote};
@@ -293,6 +293,22 @@ impl<S: Store, T: Tape> Namespace<S, T> {
         Ok(waits_at_place(&self.connections, index))
     }
 
+    /// How many loads are under way: sent, and neither answered nor given up, whether they were taken or not.
+    pub fn loads_open(&self) -> u64
+        ensures { result ≡ length self.now.pending }
+    {
+        self.base.loads.count() as u64
+    }
+
+    /// The tape of its records, moved out. Takes no memory.
+    pub fn into_tape(self) -> T
+        ensures { result ≡ self.tape }
+    {
+        let Namespace { base, .. } = self;
+        let Base { tape, .. } = base;
+        tape
+    }
+
     /// The tape of its records.
     pub fn tape(&self) -> &T
         ensures { result.now ≡ self.now.tape }
@@ -307,10 +323,11 @@ impl<S: Store, T: Tape> Namespace<S, T> {
         self.base.store.store()
     }
 
-    /// What is true of every namespace: it stands for a situation, and is in order. It does nothing.
+    /// What is true of every namespace: it stands for a situation, is in order, and its parts suit one another. It does nothing.
     pub fn sound(&self)
         ensures stands { (s : Situation) × StandsFor S.view self.now s }
         ensures order { IsInOrder S.view T.view self.now }
+        ensures suits { SuitsItself S.view self.now }
     {
         self.base.store.sound();
     }

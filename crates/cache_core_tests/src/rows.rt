@@ -382,8 +382,8 @@ fn bare(alloc: Global, config: Config) -> Result<Space<Values, Bare>, AllocError
 
 /// One that keeps records.
 fn kept(alloc: Global, config: Config) -> Result<Space<Values, Kept>, AllocError> {
-    match make(alloc, config, Kept::new(alloc), true) {
-        Err(_) => make(alloc, config, Kept::new(alloc), true),
+    match make(alloc, config, Kept::new(alloc, START), true) {
+        Err(_) => make(alloc, config, Kept::new(alloc, START), true),
         made => made,
     }
 }

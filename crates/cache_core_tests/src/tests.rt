@@ -96,7 +96,7 @@ fn stays(alloc: Global) -> bool {
 
 /// Whether they go into records, where any are kept.
 fn goes(alloc: Global) -> bool {
-    is_so(became(alloc, Kept::new(alloc)), b"")
+    is_so(became(alloc, Kept::new(alloc, Instant { nanos: 0 })), b"")
 }
 
 // Each tries a second time, for when an allocation is refused.

@@ -1,3 +1,4 @@
 pub mod Failures
 pub mod Sent
+pub mod Sources
 pub mod Watched

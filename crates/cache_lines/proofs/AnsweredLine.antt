@@ -42,7 +42,7 @@ gathered-one was is number line old_text reply text accepted told waiting None f
 gathered-one was is number line old_text reply text accepted told waiting (Some t) fresh wrote noted left =
     let said : text ≡ reply = wrote ∙ ap (λ o. o ++ reply) fresh.0 in
     let notes : waiting ≡ told = noted ∙ ap (λ o. o ++ told) fresh.1 in
-    let kept : List ℕ → List Note → Option Taped = λ r ns. Some (record { records = t.records; begun = t.begun; steps = t.steps ++ step_saying number line r accepted ns ∷ []; spare = 0; drafted = None }) in
+    let kept : List ℕ → List Note → Option Taped = λ r ns. Some (record { journal = t.journal; begun = t.begun; steps = t.steps ++ step_saying number line r accepted ns ∷ []; spare = 0; drafted = None }) in
     ap (λ o. record { text = o; kept = kept text waiting; waiting = is.untaken }) (sym fresh.0)
     ∙ ap (λ w. record { text = old_text; kept = kept text waiting; waiting = w }) (left ∙ sym fresh.1)
     ∙ ap (λ r. record { text = old_text; kept = kept r waiting; waiting = was.untaken }) said

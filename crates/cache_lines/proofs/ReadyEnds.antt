@@ -46,7 +46,7 @@ pub gathered-waits : (values : Values) (text : List ℕ) (number : ℕ) (line : 
 gathered-waits values text number line load None drafted =
     ap (λ t. record { text = t; kept = None; waiting = values.untaken }) (sym (append-nil text)) ∙ ap (λ n. record { text = text ++ []; kept = None; waiting = n }) (sym (append-nil values.untaken))
 gathered-waits values text number line load (Some t) drafted =
-    ap (λ l. record { text = text; kept = Some (record { records = t.records; begun = t.begun; steps = t.steps ++ step_silent number l load None [] ∷ []; spare = 0; drafted = None }); waiting = values.untaken })
+    ap (λ l. record { text = text; kept = Some (record { journal = t.journal; begun = t.begun; steps = t.steps ++ step_silent number l load None [] ∷ []; spare = 0; drafted = None }); waiting = values.untaken })
     (ap (λ o. unwrap_or o []) drafted)
 
 -- ---- lines that stopped

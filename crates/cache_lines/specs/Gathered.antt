@@ -18,7 +18,7 @@ stage values text tape = record { values = values; text = text; tape = tape }
 
 -- a tape's records and steps, whatever room it has
 abbrev pub written : Taped → Taped
-written t = record { records = t.records; begun = t.begun; steps = t.steps; spare = 0; drafted = None }
+written t = record { journal = t.journal; begun = t.begun; steps = t.steps; spare = 0; drafted = None }
 
 -- the replies written and not taken, what the tape keeps, if anything, and the notes told and not taken
 pub record Gathered : Type 0 where
@@ -34,7 +34,7 @@ reply_in step = unwrap_or step.reply []
 
 -- these steps stand behind those of the record under way
 abbrev pub adds : List Step → Taped → Taped
-adds steps t = record { records = t.records; begun = t.begun; steps = t.steps ++ steps; spare = t.spare; drafted = t.drafted }
+adds steps t = record { journal = t.journal; begun = t.begun; steps = t.steps ++ steps; spare = t.spare; drafted = t.drafted }
 
 -- what is gathered when these steps have run: where a record is made they hold their own replies and notes
 abbrev pub gather : Gathered → List Step → Gathered

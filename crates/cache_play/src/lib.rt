@@ -1,12 +1,16 @@
 //! Inputs, played from a service just made.
 #![tactic(auto)]
 
-ghost use Rattle.std.specs.Prelude.{◌≡◌, ◌≤◌, ◌<◌, ◌^◌, ◌↔◌, ◌⊎◌, false, IfOk, IfErr, IsErrOf};
+ghost use Rattle.std.specs.Prelude.{◌≡◌, ◌≤◌, ◌<◌, ◌^◌, ◌↔◌, ◌⊎◌, false, IfOk, IfErr, IsErrOf, OnErr};
+ghost use Rattle.cache_spaces.specs.Calls.{At};
+ghost use Rattle.cache_spaces.specs.Inputs.{Performs, namespace_of};
+ghost use Rattle.cache_spaces.specs.Journals.{kept_by};
 ghost use Rattle.cache_spaces.specs.Played.{ArePlayed};
 ghost use Rattle.cache_spaces.specs.Services.{are_taken};
 
 use audit_model::{Config, Input, Instant, ServiceError, Transcript};
-use cache_spaces::RecordedService;
+use audit_receipts::copy_input;
+use cache_spaces::{Output, RecordedService};
 use rand_xoshiro::Xoshiro256PlusPlus;
 use std::alloc::Global;
 
@@ -32,7 +36,25 @@ pub fn play(
         Err(error) => return Err(error),
     };
     for input in inputs {
-        let _ = recorded.record(input);
+        let _ = hand_in(alloc, &mut recorded, input);
     }
     Ok(recorded.into_journals())
+}
+
+/// Hands in a copy of an input. An `Err`, also for want of memory for the copy, changes nothing.
+fn hand_in(
+    alloc: Global,
+    recorded: &mut RecordedService,
+    input: &Input,
+) -> Result<Output, ServiceError>
+    ensures performed { IfOk result (λ output. At recorded.old recorded.new (namespace_of input.now) (Performs kept_by input.now output)) }
+    ensures unchanged { OnErr result (recorded.new ≡ recorded.old) }
+{
+    let Ok(copy) = copy_input(alloc, input) else {
+        return Err(ServiceError::OutOfMemory);
+    };
+    match recorded.step(copy) {
+        Ok(output) => Ok(output),
+        Err(refusal) => Err(refusal.error),
+    }
 }

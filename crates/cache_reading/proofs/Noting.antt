@@ -1,7 +1,7 @@
 -- Notes in lists of records.
-use Rattle.std.proofs.Common.{◌≡◌, ℕ, zero, suc, ◌+◌, ◌<◌, ◌≤◌, List, [], ◌∷◌, ◌++◌, length, get_or, take, drop, map, Option, Some, None, refl, sym, ap, ◌∙◌, arith, add-one}
+use Rattle.std.proofs.Common.{◌≡◌, ℕ, zero, suc, ◌+◌, ◌≤◌, List, [], ◌∷◌, ◌++◌, length, get_or, take, drop, map, Option, Some, None, refl, sym, ap, ◌∙◌, arith, add-one}
 use Rattle.std.specs.Prelude.{Result, Ok, Err, IfOk, IsNone}
-use Rattle.std.specs.List.{flat_map, slice_get}
+use Rattle.std.specs.List.{slice_get}
 use Rattle.std.specs.Option.{option_to_list}
 use Rattle.std.proofs.Math.ListN.{drop_of_length-le}
 use Rattle.std.proofs.Math.Seq.{drop-nil}
@@ -11,7 +11,7 @@ use Rattle.std.proofs.lemmas.Option.{none-some, same_Some}
 use Rattle.audit_model.specs.declared.transcript.Note.{Note}
 use Rattle.audit_model.specs.declared.transcript.Record.{Record}
 use Rattle.audit_model.specs.declared.transcript.Step.{Step}
-use Rattle.cache_reading.specs.Notes.{before_in, lists_joined, lists_of, notes_before, notes_of_records, rest_in, lists_at, notes_from, told_at}
+use Rattle.cache_reading.specs.Notes.{TakesFrom, before_in, lists_joined, lists_of, notes_before, notes_of_records, rest_in, lists_at, notes_from, told_at}
 use Rattle.cache_reading.specs.declared.told.Told.{Told}
 
 module _ {X : Type 0} where
@@ -154,12 +154,12 @@ told-grows records was is given e =
     (sym (all-notes records is) ∙ all-notes records was ∙ ap (λ l. notes_before records was ++ l) e ∙ sym (append_assoc (notes_before records was) given (notes_from records is)))
 
 module _ {E : Type 0} where
-  pub told-note : (records : List Record) (was is : Told) (r : Result (Option Note) E) → IfOk r (λ note. notes_from records was ≡ option_to_list note ++ notes_from records is)
-      → IfOk r (λ note. notes_before records is ≡ notes_before records was ++ option_to_list note)
-  told-note records was is (Ok note) e = told-grows records was is (option_to_list note) e
+  pub told-note : (records : List Record) (was is : Told) (r : Result (Option Note) E) → IfOk r (TakesFrom records was is)
+      → IfOk r (λ note. (notes_before records is ≡ notes_before records was ++ option_to_list note) × (notes_from records was ≡ option_to_list note ++ notes_from records is))
+  told-note records was is (Ok told) e = (told-grows records was is (option_to_list told) e, e)
   told-note records was is (Err x) e = e
 
   pub told-all : (records : List Record) (was : Told) (r : Result (Option Note) E) → IfOk r (λ note. IsNone note → notes_from records was ≡ [])
-      → IfOk r (λ note. IsNone note → notes_before records was ≡ notes_of_records records)
-  told-all records was (Ok note) e = λ none. sym (append-nil (notes_before records was)) ∙ ap (λ l. notes_before records was ++ l) (sym (e none)) ∙ sym (all-notes records was)
+      → IfOk r (λ note. IsNone note → (notes_before records was ≡ notes_of_records records) × (notes_from records was ≡ []))
+  told-all records was (Ok told) e = λ none. (sym (append-nil (notes_before records was)) ∙ ap (λ l. notes_before records was ++ l) (sym (e none)) ∙ sym (all-notes records was), e none)
   told-all records was (Err x) e = e

@@ -1,7 +1,7 @@
 -- The notes that records hold, and those that were not taken.
-use Rattle.std.specs.Prelude.{ℕ, ◌+◌, List, [], ◌∷◌, ◌++◌, map, get_or, take, drop}
+use Rattle.std.specs.Prelude.{◌≡◌, ℕ, ◌+◌, Option, List, [], ◌∷◌, ◌++◌, map, get_or, take, drop}
 use Rattle.std.specs.List.{flat_map, slice_get}
-use Rattle.std.specs.Option.{option_map_or}
+use Rattle.std.specs.Option.{option_map_or, option_to_list}
 use Rattle.audit_model.specs.declared.transcript.Note.{Note}
 use Rattle.audit_model.specs.declared.transcript.Record.{Record}
 use Rattle.cache_reading.specs.declared.told.Told.{Told}
@@ -42,3 +42,7 @@ notes_from records told = rest_in (lists_at records told.entry) told.list told.n
 -- how far the notes of a namespace were taken; from the first one where nothing is kept
 abbrev pub told_at : List Told → ℕ → Told
 told_at places namespace = get_or places namespace (record { entry = 0; list = 0; note = 0 })
+
+-- the first of the notes from one place on is taken, if there is one, and those from another place on are left
+abbrev pub TakesFrom : List Record → Told → Told → Option Note → Type 0
+TakesFrom records was is note = notes_from records was ≡ option_to_list note ++ notes_from records is

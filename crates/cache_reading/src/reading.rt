@@ -2,14 +2,11 @@
 ghost use Rattle.std.specs.Prelude.{◌≡◌, ◌≢◌, ℕ, ◌<◌, ◌≤◌, ◌⊎◌, ◌++◌, [], true, length, drop, vec_len, IsNone, IfOk, IfErr, OnOk, OnErr};
 ghost use Rattle.std.specs.Option.{option_to_list};
 ghost use Rattle.cache_reading.specs.Cursors.{reply_cursor};
-ghost use Rattle.cache_reading.specs.Notes.{notes_from, told_at};
+ghost use Rattle.cache_reading.specs.Notes.{TakesFrom, notes_from, told_at};
 ghost use Rattle.cache_reading.specs.Replies.{records_at, replies_for};
 ghost use Rattle.audit_model.specs.declared.input.Conn.{Conn};
-ghost use Rattle.cache_namespace.specs.Taken.{known};
-ghost use Rattle.cache_spaces.specs.Journals.{journals_of, service_of};
-ghost use Rattle.cache_spaces.specs.Serves.{IsUnknown};
-ghost use Rattle.cache_spaces.specs.Services.{InSpace, RefusesLook, spaces_of};
-ghost use Rattle.cache_spaces.specs.Spaces.{connections_of};
+ghost use Rattle.cache_spaces.specs.Calls.{InSpace, IsOpened, IsUnknown, Refuses};
+ghost use Rattle.cache_spaces.specs.Journals.{journals_of};
 
 use crate::cursors::{cursor_of, set_cursor};
 use crate::replies::gather_from;
@@ -58,13 +55,11 @@ impl ReadService {
     ///
     /// It is copied. Refused with `NoNamespace`, and with `OutOfMemory` where there is no memory for the copy; then nothing has changed.
     pub fn next_notice(&mut self, namespace: u64) -> Result<Option<Note>, ServiceError>
-        ensures note { IfOk result (λ note. notes_taken self.new namespace ≡ notes_taken self.old namespace ++ option_to_list note) }
-        ensures none { IfOk result (λ note. IsNone note → notes_taken self.old namespace ≡ notes_of_records (records_at (journals_in self.old) namespace)) }
-        ensures rest { IfOk result (λ note. untold_in self.old namespace ≡ option_to_list note ++ untold_in self.new namespace) }
-        ensures last { IfOk result (λ note. IsNone note → untold_in self.old namespace ≡ []) }
+        ensures note { IfOk result (λ note. (notes_taken self.new namespace ≡ notes_taken self.old namespace ++ option_to_list note) × (untold_in self.old namespace ≡ option_to_list note ++ untold_in self.new namespace)) }
+        ensures none { IfOk result (λ note. IsNone note → (notes_taken self.old namespace ≡ notes_of_records (records_at (journals_in self.old) namespace)) × (untold_in self.old namespace ≡ [])) }
         ensures all { notes_of_records (records_at (journals_in self.new) namespace) ≡ notes_taken self.new namespace ++ untold_in self.new namespace }
         ensures others { (other : ℕ) → other ≢ namespace → (notes_taken self.new other ≡ notes_taken self.old other) × (untold_in self.new other ≡ untold_in self.old other) }
-        ensures refused { IfErr result (λ e. (e ≡ ServiceError.OutOfMemory) ⊎ ((e ≡ ServiceError.NoNamespace) × (length (spaces_of (service_of (recorded_of self.old))) ≤ namespace))) }
+        ensures refused { IfErr result (λ e. (e ≡ ServiceError.OutOfMemory) ⊎ ((e ≡ ServiceError.NoNamespace) × (length (recorded_of self.old) ≤ namespace))) }
         ensures kept { OnErr result ((notes_taken self.new namespace ≡ notes_taken self.old namespace) × (untold_in self.new namespace ≡ untold_in self.old namespace)) }
         ensures recorded { recorded_of self.new ≡ recorded_of self.old }
     {
@@ -96,9 +91,9 @@ pub fn take_replies(
 ) -> Result<Vec<u8>, ServiceError>
     ensures taken { IfOk result (λ text. text.items ≡ replies_for conn.number (drop (reply_cursor read.old.items conn.namespace conn.number) (records_at (journals_of recorded.now) conn.namespace))) }
     ensures all { IfOk result (λ text. reply_cursor read.new.items conn.namespace conn.number ≡ length (records_at (journals_of recorded.now) conn.namespace)) }
-    ensures known { OnOk result (InSpace (spaces_of (service_of recorded.now)) conn.namespace (λ space. (known (connections_of space)).was_opened conn.number ≡ true)) }
+    ensures known { OnOk result (InSpace recorded.now conn.namespace (λ space. IsOpened space conn.number)) }
     ensures others { (other : Conn) → other ≢ conn → reply_cursor read.new.items other.namespace other.number ≡ reply_cursor read.old.items other.namespace other.number }
-    ensures refused { IfErr result (λ e. (e ≡ ServiceError.OutOfMemory) ⊎ RefusesLook (spaces_of (service_of recorded.now)) conn.namespace e (λ space. IsUnknown space conn.number e)) }
+    ensures refused { IfErr result (λ e. (e ≡ ServiceError.OutOfMemory) ⊎ Refuses recorded.now conn.namespace e (λ space. IsUnknown space conn.number e)) }
     ensures kept { OnErr result (reply_cursor read.new.items conn.namespace conn.number ≡ reply_cursor read.old.items conn.namespace conn.number) }
 {
     match recorded.service().closed(conn) {
@@ -126,10 +121,10 @@ pub fn take_note(
     told: &mut Vec<Told>,
     namespace: u64,
 ) -> Result<Option<Note>, ServiceError>
-    ensures note { IfOk result (λ note. notes_from (records_at (journals_of recorded.now) namespace) (told_at told.old.items namespace) ≡ option_to_list note ++ notes_from (records_at (journals_of recorded.now) namespace) (told_at told.new.items namespace)) }
+    ensures note { IfOk result (TakesFrom (records_at (journals_of recorded.now) namespace) (told_at told.old.items namespace) (told_at told.new.items namespace)) }
     ensures none { IfOk result (λ note. IsNone note → notes_from (records_at (journals_of recorded.now) namespace) (told_at told.old.items namespace) ≡ []) }
     ensures others { (other : ℕ) → other ≢ namespace → told_at told.new.items other ≡ told_at told.old.items other }
-    ensures refused { IfErr result (λ e. (e ≡ ServiceError.OutOfMemory) ⊎ ((e ≡ ServiceError.NoNamespace) × (length (spaces_of (service_of recorded.now)) ≤ namespace))) }
+    ensures refused { IfErr result (λ e. (e ≡ ServiceError.OutOfMemory) ⊎ ((e ≡ ServiceError.NoNamespace) × (length recorded.now ≤ namespace))) }
     ensures kept { OnErr result (told_at told.new.items namespace ≡ told_at told.old.items namespace) }
 {
     let records = match recorded.journal(namespace) {
@@ -148,7 +143,7 @@ fn take_at(
     records: &[Record],
     place: &mut Told,
 ) -> Result<Option<Note>, ServiceError>
-    ensures note { IfOk result (λ note. notes_from records.now place.old ≡ option_to_list note ++ notes_from records.now place.new) }
+    ensures note { IfOk result (TakesFrom records.now place.old place.new) }
     ensures none { IfOk result (λ note. IsNone note → notes_from records.now place.old ≡ []) }
     ensures refused { IfErr result (λ e. e ≡ ServiceError.OutOfMemory) }
     ensures kept { OnErr result (place.new ≡ place.old) }

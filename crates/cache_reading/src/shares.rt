@@ -1,16 +1,15 @@
 //! The core that keeps its journals, and whose replies are taken.
 use crate::reading::{ReadService, take_replies};
 use audit_model::{Bytes, Closing, Conn, Input, LoadId, Note, ServiceError, Transcript};
-use cache_shared::{Core, Takings};
+use cache_shared::{Stepping, Takings};
 use cache_spaces::{Output, RecordedService, Refusal};
 
-impl Core for ReadService {
-    ghost use Rattle.cache_shared.specs.Events.{RecordedAs, record_count};
-    ghost use Rattle.cache_reading.specs.Read.{journals_in, service_in};
-    ghost use Rattle.cache_spaces.specs.Services.{spaces_of};
+impl Stepping for ReadService {
     ghost use Rattle.std.specs.Prelude.{true};
+    ghost use Rattle.cache_reading.specs.Read.{journals_in, spaces_in};
+    ghost use Rattle.cache_shared.specs.Events.{record_count};
 
-    ghost service = { service_in };
+    ghost spaces = { spaces_in };
 
     ghost events = { λ reader. record_count (journals_in reader) };
 
@@ -20,19 +19,17 @@ impl Core for ReadService {
 
     const KEEPS: bool = true;
 
-    ghost Recorded = { λ i output was is. RecordedAs i output (journals_in was) (journals_in is) (spaces_of (service_in was)) (spaces_of (service_in is)) };
-
     fn step(&mut self, input: Input) -> Result<Output, Refusal> {
         let ReadService { recorded, .. } = self;
-        <RecordedService as Core>::step(recorded, input)
+        <RecordedService as Stepping>::step(recorded, input)
     }
 
     fn stands(&self) {
-        Core::stands(&self.recorded)
+        Stepping::stands(&self.recorded)
     }
 
     fn journal(&self, namespace: u64) -> Result<&Transcript, ServiceError> {
-        Core::journal(&self.recorded, namespace)
+        Stepping::journal(&self.recorded, namespace)
     }
 }
 

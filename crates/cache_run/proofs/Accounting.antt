@@ -1,90 +1,66 @@
 -- What becomes of the loads of a namespace, call by call.
-use Rattle.std.proofs.Common.{◌≡◌, ◌≢◌, ℕ, zero, suc, ◌+◌, ◌-◌, ◌<◌, ◌≤◌, ◌==◌, ◌&&◌, ◌||◌, not, nat_lt, nat_le, Bool, true, false, List, [], ◌∷◌, length, take, if◌then◌else◌, Option, None, Some, is_some, cond, refl, sym, ap, ◌∙◌, subst, arith, inl, inr, ⊎_elim}
+use Rattle.std.proofs.Common.{◌≡◌, ◌≢◌, ℕ, zero, suc, ◌+◌, ◌-◌, ◌<◌, ◌≤◌, ◌==◌, ◌&&◌, ◌||◌, not, nat_lt, nat_le, Bool, true, false, List, [], ◌∷◌, length, take, Option, Some, is_some, cond, refl, sym, ap, ◌∙◌, subst, arith, inl, inr, ⊎_elim}
 use Rattle.std.specs.Prelude.{◌⊎◌}
 use Rattle.std.specs.List.{find, slice_get}
 use Rattle.std.specs.Option.{option_map}
-use Rattle.std.proofs.Math.Logic.{∥∥₁_elim}
-use Rattle.std.proofs.Props.{props}
 use Rattle.std.proofs.lemmas.Bool.{and_from, and_parts, cases_lt, eq-eqb, eqb-true, le-leb, leb-true, lt-ltb, ltb-true, ne_eqb, or_cases, or_left, or_right}
 use Rattle.std.proofs.lemmas.Option.{none-some, same_Some}
-use Rattle.audit_model.specs.Follows.{Follows, after_event}
+use Rattle.audit_model.specs.Follows.{Follows, after_event, tasks_in}
 use Rattle.audit_model.specs.Situation.{Situation, PendingLoad}
-use Rattle.audit_model.specs.declared.command.Closing.TheVariants as by
-use Rattle.audit_model.specs.declared.config.Config.{Config}
 use Rattle.audit_model.specs.declared.event.Event.{Event}
 use Rattle.audit_model.specs.declared.event.Event.TheVariants as event
 use Rattle.audit_model.specs.declared.input.LoadId.{LoadId}
 use Rattle.audit_model.specs.declared.transcript.Record.{Record}
-use Rattle.audit_model.specs.declared.transcript.Step.{Step}
 use Rattle.cache_loads.specs.Keys.{are_in_turn}
-use Rattle.cache_loads.specs.Pending.{sent_of}
-use Rattle.cache_namespace.specs.Taken.{record_of}
-use Rattle.cache_spaces.proofs.Putting.{same-space}
-use Rattle.cache_spaces.specs.Moves.{At}
-use Rattle.cache_spaces.specs.Serves as served
-use Rattle.cache_spaces.specs.Serves.{SameSpace, ServesEvent, TakesLoads, TakesOutput, known_of}
-use Rattle.cache_spaces.specs.Spaces.{StandsFor, closing_of, config_of, connections_of, outgoing_of, place_of, taken_of}
-use Rattle.cache_spaces.specs.declared.space.Space.{Space}
+use Rattle.cache_spaces.specs.Calls.{At, ServesEvent, Settled, TakesLoads, TakesOutput}
+use Rattle.cache_spaces.specs.Sound.{IsSound}
+use Rattle.cache_spaces.specs.Spaces.{StandsFor, config_of, known_of, outgoing_of, place_of, taken_of}
 use Rattle.audit_waiting_laws.specs.Sending.{IsSettlingOf, are_all, are_others, are_old_or_later, is_under_way}
 use Rattle.audit_waiting_laws.proofs.Sending.{all-from, all-own, all-without, one-of, passes-record, settle}
 use Rattle.cache_run.specs.Accounts.{Accounts, AddsNoLoads, HasTakenAll, KeepsLoads, SendsLater, SettlesLoad, are_accounted, is_left, pending_of, were_taken}
-use Rattle.cache_run.specs.Connected.{Connected}
-use Rattle.cache_run.proofs.Placing.{at-is, at-map, at-more, at-same, at-was}
-use Rattle.cache_run.proofs.Quiet.{close-still, open-still}
-use Rattle.cache_run.proofs.Settling.{situated}
-
--- ---- what a situation says of a namespace
-
-pub pending-is : (x : Space) (s : Situation) → StandsFor x s → s.pending ≡ pending_of x
-pending-is x s stands = ap (λ (t : Situation). t.pending) stands.same
-
-sent-is : (x : Space) (s : Situation) → StandsFor x s → s.sent ≡ sent_of x.inner.loads
-sent-is x s stands = ap (λ (t : Situation). t.sent) stands.same
-
-taken-sent : (x : Space) (s : Situation) → StandsFor x s → taken_of x ≤ s.sent
-taken-sent x s stands = let is = sent-is x s stands in omega arith
-
--- what is so of the loads under way, where each situation stays
-pub pending-same : (was is : Space) (f : List PendingLoad → Bool) → ((s : Situation) → StandsFor was s → StandsFor is s) → f (pending_of was) ≡ true → f (pending_of is) ≡ true
-pending-same was is f keep e =
-    ∥∥₁_elim (situated was) (Prim.hlevel props) (λ w. ap f (sym (pending-is is w.0 (keep w.0 w.1)) ∙ pending-is was w.0 w.1) ∙ e)
+use Rattle.cache_run.specs.Connected.{HasSituation}
+use Rattle.cache_run.specs.Loading.{GivesLoads}
+use Rattle.cache_spaces.specs.Bares.{BareSpace, bare_tape}
+use Rattle.cache_run.proofs.Opening.{IsPlain, quiet-steps}
+use Rattle.cache_run.proofs.Placing.{at-given-was, at-is, at-map, at-more, at-same, at-was}
+use Rattle.cache_run.proofs.Happening.{HasSituationAt, IsSoundAt, happened-so, pending-is, sent-is}
 
 -- ---- loads are sent later, or not at all
 
 pub own-loads : (loads : List PendingLoad) → are_all (λ n. is_under_way n loads) loads ≡ true
 own-loads loads = all-own (λ n. is_under_way n loads) loads (λ n is. is)
 
-pub keeps-same : (was is : Space) → ((s : Situation) → StandsFor was s → StandsFor is s) → taken_of is ≡ taken_of was → KeepsLoads was is
-keeps-same was is keep taken = record { taken = taken; loads = pending-same was is (λ loads. are_all (λ n. is_under_way n (pending_of was)) loads) keep (own-loads (pending_of was)) }
+pub keeps-same : (x : BareSpace) → KeepsLoads x x
+keeps-same x = record { taken = refl; loads = own-loads (pending_of x) }
 
-pub later-kept : (was is : Space) → KeepsLoads was is → SendsLater was is
+pub later-kept : (was is : BareSpace) → KeepsLoads was is → SendsLater was is
 later-kept was is k =
     let p : ℕ → Bool = λ n. is_under_way n (pending_of was) in
     let q : ℕ → Bool = λ n. is_under_way n (pending_of was) || nat_lt (taken_of was) n in
     record { taken = k.taken; loads = all-from p p q (pending_of is) (λ n a b. or_left (p n) (nat_lt (taken_of was) n) a) k.loads k.loads }
 
-later-follows : (was is : Space) (s t : Situation) (entry : Record) → StandsFor was s → StandsFor is t → Follows (config_of was) s entry t → are_old_or_later (pending_of was) (taken_of was) (pending_of is) ≡ true
+later-follows : (was is : BareSpace) (s t : Situation) (entry : Record) → StandsFor was s → StandsFor is t → Follows (config_of was) s entry t → are_old_or_later (pending_of was) (taken_of was) (pending_of is) ≡ true
 later-follows was is s t entry before after follows =
     let p : ℕ → Bool = λ n. is_under_way n (pending_of was) || nat_lt (taken_of was) n in
-    let few = taken-sent was s before in
-    let above : (n : ℕ) → s.sent < n → p n ≡ true = λ n lt. or_right (is_under_way n (pending_of was)) (nat_lt (taken_of was) n) (lt-ltb (taken_of was) n (omega (arith, lt, few))) in
+    let sent = sent-is was s before in
+    let above : (n : ℕ) → s.sent < n → p n ≡ true = λ n lt. or_right (is_under_way n (pending_of was)) (nat_lt (taken_of was) n) (lt-ltb (taken_of was) n (omega (arith, lt, sent))) in
     let own : are_all p (pending_of was) ≡ true = all-own p (pending_of was) (λ n under. or_left (is_under_way n (pending_of was)) (nat_lt (taken_of was) n) under) in
     let passed = passes-record (config_of was) p s t entry follows (above, ap (are_all p) (pending-is was s before) ∙ own) in
     ap (are_all p) (sym (pending-is is t after)) ∙ passed.1
 
-pub later-takes : (was is : Space) (number : ℕ) (happened : Event) (held : Bool) → ServesEvent was is number happened held → SendsLater was is
-later-takes was is number happened held takes = record {
-  taken = takes.goes.taken;
-  loads = ∥∥₁_elim (situated was) (Prim.hlevel props) (λ w. let r = takes.serves w.0 w.1 in later-follows was is w.0 r.next (record_of happened r.steps) w.1 r.stands r.follows);
+pub later-happened : (was is : BareSpace) (happened : Event) → HasSituation was → Settled bare_tape was is happened → SendsLater was is
+later-happened was is happened begun h = record {
+  taken = h.stays.taken;
+  loads = let x = h.turned begun.some begun.stands in later-follows was is begun.some x.2.next x.0 begun.stands x.2.stands x.2.follows;
 }
 
-pub later-output : (was is : Space) (number : ℕ) (text : List ℕ) → TakesOutput was is number text → SendsLater was is
-later-output was is number text t = later-kept was is (keeps-same was is t.stands t.goes.taken)
+pub later-same : (x : BareSpace) → SendsLater x x
+later-same x = later-kept x x (keeps-same x)
 
-pub later-same : (was is : Space) → SameSpace was is → SendsLater was is
-later-same was is same = later-kept was is (keeps-same was is same.stands same.goes.taken)
+pub later-output : (was is : BareSpace) (number : ℕ) (text : List ℕ) → TakesOutput was is number text → SendsLater was is
+later-output was is number text t = record { taken = ap taken_of t.rest; loads = ap (λ l. are_old_or_later (pending_of was) (taken_of was) l) (ap pending_of t.rest) ∙ (later-same was).loads }
 
-pub later-more : (x y z : Space) → SendsLater x y → SendsLater y z → SendsLater x z
+pub later-more : (x y z : BareSpace) → SendsLater x y → SendsLater y z → SendsLater x z
 later-more x y z a b =
     let p : ℕ → Bool = λ n. is_under_way n (pending_of x) || nat_lt (taken_of x) n in
     let q : ℕ → Bool = λ n. is_under_way n (pending_of y) || nat_lt (taken_of y) n in
@@ -100,18 +76,14 @@ later-more x y z a b =
 
 -- ---- a load is settled
 
-pub settles-load : (number : ℕ) (was is : Space) (happened : Event) → IsSettlingOf number happened → served.Settled was is happened → SettlesLoad number was is
-settles-load number was is happened of settled = record {
-  later = record {
-    taken = settled.goes.taken;
-    loads = ∥∥₁_elim (situated was) (Prim.hlevel props) (λ w. let r = settled.settles w.0 w.1 in later-follows was is w.0 r.next r.entry w.1 r.stands r.follows);
-  };
+pub settles-load : (number : ℕ) (was is : BareSpace) (happened : Event) → IsSettlingOf number happened → HasSituation was → Settled bare_tape was is happened → SettlesLoad number was is
+settles-load number was is happened of begun h = record {
+  later = later-happened was is happened begun h;
   settled = λ taken.
-      ∥∥₁_elim (situated was) (Prim.hlevel props)
-      (λ w.
-      let r = settled.settles w.0 w.1 in
-      let few = taken-sent was w.0 w.1 in
-      ap (are_others number) (sym (pending-is is r.next r.stands)) ∙ settle (config_of was) w.0 r.next r.entry number r.follows (subst (IsSettlingOf number) (sym r.event) of) (omega (arith, few, taken)));
+      let x = h.turned begun.some begun.stands in
+      let sent = sent-is was begun.some begun.stands in
+      ap (are_others number) (sym (pending-is is x.2.next x.2.stands))
+      ∙ settle (config_of was) begun.some x.2.next x.0 number x.2.follows (subst (IsSettlingOf number) (sym x.1) of) (omega (arith, sent, taken));
 }
 
 -- no load of that number is under way
@@ -124,19 +96,18 @@ unfound number (load ∷ loads) e = go (unfound number loads) (load.number == nu
     go next true is h = let no : true ≡ false = h in cc
     go next false is h = and_from (not (load.number == number)) (are_others number loads) (ap not is) (next h)
 
-pub others-unknown : (number : ℕ) (was : Space) → (known_of was).is_under_way number ≡ false → are_others number (pending_of was) ≡ true
+pub others-unknown : (number : ℕ) (was : BareSpace) → (known_of was).is_under_way number ≡ false → are_others number (pending_of was) ≡ true
 others-unknown number was unknown = unfound number (pending_of was) unknown
 
-pub settles-unknown : (number : ℕ) (was is : Space) → SameSpace was is → (known_of was).is_under_way number ≡ false → SettlesLoad number was is
-settles-unknown number was is same unknown =
-    record { later = later-same was is same; settled = λ taken. pending-same was is (λ loads. are_others number loads) same.stands (others-unknown number was unknown) }
+pub settles-unknown : (number : ℕ) (x : BareSpace) → (known_of x).is_under_way number ≡ false → SettlesLoad number x x
+settles-unknown number x unknown = record { later = later-same x; settled = λ taken. others-unknown number x unknown }
 
 -- behind a call that takes no load
-pub settles-behind : (number : ℕ) (x y z : Space) → SendsLater x y → SettlesLoad number y z → SettlesLoad number x z
+pub settles-behind : (number : ℕ) (x y z : BareSpace) → SendsLater x y → SettlesLoad number y z → SettlesLoad number x z
 settles-behind number x y z a b = let same = a.taken in record { later = later-more x y z a b.later; settled = λ taken. b.settled (omega (arith, taken, same)) }
 
 -- before such a call
-pub settles-before : (number : ℕ) (x y z : Space) → SettlesLoad number x y → SendsLater y z → SettlesLoad number x z
+pub settles-before : (number : ℕ) (x y z : BareSpace) → SettlesLoad number x y → SendsLater y z → SettlesLoad number x z
 settles-before number x y z a b =
     let q : ℕ → Bool = λ n. is_under_way n (pending_of y) || nat_lt (taken_of y) n in
     let r : ℕ → Bool = λ n. not (n == number) in
@@ -171,7 +142,7 @@ taken-left taken n (out ∷ outs) e left =
     ⊎_elim (λ here. let is = eqb-true out.0.number n here in let few = leb-true out.0.number taken parts.0 in omega (arith, is, few)) (λ later. taken-left taken n outs parts.1 later) (or_cases (out.0.number == n) (is_left n outs) left)
 
 -- they are accounted for by what is known of them
-accounted-from : (is_kept : ℕ → Bool) (was is : Space) (before after : Outs) (p : ℕ → Bool) → are_all p (pending_of is) ≡ true → are_accounted is_kept before (taken_of was) (pending_of was) ≡ true
+accounted-from : (is_kept : ℕ → Bool) (was is : BareSpace) (before after : Outs) (p : ℕ → Bool) → are_all p (pending_of is) ≡ true → are_accounted is_kept before (taken_of was) (pending_of was) ≡ true
     → ((n : ℕ) → p n ≡ true → (is_under_way n (pending_of was) ≡ true) ⊎ (taken_of is < n))
     → ((n : ℕ) → p n ≡ true → (is_left n before ≡ true) ⊎ (taken_of was < n) → (is_left n after ≡ true) ⊎ (taken_of is < n))
     → are_accounted is_kept after (taken_of is) (pending_of is) ≡ true
@@ -194,7 +165,7 @@ accounted-from is_kept was is before after p all accounted from goes =
     all all
 
 -- where no load is taken
-pub accounts-later : (was is : Space) (outs : Outs) → SendsLater was is → Accounts was is outs outs
+pub accounts-later : (was is : BareSpace) (outs : Outs) → SendsLater was is → Accounts was is outs outs
 accounts-later was is outs l =
     let same = l.taken in
     record {
@@ -205,11 +176,11 @@ accounts-later was is outs l =
           (λ n here c. ⊎_elim (λ left. inl left) (λ lt. inr (omega (arith, lt, same))) c);
     }
 
-pub accounts-more : (x y z : Space) (a b c : Outs) → Accounts x y a b → Accounts y z b c → Accounts x z a c
+pub accounts-more : (x y z : BareSpace) (a b c : Outs) → Accounts x y a b → Accounts y z b c → Accounts x z a c
 accounts-more x y z a b c p q = record { taken = λ e. q.taken (p.taken e); loads = λ is_kept taken accounted. q.loads is_kept (p.taken taken) (p.loads is_kept taken accounted) }
 
 -- where one of them is settled
-pub accounts-settled : (was is : Space) (number : ℕ) (before after : Outs) → is_left number before ≡ true → ((taken : ℕ) → were_taken taken before ≡ true → were_taken taken after ≡ true)
+pub accounts-settled : (was is : BareSpace) (number : ℕ) (before after : Outs) → is_left number before ≡ true → ((taken : ℕ) → were_taken taken before ≡ true → were_taken taken after ≡ true)
     → ((n : ℕ) → is_left n before ≡ true → (is_left n after ≡ true) ⊎ (n ≡ number)) → SettlesLoad number was is → Accounts was is before after
 accounts-settled was is number before after left fewer but l =
     let same = l.later.taken in
@@ -255,7 +226,7 @@ count-at m [] out is at = absurd (none-some out at)
 count-at m (o ∷ outs) out is at = omega (arith, is)
 
 -- the last of those that were taken is settled
-pub accounts-last : (was is : Space) (outs seen after : Outs) (out : LoadId × List ℕ) (last : Option (LoadId × List ℕ)) (count : ℕ) → seen ≡ outs → last ≡ slice_get seen (length seen - 1) → last ≡ Some out → count ≡ length outs
+pub accounts-last : (was is : BareSpace) (outs seen after : Outs) (out : LoadId × List ℕ) (last : Option (LoadId × List ℕ)) (count : ℕ) → seen ≡ outs → last ≡ slice_get seen (length seen - 1) → last ≡ Some out → count ≡ length outs
     → after ≡ take (count - 1) outs → SettlesLoad out.0.number was is → Accounts was is outs after
 accounts-last was is outs seen after out last count same at is_out counted rest l =
     let m : ℕ = length outs - 1 in
@@ -292,33 +263,36 @@ in-turn-few place before (out ∷ outs) taken turn few =
     and_from (nat_le out.0.number taken) (were_taken taken outs) (le-leb out.0.number taken (omega (arith, is, few))) (in-turn-few place (suc before) outs taken ours.1 (omega (arith, few)))
 
 -- a load under way was sent
-pub sent-under : (x : Space) (n : ℕ) → is_under_way n (pending_of x) ≡ true → n ≤ sent_of x.inner.loads
-sent-under x n under = leb-true n (sent_of x.inner.loads) (one-of (λ m. nat_le m (sent_of x.inner.loads)) n (pending_of x) x.inner.loads.sent_before under)
+pub sent-under : (x : BareSpace) (n : ℕ) → IsSound bare_tape x → is_under_way n (pending_of x) ≡ true → n ≤ x.sent
+sent-under x n sound under = leb-true n x.sent (one-of (λ m. nat_le m x.sent) n (pending_of x) sound.suits.sent under)
 
 -- those that were taken are the last that were sent
-pub taken-count : (was is : Space) (loads : Outs) → TakesLoads was is loads → taken_of was + length loads ≡ sent_of was.inner.loads
-taken-count was is loads t = let count = ap length t.taken in let few = was.inner.loads.fewer in omega arith
+pub taken-count : (was is : BareSpace) (loads : Outs) → IsSound bare_tape was → TakesLoads was is loads → taken_of was + length loads ≡ was.sent
+taken-count was is loads sound t = let count = ap length t.taken in let few = sound.suits.fewer in omega (arith, count, few)
 
-taken-now : (was is : Space) (loads : Outs) → TakesLoads was is loads → taken_of is ≡ sent_of was.inner.loads
-taken-now was is loads t = ∥∥₁_elim (situated was) (Prim.hlevel props) (λ w. t.all w.0 w.1 ∙ sent-is was w.0 w.1)
+taken-now : (was is : BareSpace) (loads : Outs) → TakesLoads was is loads → taken_of is ≡ was.sent
+taken-now was is loads t = let is_so : taken_of is ≡ was.sent - 0 = ap taken_of t.rest in omega (arith, is_so)
 
-pub accounts-taken : (was is : Space) (before loads : Outs) → before ≡ [] → TakesLoads was is loads → Accounts was is before loads
-accounts-taken was is before loads none t =
-    let count = taken-count was is loads t in
+pub loads-same : (was is : BareSpace) (loads : Outs) → TakesLoads was is loads → pending_of is ≡ pending_of was
+loads-same was is loads t = ap pending_of t.rest
+
+pub accounts-taken : (was is : BareSpace) (before loads : Outs) → before ≡ [] → IsSound bare_tape was → TakesLoads was is loads → Accounts was is before loads
+accounts-taken was is before loads none sound t =
+    let count = taken-count was is loads sound t in
     let now = taken-now was is loads t in
     let p : ℕ → Bool = λ n. is_under_way n (pending_of was) in
     record {
       taken = λ e. in-turn-few (place_of was) (taken_of was) loads (taken_of is) t.in_turn (omega (arith, count, now));
       loads = λ is_kept taken accounted.
-          accounted-from is_kept was is before loads p (pending-same was is (are_all p) t.stands (own-loads (pending_of was))) accounted (λ n under. inl under)
+          accounted-from is_kept was is before loads p (ap (are_all p) (loads-same was is loads t) ∙ own-loads (pending_of was)) accounted (λ n under. inl under)
           (λ n under c.
           ⊎_elim (λ left. let no : false ≡ true = sym (ap (λ outs. is_left n outs) none) ∙ left in cc)
-          (λ above. let few = sent-under was n under in inl (in-turn-has (place_of was) (taken_of was) loads n t.in_turn above (omega (arith, few, count)))) c);
+          (λ above. let few = sent-under was n sound under in inl (in-turn-has (place_of was) (taken_of was) loads n t.in_turn above (omega (arith, few, count)))) c);
     }
 
 -- where each was taken, and none is left, those under way are kept
-pub kept-all : (is_kept : ℕ → Bool) (x : Space) (outs : Outs) → outs ≡ [] → outgoing_of x ≡ [] → are_accounted is_kept outs (taken_of x) (pending_of x) ≡ true → are_all is_kept (pending_of x) ≡ true
-kept-all is_kept x outs none out accounted =
+pub kept-all : (is_kept : ℕ → Bool) (x : BareSpace) (outs : Outs) → IsSound bare_tape x → outs ≡ [] → outgoing_of x ≡ [] → are_accounted is_kept outs (taken_of x) (pending_of x) ≡ true → are_all is_kept (pending_of x) ≡ true
+kept-all is_kept x outs sound none out accounted =
     let all = ap length out in
     let p : ℕ → Bool = λ n. is_under_way n (pending_of x) in
     let q : ℕ → Bool = λ n. is_kept n || (is_left n outs || nat_lt (taken_of x) n) in
@@ -327,21 +301,21 @@ kept-all is_kept x outs none out accounted =
     ⊎_elim (λ kept. kept)
     (λ rest.
     ⊎_elim (λ left. let no : false ≡ true = sym (ap (λ xs. is_left n xs) none) ∙ left in cc)
-    (λ lt. let above = ltb-true (taken_of x) n lt in let few = sent-under x n under in absurd (omega (arith, above, few, all))) (or_cases (is_left n outs) (nat_lt (taken_of x) n) rest)) (or_cases (is_kept n) (is_left n outs || nat_lt (taken_of x) n) here))
+    (λ lt. let above = ltb-true (taken_of x) n lt in let few = sent-under x n sound under in absurd (omega (arith, above, few, all))) (or_cases (is_left n outs) (nat_lt (taken_of x) n) rest)) (or_cases (is_kept n) (is_left n outs || nat_lt (taken_of x) n) here))
     (own-loads (pending_of x)) accounted
 
 -- where none was left before
-pub accounts-begun : (was is : Space) (before after : Outs) → before ≡ [] → Accounts was is before after → are_accounted (λ n. is_under_way n (pending_of was)) after (taken_of is) (pending_of is) ≡ true
+pub accounts-begun : (was is : BareSpace) (before after : Outs) → before ≡ [] → Accounts was is before after → are_accounted (λ n. is_under_way n (pending_of was)) after (taken_of is) (pending_of is) ≡ true
 accounts-begun was is before after none a =
     let p : ℕ → Bool = λ n. is_under_way n (pending_of was) in
     let q : ℕ → Bool = λ n. p n || (is_left n before || nat_lt (taken_of was) n) in
     a.loads p (ap (λ outs. were_taken (taken_of was) outs) none) (all-from p p q (pending_of was) (λ n under again. or_left (p n) (is_left n before || nat_lt (taken_of was) n) under) (own-loads (pending_of was)) (own-loads (pending_of was)))
 
 -- where each was taken and none is left, each load under way was so before
-pub adds-none : (was is : Space) (before after : Outs) → before ≡ [] → after ≡ [] → outgoing_of is ≡ [] → Accounts was is before after → AddsNoLoads was is
-adds-none was is before after none left out a = kept-all (λ n. is_under_way n (pending_of was)) is after left out (accounts-begun was is before after none a)
+pub adds-none : (was is : BareSpace) (before after : Outs) → IsSound bare_tape is → before ≡ [] → after ≡ [] → outgoing_of is ≡ [] → Accounts was is before after → AddsNoLoads was is
+adds-none was is before after sound none left out a = kept-all (λ n. is_under_way n (pending_of was)) is after sound left out (accounts-begun was is before after none a)
 
-pub adds-more : (x y z : Space) → AddsNoLoads x y → AddsNoLoads y z → AddsNoLoads x z
+pub adds-more : (x y z : BareSpace) → AddsNoLoads x y → AddsNoLoads y z → AddsNoLoads x z
 adds-more x y z a b =
     let p : ℕ → Bool = λ n. is_under_way n (pending_of x) in
     let q : ℕ → Bool = λ n. is_under_way n (pending_of y) in all-from q q p (pending_of z) (λ n under again. one-of p n (pending_of y) a under) b b
@@ -355,86 +329,88 @@ at-both F G xs ys n a b =
     let is = same_Some b.is a.is (sym (at-is G xs ys n b) ∙ at-is F xs ys n a) in
     record { was = a.was; is = a.is; at = a.at; set = a.set; fact = (a.fact, subst (λ y. G a.was y) is (subst (λ x. G x b.is) was b.fact)) }
 
-module _ (first second third : List Space) (n : ℕ) where
+module _ (first second third : List BareSpace) (n : ℕ) where
   pub at-later-more : At first second n SendsLater → At second third n SendsLater → At first third n SendsLater
   at-later-more a b = at-more SendsLater SendsLater SendsLater first second third n a b later-more
 
   pub at-accounts-more : (x y z : Outs) → At first second n (λ was is. Accounts was is x y) → At second third n (λ was is. Accounts was is y z) → At first third n (λ was is. Accounts was is x z)
   at-accounts-more x y z a b = at-more (λ was is. Accounts was is x y) (λ was is. Accounts was is y z) (λ was is. Accounts was is x z) first second third n a b (λ u v w p q. accounts-more u v w x y z p q)
 
-module _ (old new : List Space) (n : ℕ) where
-  pub at-later-takes : (number : ℕ) (happened : Event) (held : Bool) → At old new n (λ was is. ServesEvent was is number happened held) → At old new n SendsLater
-  at-later-takes number happened held a = at-map (λ was is. ServesEvent was is number happened held) SendsLater old new n a (λ x y t. later-takes x y number happened held t)
+module _ (old new : List BareSpace) (n : ℕ) where
+  pub at-later-takes : (happened : Event) (held : Bool) → HasSituationAt old n → At old new n (λ was is. ServesEvent bare_tape was is happened held) → At old new n SendsLater
+  at-later-takes happened held begun a =
+      at-given-was (λ was is. ServesEvent bare_tape was is happened held) SendsLater old new n a (λ x y at t. later-happened x y happened (begun x at) (happened-so x y happened held t))
 
   pub at-later-output : (number : ℕ) (text : List ℕ) → At old new n (λ was is. TakesOutput was is number text) → At old new n SendsLater
   at-later-output number text a = at-map (λ was is. TakesOutput was is number text) SendsLater old new n a (λ x y t. later-output x y number text t)
 
-  pub at-later-same : At old new n SameSpace → At old new n SendsLater
-  at-later-same a = at-map SameSpace SendsLater old new n a later-same
-
   pub at-accounts-later : (outs : Outs) → At old new n SendsLater → At old new n (λ was is. Accounts was is outs outs)
   at-accounts-later outs a = at-map SendsLater (λ was is. Accounts was is outs outs) old new n a (λ x y l. accounts-later x y outs l)
 
-  pub at-settles : (number : ℕ) (happened : Event) → IsSettlingOf number happened → At old new n (λ was is. served.Settled was is happened) → At old new n (SettlesLoad number)
-  at-settles number happened of a = at-map (λ was is. served.Settled was is happened) (SettlesLoad number) old new n a (λ x y s. settles-load number x y happened of s)
+  pub at-accounts-taken : (before loads : Outs) → before ≡ [] → At old new n (GivesLoads loads) → At old new n (λ was is. Accounts was is before loads)
+  at-accounts-taken before loads none a = at-map (GivesLoads loads) (λ was is. Accounts was is before loads) old new n a (λ x y t. accounts-taken x y before loads none t.0 t.1)
 
-  pub at-settles-unknown : (number : ℕ) → At old new n (λ was is. SameSpace was is × ((known_of was).is_under_way number ≡ false)) → At old new n (SettlesLoad number)
-  at-settles-unknown number a = at-map (λ was is. SameSpace was is × ((known_of was).is_under_way number ≡ false)) (SettlesLoad number) old new n a (λ x y p. settles-unknown number x y p.0 p.1)
+  pub at-settles : (number : ℕ) (happened : Event) → IsSettlingOf number happened → HasSituationAt old n → At old new n (λ was is. Settled bare_tape was is happened) → At old new n (SettlesLoad number)
+  at-settles number happened of begun a =
+      at-given-was (λ was is. Settled bare_tape was is happened) (SettlesLoad number) old new n a (λ x y at s. settles-load number x y happened of (begun x at) s)
 
   -- where each was taken and none is left
-  pub at-adds-none : (before after : Outs) → before ≡ [] → after ≡ [] → At old new n HasTakenAll → At old new n (λ was is. Accounts was is before after) → At old new n AddsNoLoads
-  at-adds-none before after none left out a =
-      at-map (λ was is. Accounts was is before after × HasTakenAll was is) AddsNoLoads old new n (at-both (λ was is. Accounts was is before after) HasTakenAll old new n a out) (λ x y p. adds-none x y before after none left p.1 p.0)
+  pub at-adds-none : (before after : Outs) → IsSoundAt new n → before ≡ [] → after ≡ [] → At old new n HasTakenAll → At old new n (λ was is. Accounts was is before after) → At old new n AddsNoLoads
+  at-adds-none before after sound none left out a =
+      let both = at-both (λ was is. Accounts was is before after) HasTakenAll old new n a out in
+      record {
+        was = both.was;
+        is = both.is;
+        at = both.at;
+        set = both.set;
+        fact = adds-none both.was both.is before after (sound both.is (at-is (λ was is. Accounts was is before after × HasTakenAll was is) old new n both)) none left both.fact.1 both.fact.0;
+      }
 
 -- where nothing was called
-pub at-accounts-still : (IsLeft : ℕ → Space → Type 0) (spaces : List Space) (n number : ℕ) (outs : Outs) → Connected spaces n number IsLeft → At spaces spaces n (λ was is. Accounts was is outs outs)
-at-accounts-still IsLeft spaces n number outs c =
-    at-same (λ was is. Accounts was is outs outs) spaces n c.space c.at (accounts-later c.space c.space outs (later-same c.space c.space (same-space c.space c.space refl)))
+module _ (spaces : List BareSpace) (n : ℕ) (x : BareSpace) (at : slice_get spaces n ≡ Some x) where
+  pub at-later-same : At spaces spaces n SendsLater
+  at-later-same = at-same SendsLater spaces n x at (later-same x)
 
-pub at-accounts-start : (IsLeft : ℕ → Space → Type 0) (spaces : List Space) (n number : ℕ) (outs : Outs) → outs ≡ [] → Connected spaces n number IsLeft → At spaces spaces n (λ was is. Accounts was is [] outs)
-at-accounts-start IsLeft spaces n number outs fresh c = subst (λ xs. At spaces spaces n (λ was is. Accounts was is [] xs)) (sym fresh) (at-accounts-still IsLeft spaces n number [] c)
+  pub at-accounts-still : (outs : Outs) → At spaces spaces n (λ was is. Accounts was is outs outs)
+  at-accounts-still outs = at-same (λ was is. Accounts was is outs outs) spaces n x at (accounts-later x x outs (later-same x))
 
-pub at-adds-still : (IsLeft : ℕ → Space → Type 0) (spaces : List Space) (n number : ℕ) → Connected spaces n number IsLeft → At spaces spaces n AddsNoLoads
-at-adds-still IsLeft spaces n number c = at-same AddsNoLoads spaces n c.space c.at (own-loads (pending_of c.space))
+  pub at-accounts-start : (outs : Outs) → outs ≡ [] → At spaces spaces n (λ was is. Accounts was is [] outs)
+  at-accounts-start outs fresh = subst (λ xs. At spaces spaces n (λ was is. Accounts was is [] xs)) (sym fresh) (at-accounts-still [])
 
-pub at-adds-more : (first second third : List Space) (n : ℕ) → At first second n AddsNoLoads → At second third n AddsNoLoads → At first third n AddsNoLoads
+  pub at-adds-still : At spaces spaces n AddsNoLoads
+  at-adds-still = at-same AddsNoLoads spaces n x at (own-loads (pending_of x))
+
+  pub at-settles-unknown : (number : ℕ) → (known_of x).is_under_way number ≡ false → At spaces spaces n (SettlesLoad number)
+  at-settles-unknown number unknown = at-same (SettlesLoad number) spaces n x at (settles-unknown number x unknown)
+
+  pub at-keeps-same : At spaces spaces n KeepsLoads
+  at-keeps-same = at-same KeepsLoads spaces n x at (keeps-same x)
+
+pub at-adds-more : (first second third : List BareSpace) (n : ℕ) → At first second n AddsNoLoads → At second third n AddsNoLoads → At first third n AddsNoLoads
 at-adds-more first second third n a b = at-more AddsNoLoads AddsNoLoads AddsNoLoads first second third n a b adds-more
 
 -- ---- an opening and a closing
 
 -- they take no load, and each that is under way was so before
-keeps-quiet : (was is : Space) (number : ℕ) (happened : Event) (held : Bool)
-    → ((s t : Situation) (steps : List Step) → Follows (config_of was) s (record_of happened steps) t → (p : ℕ → Bool) → are_all p s.pending ≡ true → are_all p t.pending ≡ true)
-    → ServesEvent was is number happened held → KeepsLoads was is
-keeps-quiet was is number happened held quiet takes =
+keeps-quiet : (was is : BareSpace) (happened : Event) (held : Bool) → ((s : Situation) (p : ℕ → Bool) → are_all p s.pending ≡ true → are_all p (after_event happened s).pending ≡ true)
+    → ((s : Situation) → tasks_in s happened ≡ []) → IsPlain happened → HasSituation was → ServesEvent bare_tape was is happened held → KeepsLoads was is
+keeps-quiet was is happened held quiet idle plain begun takes =
     let p : ℕ → Bool = λ n. is_under_way n (pending_of was) in
+    let x = takes.turned begun.some begun.stands in
+    let e : x.0.event ≡ happened = x.1.event_is in
+    let law = quiet-steps (config_of was) begun.some x.2.next x.0 happened e idle plain x.2.follows in
     record {
-      taken = takes.goes.taken;
-      loads = ∥∥₁_elim (situated was) (Prim.hlevel props)
-          (λ w.
-          let r = takes.serves w.0 w.1 in
-          ap (are_all p) (sym (pending-is is r.next r.stands)) ∙ quiet w.0 r.next r.steps r.follows p (ap (are_all p) (pending-is was w.0 w.1) ∙ own-loads (pending_of was)));
+      taken = takes.stays.taken;
+      loads = ap (are_all p) (sym (pending-is is x.2.next x.2.stands)) ∙ ap (λ (t : Situation). are_all p t.pending) law.1
+          ∙ quiet begun.some p (ap (are_all p) (pending-is was begun.some begun.stands) ∙ own-loads (pending_of was));
     }
 
-quiet-if : (p : ℕ → Bool) (b : Bool) (u t : Situation) → (if b then Some u else None) ≡ Some t → are_all p u.pending ≡ true → are_all p t.pending ≡ true
-quiet-if p true u t e all = ap (λ (x : Situation). are_all p x.pending) (sym (same_Some u t e)) ∙ all
-quiet-if p false u t e all = absurd (none-some t e)
+pub at-opens : (old new : List BareSpace) (n number : ℕ) → HasSituationAt old n → At old new n (λ was is. ServesEvent bare_tape was is (event.Open number) false × (number ≡ length was.closings + 1)) → At old new n KeepsLoads
+at-opens old new n number begun a =
+    at-given-was (λ was is. ServesEvent bare_tape was is (event.Open number) false × (number ≡ length was.closings + 1)) KeepsLoads old new n a
+    (λ x y at p. keeps-quiet x y (event.Open number) false (λ s p all. all) (λ s. refl) tt (begun x at) p.0)
 
-open-quiet : (number : ℕ) (config : Config) (s t : Situation) (steps : List Step) → Follows config s (record_of (event.Open number) steps) t → (p : ℕ → Bool) → are_all p s.pending ≡ true → are_all p t.pending ≡ true
-open-quiet number config s t steps follows p all =
-    quiet-if p _ (after_event (event.Open number) s) t (subst (λ l. Follows config s (record_of (event.Open number) l) t) (open-still config s number steps t follows) follows) all
-
-close-quiet : (number : ℕ) (config : Config) (s t : Situation) (steps : List Step) → Follows config s (record_of (event.Close number) steps) t → (p : ℕ → Bool) → are_all p s.pending ≡ true → are_all p t.pending ≡ true
-close-quiet number config s t steps follows p all =
-    quiet-if p _ (after_event (event.Close number) s) t (subst (λ l. Follows config s (record_of (event.Close number) l) t) (close-still config s number steps t follows) follows) (all-without p number s.pending all)
-
-pub at-opens : (old new : List Space) (n number : ℕ) → At old new n (λ was is. ServesEvent was is number (event.Open number) false × (number ≡ length (connections_of was) + 1)) → At old new n KeepsLoads
-at-opens old new n number a =
-    at-map (λ was is. ServesEvent was is number (event.Open number) false × (number ≡ length (connections_of was) + 1)) KeepsLoads old new n a (λ x y p. keeps-quiet x y number (event.Open number) false (open-quiet number (config_of x)) p.0)
-
-pub at-closes : (old new : List Space) (n number : ℕ) → At old new n (λ was is. ServesEvent was is number (event.Close number) false × (closing_of is number ≡ Some by.Asked)) → At old new n KeepsLoads
-at-closes old new n number a =
-    at-map (λ was is. ServesEvent was is number (event.Close number) false × (closing_of is number ≡ Some by.Asked)) KeepsLoads old new n a (λ x y p. keeps-quiet x y number (event.Close number) false (close-quiet number (config_of x)) p.0)
-
-pub at-keeps-same : (old new : List Space) (n : ℕ) → At old new n SameSpace → At old new n KeepsLoads
-at-keeps-same old new n a = at-map SameSpace KeepsLoads old new n a (λ x y same. keeps-same x y same.stands same.goes.taken)
+pub at-closes : (old new : List BareSpace) (n number : ℕ) → HasSituationAt old n → At old new n (λ was is. ServesEvent bare_tape was is (event.Close number) false) → At old new n KeepsLoads
+at-closes old new n number begun a =
+    at-given-was (λ was is. ServesEvent bare_tape was is (event.Close number) false) KeepsLoads old new n a
+    (λ x y at p. keeps-quiet x y (event.Close number) false (λ s p all. all-without p number s.pending all) (λ s. refl) tt (begun x at) p)

@@ -6,7 +6,7 @@ use Rattle.std.specs.Option.{option_and_then}
 use Rattle.std.proofs.lemmas.Option.{none-some, same_Some}
 use Rattle.std.proofs.lemmas.List.{append-nil, map-append}
 use Rattle.std.proofs.lemmas.Grind.{flat_map-append}
-use Rattle.std.specs.Io.KnownBytes.{Appends, Consumes, Keeps}
+use Rattle.std.specs.Io.KnownBytes.{Appends, Consumes}
 use Rattle.audit_model.specs.Follows.{Follows, after_record, after_records}
 use Rattle.audit_model.specs.Situation.{Situation}
 use Rattle.audit_model.specs.declared.config.Config.{Config}
@@ -14,15 +14,18 @@ use Rattle.audit_model.specs.declared.event.Event.TheVariants as event
 use Rattle.audit_model.specs.declared.event.Outcome.{Outcome}
 use Rattle.audit_model.specs.declared.transcript.Record.{Record}
 use Rattle.cache_devices.proofs.Sending.{appends_more, same_appends}
-use Rattle.cache_namespace.specs.Taken.{record_of}
+use Rattle.cache_run.specs.Happened.{record_of}
 use Rattle.cache_spaces.specs.Spaces.{notices_of}
-use Rattle.cache_spaces.specs.declared.space.Space.{Space}
-use Rattle.cache_run.specs.Carried.{Askings, Broken, Carried, Left, Readings, close_records, nothing_left, open_records, records_of}
-use Rattle.cache_run.specs.Happened.{Asking, Turn, AreInPlace, AreRight, IsInPlace, asked_in, moment_in, turn_notes, record_notes, piece_in, records_in, replies_in}
+use Rattle.cache_spaces.specs.Bares.{BareSpace}
+use Rattle.cache_core.specs.Turned.{notes_in}
+use Rattle.cache_devices.proofs.Reading.{askings_more, consumes_more, readings_more, same_consumes}
+use Rattle.cache_devices.specs.Sources.{Asking, Askings, Readings}
+use Rattle.cache_run.specs.Carried.{Broken, Carried, Left, close_records, nothing_left, open_records, records_of}
+use Rattle.cache_run.specs.Happened.{Turn, AreInPlace, AreRight, IsInPlace, asked_in, moment_in, turn_notes, piece_in, records_in, replies_in}
 use Rattle.cache_run.specs.Delivered.{Delivered, Undelivered}
 use Rattle.cache_run.specs.Worlds.{Outside, World, outside, world}
-use Rattle.cache_run.specs.declared.errors.RunError.{RunError}
-use Rattle.cache_run.specs.declared.errors.RunError.TheVariants.{Moment, OutOfMemory}
+use Rattle.cache_devices.specs.declared.errors.RunError.{RunError}
+use Rattle.cache_devices.specs.declared.errors.RunError.TheVariants.{Moment, OutOfMemory}
 
 through : (f g : Situation → Option Situation) (o : Option Situation) (t u : Situation) → ((m : Situation) → f m ≡ Some t → g m ≡ Some u) → option_and_then f o ≡ Some t → option_and_then g o ≡ Some u
 through f g None t u h e = absurd (none-some t e)
@@ -47,30 +50,6 @@ records-split config s (x ∷ xs) t ys e =
 -- one record
 pub record-one : (config : Config) (s : Situation) (x : Record) (t : Situation) → Follows config s x t → after_records config s (x ∷ []) ≡ Some t
 record-one config s x t e = ap (option_and_then (λ m. Some m)) e
-
--- bytes read one after another
-pub consumes_more : (a b c : Option (List ℕ)) (xs ys : List ℕ) → Consumes a b xs → Consumes b c ys → Consumes a c (xs ++ ys)
-consumes_more None b c xs ys p q = tt
-consumes_more (Some a) None c xs ys p q = absurd p
-consumes_more (Some a) (Some b) None xs ys p q = absurd q
-consumes_more (Some a) (Some b) (Some c) xs ys p q = p ∙ ap (λ z. xs ++ z) q ∙ sym (append_assoc xs ys c)
-
-pub consumes_none : (a b : Option (List ℕ)) → Keeps a b → Consumes a b []
-consumes_none None b k = tt
-consumes_none (Some a) None k = absurd k
-consumes_none (Some a) (Some b) k = sym k
-
-pub same_consumes : (a : Option (List ℕ)) → Consumes a a []
-same_consumes None = tt
-same_consumes (Some a) = refl
-
-pub readings_more : {C : Type 0} (reads : C → ℕ → C → Type 0) (c : C) (ts : List ℕ) (d : C) (us : List ℕ) (e : C) → Readings reads c ts d → Readings reads d us e → Readings reads c (ts ++ us) e
-readings_more {C} reads c [] d us e p q = let P : C → Type 0 = λ x. Readings reads x us e in subst P p q
-readings_more reads c (t ∷ ts) d us e p q = (p.0, p.1, readings_more reads p.0 ts d us e p.2 q)
-
-pub askings_more : {L : Type 0} (loads : L → List ℕ → Option Outcome → L → Type 0) (l : L) (xs : List Asking) (m : L) (ys : List Asking) (n : L) → Askings loads l xs m → Askings loads m ys n → Askings loads l (xs ++ ys) n
-askings_more {L} loads l [] m ys n p q = let P : L → Type 0 = λ x. Askings loads x ys n in subst P p q
-askings_more loads l (x ∷ xs) m ys n p q = (p.0, p.1, askings_more loads p.0 xs m ys n p.2 q)
 
 right-more : (config : Config) (xs ys : List Turn) → AreRight config xs → AreRight config ys → AreRight config (xs ++ ys)
 right-more config [] ys p q = q
@@ -111,7 +90,7 @@ module _ {C L : Type 0} (config : Config) (number : ℕ) (reads : C → ℕ → 
       let xs = x.turns in
       let ys = y.turns in
       let told = flat_map (turn_notes number) in
-      let last = flat_map record_notes drops in
+      let last = flat_map notes_in drops in
       record {
         turns = xs ++ ys;
         right = right-more config xs ys x.right y.right;
@@ -156,7 +135,7 @@ module _ {C L : Type 0} (config : Config) (number : ℕ) (reads : C → ℕ → 
   }
 
   -- where one turn came
-  pub carried-one : (x y : Space) (s t : Situation) (r q v w : Option (List ℕ)) (k l : C) (m n : L) (piece : List ℕ) (moment : ℕ) (asks : List Asking) (unsent : List ℕ)
+  pub carried-one : (x y : BareSpace) (s t : Situation) (r q v w : Option (List ℕ)) (k l : C) (m n : L) (piece : List ℕ) (moment : ℕ) (asks : List Asking) (unsent : List ℕ)
       → Delivered config number piece moment asks s t (notices_of x) (notices_of y) v w unsent → Consumes r q piece → reads k moment l → Askings loads m asks n
       → Carried config number reads loads (world x s (outside r v k m)) (world y t (outside q w l n)) false false [] (record { late = []; lost = []; asked = []; unsent = unsent })
   carried-one x y s t r q v w k l m n piece moment asks unsent d read clock loader =
@@ -177,7 +156,7 @@ module _ {C L : Type 0} (config : Config) (number : ℕ) (reads : C → ℕ → 
       }
 
   -- where an error came
-  pub broken-one : (x y : Space) (s t : Situation) (r q v w : Option (List ℕ)) (k l : C) (m n : L) (piece : List ℕ) (moment : ℕ) (asks : List Asking) (e : RunError)
+  pub broken-one : (x y : BareSpace) (s t : Situation) (r q v w : Option (List ℕ)) (k l : C) (m n : L) (piece : List ℕ) (moment : ℕ) (asks : List Asking) (e : RunError)
       → Undelivered config number piece moment asks s t (notices_of x) (notices_of y) v w e → Consumes r q piece → reads k moment l → Askings loads m asks n
       → Broken config number reads loads (world x s (outside r v k m)) (world y t (outside q w l n)) false false [] e
   broken-one x y s t r q v w k l m n piece moment asks e (inl u) read clock loader = record {
@@ -194,7 +173,7 @@ module _ {C L : Type 0} (config : Config) (number : ℕ) (reads : C → ℕ → 
       record { left = record { late = []; lost = []; asked = []; unsent = u.0 }; carried = carried-one x y s t r q v w k l m n piece moment asks u.0 u.1 read clock loader; dropped = tt; moment = λ is. absurd (u.2 is) }
 
   -- where only records without replies and notes came
-  still : (x y : Space) (s t : Situation) (around : Outside C L) (opens closes : Bool) → after_records config s (records_of number opens [] closes []) ≡ Some t → notices_of y ≡ notices_of x
+  still : (x y : BareSpace) (s t : Situation) (around : Outside C L) (opens closes : Bool) → after_records config s (records_of number opens [] closes []) ≡ Some t → notices_of y ≡ notices_of x
       → Carried config number reads loads (world x s around) (world y t around) opens closes [] nothing_left
   still x y s t around opens closes follows notices = record {
     turns = [];
@@ -210,16 +189,16 @@ module _ {C L : Type 0} (config : Config) (number : ℕ) (reads : C → ℕ → 
     loader = refl;
   }
 
-  pub carried-opened : (x y : Space) (s t : Situation) (around : Outside C L) → Follows config s (record_of (event.Open number) []) t → notices_of y ≡ notices_of x
+  pub carried-opened : (x y : BareSpace) (s t : Situation) (around : Outside C L) → Follows config s (record_of (event.Open number) []) t → notices_of y ≡ notices_of x
       → Carried config number reads loads (world x s around) (world y t around) true false [] nothing_left
   carried-opened x y s t around follows notices = still x y s t around true false (record-one config s (record_of (event.Open number) []) t follows) notices
 
-  pub carried-same : (x y : Space) (s t : Situation) (around : Outside C L) → t ≡ s → notices_of y ≡ notices_of x
+  pub carried-same : (x y : BareSpace) (s t : Situation) (around : Outside C L) → t ≡ s → notices_of y ≡ notices_of x
       → Carried config number reads loads (world x s around) (world y t around) false false [] nothing_left
   carried-same x y s t around same notices = still x y s t around false false (ap (λ m. Some m) (sym same)) notices
 
   -- a closing behind what was carried
-  pub carried-close : (a b : World C L) (y : Space) (u : Situation) (opens : Bool) (left : Left)
+  pub carried-close : (a b : World C L) (y : BareSpace) (u : Situation) (opens : Bool) (left : Left)
       → Carried config number reads loads a b opens false [] left → Follows config b.situation (record_of (event.Close number) []) u → notices_of y ≡ b.notices
       → Carried config number reads loads a (world y u b.outside) opens true [] left
   carried-close a b y u opens left c follows notices = record {
@@ -238,7 +217,7 @@ module _ {C L : Type 0} (config : Config) (number : ℕ) (reads : C → ℕ → 
   }
 
   -- nothing came behind what was carried
-  pub carried-still : (a b : World C L) (y : Space) (u : Situation) (opens closes : Bool) (drops : List Record) (left : Left)
+  pub carried-still : (a b : World C L) (y : BareSpace) (u : Situation) (opens closes : Bool) (drops : List Record) (left : Left)
       → Carried config number reads loads a b opens closes drops left → u ≡ b.situation → notices_of y ≡ b.notices
       → Carried config number reads loads a (world y u b.outside) opens closes drops left
   carried-still a b y u opens closes drops left c same notices = record {
@@ -256,8 +235,8 @@ module _ {C L : Type 0} (config : Config) (number : ℕ) (reads : C → ℕ → 
   }
 
   -- loads were given up behind what was carried
-  pub carried-drops : (a b : World C L) (y : Space) (u : Situation) (opens closes : Bool) (drops more : List Record) (left : Left)
-      → Carried config number reads loads a b opens closes drops left → after_records config b.situation more ≡ Some u → notices_of y ≡ b.notices ++ flat_map record_notes more
+  pub carried-drops : (a b : World C L) (y : BareSpace) (u : Situation) (opens closes : Bool) (drops more : List Record) (left : Left)
+      → Carried config number reads loads a b opens closes drops left → after_records config b.situation more ≡ Some u → notices_of y ≡ b.notices ++ flat_map notes_in more
       → Carried config number reads loads a (world y u b.outside) opens closes (drops ++ more) left
   carried-drops a b y u opens closes drops more left c follows notices =
       let o = open_records number opens ++ flat_map (records_in number) c.turns in
@@ -269,7 +248,7 @@ module _ {C L : Type 0} (config : Config) (number : ℕ) (reads : C → ℕ → 
         placed = c.placed;
         follows = subst (λ rs. after_records config a.situation rs ≡ Some u) (append_assoc o (z ++ drops) more ∙ ap (λ l. o ++ l) (append_assoc z drops more))
             (records-more config a.situation (records_of number opens c.turns closes drops) b.situation more u c.follows follows);
-        notices = notices ∙ ap (λ l. l ++ flat_map record_notes more) c.notices ∙ append_assoc before (flat_map record_notes drops) (flat_map record_notes more) ∙ ap (λ l. before ++ l) (sym (flat_map-append record_notes drops more));
+        notices = notices ∙ ap (λ l. l ++ flat_map notes_in more) c.notices ∙ append_assoc before (flat_map notes_in drops) (flat_map notes_in more) ∙ ap (λ l. before ++ l) (sym (flat_map-append notes_in drops more));
         read = c.read;
         sent = c.sent;
         wrote = c.wrote;

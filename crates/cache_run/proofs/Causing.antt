@@ -1,10 +1,10 @@
 -- What is known of an error over several calls.
-use Rattle.std.proofs.Common.{◌≡◌, ◌≢◌, ℕ, ◌≤◌, ◌^◌, ◌⊎◌, sym, subst, inl, inr}
+use Rattle.std.proofs.Common.{◌≡◌, ◌≢◌, ℕ, ◌≤◌, ◌^◌, sym, subst, inl, inr}
 use Rattle.std.specs.Prelude.{Result, Ok, Err, IfErr, IsErrOf}
 use Rattle.cache_run.specs.Causes.{Because}
 use Rattle.cache_run.specs.Delivered.{IsCause}
-use Rattle.cache_run.specs.declared.errors.RunError.{RunError}
-use Rattle.cache_run.specs.declared.errors.RunError.TheVariants.{Read, Write, OutOfMemory, UsedUp, Moment}
+use Rattle.cache_devices.specs.declared.errors.RunError.{RunError}
+use Rattle.cache_devices.specs.declared.errors.RunError.TheVariants.{Read, Write, OutOfMemory, UsedUp, Moment}
 
 -- its cause as it is seen from an earlier call
 pub because-map : {r w u m r' w' u' m' : Type 0} (e : RunError) → (r → r') → (w → w') → (u → u') → (m → m') → Because r w u m e → Because r' w' u' m' e
@@ -32,9 +32,8 @@ because-refused r w u m moment e (inl is) late = because-memory r w u m e is
 because-refused r w u m moment e (inr p) late = subst (Because r w u m) (sym p.0) (late p.1)
 
 -- why a reply is not sent
-pub because-unsent : (r w m : Type 0) (e : RunError) → (e ≡ Write) ⊎ (e ≡ UsedUp) → w → Because r w w m e
-because-unsent r w m e (inl is) failed = subst (Because r w w m) (sym is) failed
-because-unsent r w m e (inr is) failed = subst (Because r w w m) (sym is) failed
+pub because-unsent : (r w u m : Type 0) (e : RunError) → (e ≡ Write) × w → Because r w u m e
+because-unsent r w u m e p = subst (Because r w u m) (sym p.0) p.1
 
 -- where no moment is too late, another error came
 pub not-late : (r w u : Type 0) (e : RunError) → Because r w u ⊥ e → e ≢ Moment

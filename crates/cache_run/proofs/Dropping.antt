@@ -1,6 +1,6 @@
 -- Loads that are given up behind a closing.
-use Rattle.std.proofs.Common.{◌≡◌, ℕ, suc, ◌<◌, ◌≤◌, ◌+◌, ◌-◌, Bool, true, false, not, ◌&&◌, ◌||◌, ◌==◌, List, [], ◌∷◌, ◌++◌, length, Some, refl, sym, ap, ◌∙◌, subst, arith, append_assoc}
-use Rattle.std.specs.List.{flat_map, list_all}
+use Rattle.std.proofs.Common.{◌≡◌, ℕ, suc, ◌<◌, ◌≤◌, ◌+◌, Bool, true, false, not, ◌&&◌, ◌||◌, ◌==◌, List, [], ◌∷◌, ◌++◌, length, Some, refl, sym, ap, ◌∙◌, subst, arith, append_assoc}
+use Rattle.std.specs.List.{flat_map, list_all, slice_get}
 use Rattle.std.proofs.lemmas.Bool.{and_parts, eq-eqb, eqb-true}
 use Rattle.std.proofs.lemmas.List.{append-nil}
 use Rattle.std.proofs.lemmas.Option.{slice_get_within}
@@ -14,36 +14,28 @@ use Rattle.audit_model.specs.declared.transcript.Record.{Record}
 use Rattle.audit_model.specs.declared.input.LoadId.{LoadId}
 use Rattle.cache_loads.specs.Keys.{agrees_on, are_in_turn, has_its_key, have_their_keys}
 use Rattle.audit_waiting_laws.specs.Keys.{HasKey}
-use Rattle.cache_namespace.specs.Taken.{closing_at, text_at}
-use Rattle.cache_settling.specs.Answered.{giving_up}
-use Rattle.cache_spaces.proofs.Putting.{same-space}
-use Rattle.cache_spaces.specs.Moves.{At}
-use Rattle.cache_spaces.specs.Serves as served
-use Rattle.cache_spaces.specs.Serves.{SameSpace, TakesLoads}
-use Rattle.cache_spaces.specs.Spaces.{config_of, notices_of, place_of, taken_of}
-use Rattle.cache_spaces.specs.declared.space.Space.{Space}
-use Rattle.cache_run.specs.Happened.{AreDrops, record_notes}
-use Rattle.cache_run.specs.Loading.{AreKnown, OnlyGivesUp, GivesUpLoads, SameButLoads, TakesMore}
+use Rattle.cache_core.specs.Settling.{giving_up}
+use Rattle.cache_core.specs.Turned.{notes_in}
+use Rattle.cache_spaces.specs.Calls as served
+use Rattle.cache_spaces.specs.Calls.{At, InSpace, TakesLoads}
+use Rattle.cache_spaces.specs.Spaces.{closing_of, config_of, notices_of, outgoing_of, place_of, taken_of}
+use Rattle.cache_spaces.specs.Bares.{BareSpace, bare_tape}
+use Rattle.cache_run.specs.Connected.{HasSituation}
+use Rattle.cache_run.specs.Happened.{AreDrops}
+use Rattle.cache_run.specs.Loading.{AreKnown, GivesLoads, OnlyGivesUp, GivesUpLoads, SameButLoads, TakesMore}
+use Rattle.cache_run.proofs.Accounting.{taken-count}
 use Rattle.cache_run.proofs.Carrying.{record-one, records-more}
-use Rattle.cache_run.proofs.Connecting.{found-at}
-use Rattle.cache_run.proofs.Going.{goes-more, goes-same}
-use Rattle.cache_run.proofs.Placing.{at-is, at-map, at-more, at-same}
-use Rattle.cache_run.proofs.Settling.{others-left, settled-alone, settled-closed}
+use Rattle.cache_run.proofs.Going.{goes-more, goes-same, still-stands}
+use Rattle.cache_run.proofs.Placing.{at-given-was, at-is, at-map, at-more, at-same}
+use Rattle.cache_run.proofs.Happening.{HasSituationAt, goes-by, pending-is, sent-is, situation-behind, stays-closed}
 
 pub drops-more : (xs ys : List Record) → AreDrops xs → AreDrops ys → AreDrops (xs ++ ys)
 drops-more [] ys a b = b
 drops-more (x ∷ xs) ys a b = (a.0, drops-more xs ys a.1 b)
 
 -- loads that were taken leave the namespace the same
-pub taken-same : (was is : Space) (loads : List (LoadId × List ℕ)) → TakesLoads was is loads → SameButLoads was is
-taken-same was is loads t = record {
-  stands = t.stands;
-  config = t.config;
-  outputs = λ number. ap (λ cs. text_at cs (number - 1)) t.connections;
-  closings = λ number. ap (λ cs. closing_at cs (number - 1)) t.connections;
-  notices = t.notices;
-  count = ap length t.connections;
-}
+pub taken-same : (was is : BareSpace) (loads : List (LoadId × List ℕ)) → TakesLoads was is loads → SameButLoads was is
+taken-same was is loads t = t.rest ∙ ap (λ o. record was { outgoing = o }) (sym (ap outgoing_of t.rest))
 
 given-none : (config : Config) (s t : Situation) (before after : List Note) → t ≡ s → after ≡ before → OnlyGivesUp config s t before after
 given-none config s t before after same notices = record { drops = []; dropped = tt; follows = ap (λ x. Some x) (sym same); notices = notices ∙ sym (append-nil before) }
@@ -53,7 +45,7 @@ given-more config s t u a b c x y = record {
   drops = x.drops ++ y.drops;
   dropped = drops-more x.drops y.drops x.dropped y.dropped;
   follows = records-more config s x.drops t y.drops u x.follows y.follows;
-  notices = y.notices ∙ ap (λ l. l ++ flat_map record_notes y.drops) x.notices ∙ append_assoc a (flat_map record_notes x.drops) (flat_map record_notes y.drops) ∙ ap (λ l. a ++ l) (sym (flat_map-append record_notes x.drops y.drops));
+  notices = y.notices ∙ ap (λ l. l ++ flat_map notes_in y.drops) x.notices ∙ append_assoc a (flat_map notes_in x.drops) (flat_map notes_in y.drops) ∙ ap (λ l. a ++ l) (sym (flat_map-append notes_in x.drops y.drops));
 }
 
 -- ---- the keys of loads that were taken
@@ -78,14 +70,14 @@ known-taken place before (out ∷ outs) s turn few have =
     ((omega (arith, few, is), key-out out s.pending keys.0), known-taken place (suc before) outs s ours.1 (omega (arith, few)) keys.1)
 
 -- nothing was given up
-pub drops-none : (number : ℕ) (was is : Space) → SameButLoads was is → GivesUpLoads number was is
+pub drops-none : (number : ℕ) (was is : BareSpace) → SameButLoads was is → GivesUpLoads number was is
 drops-none number was is same = (
-  goes-same number was is (λ s t. OnlyGivesUp (config_of was) s t (notices_of was) (notices_of is)) same (λ s. given-none (config_of was) s s (notices_of was) (notices_of is) refl same.notices),
-  λ closed is_open. closed (sym (same.closings number) ∙ is_open),
+  goes-same number was is (λ s t. OnlyGivesUp (config_of was) s t (notices_of was) (notices_of is)) same (λ s. given-none (config_of was) s s (notices_of was) (notices_of is) refl (ap notices_of same)),
+  λ closed is_open. closed (sym (ap (λ x. closing_of x number) same) ∙ is_open),
 )
 
 -- one after another
-pub drops-again : (number : ℕ) (x y z : Space) → GivesUpLoads number x y → GivesUpLoads number y z → GivesUpLoads number x z
+pub drops-again : (number : ℕ) (x y z : BareSpace) → GivesUpLoads number x y → GivesUpLoads number y z → GivesUpLoads number x z
 drops-again number x y z a b = (
   goes-more number x y z (λ s t. OnlyGivesUp (config_of x) s t (notices_of x) (notices_of y)) (λ s t. OnlyGivesUp (config_of y) s t (notices_of y) (notices_of z)) (λ s t. OnlyGivesUp (config_of x) s t (notices_of x) (notices_of z)) a.0 b.0
       (λ s t u f g. given-more (config_of x) s t u (notices_of x) (notices_of y) (notices_of z) f (subst (λ k. OnlyGivesUp k t u (notices_of y) (notices_of z)) a.0.config g)),
@@ -93,27 +85,16 @@ drops-again number x y z a b = (
 )
 
 -- one load was given up
-pub drops-one : (number : ℕ) (was is : Space) (load : ℕ) → served.Settled was is (giving_up load 0) → GivesUpLoads number was is
-drops-one number was is load settled = (
-  record {
-    each = λ s stands alone.
-        let r = settled.settles s stands in
-        let law = settled-alone number was is s (giving_up load 0) r (λ n. tt) alone in
-        record {
-          next = r.next;
-          stands = r.stands;
-          alone = law.1;
-          fact = record {
-            drops = r.entry ∷ [];
-            dropped = ((load, r.event), tt);
-            follows = record-one (config_of was) s r.entry r.next r.follows;
-            notices = r.notices ∙ ap (λ l. notices_of was ++ l) (sym (append-nil (record_notes r.entry)));
-          };
-          others = λ other ne. others-left number other was is s (giving_up load 0) r law.0 ne;
-        };
-    config = settled.config;
-  },
-  settled-closed number was is (giving_up load 0) settled,
+pub drops-one : (number : ℕ) (was is : BareSpace) (load : ℕ) → HasSituation was → served.Settled bare_tape was is (giving_up load 0) → GivesUpLoads number was is
+drops-one number was is load begun settled = (
+  goes-by was is (giving_up load 0) settled number tt (λ s t. OnlyGivesUp (config_of was) s t (notices_of was) (notices_of is))
+      (λ s t entry event turned follows own stands. record {
+        drops = entry ∷ [];
+        dropped = ((load, event), tt);
+        follows = record-one (config_of was) s entry t follows;
+        notices = turned.notes ∙ ap (λ l. notices_of was ++ l) (sym (append-nil (notes_in entry)));
+      }),
+  λ closed is_open. closed (sym (stays-closed was is (giving_up load 0) settled number begun closed) ∙ is_open),
 )
 
 -- ---- among many
@@ -121,26 +102,49 @@ drops-one number was is load settled = (
 pub known-still : {X : Type 0} (F : X → X → Type 0) (old new : List X) (n : ℕ) → At old new n F → n < length new
 known-still F old new n a = slice_get_within new n a.is (at-is F old new n a)
 
--- nothing was called
-pub same-at : (spaces : List Space) (n : ℕ) → n < length spaces → At spaces spaces n SameSpace
-same-at spaces n known = let found = found-at spaces n known in at-same SameSpace spaces n found.0 found.1 (same-space found.0 found.0 refl)
-
 -- loads were taken
-pub at-taken : (old new : List Space) (n : ℕ) (loads : List (LoadId × List ℕ)) → At old new n (λ was is. TakesLoads was is loads) → At old new n SameButLoads
-at-taken old new n loads a = at-map (λ was is. TakesLoads was is loads) SameButLoads old new n a (λ x y t. taken-same x y loads t)
+pub at-taken : (old new : List BareSpace) (n : ℕ) (loads : List (LoadId × List ℕ)) → At old new n (GivesLoads loads) → At old new n SameButLoads
+at-taken old new n loads a = at-map (GivesLoads loads) SameButLoads old new n a (λ x y t. taken-same x y loads t.1)
+
+-- behind it the namespace stands for a situation
+pub situation-taken : (old new : List BareSpace) (n : ℕ) (loads : List (LoadId × List ℕ)) → At old new n (GivesLoads loads) → InSpace new n HasSituation
+situation-taken old new n loads a = record {
+  space = a.is;
+  at = at-is (GivesLoads loads) old new n a;
+  fact = record { some = a.fact.0.some; stands = still-stands a.was a.is a.fact.0.some (taken-same a.was a.is loads a.fact.1) a.fact.0.stands };
+}
 
 -- and are known
-pub at-more-taken : (old new : List Space) (n : ℕ) (before loads : List (LoadId × List ℕ)) → At old new n (λ was is. TakesLoads was is loads) → At old new n (λ was is. TakesMore was is before loads)
+pub at-more-taken : (old new : List BareSpace) (n : ℕ) (before loads : List (LoadId × List ℕ)) → At old new n (GivesLoads loads) → At old new n (λ was is. TakesMore was is before loads)
 at-more-taken old new n before loads a =
-    at-map (λ was is. TakesLoads was is loads) (λ was is. TakesMore was is before loads) old new n a
-    (λ x y t. record { same = taken-same x y loads t; known = λ s stands known. known-taken (place_of x) (taken_of x) loads s t.in_turn (let count = t.count s stands in omega arith) (t.keys s stands) })
+    at-map (GivesLoads loads) (λ was is. TakesMore was is before loads) old new n a
+    (λ x y t. record {
+      same = taken-same x y loads t.1;
+      known = λ s stands known.
+          let count = taken-count x y loads t.0 t.1 in
+          let sent = sent-is x s stands in
+          known-taken (place_of x) (taken_of x) loads s t.1.in_turn (omega (arith, count, sent)) (ap (λ l. have_their_keys l loads) (pending-is x s stands) ∙ t.1.keys);
+    })
 
 module _ (number n : ℕ) where
-  pub at-drop : (old new : List Space) (load : ℕ) → At old new n (λ was is. served.Settled was is (giving_up load 0)) → At old new n (GivesUpLoads number)
-  at-drop old new load a = at-map (λ was is. served.Settled was is (giving_up load 0)) (GivesUpLoads number) old new n a (λ x y settled. drops-one number x y load settled)
+  pub at-drop : (old new : List BareSpace) (load : ℕ) → HasSituationAt old n → At old new n (λ was is. served.Settled bare_tape was is (giving_up load 0)) → At old new n (GivesUpLoads number)
+  at-drop old new load begun a =
+      at-given-was (λ was is. served.Settled bare_tape was is (giving_up load 0)) (GivesUpLoads number) old new n a (λ x y at settled. drops-one number x y load (begun x at) settled)
 
-  pub at-undropped : (old new : List Space) → At old new n SameButLoads → At old new n (GivesUpLoads number)
+  -- behind it the namespace stands for a situation
+  pub situation-dropped : (old new : List BareSpace) (load : ℕ) → HasSituationAt old n → At old new n (λ was is. served.Settled bare_tape was is (giving_up load 0)) → InSpace new n HasSituation
+  situation-dropped old new load begun a = record {
+    space = a.is;
+    at = at-is (λ was is. served.Settled bare_tape was is (giving_up load 0)) old new n a;
+    fact = situation-behind a.was a.is (giving_up load 0) a.fact (begun a.was a.at);
+  }
+
+  pub at-undropped : (old new : List BareSpace) → At old new n SameButLoads → At old new n (GivesUpLoads number)
   at-undropped old new a = at-map SameButLoads (GivesUpLoads number) old new n a (λ x y same. drops-none number x y same)
 
-  pub at-drops-more : (first second third : List Space) → At first second n (GivesUpLoads number) → At second third n (GivesUpLoads number) → At first third n (GivesUpLoads number)
+  -- nothing was called
+  pub at-undropped-still : (spaces : List BareSpace) (x : BareSpace) → slice_get spaces n ≡ Some x → At spaces spaces n (GivesUpLoads number)
+  at-undropped-still spaces x at = at-same (GivesUpLoads number) spaces n x at (drops-none number x x refl)
+
+  pub at-drops-more : (first second third : List BareSpace) → At first second n (GivesUpLoads number) → At second third n (GivesUpLoads number) → At first third n (GivesUpLoads number)
   at-drops-more first second third a b = at-more (GivesUpLoads number) (GivesUpLoads number) (GivesUpLoads number) first second third n a b (λ x y z p q. drops-again number x y z p q)

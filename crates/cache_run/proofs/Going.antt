@@ -1,37 +1,35 @@
 -- How a namespace goes on by several calls.
-use Rattle.std.proofs.Common.{◌≡◌, ℕ, ◌-◌, Bool, List, [], ◌++◌, None, refl, sym, ap, ◌∙◌, inl, inr}
+use Rattle.std.proofs.Common.{◌≡◌, ◌≢◌, ℕ, zero, suc, ◌-◌, ◌<◌, nat_lt, nat_le, Bool, List, [], ◌∷◌, ◌++◌, length, Option, Some, refl, sym, ap, ◌∙◌, subst, arith, inl, inr}
+use Rattle.std.specs.Prelude.{slice_set, unwrap_or}
 use Rattle.std.specs.List.{slice_get, flat_map}
-use Rattle.std.specs.Option.{option_map_or}
-use Rattle.audit_model.specs.Situation.{Situation}
-use Rattle.cache_namespace.specs.Gathered.{reply_in}
-use Rattle.cache_namespace.specs.Taken.{feed_event, record_of}
+use Rattle.std.proofs.lemmas.Bool.{and_parts, ltb-true}
+use Rattle.std.proofs.lemmas.List.{append-nil}
 use Rattle.audit_model.specs.Follows.{Follows}
+use Rattle.audit_model.specs.Situation.{Situation}
 use Rattle.audit_model.specs.declared.config.Config.{Config}
 use Rattle.audit_model.specs.declared.transcript.Note.{Note}
-use Rattle.audit_model.specs.declared.transcript.Step.{Step}
-use Rattle.std.proofs.lemmas.List.{append-nil}
-use Rattle.audit_waiting_laws.proofs.Events.{records}
-use Rattle.cache_run.proofs.Carrying.{record-one}
-use Rattle.cache_namespace.specs.declared.connection.Connection.{Connection}
-use Rattle.cache_spaces.specs.Moves.{At}
-use Rattle.cache_spaces.specs.Serves.{SameSpace, ServesEvent, TakesOutput}
-use Rattle.cache_run.specs.Loading.{SameButLoads}
-use Rattle.cache_spaces.specs.Spaces.{closing_of, config_of, connections_of, notices_of, untaken_output}
-use Rattle.cache_spaces.specs.declared.space.Space.{Space}
+use Rattle.audit_model.specs.declared.transcript.Record.{Record}
+use Rattle.cache_core.specs.State.{at_number}
+use Rattle.cache_core.specs.Turned.{feeding, notes_in, replies_to}
+use Rattle.cache_lines.specs.Gathered.{reply_in}
+use Rattle.cache_spaces.specs.Calls.{At, IsOpened, ServesEvent, TakesOutput}
+use Rattle.cache_spaces.specs.Spaces.{StandsFor, closing_of, config_of, notices_of, untaken_output}
+use Rattle.cache_spaces.specs.Bares.{BareSpace, bare_tape}
 use Rattle.cache_run.specs.Connected.{Connected, IsReady}
 use Rattle.cache_run.specs.Delivered.{Answered, IsCause, Unanswered}
 use Rattle.cache_run.specs.Goes.{Goes}
-use Rattle.cache_run.specs.Happened.{Asking, Fed}
-use Rattle.cache_run.specs.declared.errors.RunError.{RunError}
-use Rattle.cache_run.specs.declared.errors.RunError.TheVariants.{OutOfMemory}
-use Rattle.cache_run.proofs.Placing.{at-map, at-more, at-with}
-
--- what is seen of a connection at the same place
-pub seen-alike : (was is : Space) (other : ℕ) → slice_get (connections_of is) (other - 1) ≡ slice_get (connections_of was) (other - 1) → (untaken_output is other ≡ untaken_output was other) × (closing_of is other ≡ closing_of was other)
-seen-alike was is other e = (ap (λ o. option_map_or (λ (c : Connection). c.output.items) o []) e, ap (λ o. option_map_or (λ (c : Connection). c.closing) o None) e)
+use Rattle.cache_devices.specs.Sources.{Asking}
+use Rattle.cache_run.specs.Happened.{Fed, record_of}
+use Rattle.cache_run.specs.Loading.{SameButLoads}
+use Rattle.cache_devices.specs.declared.errors.RunError.{RunError}
+use Rattle.cache_devices.specs.declared.errors.RunError.TheVariants.{OutOfMemory}
+use Rattle.cache_run.proofs.Carrying.{record-one}
+use Rattle.cache_run.proofs.Opening.{IsPlain, plain-record}
+use Rattle.cache_run.proofs.Placing.{at-map, at-more, at-same, at-with}
+use Rattle.cache_run.proofs.Happening.{goes-by, happened-so, own-replies}
 
 -- one after another
-pub goes-more : (number : ℕ) (x y z : Space) (F G H : Situation → Situation → Type 0) → Goes number x y F → Goes number y z G → ((s t u : Situation) → F s t → G t u → H s u) → Goes number x z H
+pub goes-more : (number : ℕ) (x y z : BareSpace) (F G H : Situation → Situation → Type 0) → Goes number x y F → Goes number y z G → ((s t u : Situation) → F s t → G t u → H s u) → Goes number x z H
 goes-more number x y z F G H a b h = record {
   each = λ s stands alone.
       let first = a.each s stands alone in
@@ -46,105 +44,152 @@ goes-more number x y z F G H a b h = record {
   config = b.config ∙ a.config;
 }
 
-pub goes-map : (number : ℕ) (x y : Space) (F G : Situation → Situation → Type 0) → Goes number x y F → ((s t : Situation) → F s t → G s t) → Goes number x y G
+pub goes-map : (number : ℕ) (x y : BareSpace) (F G : Situation → Situation → Type 0) → Goes number x y F → ((s t : Situation) → F s t → G s t) → Goes number x y G
 goes-map number x y F G a h = record {
   each = λ s stands alone.
       let first = a.each s stands alone in record { next = first.next; stands = first.stands; alone = first.alone; fact = h s first.next first.fact; others = first.others };
   config = a.config;
 }
 
--- a namespace that is the same is so but for the loads that went out
-pub but-loads : (was is : Space) → SameSpace was is → SameButLoads was is
-but-loads was is same = record { stands = same.stands; config = same.config; outputs = same.outputs; closings = same.closings; notices = same.notices; count = same.count }
+-- ---- what is the same
 
-pub at-but-loads : (old new : List Space) (n : ℕ) → At old new n SameSpace → At old new n SameButLoads
-at-but-loads old new n a = at-map SameSpace SameButLoads old new n a but-loads
+-- a namespace of which only loads were taken stands for the same situations
+pub still-stands : (was is : BareSpace) (s : Situation) → SameButLoads was is → StandsFor was s → StandsFor is s
+still-stands was is s e x = subst (λ y. StandsFor y s) (sym e) (record { held = x.held; stands = x.stands; is = x.is })
 
--- a namespace that is the same
-pub goes-same : (number : ℕ) (was is : Space) (F : Situation → Situation → Type 0) → SameButLoads was is → ((s : Situation) → F s s) → Goes number was is F
+-- or of which replies were taken
+pub output-stands : (was is : BareSpace) (number : ℕ) (text : List ℕ) (s : Situation) → TakesOutput was is number text → StandsFor was s → StandsFor is s
+output-stands was is number text s t x = subst (λ y. StandsFor y s) (sym t.rest) (record { held = x.held; stands = x.stands; is = x.is })
+
+set-other : {A : Type 0} (d x : A) (xs : List A) (number other : ℕ) → 0 < number → other ≢ number → at_number d (slice_set xs (number - 1) x) other ≡ at_number d xs other
+set-other d x xs zero other positive ne = absurd (omega (arith, positive))
+set-other d x xs (suc place) zero positive ne = refl
+set-other {A} d x xs (suc place) (suc index) positive ne =
+    let place_is : suc place - 1 ≡ place = omega arith in
+    ap (λ k. at_number d (slice_set xs k x) (suc index)) place_is ∙ ap (λ (o : Option A). unwrap_or o d) (elsewhere xs place index (λ e. ne (ap suc e)))
+  where
+    elsewhere : (ys : List A) (i j : ℕ) → j ≢ i → slice_get (slice_set ys i x) j ≡ slice_get ys j
+    elsewhere [] i j apart = refl
+    elsewhere (y ∷ ys) zero zero apart = absurd (apart refl)
+    elsewhere (y ∷ ys) zero (suc j) apart = refl
+    elsewhere (y ∷ ys) (suc i) zero apart = refl
+    elsewhere (y ∷ ys) (suc i) (suc j) apart = elsewhere ys i j (λ e. apart (ap suc e))
+
+set-own : (xs : List (List ℕ)) (number : ℕ) → at_number [] (slice_set xs (number - 1) []) number ≡ []
+set-own xs zero = refl
+set-own xs (suc place) =
+    let place_is : suc place - 1 ≡ place = omega arith in
+    ap (λ k. at_number [] (slice_set xs k []) (suc place)) place_is ∙ there xs place
+  where
+    there : (ys : List (List ℕ)) (i : ℕ) → unwrap_or (slice_get (slice_set ys i []) i) [] ≡ []
+    there [] i = refl
+    there (y ∷ ys) zero = refl
+    there (y ∷ ys) (suc i) = there ys i
+
+opened-positive : (space : BareSpace) (number : ℕ) → IsOpened space number → 0 < number
+opened-positive space number opened = ltb-true 0 number (and_parts (nat_lt 0 number) (nat_le number (length space.closings)) opened).0
+
+-- where replies were taken, those of others stay, and each connection is closed as it was
+module _ (was is : BareSpace) (number : ℕ) (text : List ℕ) (t : TakesOutput was is number text) where
+  pub output-others : (other : ℕ) → other ≢ number → (untaken_output is other ≡ untaken_output was other) × (closing_of is other ≡ closing_of was other)
+  output-others other ne = (ap (λ x. untaken_output x other) t.rest ∙ set-other [] [] was.outputs number other (opened-positive was number t.opened) ne, ap (λ x. closing_of x other) t.rest)
+
+  pub output-none : untaken_output is number ≡ []
+  output-none = ap (λ x. untaken_output x number) t.rest ∙ set-own was.outputs number
+
+-- a namespace of which only loads were taken
+pub goes-same : (number : ℕ) (was is : BareSpace) (F : Situation → Situation → Type 0) → SameButLoads was is → ((s : Situation) → F s s) → Goes number was is F
 goes-same number was is F same h = record {
-  each = λ s stands alone. record { next = s; stands = same.stands s stands; alone = alone; fact = h s; others = λ other ne. (same.outputs other, same.closings other) };
-  config = same.config;
+  each = λ s stands alone. record { next = s; stands = still-stands was is s same stands; alone = alone; fact = h s; others = λ other ne. (ap (λ x. untaken_output x other) same, ap (λ x. closing_of x other) same) };
+  config = ap config_of same;
+}
+
+-- nothing changed
+pub goes-still : (number : ℕ) (x : BareSpace) (F : Situation → Situation → Type 0) → ((s : Situation) → F s s) → Goes number x x F
+goes-still number x F h = goes-same number x x F refl h
+
+-- replies are taken behind it
+pub goes-output : (number : ℕ) (x y z : BareSpace) (text : List ℕ) (F : Situation → Situation → Type 0) → TakesOutput y z number text → Goes number x y F → Goes number x z F
+goes-output number x y z text F taken goes = record {
+  each = λ s stands alone.
+      let first = goes.each s stands alone in
+      record {
+        next = first.next;
+        stands = output-stands y z number text first.next taken first.stands;
+        alone = first.alone;
+        fact = first.fact;
+        others = λ other ne. let p = first.others other ne in let q = output-others y z number text taken other ne in (q.0 ∙ p.0, q.1 ∙ p.1);
+      };
+  config = ap config_of taken.rest ∙ goes.config;
 }
 
 -- ---- among many
 
-pub at-goes-more : (number n : ℕ) (xs ys zs : List Space) (F G H : Space → Space → Situation → Situation → Type 0)
+pub at-goes-more : (number n : ℕ) (xs ys zs : List BareSpace) (F G H : BareSpace → BareSpace → Situation → Situation → Type 0)
     → At xs ys n (λ was is. Goes number was is (F was is)) → At ys zs n (λ was is. Goes number was is (G was is))
-    → ((x y z : Space) → config_of y ≡ config_of x → (s t u : Situation) → F x y s t → G y z t u → H x z s u)
+    → ((x y z : BareSpace) → config_of y ≡ config_of x → (s t u : Situation) → F x y s t → G y z t u → H x z s u)
     → At xs zs n (λ was is. Goes number was is (H was is))
 at-goes-more number n xs ys zs F G H a b h =
     at-more (λ was is. Goes number was is (F was is)) (λ was is. Goes number was is (G was is)) (λ was is. Goes number was is (H was is)) xs ys zs n a b
     (λ x y z p q. goes-more number x y z (F x y) (G y z) (H x z) p q (h x y z p.config))
 
-pub at-goes-map : (number n : ℕ) (xs ys : List Space) (F G : Space → Space → Situation → Situation → Type 0)
-    → At xs ys n (λ was is. Goes number was is (F was is)) → ((x y : Space) (s t : Situation) → F x y s t → G x y s t) → At xs ys n (λ was is. Goes number was is (G was is))
+pub at-goes-map : (number n : ℕ) (xs ys : List BareSpace) (F G : BareSpace → BareSpace → Situation → Situation → Type 0)
+    → At xs ys n (λ was is. Goes number was is (F was is)) → ((x y : BareSpace) (s t : Situation) → F x y s t → G x y s t) → At xs ys n (λ was is. Goes number was is (G was is))
 at-goes-map number n xs ys F G a h =
     at-map (λ was is. Goes number was is (F was is)) (λ was is. Goes number was is (G was is)) xs ys n a (λ x y p. goes-map number x y (F x y) (G x y) p (h x y))
 
 -- ---- a piece
 
--- the turn of a piece that was feed_event
-pub fed-turn : (config : Config) (number : ℕ) (piece : List ℕ) (moment : ℕ) (steps : List Step) (s t : Situation) (before after : List Note) (text : List ℕ) → Follows config s (record_of (feed_event number piece moment) steps) t
-    → after ≡ before ++ flat_map (λ step. step.notices) steps → text ≡ flat_map reply_in steps → Answered config number piece moment [] s t before after text
-fed-turn config number piece moment steps s t before after text follows notices replies = record {
-  turn = Fed piece moment steps;
-  piece_is = refl;
-  moment_is = refl;
-  asks_are = refl;
-  right = tt;
-  placed = tt;
-  follows = record-one config s (record_of (feed_event number piece moment) steps) t follows;
-  notices = notices ∙ ap (λ z. before ++ z) (sym (append-nil (flat_map (λ step. step.notices) steps)));
-  replies = replies ∙ sym (append-nil (flat_map reply_in steps));
-}
+-- the turn of a piece that was fed
+pub fed-turn : (config : Config) (number : ℕ) (piece : List ℕ) (moment : ℕ) (entry : Record) (s t : Situation) (before after : List Note) (text : List ℕ) → Follows config s entry t → entry.event ≡ feeding number piece moment
+    → after ≡ before ++ notes_in entry → text ≡ flat_map reply_in entry.steps → Answered config number piece moment [] s t before after text
+fed-turn config number piece moment entry s t before after text follows is notices replies =
+    let plain = plain-record config s t entry (feeding number piece moment) follows is (subst IsPlain (sym is) tt) in
+    let steps = entry.steps in
+    record {
+      turn = Fed piece moment steps;
+      piece_is = refl;
+      moment_is = refl;
+      asks_are = refl;
+      right = tt;
+      placed = tt;
+      follows = record-one config s (record_of (feeding number piece moment) steps) t (subst (λ e. Follows config s e t) plain follows);
+      notices = notices ∙ ap (λ e. before ++ notes_in e) plain ∙ ap (λ z. before ++ z) (sym (append-nil (flat_map (λ step. step.notices) steps)));
+      replies = replies ∙ sym (append-nil (flat_map reply_in steps));
+    }
 
--- it was feed_event and its replies were taken
-pub at-answered : (old between new : List Space) (n number : ℕ) (piece : List ℕ) (moment : ℕ) (held : Bool) (text : List ℕ) → Connected old n number IsReady
-    → At old between n (λ was is. ServesEvent was is number (feed_event number piece moment) held) → At between new n (λ was is. TakesOutput was is number text)
+-- it was fed and its replies were taken
+pub at-answered : (old between new : List BareSpace) (n number : ℕ) (piece : List ℕ) (moment : ℕ) (held : Bool) (text : List ℕ) → Connected old n number IsReady
+    → At old between n (λ was is. ServesEvent bare_tape was is (feeding number piece moment) held) → At between new n (λ was is. TakesOutput was is number text)
     → At old new n (λ was is. Goes number was is (λ s t. Answered (config_of was) number piece moment [] s t (notices_of was) (notices_of is) text))
 at-answered old between new n number piece moment held text c a b =
-    at-more (λ x y. (untaken_output x number ≡ []) × ServesEvent x y number (feed_event number piece moment) held) (λ y z. TakesOutput y z number text)
+    at-more (λ x y. (untaken_output x number ≡ []) × ServesEvent bare_tape x y (feeding number piece moment) held) (λ y z. TakesOutput y z number text)
     (λ x z. Goes number x z (λ s t. Answered (config_of x) number piece moment [] s t (notices_of x) (notices_of z) text)) old between new n
-    (at-with (λ x y. ServesEvent x y number (feed_event number piece moment) held) (λ x y. (untaken_output x number ≡ []) × ServesEvent x y number (feed_event number piece moment) held) old between n c.space c.at a (λ y takes. (c.left.1, takes)))
+    (at-with (λ x y. ServesEvent bare_tape x y (feeding number piece moment) held) (λ x y. (untaken_output x number ≡ []) × ServesEvent bare_tape x y (feeding number piece moment) held) old between n c.space c.at a (λ y takes. (c.left.1, takes)))
     b
-    (λ x y z takes taken. record {
-      each = λ s stands alone.
-          let r = takes.1.serves s stands in
-          record {
-            next = r.next;
-            stands = taken.stands r.next r.stands;
-            alone = (records (config_of x) s r.next (record_of (feed_event number piece moment) r.steps) number r.follows refl alone).1;
-            fact = fed-turn (config_of x) number piece moment r.steps s r.next (notices_of x) (notices_of z) text r.follows (taken.notices ∙ r.notices) (taken.taken ∙ r.output ∙ ap (λ o. o ++ flat_map reply_in r.steps) takes.0);
-            others = λ other ne.
-                let p = seen-alike x y other (takes.1.others (other - 1) ne) in
-                let q = seen-alike y z other (taken.others (other - 1) ne) in (q.0 ∙ p.0, q.1 ∙ p.1);
-          };
-      config = taken.config ∙ takes.1.config;
-    })
+    (λ x y z takes taken.
+    goes-output number x y z text (λ s t. Answered (config_of x) number piece moment [] s t (notices_of x) (notices_of z) text) taken
+    (goes-by x y (feeding number piece moment) (happened-so x y (feeding number piece moment) held takes.1) number refl
+    (λ s t. Answered (config_of x) number piece moment [] s t (notices_of x) (notices_of z) text)
+    (λ s t entry is turned follows own stands.
+    fed-turn (config_of x) number piece moment entry s t (notices_of x) (notices_of z) text follows is (ap notices_of taken.rest ∙ turned.notes)
+    (taken.taken ∙ turned.outputs number ∙ ap (λ o. o ++ replies_to number entry.steps) takes.0 ∙ own-replies number entry.steps own))))
 
--- it was feed_event, and a command was held back
-pub at-held : (old new : List Space) (n number : ℕ) (piece : List ℕ) (moment : ℕ) (held : Bool)
-    → At old new n (λ was is. ServesEvent was is number (feed_event number piece moment) held)
+-- it was fed, and a command was held back
+pub at-held : (old new : List BareSpace) (n number : ℕ) (piece : List ℕ) (moment : ℕ) (held : Bool)
+    → At old new n (λ was is. ServesEvent bare_tape was is (feeding number piece moment) held)
     → At old new n (λ was is. Goes number was is (λ s t. Unanswered (config_of was) number piece moment [] s t (notices_of was) (notices_of is) OutOfMemory))
 at-held old new n number piece moment held a =
-    at-map (λ x y. ServesEvent x y number (feed_event number piece moment) held) (λ x y. Goes number x y (λ s t. Unanswered (config_of x) number piece moment [] s t (notices_of x) (notices_of y) OutOfMemory)) old new n a
-    (λ x y takes. record {
-      each = λ s stands alone.
-          let r = takes.serves s stands in
-          record {
-            next = r.next;
-            stands = r.stands;
-            alone = (records (config_of x) s r.next (record_of (feed_event number piece moment) r.steps) number r.follows refl alone).1;
-            fact = inr (flat_map reply_in r.steps, fed-turn (config_of x) number piece moment r.steps s r.next (notices_of x) (notices_of y) (flat_map reply_in r.steps) r.follows r.notices refl, refl);
-            others = λ other ne. seen-alike x y other (takes.others (other - 1) ne);
-          };
-      config = takes.config;
-    })
+    at-map (λ x y. ServesEvent bare_tape x y (feeding number piece moment) held) (λ x y. Goes number x y (λ s t. Unanswered (config_of x) number piece moment [] s t (notices_of x) (notices_of y) OutOfMemory)) old new n a
+    (λ x y takes.
+    goes-by x y (feeding number piece moment) (happened-so x y (feeding number piece moment) held takes) number refl
+    (λ s t. Unanswered (config_of x) number piece moment [] s t (notices_of x) (notices_of y) OutOfMemory)
+    (λ s t entry is turned follows own stands.
+    inr (flat_map reply_in entry.steps, fed-turn (config_of x) number piece moment entry s t (notices_of x) (notices_of y) (flat_map reply_in entry.steps) follows is turned.notes refl, refl)))
 
 -- it was refused
-pub at-refused : (old new : List Space) (n number : ℕ) (piece : List ℕ) (moment : ℕ) (asks : List Asking) (e : RunError) → At old new n SameSpace → IsCause moment e
-    → At old new n (λ was is. Goes number was is (λ s t. Unanswered (config_of was) number piece moment asks s t (notices_of was) (notices_of is) e))
-at-refused old new n number piece moment asks e a cause =
-    at-map SameSpace (λ x y. Goes number x y (λ s t. Unanswered (config_of x) number piece moment asks s t (notices_of x) (notices_of y) e)) old new n a
-    (λ x y same. goes-same number x y (λ s t. Unanswered (config_of x) number piece moment asks s t (notices_of x) (notices_of y) e) (but-loads x y same) (λ s. inl (record { same = refl; notices = same.notices }, cause)))
+pub at-refused : (spaces : List BareSpace) (n number : ℕ) (piece : List ℕ) (moment : ℕ) (asks : List Asking) (e : RunError) (x : BareSpace) → slice_get spaces n ≡ Some x → IsCause moment e
+    → At spaces spaces n (λ was is. Goes number was is (λ s t. Unanswered (config_of was) number piece moment asks s t (notices_of was) (notices_of is) e))
+at-refused spaces n number piece moment asks e x at cause =
+    at-same (λ x y. Goes number x y (λ s t. Unanswered (config_of x) number piece moment asks s t (notices_of x) (notices_of y) e)) spaces n x at
+    (goes-still number x (λ s t. Unanswered (config_of x) number piece moment asks s t (notices_of x) (notices_of x) e) (λ s. inl (record { same = refl; notices = refl }, cause)))

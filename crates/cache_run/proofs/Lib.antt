@@ -1,4 +1,6 @@
+pub mod Opening
 pub mod Placing
+pub mod Happening
 pub mod Causing
 pub mod Connecting
 pub mod Going
@@ -8,7 +10,6 @@ pub mod Knowing
 pub mod Turning
 pub mod Settling
 pub mod Refusing
-pub mod Quiet
 pub mod Accounting
 pub mod Gone
 pub mod Dropping

@@ -1,10 +1,9 @@
 -- One of many in the place of another, over several calls.
-use Rattle.std.proofs.Common.{◌≡◌, ℕ, zero, suc, List, [], ◌∷◌, Some, refl, sym, ap, ◌∙◌, subst}
+use Rattle.std.proofs.Common.{◌≡◌, ℕ, zero, suc, ◌<◌, List, [], ◌∷◌, length, Some, refl, sym, ap, ◌∙◌, subst, arith}
 use Rattle.std.specs.Prelude.{slice_set}
 use Rattle.std.specs.List.{slice_get}
 use Rattle.std.proofs.lemmas.Option.{slice_get_within, same_Some}
-use Rattle.cache_namespace.proofs.Places.{at-replaced}
-use Rattle.cache_spaces.specs.Moves.{At}
+use Rattle.cache_spaces.specs.Calls.{At}
 
 set-again : {X : Type 0} (xs : List X) (n : ℕ) (a b : X) → slice_set (slice_set xs n a) n b ≡ slice_set xs n b
 set-again [] n a b = refl
@@ -15,6 +14,11 @@ set-same : {X : Type 0} (xs : List X) (n : ℕ) (a : X) → slice_get xs n ≡ S
 set-same [] n a at = refl
 set-same (x ∷ xs) zero a at = ap (λ y. y ∷ xs) (same_Some x a at)
 set-same (x ∷ xs) (suc n) a at = ap (λ l. x ∷ l) (set-same xs n a at)
+
+at-replaced : {X : Type 0} (xs : List X) (n : ℕ) (x : X) → n < length xs → slice_get (slice_set xs n x) n ≡ Some x
+at-replaced [] n x lt = absurd (omega (arith, lt))
+at-replaced (y ∷ ys) zero x lt = refl
+at-replaced (y ∷ ys) (suc n) x lt = at-replaced ys n x (omega (arith, lt))
 
 -- what was put stands there
 pub at-is : {X : Type 0} (F : X → X → Type 0) (xs ys : List X) (n : ℕ) (a : At xs ys n F) → slice_get ys n ≡ Some a.is
@@ -49,3 +53,15 @@ pub at-with : {X : Type 0} (F G : X → X → Type 0) (xs ys : List X) (n : ℕ)
 at-with F G xs ys n x at a h =
     let same = at-was F xs ys n a x at in
     record { was = x; is = a.is; at = at; set = a.set; fact = h a.is (subst (λ w. F w a.is) same a.fact) }
+
+-- another fact, by where the first stood
+pub at-given-was : {X : Type 0} (F G : X → X → Type 0) (xs ys : List X) (n : ℕ) → At xs ys n F → ((x y : X) → slice_get xs n ≡ Some x → F x y → G x y) → At xs ys n G
+at-given-was F G xs ys n a h = record { was = a.was; is = a.is; at = a.at; set = a.set; fact = h a.was a.is a.at a.fact }
+
+-- what was left as it was
+pub at-unmoved : {X : Type 0} {F : X → X → Type 0} {n : ℕ} (old new : List X) → new ≡ old → At old old n F → At old new n F
+at-unmoved {X} {F} {n} old new e a = subst (λ l. At old l n F) (sym e) a
+
+-- what comes behind a call that left it so
+pub at-after : {X : Type 0} {F : X → X → Type 0} {n : ℕ} (old mid new : List X) → mid ≡ old → At mid new n F → At old new n F
+at-after {X} {F} {n} old mid new e a = subst (λ l. At l new n F) e a

@@ -1,5 +1,5 @@
 -- Why a load is not settled.
-use Rattle.std.proofs.Common.{◌≡◌, ◌≢◌, ◌∙◌, ℕ, ◌≤◌, ◌^◌, Bool, true, false, not, nat_le, nat_lt, Option, None, Some, is_some, refl, sym, ap, length, inl, inr}
+use Rattle.std.proofs.Common.{◌≡◌, ◌≢◌, ◌∙◌, ℕ, ◌≤◌, ◌^◌, List, Bool, true, false, not, nat_le, nat_lt, Option, None, Some, is_some, refl, sym, ap, length, inl, inr}
 use Rattle.std.specs.Prelude.{◌⊎◌, ◌||◌, MatchOption}
 use Rattle.std.specs.Option.{option_or}
 use Rattle.std.proofs.lemmas.Bool.{leb-true}
@@ -7,14 +7,16 @@ use Rattle.std.proofs.lemmas.Option.{none-some, same_Some}
 use Rattle.audit_model.specs.Belongs.{Known, refusal_of, refusal_of_outcome, refusal_where}
 use Rattle.audit_model.specs.Grammar.{is_value}
 use Rattle.audit_model.specs.declared.config.Config.{Config}
+use Rattle.audit_model.specs.declared.event.Event.{Event}
 use Rattle.audit_model.specs.declared.event.Outcome.{Outcome}
 use Rattle.audit_model.specs.declared.event.Outcome.TheVariants as came
 use Rattle.audit_model.specs.declared.input.ServiceError.{ServiceError}
 use Rattle.audit_model.specs.declared.input.ServiceError.TheVariants as error
-use Rattle.cache_settling.specs.Answered.{answering, giving_up}
-use Rattle.cache_spaces.specs.Serves.{RefusedAnswer, known_of}
-use Rattle.cache_spaces.specs.Spaces.{config_of}
-use Rattle.cache_spaces.specs.declared.space.Space.{Space}
+use Rattle.cache_core.specs.Settling.{answering, giving_up}
+use Rattle.cache_core.specs.Turned.{feeding}
+use Rattle.cache_spaces.specs.Calls.{RefusedFor, Refuses}
+use Rattle.cache_spaces.specs.Spaces.{config_of, known_of}
+use Rattle.cache_spaces.specs.Bares.{BareSpace}
 
 late-where : (moment : ℕ) (under_way late : Bool) → nat_le (2 ^ 63) moment ≡ late → option_or (refusal_where (not under_way) error.NoLoad) (refusal_where late error.Moment) ≡ Some error.Moment → 2 ^ 63 ≤ moment
 late-where moment false late is e = let h : Some error.NoLoad ≡ Some error.Moment = e in cc
@@ -33,6 +35,22 @@ under-way-where true false e is ne = absurd (none-some e is)
 
 pub give-up-unknown : (config : Config) (known : Known) (load moment : ℕ) (e : ServiceError) → refusal_of config known (giving_up load moment) ≡ Some e → e ≢ error.Moment → known.is_under_way load ≡ false
 give-up-unknown config known load moment e is ne = under-way-where (known.is_under_way load) (nat_le (2 ^ 63) moment) e is ne
+
+-- ---- a feed
+
+fed-late-where : (moment : ℕ) (held was_opened is_open late : Bool) → nat_le (2 ^ 63) moment ≡ late
+    → MatchOption (option_or (option_or (refusal_where (not was_opened) error.NoConnection) (refusal_where (not is_open) error.Closed)) (refusal_where late error.Moment))
+    ((error.Moment ≡ error.OutOfMemory) ⊎ ((error.Moment ≡ error.HeldAgain) × (held ≡ true))) (λ refused. error.Moment ≡ refused)
+    → 2 ^ 63 ≤ moment
+fed-late-where moment held false is_open late is e = let h : error.Moment ≡ error.NoConnection = e in cc
+fed-late-where moment held true false late is e = let h : error.Moment ≡ error.Closed = e in cc
+fed-late-where moment held true true true is e = leb-true (2 ^ 63) moment is
+fed-late-where moment held true true false is (inl e) = let h : error.Moment ≡ error.OutOfMemory = e in cc
+fed-late-where moment held true true false is (inr e) = let h : error.Moment ≡ error.HeldAgain = e.0 in cc
+
+-- a feed is refused for its moment only where that is late
+pub fed-late : (space : BareSpace) (number : ℕ) (piece : List ℕ) (moment : ℕ) (held : Bool) → RefusedFor space (feeding number piece moment) held error.Moment → 2 ^ 63 ≤ moment
+fed-late space number piece moment held e = fed-late-where moment held ((known_of space).was_opened number) ((known_of space).is_open number) (nat_le (2 ^ 63) moment) refl e
 
 -- ---- an answer
 
@@ -75,10 +93,20 @@ kinds moment true true refused e is r = inr (inl (r, leb-true (2 ^ 63) moment is
 kinds moment true false None e is r = inr (inr (inr r))
 kinds moment true false (Some refusal) e is r = inr (inr (inl (ap (λ x. Some x) (sym r))))
 
-answer-kinds : (space : Space) (load : ℕ) (outcome : Outcome) (moment : ℕ) (e : ServiceError) → RefusedAnswer space (answering load outcome moment) e → Kind moment (refusal_of_outcome (config_of space) outcome) e
-answer-kinds space load outcome moment e r = kinds moment ((known_of space).is_under_way load) (nat_le (2 ^ 63) moment) (refusal_of_outcome (config_of space) outcome) e refl r
+-- the definition refuses it so, or memory was wanted
+abbrev RefusedAnswer : BareSpace → Event → ServiceError → Type 0
+RefusedAnswer space happened e = RefusedFor space happened false e
 
-pub answer-late : (space : Space) (load : ℕ) (outcome : Outcome) (moment : ℕ) → RefusedAnswer space (answering load outcome moment) error.Moment → 2 ^ 63 ≤ moment
+unheld : (o : Option ServiceError) (e : ServiceError) → MatchOption o ((e ≡ error.OutOfMemory) ⊎ ((e ≡ error.HeldAgain) × (false ≡ true))) (λ refusal. e ≡ refusal) → MatchOption o (e ≡ error.OutOfMemory) (λ refusal. e ≡ refusal)
+unheld None e (inl memory) = memory
+unheld None e (inr again) = let no : false ≡ true = again.1 in cc
+unheld (Some refusal) e is = is
+
+answer-kinds : (space : BareSpace) (load : ℕ) (outcome : Outcome) (moment : ℕ) (e : ServiceError) → RefusedAnswer space (answering load outcome moment) e → Kind moment (refusal_of_outcome (config_of space) outcome) e
+answer-kinds space load outcome moment e r =
+    kinds moment ((known_of space).is_under_way load) (nat_le (2 ^ 63) moment) (refusal_of_outcome (config_of space) outcome) e refl (unheld (refusal_of (config_of space) (known_of space) (answering load outcome moment)) e r)
+
+pub answer-late : (space : BareSpace) (load : ℕ) (outcome : Outcome) (moment : ℕ) → RefusedAnswer space (answering load outcome moment) error.Moment → 2 ^ 63 ≤ moment
 answer-late space load outcome moment r = go (answer-kinds space load outcome moment error.Moment r)
   where
     go : Kind moment (refusal_of_outcome (config_of space) outcome) error.Moment → 2 ^ 63 ≤ moment
@@ -99,11 +127,12 @@ unknown-where config outcome true false r = go (refusal_of_outcome config outcom
     go (Some refusal) is h = absurd (outcome-kind config outcome error.NoLoad load-other (is ∙ ap (λ x. Some x) (sym h)))
 
 -- no load of that number is under way
-pub answer-unknown : (space : Space) (load : ℕ) (outcome : Outcome) (moment : ℕ) → RefusedAnswer space (answering load outcome moment) error.NoLoad → (known_of space).is_under_way load ≡ false
-answer-unknown space load outcome moment r = unknown-where (config_of space) outcome ((known_of space).is_under_way load) (nat_le (2 ^ 63) moment) r
+pub answer-unknown : (space : BareSpace) (load : ℕ) (outcome : Outcome) (moment : ℕ) → RefusedAnswer space (answering load outcome moment) error.NoLoad → (known_of space).is_under_way load ≡ false
+answer-unknown space load outcome moment r =
+    unknown-where (config_of space) outcome ((known_of space).is_under_way load) (nat_le (2 ^ 63) moment) (unheld (refusal_of (config_of space) (known_of space) (answering load outcome moment)) error.NoLoad r)
 
 -- what is refused, and not for the load, the moment or memory, is the outcome
-pub answer-refused : (space : Space) (load : ℕ) (outcome : Outcome) (moment : ℕ) (e : ServiceError) → RefusedAnswer space (answering load outcome moment) e → e ≢ error.NoLoad → e ≢ error.Moment → e ≢ error.OutOfMemory
+pub answer-refused : (space : BareSpace) (load : ℕ) (outcome : Outcome) (moment : ℕ) (e : ServiceError) → RefusedAnswer space (answering load outcome moment) e → e ≢ error.NoLoad → e ≢ error.Moment → e ≢ error.OutOfMemory
     → is_some (refusal_of_outcome (config_of space) outcome) ≡ true
 answer-refused space load outcome moment e r no_load no_moment no_memory = go (answer-kinds space load outcome moment e r)
   where
@@ -112,3 +141,7 @@ answer-refused space load outcome moment e r no_load no_moment no_memory = go (a
     go (inr (inl p)) = absurd (no_moment p.0)
     go (inr (inr (inl refused))) = ap is_some refused
     go (inr (inr (inr is))) = absurd (no_memory is)
+
+pub feed-refused-late : (spaces : List BareSpace) (n number : ℕ) (piece : List ℕ) (moment : ℕ) (held : BareSpace → Bool) → Refuses spaces n error.Moment (λ was. RefusedFor was (feeding number piece moment) (held was) error.Moment) → 2 ^ 63 ≤ moment
+feed-refused-late spaces n number piece moment held (inl none) = let h : error.Moment ≡ error.NoNamespace = none.0 in cc
+feed-refused-late spaces n number piece moment held (inr i) = fed-late i.space number piece moment (held i.space) i.fact

@@ -1,40 +1,41 @@
 -- One turn of a run.
-use Rattle.std.proofs.Common.{◌≡◌, ◌≢◌, ℕ, ◌+◌, ◌<◌, ◌≤◌, ◌⊎◌, ◌++◌, false, List, [], ◌∷◌, length, take, Option, refl, sym, ap, ◌∙◌, subst, inl, inr, arith, length-append}
-use Rattle.std.specs.Prelude.{Result, Ok, Err, IfErr, IsErrOf, MatchResult}
+use Rattle.std.proofs.Common.{◌≡◌, ◌≢◌, ℕ, ◌+◌, ◌<◌, ◌≤◌, ◌⊎◌, ◌++◌, false, List, [], ◌∷◌, length, take, Option, Some, refl, sym, ap, ◌∙◌, subst, inl, inr, arith, length-append}
+use Rattle.std.specs.Prelude.{Result, Ok, Err, IfErr, MatchResult}
+use Rattle.std.specs.List.{slice_get}
 use Rattle.std.proofs.lemmas.List.{append-nil, length-take-le}
 use Rattle.std.specs.Io.KnownBytes.{Appends, Consumes}
 use Rattle.audit_model.specs.Situation.{Situation}
 use Rattle.audit_model.specs.declared.input.LoadId.{LoadId}
 use Rattle.cache_devices.specs.Sent.{SentBut}
 use Rattle.cache_run.proofs.Knowing.{carried-known}
-use Rattle.std.specs.Result.{result_err}
-use Rattle.std.proofs.lemmas.Option.{same_Some}
 use Rattle.cache_devices.proofs.Sending.{failed_after, failed_before, same_appends}
 use Rattle.cache_devices.specs.Failures.{HasFailed}
 use Rattle.cache_run.specs.Turns.{HasAsked, HasRead}
-use Rattle.cache_spaces.specs.Moves.{At}
-use Rattle.cache_run.specs.Loading.{AreKnown, BreaksOff, Carries, SameButLoads, TakesMore}
+use Rattle.cache_spaces.specs.Calls.{At}
+use Rattle.cache_run.specs.Loading.{AreKnown, BreaksOff, Carries, TakesMore}
 use Rattle.audit_waiting_laws.specs.Keys.{IsKnown}
-use Rattle.cache_spaces.specs.Spaces.{config_of, notices_of}
-use Rattle.cache_spaces.specs.declared.space.Space.{Space}
+use Rattle.cache_spaces.specs.Spaces.{closing_of, config_of, notices_of, untaken_output}
+use Rattle.cache_spaces.specs.Bares.{BareSpace}
 use Rattle.audit_model.specs.declared.event.Outcome.{Outcome}
-use Rattle.cache_run.specs.Carried.{Askings, Broken, Carried, nothing_left}
+use Rattle.cache_devices.proofs.Reading.{askings_more, consumes_more, same_consumes}
+use Rattle.cache_devices.specs.Sources.{Asking, Askings}
+use Rattle.cache_run.specs.Carried.{Broken, Carried, nothing_left}
 use Rattle.cache_run.specs.Causes.{Because}
-use Rattle.cache_run.specs.Happened.{Asking, asking_of}
+use Rattle.cache_run.specs.Happened.{asking_of}
 use Rattle.cache_run.specs.Connected.{Connected, IsReady}
 use Rattle.cache_run.specs.Delivered.{AnsweredLoad, Delivered, Undelivered}
 use Rattle.cache_run.specs.Goes.{Goes}
 use Rattle.cache_run.specs.Worlds.{Outside, outside, world}
-use Rattle.cache_run.specs.declared.errors.RunError.{RunError}
-use Rattle.cache_run.specs.declared.errors.RunError.TheVariants.{Moment}
-use Rattle.cache_run.proofs.Carrying.{askings_more, consumes_more, same_consumes, broken-more, broken-one, carried-more, carried-none, carried-one, carried-same}
+use Rattle.cache_devices.specs.declared.errors.RunError.{RunError}
+use Rattle.cache_devices.specs.declared.errors.RunError.TheVariants.{Moment}
+use Rattle.cache_run.proofs.Carrying.{broken-more, broken-one, carried-more, carried-none, carried-one, carried-same}
 use Rattle.cache_run.proofs.Causing.{not-late}
-use Rattle.cache_run.proofs.Going.{at-goes-map, at-goes-more}
+use Rattle.cache_run.proofs.Going.{at-goes-map, at-goes-more, still-stands}
 use Rattle.cache_run.proofs.Placing.{at-map, at-same}
 
-module _ {C L : Type 0} (reads : C → ℕ → C → Type 0) (loads : L → List ℕ → Option Outcome → L → Type 0) (old : List Space) (n number : ℕ) where
+module _ {C L : Type 0} (reads : C → ℕ → C → Type 0) (loads : L → List ℕ → Option Outcome → L → Type 0) (old : List BareSpace) (n number : ℕ) where
   -- the loads that were taken are known behind the turns
-  pub at-known : (new : List Space) (a b : Outside C L) (outs : List (LoadId × List ℕ))
+  pub at-known : (new : List BareSpace) (a b : Outside C L) (outs : List (LoadId × List ℕ))
       → At old new n (λ was is. Goes number was is (λ s t. Carried (config_of was) number reads loads (world was s a) (world is t b) false false [] nothing_left)) → Carries reads loads old new n number a b outs outs
   at-known new a b outs h =
       at-goes-map number n old new (λ x y s t. Carried (config_of x) number reads loads (world x s a) (world y t b) false false [] nothing_left)
@@ -51,7 +52,7 @@ module _ {C L : Type 0} (reads : C → ℕ → C → Type 0) (loads : L → List
         config = refl;
       }))
 
-  pub turn-one : (new : List Space) (outs : List (LoadId × List ℕ)) (piece : List ℕ) (moment : ℕ) (asks : List Asking) (r q v w : Option (List ℕ)) (k l : C) (m o : L)
+  pub turn-one : (new : List BareSpace) (outs : List (LoadId × List ℕ)) (piece : List ℕ) (moment : ℕ) (asks : List Asking) (r q v w : Option (List ℕ)) (k l : C) (m o : L)
       → At old new n (λ was is. Goes number was is (λ s t. Delivered (config_of was) number piece moment asks s t (notices_of was) (notices_of is) v w [])) → Consumes r q piece → reads k moment l → Askings loads m asks o
       → Carries reads loads old new n number (outside r v k m) (outside q w l o) outs outs
   turn-one new outs piece moment asks r q v w k l m o a read clock loader =
@@ -59,7 +60,7 @@ module _ {C L : Type 0} (reads : C → ℕ → C → Type 0) (loads : L → List
       (at-goes-map number n old new (λ x y s t. Delivered (config_of x) number piece moment asks s t (notices_of x) (notices_of y) v w []) (λ x y s t. Carried (config_of x) number reads loads (world x s (outside r v k m)) (world y t (outside q w l o)) false false [] nothing_left) a
       (λ x y s t d. carried-one (config_of x) number reads loads x y s t r q v w k l m o piece moment asks [] d read clock loader))
 
-  pub turn-broken : (new : List Space) (outs : List (LoadId × List ℕ)) (piece : List ℕ) (moment : ℕ) (asks : List Asking) (r q v w : Option (List ℕ)) (k l : C) (m o : L) (e : RunError)
+  pub turn-broken : (new : List BareSpace) (outs : List (LoadId × List ℕ)) (piece : List ℕ) (moment : ℕ) (asks : List Asking) (r q v w : Option (List ℕ)) (k l : C) (m o : L) (e : RunError)
       → At old new n (λ was is. Goes number was is (λ s t. Undelivered (config_of was) number piece moment asks s t (notices_of was) (notices_of is) v w e)) → Consumes r q piece → reads k moment l → Askings loads m asks o
       → BreaksOff reads loads old new n number (outside r v k m) (outside q w l o) outs e
   turn-broken new outs piece moment asks r q v w k l m o e a read clock loader =
@@ -67,7 +68,7 @@ module _ {C L : Type 0} (reads : C → ℕ → C → Type 0) (loads : L → List
       (λ x y s t. AreKnown outs s → Broken (config_of x) number reads loads (world x s (outside r v k m)) (world y t (outside q w l o)) false false [] e) a
       (λ x y s t d known. broken-one (config_of x) number reads loads x y s t r q v w k l m o piece moment asks e d read clock loader)
 
-  pub turn-by : {T : Type 0} (result : Result T RunError) (new : List Space) (outs : List (LoadId × List ℕ)) (piece : List ℕ) (moment : ℕ) (asks : List Asking) (r q v w : Option (List ℕ)) (k l : C) (m o : L)
+  pub turn-by : {T : Type 0} (result : Result T RunError) (new : List BareSpace) (outs : List (LoadId × List ℕ)) (piece : List ℕ) (moment : ℕ) (asks : List Asking) (r q v w : Option (List ℕ)) (k l : C) (m o : L)
       → MatchResult result (λ done. At old new n (λ was is. Goes number was is (λ s t. Delivered (config_of was) number piece moment asks s t (notices_of was) (notices_of is) v w [])))
       (λ e. At old new n (λ was is. Goes number was is (λ s t. Undelivered (config_of was) number piece moment asks s t (notices_of was) (notices_of is) v w e)))
       → Consumes r q piece → reads k moment l → Askings loads m asks o
@@ -76,7 +77,7 @@ module _ {C L : Type 0} (reads : C → ℕ → C → Type 0) (loads : L → List
   turn-by (Err e) new outs piece moment asks r q v w k l m o a read clock loader = turn-broken new outs piece moment asks r q v w k l m o e a read clock loader
 
   -- a load that was taken is settled, and its replies are written
-  pub settled-one : (new : List Space) (before after : List (LoadId × List ℕ)) (load moment : ℕ) (asking : Asking) (text output : List ℕ) (r v w : Option (List ℕ)) (k l : C) (m o : L)
+  pub settled-one : (new : List BareSpace) (before after : List (LoadId × List ℕ)) (load moment : ℕ) (asking : Asking) (text output : List ℕ) (r v w : Option (List ℕ)) (k l : C) (m o : L)
       → ((s : Situation) → AreKnown before s → IsKnown load asking.key s × AreKnown after s) → output ≡ text → Appends v w output
       → At old new n (λ was is. Goes number was is (λ s t. AnsweredLoad (config_of was) number load moment asking s t (notices_of was) (notices_of is) text)) → reads k moment l → Askings loads m (asking ∷ []) o
       → Carries reads loads old new n number (outside r v k m) (outside r w l o) before after
@@ -90,7 +91,7 @@ module _ {C L : Type 0} (reads : C → ℕ → C → Type 0) (loads : L → List
       (c, carried-known (config_of x) number reads loads (world x s (outside r v k m)) (world y t (outside r w l o)) false false [] nothing_left after c p.1))
 
   -- a load that was taken is settled, and a beginning of its replies is written
-  pub settled-broken : (new : List Space) (before : List (LoadId × List ℕ)) (load moment : ℕ) (asking : Asking) (text output rest : List ℕ) (r v w : Option (List ℕ)) (k l : C) (m o : L) (e : RunError)
+  pub settled-broken : (new : List BareSpace) (before : List (LoadId × List ℕ)) (load moment : ℕ) (asking : Asking) (text output rest : List ℕ) (r v w : Option (List ℕ)) (k l : C) (m o : L) (e : RunError)
       → ((s : Situation) → AreKnown before s → IsKnown load asking.key s) → output ≡ text → SentBut rest output v w → e ≢ Moment
       → At old new n (λ was is. Goes number was is (λ s t. AnsweredLoad (config_of was) number load moment asking s t (notices_of was) (notices_of is) text)) → reads k moment l → Askings loads m (asking ∷ []) o
       → BreaksOff reads loads old new n number (outside r v k m) (outside r w l o) before e
@@ -102,7 +103,7 @@ module _ {C L : Type 0} (reads : C → ℕ → C → Type 0) (loads : L → List
       (inr (rest, record { text = text; answered = answered (pick s known); sent = sent.sent; wrote = sent.wrote; whole = sent.whole ∙ is }, ne)) (same_consumes r) clock loader)
 
   -- and its replies are written, or a beginning of them
-  pub settled-by : {T : Type 0} (f u : Type 0) (result : Result T RunError) (new : List Space) (before after : List (LoadId × List ℕ)) (load moment : ℕ) (asking : Asking) (text output : List ℕ) (r v w : Option (List ℕ)) (k l : C) (m o : L)
+  pub settled-by : {T : Type 0} (f u : Type 0) (result : Result T RunError) (new : List BareSpace) (before after : List (LoadId × List ℕ)) (load moment : ℕ) (asking : Asking) (text output : List ℕ) (r v w : Option (List ℕ)) (k l : C) (m o : L)
       → ((s : Situation) → AreKnown before s → IsKnown load asking.key s × AreKnown after s) → output ≡ text
       → MatchResult result (λ done. Appends v w output) (λ e. (rest : List ℕ) × SentBut rest output v w) → IfErr result (Because ⊥ f u ⊥)
       → At old new n (λ was is. Goes number was is (λ s t. AnsweredLoad (config_of was) number load moment asking s t (notices_of was) (notices_of is) text)) → reads k moment l → Askings loads m (asking ∷ []) o
@@ -112,20 +113,20 @@ module _ {C L : Type 0} (reads : C → ℕ → C → Type 0) (loads : L → List
       settled-broken new before load moment asking text output sent.0 r v w k l m o e (λ s known. (pick s known).0) is sent.1 (not-late ⊥ f u e why) a clock loader
 
   -- an error without a loss
-  pub at-broken : (new : List Space) (a b : Outside C L) (before after : List (LoadId × List ℕ)) (e : RunError) → e ≢ Moment → Carries reads loads old new n number a b before after → BreaksOff reads loads old new n number a b before e
+  pub at-broken : (new : List BareSpace) (a b : Outside C L) (before after : List (LoadId × List ℕ)) (e : RunError) → e ≢ Moment → Carries reads loads old new n number a b before after → BreaksOff reads loads old new n number a b before e
   at-broken new a b before after e ne h =
       at-goes-map number n old new (λ x y s t. AreKnown before s → Carried (config_of x) number reads loads (world x s a) (world y t b) false false [] nothing_left × AreKnown after t)
       (λ x y s t. AreKnown before s → Broken (config_of x) number reads loads (world x s a) (world y t b) false false [] e) h
       (λ x y s t d known. record { left = nothing_left; carried = (d known).0; dropped = tt; moment = λ is. absurd (ne is) })
 
   -- where no load was taken before
-  pub at-fresh : (new : List Space) (a b : Outside C L) (after : List (LoadId × List ℕ)) → Carries reads loads old new n number a b [] after
+  pub at-fresh : (new : List BareSpace) (a b : Outside C L) (after : List (LoadId × List ℕ)) → Carries reads loads old new n number a b [] after
       → At old new n (λ was is. Goes number was is (λ s t. Carried (config_of was) number reads loads (world was s a) (world is t b) false false [] nothing_left))
   at-fresh new a b after h =
       at-goes-map number n old new (λ x y s t. Unit {0} → Carried (config_of x) number reads loads (world x s a) (world y t b) false false [] nothing_left × AreKnown after t)
       (λ x y s t. Carried (config_of x) number reads loads (world x s a) (world y t b) false false [] nothing_left) h (λ x y s t d. (d tt).0)
 
-  pub at-fresh-broken : (new : List Space) (a b : Outside C L) (e : RunError) → BreaksOff reads loads old new n number a b [] e
+  pub at-fresh-broken : (new : List BareSpace) (a b : Outside C L) (e : RunError) → BreaksOff reads loads old new n number a b [] e
       → At old new n (λ was is. Goes number was is (λ s t. Broken (config_of was) number reads loads (world was s a) (world is t b) false false [] e))
   at-fresh-broken new a b e h =
       at-goes-map number n old new (λ x y s t. Unit {0} → Broken (config_of x) number reads loads (world x s a) (world y t b) false false [] e)
@@ -133,7 +134,7 @@ module _ {C L : Type 0} (reads : C → ℕ → C → Type 0) (loads : L → List
 
 -- ---- turns one after another
 
-module _ {C L : Type 0} (reads : C → ℕ → C → Type 0) (loads : L → List ℕ → Option Outcome → L → Type 0) (n number : ℕ) (first second third : List Space) (a b d : Outside C L) (before between : List (LoadId × List ℕ)) where
+module _ {C L : Type 0} (reads : C → ℕ → C → Type 0) (loads : L → List ℕ → Option Outcome → L → Type 0) (n number : ℕ) (first second third : List BareSpace) (a b d : Outside C L) (before between : List (LoadId × List ℕ)) where
   pub at-carried-more : (after : List (LoadId × List ℕ)) → Carries reads loads first second n number a b before between → Carries reads loads second third n number b d between after → Carries reads loads first third n number a d before after
   at-carried-more after p q =
       at-goes-more number n first second third (λ x y s t. AreKnown before s → Carried (config_of x) number reads loads (world x s a) (world y t b) false false [] nothing_left × AreKnown between t)
@@ -160,7 +161,7 @@ module _ {C L : Type 0} (reads : C → ℕ → C → Type 0) (loads : L → List
   at-more-by (Err e) after p q = at-broken-more e p q
 
 -- nothing has come yet
-pub at-carried-start : {C L : Type 0} (reads : C → ℕ → C → Type 0) (loads : L → List ℕ → Option Outcome → L → Type 0) (old : List Space) (n number : ℕ) (a : Outside C L) (outs : List (LoadId × List ℕ)) → outs ≡ [] → Connected old n number IsReady → Carries reads loads old old n number a a [] outs
+pub at-carried-start : {C L : Type 0} (reads : C → ℕ → C → Type 0) (loads : L → List ℕ → Option Outcome → L → Type 0) (old : List BareSpace) (n number : ℕ) (a : Outside C L) (outs : List (LoadId × List ℕ)) → outs ≡ [] → Connected old n number IsReady → Carries reads loads old old n number a a [] outs
 at-carried-start reads loads old n number a outs fresh c =
     subst (λ taken. Carries reads loads old old n number a a [] taken) (sym fresh)
     (at-known reads loads old n number old a a []
@@ -216,25 +217,21 @@ asked-fewer loads a b m n fewer x = let most = x.2 in (x.0, x.1, omega arith)
 
 -- ---- where the namespace is left the same
 
-pub at-carried-same : {C L : Type 0} (reads : C → ℕ → C → Type 0) (loads : L → List ℕ → Option Outcome → L → Type 0) (old new : List Space) (n number : ℕ) (a : Outside C L) (before after : List (LoadId × List ℕ))
+pub at-carried-same : {C L : Type 0} (reads : C → ℕ → C → Type 0) (loads : L → List ℕ → Option Outcome → L → Type 0) (old new : List BareSpace) (n number : ℕ) (a : Outside C L) (before after : List (LoadId × List ℕ))
     → At old new n (λ was is. TakesMore was is before after) → Carries reads loads old new n number a a before after
 at-carried-same reads loads old new n number a before after more =
     at-map (λ was is. TakesMore was is before after) (λ was is. Goes number was is (λ s t. AreKnown before s → Carried (config_of was) number reads loads (world was s a) (world is t a) false false [] nothing_left × AreKnown after t)) old new n more
     (λ x y p. record {
       each = λ s stands alone. record {
         next = s;
-        stands = p.same.stands s stands;
+        stands = still-stands x y s p.same stands;
         alone = alone;
-        fact = λ known. (carried-same (config_of x) number reads loads x y s s a refl p.same.notices, p.known s stands known);
-        others = λ other ne. (p.same.outputs other, p.same.closings other);
+        fact = λ known. (carried-same (config_of x) number reads loads x y s s a refl (ap notices_of p.same), p.known s stands known);
+        others = λ other ne. (ap (λ z. untaken_output z other) p.same, ap (λ z. closing_of z other) p.same);
       };
-      config = p.same.config;
+      config = ap config_of p.same;
     })
 
 -- nothing was taken
-pub at-none-taken : (old new : List Space) (n : ℕ) (outs : List (LoadId × List ℕ)) → At old new n SameButLoads → At old new n (λ was is. TakesMore was is outs outs)
-at-none-taken old new n outs a = at-map SameButLoads (λ was is. TakesMore was is outs outs) old new n a (λ x y p. record { same = p; known = λ s stands known. known })
-
--- the same error of another result
-pub still-err : {T U E : Type 0} (e v : E) → IsErrOf {T = T} (Err e) v → IsErrOf {T = U} (Err e) v
-still-err e v is = let same : e ≡ v = same_Some e v (ap result_err is) in ap (λ x. Err x) same
+pub at-none-taken : (spaces : List BareSpace) (n : ℕ) (outs : List (LoadId × List ℕ)) (x : BareSpace) → slice_get spaces n ≡ Some x → At spaces spaces n (λ was is. TakesMore was is outs outs)
+at-none-taken spaces n outs x at = at-same (λ was is. TakesMore was is outs outs) spaces n x at (record { same = refl; known = λ s stands known. known })

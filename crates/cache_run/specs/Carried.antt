@@ -8,21 +8,12 @@ use Rattle.audit_model.specs.declared.config.Config.{Config}
 use Rattle.audit_model.specs.declared.event.Event.TheVariants as event
 use Rattle.audit_model.specs.declared.event.Outcome.{Outcome}
 use Rattle.audit_model.specs.declared.transcript.Record.{Record}
-use Rattle.cache_namespace.specs.Taken.{record_of}
-use Rattle.cache_run.specs.Happened.{Asking, Turn, AreDrops, AreInPlace, AreRight, asked_in, moment_in, turn_notes, record_notes, piece_in, records_in, replies_in}
+use Rattle.cache_core.specs.Turned.{notes_in}
+use Rattle.cache_devices.specs.Sources.{Asking, Askings, Readings}
+use Rattle.cache_run.specs.Happened.{Turn, AreDrops, AreInPlace, AreRight, asked_in, moment_in, turn_notes, record_of, piece_in, records_in, replies_in}
 use Rattle.cache_run.specs.Worlds.{World}
-use Rattle.cache_run.specs.declared.errors.RunError.{RunError}
-use Rattle.cache_run.specs.declared.errors.RunError.TheVariants.{Moment}
-
--- the readings of a clock, in order
-abbrev pub Readings : {C : Type 0} → (C → ℕ → C → Type 0) → C → List ℕ → C → Type 0
-Readings reads c [] d = d ≡ c
-Readings {C} reads c (t ∷ ts) d = (m : C) × reads c t m × Readings reads m ts d
-
--- what a loader was asked and said, in order
-abbrev pub Askings : {L : Type 0} → (L → List ℕ → Option Outcome → L → Type 0) → L → List Asking → L → Type 0
-Askings loads l [] k = k ≡ l
-Askings {L} loads l (asking ∷ askings) k = (m : L) × loads l asking.key asking.answer m × Askings loads m askings k
+use Rattle.cache_devices.specs.declared.errors.RunError.{RunError}
+use Rattle.cache_devices.specs.declared.errors.RunError.TheVariants.{Moment}
 
 abbrev pub open_records : ℕ → Bool → List Record
 open_records number opens = if opens then record_of (event.Open number) [] ∷ [] else []
@@ -51,7 +42,7 @@ pub record Carried {C L : Type 0} (config : Config) (number : ℕ) (reads : C �
   pub right : AreRight config turns
   pub placed : (s : Situation) → after_records config a.situation (open_records number opens) ≡ Some s → AreInPlace config number s turns
   pub follows : after_records config a.situation (records_of number opens turns closes drops) ≡ Some b.situation
-  pub notices : b.notices ≡ (a.notices ++ flat_map (turn_notes number) turns) ++ flat_map record_notes drops
+  pub notices : b.notices ≡ (a.notices ++ flat_map (turn_notes number) turns) ++ flat_map notes_in drops
   pub read : Consumes a.outside.remaining b.outside.remaining (flat_map piece_in turns ++ left.lost)
   pub sent : List ℕ
   pub wrote : Appends a.outside.contents b.outside.contents sent

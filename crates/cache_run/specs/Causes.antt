@@ -1,6 +1,6 @@
 -- Why a run stops.
-use Rattle.cache_run.specs.declared.errors.RunError.{RunError}
-use Rattle.cache_run.specs.declared.errors.RunError.TheVariants.{Read, Write, OutOfMemory, UsedUp, Moment}
+use Rattle.cache_devices.specs.declared.errors.RunError.{RunError}
+use Rattle.cache_devices.specs.declared.errors.RunError.TheVariants.{Read, Write, OutOfMemory, UsedUp, Moment}
 
 -- each error has its cause: these are the causes of a failed read, a failed write, something used up, and a moment that is too late
 abbrev pub Because : Type 0 → Type 0 → Type 0 → Type 0 → RunError → Type 0

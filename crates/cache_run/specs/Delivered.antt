@@ -6,9 +6,10 @@ use Rattle.audit_model.specs.Situation.{Situation}
 use Rattle.audit_model.specs.declared.config.Config.{Config}
 use Rattle.audit_model.specs.declared.transcript.Note.{Note}
 use Rattle.audit_waiting_laws.specs.Keys.{IsKnown}
-use Rattle.cache_run.specs.Happened.{Asking, Turn, IsInPlace, IsRight, asked_in, moment_in, turn_notes, piece_in, records_in, replies_in}
-use Rattle.cache_run.specs.declared.errors.RunError.{RunError}
-use Rattle.cache_run.specs.declared.errors.RunError.TheVariants.{OutOfMemory, Moment}
+use Rattle.cache_devices.specs.Sources.{Asking}
+use Rattle.cache_run.specs.Happened.{Turn, IsInPlace, IsRight, asked_in, moment_in, turn_notes, piece_in, records_in, replies_in}
+use Rattle.cache_devices.specs.declared.errors.RunError.{RunError}
+use Rattle.cache_devices.specs.declared.errors.RunError.TheVariants.{OutOfMemory, Moment}
 
 -- the turn had its record, and that text was its replies
 pub record Answered (config : Config) (number : ℕ) (piece : List ℕ) (moment : ℕ) (asks : List Asking) (s t : Situation) (before after : List Note) (text : List ℕ) : Type 0 where

@@ -1,9 +1,8 @@
--- What happens in a run: pieces are feed_event, and loads are settled by what the loader says of their keys.
+-- What happens in a run: pieces are fed, and loads are settled by what the loader says of their keys.
 use Rattle.std.specs.Prelude.{◌≡◌, ℕ, true, List, [], ◌∷◌, Option, None, Some, IfSome, is_some, ◌⊎◌}
 use Rattle.std.specs.List.{flat_map}
 use Rattle.audit_model.specs.Belongs.{refusal_of_outcome}
 use Rattle.audit_model.specs.Follows.{after_records}
-use Rattle.audit_model.specs.Places.{steps_of}
 use Rattle.audit_model.specs.Situation.{Situation, key_in}
 use Rattle.audit_model.specs.declared.config.Config.{Config}
 use Rattle.audit_model.specs.declared.event.Event.{Event}
@@ -12,16 +11,16 @@ use Rattle.audit_model.specs.declared.event.Outcome.{Outcome}
 use Rattle.audit_model.specs.declared.transcript.Note.{Note}
 use Rattle.audit_model.specs.declared.transcript.Record.{Record}
 use Rattle.audit_model.specs.declared.transcript.Step.{Step}
-use Rattle.cache_namespace.specs.Gathered.{reply_in}
-use Rattle.cache_namespace.specs.Taken.{feed_event, record_of}
-use Rattle.cache_settling.specs.Answered.{answering, giving_up}
+use Rattle.cache_devices.specs.Sources.{Asking}
+use Rattle.cache_core.specs.Settling.{answering, giving_up}
+use Rattle.cache_core.specs.Turned.{feeding, notes_in}
+use Rattle.cache_lines.specs.Gathered.{reply_in}
 
--- what a loader was asked, and what it said
-pub record Asking : Type 0 where
-  pub key : List ℕ
-  pub answer : Option Outcome
+-- the record of an event that is no answer
+abbrev pub record_of : Event → List Step → Record
+record_of happened steps = record { event = happened; own = None; notices = []; steps = steps }
 
--- a piece was feed_event at a moment, and these steps ran; or the loader was asked, and at that moment the load was settled by that record; or the
+-- a piece was fed at a moment, and these steps ran; or the loader was asked, and at that moment the load was settled by that record; or the
 -- load of that number was not under way any more, and what the loader said was dropped
 pub data Turn : Type 0 where
   Fed : (piece : List ℕ) → (moment : ℕ) → (steps : List Step) → Turn
@@ -48,7 +47,7 @@ asked_in (Dropped asking moment load) = asking ∷ []
 
 -- its record, if there is one
 abbrev pub records_in : ℕ → Turn → List Record
-records_in number (Fed piece moment steps) = record_of (feed_event number piece moment) steps ∷ []
+records_in number (Fed piece moment steps) = record_of (feeding number piece moment) steps ∷ []
 records_in number (Settled asking moment entry) = entry ∷ []
 records_in number (Dropped asking moment load) = []
 
@@ -56,15 +55,11 @@ records_in number (Dropped asking moment load) = []
 abbrev pub record_replies : Record → List ℕ
 record_replies entry = flat_map reply_in entry.steps
 
--- the notes of a record, those of an answer's own step first
-abbrev pub record_notes : Record → List Note
-record_notes entry = flat_map (λ step. step.notices) (steps_of entry)
-
 abbrev pub replies_in : ℕ → Turn → List ℕ
 replies_in number turn = flat_map record_replies (records_in number turn)
 
 abbrev pub turn_notes : ℕ → Turn → List Note
-turn_notes number turn = flat_map record_notes (records_in number turn)
+turn_notes number turn = flat_map notes_in (records_in number turn)
 
 -- what a loader was asked, and what it said
 abbrev pub asking_of : List ℕ → Option Outcome → Asking

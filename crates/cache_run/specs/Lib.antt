@@ -9,3 +9,4 @@ pub mod Turns
 pub mod Loading
 pub mod Accounts
 pub mod Runs
+pub mod Promised

@@ -10,22 +10,26 @@ use Rattle.audit_model.specs.declared.event.Event.{Event}
 use Rattle.audit_model.specs.declared.event.Event.TheVariants as event
 use Rattle.audit_model.specs.declared.transcript.Note.{Note}
 use Rattle.audit_model.specs.declared.transcript.Record.{Record}
-use Rattle.cache_namespace.specs.Taken.{record_of}
-use Rattle.cache_spaces.specs.Spaces.{closing_of, config_of, connections_of, notices_of}
-use Rattle.cache_spaces.specs.declared.space.Space.{Space}
+use Rattle.cache_devices.specs.Watched.{device}
+use Rattle.cache_devices.specs.declared.watched.Watched.{Watched}
+use Rattle.cache_spaces.specs.Calls.{At}
+use Rattle.cache_spaces.specs.Spaces.{closing_of, config_of, notices_of}
 use Rattle.audit_model.specs.declared.event.Outcome.{Outcome}
 use Rattle.audit_waiting_laws.specs.Alone.{WaitsAlone}
 use Rattle.cache_run.specs.Accounts.{AddsNoLoads, pending_of}
+use Rattle.cache_spaces.specs.Bares.{BareSpace}
 use Rattle.cache_run.specs.Carried.{Broken, Carried, nothing_left}
 use Rattle.cache_run.specs.Connected.{IsEnded}
 use Rattle.cache_run.specs.Delivered.{Unfed}
 use Rattle.cache_run.specs.Goes.{Goes}
-use Rattle.cache_run.specs.Worlds.{Outside, world}
-use Rattle.cache_run.specs.declared.errors.RunError.{RunError}
+use Rattle.cache_run.specs.Happened.{record_of}
+use Rattle.cache_run.specs.Worlds.{Outside, outside, world}
+use Rattle.cache_devices.specs.declared.errors.RunError.{RunError}
+use Rattle.cache_devices.specs.declared.errors.RunError.TheVariants.{OutOfMemory}
 
 -- the number that the next connection gets
-abbrev pub next_number : Space → ℕ
-next_number space = length (connections_of space) + 1
+abbrev pub next_number : BareSpace → ℕ
+next_number space = length space.closings + 1
 
 -- the event's record follows without steps, and nothing was told
 pub record Quiet (config : Config) (happened : Event) (s t : Situation) (before after : List Note) : Type 0 where
@@ -33,7 +37,7 @@ pub record Quiet (config : Config) (happened : Event) (s t : Situation) (before 
   pub notices : after ≡ before
 
 -- an open connection closes as asked, and one that has closed for what it was fed stays so
-abbrev pub Closes : ℕ → Space → Space → Type 0
+abbrev pub Closes : ℕ → BareSpace → BareSpace → Type 0
 Closes number was is =
     ((closing_of was number ≡ None) × (closing_of is number ≡ Some by.Asked) × Goes number was is (λ s t. Quiet (config_of was) (event.Close number) s t (notices_of was) (notices_of is)))
     ⊎ (IsEnded (closing_of was number) × (closing_of is number ≡ closing_of was number) × Goes number was is (λ s t. Unfed s t (notices_of was) (notices_of is)))
@@ -45,7 +49,7 @@ EndsRun true closing remaining = (closing ≡ Some by.Asked) × IsAtEnd remainin
 EndsRun false closing remaining = IsEnded closing
 
 -- One connection was opened, fed with all that was read, and closed; the bytes written are its replies.
-pub record ServesWhole {C L : Type 0} (reads : C → ℕ → C → Type 0) (loads : L → List ℕ → Option Outcome → L → Type 0) (was is : Space) (before after : Outside C L) : Type 0 where
+pub record ServesWhole {C L : Type 0} (reads : C → ℕ → C → Type 0) (loads : L → List ℕ → Option Outcome → L → Type 0) (was is : BareSpace) (before after : Outside C L) : Type 0 where
   pub number : ℕ
   pub next : number ≡ next_number was
   pub closes : Bool
@@ -55,7 +59,7 @@ pub record ServesWhole {C L : Type 0} (reads : C → ℕ → C → Type 0) (load
   pub settled : AddsNoLoads was is
 
 -- One connection was opened, fed, and closed after an error, and then loads were given up; the bytes written are a beginning of its replies.
-pub record ServesPartly {C L : Type 0} (reads : C → ℕ → C → Type 0) (loads : L → List ℕ → Option Outcome → L → Type 0) (was is : Space) (before after : Outside C L) (e : RunError) : Type 0 where
+pub record ServesPartly {C L : Type 0} (reads : C → ℕ → C → Type 0) (loads : L → List ℕ → Option Outcome → L → Type 0) (was is : BareSpace) (before after : Outside C L) (e : RunError) : Type 0 where
   pub number : ℕ
   pub next : number ≡ next_number was
   pub closes : Bool
@@ -64,3 +68,18 @@ pub record ServesPartly {C L : Type 0} (reads : C → ℕ → C → Type 0) (loa
   pub closed : closing_of is number ≡ Some why
   -- where no other connection waits for a load, each load under way behind it was under way before it
   pub settled : WaitsAlone number (pending_of was) → AddsNoLoads was is
+
+-- ---- over devices
+
+-- so it was of a namespace, a reader, a writer, a clock and a loader
+abbrev pub RunsWhole : {R W C L : Type 0} → (R → Option (List ℕ)) → (W → Option (List ℕ)) → (C → ℕ → C → Type 0) → (L → List ℕ → Option Outcome → L → Type 0) → ℕ → List BareSpace → List BareSpace
+    → Watched R → Watched R → Watched W → Watched W → C → C → L → L → Type 0
+RunsWhole remaining contents reads loads namespace old new reader reader' writer writer' clock clock' loader loader' =
+    At old new namespace (λ was is. ServesWhole reads loads was is (outside (remaining (device reader)) (contents (device writer)) clock loader) (outside (remaining (device reader')) (contents (device writer')) clock' loader'))
+
+-- no connection was opened for want of memory, and nothing was called; or one was served, but for what the error left
+abbrev pub RunsPartly : {R W C L : Type 0} → (R → Option (List ℕ)) → (W → Option (List ℕ)) → (C → ℕ → C → Type 0) → (L → List ℕ → Option Outcome → L → Type 0) → ℕ → List BareSpace → List BareSpace
+    → Watched R → Watched R → Watched W → Watched W → C → C → L → L → RunError → Type 0
+RunsPartly remaining contents reads loads namespace old new reader reader' writer writer' clock clock' loader loader' e =
+    ((e ≡ OutOfMemory) × (new ≡ old) × (reader' ≡ reader) × (writer' ≡ writer) × (clock' ≡ clock) × (loader' ≡ loader))
+    ⊎ At old new namespace (λ was is. ServesPartly reads loads was is (outside (remaining (device reader)) (contents (device writer)) clock loader) (outside (remaining (device reader')) (contents (device writer')) clock' loader') e)

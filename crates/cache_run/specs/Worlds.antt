@@ -3,7 +3,7 @@ use Rattle.std.specs.Prelude.{ℕ, List, Option}
 use Rattle.audit_model.specs.Situation.{Situation}
 use Rattle.audit_model.specs.declared.transcript.Note.{Note}
 use Rattle.cache_spaces.specs.Spaces.{notices_of}
-use Rattle.cache_spaces.specs.declared.space.Space.{Space}
+use Rattle.cache_spaces.specs.Bares.{BareSpace}
 
 -- what a reader has left, what a writer holds, a clock and a loader
 pub record Outside (C L : Type 0) : Type 0 where
@@ -21,5 +21,5 @@ pub record World (C L : Type 0) : Type 0 where
 abbrev pub outside : {C L : Type 0} → Option (List ℕ) → Option (List ℕ) → C → L → Outside C L
 outside remaining contents clock loader = record { remaining = remaining; contents = contents; clock = clock; loader = loader }
 
-abbrev pub world : {C L : Type 0} → Space → Situation → Outside C L → World C L
+abbrev pub world : {C L : Type 0} → BareSpace → Situation → Outside C L → World C L
 world space s around = record { situation = s; notices = notices_of space; outside = around }

@@ -1,31 +1,27 @@
 //! One piece of a connection, and its closing.
-ghost use Rattle.std.specs.Io.KnownBytes.{Appends};
-ghost use Rattle.cache_devices.specs.Sent.{SentBut};
-ghost use Rattle.std.specs.Prelude.{◌≤◌, ◌^◌, ℕ, List, [], IfOk, IfErr, MatchResult};
-ghost use Rattle.cache_devices.specs.Failures.{HasFailed};
-ghost use Rattle.cache_devices.specs.Watched.{device, failures};
-ghost use Rattle.cache_namespace.specs.Taken.{feed_event};
-ghost use Rattle.cache_spaces.specs.Moves.{At};
-ghost use Rattle.cache_spaces.specs.Serves.{SameSpace, ServesEvent, TakesOutput};
-ghost use Rattle.cache_spaces.specs.Services.{feed_is_held, spaces_of};
-ghost use Rattle.cache_spaces.specs.Spaces.{config_of, notices_of};
+ghost use Rattle.std.specs.Prelude.{◌≤◌, ◌^◌, ◌≡◌, IfOk, IfErr, OnErr, MatchResult};
+ghost use Rattle.cache_devices.specs.Watched.{failures};
+ghost use Rattle.cache_core.specs.Turned.{feeding};
+ghost use Rattle.cache_spaces.specs.Calls.{At, ServesEvent, TakesOutput};
+ghost use Rattle.cache_spaces.specs.Services.{feed_is_held};
 ghost use Rattle.cache_run.specs.Accounts.{SendsLater};
+ghost use Rattle.cache_spaces.specs.Bares.{bare_tape};
 ghost use Rattle.cache_run.specs.Causes.{Because};
 ghost use Rattle.cache_run.specs.Connected.{Connected, IsFed, IsLeftBy, IsReady};
-ghost use Rattle.cache_run.specs.Delivered.{Answered, Delivered, IsCause, Unanswered, Undelivered};
-ghost use Rattle.cache_run.specs.Goes.{Goes};
+ghost use Rattle.cache_run.specs.Delivered.{IsCause};
+ghost use Rattle.cache_run.specs.Turns.{Fails};
+ghost use Rattle.cache_run.specs.Promised.{AnswersPiece, LeavesPiece, SendsPiece, SendsReplies};
 
-use crate::errors::{RunError, error_of_send};
 use audit_model::{Conn, Instant, ServiceError};
-use cache_devices::{Watched, send};
+use cache_devices::{RunError, Watched, send};
 use cache_spaces::{Fed, Service};
 use std::io::Write;
 
-/// Feeds a piece to a connection that is open.
+/// Feeds a piece to a connection.
 fn feed_piece(service: &mut Service, conn: Conn, piece: &[u8], moment: u64) -> Result<Fed, RunError>
-    requires ready { Connected (spaces_of service.old) conn.namespace conn.number IsReady }
-    ensures taken { IfOk result (λ done. At (spaces_of service.old) (spaces_of service.new) conn.namespace (λ was is. ServesEvent was is conn.number (feed_event conn.number piece.now moment) (feed_is_held done))) }
-    ensures refused { IfErr result (λ e. At (spaces_of service.old) (spaces_of service.new) conn.namespace SameSpace × IsCause moment e) }
+    ensures taken { IfOk result (λ done. At service.old service.new conn.namespace (λ was is. ServesEvent bare_tape was is (feeding conn.number piece.now moment) (feed_is_held done))) }
+    ensures refused { IfErr result (IsCause moment) }
+    ensures unchanged { OnErr result (service.new ≡ service.old) }
 {
     match service.feed(conn, piece, Instant { nanos: moment }) {
         Ok(done) => Ok(done),
@@ -36,13 +32,13 @@ fn feed_piece(service: &mut Service, conn: Conn, piece: &[u8], moment: u64) -> R
 
 /// Sends replies, and has the writer hand them on.
 pub fn write_replies<W: Write>(replies: &[u8], writer: &mut Watched<W>) -> Result<(), RunError>
-    ensures sent { MatchResult result (λ done. Appends (W.contents (device writer.old)) (W.contents (device writer.new)) replies.now) (λ e. (rest : List ℕ) × SentBut rest replies.now (W.contents (device writer.old)) (W.contents (device writer.new))) }
-    ensures why { IfErr result (Because ⊥ (HasFailed (failures writer.old) (failures writer.new)) (HasFailed (failures writer.old) (failures writer.new)) ⊥) }
+    ensures sent { SendsReplies result W.contents replies.now writer.old writer.new }
+    ensures why { IfErr result (Because ⊥ (Fails writer.old writer.new) ⊥ ⊥) }
     ensures count { failures writer.old ≤ failures writer.new }
 {
     match send(replies, writer) {
         Ok(()) => {}
-        Err(error) => return Err(error_of_send(error)),
+        Err(error) => return Err(error),
     }
     match writer.flush() {
         Ok(()) => Ok(()),
@@ -52,8 +48,8 @@ pub fn write_replies<W: Write>(replies: &[u8], writer: &mut Watched<W>) -> Resul
 
 /// Takes the replies of a connection.
 pub fn take_replies(service: &mut Service, conn: Conn) -> Vec<u8>
-    requires known { Connected (spaces_of service.old) conn.namespace conn.number IsFed }
-    ensures { At (spaces_of service.old) (spaces_of service.new) conn.namespace (λ was is. TakesOutput was is conn.number result.items) }
+    requires known { Connected service.old conn.namespace conn.number IsFed }
+    ensures { At service.old service.new conn.namespace (λ was is. TakesOutput was is conn.number result.items) }
 {
     match service.take_output(conn) {
         Ok(text) => text,
@@ -68,12 +64,10 @@ fn answer_piece(
     piece: &[u8],
     moment: u64,
 ) -> Result<Vec<u8>, RunError>
-    requires ready { Connected (spaces_of service.old) conn.namespace conn.number IsReady }
-    ensures goes { MatchResult result
-        (λ text. At (spaces_of service.old) (spaces_of service.new) conn.namespace (λ was is. Goes conn.number was is (λ s t. Answered (config_of was) conn.number piece.now moment [] s t (notices_of was) (notices_of is) text.items)))
-        (λ e. At (spaces_of service.old) (spaces_of service.new) conn.namespace (λ was is. Goes conn.number was is (λ s t. Unanswered (config_of was) conn.number piece.now moment [] s t (notices_of was) (notices_of is) e))) }
-    ensures left { Connected (spaces_of service.new) conn.namespace conn.number (IsLeftBy result) }
-    ensures later { At (spaces_of service.old) (spaces_of service.new) conn.namespace SendsLater }
+    requires ready { Connected service.old conn.namespace conn.number IsReady }
+    ensures goes { MatchResult result (λ text. AnswersPiece conn piece.now moment service.old service.new text.items) (LeavesPiece conn piece.now moment service.old service.new) }
+    ensures left { Connected service.new conn.namespace conn.number (IsLeftBy result) }
+    ensures later { At service.old service.new conn.namespace SendsLater }
     ensures why { IfErr result (Because ⊥ ⊥ ⊥ (2 ^ 63 ≤ moment)) }
 {
     match feed_piece(service, conn, piece, moment) {
@@ -91,13 +85,11 @@ pub fn deliver<W: Write>(
     moment: u64,
     writer: &mut Watched<W>,
 ) -> Result<(), RunError>
-    requires ready { Connected (spaces_of service.old) conn.namespace conn.number IsReady }
-    ensures goes { MatchResult result
-        (λ done. At (spaces_of service.old) (spaces_of service.new) conn.namespace (λ was is. Goes conn.number was is (λ s t. Delivered (config_of was) conn.number piece.now moment [] s t (notices_of was) (notices_of is) (W.contents (device writer.old)) (W.contents (device writer.new)) [])))
-        (λ e. At (spaces_of service.old) (spaces_of service.new) conn.namespace (λ was is. Goes conn.number was is (λ s t. Undelivered (config_of was) conn.number piece.now moment [] s t (notices_of was) (notices_of is) (W.contents (device writer.old)) (W.contents (device writer.new)) e))) }
-    ensures left { Connected (spaces_of service.new) conn.namespace conn.number (IsLeftBy result) }
-    ensures later { At (spaces_of service.old) (spaces_of service.new) conn.namespace SendsLater }
-    ensures why { IfErr result (Because ⊥ (HasFailed (failures writer.old) (failures writer.new)) (HasFailed (failures writer.old) (failures writer.new)) (2 ^ 63 ≤ moment)) }
+    requires ready { Connected service.old conn.namespace conn.number IsReady }
+    ensures goes { SendsPiece result W.contents conn piece.now moment service.old service.new writer.old writer.new }
+    ensures left { Connected service.new conn.namespace conn.number (IsLeftBy result) }
+    ensures later { At service.old service.new conn.namespace SendsLater }
+    ensures why { IfErr result (Because ⊥ (Fails writer.old writer.new) ⊥ (2 ^ 63 ≤ moment)) }
     ensures count { failures writer.old ≤ failures writer.new }
 {
     let replies = match answer_piece(service, conn, piece, moment) {

@@ -1,37 +1,33 @@
 //! The loads of a connection, asked of the loader.
-ghost use Rattle.std.specs.Prelude.{◌≡◌, ◌≢◌, ◌==◌, ◌≤◌, ◌<◌, ◌⊎◌, ◌^◌, ◌-◌, ℕ, List, [], Option, true, false, length, is_some, IfOk, IfErr, OnOk, MatchResult};
+ghost use Rattle.std.specs.Prelude.{◌≡◌, ◌≢◌, ◌==◌, ◌≤◌, ◌<◌, ◌⊎◌, ◌^◌, ◌-◌, [], Option, true, false, length, is_some, IfOk, IfErr, OnErr, OnOk};
 ghost use Rattle.audit_model.specs.Belongs.{refusal_of_outcome};
-ghost use Rattle.cache_devices.specs.Failures.{HasFailed};
-ghost use Rattle.cache_devices.specs.Watched.{device, failures};
-ghost use Rattle.cache_spaces.specs.Moves.{At};
-ghost use Rattle.cache_spaces.specs.Serves.{SameSpace};
-ghost use Rattle.cache_spaces.specs.Services.{spaces_of};
-ghost use Rattle.cache_spaces.specs.Spaces.{config_of, notices_of, untaken_output};
+ghost use Rattle.cache_devices.specs.Watched.{failures};
+ghost use Rattle.cache_spaces.specs.Calls.{At, InSpace};
+ghost use Rattle.cache_spaces.specs.Spaces.{config_of};
 ghost use Rattle.cache_run.specs.Accounts.{Accounts, DropsAll, DropsUnwaited, HasTakenAll, SettlesLoad, is_left};
 ghost use Rattle.cache_run.specs.Causes.{Because};
-ghost use Rattle.cache_run.specs.Connected.{Connected, IsFed, IsLeftBy, HasTakenReplies};
-ghost use Rattle.cache_run.specs.Delivered.{AnsweredLoad, IsCause};
-ghost use Rattle.cache_run.specs.Goes.{Goes};
-ghost use Rattle.cache_run.specs.Happened.{Asking, IsGivenUpFor, asking_of};
-ghost use Rattle.cache_run.specs.Loading.{BreaksOff, Carries, GivesUpLoads, TakesMore};
-ghost use Rattle.cache_run.specs.Turns.{HasAsked, HasToldLate};
-ghost use Rattle.cache_run.specs.Worlds.{outside};
+ghost use Rattle.cache_run.specs.Connected.{Connected, HasSituation, IsFed, IsLeftBy, HasTakenReplies};
+ghost use Rattle.cache_run.specs.Delivered.{IsCause};
+ghost use Rattle.cache_run.specs.Loading.{GivenUpSo, GivesLoads, GivesUpLoads, SettledSo, TakesMore};
+ghost use Rattle.cache_devices.specs.Sources.{HasToldLate};
+ghost use Rattle.cache_run.specs.Turns.{Fails, HasAsked};
+ghost use Rattle.cache_run.specs.Promised.{CarriesLoads, RepliesToLoad};
 
-use crate::errors::RunError;
 use crate::feeding::{deliver, take_replies, write_replies};
 use crate::turns::{Progress, progress_of};
 use audit_model::{Bytes, Conn, Instant, LoadId, Outcome, ServiceError};
-use cache_devices::{Clock, Loader, Watched};
+use cache_devices::{Clock, Loader, RunError, Watched};
 use cache_spaces::Service;
 use std::io::Write;
 
 /// Gives a load up. One that is not under way stays settled.
 fn give_up(service: &mut Service, conn: Conn, load: u64, moment: u64) -> Result<(), RunError>
-    requires taken { Connected (spaces_of service.old) conn.namespace conn.number HasTakenReplies }
-    ensures ok { OnOk result (At (spaces_of service.old) (spaces_of service.new) conn.namespace (λ was is. (asking : Asking) → IsGivenUpFor (config_of was) asking.answer → Goes conn.number was is (λ s t. AnsweredLoad (config_of was) conn.number load moment asking s t (notices_of was) (notices_of is) (untaken_output is conn.number)))) }
-    ensures left { OnOk result (Connected (spaces_of service.new) conn.namespace conn.number IsFed) }
-    ensures gone { OnOk result (At (spaces_of service.old) (spaces_of service.new) conn.namespace (SettlesLoad load)) }
-    ensures err { IfErr result (λ e. At (spaces_of service.old) (spaces_of service.new) conn.namespace SameSpace × IsCause moment e) }
+    requires taken { Connected service.old conn.namespace conn.number HasTakenReplies }
+    ensures ok { OnOk result (At service.old service.new conn.namespace (GivenUpSo conn.number load moment)) }
+    ensures left { OnOk result (Connected service.new conn.namespace conn.number IsFed) }
+    ensures gone { OnOk result (At service.old service.new conn.namespace (SettlesLoad load)) }
+    ensures err { IfErr result (IsCause moment) }
+    ensures unchanged { OnErr result (service.new ≡ service.old) }
 {
     let id = LoadId {
         namespace: conn.namespace,
@@ -57,12 +53,13 @@ fn answer(
     outcome: Outcome,
     moment: u64,
 ) -> Result<bool, RunError>
-    requires taken { Connected (spaces_of service.old) conn.namespace conn.number HasTakenReplies }
-    ensures settled { IfOk result (λ settled. settled ≡ true → At (spaces_of service.old) (spaces_of service.new) conn.namespace (λ was is. (key : List ℕ) → Goes conn.number was is (λ s t. AnsweredLoad (config_of was) conn.number load moment (asking_of key (Some outcome)) s t (notices_of was) (notices_of is) (untaken_output is conn.number)))) }
-    ensures refused { IfOk result (λ settled. settled ≡ false → At (spaces_of service.old) (spaces_of service.new) conn.namespace (λ was is. SameSpace was is × (is_some (refusal_of_outcome (config_of was) outcome) ≡ true))) }
-    ensures left { IfOk result (λ settled. settled ≡ true → Connected (spaces_of service.new) conn.namespace conn.number IsFed) }
-    ensures gone { IfOk result (λ settled. settled ≡ true → At (spaces_of service.old) (spaces_of service.new) conn.namespace (SettlesLoad load)) }
-    ensures err { IfErr result (λ e. At (spaces_of service.old) (spaces_of service.new) conn.namespace SameSpace × IsCause moment e) }
+    requires taken { Connected service.old conn.namespace conn.number HasTakenReplies }
+    ensures settled { IfOk result (λ settled. settled ≡ true → At service.old service.new conn.namespace (SettledSo conn.number load moment (Some outcome))) }
+    ensures refused { IfOk result (λ settled. settled ≡ false → (service.new ≡ service.old) × InSpace service.old conn.namespace (λ was. is_some (refusal_of_outcome (config_of was) outcome) ≡ true)) }
+    ensures left { IfOk result (λ settled. settled ≡ true → Connected service.new conn.namespace conn.number IsFed) }
+    ensures gone { IfOk result (λ settled. settled ≡ true → At service.old service.new conn.namespace (SettlesLoad load)) }
+    ensures err { IfErr result (IsCause moment) }
+    ensures unchanged { OnErr result (service.new ≡ service.old) }
 {
     let id = LoadId {
         namespace: conn.namespace,
@@ -90,11 +87,12 @@ fn settle(
     said: Option<Outcome>,
     moment: u64,
 ) -> Result<(), RunError>
-    requires taken { Connected (spaces_of service.old) conn.namespace conn.number HasTakenReplies }
-    ensures ok { OnOk result (At (spaces_of service.old) (spaces_of service.new) conn.namespace (λ was is. (key : List ℕ) → Goes conn.number was is (λ s t. AnsweredLoad (config_of was) conn.number load moment (asking_of key said) s t (notices_of was) (notices_of is) (untaken_output is conn.number)))) }
-    ensures left { OnOk result (Connected (spaces_of service.new) conn.namespace conn.number IsFed) }
-    ensures gone { OnOk result (At (spaces_of service.old) (spaces_of service.new) conn.namespace (SettlesLoad load)) }
-    ensures err { IfErr result (λ e. At (spaces_of service.old) (spaces_of service.new) conn.namespace SameSpace × IsCause moment e) }
+    requires taken { Connected service.old conn.namespace conn.number HasTakenReplies }
+    ensures ok { OnOk result (At service.old service.new conn.namespace (SettledSo conn.number load moment said)) }
+    ensures left { OnOk result (Connected service.new conn.namespace conn.number IsFed) }
+    ensures gone { OnOk result (At service.old service.new conn.namespace (SettlesLoad load)) }
+    ensures err { IfErr result (IsCause moment) }
+    ensures unchanged { OnErr result (service.new ≡ service.old) }
 {
     let outcome = match said {
         Some(outcome) => outcome,
@@ -115,11 +113,12 @@ fn settle_load(
     said: Option<Outcome>,
     moment: u64,
 ) -> Result<Vec<u8>, RunError>
-    requires taken { Connected (spaces_of service.old) conn.namespace conn.number HasTakenReplies }
-    ensures ok { IfOk result (λ text. (key : List ℕ) → At (spaces_of service.old) (spaces_of service.new) conn.namespace (λ was is. Goes conn.number was is (λ s t. AnsweredLoad (config_of was) conn.number load moment (asking_of key said) s t (notices_of was) (notices_of is) text.items))) }
-    ensures taken { OnOk result (Connected (spaces_of service.new) conn.namespace conn.number HasTakenReplies) }
-    ensures gone { OnOk result (At (spaces_of service.old) (spaces_of service.new) conn.namespace (SettlesLoad load)) }
-    ensures err { IfErr result (λ e. At (spaces_of service.old) (spaces_of service.new) conn.namespace SameSpace × IsCause moment e) }
+    requires taken { Connected service.old conn.namespace conn.number HasTakenReplies }
+    ensures ok { IfOk result (λ text. RepliesToLoad conn load moment said service.old service.new text.items) }
+    ensures taken { OnOk result (Connected service.new conn.namespace conn.number HasTakenReplies) }
+    ensures gone { OnOk result (At service.old service.new conn.namespace (SettlesLoad load)) }
+    ensures err { IfErr result (IsCause moment) }
+    ensures unchanged { OnErr result (service.new ≡ service.old) }
 {
     match settle(service, conn, load, said, moment) {
         Ok(()) => Ok(take_replies(service, conn)),
@@ -137,15 +136,13 @@ fn settle_last<W: Write, C: Clock, L: Loader>(
     clock: &mut C,
     loader: &mut L,
 ) -> Result<(), RunError>
-    requires taken { Connected (spaces_of service.old) conn.namespace conn.number HasTakenReplies }
+    requires taken { Connected service.old conn.namespace conn.number HasTakenReplies }
     requires some { taken.old.items ≢ [] }
-    ensures goes { (remaining : Option (List ℕ)) → MatchResult result
-        (λ done. Carries C.reads L.loads (spaces_of service.old) (spaces_of service.new) conn.namespace conn.number (outside remaining (W.contents (device writer.old)) clock.old loader.old) (outside remaining (W.contents (device writer.new)) clock.new loader.new) taken.old.items taken.new.items)
-        (λ e. BreaksOff C.reads L.loads (spaces_of service.old) (spaces_of service.new) conn.namespace conn.number (outside remaining (W.contents (device writer.old)) clock.old loader.old) (outside remaining (W.contents (device writer.new)) clock.new loader.new) taken.old.items e) }
-    ensures left { Connected (spaces_of service.new) conn.namespace conn.number (IsLeftBy result) }
-    ensures accounted { At (spaces_of service.old) (spaces_of service.new) conn.namespace (λ was is. Accounts was is taken.old.items taken.new.items) }
+    ensures goes { CarriesLoads result W.contents C.reads L.loads conn service.old service.new taken.old.items taken.new.items writer.old writer.new clock.old clock.new loader.old loader.new }
+    ensures left { Connected service.new conn.namespace conn.number (IsLeftBy result) }
+    ensures accounted { At service.old service.new conn.namespace (λ was is. Accounts was is taken.old.items taken.new.items) }
     ensures asked { HasAsked L.loads loader.old 1 loader.new }
-    ensures why { IfErr result (Because ⊥ (HasFailed (failures writer.old) (failures writer.new)) (HasFailed (failures writer.old) (failures writer.new)) (HasToldLate C.reads clock.new)) }
+    ensures why { IfErr result (Because ⊥ (Fails writer.old writer.new) ⊥ (HasToldLate C.reads clock.new)) }
     ensures count { failures writer.old ≤ failures writer.new }
 {
     let (load, said) = match taken.last() {
@@ -170,15 +167,13 @@ fn settle_next<W: Write, C: Clock, L: Loader>(
     clock: &mut C,
     loader: &mut L,
 ) -> Result<(), RunError>
-    requires taken { Connected (spaces_of service.old) conn.namespace conn.number HasTakenReplies }
+    requires taken { Connected service.old conn.namespace conn.number HasTakenReplies }
     requires some { taken.old.items ≢ [] }
-    ensures goes { (remaining : Option (List ℕ)) → MatchResult result
-        (λ done. Carries C.reads L.loads (spaces_of service.old) (spaces_of service.new) conn.namespace conn.number (outside remaining (W.contents (device writer.old)) clock.old loader.old) (outside remaining (W.contents (device writer.new)) clock.new loader.new) taken.old.items taken.new.items)
-        (λ e. BreaksOff C.reads L.loads (spaces_of service.old) (spaces_of service.new) conn.namespace conn.number (outside remaining (W.contents (device writer.old)) clock.old loader.old) (outside remaining (W.contents (device writer.new)) clock.new loader.new) taken.old.items e) }
-    ensures left { Connected (spaces_of service.new) conn.namespace conn.number (IsLeftBy result) }
-    ensures accounted { At (spaces_of service.old) (spaces_of service.new) conn.namespace (λ was is. Accounts was is taken.old.items taken.new.items) }
+    ensures goes { CarriesLoads result W.contents C.reads L.loads conn service.old service.new taken.old.items taken.new.items writer.old writer.new clock.old clock.new loader.old loader.new }
+    ensures left { Connected service.new conn.namespace conn.number (IsLeftBy result) }
+    ensures accounted { At service.old service.new conn.namespace (λ was is. Accounts was is taken.old.items taken.new.items) }
     ensures asked { HasAsked L.loads loader.old 1 loader.new }
-    ensures why { IfErr result (Because ⊥ (HasFailed (failures writer.old) (failures writer.new)) (HasFailed (failures writer.old) (failures writer.new)) (HasToldLate C.reads clock.new)) }
+    ensures why { IfErr result (Because ⊥ (Fails writer.old writer.new) ⊥ (HasToldLate C.reads clock.new)) }
     ensures count { failures writer.old ≤ failures writer.new }
 {
     match settle_last(service, conn, taken, writer, clock, loader) {
@@ -193,21 +188,30 @@ fn settle_next<W: Write, C: Clock, L: Loader>(
     deliver(service, conn, &[], moment, writer)
 }
 
-/// Takes the loads of a namespace that have gone out, where none that was taken is left.
+/// Takes the loads of a namespace that have gone out.
+fn take_sent(service: &mut Service, namespace: u64) -> Vec<(LoadId, Bytes)>
+    requires known { namespace < length service.old }
+    ensures { At service.old service.new namespace (GivesLoads result.items) }
+{
+    service.sound(namespace);
+    match service.take_loads(namespace) {
+        Ok(loads) => loads,
+        Err(_) => unreachable!(),
+    }
+}
+
+/// The same, where none that was taken is left.
 fn take_more(service: &mut Service, conn: Conn, taken: &mut Vec<(LoadId, Bytes)>)
-    requires taken { Connected (spaces_of service.old) conn.namespace conn.number HasTakenReplies }
-    ensures same { At (spaces_of service.old) (spaces_of service.new) conn.namespace (λ was is. TakesMore was is taken.old.items taken.new.items) }
-    ensures taken { Connected (spaces_of service.new) conn.namespace conn.number HasTakenReplies }
-    ensures accounted { At (spaces_of service.old) (spaces_of service.new) conn.namespace (λ was is. Accounts was is taken.old.items taken.new.items) }
-    ensures all { taken.new.items ≡ [] → At (spaces_of service.old) (spaces_of service.new) conn.namespace HasTakenAll }
+    requires taken { Connected service.old conn.namespace conn.number HasTakenReplies }
+    ensures same { At service.old service.new conn.namespace (λ was is. TakesMore was is taken.old.items taken.new.items) }
+    ensures taken { Connected service.new conn.namespace conn.number HasTakenReplies }
+    ensures accounted { At service.old service.new conn.namespace (λ was is. Accounts was is taken.old.items taken.new.items) }
+    ensures all { taken.new.items ≡ [] → At service.old service.new conn.namespace HasTakenAll }
 {
     if !taken.is_empty() {
         return;
     }
-    match service.take_loads(conn.namespace) {
-        Ok(loads) => *taken = loads,
-        Err(_) => unreachable!(),
-    }
+    *taken = take_sent(service, conn.namespace);
 }
 
 /// Asks the loader for each load of a connection that has gone out, until all are settled.
@@ -219,15 +223,13 @@ pub fn settle_loads<W: Write, C: Clock, L: Loader>(
     clock: &mut C,
     loader: &mut L,
 ) -> Result<(), RunError>
-    requires taken { Connected (spaces_of service.old) conn.namespace conn.number HasTakenReplies }
-    ensures goes { (remaining : Option (List ℕ)) → MatchResult result
-        (λ done. Carries C.reads L.loads (spaces_of service.old) (spaces_of service.new) conn.namespace conn.number (outside remaining (W.contents (device writer.old)) clock.old loader.old) (outside remaining (W.contents (device writer.new)) clock.new loader.new) taken.old.items taken.new.items)
-        (λ e. BreaksOff C.reads L.loads (spaces_of service.old) (spaces_of service.new) conn.namespace conn.number (outside remaining (W.contents (device writer.old)) clock.old loader.old) (outside remaining (W.contents (device writer.new)) clock.new loader.new) taken.old.items e) }
-    ensures left { Connected (spaces_of service.new) conn.namespace conn.number (IsLeftBy result) }
-    ensures accounted { At (spaces_of service.old) (spaces_of service.new) conn.namespace (λ was is. Accounts was is taken.old.items taken.new.items) }
-    ensures all { OnOk result ((taken.new.items ≡ []) × At (spaces_of service.old) (spaces_of service.new) conn.namespace HasTakenAll) }
+    requires taken { Connected service.old conn.namespace conn.number HasTakenReplies }
+    ensures goes { CarriesLoads result W.contents C.reads L.loads conn service.old service.new taken.old.items taken.new.items writer.old writer.new clock.old clock.new loader.old loader.new }
+    ensures left { Connected service.new conn.namespace conn.number (IsLeftBy result) }
+    ensures accounted { At service.old service.new conn.namespace (λ was is. Accounts was is taken.old.items taken.new.items) }
+    ensures all { OnOk result ((taken.new.items ≡ []) × At service.old service.new conn.namespace HasTakenAll) }
     ensures asks { HasAsked L.loads loader.old 0 loader.new }
-    ensures why { IfErr result (Because ⊥ (HasFailed (failures writer.old) (failures writer.new)) (HasFailed (failures writer.old) (failures writer.new) ⊎ HasAsked L.loads loader.old (2 ^ 64 - 1) loader.new) (HasToldLate C.reads clock.new)) }
+    ensures why { IfErr result (Because ⊥ (Fails writer.old writer.new) (HasAsked L.loads loader.old (2 ^ 64 - 1) loader.new) (HasToldLate C.reads clock.new)) }
     ensures count { failures writer.old ≤ failures writer.new }
 {
     for _turn in 0..u64::MAX {
@@ -245,10 +247,10 @@ pub fn settle_loads<W: Write, C: Clock, L: Loader>(
 
 /// Gives a load up at moment 0, which counts as the latest. One that is not under way stays settled.
 fn drop_load(service: &mut Service, conn: Conn, load: u64)
-    requires known { conn.namespace < length (spaces_of service.old) }
-    ensures dropped { At (spaces_of service.old) (spaces_of service.new) conn.namespace (GivesUpLoads conn.number) }
-    ensures gone { At (spaces_of service.old) (spaces_of service.new) conn.namespace (DropsUnwaited (λ n. n == load)) }
-    ensures known { conn.namespace < length (spaces_of service.new) }
+    requires known { InSpace service.old conn.namespace HasSituation }
+    ensures dropped { At service.old service.new conn.namespace (GivesUpLoads conn.number) }
+    ensures gone { At service.old service.new conn.namespace (DropsUnwaited (λ n. n == load)) }
+    ensures known { InSpace service.new conn.namespace HasSituation }
 {
     let id = LoadId {
         namespace: conn.namespace,
@@ -263,10 +265,10 @@ fn drop_load(service: &mut Service, conn: Conn, load: u64)
 
 /// Gives up these loads.
 fn drop_all(service: &mut Service, conn: Conn, loads: &[(LoadId, Bytes)])
-    requires known { conn.namespace < length (spaces_of service.old) }
-    ensures dropped { At (spaces_of service.old) (spaces_of service.new) conn.namespace (GivesUpLoads conn.number) }
-    ensures gone { At (spaces_of service.old) (spaces_of service.new) conn.namespace (DropsUnwaited (λ n. is_left n loads.now)) }
-    ensures known { conn.namespace < length (spaces_of service.new) }
+    requires known { InSpace service.old conn.namespace HasSituation }
+    ensures dropped { At service.old service.new conn.namespace (GivesUpLoads conn.number) }
+    ensures gone { At service.old service.new conn.namespace (DropsUnwaited (λ n. is_left n loads.now)) }
+    ensures known { InSpace service.new conn.namespace HasSituation }
 {
     for (load, _key) in loads {
         drop_load(service, conn, load.number);
@@ -275,13 +277,11 @@ fn drop_all(service: &mut Service, conn: Conn, loads: &[(LoadId, Bytes)])
 
 /// Gives up the loads of a connection that has closed: those that were taken, and then those that have gone out.
 pub fn drop_loads(service: &mut Service, conn: Conn, taken: &[(LoadId, Bytes)])
-    requires known { conn.namespace < length (spaces_of service.old) }
-    ensures dropped { At (spaces_of service.old) (spaces_of service.new) conn.namespace (GivesUpLoads conn.number) }
-    ensures gone { At (spaces_of service.old) (spaces_of service.new) conn.namespace (DropsAll taken.now) }
+    requires known { InSpace service.old conn.namespace HasSituation }
+    ensures dropped { At service.old service.new conn.namespace (GivesUpLoads conn.number) }
+    ensures gone { At service.old service.new conn.namespace (DropsAll taken.now) }
 {
     drop_all(service, conn, taken);
-    match service.take_loads(conn.namespace) {
-        Ok(loads) => drop_all(service, conn, loads.as_slice()),
-        Err(_) => unreachable!(),
-    }
+    let loads = take_sent(service, conn.namespace);
+    drop_all(service, conn, loads.as_slice());
 }

@@ -1,26 +1,21 @@
 //! One connection, from its opening to its closing.
-ghost use Rattle.std.specs.Prelude.{◌≡◌, ◌<◌, ◌⊎◌, ◌^◌, ◌-◌, [], false, length, IfOk, IfErr, OnOk, IsErrOf, MatchResult};
+ghost use Rattle.std.specs.Prelude.{◌≡◌, ◌<◌, ◌^◌, ◌-◌, [], length, IfOk, IfErr, OnOk, IsErrOf, MatchResult};
 ghost use Rattle.audit_model.specs.declared.event.Event.TheVariants as event;
-ghost use Rattle.cache_devices.specs.Failures.{HasFailed};
-ghost use Rattle.cache_devices.specs.Watched.{device, failures};
-ghost use Rattle.cache_spaces.specs.Moves.{At};
-ghost use Rattle.cache_spaces.specs.Serves.{SameSpace};
-ghost use Rattle.cache_spaces.specs.Services.{spaces_of};
-ghost use Rattle.cache_spaces.specs.Spaces.{config_of, notices_of};
+ghost use Rattle.cache_devices.specs.Watched.{device};
+ghost use Rattle.cache_spaces.specs.Bares.{bare_tape};
+ghost use Rattle.cache_spaces.specs.Calls.{At, InSpace, IsOpened};
+ghost use Rattle.cache_spaces.specs.Sound.{IsSound};
 ghost use Rattle.cache_run.specs.Accounts.{Accounts, AddsNoLoads, KeepsLoads, pending_of};
-ghost use Rattle.cache_run.specs.Carried.{Broken, Carried, nothing_left};
-ghost use Rattle.cache_run.specs.Causes.{Because};
 ghost use Rattle.cache_run.specs.Connected.{Connected, IsFed, IsOver, IsReady};
-ghost use Rattle.cache_run.specs.Goes.{Goes};
-ghost use Rattle.cache_run.specs.Runs.{Closes, Quiet, ServesPartly, ServesWhole, next_number};
-ghost use Rattle.cache_run.specs.Turns.{HasAsked, HasRead, HasToldLate};
-ghost use Rattle.cache_run.specs.Worlds.{outside, world};
+ghost use Rattle.cache_run.specs.Runs.{Closes, RunsPartly, RunsWhole};
+ghost use Rattle.cache_devices.specs.Sources.{HasToldLate};
+ghost use Rattle.cache_run.specs.Turns.{Fails, RunsOut};
+ghost use Rattle.cache_run.specs.Promised.{Converses, Opens, StopsFor};
 
-use crate::errors::RunError;
 use crate::loading::drop_loads;
 use crate::turns::{Progress, take_turn};
 use audit_model::{Bytes, Conn, LoadId};
-use cache_devices::{Clock, Loader, Watched};
+use cache_devices::{Clock, Loader, RunError, Watched};
 use cache_spaces::Service;
 use std::alloc::Global;
 use std::io::{Read, Write};
@@ -30,11 +25,11 @@ const PIECE_BYTES: usize = 8192;
 
 /// Opens a connection of a namespace that there is.
 fn open_connection(service: &mut Service, namespace: u64) -> Result<Conn, RunError>
-    requires known { namespace < length (spaces_of service.old) }
-    ensures ok { IfOk result (λ conn. (conn.namespace ≡ namespace) × At (spaces_of service.old) (spaces_of service.new) namespace (λ was is. (conn.number ≡ next_number was) × Goes conn.number was is (λ s t. Quiet (config_of was) (event.Open conn.number) s t (notices_of was) (notices_of is)))) }
-    ensures ready { IfOk result (λ conn. Connected (spaces_of service.new) conn.namespace conn.number IsReady) }
-    ensures loads { IfOk result (λ conn. At (spaces_of service.old) (spaces_of service.new) namespace KeepsLoads) }
-    ensures err { IfErr result (λ e. (e ≡ RunError.OutOfMemory) × At (spaces_of service.old) (spaces_of service.new) namespace SameSpace) }
+    requires sound { InSpace service.old namespace (λ space. IsSound bare_tape space) }
+    ensures ok { IfOk result (λ conn. Opens conn namespace service.old service.new) }
+    ensures ready { IfOk result (λ conn. Connected service.new conn.namespace conn.number IsReady) }
+    ensures loads { IfOk result (λ conn. At service.old service.new namespace KeepsLoads) }
+    ensures err { IfErr result (λ e. (e ≡ RunError.OutOfMemory) × (service.new ≡ service.old)) }
 {
     match service.open(namespace) {
         Ok(conn) => Ok(conn),
@@ -44,11 +39,12 @@ fn open_connection(service: &mut Service, namespace: u64) -> Result<Conn, RunErr
 
 /// Closes a connection, unless it has closed.
 fn close_if_open(service: &mut Service, conn: Conn)
-    requires fed { Connected (spaces_of service.old) conn.namespace conn.number IsFed }
-    ensures closes { At (spaces_of service.old) (spaces_of service.new) conn.namespace (Closes conn.number) }
-    ensures loads { At (spaces_of service.old) (spaces_of service.new) conn.namespace KeepsLoads }
-    ensures known { conn.namespace < length (spaces_of service.new) }
+    requires fed { Connected service.old conn.namespace conn.number IsFed }
+    ensures closes { At service.old service.new conn.namespace (Closes conn.number) }
+    ensures loads { At service.old service.new conn.namespace KeepsLoads }
+    ensures known { InSpace service.new conn.namespace (λ space. IsOpened space conn.number) }
 {
+    service.sound(conn.namespace);
     match service.close(conn) {
         Ok(()) => (),
         // It has closed.
@@ -68,20 +64,13 @@ fn converse<R: Read, W: Write, C: Clock, L: Loader>(
     taken: &mut Vec<(LoadId, Bytes)>,
 ) -> Result<(), RunError>
     requires room { 0 < length buffer.old }
-    requires ready { Connected (spaces_of service.old) conn.namespace conn.number IsReady }
+    requires ready { Connected service.old conn.namespace conn.number IsReady }
     requires fresh { taken.old.items ≡ [] }
-    ensures goes { MatchResult result
-        (λ done. At (spaces_of service.old) (spaces_of service.new) conn.namespace (λ was is. Goes conn.number was is (λ s t. Carried (config_of was) conn.number C.reads L.loads
-        (world was s (outside (R.remaining (device reader.old)) (W.contents (device writer.old)) clock.old loader.old))
-        (world is t (outside (R.remaining (device reader.new)) (W.contents (device writer.new)) clock.new loader.new)) false false [] nothing_left)))
-        (λ e. At (spaces_of service.old) (spaces_of service.new) conn.namespace (λ was is. Goes conn.number was is (λ s t. Broken (config_of was) conn.number C.reads L.loads
-        (world was s (outside (R.remaining (device reader.old)) (W.contents (device writer.old)) clock.old loader.old))
-        (world is t (outside (R.remaining (device reader.new)) (W.contents (device writer.new)) clock.new loader.new)) false false [] e))) }
-    ensures left { MatchResult result (λ done. Connected (spaces_of service.new) conn.namespace conn.number (IsOver (R.remaining (device reader.new)))) (λ e. Connected (spaces_of service.new) conn.namespace conn.number IsFed) }
-    ensures settled { OnOk result (At (spaces_of service.old) (spaces_of service.new) conn.namespace AddsNoLoads) }
-    ensures accounted { At (spaces_of service.old) (spaces_of service.new) conn.namespace (λ was is. Accounts was is [] taken.new.items) }
-    ensures why { IfErr result (Because (HasFailed (failures reader.old) (failures reader.new)) (HasFailed (failures writer.old) (failures writer.new))
-        (HasFailed (failures writer.old) (failures writer.new) ⊎ (HasFailed (failures reader.old) (failures reader.new) ⊎ (HasRead (R.remaining (device reader.old)) (R.remaining (device reader.new)) (2 ^ 64 - 1) ⊎ HasAsked L.loads loader.old (2 ^ 64 - 1) loader.new))) (HasToldLate C.reads clock.new)) }
+    ensures goes { Converses result R.remaining W.contents C.reads L.loads conn service.old service.new reader.old reader.new writer.old writer.new clock.old clock.new loader.old loader.new }
+    ensures left { MatchResult result (λ done. Connected service.new conn.namespace conn.number (IsOver (R.remaining (device reader.new)))) (λ e. Connected service.new conn.namespace conn.number IsFed) }
+    ensures settled { OnOk result (At service.old service.new conn.namespace AddsNoLoads) }
+    ensures accounted { At service.old service.new conn.namespace (λ was is. Accounts was is [] taken.new.items) }
+    ensures why { IfErr result (StopsFor R.remaining C.reads L.loads reader.old reader.new writer.old writer.new clock.new loader.old loader.new) }
 {
     for _turn in 0..u64::MAX {
         match take_turn(service, conn, buffer, reader, writer, clock, loader, taken) {
@@ -104,18 +93,13 @@ fn serve_with<R: Read, W: Write, C: Clock, L: Loader>(
     clock: &mut C,
     loader: &mut L,
 ) -> Result<(), RunError>
-    requires known { namespace < length (spaces_of service.old) }
+    requires known { namespace < length service.old }
     requires room { 0 < length buffer.old }
-    ensures ok { OnOk result (At (spaces_of service.old) (spaces_of service.new) namespace (λ was is. ServesWhole C.reads L.loads was is
-        (outside (R.remaining (device reader.old)) (W.contents (device writer.old)) clock.old loader.old)
-        (outside (R.remaining (device reader.new)) (W.contents (device writer.new)) clock.new loader.new))) }
-    ensures err { IfErr result (λ e. At (spaces_of service.old) (spaces_of service.new) namespace (λ was is. ((e ≡ RunError.OutOfMemory) × SameSpace was is × (reader.new ≡ reader.old) × (writer.new ≡ writer.old) × (clock.new ≡ clock.old) × (loader.new ≡ loader.old))
-        ⊎ ServesPartly C.reads L.loads was is
-        (outside (R.remaining (device reader.old)) (W.contents (device writer.old)) clock.old loader.old)
-        (outside (R.remaining (device reader.new)) (W.contents (device writer.new)) clock.new loader.new) e)) }
-    ensures why { IfErr result (Because (HasFailed (failures reader.old) (failures reader.new)) (HasFailed (failures writer.old) (failures writer.new))
-        (HasFailed (failures writer.old) (failures writer.new) ⊎ (HasFailed (failures reader.old) (failures reader.new) ⊎ (HasRead (R.remaining (device reader.old)) (R.remaining (device reader.new)) (2 ^ 64 - 1) ⊎ HasAsked L.loads loader.old (2 ^ 64 - 1) loader.new))) (HasToldLate C.reads clock.new)) }
+    ensures ok { OnOk result (RunsWhole R.remaining W.contents C.reads L.loads namespace service.old service.new reader.old reader.new writer.old writer.new clock.old clock.new loader.old loader.new) }
+    ensures err { IfErr result (RunsPartly R.remaining W.contents C.reads L.loads namespace service.old service.new reader.old reader.new writer.old writer.new clock.old clock.new loader.old loader.new) }
+    ensures why { IfErr result (StopsFor R.remaining C.reads L.loads reader.old reader.new writer.old writer.new clock.new loader.old loader.new) }
 {
+    service.sound(namespace);
     let conn = match open_connection(service, namespace) {
         Ok(conn) => conn,
         Err(error) => return Err(error),
@@ -125,6 +109,7 @@ fn serve_with<R: Read, W: Write, C: Clock, L: Loader>(
         service, conn, buffer, reader, writer, clock, loader, &mut taken,
     );
     close_if_open(service, conn);
+    service.sound(conn.namespace);
     match outcome {
         Ok(()) => Ok(()),
         Err(error) => {
@@ -154,28 +139,23 @@ pub fn run<R: Read, W: Write, C: Clock, L: Loader>(
     clock: &mut C,
     loader: &mut L,
 ) -> Result<(), RunError>
-    requires known { namespace < length (spaces_of service.old) }
+    requires known { namespace < length service.old }
 
     // The bytes written are the replies of one connection whose pieces joined are the bytes read.
-    ensures ok { OnOk result (At (spaces_of service.old) (spaces_of service.new) namespace (λ was is. ServesWhole C.reads L.loads was is
-        (outside (R.remaining (device reader.old)) (W.contents (device writer.old)) clock.old loader.old)
-        (outside (R.remaining (device reader.new)) (W.contents (device writer.new)) clock.new loader.new))) }
+    ensures ok { OnOk result (RunsWhole R.remaining W.contents C.reads L.loads namespace service.old service.new reader.old reader.new writer.old writer.new clock.old clock.new loader.old loader.new) }
 
     // After an error they are a beginning of them, unless no connection was opened.
-    ensures err { IfErr result (λ e. At (spaces_of service.old) (spaces_of service.new) namespace (λ was is. ((e ≡ RunError.OutOfMemory) × SameSpace was is × (reader.new ≡ reader.old) × (writer.new ≡ writer.old) × (clock.new ≡ clock.old) × (loader.new ≡ loader.old))
-        ⊎ ServesPartly C.reads L.loads was is
-        (outside (R.remaining (device reader.old)) (W.contents (device writer.old)) clock.old loader.old)
-        (outside (R.remaining (device reader.new)) (W.contents (device writer.new)) clock.new loader.new) e)) }
+    ensures err { IfErr result (RunsPartly R.remaining W.contents C.reads L.loads namespace service.old service.new reader.old reader.new writer.old writer.new clock.old clock.new loader.old loader.new) }
 
     // However it ends, no load is under way behind it where none was before.
-    ensures none { At (spaces_of service.old) (spaces_of service.new) namespace (λ was is. pending_of was ≡ [] → pending_of is ≡ []) }
-    ensures read { IsErrOf result RunError.Read → HasFailed (failures reader.old) (failures reader.new) }
-    ensures write { IsErrOf result RunError.Write → HasFailed (failures writer.old) (failures writer.new) }
+    ensures none { At service.old service.new namespace (λ was is. pending_of was ≡ [] → pending_of is ≡ []) }
+    ensures read { IsErrOf result RunError.Read → Fails reader.old reader.new }
+    ensures write { IsErrOf result RunError.Write → Fails writer.old writer.new }
     ensures moment { IsErrOf result RunError.Moment → HasToldLate C.reads clock.new }
 
-    // Numbers are used up only where a device failed, or where as many bytes were read, or the loader was asked as often, as turns are
+    // Turns are used up only where the reader failed, or where as many bytes were read, or the loader was asked as often, as turns are
     // counted.
-    ensures used_up { IsErrOf result RunError.UsedUp → HasFailed (failures writer.old) (failures writer.new) ⊎ (HasFailed (failures reader.old) (failures reader.new) ⊎ (HasRead (R.remaining (device reader.old)) (R.remaining (device reader.new)) (2 ^ 64 - 1) ⊎ HasAsked L.loads loader.old (2 ^ 64 - 1) loader.new)) }
+    ensures used_up { IsErrOf result RunError.UsedUp → RunsOut R.remaining L.loads reader.old reader.new loader.old loader.new }
 {
     let mut buffer = match vec![in alloc; 0u8; PIECE_BYTES] {
         Ok(buffer) => buffer,

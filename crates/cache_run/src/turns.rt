@@ -1,21 +1,16 @@
 //! One turn of a run.
-ghost use Rattle.std.specs.Prelude.{◌≡◌, ◌≤◌, ◌<◌, ◌⊎◌, ◌^◌, ◌-◌, ℕ, List, [], Option, length, IfOk, IfErr, OnOk, MatchResult};
-ghost use Rattle.cache_devices.specs.Failures.{HasFailed};
-ghost use Rattle.cache_devices.specs.Watched.{device, failures};
-ghost use Rattle.cache_spaces.specs.Moves.{At};
-ghost use Rattle.cache_spaces.specs.Services.{spaces_of};
-ghost use Rattle.cache_run.specs.Accounts.{Accounts, AddsNoLoads};
+ghost use Rattle.std.specs.Prelude.{◌≡◌, ◌<◌, ◌⊎◌, ◌^◌, ◌-◌, ℕ, List, Option, length, IfOk, IfErr};
+ghost use Rattle.cache_devices.specs.Watched.{device};
 ghost use Rattle.cache_run.specs.Causes.{Because};
 ghost use Rattle.cache_run.specs.Connected.{Connected, IsReady, HasTakenReplies};
-ghost use Rattle.cache_run.specs.Loading.{BreaksOff, Carries};
-ghost use Rattle.cache_run.specs.Turns.{HasAsked, HasRead, HasToldLate, LeavesSo, TurnLeavesSo};
-ghost use Rattle.cache_run.specs.Worlds.{outside};
+ghost use Rattle.cache_devices.specs.Sources.{HasToldLate};
+ghost use Rattle.cache_run.specs.Turns.{Fails, HasAsked, HasRead, LeavesSo, TurnLeavesSo};
+ghost use Rattle.cache_run.specs.Promised.{GoesForward, LeavesLoads, RunsOn};
 
-use crate::errors::RunError;
 use crate::feeding::deliver;
 use crate::loading::settle_loads;
 use audit_model::{Bytes, Conn, LoadId};
-use cache_devices::{Clock, Loader, Watched};
+use cache_devices::{Clock, Loader, RunError, Watched};
 use cache_spaces::Service;
 use std::io::{ErrorKind, Read, Write};
 
@@ -30,8 +25,8 @@ pub enum Progress {
 
 /// Whether a run goes on behind a piece: not where the connection has closed.
 pub fn progress_of(service: &Service, conn: Conn) -> Progress
-    requires taken { Connected (spaces_of service.now) conn.namespace conn.number HasTakenReplies }
-    ensures { (remaining : Option (List ℕ)) → Connected (spaces_of service.now) conn.namespace conn.number (LeavesSo result remaining) }
+    requires taken { Connected service.now conn.namespace conn.number HasTakenReplies }
+    ensures { (remaining : Option (List ℕ)) → Connected service.now conn.namespace conn.number (LeavesSo result remaining) }
 {
     match service.closed(conn) {
         Ok(None) => Progress::More,
@@ -52,22 +47,13 @@ pub fn take_turn<R: Read, W: Write, C: Clock, L: Loader>(
     taken: &mut Vec<(LoadId, Bytes)>,
 ) -> Result<Progress, RunError>
     requires room { 0 < length buffer.old }
-    requires ready { Connected (spaces_of service.old) conn.namespace conn.number IsReady }
-    ensures goes { MatchResult result
-        (λ progress. Carries C.reads L.loads (spaces_of service.old) (spaces_of service.new) conn.namespace conn.number
-        (outside (R.remaining (device reader.old)) (W.contents (device writer.old)) clock.old loader.old)
-        (outside (R.remaining (device reader.new)) (W.contents (device writer.new)) clock.new loader.new) taken.old.items taken.new.items)
-        (λ e. BreaksOff C.reads L.loads (spaces_of service.old) (spaces_of service.new) conn.namespace conn.number
-        (outside (R.remaining (device reader.old)) (W.contents (device writer.old)) clock.old loader.old)
-        (outside (R.remaining (device reader.new)) (W.contents (device writer.new)) clock.new loader.new) taken.old.items e) }
-    ensures left { Connected (spaces_of service.new) conn.namespace conn.number (TurnLeavesSo result (R.remaining (device reader.new))) }
-    ensures accounted { At (spaces_of service.old) (spaces_of service.new) conn.namespace (λ was is. Accounts was is taken.old.items taken.new.items) }
-    ensures settled { OnOk result (taken.old.items ≡ [] → (taken.new.items ≡ []) × At (spaces_of service.old) (spaces_of service.new) conn.namespace AddsNoLoads) }
-    ensures why { IfErr result (Because (HasFailed (failures reader.old) (failures reader.new)) (HasFailed (failures writer.old) (failures writer.new)) (HasFailed (failures writer.old) (failures writer.new) ⊎ HasAsked L.loads loader.old (2 ^ 64 - 1) loader.new) (HasToldLate C.reads clock.new)) }
-    ensures asks { HasAsked L.loads loader.old 0 loader.new }
-    ensures more { IfOk result (λ progress. progress ≡ Progress.More → HasFailed (failures reader.old) (failures reader.new) ⊎ HasRead (R.remaining (device reader.old)) (R.remaining (device reader.new)) 1) }
-    ensures reads { failures reader.old ≤ failures reader.new }
-    ensures writes { failures writer.old ≤ failures writer.new }
+    requires ready { Connected service.old conn.namespace conn.number IsReady }
+    ensures goes { RunsOn result R.remaining W.contents C.reads L.loads conn service.old service.new taken.old taken.new reader.old reader.new writer.old writer.new clock.old clock.new loader.old loader.new }
+    ensures left { Connected service.new conn.namespace conn.number (TurnLeavesSo result (R.remaining (device reader.new))) }
+    ensures why { IfErr result (Because (Fails reader.old reader.new) (Fails writer.old writer.new) (HasAsked L.loads loader.old (2 ^ 64 - 1) loader.new) (HasToldLate C.reads clock.new)) }
+    ensures more { IfOk result (λ progress. progress ≡ Progress.More → Fails reader.old reader.new ⊎ HasRead (R.remaining (device reader.old)) (R.remaining (device reader.new)) 1) }
+    ensures loads { LeavesLoads result conn.namespace service.old service.new taken.old.items taken.new.items }
+    ensures forward { GoesForward reader.old reader.new writer.old writer.new L.loads loader.old loader.new }
 {
     let count = match reader.read(buffer) {
         Ok(count) => count,
@@ -87,7 +73,10 @@ pub fn take_turn<R: Read, W: Write, C: Clock, L: Loader>(
         Err(error) => return Err(error),
     }
     match settle_loads(service, conn, taken, writer, clock, loader) {
-        Ok(()) => Ok(progress_of(service, conn)),
+        Ok(()) => {
+            service.sound(conn.namespace);
+            Ok(progress_of(service, conn))
+        }
         Err(error) => Err(error),
     }
 }

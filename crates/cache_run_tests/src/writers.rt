@@ -1,5 +1,5 @@
 //! What is sent to writers, whole, in pieces and with failures, and what is read.
-use cache_devices::{SendError, Watched, send};
+use cache_devices::{RunError, Watched, send};
 use std::alloc::Global;
 use std::io;
 use std::io::{ErrorKind, Write};
@@ -80,7 +80,7 @@ fn all_is_sent_in_pieces(rt: HostRuntime) {
 
 /// Whether a text is sent up to the fourth call, which fails.
 fn sends_a_beginning(writer: &mut Watched<Slow>) -> bool {
-    send(b"abcd", writer) == Err(SendError::Write)
+    send(b"abcd", writer) == Err(RunError::Write)
         && writer.inner().held.as_slice() == b"ab".as_slice()
         && writer.failed() == 2
 }
@@ -92,7 +92,7 @@ fn a_write_fails_in_mid_stream(rt: HostRuntime) {
 
 /// Whether each call fails.
 fn fails(writer: &mut Watched<Full>) -> bool {
-    send(b"a", writer) == Err(SendError::Write)
+    send(b"a", writer) == Err(RunError::Write)
         && writer.failed() == 1
         && writer.flush().is_err()
         && writer.failed() == 2

@@ -1,6 +1,9 @@
 mod Asking
+mod Attending
+mod Ending
 mod Full
+mod Going
 mod Outgoing
 mod Refusing
+mod Settling
 mod Writing
-mod Next

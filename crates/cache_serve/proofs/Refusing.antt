@@ -1,6 +1,6 @@
 -- Outcomes that are refused for their bytes or their time.
 use Rattle.std.proofs.Common.{◌≡◌, ◌≢◌, ◌⊎◌, ℕ, Bool, true, false, not, nat_le, ◌^◌, Option, Some, None, is_some, refl, sym, ap, ◌∙◌, subst, inl, inr}
-use Rattle.std.specs.Prelude.{if◌then◌else◌, ◌==◌}
+use Rattle.std.specs.Prelude.{if◌then◌else◌, ◌==◌, List, MatchOption}
 use Rattle.std.specs.Option.{option_or}
 use Rattle.std.proofs.Math.Logic.{∥∥₁_map}
 use Rattle.std.proofs.lemmas.Option.{none-some, same_Some}
@@ -16,12 +16,7 @@ use Rattle.audit_model.specs.declared.input.ServiceError.{ServiceError}
 use Rattle.audit_model.specs.declared.input.ServiceError.TheVariants as error
 use Rattle.cache_serve.specs.Unfit.{IsUnfit, WasUnfit}
 use Rattle.cache_shared.specs.Events.{RefusesStep, WasRefused}
-use Rattle.cache_spaces.specs.Recorded.{Refused}
-use Rattle.cache_spaces.specs.Services.{spaces_of}
-use Rattle.cache_spaces.specs.Serves.{known_of}
-use Rattle.cache_spaces.specs.Spaces.{config_of}
-use Rattle.cache_spaces.specs.declared.service.Service.{Service}
-use Rattle.cache_spaces.specs.declared.space.Space.{Space}
+use Rattle.cache_spaces.specs.Spaces.{Shown, config_of, known_of}
 
 -- an outcome is refused so for its bytes or its time
 abbrev pub is_of_outcome : ServiceError → Bool
@@ -47,35 +42,45 @@ chosen : {X : Type 0} (b : Bool) (x y : X) → (if b then Some x else None) ≡ 
 chosen true x y e = sym (same_Some x y e)
 chosen false x y e = absurd (none-some y e)
 
-unfit-refused : (space : Space) (load : ℕ) (outcome : Outcome) (moment : Instant) (happened : Event) (e : ServiceError) → is_of_outcome e ≡ true → happened ≡ event.Answer load outcome moment → Refused happened e space
-    → is_some (refusal_of_outcome (config_of space) outcome) ≡ true
-unfit-refused space load outcome moment happened e so is (inl refused) = unfit-answer (config_of space) (known_of space) load outcome moment e so (subst (λ h. refusal_of (config_of space) (known_of space) h ≡ Some e) is refused)
-unfit-refused space load outcome moment happened e so is (inr (inl memory)) = absurd (other e error.OutOfMemory so refl memory)
-unfit-refused space load outcome moment happened e so is (inr (inr again)) = absurd (other e error.HeldAgain so refl again)
+by-refusal : {M : Type 0} (o : Option ServiceError) (e : ServiceError) → (M → ⊥) → MatchOption o M (λ refused. e ≡ refused) → o ≡ Some e
+by-refusal None e never m = absurd (never m)
+by-refusal (Some refused) e never is = ap (λ x. Some x) (sym is)
+
+-- so an answer was refused that is refused for its bytes or its time
+unfit-refused : (config : Config) (known : Known) (held : Bool) (load : ℕ) (outcome : Outcome) (moment : Instant) (happened : Event) (e : ServiceError) → is_of_outcome e ≡ true → happened ≡ event.Answer load outcome moment
+    → MatchOption (refusal_of config known happened) ((e ≡ error.OutOfMemory) ⊎ ((e ≡ error.HeldAgain) × (held ≡ true))) (λ refused. e ≡ refused) → is_some (refusal_of_outcome config outcome) ≡ true
+unfit-refused config known held load outcome moment happened e so is refuses =
+    unfit-answer config known load outcome moment e so (subst (λ h. refusal_of config known h ≡ Some e) is (by-refusal (refusal_of config known happened) e never refuses))
+  where
+    never : (e ≡ error.OutOfMemory) ⊎ ((e ≡ error.HeldAgain) × (held ≡ true)) → ⊥
+    never (inl memory) = other e error.OutOfMemory so refl memory
+    never (inr again) = other e error.HeldAgain so refl again.0
 
 of-outcome : (e : ServiceError) → (e ≡ error.LineEnd) ⊎ ((e ≡ error.TooLong) ⊎ (e ≡ error.Deadline)) → is_of_outcome e ≡ true
 of-outcome e (inl is) = ap is_of_outcome is
 of-outcome e (inr (inl is)) = ap is_of_outcome is
 of-outcome e (inr (inr is)) = ap is_of_outcome is
 
-module _ {C : Type 0} (service : C → Service) (events : C → ℕ) (load : LoadId) (outcome : Outcome) (moment : Instant) (e : ServiceError) (count : ℕ) where
-  was-unfit : is_of_outcome e ≡ true → WasRefused service events (input.Answer load outcome moment) e count → WasUnfit service events load.namespace outcome
+module _ {C : Type 0} (spaces : C → List Shown) (events : C → ℕ) (load : LoadId) (outcome : Outcome) (moment : Instant) (e : ServiceError) (count : ℕ) where
+  was-unfit : is_of_outcome e ≡ true → WasRefused spaces events (input.Answer load outcome moment) e count → WasUnfit spaces events load.namespace outcome
   was-unfit so r = go r.refuses
     where
-      go : RefusesStep (input.Answer load outcome moment) e count (events r.core) (spaces_of (service r.core)) (spaces_of (service r.later)) → WasUnfit service events load.namespace outcome
+      go : RefusesStep (input.Answer load outcome moment) e count (events r.core) (spaces r.core) → WasUnfit spaces events load.namespace outcome
       go (inl full) = absurd (other e error.UsedUp so refl full.0)
-      go (inr (inl memory)) = absurd (other e error.OutOfMemory so refl memory.0)
+      go (inr (inl memory)) = absurd (other e error.OutOfMemory so refl memory)
       go (inr (inr (inl full))) = absurd (other e error.UsedUp so refl full.0)
       go (inr (inr (inr (inl none)))) = absurd (other e error.NoNamespace so refl none.0)
       go (inr (inr (inr (inr there)))) = record {
         core = r.core;
         reached = r.reached;
-        space = there.was;
-        at = there.at;
-        refused =
-            let refused = there.fact.1 in
-            unfit-refused there.was load.number outcome moment refused.happened e so (chosen (load.namespace == load.namespace) (event.Answer load.number outcome moment) refused.happened refused.event) refused.refused;
+        refused = record {
+          space = there.space;
+          at = there.at;
+          fact =
+              let refused = there.fact in
+              unfit-refused (config_of there.space) (known_of there.space) false load.number outcome moment refused.happened e so (chosen (load.namespace == load.namespace) (event.Answer load.number outcome moment) refused.happened refused.event) refused.refused;
+        };
       }
 
-  pub unfit : (e ≡ error.LineEnd) ⊎ ((e ≡ error.TooLong) ⊎ (e ≡ error.Deadline)) → ∥ WasRefused service events (input.Answer load outcome moment) e count ∥₁ → IsUnfit service events load.namespace outcome
+  pub unfit : (e ≡ error.LineEnd) ⊎ ((e ≡ error.TooLong) ⊎ (e ≡ error.Deadline)) → ∥ WasRefused spaces events (input.Answer load outcome moment) e count ∥₁ → IsUnfit spaces events load.namespace outcome
   unfit kind refused = ∥∥₁_map refused (was-unfit (of-outcome e kind))

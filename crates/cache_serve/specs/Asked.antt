@@ -1,5 +1,5 @@
 -- What a seat asks of a shared service for one connection, and what its loader is asked.
-use Rattle.std.specs.Prelude.{◌≡◌, ◌≢◌, ℕ, ◌+◌, ◌≤◌, Bool, List, [], ◌∷◌, ◌++◌, length, map, Option, Some, Vec, ◌⊎◌, IfSome, if◌then◌else◌}
+use Rattle.std.specs.Prelude.{◌≡◌, ◌≢◌, ℕ, ◌≤◌, ◌==◌, Bool, true, List, [], ◌∷◌, ◌++◌, count_by, length, map, Option, Some, Vec, ◌⊎◌, IfSome, if◌then◌else◌}
 use Rattle.std.specs.Io.KnownBytes.{Consumes}
 use Rattle.std.specs.List.{All, flat_map}
 use Rattle.std.specs.declared.alloc.Global.{Global}
@@ -10,8 +10,7 @@ use Rattle.audit_model.specs.declared.input.Input.TheVariants as input
 use Rattle.audit_model.specs.declared.input.LoadId.{LoadId}
 use Rattle.audit_receipts.specs.declared.output.Output.TheVariants.{Opened}
 use Rattle.audit_receipts.specs.declared.receipt.Receipt.{Receipt}
-use Rattle.cache_run.specs.Carried.{Askings, Readings}
-use Rattle.cache_run.specs.Happened.{Asking}
+use Rattle.cache_devices.specs.Sources.{Asking, Askings, Readings}
 use Rattle.cache_shared.specs.Seats.{SameReceipts, receipts_at}
 
 -- a piece of a connection's bytes, and the moment at which it was read
@@ -77,6 +76,11 @@ abbrev pub piece_bytes : ServedInput → List ℕ
 piece_bytes (Fed piece) = piece.bytes
 piece_bytes (Settled settling moment) = []
 
+-- no more than 16 lines end in what was fed
+abbrev pub IsShort : ServedInput → Type 0
+IsShort (Fed piece) = count_by (λ byte. byte == 10) piece.bytes ≤ 16
+IsShort (Settled settling moment) = Unit {0}
+
 -- the clock's reading
 abbrev pub clock_reading : ServedInput → ℕ
 clock_reading (Fed piece) = piece.moment
@@ -105,12 +109,6 @@ closing_inputs conn closes = if closes then input.Close conn ∷ [] else []
 abbrev pub HasAskedSome : {D : Type 0} → (D → List ℕ → Option Outcome → D → Type 0) → D → D → Type 0
 HasAskedSome loads d e = (asks : List Asking) × Askings loads d asks e
 
--- no more inputs were counted than it was asked for keys
-pub record HasAskedMost {D : Type 0} (loads : D → List ℕ → Option Outcome → D → Type 0) (d e : D) (inputs later : ℕ) : Type 0 where
-  pub asks : List Asking
-  pub loaded : Askings loads d asks e
-  pub few : later ≤ inputs + length asks
-
 module _ (namespace : ℕ) (before after : List (Vec Receipt Global)) where
   -- the receipts of a namespace grew by these, and those of the others stayed
   pub record Grows (added : List Receipt) : Type 0 where
@@ -134,44 +132,16 @@ module _ (namespace : ℕ) (before after : List (Vec Receipt Global)) where
     pub opened : first.output ≡ Opened conn
     pub grows : Grows (first ∷ [])
 
-  -- by what is asked at that moment for the load of that number, for which the loader was asked so
-  pub record Settles (moment number : ℕ) (asking : Asking) : Type 0 where
+  -- By what is asked at that moment for the load of that number, for which the loader was asked so; it is given up only where it may be.
+  pub record Settles (keeps : Bool) (Unfit : ℕ → Outcome → Type 0) (moment number : ℕ) (asking : Asking) : Type 0 where
     pub settling : Settling
     pub of : settling_asking settling ≡ asking
     pub numbered : load_number settling ≡ number
-    pub asks : Asks (settling_inputs namespace moment settling)
-
-  -- so it is, and it is given up only where it may be
-  abbrev pub SettlesSo : (ℕ → Outcome → Type 0) → ℕ → ℕ → Asking → Type 0
-  SettlesSo Unfit moment number asking = (settles : Settles moment number asking) × MayBeGivenUp Unfit namespace settles.settling
-
-  -- A loader was asked for loads that had gone out, one after another, by their keys; they were settled at moment 0, which counts as the
-  -- latest.
-  pub record Drops {D : Type 0} (WentOut : ℕ → ℕ → List ℕ → Type 0) (loads : D → List ℕ → Option Outcome → D → Type 0) (d e : D) (drops : List Settling) : Type 0 where
-    pub asks : Asks (flat_map (settling_inputs namespace 0) drops)
-    pub loaded : Askings loads d (map settling_asking drops) e
-    pub out : All (IsOfLoad WentOut namespace) drops
+    pub asks : keeps ≡ true → Asks (settling_inputs namespace moment settling)
+    pub fit : MayBeGivenUp Unfit namespace settling
 
 module _ {K D : Type 0} (WentOut : ℕ → ℕ → List ℕ → Type 0) (Unfit : ℕ → Outcome → Type 0) (reads : K → ℕ → K → Type 0) (loads : D → List ℕ → Option Outcome → D → Type 0) (before after : List (Vec Receipt Global)) (remaining later : Option (List ℕ)) (k l : K) (d e : D) where
-  -- A connection was fed, and loads of its namespace that had gone out were settled. The pieces, and then lost, were read, the clock told the
-  -- moments, and then late, and the loader was asked by the keys of the loads.
-  pub record Feeds (conn : Conn) (lost late : List ℕ) : Type 0 where
-    pub deeds : List ServedInput
-    pub asks : Asks conn.namespace before after (flat_map (inputs_of conn) deeds)
-    pub read : Consumes remaining later (flat_map piece_bytes deeds ++ lost)
-    pub told : Readings reads k (map clock_reading deeds ++ late) l
-    pub loaded : Askings loads d (flat_map asks_of deeds) e
-    pub out : All (IsOfLoad WentOut conn.namespace) (flat_map settlings_of deeds)
-    pub fit : All (MayBeGivenUp Unfit conn.namespace) (flat_map settlings_of deeds)
-
-  -- so it was, but perhaps for a last piece, which was refused
-  pub record FeedsMost (conn : Conn) : Type 0 where
-    pub lost : List ℕ
-    pub late : List ℕ
-    pub feeds : Feeds conn lost late
-    pub few : length late ≤ 1
-
-  -- A connection of that namespace was opened, fed with what was read but perhaps for a last piece, and closed or not. Between its pieces
+  -- A connection of that namespace was opened, fed with what was read but perhaps for what was read last, and closed or not. Between its pieces
   -- loads of the namespace were settled, and those of drops behind the closing. Each of them had gone out, and the loader was asked by its
   -- key. One between the pieces is given up only where it may be. Nothing else was asked.
   pub record ServesConnection (namespace : ℕ) (conn : Conn) (drops : List Settling) : Type 0 where
@@ -181,6 +151,7 @@ module _ {K D : Type 0} (WentOut : ℕ → ℕ → List ℕ → Type 0) (Unfit :
     pub rest : List Receipt
     pub grows : Grows namespace before after (first ∷ rest)
     pub deeds : List ServedInput
+    pub short : All IsShort deeds
     pub closes : Bool
     pub asked : map (λ receipt. receipt.input) rest ≡ (flat_map (inputs_of conn) deeds ++ closing_inputs conn closes) ++ flat_map (settling_inputs namespace 0) drops
     pub lost : List ℕ

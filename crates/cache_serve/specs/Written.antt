@@ -4,7 +4,7 @@ use Rattle.std.specs.List.{concat}
 use Rattle.audit_model.specs.declared.input.Conn.{Conn}
 use Rattle.cache_devices.specs.Sent.{SentBut}
 use Rattle.cache_shared.specs.Untaken.{WereUntaken}
-use Rattle.cache_spaces.specs.declared.service.Service.{Service}
+use Rattle.cache_spaces.specs.Spaces.{Shown}
 
 -- each of the texts is so
 abbrev pub AllAre : (List ℕ → Type 0) → List (List ℕ) → Type 0
@@ -18,20 +18,7 @@ pub record WritesTexts (IsTaken : List ℕ → Type 0) (count : ℕ) (before aft
   pub taken : AllAre IsTaken texts
   pub sent : SentBut rest (concat texts) before after
 
--- for each input that was taken a text was written whole
-pub record WritesAll (IsTaken : List ℕ → Type 0) (inputs later : ℕ) (before after : Option (List ℕ)) : Type 0 where
-  pub count : ℕ
-  pub counted : later ≤ inputs + count
-  pub writes : WritesTexts IsTaken count before after []
-
--- so it was for all inputs but the last one; the last text may be cut
-pub record WritesThenFails (IsTaken : List ℕ → Type 0) (inputs later : ℕ) (before after : Option (List ℕ)) : Type 0 where
-  pub count : ℕ
-  pub rest : List ℕ
-  pub counted : later ≤ inputs + count + 1
-  pub writes : WritesTexts IsTaken count before after rest
-
-module _ {C : Type 0} (service : C → Service) (events : C → ℕ) (untaken : C → Conn → List ℕ) where
+module _ {C : Type 0} (spaces : C → List Shown) (events : C → ℕ) (untaken : C → Conn → List ℕ) where
   -- The texts are the replies of one connection of that namespace, each taken from a service to which some journals that obey lead. There is
   -- one at least for each input that the seat counts, but for those that are spared. That was asked for the connection.
   pub record Serves (namespace : ℕ) (Asked : Conn → Type 0) (inputs later spared : ℕ) (before after : Option (List ℕ)) (rest : List ℕ) : Type 0 where
@@ -40,4 +27,4 @@ module _ {C : Type 0} (service : C → Service) (events : C → ℕ) (untaken : 
     pub asked : Asked conn
     pub count : ℕ
     pub counted : later ≤ inputs + count + spared
-    pub writes : WritesTexts (λ text. ∥ WereUntaken service events untaken conn text ∥₁) count before after rest
+    pub writes : WritesTexts (λ text. ∥ WereUntaken spaces events untaken conn text ∥₁) count before after rest

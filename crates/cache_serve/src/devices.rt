@@ -9,8 +9,8 @@ pub trait Teller: Drop {
     /// Whether notes are told to it. Where they are not, they stay to be taken (`SharedService::next_notice`).
     fn is_told(&self) -> bool;
 
-    /// Tells it a note, which comes to it alone. What goes wrong is its own to deal with.
-    fn tell<R: Wait>(&mut self, rt: &R, note: &Note);
+    /// Tells it some notes of one namespace, in their order, which come to it alone. What goes wrong is its own to deal with.
+    fn tell<R: Wait>(&mut self, rt: &R, notes: &[Note]);
 }
 
 /// Nobody is told: the notes stay to be taken (`SharedService::next_notice`).
@@ -22,9 +22,9 @@ impl Teller for Untold {
         false
     }
 
-    fn tell<R: Wait>(&mut self, rt: &R, note: &Note) {
+    fn tell<R: Wait>(&mut self, rt: &R, notes: &[Note]) {
         let _rt = rt;
-        let _note = note;
+        let _notes = notes;
     }
 }
 

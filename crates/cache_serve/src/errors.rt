@@ -2,18 +2,7 @@
 ghost use Rattle.std.specs.Prelude.{◌≡◌, ◌⊎◌};
 
 use audit_model::ServiceError;
-use cache_devices::SendError;
-use cache_run::RunError;
-
-/// Why a connection stops where its output was not sent.
-pub fn error_of_send(error: SendError) -> RunError
-    ensures { (result ≡ RunError.Write) ⊎ (result ≡ RunError.UsedUp) }
-{
-    match error {
-        SendError::Write => RunError::Write,
-        SendError::UsedUp => RunError::UsedUp,
-    }
-}
+use cache_devices::RunError;
 
 /// Why a connection stops where an input of its was refused.
 pub fn error_of_refusal(error: ServiceError) -> RunError

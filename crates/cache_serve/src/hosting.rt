@@ -162,6 +162,8 @@ where
     D: Devices,
     R: Threads + Wait + Copy + Send + Sync + 'static,
 {
+    // The replies of a piece go out in several writes, none of which is to wait for the client's acknowledgement.
+    let _ = stream.set_nodelay(true);
     let Ok((place, done)) = workers.reserve(&rt) else {
         return;
     };

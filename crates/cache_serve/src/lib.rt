@@ -1,12 +1,15 @@
 //! Connections over a service that threads share.
 #![tactic(auto)]
 
+mod cutting;
 mod devices;
 mod errors;
+mod handing;
 mod hosting;
 mod loading;
 mod pausing;
 mod serving;
+mod session;
 mod turns;
 mod workers;
 

@@ -1,400 +1,259 @@
 //! The loads of a connection's namespace, asked of its loader.
-ghost use Rattle.std.specs.Prelude.{◌≡◌, ◌≢◌, ◌⊎◌, ◌≤◌, ◌+◌, ◌^◌, ℕ, List, Option, [], true, false, Ok, IfErr, OnOk, OnErr, IsErrOf};
-ghost use Rattle.audit_model.specs.declared.input.Input.TheVariants as asked;
-ghost use Rattle.cache_devices.specs.Failures.{HasFailed};
-ghost use Rattle.cache_devices.specs.Watched.{device, failures};
-ghost use Rattle.cache_run.specs.Turns.{HasToldLate};
-ghost use Rattle.cache_serve.specs.Asked.{AsksOrNot, Drops, Feeds, FeedsMost, HasAskedSome, HasAskedMost, SettlesSo, Settling, answer_input, give_up_input};
-ghost use Rattle.cache_serve.specs.Full.{HasUsedUp};
-ghost use Rattle.cache_serve.specs.Out.{AreOut, HadGoneOut};
-ghost use Rattle.cache_serve.specs.Unfit.{IsUnfit};
-ghost use Rattle.cache_serve.specs.Written.{WritesAll, WritesThenFails};
+ghost use Rattle.std.specs.Prelude.{◌≡◌, ◌+◌, ◌^◌, ◌≤◌, [], IfErr, IfSome, OnErr};
+ghost use Rattle.cache_serve.specs.Asked.{give_up_input};
+ghost use Rattle.cache_serve.specs.Handed.{AsksIfTaken, IsOwed, SettlesAs, SettlesLate, SettlesRest, StopsAt, turns_in};
 ghost use Rattle.cache_shared.specs.Seats.{SameReceipts};
-ghost use Rattle.cache_shared.specs.Untaken.{WereUntaken};
+ghost use Rattle.cache_serve.specs.Went.{Attends, AttendsAll, spot};
 
 use crate::devices::Teller;
 use crate::errors::error_of_refusal;
+use crate::handing::{hand_out, look_again, tell_notes};
 use crate::pausing::pause;
-use crate::turns::{Progress, deliver, hand_in, tell_notes};
-use audit_model::{Bytes, Conn, Input, Instant, LoadId, Outcome, ServiceError};
-use cache_devices::{Clock, Loader, Watched};
-use cache_run::RunError;
-use cache_shared::{Seat, Seating, SharedService, Takings};
+use crate::session::{Footing, Session};
+use crate::turns::hand_in;
+use audit_model::{Input, Instant, LoadId, Outcome, ServiceError};
+use cache_devices::{Clock, Loader, RunError, Watched};
+use cache_shared::{Seat, Seating, SharedService, Takings, Turn};
 use cache_spaces::Refusal;
-use std::alloc::Global;
 use std::io::Write;
 use std::sync::Wait;
 
-/// Gives a load up, in one hold of the lock. Where that is refused for memory it is tried again. One that is not under way stays settled.
+/// Gives a load up, in one hold of the lock. Where that is refused for memory it is tried again. None where it is not under way.
 fn give_up<L: Seating, C: Takings>(
     rt: &impl Wait,
     shared: &SharedService<L, C>,
     seat: &mut Seat<L>,
-    load: LoadId,
+    session: &mut Session<C>,
+    number: u64,
     moment: u64,
-) -> Result<(), RunError>
-    ensures one { seat.new.count ≤ seat.old.count + 1 }
-    ensures count { seat.old.count ≤ seat.new.count }
-    ensures moment { IsErrOf result RunError.Moment → 2 ^ 63 ≤ moment }
-    ensures used_up { IsErrOf result RunError.UsedUp → HasUsedUp C.events seat.old.count seat.new.count }
-    ensures causes { IfErr result (λ e. (e ≢ RunError.Read) × (e ≢ RunError.Write)) }
-    ensures asked { C.KEEPS ≡ true → AsksOrNot load.namespace seat.old.receipts.items seat.new.receipts.items (give_up_input load.namespace moment load.number) }
-    ensures kept { OnErr result (seat.new.count ≡ seat.old.count) }
-    ensures same { C.KEEPS ≡ true → OnErr result (SameReceipts seat.old.receipts.items seat.new.receipts.items) }
+) -> Result<Option<Turn<C>>, RunError>
+    ensures conn { session.new.conn ≡ session.old.conn }
+    ensures counts { seat.new.count ≡ seat.old.count + turns_in result }
+    ensures asked { AsksIfTaken session.old result (give_up_input session.old.conn.namespace moment number) seat.old seat.new }
+    ensures same { OnErr result (SameReceipts seat.old.receipts.items seat.new.receipts.items) }
+    ensures owed { IsOwed session.old result }
+    ensures why { IfErr result (StopsAt C.events seat.old.count (2 ^ 63 ≤ moment)) }
 {
+    let conn = session.conn;
+    let wants_loads = session.wants_loads();
     for _try in rt.forever() {
-        match shared.step(
-            rt,
-            seat,
-            Input::GiveUp {
-                load,
-                moment: Instant { nanos: moment },
+        let input = Input::GiveUp {
+            load: LoadId {
+                namespace: conn.namespace,
+                number,
             },
-        ) {
-            Ok(_) => return Ok(()),
+            moment: Instant { nanos: moment },
+        };
+        match shared.turn(rt, seat, conn, input, wants_loads, &mut session.notes) {
+            Ok(turn) => return Ok(Some(turn)),
             Err(Refusal { error, .. }) => match error {
                 ServiceError::OutOfMemory => pause(rt),
                 ServiceError::UsedUp => return Err(RunError::UsedUp),
                 ServiceError::Moment => return Err(RunError::Moment),
-                _ => return Ok(()),
+                _ => return Ok(None),
             },
         }
     }
     unreachable!()
 }
 
-/// Answers a load, in one hold of the lock. Answers whether it is settled: it is not where the outcome is refused for its bytes or its
-/// time. One that is not under way stays settled.
-fn answer<L: Seating, C: Takings>(
-    rt: &impl Wait,
-    shared: &SharedService<L, C>,
-    seat: &mut Seat<L>,
-    load: LoadId,
-    outcome: Outcome,
-    moment: u64,
-) -> Result<bool, RunError>
-    ensures one { seat.new.count ≤ seat.old.count + 1 }
-    ensures count { seat.old.count ≤ seat.new.count }
-    ensures left { result ≡ Ok false → seat.new.count ≡ seat.old.count }
-    ensures moment { IsErrOf result RunError.Moment → 2 ^ 63 ≤ moment }
-    ensures used_up { IsErrOf result RunError.UsedUp → HasUsedUp C.events seat.old.count seat.new.count }
-    ensures causes { IfErr result (λ e. (e ≢ RunError.Read) × (e ≢ RunError.Write)) }
-    ensures asked { C.KEEPS ≡ true → AsksOrNot load.namespace seat.old.receipts.items seat.new.receipts.items (answer_input load.namespace moment load.number outcome) }
-    ensures refused { result ≡ Ok false → SameReceipts seat.old.receipts.items seat.new.receipts.items }
-    ensures unfit { result ≡ Ok false → IsUnfit C.service C.events load.namespace outcome }
-    ensures kept { OnErr result (seat.new.count ≡ seat.old.count) }
-    ensures same { C.KEEPS ≡ true → OnErr result (SameReceipts seat.old.receipts.items seat.new.receipts.items) }
-{
-    let error = match shared.step(
-        rt,
-        seat,
-        Input::Answer {
-            load,
-            outcome,
-            moment: Instant { nanos: moment },
-        },
-    ) {
-        Ok(_) => return Ok(true),
-        Err(Refusal { error, .. }) => error,
-    };
-    match error {
-        ServiceError::LineEnd | ServiceError::TooLong | ServiceError::Deadline => Ok(false),
-        ServiceError::OutOfMemory | ServiceError::UsedUp | ServiceError::Moment => {
-            Err(error_of_refusal(error))
-        }
-        // It is not under way.
-        _ => Ok(true),
-    }
-}
-
-/// Settles a load by what the loader said of its key: it is given up where the loader asks it, or where the outcome is refused for its
-/// bytes or its time.
+/// Settles a load by what the loader said of its key, in one hold of the lock: it is given up where the loader asks it, or where the outcome
+/// is refused for its bytes or its time. None where it is not under way.
 fn settle<L: Seating, C: Takings>(
     rt: &impl Wait,
     shared: &SharedService<L, C>,
     seat: &mut Seat<L>,
-    load: LoadId,
+    session: &mut Session<C>,
+    number: u64,
     said: Option<Outcome>,
     moment: u64,
-) -> Result<(), RunError>
-    ensures one { seat.new.count ≤ seat.old.count + 1 }
-    ensures count { seat.old.count ≤ seat.new.count }
-    ensures moment { IsErrOf result RunError.Moment → 2 ^ 63 ≤ moment }
-    ensures used_up { IsErrOf result RunError.UsedUp → HasUsedUp C.events seat.old.count seat.new.count }
-    ensures causes { IfErr result (λ e. (e ≢ RunError.Read) × (e ≢ RunError.Write)) }
-    ensures asked { C.KEEPS ≡ true → (key : List ℕ) → SettlesSo load.namespace seat.old.receipts.items seat.new.receipts.items (IsUnfit C.service C.events) moment load.number (record { key = key; answer = said }) }
-    ensures kept { OnErr result (seat.new.count ≡ seat.old.count) }
-    ensures same { C.KEEPS ≡ true → OnErr result (SameReceipts seat.old.receipts.items seat.new.receipts.items) }
+) -> Result<Option<Turn<C>>, RunError>
+    ensures conn { session.new.conn ≡ session.old.conn }
+    ensures counts { seat.new.count ≡ seat.old.count + turns_in result }
+    ensures settled { SettlesAs session.old number said moment seat.old seat.new }
+    ensures same { OnErr result (SameReceipts seat.old.receipts.items seat.new.receipts.items) }
+    ensures owed { IsOwed session.old result }
+    ensures why { IfErr result (StopsAt C.events seat.old.count (2 ^ 63 ≤ moment)) }
 {
-    match said {
-        Some(outcome) => match answer(rt, shared, seat, load, outcome, moment) {
-            Ok(true) => Ok(()),
-            Ok(false) => give_up(rt, shared, seat, load, moment),
-            Err(error) => Err(error),
+    let outcome = match said {
+        Some(outcome) => outcome,
+        None => return give_up(rt, shared, seat, session, number, moment),
+    };
+    let conn = session.conn;
+    let input = Input::Answer {
+        load: LoadId {
+            namespace: conn.namespace,
+            number,
         },
-        None => give_up(rt, shared, seat, load, moment),
-    }
-}
-
-/// Asks the loader for a load by its key, without the lock, and settles it by what the loader says.
-fn ask<L: Seating, C: Takings, K: Clock, D: Loader>(
-    rt: &impl Wait,
-    shared: &SharedService<L, C>,
-    seat: &mut Seat<L>,
-    load: LoadId,
-    key: &[u8],
-    clock: &mut K,
-    loader: &mut D,
-) -> Result<(), RunError>
-    requires out { HadGoneOut C.service C.events load.namespace load.number key.now }
-    ensures one { seat.new.count ≤ seat.old.count + 1 }
-    ensures count { seat.old.count ≤ seat.new.count }
-    ensures moment { IsErrOf result RunError.Moment → HasToldLate K.reads clock.new }
-    ensures used_up { IsErrOf result RunError.UsedUp → HasUsedUp C.events seat.old.count seat.new.count }
-    ensures causes { IfErr result (λ e. (e ≢ RunError.Read) × (e ≢ RunError.Write)) }
-    ensures loader { HasAskedSome D.loads loader.old loader.new }
-    ensures asked { C.KEEPS ≡ true → (conn : Conn) → conn.namespace ≡ load.namespace → (read : Option (List ℕ)) → Feeds (HadGoneOut C.service C.events) (IsUnfit C.service C.events) K.reads D.loads seat.old.receipts.items seat.new.receipts.items read read clock.old clock.new loader.old loader.new conn [] [] }
-{
-    let said = loader.load(key);
-    let moment = clock.now();
-    settle(rt, shared, seat, load, said, moment)
-}
-
-/// Asks the loader for the last of the loads that were taken. Where there is an error it is still one of them.
-fn settle_last<L: Seating, C: Takings, K: Clock, D: Loader, T: Teller, R: Wait>(
-    rt: &R,
-    shared: &SharedService<L, C>,
-    seat: &mut Seat<L>,
-    conn: Conn,
-    taken: &mut Vec<(LoadId, Bytes)>,
-    clock: &mut K,
-    loader: &mut D,
-    teller: &mut T,
-) -> Result<(), RunError>
-    requires out { AreOut C.service C.events conn.namespace taken.old.items }
-    ensures out { AreOut C.service C.events conn.namespace taken.new.items }
-    ensures one { seat.new.count ≤ seat.old.count + 1 }
-    ensures count { seat.old.count ≤ seat.new.count }
-    ensures moment { IsErrOf result RunError.Moment → HasToldLate K.reads clock.new }
-    ensures used_up { IsErrOf result RunError.UsedUp → HasUsedUp C.events seat.old.count seat.new.count }
-    ensures causes { IfErr result (λ e. (e ≢ RunError.Read) × (e ≢ RunError.Write)) }
-    ensures loader { HasAskedSome D.loads loader.old loader.new }
-    ensures asked { C.KEEPS ≡ true → (read : Option (List ℕ)) → Feeds (HadGoneOut C.service C.events) (IsUnfit C.service C.events) K.reads D.loads seat.old.receipts.items seat.new.receipts.items read read clock.old clock.new loader.old loader.new conn [] [] }
-{
-    let Some((load, key)) = taken.last() else {
-        return Ok(());
+        outcome,
+        moment: Instant { nanos: moment },
     };
-    let load = LoadId {
-        namespace: conn.namespace,
-        number: load.number,
+    let wants_loads = session.wants_loads();
+    let error = match shared.turn(rt, seat, conn, input, wants_loads, &mut session.notes) {
+        Ok(turn) => return Ok(Some(turn)),
+        Err(Refusal { error, .. }) => error,
     };
-    match ask(rt, shared, seat, load, key.as_slice(), clock, loader) {
-        Ok(()) => {}
-        Err(error) => return Err(error),
-    }
-    let _ = taken.pop();
-    tell_notes(rt, shared, conn.namespace, teller);
-    Ok(())
-}
-
-/// Takes the loads of a namespace that have gone out, where none that was taken is left.
-fn take_more<L: Seating, C: Takings>(
-    rt: &impl Wait,
-    shared: &SharedService<L, C>,
-    namespace: u64,
-    taken: &mut Vec<(LoadId, Bytes)>,
-)
-    requires out { AreOut C.service C.events namespace taken.old.items }
-    ensures out { AreOut C.service C.events namespace taken.new.items }
-{
-    if !taken.is_empty() {
-        return;
-    }
-    match shared.take_loads(rt, namespace) {
-        Ok(loads) => *taken = loads.into_loads(),
-        Err(_) => {}
+    match error {
+        ServiceError::LineEnd | ServiceError::TooLong | ServiceError::Deadline => {
+            give_up(rt, shared, seat, session, number, moment)
+        }
+        ServiceError::OutOfMemory | ServiceError::UsedUp | ServiceError::Moment => {
+            Err(error_of_refusal(error))
+        }
+        // It is not under way.
+        _ => Ok(None),
     }
 }
 
-/// Whether a `LOAD` of a connection waits.
-fn is_waiting<L: Seating, C: Takings>(
-    rt: &impl Wait,
-    shared: &SharedService<L, C>,
-    conn: Conn,
-) -> bool {
-    match shared.waiting(rt, conn) {
-        Ok(waits) => waits,
-        Err(_) => false,
-    }
-}
-
-/// What was done for the loads of a connection.
-#[derive(Clone, Copy, Debug, PartialEq, Eq, Drop)]
-enum Next {
-    /// A load was settled, or waited for, or what may have been held back has run. Whether something may be held back now.
-    More(bool),
-    /// The connection has closed.
-    Over,
-    /// Nothing, as nothing was left.
-    Nothing,
-}
-
-/// Settles one load more; or else waits while a `LOAD` of the connection waits, for which another connection's loader is asked; or else
-/// runs what may be held back.
-fn go_on<L: Seating, C: Takings, K: Clock, D: Loader, T: Teller, R: Wait>(
+/// Asks the loader for the last load in hand by its key, without the lock, settles it by what the loader says, takes it out of hand, and
+/// hands out what is owed. Where it cannot be settled it stays in hand.
+fn settle_last<L: Seating, C: Takings, O: Write, K: Clock, D: Loader, T: Teller, R: Wait>(
     rt: &R,
-    alloc: Global,
     shared: &SharedService<L, C>,
     seat: &mut Seat<L>,
-    conn: Conn,
-    taken: &mut Vec<(LoadId, Bytes)>,
-    waits: bool,
-    may_hold: bool,
-    clock: &mut K,
-    loader: &mut D,
-    teller: &mut T,
-) -> Result<Next, RunError>
-    requires out { AreOut C.service C.events conn.namespace taken.old.items }
-    ensures out { AreOut C.service C.events conn.namespace taken.new.items }
-    ensures one { seat.new.count ≤ seat.old.count + 1 }
-    ensures count { seat.old.count ≤ seat.new.count }
-    ensures nothing { result ≡ Ok Next.Nothing → seat.new.count ≡ seat.old.count }
-    ensures over { result ≡ Ok Next.Over → seat.new.count ≡ seat.old.count }
-    ensures moment { IsErrOf result RunError.Moment → HasToldLate K.reads clock.new }
-    ensures used_up { IsErrOf result RunError.UsedUp → HasUsedUp C.events seat.old.count seat.new.count }
-    ensures causes { IfErr result (λ e. (e ≢ RunError.Read) × (e ≢ RunError.Write)) }
-    ensures loader { HasAskedSome D.loads loader.old loader.new }
-    ensures asked { C.KEEPS ≡ true → result ≢ Ok Next.Over → OnOk result ((read : Option (List ℕ)) → Feeds (HadGoneOut C.service C.events) (IsUnfit C.service C.events) K.reads D.loads seat.old.receipts.items seat.new.receipts.items read read clock.old clock.new loader.old loader.new conn [] []) }
-    ensures left { C.KEEPS ≡ true → (read : Option (List ℕ)) → FeedsMost (HadGoneOut C.service C.events) (IsUnfit C.service C.events) K.reads D.loads seat.old.receipts.items seat.new.receipts.items read read clock.old clock.new loader.old loader.new conn }
-{
-    if !taken.is_empty() {
-        return match settle_last(rt, shared, seat, conn, taken, clock, loader, teller) {
-            Ok(()) => Ok(Next::More(true)),
-            Err(error) => Err(error),
-        };
-    }
-    if waits {
-        shared.await_ready(rt, seat, conn);
-        return Ok(Next::More(true));
-    }
-    if may_hold {
-        return match hand_in(rt, alloc, shared, seat, conn, &[], clock, teller) {
-            Ok(Progress::More) => Ok(Next::More(false)),
-            Ok(Progress::Over) => Ok(Next::Over),
-            Err(error) => Err(error),
-        };
-    }
-    Ok(Next::Nothing)
-}
-
-/// Sends the replies that wait, and then does what is next for the loads that have gone out.
-fn settle_next<L: Seating, C: Takings, O: Write, K: Clock, D: Loader, T: Teller, R: Wait>(
-    rt: &R,
-    alloc: Global,
-    shared: &SharedService<L, C>,
-    seat: &mut Seat<L>,
-    conn: Conn,
-    taken: &mut Vec<(LoadId, Bytes)>,
-    may_hold: bool,
+    session: &mut Session<C>,
     writer: &mut Watched<O>,
     clock: &mut K,
     loader: &mut D,
     teller: &mut T,
-) -> Result<Next, RunError>
-    requires out { AreOut C.service C.events conn.namespace taken.old.items }
-    ensures out { AreOut C.service C.events conn.namespace taken.new.items }
-    ensures ok { OnOk result (WritesAll (λ text. ∥ WereUntaken C.service C.events C.untaken conn text ∥₁) seat.old.count seat.new.count (O.contents (device writer.old)) (O.contents (device writer.new))) }
-    ensures nothing { result ≡ Ok Next.Nothing → WritesAll (λ text. ∥ WereUntaken C.service C.events C.untaken conn text ∥₁) seat.old.count (seat.new.count + 1) (O.contents (device writer.old)) (O.contents (device writer.new)) }
-    ensures over { result ≡ Ok Next.Over → WritesAll (λ text. ∥ WereUntaken C.service C.events C.untaken conn text ∥₁) seat.old.count (seat.new.count + 1) (O.contents (device writer.old)) (O.contents (device writer.new)) }
-    ensures err { OnErr result (WritesThenFails (λ text. ∥ WereUntaken C.service C.events C.untaken conn text ∥₁) seat.old.count (seat.new.count + 1) (O.contents (device writer.old)) (O.contents (device writer.new))) }
-    ensures count { seat.old.count ≤ seat.new.count }
-    ensures write { IsErrOf result RunError.Write → HasFailed (failures writer.old) (failures writer.new) }
-    ensures writes { failures writer.old ≤ failures writer.new }
-    ensures used_up { IsErrOf result RunError.UsedUp → HasFailed (failures writer.old) (failures writer.new) ⊎ HasUsedUp C.events seat.old.count seat.new.count }
-    ensures moment { IsErrOf result RunError.Moment → HasToldLate K.reads clock.new }
-    ensures causes { IfErr result (λ e. e ≢ RunError.Read) }
-    ensures loader { HasAskedSome D.loads loader.old loader.new }
-    ensures asked { C.KEEPS ≡ true → result ≢ Ok Next.Over → OnOk result ((read : Option (List ℕ)) → Feeds (HadGoneOut C.service C.events) (IsUnfit C.service C.events) K.reads D.loads seat.old.receipts.items seat.new.receipts.items read read clock.old clock.new loader.old loader.new conn [] []) }
-    ensures left { C.KEEPS ≡ true → (read : Option (List ℕ)) → FeedsMost (HadGoneOut C.service C.events) (IsUnfit C.service C.events) K.reads D.loads seat.old.receipts.items seat.new.receipts.items read read clock.old clock.new loader.old loader.new conn }
+) -> Result<Footing, RunError>
+    ensures conn { session.new.conn ≡ session.old.conn }
+    ensures goes { AttendsAll O.contents K.reads D.loads session.old result [] (spot seat.old writer.old clock.old loader.old) (spot seat.new writer.new clock.new loader.new) }
 {
-    take_more(rt, shared, conn.namespace, taken);
-    // Where nothing waits now, the replies that are taken next are all.
-    let waits = is_waiting(rt, shared, conn);
-    match deliver(rt, shared, conn, writer) {
-        Ok(()) => {}
+    let Some((load, key)) = session.taken.last() else {
+        return look_again(rt, shared, session, writer, teller);
+    };
+    let number = load.number;
+    let said = loader.load(key.as_slice());
+    let moment = clock.now();
+    session.may_hold = true;
+    let turn = match settle(rt, shared, seat, session, number, said, moment) {
+        Ok(turn) => turn,
         Err(error) => return Err(error),
+    };
+    let _ = session.taken.pop();
+    match turn {
+        Some(turn) => hand_out(rt, shared, session, turn.owed, writer, teller),
+        None => look_again(rt, shared, session, writer, teller),
     }
-    match go_on(
-        rt, alloc, shared, seat, conn, taken, waits, may_hold, clock, loader, teller,
-    ) {
-        Ok(next) => Ok(next),
+}
+
+/// Settles one load more; or else waits while a `LOAD` of the connection waits, for which another connection's loader is asked; or else
+/// runs what may be held back. None where the connection had closed.
+fn settle_next<L: Seating, C: Takings, O: Write, K: Clock, D: Loader, T: Teller, R: Wait>(
+    rt: &R,
+    shared: &SharedService<L, C>,
+    seat: &mut Seat<L>,
+    session: &mut Session<C>,
+    footing: Footing,
+    writer: &mut Watched<O>,
+    clock: &mut K,
+    loader: &mut D,
+    teller: &mut T,
+) -> Result<Option<Footing>, RunError>
+    ensures conn { session.new.conn ≡ session.old.conn }
+    ensures goes { Attends O.contents K.reads D.loads session.old result [] (spot seat.old writer.old clock.old loader.old) (spot seat.new writer.new clock.new loader.new) }
+{
+    if !session.taken.is_empty() {
+        return match settle_last(rt, shared, seat, session, writer, clock, loader, teller) {
+            Ok(footing) => Ok(Some(footing)),
+            Err(error) => Err(error),
+        };
+    }
+    if footing == Footing::Waiting {
+        shared.await_ready(rt, seat, session.conn);
+        session.may_hold = true;
+        return match look_again(rt, shared, session, writer, teller) {
+            Ok(footing) => Ok(Some(footing)),
+            Err(error) => Err(error),
+        };
+    }
+    match hand_in(rt, shared, seat, session, &[], writer, clock, teller) {
+        Ok(footing) => Ok(footing),
         Err(error) => Err(error),
     }
 }
 
-/// Sends the replies of a connection, and asks the loader for the loads that have gone out, until all are settled, no `LOAD` of the
-/// connection waits and nothing of it is held back. It is over where the connection was found closed.
+/// Asks the loader for the loads that have gone out, until all are settled, no `LOAD` of the connection waits and nothing of it is held
+/// back, or it has closed. None where it had closed.
 pub fn settle_loads<L: Seating, C: Takings, O: Write, K: Clock, D: Loader, T: Teller, R: Wait>(
     rt: &R,
-    alloc: Global,
     shared: &SharedService<L, C>,
     seat: &mut Seat<L>,
-    conn: Conn,
-    taken: &mut Vec<(LoadId, Bytes)>,
+    session: &mut Session<C>,
+    footing: Footing,
     writer: &mut Watched<O>,
     clock: &mut K,
     loader: &mut D,
     teller: &mut T,
-) -> Result<Progress, RunError>
-    requires out { AreOut C.service C.events conn.namespace taken.old.items }
-    ensures out { AreOut C.service C.events conn.namespace taken.new.items }
-    ensures ok { OnOk result (WritesAll (λ text. ∥ WereUntaken C.service C.events C.untaken conn text ∥₁) seat.old.count (seat.new.count + 1) (O.contents (device writer.old)) (O.contents (device writer.new))) }
-    ensures err { OnErr result (WritesThenFails (λ text. ∥ WereUntaken C.service C.events C.untaken conn text ∥₁) seat.old.count (seat.new.count + 1) (O.contents (device writer.old)) (O.contents (device writer.new))) }
-    ensures count { seat.old.count ≤ seat.new.count }
-    ensures write { IsErrOf result RunError.Write → HasFailed (failures writer.old) (failures writer.new) }
-    ensures writes { failures writer.old ≤ failures writer.new }
-    ensures used_up { IsErrOf result RunError.UsedUp → HasFailed (failures writer.old) (failures writer.new) ⊎ HasUsedUp C.events seat.old.count seat.new.count }
-    ensures moment { IsErrOf result RunError.Moment → HasToldLate K.reads clock.new }
-    ensures causes { IfErr result (λ e. e ≢ RunError.Read) }
-    ensures loader { HasAskedSome D.loads loader.old loader.new }
-    ensures asked { C.KEEPS ≡ true → result ≡ Ok Progress.More → (read : Option (List ℕ)) → Feeds (HadGoneOut C.service C.events) (IsUnfit C.service C.events) K.reads D.loads seat.old.receipts.items seat.new.receipts.items read read clock.old clock.new loader.old loader.new conn [] [] }
-    ensures left { C.KEEPS ≡ true → (read : Option (List ℕ)) → FeedsMost (HadGoneOut C.service C.events) (IsUnfit C.service C.events) K.reads D.loads seat.old.receipts.items seat.new.receipts.items read read clock.old clock.new loader.old loader.new conn }
+) -> Result<Option<Footing>, RunError>
+    ensures conn { session.new.conn ≡ session.old.conn }
+    ensures goes { Attends O.contents K.reads D.loads session.old result [] (spot seat.old writer.old clock.old loader.old) (spot seat.new writer.new clock.new loader.new) }
 {
-    let mut may_hold = false;
+    let mut stands = footing;
     for _turn in rt.forever() {
+        if session.is_settled(stands) {
+            return Ok(Some(stands));
+        }
         match settle_next(
-            rt, alloc, shared, seat, conn, taken, may_hold, writer, clock, loader, teller,
+            rt, shared, seat, session, stands, writer, clock, loader, teller,
         ) {
-            Ok(Next::More(holds)) => may_hold = holds,
-            Ok(Next::Over) => return Ok(Progress::Over),
-            Ok(Next::Nothing) => return Ok(Progress::More),
+            Ok(Some(next)) => stands = next,
+            Ok(None) => return Ok(None),
             Err(error) => return Err(error),
         }
     }
     unreachable!()
 }
 
-/// Asks the loader for a load of a connection that has closed, and settles it at moment 0, which counts as the latest. An answer that is
-/// refused is followed by a give-up.
+/// Settles a load of a connection that has closed, at moment 0, which counts as the latest. An answer that is refused is followed by a
+/// give-up. None where nothing was taken.
+fn settle_late<L: Seating, C: Takings>(
+    rt: &impl Wait,
+    shared: &SharedService<L, C>,
+    seat: &mut Seat<L>,
+    session: &mut Session<C>,
+    number: u64,
+    said: Option<Outcome>,
+) -> Option<Turn<C>>
+    ensures conn { session.new.conn ≡ session.old.conn }
+    ensures one { seat.new.count ≤ seat.old.count + 1 }
+    ensures count { seat.old.count ≤ seat.new.count }
+    ensures settled { SettlesLate session.old number said seat.old seat.new }
+    ensures owed { IfSome result (λ turn. turn.owed.conn ≡ session.old.conn) }
+{
+    match settle(rt, shared, seat, session, number, said, 0) {
+        Ok(turn) => return turn,
+        Err(_) => {}
+    }
+    match give_up(rt, shared, seat, session, number, 0) {
+        Ok(turn) => turn,
+        Err(_) => None,
+    }
+}
+
+/// Asks the loader for the last load in hand of a connection that has closed, settles it at moment 0, and takes it out of hand.
 fn settle_after<L: Seating, C: Takings, D: Loader>(
     rt: &impl Wait,
     shared: &SharedService<L, C>,
     seat: &mut Seat<L>,
-    load: LoadId,
-    key: &[u8],
+    session: &mut Session<C>,
     loader: &mut D,
 )
-    requires out { HadGoneOut C.service C.events load.namespace load.number key.now }
-    ensures count { seat.old.count ≤ seat.new.count }
-    ensures loader { HasAskedMost D.loads loader.old loader.new seat.old.count seat.new.count }
-    ensures asked { C.KEEPS ≡ true → (drops : List Settling) × Drops load.namespace seat.old.receipts.items seat.new.receipts.items (HadGoneOut C.service C.events) D.loads loader.old loader.new drops }
+    ensures conn { session.new.conn ≡ session.old.conn }
+    ensures dropped { SettlesRest D.loads session.old seat.old seat.new loader.old loader.new }
 {
-    let said = loader.load(key);
-    match settle(rt, shared, seat, load, said, 0) {
-        Ok(()) => return,
-        Err(_) => {}
+    let Some((load, key)) = session.taken.last() else {
+        return;
+    };
+    let number = load.number;
+    let answer = loader.load(key.as_slice());
+    let turn = settle_late(rt, shared, seat, session, number, answer);
+    let _ = session.taken.pop();
+    match turn {
+        Some(turn) => session.keep(turn.owed.loads),
+        None => {}
     }
-    let _ = give_up(rt, shared, seat, load, 0);
 }
 
 /// Settles the loads of a namespace behind an error, when the connection has closed: those that were taken, and those that go out
@@ -403,26 +262,21 @@ pub fn settle_rest<L: Seating, C: Takings, D: Loader, T: Teller, R: Wait>(
     rt: &R,
     shared: &SharedService<L, C>,
     seat: &mut Seat<L>,
-    namespace: u64,
-    taken: &mut Vec<(LoadId, Bytes)>,
+    session: &mut Session<C>,
     loader: &mut D,
     teller: &mut T,
 )
-    requires out { AreOut C.service C.events namespace taken.old.items }
-    ensures count { seat.old.count ≤ seat.new.count }
-    ensures loader { HasAskedMost D.loads loader.old loader.new seat.old.count seat.new.count }
-    ensures asked { C.KEEPS ≡ true → (drops : List Settling) × Drops namespace seat.old.receipts.items seat.new.receipts.items (HadGoneOut C.service C.events) D.loads loader.old loader.new drops }
+    ensures { SettlesRest D.loads session.old seat.old seat.new loader.old loader.new }
 {
     for _turn in 0..u64::MAX {
-        take_more(rt, shared, namespace, taken);
-        let Some((load, key)) = taken.pop() else {
+        let conn = session.conn;
+        let wants_loads = session.taken.is_empty();
+        let owed = shared.take_owed(rt, conn, wants_loads, &mut session.notes);
+        session.keep(owed.loads);
+        tell_notes(rt, shared, session, teller);
+        if session.taken.is_empty() {
             return;
-        };
-        let load = LoadId {
-            namespace,
-            number: load.number,
-        };
-        settle_after(rt, shared, seat, load, key.as_slice(), loader);
-        tell_notes(rt, shared, namespace, teller);
+        }
+        settle_after(rt, shared, seat, session, loader);
     }
 }

@@ -1,247 +1,156 @@
-//! One turn of a connection.
-ghost use Rattle.std.specs.Prelude.{◌≡◌, ◌≢◌, ◌⊎◌, ◌≤◌, ◌+◌, ◌^◌, ◌∷◌, ℕ, List, [], true, Ok, IfOk, IfErr, OnOk, OnErr, IsErrOf};
-ghost use Rattle.cache_devices.specs.Failures.{HasFailed};
-ghost use Rattle.cache_devices.specs.Sent.{SentBut};
-ghost use Rattle.cache_devices.specs.Watched.{device, failures};
-ghost use Rattle.cache_run.specs.Turns.{HasToldLate};
-ghost use Rattle.cache_serve.specs.Asked.{Asks, AsksOrNot, Feeds, FeedsMost, HasAskedSome, feed_input};
-ghost use Rattle.cache_serve.specs.Full.{HasUsedUp};
-ghost use Rattle.cache_serve.specs.Out.{AreOut, HadGoneOut};
-ghost use Rattle.cache_serve.specs.Unfit.{IsUnfit};
-ghost use Rattle.cache_serve.specs.Written.{WritesAll, WritesThenFails, WritesTexts};
-ghost use Rattle.cache_shared.specs.Untaken.{WereUntaken};
+//! What was read, handed in by cuts of a few lines.
+ghost use Rattle.std.specs.Prelude.{◌≡◌, ◌==◌, ◌+◌, ◌^◌, ◌≤◌, count_by, IfErr};
+ghost use Rattle.cache_serve.specs.Asked.{feed_input};
+ghost use Rattle.cache_serve.specs.Handed.{AsksIfTaken, IsOwed, StopsAt, turns_in};
+ghost use Rattle.cache_serve.specs.Went.{Attends, asks_nobody, spot};
 
+use crate::cutting::length_of_cut;
 use crate::devices::Teller;
-use crate::errors::{error_of_refusal, error_of_send};
+use crate::errors::error_of_refusal;
+use crate::handing::hand_out;
 use crate::loading::settle_loads;
-use audit_model::{Bytes, Conn, Input, Instant, LoadId, Seq, ServiceError};
-use cache_devices::{Clock, Loader, Watched, send};
-use cache_run::RunError;
-use cache_shared::{Seat, Seating, SharedService, Takings};
+use crate::session::{Footing, Session};
+use audit_model::{Input, Instant, Seq, ServiceError};
+use cache_devices::{Clock, Loader, RunError, Watched};
+use cache_shared::{Seat, Seating, SharedService, Takings, Turn};
 use cache_spaces::{Output, Refusal};
-use std::alloc::Global;
-use std::io::{ErrorKind, Read, Write};
+use std::io::Write;
 use std::sync::Wait;
 
-/// Whether a connection goes on.
-#[derive(Clone, Copy, Debug, PartialEq, Eq, Drop)]
-pub enum Progress {
-    /// It goes on.
-    More,
-    /// It is over.
-    Over,
-}
-
-/// Hands a piece in, in one hold of the lock. It is over where the connection was closed.
-fn feed_piece<L: Seating, C: Takings>(
+/// Hands bytes in, in one hold of the lock. None where the connection had closed.
+fn feed<L: Seating, C: Takings>(
     rt: &impl Wait,
-    alloc: Global,
     shared: &SharedService<L, C>,
     seat: &mut Seat<L>,
-    conn: Conn,
+    session: &mut Session<C>,
     piece: &[u8],
     moment: u64,
-) -> Result<Progress, RunError>
-    ensures more { result ≡ Ok Progress.More → seat.new.count ≡ seat.old.count + 1 }
-    ensures over { result ≡ Ok Progress.Over → seat.new.count ≡ seat.old.count }
-    ensures err { OnErr result (seat.new.count ≤ seat.old.count + 1) }
-    ensures count { seat.old.count ≤ seat.new.count }
-    ensures moment { IsErrOf result RunError.Moment → 2 ^ 63 ≤ moment }
-    ensures used_up { IsErrOf result RunError.UsedUp → HasUsedUp C.events seat.old.count seat.new.count }
-    ensures causes { IfErr result (λ e. (e ≢ RunError.Read) × (e ≢ RunError.Write)) }
-    ensures asked { C.KEEPS ≡ true → result ≡ Ok Progress.More → Asks conn.namespace seat.old.receipts.items seat.new.receipts.items (feed_input conn (record { bytes = piece.now; moment = moment }) ∷ []) }
-    ensures left { C.KEEPS ≡ true → AsksOrNot conn.namespace seat.old.receipts.items seat.new.receipts.items (feed_input conn (record { bytes = piece.now; moment = moment })) }
+) -> Result<Option<Turn<C>>, RunError>
+    ensures conn { session.new.conn ≡ session.old.conn }
+    ensures counts { seat.new.count ≡ seat.old.count + turns_in result }
+    ensures asked { AsksIfTaken session.old result (feed_input session.old.conn (record { bytes = piece.now; moment = moment })) seat.old seat.new }
+    ensures owed { IsOwed session.old result }
+    ensures why { IfErr result (StopsAt C.events seat.old.count (2 ^ 63 ≤ moment)) }
 {
-    let Ok(copy) = Vec::from_slice(alloc, piece) else {
+    let Ok(copy) = Vec::from_slice(session.alloc, piece) else {
         return Err(RunError::OutOfMemory);
     };
+    let conn = session.conn;
     let input = Input::Feed {
         conn,
         piece: Seq::from_vec(copy),
         moment: Instant { nanos: moment },
     };
-    match shared.step(rt, seat, input) {
-        Ok(Output::Held) => Err(RunError::OutOfMemory),
-        Ok(_) => Ok(Progress::More),
+    let wants_loads = session.taken.is_empty();
+    match shared.turn(rt, seat, conn, input, wants_loads, &mut session.notes) {
+        Ok(turn) => Ok(Some(turn)),
         Err(
             Refusal {
                 error: ServiceError::Closed,
                 ..
             },
-        ) => Ok(Progress::Over),
+        ) => Ok(None),
         Err(Refusal { error, .. }) => Err(error_of_refusal(error)),
     }
 }
 
-/// Takes the replies that wait, and sends them.
-pub fn deliver<L: Seating, C: Takings, W: Write>(
-    rt: &impl Wait,
+/// Hands bytes in with the clock's reading, and hands out what is owed. None where the connection had closed. Where a command of them is
+/// held back for want of memory, that is an error.
+pub fn hand_in<L: Seating, C: Takings, O: Write, K: Clock, T: Teller, R: Wait>(
+    rt: &R,
     shared: &SharedService<L, C>,
-    conn: Conn,
-    writer: &mut Watched<W>,
-) -> Result<(), RunError>
-    ensures ok { OnOk result (WritesTexts (λ text. ∥ WereUntaken C.service C.events C.untaken conn text ∥₁) 1 (W.contents (device writer.old)) (W.contents (device writer.new)) []) }
-    ensures err { OnErr result ((count : ℕ) × (rest : List ℕ) × WritesTexts (λ text. ∥ WereUntaken C.service C.events C.untaken conn text ∥₁) count (W.contents (device writer.old)) (W.contents (device writer.new)) rest) }
-    ensures write { IsErrOf result RunError.Write → HasFailed (failures writer.old) (failures writer.new) }
-    ensures used_up { IsErrOf result RunError.UsedUp → HasFailed (failures writer.old) (failures writer.new) }
-    ensures causes { IfErr result (λ e. (e ≢ RunError.Read) × (e ≢ RunError.Moment)) }
-    ensures count { failures writer.old ≤ failures writer.new }
+    seat: &mut Seat<L>,
+    session: &mut Session<C>,
+    piece: &[u8],
+    writer: &mut Watched<O>,
+    clock: &mut K,
+    teller: &mut T,
+) -> Result<Option<Footing>, RunError>
+    requires short { count_by (λ byte. byte == 10) piece.now ≤ 16 }
+    ensures conn { session.new.conn ≡ session.old.conn }
+    ensures goes { Attends O.contents K.reads asks_nobody session.old result piece.now (spot seat.old writer.old clock.old tt) (spot seat.new writer.new clock.new tt) }
 {
-    let Ok(replies) = shared.take_output(rt, conn) else {
-        return Err(RunError::OutOfMemory);
+    let moment = clock.now();
+    let turn = match feed(rt, shared, seat, session, piece, moment) {
+        Ok(Some(turn)) => turn,
+        Ok(None) => return Ok(None),
+        Err(error) => return Err(error),
     };
-    match send_whole(replies.as_slice(), writer) {
-        Ok(()) => Ok(()),
+    let Turn { output, owed } = turn;
+    session.may_hold = false;
+    match hand_out(rt, shared, session, owed, writer, teller) {
+        Ok(footing) => match output {
+            Output::Held => Err(RunError::OutOfMemory),
+            _ => Ok(Some(footing)),
+        },
         Err(error) => Err(error),
     }
 }
 
-/// Sends all of a text, and has the writer hand it on.
-fn send_whole<W: Write>(text: &[u8], writer: &mut Watched<W>) -> Result<(), RunError>
-    ensures ok { OnOk result (SentBut [] text.now (W.contents (device writer.old)) (W.contents (device writer.new))) }
-    ensures err { OnErr result ((rest : List ℕ) × SentBut rest text.now (W.contents (device writer.old)) (W.contents (device writer.new))) }
-    ensures cause { OnErr result (HasFailed (failures writer.old) (failures writer.new)) }
-    ensures causes { IfErr result (λ e. (e ≢ RunError.Read) × (e ≢ RunError.Moment)) }
-    ensures count { failures writer.old ≤ failures writer.new }
-{
-    if text.is_empty() {
-        return Ok(());
-    }
-    match send(text, writer) {
-        Ok(()) => {}
-        Err(error) => return Err(error_of_send(error)),
-    }
-    match writer.flush() {
-        Ok(()) => Ok(()),
-        Err(_) => Err(RunError::Write),
-    }
-}
-
-/// Tells the notes that wait.
-pub fn tell_notes<L: Seating, C: Takings, T: Teller, R: Wait>(
+/// Hands a cut of a piece in, and settles the loads that have gone out. None where the connection had closed.
+fn answer_cut<L: Seating, C: Takings, O: Write, K: Clock, D: Loader, T: Teller, R: Wait>(
     rt: &R,
-    shared: &SharedService<L, C>,
-    namespace: u64,
-    teller: &mut T,
-) {
-    if !teller.is_told() {
-        return;
-    }
-    for _note in 0..u64::MAX {
-        match shared.next_notice(rt, namespace) {
-            Ok(Some(note)) => teller.tell(rt, &note),
-            _ => return,
-        }
-    }
-}
-
-/// Whether a connection goes on: not where it has closed.
-fn progress_of<L: Seating, C: Takings>(
-    rt: &impl Wait,
-    shared: &SharedService<L, C>,
-    conn: Conn,
-) -> Progress {
-    match shared.closed(rt, conn) {
-        Ok(None) => Progress::More,
-        _ => Progress::Over,
-    }
-}
-
-/// Hands a piece in with the clock's reading. It is over where the connection was closed before.
-pub fn hand_in<L: Seating, C: Takings, K: Clock, T: Teller, R: Wait>(
-    rt: &R,
-    alloc: Global,
     shared: &SharedService<L, C>,
     seat: &mut Seat<L>,
-    conn: Conn,
-    piece: &[u8],
-    clock: &mut K,
-    teller: &mut T,
-) -> Result<Progress, RunError>
-    ensures one { seat.new.count ≤ seat.old.count + 1 }
-    ensures count { seat.old.count ≤ seat.new.count }
-    ensures over { result ≡ Ok Progress.Over → seat.new.count ≡ seat.old.count }
-    ensures moment { IsErrOf result RunError.Moment → HasToldLate K.reads clock.new }
-    ensures used_up { IsErrOf result RunError.UsedUp → HasUsedUp C.events seat.old.count seat.new.count }
-    ensures causes { IfErr result (λ e. (e ≢ RunError.Read) × (e ≢ RunError.Write)) }
-    ensures told { (moment : ℕ) × K.reads clock.old moment clock.new × (C.KEEPS ≡ true → AsksOrNot conn.namespace seat.old.receipts.items seat.new.receipts.items (feed_input conn (record { bytes = piece.now; moment = moment }))) × (C.KEEPS ≡ true → result ≡ Ok Progress.More → Asks conn.namespace seat.old.receipts.items seat.new.receipts.items (feed_input conn (record { bytes = piece.now; moment = moment }) ∷ [])) }
-{
-    let moment = clock.now();
-    let outcome = feed_piece(rt, alloc, shared, seat, conn, piece, moment);
-    tell_notes(rt, shared, conn.namespace, teller);
-    outcome
-}
-
-/// Reads a piece, hands it in, sends its replies, and settles the loads that have gone out. Nothing more is read before that is done.
-pub fn take_turn<
-    L: Seating,
-    C: Takings,
-    I: Read,
-    O: Write,
-    K: Clock,
-    D: Loader,
-    T: Teller,
-    R: Wait,
->(
-    rt: &R,
-    alloc: Global,
-    shared: &SharedService<L, C>,
-    seat: &mut Seat<L>,
-    conn: Conn,
-    buffer: &mut [u8],
-    taken: &mut Vec<(LoadId, Bytes)>,
-    reader: &mut Watched<I>,
+    session: &mut Session<C>,
+    cut: &[u8],
     writer: &mut Watched<O>,
     clock: &mut K,
     loader: &mut D,
     teller: &mut T,
-) -> Result<Progress, RunError>
-    requires out { AreOut C.service C.events conn.namespace taken.old.items }
-    ensures out { AreOut C.service C.events conn.namespace taken.new.items }
-    ensures ok { OnOk result (WritesAll (λ text. ∥ WereUntaken C.service C.events C.untaken conn text ∥₁) seat.old.count seat.new.count (O.contents (device writer.old)) (O.contents (device writer.new))) }
-    ensures err { OnErr result (WritesThenFails (λ text. ∥ WereUntaken C.service C.events C.untaken conn text ∥₁) seat.old.count seat.new.count (O.contents (device writer.old)) (O.contents (device writer.new))) }
-    ensures count { seat.old.count ≤ seat.new.count }
-    ensures read { IsErrOf result RunError.Read → HasFailed (failures reader.old) (failures reader.new) }
-    ensures write { IsErrOf result RunError.Write → HasFailed (failures writer.old) (failures writer.new) }
-    ensures used_up { IsErrOf result RunError.UsedUp → HasFailed (failures writer.old) (failures writer.new) ⊎ HasUsedUp C.events seat.old.count seat.new.count }
-    ensures moment { IsErrOf result RunError.Moment → HasToldLate K.reads clock.new }
-    ensures reads { failures reader.old ≤ failures reader.new }
-    ensures writes { failures writer.old ≤ failures writer.new }
-    ensures loader { HasAskedSome D.loads loader.old loader.new }
-    ensures asked { C.KEEPS ≡ true → result ≡ Ok Progress.More → Feeds (HadGoneOut C.service C.events) (IsUnfit C.service C.events) K.reads D.loads seat.old.receipts.items seat.new.receipts.items (I.remaining (device reader.old)) (I.remaining (device reader.new)) clock.old clock.new loader.old loader.new conn [] [] }
-    ensures left { C.KEEPS ≡ true → FeedsMost (HadGoneOut C.service C.events) (IsUnfit C.service C.events) K.reads D.loads seat.old.receipts.items seat.new.receipts.items (I.remaining (device reader.old)) (I.remaining (device reader.new)) clock.old clock.new loader.old loader.new conn }
+) -> Result<Option<Footing>, RunError>
+    requires short { count_by (λ byte. byte == 10) cut.now ≤ 16 }
+    ensures conn { session.new.conn ≡ session.old.conn }
+    ensures goes { Attends O.contents K.reads D.loads session.old result cut.now (spot seat.old writer.old clock.old loader.old) (spot seat.new writer.new clock.new loader.new) }
 {
-    let count = match reader.read(buffer) {
-        Ok(count) => count,
-        Err(error) => {
-            if error.kind() == ErrorKind::Interrupted {
-                return Ok(Progress::More);
-            }
-            return Err(RunError::Read);
-        }
-    };
-    if count == 0 {
-        return Ok(Progress::Over);
-    }
-    match hand_in(
-        rt,
-        alloc,
-        shared,
-        seat,
-        conn,
-        &buffer[..count],
-        clock,
-        teller,
-    ) {
-        Ok(Progress::More) => {}
-        Ok(Progress::Over) => return Ok(Progress::Over),
+    let footing = match hand_in(rt, shared, seat, session, cut, writer, clock, teller) {
+        Ok(Some(footing)) => footing,
+        Ok(None) => return Ok(None),
         Err(error) => return Err(error),
-    }
+    };
     match settle_loads(
-        rt, alloc, shared, seat, conn, taken, writer, clock, loader, teller,
+        rt, shared, seat, session, footing, writer, clock, loader, teller,
     ) {
-        Ok(Progress::More) => Ok(progress_of(rt, shared, conn)),
-        Ok(Progress::Over) => Ok(Progress::Over),
+        Ok(footing) => Ok(footing),
         Err(error) => Err(error),
     }
+}
+
+/// Hands a piece in by cuts of a few lines, so that no cut holds the lock for long. Each comes when the replies of the one before were
+/// sent and its loads settled; none behind one that was refused, or behind the closing. None where the connection has closed.
+pub fn answer_piece<L: Seating, C: Takings, O: Write, K: Clock, D: Loader, T: Teller, R: Wait>(
+    rt: &R,
+    shared: &SharedService<L, C>,
+    seat: &mut Seat<L>,
+    session: &mut Session<C>,
+    piece: &[u8],
+    writer: &mut Watched<O>,
+    clock: &mut K,
+    loader: &mut D,
+    teller: &mut T,
+) -> Result<Option<Footing>, RunError>
+    ensures conn { session.new.conn ≡ session.old.conn }
+    ensures goes { Attends O.contents K.reads D.loads session.old result piece.now (spot seat.old writer.old clock.old loader.old) (spot seat.new writer.new clock.new loader.new) }
+{
+    let mut rest = piece;
+    'cuts: while !rest.is_empty() {
+        let length = length_of_cut(rest, session.pace.next_lines());
+        match answer_cut(
+            rt,
+            shared,
+            seat,
+            session,
+            &rest[..length],
+            writer,
+            clock,
+            loader,
+            teller,
+        ) {
+            Ok(Some(Footing::Ready)) => {}
+            Ok(_) => return Ok(None),
+            Err(error) => return Err(error),
+        }
+        rest = &rest[length..];
+    }
+    Ok(Some(Footing::Ready))
 }

@@ -3,8 +3,8 @@ ghost use Rattle.std.specs.Prelude.{◌≡◌, IfSome};
 
 use audit_model::{Config, EvictionPolicy, Instant, Note, Outcome, Weight};
 use cache_devices::{Clock, Loader};
-use cache_live::LiveService;
 use cache_serve::{Devices, Teller};
+use cache_shared::LiveService;
 use rand_core::SeedableRng;
 use rand_xoshiro::Xoshiro256PlusPlus;
 use std::alloc::Global;
@@ -73,10 +73,9 @@ impl Teller for Counter {
         true
     }
 
-    fn tell<R: Wait>(&mut self, rt: &R, note: &Note) {
+    fn tell<R: Wait>(&mut self, rt: &R, notes: &[Note]) {
         let _rt = rt;
-        let _note = note;
-        self.told.fetch_add(1, Ordering::SeqCst);
+        self.told.fetch_add(notes.len() as u64, Ordering::SeqCst);
     }
 }
 

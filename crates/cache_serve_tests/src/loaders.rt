@@ -1,8 +1,7 @@
 //! Loaders that are held, and writers that fail.
 use audit_model::{Bytes, Conn, Outcome, Seq};
 use cache_devices::Loader;
-use cache_live::LiveService;
-use cache_shared::{Seating, SharedService};
+use cache_shared::{LiveService, Seating, SharedService};
 use std::alloc::Global;
 use std::io::{ErrorKind, Write};
 use std::sync::atomic::{AtomicU64, Ordering};

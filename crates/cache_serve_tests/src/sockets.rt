@@ -2,9 +2,8 @@
 ghost use Rattle.std.specs.Prelude.{◌≡◌, ◌+◌, ◌<◌};
 
 use crate::devices::{Plain, make_core};
-use cache_live::LiveService;
 use cache_serve::{Hosted, host};
-use cache_shared::{Seating, SharedService};
+use cache_shared::{LiveService, Seating, SharedService};
 use std::alloc::Global;
 use std::io::{Read, Write};
 use std::marker::Brand;

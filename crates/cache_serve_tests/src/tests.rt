@@ -3,7 +3,7 @@ use crate::rows::{Row, first_wrong};
 use crate::sockets::{Served, serve_past_failures, serve_two};
 use crate::waiting::await_other;
 use audit_model::Closing;
-use cache_run::RunError;
+use cache_devices::RunError;
 use std::test::*;
 
 /// Whether the replies and the events are those of the two clients below, and the replaced value was told.
@@ -57,6 +57,18 @@ const ROWS: &[Row<'static>] = &[
         texts: (b"LOAD b\n", b""),
         replies: (b"VAL v\n", b""),
         asked: 2,
+        ..ALONE
+    },
+    // More lines than are handed in at once, and one behind the closing.
+    Row {
+        texts: (
+            b"GET a\nGET a\nGET a\nGET a\nGET a\nGET a\nGET a\nGET a\nGET a\nGET a\nGET a\nGET a\nGET a\nGET a\nGET a\nGET a\nGET a\nQUIT\nGET a\n",
+            b"",
+        ),
+        replies: (
+            b"NONE\nNONE\nNONE\nNONE\nNONE\nNONE\nNONE\nNONE\nNONE\nNONE\nNONE\nNONE\nNONE\nNONE\nNONE\nNONE\nNONE\nOK\n",
+            b"",
+        ),
         ..ALONE
     },
     // A loader always asks for a give-up.

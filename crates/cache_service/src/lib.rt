@@ -4,11 +4,12 @@
 //! The types of configurations, inputs and transcripts are `moka_audit`'s.
 #![tactic(auto)]
 
-pub use cache_devices::{Clock, Loader, Watched};
-pub use cache_live::LiveService;
+pub use cache_devices::{Clock, Loader, RunError, Watched};
 pub use cache_play::play;
 pub use cache_reading::ReadService;
-pub use cache_run::{RunError, run};
+pub use cache_run::run;
 pub use cache_serve::{Devices, Hosted, Teller, Untold, host, serve, serve_and_tell};
-pub use cache_shared::{Core, Finished, Replies, Seat, Seating, SharedService, Takings};
-pub use cache_spaces::{AnswerError, Fed, Output, RecordedService, Refusal, Service};
+pub use cache_shared::{
+    Finished, LiveService, Replies, Seat, Seating, SharedService, Stepping, Takings,
+};
+pub use cache_spaces::{AnswerError, Core, Fed, Output, RecordedService, Refusal, Service};

@@ -81,6 +81,26 @@ fn idle_values_end(rt: HostRuntime) {
     none_wrong(&rt, first_wrong(rt.alloc(), idle, IDLE_VALUES_END));
 }
 
+const LIVE_VALUES_END: &[Row<'static>] = &[
+    Row::Says(0, b"SET a - 1\n", b"OK\n"),
+    Row::Says(6_999_999, b"GET a\n", b"VAL 1\n"),
+    Row::Says(6_999_999, b"SYNC\n", b"SYNC 1 1\n"),
+    // a use does not prolong it
+    Row::Says(7_000_000, b"GET a\n", b"NONE\n"),
+    Row::Says(7_000_000, b"SYNC\n", b"SYNC 0 0\n"),
+    Row::Tells(RemovalCause::Expired, b"a", b"1"),
+    Row::TellsNone,
+];
+
+#[test]
+fn live_values_end(rt: HostRuntime) {
+    let live = Config {
+        live_ms: Some(7),
+        ..PLAIN
+    };
+    none_wrong(&rt, first_wrong(rt.alloc(), live, LIVE_VALUES_END));
+}
+
 const OWN_DEADLINES_END_VALUES: &[Row<'static>] = &[
     Row::Says(0, b"SET a 1 x\n", b"OK\n"),
     Row::Says(999_423, b"GET a\n", b"VAL x\n"),

@@ -1,18 +1,12 @@
-//! Tests of the service: rows of requests, refusals, journals.
+//! Tests of the service: rows of requests and refusals.
 #![tactic(auto)]
 
-#[cfg(test)]
-mod asking;
 #[cfg(test)]
 mod commanding;
 #[cfg(test)]
 mod limiting;
 #[cfg(test)]
 mod parting;
-#[cfg(test)]
-mod playing;
-#[cfg(test)]
-mod recording;
 #[cfg(test)]
 mod refusing;
 #[cfg(test)]

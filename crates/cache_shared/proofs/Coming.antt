@@ -1,7 +1,6 @@
 -- What an input that happened came to.
-use Rattle.std.proofs.Common.{◌≡◌, ℕ, suc, ◌<◌, Bool, true, false, List, Option, Some, None, length, eqb, refl, sym, ap, subst, ◌∙◌, arith, rules}
-use Rattle.std.specs.Prelude.{IsTrue, if◌then◌else◌, ◌==◌}
-use Rattle.std.specs.List.{slice_get}
+use Rattle.std.proofs.Common.{◌≡◌, ℕ, suc, Bool, true, false, List, Some, None, eqb, refl, sym, subst, arith, rules}
+use Rattle.std.specs.Prelude.{Result, Ok, Err, IfOk, IsTrue, if◌then◌else◌, ◌==◌}
 use Rattle.std.proofs.Math.Logic.{∥∥₁_elim}
 use Rattle.std.proofs.Props.{props}
 use Rattle.std.proofs.lemmas.Option.{none-some, same_Some, slice_get_within}
@@ -11,13 +10,13 @@ use Rattle.audit_model.specs.declared.event.Event.TheVariants as event
 use Rattle.audit_model.specs.declared.input.Input.{Input}
 use Rattle.audit_model.specs.declared.input.Input.TheVariants as input
 use Rattle.audit_model.specs.declared.transcript.Step.{Step}
-use Rattle.audit_receipts.specs.Answers.{last_is_held, output_of, output_with}
+use Rattle.audit_receipts.specs.Answers.{last_is_held, output_with}
 use Rattle.audit_receipts.specs.declared.output.Output.{Output}
 use Rattle.audit_receipts.specs.declared.output.Output.TheVariants.{All, Held}
 use Rattle.cache_shared.specs.Events.{Performs, IsReached, is_fed, is_output_for}
 use Rattle.cache_spaces.proofs.Journaling.{got}
-use Rattle.cache_spaces.specs.Recorded.{namespace_of}
-use Rattle.cache_spaces.specs.declared.space.Space.{Space}
+use Rattle.cache_spaces.specs.Inputs.{namespace_of}
+use Rattle.cache_spaces.specs.Spaces.{Shown}
 
 chosen : {X : Type 0} (b : Bool) (x y : X) → (if b then Some x else None) ≡ Some y → x ≡ y
 chosen true x y e = same_Some x y e
@@ -44,7 +43,7 @@ comes (input.GiveUp load moment) opened happened steps e =
     subst (λ h. IsTrue (is_output_for (input.GiveUp load moment) (output_with load.namespace h steps)))
     (chosen (load.namespace == load.namespace) (event.GiveUp load.number moment) happened e) refl
 
-came : (i : Input) (output : Output) (old new : List Space) (events : ℕ) → IsReached old events → Performs i output old new → IsTrue (is_output_for i output)
+came : (i : Input) (output : Output) (old new : List Shown) (events : ℕ) → IsReached old events → Performs i output old new → IsTrue (is_output_for i output)
 came i output old new events r a =
     let k = namespace_of i in
     let lt = slice_get_within old k a.was a.at in
@@ -53,5 +52,9 @@ came i output old new events r a =
     let h = a.fact.from l.last l.stands in
     subst (λ o. IsTrue (is_output_for i o)) (sym h.answers) (comes i _ h.entry.event h.entry.steps h.event)
 
-pub came-so : (i : Input) (output : Output) (old new : List Space) (events : ℕ) → ∥ IsReached old events ∥₁ → Performs i output old new → IsTrue (is_output_for i output)
+came-so : (i : Input) (output : Output) (old new : List Shown) (events : ℕ) → ∥ IsReached old events ∥₁ → Performs i output old new → IsTrue (is_output_for i output)
 came-so i output old new events reached done = ∥∥₁_elim reached (Prim.hlevel props) (λ w. came i output old new events w done)
+
+pub came-result : {E : Type 0} (i : Input) (r : Result Output E) (old new : List Shown) (events : ℕ) → ∥ IsReached old events ∥₁ → IfOk r (λ output. Performs i output old new) → IfOk r (λ output. IsTrue (is_output_for i output))
+came-result i (Ok output) old new events reached done = came-so i output old new events reached done
+came-result i (Err e) old new events reached done = done

@@ -6,8 +6,7 @@ use Rattle.std.proofs.lemmas.List.Sums.{sum_by-cons}
 use Rattle.std.proofs.lemmas.Option.{none-some, same_Some}
 use Rattle.audit_model.specs.declared.transcript.Transcript.{Transcript}
 use Rattle.audit_model.specs.declared.event.Instant.{Instant}
-use Rattle.cache_spaces.specs.Recorded.{AreEmpty}
-use Rattle.cache_shared.specs.Events.{record_count}
+use Rattle.cache_shared.specs.Events.{AreEmpty, record_count}
 
 -- where one of the summands is greater by one, so is the sum
 sum-set : {X : Type 0} (f : X → ℕ) (xs : List X) (k : ℕ) (was is : X) → slice_get xs k ≡ Some was → f is ≡ f was + 1 → sum_by f (slice_set xs k is) ≡ sum_by f xs + 1

@@ -74,7 +74,7 @@ gains-result Number i (Ok output) before mid k m old list same lt value e (numbe
 )
 gains-result Number i (Err x) before mid k m old list same lt value e kept = tt
 
-pub stays-result : {E : Type 0} (r : Result Output E) (before mid : List (Vec Receipt Global)) (k : ℕ) (old list : Vec Receipt Global)
-    → SameReceipts before mid → k < length mid → old ≡ get_or mid k old → OnErr r (list.items ≡ old.items) → OnErr r (SameReceipts before (slice_set mid k list))
-stays-result (Ok output) before mid k old list same lt value kept = tt
-stays-result (Err e) before mid k old list same lt value kept = stays before mid k old list same lt (kept ∙ ap (λ (v : Vec Receipt Global). v.items) value)
+pub stays-result : {E : Type 0} (Nothing Uncounted : Type 0) (r : Result Output E) (before mid : List (Vec Receipt Global)) (k : ℕ) (old list : Vec Receipt Global)
+    → SameReceipts before mid → k < length mid → old ≡ get_or mid k old → OnErr r (Nothing × Uncounted × (list.items ≡ old.items)) → OnErr r (Nothing × Uncounted × SameReceipts before (slice_set mid k list))
+stays-result Nothing Uncounted (Ok output) before mid k old list same lt value kept = tt
+stays-result Nothing Uncounted (Err e) before mid k old list same lt value kept = (kept.0, kept.1, stays before mid k old list same lt (kept.2 ∙ ap (λ (v : Vec Receipt Global). v.items) value))

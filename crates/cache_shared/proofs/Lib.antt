@@ -2,7 +2,8 @@ pub mod Coming
 pub mod Agreeing
 pub mod Counting
 pub mod Keeping
-pub mod Marked
-pub mod Performing
-mod UsedUp
+mod Living
 pub mod Looking
+pub mod Marked
+mod Moving
+pub mod Performing

@@ -1,106 +1,147 @@
--- What is recorded happens.
-use Rattle.std.proofs.Common.{◌≡◌, ℕ, zero, suc, ◌+◌, ◌≤◌, List, [], ◌∷◌, ◌++◌, length, length-append, Some, refl, sym, ap, ◌∙◌, arith, inr}
+-- What a service does with an input, as its namespaces are seen whatever their tapes are.
+use Rattle.std.proofs.Common.{◌⊎◌, ◌≡◌, ℕ, zero, suc, ◌+◌, ◌≤◌, List, [], ◌∷◌, length, length-append, map, Option, Some, refl, sym, ap, ◌∙◌, subst, arith, inl, inr, Vec, Global}
 use Rattle.std.specs.Prelude.{slice_set, Result, Ok, Err, OnOk, OnErr, IfOk, IfErr}
 use Rattle.std.specs.List.{slice_get}
-use Rattle.std.proofs.lemmas.Option.{none-some}
+use Rattle.std.proofs.Math.Logic.{∥∥₁_elim}
+use Rattle.std.proofs.Props.{props}
+use Rattle.std.proofs.lemmas.Option.{same_Some, slice_get_within}
+use Rattle.audit_model.specs.declared.config.Config.{Config}
+use Rattle.audit_model.specs.declared.event.Instant.{Instant}
 use Rattle.audit_model.specs.declared.input.Input.{Input}
-use Rattle.audit_model.specs.declared.transcript.Record.{Record}
+use Rattle.audit_model.specs.declared.input.LoadId.{LoadId}
+use Rattle.audit_model.specs.declared.input.ServiceError.{ServiceError}
+use Rattle.audit_model.specs.declared.input.ServiceError.TheVariants as error
 use Rattle.audit_model.specs.declared.transcript.Transcript.{Transcript}
 use Rattle.audit_receipts.specs.declared.output.Output.{Output}
-use Rattle.cache_spaces.proofs.Journaling.{were-led, were-obeys, were-count}
-use Rattle.cache_spaces.specs.Outputs.{output_after, output_for}
-use Rattle.cache_spaces.specs.Played.{WerePlayed}
-use Rattle.cache_spaces.specs.Recorded.{RecordsAt, RefusedInput, namespace_of}
-use Rattle.cache_spaces.specs.Services.{Refuses}
-use Rattle.cache_spaces.specs.declared.journals.Refusal.{Refusal}
-use Rattle.cache_spaces.specs.declared.space.Space.{Space}
-use Rattle.cache_shared.specs.Events.{Performs, IsReached, RecordedAs, RefusesEvent, record_count}
-use Rattle.cache_shared.proofs.Counting.{count-more}
+use Rattle.cache_spaces.proofs.Journaling.{got, journal-at, mapped, were-journals, were-led}
+use Rattle.cache_spaces.proofs.Showing.{at-shown, in-shown, length-shown, map-set, performs-shown, refused-shown, refuses-shown}
+use Rattle.cache_spaces.specs.Calls.{At, InSpace, IsOpened, IsUnknown, Refuses, TakesLoads}
+use Rattle.cache_spaces.specs.Inputs.{Performs, RefusedInput, namespace_of}
+use Rattle.cache_spaces.specs.Journals.{journals_of, kept_by}
+use Rattle.cache_spaces.specs.Played.{WerePlayed, journal_of}
+use Rattle.cache_spaces.specs.Services.{AreNew, blank_tape}
+use Rattle.cache_spaces.specs.Spaces.{Shown, Space, shown}
+use Rattle.cache_spaces.specs.declared.stepping.Refusal.{Refusal}
+use Rattle.cache_shared.specs.Events as events
+use Rattle.cache_shared.specs.Events.{IsReached, RefusesEvent, TakesNothing, record_count}
+use Rattle.cache_shared.proofs.Counting.{count-empty, count-more}
+use Rattle.cache_tape.specs.Taped.{Taped, with_entry}
 
--- what was put at a place stands there
-set-there : {X : Type 0} (xs : List X) (k : ℕ) (was is : X) → slice_get xs k ≡ Some was → slice_get (slice_set xs k is) k ≡ Some is
-set-there [] k was is at = absurd (none-some was at)
-set-there (x ∷ xs) zero was is at = refl
-set-there (x ∷ xs) (suc k) was is at = set-there xs k was is at
+-- namespaces, as they are seen whatever their tapes are
+abbrev pub all-shown : List (Space Taped) → List Shown
+all-shown spaces = map (shown kept_by) spaces
 
-output-snoc : (namespace : ℕ) (records : List Record) (entry : Record) → output_after namespace (records ++ entry ∷ []) ≡ output_for namespace entry
-output-snoc namespace [] entry = refl
-output-snoc namespace (x ∷ []) entry = refl
-output-snoc namespace (x ∷ y ∷ records) entry = output-snoc namespace (y ∷ records) entry
+module _ {T : Type 0} (tape : T → Option Taped) where
+  pub performs : {E : Type 0} (i : Input) (r : Result Output E) (old new : List (Space T)) → IfOk r (λ output. At old new (namespace_of i) (Performs tape i output)) → IfOk r (λ output. events.Performs i output (map (shown tape) old) (map (shown tape) new))
+  performs i (Ok output) old new taken = at-shown (shown tape) old new (namespace_of i) (λ was is p. performs-shown tape i output was is p) taken
+  performs i (Err e) old new taken = taken
 
-pub performs : (i : Input) (output : Output) (before after : List Transcript) (old new : List Space) → RecordedAs i output before after old new → Performs i output old new
-performs i output before after old new h =
-    let r = h.added in
-    let j = r.fact in
-    let entry = j.fact.1.records.entry in
-    let here : slice_get after (namespace_of i) ≡ Some j.is =
-    ap (λ xs. slice_get xs (namespace_of i)) j.set ∙ set-there before (namespace_of i) j.was j.is j.at in
-    record {
-      was = r.was;
-      is = r.is;
-      at = r.at;
-      set = r.set;
-      fact = record {
-        from = λ s stands.
-            let l = j.fact.1.records.leads s stands in
-            record {
-              entry = entry;
-              event = j.fact.1.event ∙ ap Some (sym j.fact.1.records.event);
-              answers = h.came j.is here ∙ ap (output_after (namespace_of i)) j.fact.1.records.added ∙ output-snoc (namespace_of i) j.was.records entry;
-              leads = record { next = l.next; stands = l.stands; follows = l.follows; timely = l.timely; bounded = l.bounded; ordered = l.ordered };
-            };
-        config = j.fact.1.records.config;
-      };
-    }
+  refused-one : (i : Input) (e : ServiceError) (count : ℕ) (old : List (Space T)) → RefusesEvent i e count old → RefusesEvent i e count (map (shown tape) old)
+  refused-one i e count old (inl full) = inl full
+  refused-one i e count old (inr cause) = inr (refuses-shown (shown tape) old (namespace_of i) e (λ was c. refused-shown tape i e was c) cause)
 
-pub counts : (i : Input) (before after : List Transcript) (old new : List Space) → RecordsAt i before after old new → record_count after ≡ record_count before + 1
-counts i before after old new r =
-    let j = r.fact in
-    let entry = j.fact.1.records.entry in
-    count-more before after (namespace_of i) j.was j.is j.at j.set (ap length j.fact.1.records.added ∙ length-append j.was.records (entry ∷ []))
+  pub refused : {A : Type 0} (i : Input) (r : Result A Refusal) (count : ℕ) (old : List (Space T)) → IfErr r (λ refusal. RefusesEvent i refusal.error count old) → IfErr r (λ refusal. RefusesEvent i refusal.error count (map (shown tape) old))
+  refused i (Ok a) count old cause = cause
+  refused i (Err refusal) count old cause = refused-one i refusal.error count old cause
 
-pub recorded-result : {E : Type 0} (i : Input) (r : Result Output E) (before after : List Transcript) (old new : List Space)
-    → OnOk r (RecordsAt i before after old new)
-    → IfOk r (λ output. (journal : Transcript) → slice_get after (namespace_of i) ≡ Some journal → output ≡ output_after (namespace_of i) journal.records)
-    → IfOk r (λ output. RecordedAs i output before after old new)
-recorded-result i (Ok output) before after old new taken out = record { added = taken; came = out }
-recorded-result i (Err e) before after old new taken out = tt
+  -- takings and looks
 
-pub performs-result : {E : Type 0} (i : Input) (r : Result Output E) (before after : List Transcript) (old new : List Space)
-    → OnOk r (RecordsAt i before after old new)
-    → IfOk r (λ output. (journal : Transcript) → slice_get after (namespace_of i) ≡ Some journal → output ≡ output_after (namespace_of i) journal.records)
-    → IfOk r (λ output. Performs i output old new)
-performs-result i (Ok output) before after old new taken out = performs i output before after old new (record { added = taken; came = out })
-performs-result i (Err e) before after old new taken out = tt
+  pub loads-shown : (n : ℕ) (old new : List (Space T)) (r : Result (Vec (LoadId × List ℕ) Global) ServiceError) → IfOk r (λ loads. At old new n (λ was is. TakesLoads was is loads.items))
+      → IfOk r (λ loads. At (map (shown tape) old) (map (shown tape) new) n (λ was is. TakesLoads was is loads.items))
+  loads-shown n old new (Ok loads) taken = at-shown (shown tape) old new n (λ was is t. record { taken = t.taken; rest = ap (shown tape) t.rest; in_turn = t.in_turn; keys = t.keys }) taken
+  loads-shown n old new (Err e) taken = taken
 
-pub counts-result : {E : Type 0} (i : Input) (r : Result Output E) (before after : List Transcript) (old new : List Space)
-    → OnOk r (RecordsAt i before after old new) → OnOk r (record_count after ≡ record_count before + 1)
-counts-result i (Ok output) before after old new taken = counts i before after old new taken
-counts-result i (Err e) before after old new taken = tt
+  pub none-shown : {A : Type 0} (n : ℕ) (old : List (Space T)) (r : Result A ServiceError) → IfErr r (λ e. (e ≡ error.NoNamespace) × (length old ≤ n)) → IfErr r (λ e. (e ≡ error.NoNamespace) × (length (map (shown tape) old) ≤ n))
+  none-shown n old (Ok a) cause = cause
+  none-shown n old (Err e) cause = (cause.0, subst (λ k. k ≤ n) (sym (length-shown (shown tape) old)) cause.1)
+
+  pub look-shown : {A : Type 0} (of : Space T → A) (seen : Shown → A) (n number : ℕ) (spaces : List (Space T)) (r : Result A ServiceError) → ((x : Space T) → seen (shown tape x) ≡ of x)
+      → IfOk r (λ a. InSpace spaces n (λ space. IsOpened space number × (a ≡ of space))) → IfOk r (λ a. InSpace (map (shown tape) spaces) n (λ space. a ≡ seen space))
+  look-shown of seen n number spaces (Ok a) same looked = in-shown (shown tape) spaces n (λ x p. p.1 ∙ sym (same x)) looked
+  look-shown of seen n number spaces (Err e) same looked = looked
+
+  pub opened-shown : {A : Type 0} (n number : ℕ) (spaces : List (Space T)) (r : Result A ServiceError) → OnOk r (InSpace spaces n (λ space. IsOpened space number)) → OnOk r (InSpace (map (shown tape) spaces) n (λ space. IsOpened space number))
+  opened-shown n number spaces (Ok a) there = in-shown (shown tape) spaces n (λ x opened. opened) there
+  opened-shown n number spaces (Err e) there = there
+
+  pub unknown-shown : {A : Type 0} (n number : ℕ) (spaces : List (Space T)) (r : Result A ServiceError) → IfErr r (λ e. Refuses spaces n e (λ space. IsUnknown space number e))
+      → IfErr r (λ e. Refuses (map (shown tape) spaces) n e (λ space. IsUnknown space number e))
+  unknown-shown n number spaces (Ok a) cause = cause
+  unknown-shown n number spaces (Err e) cause = refuses-shown (shown tape) spaces n e (λ x u. record { unknown = u.unknown; error = u.error }) cause
+
+  pub unknown-or-full : {A : Type 0} (n number : ℕ) (spaces : List (Space T)) (r : Result A ServiceError) → IfErr r (λ e. (e ≡ error.OutOfMemory) ⊎ Refuses spaces n e (λ space. IsUnknown space number e))
+      → IfErr r (λ e. (e ≡ error.OutOfMemory) ⊎ Refuses (map (shown tape) spaces) n e (λ space. IsUnknown space number e))
+  unknown-or-full n number spaces (Ok a) cause = cause
+  unknown-or-full n number spaces (Err e) (inl full) = inl full
+  unknown-or-full n number spaces (Err e) (inr cause) = inr (refuses-shown (shown tape) spaces n e (λ x u. record { unknown = u.unknown; error = u.error }) cause)
+
+counts-one : (i : Input) (output : Output) (old new : List (Space Taped)) → WerePlayed old → At old new (namespace_of i) (Performs kept_by i output) → record_count (journals_of new) ≡ record_count (journals_of old) + 1
+counts-one i output old new w a =
+    let k = namespace_of i in
+    let l = were-led old k a.was w a.at in
+    let t = (a.fact.from l.last l.stands).turned in
+    let entry = (a.fact.from l.last l.stands).entry in
+    let journal : journal_of a.is ≡ with_entry entry (journal_of a.was) = ap (λ (x : Taped). x.journal) (same_Some a.is.tape _ t.kept) in
+    count-more (journals_of old) (journals_of new) k (journal_of a.was) (journal_of a.is) (journal-at old k a.was a.at) (ap journals_of a.set ∙ map-set journal_of old k a.is)
+    (ap (λ (x : Transcript). length x.records) journal ∙ length-append (journal_of a.was).records (entry ∷ []))
+
+pub counts : {E : Type 0} (i : Input) (r : Result Output E) (old new : List (Space Taped)) → ∥ WerePlayed old ∥₁ → IfOk r (λ output. At old new (namespace_of i) (Performs kept_by i output)) → OnOk r (record_count (journals_of new) ≡ record_count (journals_of old) + 1)
+counts i (Ok output) old new played taken = ∥∥₁_elim played (Prim.hlevel props) (λ w. counts-one i output old new w taken)
+counts i (Err e) old new played taken = taken
+
+-- a service just made has no records
+pub counts-none : (configs : List Config) (generator : List ℕ) (made : Instant) (spaces : List (Space Taped)) → AreNew kept_by (Some (blank_tape made)) spaces configs generator made.nanos → record_count (journals_of spaces) ≡ 0
+counts-none configs generator made spaces new = count-empty made (journals_of spaces) (λ k journal at.
+    let x = mapped journal_of spaces k journal at in
+    let lt = slice_get_within spaces k x.0 x.1 in
+    let config = got configs k (let e = new.count in omega (arith, e, lt)) in
+    sym x.2 ∙ ap (λ (t : Taped). t.journal) (same_Some x.0.tape (blank_tape made) (new.each k config.0 x.0 config.1 x.1).taped))
+
+-- what is put in its own place
+pub set-same : {X : Type 0} (xs : List X) (n : ℕ) (x : X) → slice_get xs n ≡ Some x → slice_set xs n x ≡ xs
+set-same [] n x at = refl
+set-same (y ∷ ys) zero x at = ap (λ z. z ∷ ys) (sym (same_Some y x at))
+set-same (y ∷ ys) (suc n) x at = ap (λ l. y ∷ l) (set-same ys n x at)
+
+-- loads that are taken leave the journals
+pub loads-leave : (n : ℕ) (old new : List (Space Taped)) (r : Result (Vec (LoadId × List ℕ) Global) ServiceError) → IfOk r (λ loads. At old new n (λ was is. TakesLoads was is loads.items)) → OnErr r (new ≡ old)
+    → journals_of new ≡ journals_of old
+loads-leave n old new (Ok loads) a same =
+    ap journals_of a.set ∙ map-set journal_of old n a.is ∙ ap (λ x. slice_set (journals_of old) n (journal_of x)) a.fact.rest ∙ set-same (journals_of old) n (journal_of a.was) (journal-at old n a.was a.at)
+loads-leave n old new (Err e) a same = ap journals_of same
+
+-- what is refused leaves what is seen
+pub still : {C A E : Type 0} (spaces : C → List Shown) (events : C → ℕ) (r : Result A E) (old new : C) → OnErr r (new ≡ old) → OnErr r (TakesNothing spaces events old new)
+still spaces events (Ok a) old new same = same
+still spaces events (Err e) old new same = (ap events same, ap spaces same)
+
+pub refused-kept : {A : Type 0} (i : Input) (r : Result A Refusal) (count : ℕ) (old : List (Space Taped)) → IfErr r (λ refusal. Refuses old (namespace_of i) refusal.error (RefusedInput i refusal.error))
+    → IfErr r (λ refusal. RefusesEvent i refusal.error count (all-shown old))
+refused-kept i (Ok x) count old cause = cause
+refused-kept i (Err refusal) count old cause = refused-one kept_by i refusal.error count old (inr cause)
 
 -- a namespace that the service does not have has no journal
-pub none-result : {A E : Type 0} (P : E → Type 0) (r : Result A E) (n m k : ℕ) → n ≡ m → IfErr r (λ e. P e × (m ≤ k)) → IfErr r (λ e. n ≤ k)
-none-result P (Ok x) n m k same refused = tt
-none-result P (Err e) n m k same refused = let le = refused.1 in omega (arith, same, le)
+pub none-there : {A E : Type 0} (P : E → Type 0) (r : Result A E) (spaces : List (Space Taped)) (k : ℕ) → IfErr r (λ e. P e × (length spaces ≤ k)) → IfErr r (λ e. length (journals_of spaces) ≤ k)
+none-there P (Ok x) spaces k cause = cause
+none-there P (Err e) spaces k cause = subst (λ n. n ≤ k) (sym (length-shown journal_of spaces)) cause.1
 
-pub kept-result : {A E : Type 0} (P : E → Type 0) (r : Result A E) (m k : ℕ) → IfErr r (λ e. P e × (m ≤ k)) → OnErr r (m ≤ k)
-kept-result P (Ok x) m k refused = tt
-kept-result P (Err e) m k refused = refused.1
+pub kept-there : {A E : Type 0} (P : E → Type 0) (r : Result A E) (spaces : List (Space Taped)) (k : ℕ) → IfErr r (λ e. P e × (length spaces ≤ k)) → OnErr r (length (all-shown spaces) ≤ k)
+kept-there P (Ok x) spaces k cause = cause
+kept-there P (Err e) spaces k cause = subst (λ n. n ≤ k) (sym (length-shown (shown kept_by) spaces)) cause.1
 
--- a refusal of the service
-pub refused-result : {A : Type 0} (i : Input) (r : Result A Refusal) (events : ℕ) (old new : List Space)
-    → IfErr r (λ refusal. Refuses old new (namespace_of i) refusal.error (RefusedInput i refusal.error)) → IfErr r (λ refusal. RefusesEvent i refusal.error events old new)
-refused-result i (Ok x) events old new refused = tt
-refused-result i (Err refusal) events old new refused = inr refused
-
-pub reached : (spaces : List Space) (journals : List Transcript) → WerePlayed spaces journals → IsReached spaces (record_count journals)
-reached spaces journals w = record {
-  journals = journals;
+-- the journals that lead to where the namespaces stand
+pub reached : (spaces : List (Space Taped)) → WerePlayed spaces → IsReached (all-shown spaces) (record_count (journals_of spaces))
+reached spaces w = record {
+  journals = journals_of spaces;
   are = record {
-    count = were-count spaces journals w;
+    count = length-shown journal_of spaces ∙ sym (length-shown (shown kept_by) spaces);
     each = λ namespace space journal s j.
-        let o = were-obeys spaces journals namespace space journal w s j in
-        record { obeys = o.0; admitted = o.1; leads = were-led spaces journals namespace space journal w s j };
+        let x = mapped (shown kept_by) spaces namespace space s in
+        let same : journal_of x.0 ≡ journal = same_Some (journal_of x.0) journal (sym (journal-at spaces namespace x.0 x.1) ∙ j) in
+        let is = were-journals spaces ∣ w ∣₁ namespace x.0 x.1 in
+        let led = were-led spaces namespace x.0 w x.1 in
+        subst (λ t. events.IsJournal space t) same (subst (λ v. events.IsJournal v (journal_of x.0)) x.2
+        (record { obeys = is.obeys; admitted = is.admitted; leads = record { last = led.last; stands = record { held = led.stands.held; stands = led.stands.stands; is = led.stands.is }; leads = led.leads } }));
   };
   count = refl;
 }

@@ -3,3 +3,4 @@ pub mod Marks
 pub mod Seats
 pub mod Untaken
 pub mod Looked
+pub mod Live

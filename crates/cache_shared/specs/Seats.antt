@@ -1,5 +1,5 @@
 -- The receipts of seats.
-use Rattle.std.specs.Prelude.{◌≡◌, ◌≢◌, ℕ, ◌+◌, ◌<◌, ◌==◌, ◌++◌, List, [], ◌∷◌, length, Some, map, get_or, sum_by, count_by, Vec}
+use Rattle.std.specs.Prelude.{◌≡◌, ◌≢◌, ℕ, ◌+◌, ◌<◌, ◌==◌, ◌++◌, Bool, true, false, IsTrue, List, [], ◌∷◌, length, Some, map, get_or, sum_by, count_by, Vec}
 use Rattle.std.specs.List.{slice_get}
 use Rattle.std.specs.declared.alloc.Global.{Global}
 use Rattle.audit_model.specs.declared.input.Input.{Input}
@@ -8,7 +8,8 @@ use Rattle.audit_model.specs.declared.transcript.Transcript.{Transcript}
 use Rattle.audit_receipts.specs.Receipts.{AreOf, StandFrom}
 use Rattle.audit_receipts.specs.declared.output.Output.{Output}
 use Rattle.audit_receipts.specs.declared.receipt.Receipt.{Receipt}
-use Rattle.cache_spaces.specs.Recorded.{namespace_of}
+use Rattle.cache_shared.specs.Events.{IsLastNumber, is_output_for}
+use Rattle.cache_spaces.specs.Inputs.{namespace_of}
 
 -- the receipts of a namespace, where a seat keeps a list for each of the first namespaces, and the others have none
 abbrev pub receipts_at : List (Vec Receipt Global) → ℕ → List Receipt
@@ -26,6 +27,17 @@ pub record Gains (before after : List (Vec Receipt Global)) (namespace : ℕ) (r
 -- the receipt of an input that was taken
 abbrev pub receipt_for : Input → Output → ℕ → Receipt
 receipt_for i output number = record { namespace = namespace_of i; number = number; input = i; output = output }
+
+-- the receipt of an input that was taken, with the number of the last record of its journal
+abbrev pub GainsReceipt : List Transcript → List (Vec Receipt Global) → List (Vec Receipt Global) → Input → Output → Type 0
+GainsReceipt journals before after i output = (number : ℕ) × IsLastNumber journals (namespace_of i) number × Gains before after (namespace_of i) (receipt_for i output number)
+
+-- A seat counts an input that was taken, and has a receipt of it where the service keeps journals.
+pub record Counts (keeps : Bool) (i : Input) (output : Output) (count later : ℕ) (before after : List (Vec Receipt Global)) : Type 0 where
+  pub one : later ≡ count + 1
+  pub receipt : keeps ≡ true → (number : ℕ) × Gains before after (namespace_of i) (receipt_for i output number)
+  pub bare : keeps ≡ false → SameReceipts before after
+  pub fits : IsTrue (is_output_for i output)
 
 -- how many receipts have this number
 abbrev pub numbered : ℕ → List Receipt → ℕ

@@ -1,22 +1,17 @@
 //! What lies under the lock.
-ghost use Rattle.std.specs.Prelude.{◌≡◌, ℕ, ◌+◌, ◌≤◌, ◌<◌, ◌++◌, ◌∷◌, ◌⊎◌, [], true, false, Some, length, map, sum_by, vec_len, vec_capacity, IfOk, IfErr, IsTrue, OnOk, OnErr};
-ghost use Rattle.std.specs.List.{slice_get};
-ghost use Rattle.audit_model.specs.Situation.{Situation};
-ghost use Rattle.audit_model.specs.declared.transcript.Transcript.{Transcript};
-ghost use Rattle.cache_namespace.specs.Taken.{is_waiting_in};
-ghost use Rattle.cache_shared.specs.Events.{IsLate, IsUsedUp, Performs, IsReached, RefusesStep, is_output_for};
+ghost use Rattle.std.specs.Prelude.{◌≡◌, ℕ, ◌+◌, ◌≤◌, ◌<◌, ◌++◌, ◌∷◌, ◌⊎◌, [], true, false, length, map, sum_by, vec_len, vec_capacity, IfOk, IfErr, OnOk, OnErr};
+ghost use Rattle.cache_shared.specs.Events.{IsLastNumber, IsReached, Performs, RefusesStep, TakesNothing};
 ghost use Rattle.cache_shared.specs.Looked.{WasOldestNote, HeldAtSomeMoment};
-ghost use Rattle.cache_shared.specs.Seats.{AgreeAll, Gains, SameReceipts, receipt_for};
-ghost use Rattle.cache_spaces.specs.Recorded.{namespace_of};
-ghost use Rattle.cache_spaces.specs.Serves.{IsUnknown};
-ghost use Rattle.cache_spaces.specs.Services.{InSpace, RefusesLook, spaces_of};
-ghost use Rattle.cache_spaces.specs.Spaces.{StandsFor, closing_of};
+ghost use Rattle.cache_shared.specs.Seats.{AgreeAll, GainsReceipt, SameReceipts, receipt_for};
+ghost use Rattle.cache_spaces.specs.Inputs.{namespace_of};
+ghost use Rattle.cache_spaces.specs.Calls.{InSpace, IsUnknown, Refuses};
+ghost use Rattle.cache_spaces.specs.Spaces.{closing_of, is_waiting_for};
 
 use crate::judging::agree;
 use crate::loads::{TakenLoads, take_loads};
 use crate::replies::{Replies, take_replies};
 use crate::seat::{Seat, Seating, make_lists, namespace_of};
-use crate::service_core::{Core, Takings};
+use crate::service_core::{Stepping, Takings};
 use audit_model::{Closing, Conn, Input, Note, ServiceError};
 use audit_receipts::{Receipt, copy_input};
 use cache_spaces::{Output, Refusal};
@@ -25,7 +20,7 @@ use std::sync::ledger::{Blank, Book, Share};
 
 /// The service under the lock, with the book of all seats' events and the parts that no seat has.
 #[derive(Drop)]
-pub struct Desk<L: Seating, C: Core> {
+pub struct Desk<L: Seating, C: Stepping> {
     pub(crate) core: C,
     book: Book<L>,
     rest: Share<L>,
@@ -40,14 +35,14 @@ pub struct Desk<L: Seating, C: Core> {
 
 /// What `SharedService::finish` gives: the service, and what its seats can show by its journals.
 #[derive(Drop)]
-pub struct Finished<C: Core> {
+pub struct Finished<C: Stepping> {
     /// The service, which took as many inputs as the seats count together.
     pub service: C,
     /// For each seat, in the order in which they were handed in, a list of receipts for each namespace up to the last one that it used.
     pub receipts: Vec<Vec<Vec<Receipt>>>,
 }
 
-impl<L: Seating, C: Core> Desk<L, C> {
+impl<L: Seating, C: Stepping> Desk<L, C> {
     /// A desk without seats, over a service of no events. Its ledger is cut into `parts`, one for each seat.
     pub fn new(core: C, blank: Blank, parts: u64) -> Desk<L, C>
         requires empty { C.events core ≡ 0 }
@@ -104,18 +99,13 @@ impl<L: Seating, C: Core> Desk<L, C> {
         seat: &mut Seat<L>,
         input: Input,
     ) -> Result<Output, Refusal>
-        ensures taken { IfOk result (λ output. Performs input output (spaces_of (C.service self.old.core)) (spaces_of (C.service self.new.core))) }
-        ensures recorded { IfOk result (λ output. C.Recorded input output self.old.core self.new.core) }
+        ensures taken { IfOk result (λ output. Performs input output (C.spaces self.old.core) (C.spaces self.new.core)) }
         ensures count { OnOk result ((C.events self.new.core ≡ C.events self.old.core + 1) × (seat.new.count ≡ seat.old.count + 1)) }
-        ensures receipt { C.KEEPS ≡ true → IfOk result (λ output. (number : ℕ) × ((journal : Transcript) → slice_get (C.journals self.new.core) (namespace_of input) ≡ Some journal → number ≡ length journal.records) × Gains seat.old.receipts.items seat.new.receipts.items (namespace_of input) (receipt_for input output number)) }
+        ensures receipt { C.KEEPS ≡ true → IfOk result (λ output. GainsReceipt (C.journals self.new.core) seat.old.receipts.items seat.new.receipts.items input output) }
         ensures bare { C.KEEPS ≡ false → SameReceipts seat.old.receipts.items seat.new.receipts.items }
-        ensures refused { IfErr result (λ refusal. RefusesStep input refusal.error seat.old.count (C.events self.old.core) (spaces_of (C.service self.old.core)) (spaces_of (C.service self.new.core))) }
-        ensures uncounted { OnErr result ((C.events self.new.core ≡ C.events self.old.core) × (seat.new.count ≡ seat.old.count)) }
-        ensures same { OnErr result (SameReceipts seat.old.receipts.items seat.new.receipts.items) }
+        ensures refused { IfErr result (λ refusal. RefusesStep input refusal.error seat.old.count (C.events self.old.core) (C.spaces self.old.core)) }
+        ensures unchanged { OnErr result (TakesNothing C.spaces C.events self.old.core self.new.core × (seat.new.count ≡ seat.old.count) × SameReceipts seat.old.receipts.items seat.new.receipts.items) }
         ensures back { IfErr result (λ refusal. refusal.input ≡ input) }
-        ensures output { IfOk result (λ output. IsTrue (is_output_for input output)) }
-        ensures used_up { IfErr result (λ refusal. refusal.error ≡ ServiceError.UsedUp → IsUsedUp seat.old.count (C.events self.old.core)) }
-        ensures late { IfErr result (λ refusal. refusal.error ≡ ServiceError.Moment → IsLate input) }
     {
         if C::KEEPS {
             self.step_kept(alloc, seat, input)
@@ -126,15 +116,12 @@ impl<L: Seating, C: Core> Desk<L, C> {
 
     /// Takes an input for a seat, without a receipt.
     fn step_bare(&mut self, seat: &mut Seat<L>, input: Input) -> Result<Output, Refusal>
-        ensures taken { IfOk result (λ output. Performs input output (spaces_of (C.service self.old.core)) (spaces_of (C.service self.new.core))) }
-        ensures recorded { IfOk result (λ output. C.Recorded input output self.old.core self.new.core) }
+        ensures taken { IfOk result (λ output. Performs input output (C.spaces self.old.core) (C.spaces self.new.core)) }
         ensures count { OnOk result ((C.events self.new.core ≡ C.events self.old.core + 1) × (seat.new.count ≡ seat.old.count + 1)) }
         ensures bare { seat.new.receipts ≡ seat.old.receipts }
-        ensures refused { IfErr result (λ refusal. RefusesStep input refusal.error seat.old.count (C.events self.old.core) (spaces_of (C.service self.old.core)) (spaces_of (C.service self.new.core))) }
-        ensures uncounted { OnErr result ((C.events self.new.core ≡ C.events self.old.core) × (seat.new.count ≡ seat.old.count)) }
+        ensures refused { IfErr result (λ refusal. RefusesStep input refusal.error seat.old.count (C.events self.old.core) (C.spaces self.old.core)) }
+        ensures unchanged { OnErr result (TakesNothing C.spaces C.events self.old.core self.new.core × (seat.new.count ≡ seat.old.count)) }
         ensures back { IfErr result (λ refusal. refusal.input ≡ input) }
-        ensures output { IfOk result (λ output. IsTrue (is_output_for input output)) }
-        ensures used_up { IfErr result (λ refusal. refusal.error ≡ ServiceError.UsedUp → IsUsedUp seat.old.count (C.events self.old.core)) }
     {
         let Seat {
             share,
@@ -152,16 +139,12 @@ impl<L: Seating, C: Core> Desk<L, C> {
         input: Input,
     ) -> Result<Output, Refusal>
         requires keeps { C.KEEPS ≡ true }
-        ensures taken { IfOk result (λ output. Performs input output (spaces_of (C.service self.old.core)) (spaces_of (C.service self.new.core))) }
-        ensures recorded { IfOk result (λ output. C.Recorded input output self.old.core self.new.core) }
+        ensures taken { IfOk result (λ output. Performs input output (C.spaces self.old.core) (C.spaces self.new.core)) }
         ensures count { OnOk result ((C.events self.new.core ≡ C.events self.old.core + 1) × (seat.new.count ≡ seat.old.count + 1)) }
-        ensures receipt { IfOk result (λ output. (number : ℕ) × ((journal : Transcript) → slice_get (C.journals self.new.core) (namespace_of input) ≡ Some journal → number ≡ length journal.records) × Gains seat.old.receipts.items seat.new.receipts.items (namespace_of input) (receipt_for input output number)) }
-        ensures refused { IfErr result (λ refusal. RefusesStep input refusal.error seat.old.count (C.events self.old.core) (spaces_of (C.service self.old.core)) (spaces_of (C.service self.new.core))) }
-        ensures uncounted { OnErr result ((C.events self.new.core ≡ C.events self.old.core) × (seat.new.count ≡ seat.old.count)) }
-        ensures same { OnErr result (SameReceipts seat.old.receipts.items seat.new.receipts.items) }
+        ensures receipt { IfOk result (λ output. GainsReceipt (C.journals self.new.core) seat.old.receipts.items seat.new.receipts.items input output) }
+        ensures refused { IfErr result (λ refusal. RefusesStep input refusal.error seat.old.count (C.events self.old.core) (C.spaces self.old.core)) }
+        ensures unchanged { OnErr result (TakesNothing C.spaces C.events self.old.core self.new.core × (seat.new.count ≡ seat.old.count) × SameReceipts seat.old.receipts.items seat.new.receipts.items) }
         ensures back { IfErr result (λ refusal. refusal.input ≡ input) }
-        ensures output { IfOk result (λ output. IsTrue (is_output_for input output)) }
-        ensures used_up { IfErr result (λ refusal. refusal.error ≡ ServiceError.UsedUp → IsUsedUp seat.old.count (C.events self.old.core)) }
     {
         let namespace = namespace_of(&input);
         match self.core.journal(namespace) {
@@ -199,16 +182,12 @@ impl<L: Seating, C: Core> Desk<L, C> {
     ) -> Result<Output, Refusal>
         requires { (share.old.parts ≡ 1) × (share.old.amount ≡ count.old) }
         ensures share { (share.new.parts ≡ 1) × (share.new.amount ≡ count.new) }
-        ensures taken { IfOk result (λ output. Performs input output (spaces_of (C.service self.old.core)) (spaces_of (C.service self.new.core))) }
-        ensures recorded { IfOk result (λ output. C.Recorded input output self.old.core self.new.core) }
+        ensures taken { IfOk result (λ output. Performs input output (C.spaces self.old.core) (C.spaces self.new.core)) }
         ensures count { OnOk result ((C.events self.new.core ≡ C.events self.old.core + 1) × (count.new ≡ count.old + 1)) }
-        ensures receipt { IfOk result (λ output. (number : ℕ) × ((journal : Transcript) → slice_get (C.journals self.new.core) (namespace_of input) ≡ Some journal → number ≡ length journal.records) × (own.new.items ≡ own.old.items ++ receipt_for input output number ∷ [])) }
-        ensures refused { IfErr result (λ refusal. RefusesStep input refusal.error count.old (C.events self.old.core) (spaces_of (C.service self.old.core)) (spaces_of (C.service self.new.core))) }
-        ensures uncounted { OnErr result ((C.events self.new.core ≡ C.events self.old.core) × (count.new ≡ count.old)) }
-        ensures same { OnErr result (own.new.items ≡ own.old.items) }
+        ensures receipt { IfOk result (λ output. (number : ℕ) × IsLastNumber (C.journals self.new.core) (namespace_of input) number × (own.new.items ≡ own.old.items ++ receipt_for input output number ∷ [])) }
+        ensures refused { IfErr result (λ refusal. RefusesStep input refusal.error count.old (C.events self.old.core) (C.spaces self.old.core)) }
+        ensures unchanged { OnErr result (TakesNothing C.spaces C.events self.old.core self.new.core × (count.new ≡ count.old) × (own.new.items ≡ own.old.items)) }
         ensures back { IfErr result (λ refusal. refusal.input ≡ input) }
-        ensures output { IfOk result (λ output. IsTrue (is_output_for input output)) }
-        ensures used_up { IfErr result (λ refusal. refusal.error ≡ ServiceError.UsedUp → IsUsedUp count.old (C.events self.old.core)) }
     {
         if own.reserve(1).is_err() {
             return Err(Refusal {
@@ -238,7 +217,7 @@ impl<L: Seating, C: Core> Desk<L, C> {
 
     /// The number of the last record of a namespace's journal.
     fn last_number(&self, namespace: u64) -> u64
-        ensures { (journal : Transcript) → slice_get (C.journals self.now.core) namespace ≡ Some journal → result ≡ length journal.records }
+        ensures { IsLastNumber (C.journals self.now.core) namespace result }
     {
         match self.core.journal(namespace) {
             Ok(journal) => journal.records.len() as u64,
@@ -255,17 +234,13 @@ impl<L: Seating, C: Core> Desk<L, C> {
     ) -> Result<Output, Refusal>
         requires { (share.old.parts ≡ 1) × (share.old.amount ≡ count.old) }
         ensures share { (share.new.parts ≡ 1) × (share.new.amount ≡ count.new) }
-        ensures taken { IfOk result (λ output. Performs input output (spaces_of (C.service self.old.core)) (spaces_of (C.service self.new.core))) }
-        ensures recorded { IfOk result (λ output. C.Recorded input output self.old.core self.new.core) }
+        ensures taken { IfOk result (λ output. Performs input output (C.spaces self.old.core) (C.spaces self.new.core)) }
         ensures count { OnOk result ((C.events self.new.core ≡ C.events self.old.core + 1) × (count.new ≡ count.old + 1)) }
-        ensures refused { IfErr result (λ refusal. RefusesStep input refusal.error count.old (C.events self.old.core) (spaces_of (C.service self.old.core)) (spaces_of (C.service self.new.core))) }
-        ensures uncounted { OnErr result ((C.events self.new.core ≡ C.events self.old.core) × (count.new ≡ count.old)) }
+        ensures refused { IfErr result (λ refusal. RefusesStep input refusal.error count.old (C.events self.old.core) (C.spaces self.old.core)) }
+        ensures unchanged { OnErr result (TakesNothing C.spaces C.events self.old.core self.new.core × (count.new ≡ count.old)) }
         ensures back { IfErr result (λ refusal. refusal.input ≡ input) }
-        ensures output { IfOk result (λ output. IsTrue (is_output_for input output)) }
-        ensures used_up { IfErr result (λ refusal. refusal.error ≡ ServiceError.UsedUp → IsUsedUp count.old (C.events self.old.core)) }
     {
         let Desk { core, book, .. } = self;
-        core.stands();
         let Some(next) = count.checked_add(1) else {
             return Err(Refusal {
                 error: ServiceError::UsedUp,
@@ -314,7 +289,7 @@ impl<L: Seating, C: Core> Desk<L, C> {
         ensures service { result.service ≡ self.core }
         ensures count { C.events result.service ≡ sum_by (λ seat. seat.count) seats.items }
         ensures receipts { result.receipts.items ≡ map (λ seat. seat.receipts) seats.items }
-        ensures reached { ∥ IsReached (spaces_of (C.service result.service)) (C.events result.service) ∥₁ }
+        ensures reached { ∥ IsReached (C.spaces result.service) (C.events result.service) ∥₁ }
     {
         let Desk {
             core,
@@ -344,7 +319,7 @@ impl<L: Seating, C: Takings> Desk<L, C> {
     /// The reply bytes of a connection since the last taking, moved out.
     pub fn take_output(&mut self, conn: Conn) -> Result<Replies<C>, ServiceError>
         ensures conn { IfOk result (λ replies. replies.conn ≡ conn) }
-        ensures refused { IfErr result (λ e. (e ≡ ServiceError.OutOfMemory) ⊎ HeldAtSomeMoment C.service C.events (λ spaces. RefusesLook spaces conn.namespace e (λ space. IsUnknown space conn.number e))) }
+        ensures refused { IfErr result (λ e. (e ≡ ServiceError.OutOfMemory) ⊎ HeldAtSomeMoment C.spaces C.events (λ spaces. Refuses spaces conn.namespace e (λ space. IsUnknown space conn.number e))) }
         ensures events { C.events self.new.core ≡ C.events self.old.core }
     {
         let Desk { core, .. } = self;
@@ -354,7 +329,7 @@ impl<L: Seating, C: Takings> Desk<L, C> {
     /// The loads of a namespace that went out and were not taken, moved out.
     pub fn take_loads(&mut self, namespace: u64) -> Result<TakenLoads<C>, ServiceError>
         ensures namespace { IfOk result (λ loads. loads.namespace ≡ namespace) }
-        ensures refused { IfErr result (λ e. HeldAtSomeMoment C.service C.events (λ spaces. (e ≡ ServiceError.NoNamespace) × (length spaces ≤ namespace))) }
+        ensures refused { IfErr result (λ e. HeldAtSomeMoment C.spaces C.events (λ spaces. (e ≡ ServiceError.NoNamespace) × (length spaces ≤ namespace))) }
         ensures events { C.events self.new.core ≡ C.events self.old.core }
     {
         let Desk { core, .. } = self;
@@ -363,8 +338,8 @@ impl<L: Seating, C: Takings> Desk<L, C> {
 
     /// The oldest note of a namespace that was told and not taken.
     pub fn next_notice(&mut self, namespace: u64) -> Result<Option<Note>, ServiceError>
-        ensures note { IfOk result (λ note. WasOldestNote C.service C.events C.untold namespace note) }
-        ensures refused { IfErr result (λ e. (e ≡ ServiceError.OutOfMemory) ⊎ HeldAtSomeMoment C.service C.events (λ spaces. (e ≡ ServiceError.NoNamespace) × (length spaces ≤ namespace))) }
+        ensures note { IfOk result (λ note. WasOldestNote C.spaces C.events C.untold namespace note) }
+        ensures refused { IfErr result (λ e. (e ≡ ServiceError.OutOfMemory) ⊎ HeldAtSomeMoment C.spaces C.events (λ spaces. (e ≡ ServiceError.NoNamespace) × (length spaces ≤ namespace))) }
         ensures events { C.events self.new.core ≡ C.events self.old.core }
     {
         let Desk { core, .. } = self;
@@ -374,8 +349,8 @@ impl<L: Seating, C: Takings> Desk<L, C> {
 
     /// Why a connection is closed, if it is.
     pub fn closed(&self, conn: Conn) -> Result<Option<Closing>, ServiceError>
-        ensures closing { IfOk result (λ closing. HeldAtSomeMoment C.service C.events (λ spaces. InSpace spaces conn.namespace (λ space. closing ≡ closing_of space conn.number))) }
-        ensures refused { IfErr result (λ e. HeldAtSomeMoment C.service C.events (λ spaces. RefusesLook spaces conn.namespace e (λ space. IsUnknown space conn.number e))) }
+        ensures closing { IfOk result (λ closing. HeldAtSomeMoment C.spaces C.events (λ spaces. InSpace spaces conn.namespace (λ space. closing ≡ closing_of space conn.number))) }
+        ensures refused { IfErr result (λ e. HeldAtSomeMoment C.spaces C.events (λ spaces. Refuses spaces conn.namespace e (λ space. IsUnknown space conn.number e))) }
     {
         self.core.stands();
         self.core.closed(conn)
@@ -383,8 +358,8 @@ impl<L: Seating, C: Takings> Desk<L, C> {
 
     /// Whether a `LOAD` of a connection waits for its load.
     pub fn waiting(&self, conn: Conn) -> Result<bool, ServiceError>
-        ensures waits { IfOk result (λ waits. HeldAtSomeMoment C.service C.events (λ spaces. InSpace spaces conn.namespace (λ space. (s : Situation) → StandsFor space s → waits ≡ is_waiting_in s conn.number))) }
-        ensures refused { IfErr result (λ e. HeldAtSomeMoment C.service C.events (λ spaces. RefusesLook spaces conn.namespace e (λ space. IsUnknown space conn.number e))) }
+        ensures waits { IfOk result (λ waits. HeldAtSomeMoment C.spaces C.events (λ spaces. InSpace spaces conn.namespace (λ space. waits ≡ is_waiting_for space conn.number))) }
+        ensures refused { IfErr result (λ e. HeldAtSomeMoment C.spaces C.events (λ spaces. Refuses spaces conn.namespace e (λ space. IsUnknown space conn.number e))) }
     {
         self.core.stands();
         self.core.waiting(conn)

@@ -3,16 +3,23 @@
 
 mod desk;
 mod judging;
+mod live;
 mod loads;
+mod notices;
+mod owed;
 mod recorded;
 mod replies;
 mod seat;
 mod service_core;
 mod shared;
+mod turning;
 
 pub use desk::{Desk, Finished};
+pub use live::LiveService;
 pub use loads::TakenLoads;
+pub use owed::Owed;
 pub use replies::Replies;
 pub use seat::{Seat, Seating};
-pub use service_core::{Core, Takings};
+pub use service_core::{Stepping, Takings};
 pub use shared::SharedService;
+pub use turning::Turn;

@@ -14,7 +14,7 @@ pub struct TakenLoads<C: Takings> {
     namespace: u64,
     loads: Vec<(LoadId, Bytes)>,
     core: PhantomData<C>,
-    ghost taken: { ∥ WereOut C.service C.events namespace loads.items ∥₁ },
+    ghost taken: { ∥ WereOut C.spaces C.events namespace loads.items ∥₁ },
 }
 
 impl<C: Takings> TakenLoads<C> {
@@ -30,7 +30,7 @@ impl<C: Takings> TakenLoads<C> {
 /// Takes the loads of a namespace. Refused with `NoNamespace` where there is no such namespace.
 pub fn take_loads<C: Takings>(core: &mut C, namespace: u64) -> Result<TakenLoads<C>, ServiceError>
     ensures namespace { IfOk result (λ loads. loads.namespace ≡ namespace) }
-    ensures refused { IfErr result (λ e. HeldAtSomeMoment C.service C.events (λ spaces. (e ≡ ServiceError.NoNamespace) × (length spaces ≤ namespace))) }
+    ensures refused { IfErr result (λ e. HeldAtSomeMoment C.spaces C.events (λ spaces. (e ≡ ServiceError.NoNamespace) × (length spaces ≤ namespace))) }
     ensures events { C.events core.new ≡ C.events core.old }
 {
     core.stands();

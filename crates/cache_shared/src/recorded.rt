@@ -1,16 +1,15 @@
 //! The core that keeps its journals.
-use crate::service_core::Core;
+use crate::service_core::Stepping;
 use audit_model::{Input, ServiceError, Transcript};
 use cache_spaces::{Output, RecordedService, Refusal};
 
-impl Core for RecordedService {
+impl Stepping for RecordedService {
+    ghost use Rattle.std.specs.Prelude.{map, true};
     ghost use Rattle.cache_shared.specs.Events.{record_count};
-    ghost use Rattle.cache_shared.specs.Events.{RecordedAs};
-    ghost use Rattle.cache_spaces.specs.Journals.{journals_of, service_of};
-    ghost use Rattle.cache_spaces.specs.Services.{spaces_of};
-    ghost use Rattle.std.specs.Prelude.{true};
+    ghost use Rattle.cache_spaces.specs.Journals.{journals_of, kept_by};
+    ghost use Rattle.cache_spaces.specs.Spaces.{shown};
 
-    ghost service = { service_of };
+    ghost spaces = { λ recorded. map (shown kept_by) recorded };
 
     ghost events = { λ recorded. record_count (journals_of recorded) };
 
@@ -20,9 +19,8 @@ impl Core for RecordedService {
 
     const KEEPS: bool = true;
 
-    ghost Recorded = { λ i output was is. RecordedAs i output (journals_of was) (journals_of is) (spaces_of (service_of was)) (spaces_of (service_of is)) };
-
     fn step(&mut self, input: Input) -> Result<Output, Refusal> {
+        let _ = self.service();
         RecordedService::step(self, input)
     }
 

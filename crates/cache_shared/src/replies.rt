@@ -2,8 +2,7 @@
 ghost use Rattle.std.specs.Prelude.{◌≡◌, ◌⊎◌, IfErr, IfOk};
 ghost use Rattle.cache_shared.specs.Looked.{HeldAtSomeMoment};
 ghost use Rattle.cache_shared.specs.Untaken.{WereUntaken};
-ghost use Rattle.cache_spaces.specs.Serves.{IsUnknown};
-ghost use Rattle.cache_spaces.specs.Services.{RefusesLook};
+ghost use Rattle.cache_spaces.specs.Calls.{IsUnknown, Refuses};
 
 use crate::service_core::Takings;
 use audit_model::{Conn, ServiceError};
@@ -15,7 +14,7 @@ pub struct Replies<C: Takings> {
     conn: Conn,
     text: Vec<u8>,
     core: PhantomData<C>,
-    ghost taken: { ∥ WereUntaken C.service C.events C.untaken conn text.items ∥₁ },
+    ghost taken: { ∥ WereUntaken C.spaces C.events C.untaken conn text.items ∥₁ },
 }
 
 impl<C: Takings> Replies<C> {
@@ -38,7 +37,7 @@ impl<C: Takings> Replies<C> {
 /// Takes the replies of a connection.
 pub fn take_replies<C: Takings>(core: &mut C, conn: Conn) -> Result<Replies<C>, ServiceError>
     ensures conn { IfOk result (λ replies. replies.conn ≡ conn) }
-    ensures refused { IfErr result (λ e. (e ≡ ServiceError.OutOfMemory) ⊎ HeldAtSomeMoment C.service C.events (λ spaces. RefusesLook spaces conn.namespace e (λ space. IsUnknown space conn.number e))) }
+    ensures refused { IfErr result (λ e. (e ≡ ServiceError.OutOfMemory) ⊎ HeldAtSomeMoment C.spaces C.events (λ spaces. Refuses spaces conn.namespace e (λ space. IsUnknown space conn.number e))) }
     ensures events { C.events core.new ≡ C.events core.old }
 {
     core.stands();

@@ -1,7 +1,7 @@
 //! What each thread has.
 ghost use Rattle.std.specs.Prelude.{◌≡◌, ℕ, ◌+◌, ◌<◌, ◌≤◌, [], vec_len, OnOk};
 ghost use Rattle.cache_shared.specs.Seats.{SameReceipts, receipts_at};
-ghost use Rattle.cache_spaces.specs.Recorded.{namespace_of};
+ghost use Rattle.cache_spaces.specs.Inputs.{namespace_of};
 
 use audit_model::Input;
 use audit_receipts::Receipt;

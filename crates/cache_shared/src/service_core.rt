@@ -2,27 +2,20 @@
 ghost use Rattle.std.specs.Prelude.{◌≡◌, ◌≢◌, ℕ, ◌+◌, ◌++◌, ◌<◌, ◌≤◌, ◌⊎◌, Bool, true, List, [], Some, length, IsNone, IfOk, IfErr, OnOk, OnErr};
 ghost use Rattle.std.specs.List.{slice_get};
 ghost use Rattle.std.specs.Option.{option_to_list};
-ghost use Rattle.audit_model.specs.Situation.{Situation};
 ghost use Rattle.audit_model.specs.declared.input.Conn.{Conn};
-ghost use Rattle.audit_model.specs.declared.input.Input.{Input};
 ghost use Rattle.audit_model.specs.declared.transcript.Note.{Note as Told};
 ghost use Rattle.audit_model.specs.declared.transcript.Transcript.{Transcript};
-ghost use Rattle.audit_receipts.specs.declared.output.Output.{Output};
-ghost use Rattle.cache_shared.specs.Events.{Performs, IsReached, RefusesEvent};
-ghost use Rattle.cache_spaces.specs.Moves.{At};
-ghost use Rattle.cache_namespace.specs.Taken.{is_waiting_in, known};
-ghost use Rattle.cache_spaces.specs.Serves.{IsUnknown, TakesLoads};
-ghost use Rattle.cache_spaces.specs.Services.{InSpace, Refuses, RefusesLook, spaces_of};
-ghost use Rattle.cache_spaces.specs.Spaces.{StandsFor, closing_of, connections_of};
-ghost use Rattle.cache_spaces.specs.declared.service.Service.{Service};
+ghost use Rattle.cache_shared.specs.Events.{IsReached, Performs, RefusesEvent, TakesNothing};
+ghost use Rattle.cache_spaces.specs.Calls.{At, InSpace, IsOpened, IsUnknown, Refuses, TakesLoads};
+ghost use Rattle.cache_spaces.specs.Spaces.{Shown, closing_of, is_waiting_for};
 
 use audit_model::{Bytes, Closing, Conn, Input, LoadId, Note, ServiceError, Transcript};
 use cache_spaces::{Output, Refusal};
 
 /// What stands under the lock of a `SharedService`: a service that takes inputs one by one.
-pub trait Core: Drop {
-    /// The service.
-    ghost service: { Self → Service };
+pub trait Stepping: Drop {
+    /// Its namespaces, in their order.
+    ghost spaces: { Self → List Shown };
 
     /// How many inputs it took.
     ghost events: { Self → ℕ };
@@ -35,35 +28,31 @@ pub trait Core: Drop {
 
     const KEEPS: bool;
 
-    /// What its journals say of an input that was taken, with its output, before and after.
-    ghost Recorded: { Input → Output → Self → Self → Type 0 };
-
     /// Takes an input: its event happens, and the output is what the event came to.
     ///
     /// An input that is refused is handed back; then nothing has changed. Besides the service's refusals, `UsedUp` where 2^64 - 1 inputs
     /// were taken.
     fn step(&mut self, input: Input) -> Result<Output, Refusal>
-        ensures taken { IfOk result (λ output. Performs input output (spaces_of (service self.old)) (spaces_of (service self.new))) }
-        ensures recorded { IfOk result (λ output. Recorded input output self.old self.new) }
+        ensures taken { IfOk result (λ output. Performs input output (spaces self.old) (spaces self.new)) }
         ensures count { OnOk result (events self.new ≡ events self.old + 1) }
-        ensures refused { IfErr result (λ refusal. RefusesEvent input refusal.error (events self.old) (spaces_of (service self.old)) (spaces_of (service self.new))) }
-        ensures uncounted { OnErr result (events self.new ≡ events self.old) }
+        ensures refused { IfErr result (λ refusal. RefusesEvent input refusal.error (events self.old) (spaces self.old)) }
+        ensures unchanged { OnErr result (TakesNothing spaces events self.old self.new) }
         ensures back { IfErr result (λ refusal. refusal.input ≡ input) };
 
     /// There are journals of as many records as inputs were taken, which obey and lead to where the service stands.
     fn stands(&self)
-        ensures { ∥ IsReached (spaces_of (service self.now)) (events self.now) ∥₁ };
+        ensures { ∥ IsReached (spaces self.now) (events self.now) ∥₁ };
 
     /// The journal of a namespace: a record for each input that it took. Refused with `NoNamespace` where it has none.
     fn journal(&self, namespace: u64) -> Result<&Transcript, ServiceError>
         ensures journal { IfOk result (λ journal. slice_get (journals self.now) namespace ≡ Some journal.now) }
         ensures error { IfErr result (λ e. e ≡ ServiceError.NoNamespace) }
-        ensures refused { KEEPS ≡ true → OnErr result (length (spaces_of (service self.now)) ≤ namespace) }
+        ensures refused { KEEPS ≡ true → OnErr result (length (spaces self.now) ≤ namespace) }
         ensures none { IfErr result (λ e. length (journals self.now) ≤ namespace) };
 }
 
 /// A core whose replies, loads and notes are taken. A taking is no event.
-pub trait Takings: Core {
+pub trait Takings: Stepping {
     /// The reply bytes of a connection that were not taken.
     ghost untaken: { Self → Conn → List ℕ };
 
@@ -74,10 +63,10 @@ pub trait Takings: Core {
     /// `OutOfMemory` where a taking needs memory; then they come with the next taking.
     fn take_output(&mut self, conn: Conn) -> Result<Vec<u8>, ServiceError>
         ensures taken { IfOk result (λ text. text.items ≡ untaken self.old conn) }
-        ensures known { OnOk result (InSpace (spaces_of (Self.service self.old)) conn.namespace (λ space. (known (connections_of space)).was_opened conn.number ≡ true)) }
+        ensures known { OnOk result (InSpace (Self.spaces self.old) conn.namespace (λ space. IsOpened space conn.number)) }
         ensures none { OnOk result (untaken self.new conn ≡ []) }
         ensures others { (other : Conn) → 0 < other.number → other ≢ conn → untaken self.new other ≡ untaken self.old other }
-        ensures refused { IfErr result (λ e. (e ≡ ServiceError.OutOfMemory) ⊎ RefusesLook (spaces_of (Self.service self.old)) conn.namespace e (λ space. IsUnknown space conn.number e)) }
+        ensures refused { IfErr result (λ e. (e ≡ ServiceError.OutOfMemory) ⊎ Refuses (Self.spaces self.old) conn.namespace e (λ space. IsUnknown space conn.number e)) }
         ensures kept { OnErr result (untaken self.new conn ≡ untaken self.old conn) }
         ensures events { Self.events self.new ≡ Self.events self.old };
 
@@ -86,7 +75,7 @@ pub trait Takings: Core {
     fn next_notice(&mut self, namespace: u64) -> Result<Option<Note>, ServiceError>
         ensures note { IfOk result (λ note. untold self.old namespace ≡ option_to_list note ++ untold self.new namespace) }
         ensures none { IfOk result (λ note. IsNone note → untold self.old namespace ≡ []) }
-        ensures refused { IfErr result (λ e. (e ≡ ServiceError.OutOfMemory) ⊎ ((e ≡ ServiceError.NoNamespace) × (length (spaces_of (Self.service self.old)) ≤ namespace))) }
+        ensures refused { IfErr result (λ e. (e ≡ ServiceError.OutOfMemory) ⊎ ((e ≡ ServiceError.NoNamespace) × (length (Self.spaces self.old) ≤ namespace))) }
         ensures kept { OnErr result (untold self.new namespace ≡ untold self.old namespace) }
         ensures others { (other : ℕ) → other ≢ namespace → untold self.new other ≡ untold self.old other }
         ensures events { Self.events self.new ≡ Self.events self.old };
@@ -94,18 +83,18 @@ pub trait Takings: Core {
     /// The loads of a namespace that went out and were not taken, with their keys, in the order in which they were sent; moved out. Refused
     /// with `NoNamespace`.
     fn take_loads(&mut self, namespace: u64) -> Result<Vec<(LoadId, Bytes)>, ServiceError>
-        ensures loads { IfOk result (λ loads. At (spaces_of (Self.service self.old)) (spaces_of (Self.service self.new)) namespace (λ was is. TakesLoads was is loads.items)) }
-        ensures refused { IfErr result (λ e. Refuses (spaces_of (Self.service self.old)) (spaces_of (Self.service self.new)) namespace e (λ was. ⊥)) }
+        ensures loads { IfOk result (λ loads. At (Self.spaces self.old) (Self.spaces self.new) namespace (λ was is. TakesLoads was is loads.items)) }
+        ensures refused { IfErr result (λ e. (e ≡ ServiceError.NoNamespace) × (length (Self.spaces self.old) ≤ namespace)) }
         ensures events { Self.events self.new ≡ Self.events self.old };
 
     /// Why a connection is closed; none while it is open. Refused with `NoNamespace`, then with `NoConnection`.
     fn closed(&self, conn: Conn) -> Result<Option<Closing>, ServiceError>
-        ensures closing { IfOk result (λ closing. InSpace (spaces_of (Self.service self.now)) conn.namespace (λ space. closing ≡ closing_of space conn.number)) }
-        ensures refused { IfErr result (λ e. RefusesLook (spaces_of (Self.service self.now)) conn.namespace e (λ space. IsUnknown space conn.number e)) };
+        ensures closing { IfOk result (λ closing. InSpace (Self.spaces self.now) conn.namespace (λ space. closing ≡ closing_of space conn.number)) }
+        ensures refused { IfErr result (λ e. Refuses (Self.spaces self.now) conn.namespace e (λ space. IsUnknown space conn.number e)) };
 
     /// Whether a `LOAD` of a connection waits for its load, so that no line behind it runs. Refused with `NoNamespace`, then with
     /// `NoConnection`.
     fn waiting(&self, conn: Conn) -> Result<bool, ServiceError>
-        ensures waits { IfOk result (λ waits. InSpace (spaces_of (Self.service self.now)) conn.namespace (λ space. (s : Situation) → StandsFor space s → waits ≡ is_waiting_in s conn.number)) }
-        ensures refused { IfErr result (λ e. RefusesLook (spaces_of (Self.service self.now)) conn.namespace e (λ space. IsUnknown space conn.number e)) };
+        ensures waits { IfOk result (λ waits. InSpace (Self.spaces self.now) conn.namespace (λ space. waits ≡ is_waiting_for space conn.number)) }
+        ensures refused { IfErr result (λ e. Refuses (Self.spaces self.now) conn.namespace e (λ space. IsUnknown space conn.number e)) };
 }

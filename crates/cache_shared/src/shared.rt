@@ -1,21 +1,20 @@
 //! The shared form.
 ghost use Rattle.std.specs.Prelude.{◌≡◌, ℕ, ◌+◌, ◌≤◌, ◌⊎◌, [], true, false, length, map, sum_by, vec_len, vec_capacity, IfOk, IfErr, IsSome, IsTrue, OnOk, OnErr};
 ghost use Rattle.std.specs.Arc.{arc_value};
-ghost use Rattle.audit_model.specs.Situation.{Situation};
-ghost use Rattle.cache_namespace.specs.Taken.{is_waiting_in};
 ghost use Rattle.cache_shared.specs.Events.{IsLate, IsReached, WasRefused, WasUsedUp, is_output_for};
-ghost use Rattle.cache_shared.specs.Looked.{WasOldestNote, HeldAtSomeMoment};
-ghost use Rattle.cache_shared.specs.Seats.{AgreeAll, Gains, SameReceipts, receipt_for};
-ghost use Rattle.cache_spaces.specs.Recorded.{namespace_of};
-ghost use Rattle.cache_spaces.specs.Serves.{IsUnknown};
-ghost use Rattle.cache_spaces.specs.Services.{InSpace, RefusesLook, spaces_of};
-ghost use Rattle.cache_spaces.specs.Spaces.{StandsFor, closing_of};
+ghost use Rattle.cache_shared.specs.Looked.{WasOldestNote, HeldAtSomeMoment, WereMoved};
+ghost use Rattle.cache_shared.specs.Seats.{AgreeAll, Counts, Gains, SameReceipts, receipt_for};
+ghost use Rattle.cache_spaces.specs.Inputs.{namespace_of};
+ghost use Rattle.cache_spaces.specs.Calls.{InSpace, IsUnknown, Refuses};
+ghost use Rattle.cache_spaces.specs.Spaces.{closing_of, is_waiting_for};
 
 use crate::desk::{Desk, Finished};
 use crate::loads::TakenLoads;
+use crate::owed::Owed;
 use crate::replies::Replies;
 use crate::seat::{Seat, Seating};
-use crate::service_core::{Core, Takings};
+use crate::service_core::{Stepping, Takings};
+use crate::turning::Turn;
 use audit_model::{Closing, Conn, Input, Note, ServiceError};
 use audit_receipts::Receipt;
 use cache_spaces::{Output, RecordedService, Refusal};
@@ -25,7 +24,7 @@ use std::sync::{Arc, Condvar, Mutex, Wait};
 
 /// The lock, and what tells of changes.
 #[derive(Drop)]
-struct Inner<L: Seating, C: Core> {
+struct Inner<L: Seating, C: Stepping> {
     desk: Mutex<Desk<L, C>>,
     changed: Condvar,
 }
@@ -35,13 +34,13 @@ struct Inner<L: Seating, C: Core> {
 /// Whenever the lock is taken, there are journals that obey and lead to where the service stands, of as many records as inputs were
 /// taken. `L` is the ledger of its seats.
 #[derive(Drop)]
-pub struct SharedService<L: Seating, C: Core = RecordedService> {
+pub struct SharedService<L: Seating, C: Stepping = RecordedService> {
     inner: Arc<Option<Inner<L, C>>>,
     alloc: Global,
     ghost full: { IsSome (arc_value inner) },
 }
 
-impl<L: Seating, C: Core> Clone for SharedService<L, C> {
+impl<L: Seating, C: Stepping> Clone for SharedService<L, C> {
     fn clone(&self) -> Result<SharedService<L, C>, AllocError> {
         Ok(SharedService {
             inner: Arc::try_clone(&self.inner)?,
@@ -50,7 +49,7 @@ impl<L: Seating, C: Core> Clone for SharedService<L, C> {
     }
 }
 
-impl<L: Seating, C: Core> SharedService<L, C> {
+impl<L: Seating, C: Stepping> SharedService<L, C> {
     /// A shared form of a service that took no input, over a new ledger of so many parts, one for each seat that there may be. Without
     /// memory service and ledger are handed back.
     pub fn new(
@@ -108,7 +107,7 @@ impl<L: Seating, C: Core> SharedService<L, C> {
         ensures uncounted { OnErr result (seat.new.count ≡ seat.old.count) }
         ensures same { OnErr result (SameReceipts seat.old.receipts.items seat.new.receipts.items) }
         ensures back { IfErr result (λ refusal. refusal.input ≡ input) }
-        ensures refused { IfErr result (λ refusal. ∥ WasRefused C.service C.events input refusal.error seat.old.count ∥₁) }
+        ensures refused { IfErr result (λ refusal. ∥ WasRefused C.spaces C.events input refusal.error seat.old.count ∥₁) }
         ensures late { IfErr result (λ refusal. refusal.error ≡ ServiceError.Moment → IsLate input) }
         ensures output { IfOk result (λ output. IsTrue (is_output_for input output)) }
         ensures used_up { IfErr result (λ refusal. refusal.error ≡ ServiceError.UsedUp → WasUsedUp C.events seat.old.count) }
@@ -136,7 +135,7 @@ impl<L: Seating, C: Core> SharedService<L, C> {
         ensures count { IfOk result (λ finished. C.events finished.service ≡ sum_by (λ seat. seat.count) seats.items) }
         ensures receipts { IfOk result (λ finished. finished.receipts.items ≡ map (λ seat. seat.receipts) seats.items) }
         ensures agree { IfOk result (λ finished. AgreeAll (C.journals finished.service) (λ seat. seat.receipts.items) seats.items) }
-        ensures reached { IfOk result (λ finished. ∥ IsReached (spaces_of (C.service finished.service)) (C.events finished.service) ∥₁) }
+        ensures reached { IfOk result (λ finished. ∥ IsReached (C.spaces finished.service) (C.events finished.service) ∥₁) }
         ensures back { IfErr result (λ both. both.1 ≡ seats) }
     {
         let SharedService { mut inner, alloc } = self;
@@ -161,18 +160,85 @@ impl<L: Seating, C: Takings> SharedService<L, C> {
     /// next taking.
     pub fn take_output(&self, rt: &impl Wait, conn: Conn) -> Result<Replies<C>, ServiceError>
         ensures conn { IfOk result (λ replies. replies.conn ≡ conn) }
-        ensures refused { IfErr result (λ e. (e ≡ ServiceError.OutOfMemory) ⊎ HeldAtSomeMoment C.service C.events (λ spaces. RefusesLook spaces conn.namespace e (λ space. IsUnknown space conn.number e))) }
+        ensures refused { IfErr result (λ e. (e ≡ ServiceError.OutOfMemory) ⊎ HeldAtSomeMoment C.spaces C.events (λ spaces. Refuses spaces conn.namespace e (λ space. IsUnknown space conn.number e))) }
     {
         let mut guard = self.inner().desk.lock(rt);
         let desk = &mut *guard;
         desk.take_output(conn)
     }
 
+    /// Takes one input for a seat, as `step` does, and moves out what a connection is owed behind it, in the same hold of the lock: its
+    /// replies, the loads of its namespace that went out, where they are wanted, why it is closed and whether it waits. The namespace's oldest
+    /// notes are put behind those given, as many as there is room for.
+    ///
+    /// Refused as `step`; then nothing has changed.
+    pub fn turn(
+        &self,
+        rt: &impl Wait,
+        seat: &mut Seat<L>,
+        conn: Conn,
+        input: Input,
+        wants_loads: bool,
+        notes: &mut Vec<Note>,
+    ) -> Result<Turn<C>, Refusal>
+        ensures counted { IfOk result (λ turn. Counts C.KEEPS input turn.output seat.old.count seat.new.count seat.old.receipts.items seat.new.receipts.items) }
+        ensures conn { IfOk result (λ turn. turn.owed.conn ≡ conn) }
+        ensures refused { IfErr result (λ refusal. ∥ WasRefused C.spaces C.events input refusal.error seat.old.count ∥₁) }
+        ensures back { IfErr result (λ refusal. refusal.input ≡ input) }
+        ensures unchanged { OnErr result ((seat.new.count ≡ seat.old.count) × SameReceipts seat.old.receipts.items seat.new.receipts.items) }
+        ensures late { IfErr result (λ refusal. refusal.error ≡ ServiceError.Moment → IsLate input) }
+        ensures used_up { IfErr result (λ refusal. refusal.error ≡ ServiceError.UsedUp → WasUsedUp C.events seat.old.count) }
+        ensures moved { WereMoved C.spaces C.events C.untold conn.namespace notes.old.items notes.new.items }
+    {
+        let inner = self.inner();
+        let mut guard = inner.desk.lock(rt);
+        let desk = &mut *guard;
+        let turn = desk.turn(self.alloc, seat, conn, input, wants_loads, notes);
+        drop(guard);
+        inner.changed.notify_all();
+        turn
+    }
+
+    /// What a connection is owed, moved out in one hold of the lock; nothing where it is unknown. It is no event, and leaves no receipt. The
+    /// loads of its namespace come only where they are wanted; the namespace's oldest notes are put behind those given, as many as there is
+    /// room for.
+    pub fn take_owed(
+        &self,
+        rt: &impl Wait,
+        conn: Conn,
+        wants_loads: bool,
+        notes: &mut Vec<Note>,
+    ) -> Owed<C>
+        ensures conn { result.conn ≡ conn }
+        ensures moved { WereMoved C.spaces C.events C.untold conn.namespace notes.old.items notes.new.items }
+    {
+        let mut guard = self.inner().desk.lock(rt);
+        let desk = &mut *guard;
+        desk.take_owed(conn, wants_loads, notes)
+    }
+
+    /// The oldest notes of a namespace that were told and not taken, moved out behind others in one hold of the lock, as many as there is
+    /// room for. It is no event, and leaves no receipt. Refused with `NoNamespace`, and with `OutOfMemory` where the core copies notes; those
+    /// before it were taken then.
+    pub fn take_notices(
+        &self,
+        rt: &impl Wait,
+        namespace: u64,
+        notes: &mut Vec<Note>,
+    ) -> Result<(), ServiceError>
+        ensures moved { WereMoved C.spaces C.events C.untold namespace notes.old.items notes.new.items }
+        ensures refused { IfErr result (λ e. (e ≡ ServiceError.OutOfMemory) ⊎ (e ≡ ServiceError.NoNamespace)) }
+    {
+        let mut guard = self.inner().desk.lock(rt);
+        let desk = &mut *guard;
+        desk.take_notices(namespace, notes)
+    }
+
     /// The loads of a namespace that went out and were not taken, with their keys, in the order in which they were sent; moved out, in one
     /// hold of the lock. It is no event, and leaves no receipt. Refused with `NoNamespace`.
     pub fn take_loads(&self, rt: &impl Wait, namespace: u64) -> Result<TakenLoads<C>, ServiceError>
         ensures namespace { IfOk result (λ loads. loads.namespace ≡ namespace) }
-        ensures refused { IfErr result (λ e. HeldAtSomeMoment C.service C.events (λ spaces. (e ≡ ServiceError.NoNamespace) × (length spaces ≤ namespace))) }
+        ensures refused { IfErr result (λ e. HeldAtSomeMoment C.spaces C.events (λ spaces. (e ≡ ServiceError.NoNamespace) × (length spaces ≤ namespace))) }
     {
         let mut guard = self.inner().desk.lock(rt);
         let desk = &mut *guard;
@@ -182,8 +248,8 @@ impl<L: Seating, C: Takings> SharedService<L, C> {
     /// The oldest note of a namespace that was told and not taken, or none, in one hold of the lock. It is no event, and leaves no receipt.
     /// Refused with `NoNamespace`, and with `OutOfMemory` where the core copies notes; then it comes with the next taking.
     pub fn next_notice(&self, rt: &impl Wait, namespace: u64) -> Result<Option<Note>, ServiceError>
-        ensures note { IfOk result (λ note. WasOldestNote C.service C.events C.untold namespace note) }
-        ensures refused { IfErr result (λ e. (e ≡ ServiceError.OutOfMemory) ⊎ HeldAtSomeMoment C.service C.events (λ spaces. (e ≡ ServiceError.NoNamespace) × (length spaces ≤ namespace))) }
+        ensures note { IfOk result (λ note. WasOldestNote C.spaces C.events C.untold namespace note) }
+        ensures refused { IfErr result (λ e. (e ≡ ServiceError.OutOfMemory) ⊎ HeldAtSomeMoment C.spaces C.events (λ spaces. (e ≡ ServiceError.NoNamespace) × (length spaces ≤ namespace))) }
     {
         let mut guard = self.inner().desk.lock(rt);
         let desk = &mut *guard;
@@ -192,8 +258,8 @@ impl<L: Seating, C: Takings> SharedService<L, C> {
 
     /// Why a connection is closed, or none while it is open, in one hold of the lock. Refused with `NoNamespace`, then with `NoConnection`.
     pub fn closed(&self, rt: &impl Wait, conn: Conn) -> Result<Option<Closing>, ServiceError>
-        ensures closing { IfOk result (λ closing. HeldAtSomeMoment C.service C.events (λ spaces. InSpace spaces conn.namespace (λ space. closing ≡ closing_of space conn.number))) }
-        ensures refused { IfErr result (λ e. HeldAtSomeMoment C.service C.events (λ spaces. RefusesLook spaces conn.namespace e (λ space. IsUnknown space conn.number e))) }
+        ensures closing { IfOk result (λ closing. HeldAtSomeMoment C.spaces C.events (λ spaces. InSpace spaces conn.namespace (λ space. closing ≡ closing_of space conn.number))) }
+        ensures refused { IfErr result (λ e. HeldAtSomeMoment C.spaces C.events (λ spaces. Refuses spaces conn.namespace e (λ space. IsUnknown space conn.number e))) }
     {
         let guard = self.inner().desk.lock(rt);
         guard.closed(conn)
@@ -201,8 +267,8 @@ impl<L: Seating, C: Takings> SharedService<L, C> {
 
     /// Whether a `LOAD` of a connection waits for its load, in one hold of the lock. Refused with `NoNamespace`, then with `NoConnection`.
     pub fn waiting(&self, rt: &impl Wait, conn: Conn) -> Result<bool, ServiceError>
-        ensures waits { IfOk result (λ waits. HeldAtSomeMoment C.service C.events (λ spaces. InSpace spaces conn.namespace (λ space. (s : Situation) → StandsFor space s → waits ≡ is_waiting_in s conn.number))) }
-        ensures refused { IfErr result (λ e. HeldAtSomeMoment C.service C.events (λ spaces. RefusesLook spaces conn.namespace e (λ space. IsUnknown space conn.number e))) }
+        ensures waits { IfOk result (λ waits. HeldAtSomeMoment C.spaces C.events (λ spaces. InSpace spaces conn.namespace (λ space. waits ≡ is_waiting_for space conn.number))) }
+        ensures refused { IfErr result (λ e. HeldAtSomeMoment C.spaces C.events (λ spaces. Refuses spaces conn.namespace e (λ space. IsUnknown space conn.number e))) }
     {
         let guard = self.inner().desk.lock(rt);
         guard.waiting(conn)
@@ -224,7 +290,7 @@ impl<L: Seating, C: Takings> SharedService<L, C> {
 }
 
 /// Closes the desk, where these are all seats, and their receipts stand.
-fn close_if_all<L: Seating, C: Core>(
+fn close_if_all<L: Seating, C: Stepping>(
     alloc: Global,
     slot: &mut Option<Inner<L, C>>,
     seats: Vec<Seat<L>>,
@@ -237,7 +303,7 @@ fn close_if_all<L: Seating, C: Core>(
     ensures count { IfOk result (λ finished. C.events finished.service ≡ sum_by (λ seat. seat.count) seats.items) }
     ensures receipts { IfOk result (λ finished. finished.receipts.items ≡ map (λ seat. seat.receipts) seats.items) }
     ensures agree { IfOk result (λ finished. AgreeAll (C.journals finished.service) (λ seat. seat.receipts.items) seats.items) }
-    ensures reached { IfOk result (λ finished. ∥ IsReached (spaces_of (C.service finished.service)) (C.events finished.service) ∥₁) }
+    ensures reached { IfOk result (λ finished. ∥ IsReached (C.spaces finished.service) (C.events finished.service) ∥₁) }
     ensures back { IfErr result (λ back. back ≡ seats) }
     ensures full { OnErr result (IsSome slot.new) }
 {

@@ -3,7 +3,7 @@ use crate::inputs::{PLAIN, conn, feed};
 use crate::runs::{Served, make_empty, serve_both};
 use audit_model::{Conn, Input, Instant, LoadId, Note, Outcome, RemovalCause, Seq, ServiceError};
 use cache_reading::ReadService;
-use cache_shared::{Core, Takings};
+use cache_shared::{Stepping, Takings};
 use moka_audit::{Verdict, audit};
 use std::alloc::Global;
 use std::sync::Wait;

@@ -1,13 +1,13 @@
 //! Seats, and steps of them.
 use crate::inputs::feed;
 use audit_model::{Conn, Input};
-use cache_shared::{Core, Seat, Seating, SharedService};
+use cache_shared::{Seat, Seating, SharedService, Stepping};
 use cache_spaces::Output;
 use std::alloc::Global;
 use std::sync::Wait;
 
 /// Two seats of a shared service.
-pub fn two_seats<L: Seating, C: Core>(
+pub fn two_seats<L: Seating, C: Stepping>(
     rt: &impl Wait,
     shared: &SharedService<L, C>,
 ) -> Option<(Seat<L>, Seat<L>)> {

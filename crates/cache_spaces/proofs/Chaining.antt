@@ -9,7 +9,7 @@ use Rattle.audit_model.specs.Places.{steps_of}
 use Rattle.audit_model.specs.Situation.{Situation}
 use Rattle.audit_model.specs.declared.config.Config.{Config}
 use Rattle.audit_model.specs.declared.transcript.Record.{Record}
-use Rattle.cache_namespace.specs.Ordered.{HaveKeys, order_behind}
+use Rattle.cache_lines.specs.Ordered.{HaveKeys, order_behind}
 use Rattle.cache_commands.specs.Order.{Order}
 use Rattle.cache_spaces.specs.Throughout.{HaveKeysFrom, is_so_of_each, order_at_end}
 

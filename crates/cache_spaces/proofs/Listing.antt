@@ -21,7 +21,7 @@ use Rattle.audit_model.specs.declared.event.Event.TheVariants as event
 use Rattle.audit_model.specs.declared.transcript.Record.{Record}
 use Rattle.audit_model.specs.declared.transcript.Step.{Step}
 use Rattle.audit_model.specs.declared.transcript.Transcript.{Transcript}
-use Rattle.cache_namespace.specs.Ordered.{HasKeys, HaveKeys, order_behind_step, order_behind}
+use Rattle.cache_lines.specs.Ordered.{HasKeys, HaveKeys, order_behind_step, order_behind}
 use Rattle.cache_commands.specs.Order.{Order, Settled, Used, Unknown, order_by}
 use Rattle.cache_spaces.specs.Recent.{AreSynced, KeepsList, IsCommand, is_of_list}
 use Rattle.cache_spaces.specs.Throughout.{HasExactKeys, HaveKeysFrom, order_at_end}

@@ -1,5 +1,5 @@
 -- Namespaces, made one after another.
-use Rattle.std.proofs.Common.{◌≡◌, ℕ, Bool, zero, suc, ◌<◌, ◌+◌, List, [], ◌∷◌, ◌++◌, length, length-append, Some, None, sym, ap, ◌∙◌, subst, arith, get_or, take}
+use Rattle.std.proofs.Common.{◌≡◌, ℕ, Bool, zero, suc, ◌<◌, ◌+◌, List, [], ◌∷◌, ◌++◌, length, length-append, Option, Some, None, sym, ap, ◌∙◌, subst, arith, get_or, take}
 use Rattle.std.specs.Prelude.{IsTrue}
 use Rattle.std.proofs.Math.Seq.{take-suc}
 use Rattle.std.specs.List.{slice_get, list_all}
@@ -10,7 +10,8 @@ use Rattle.rand_core.specs.Stream.{Stream, fill_bytes}
 use Rattle.rand_xoshiro.specs.Xoshiro256.{plus_plus}
 use Rattle.audit_model.specs.declared.config.Config.{Config}
 use Rattle.cache_spaces.specs.Services.{IsNewNamespace, AreNew, fork_after, stream_after_forks}
-use Rattle.cache_spaces.specs.declared.space.Space.{Space}
+use Rattle.cache_spaces.specs.Spaces.{Space}
+use Rattle.cache_tape.specs.Taped.{Taped}
 
 absent : {X A : Type 0} {x : X} → None ≡ Some x → A
 absent e = absurd (none-some _ e)
@@ -39,25 +40,30 @@ all-at p (x ∷ xs) (suc i) d lt all = all-at p xs i d (omega arith) (and_parts 
 abbrev pub stream_from : List ℕ → Stream
 stream_from generator = stream_of (steps_u64_high plus_plus) generator
 
--- none yet
-pub new-none : (spaces : List Space) (generator : List ℕ) (made : ℕ) → spaces ≡ [] → AreNew spaces [] generator made
-new-none spaces generator made none = record { count = ap length none; each = λ k config space at_c at_s. absent at_c }
+module _ {T : Type 0} (tape : T → Option Taped) (blank : Option Taped) where
+  -- none yet
+  pub new-none : (spaces : List (Space T)) (generator : List ℕ) (made : ℕ) → spaces ≡ [] → AreNew tape blank spaces [] generator made
+  new-none spaces generator made none = record { count = ap length none; each = λ k config space at_c at_s. absent at_c }
 
--- one namespace more
-pub new-more : (spaces more : List Space) (configs : List Config) (generator : List ℕ) (made i : ℕ) (space : Space) (d : Config) → i < length configs → length spaces ≡ i
-    → AreNew spaces (take i configs) generator made → IsNewNamespace space i (get_or configs i d) (fork_after i generator) made → more ≡ spaces ++ space ∷ [] → AreNew more (take (i + 1) configs) generator made
-new-more spaces more configs generator made i space d lt number new added last =
-    subst (λ l. AreNew l (take (i + 1) configs) generator made) (sym last) (subst (λ l. AreNew (spaces ++ space ∷ []) l generator made) (sym one-more) (record {
-      count = length-append spaces (space ∷ []) ∙ ap (λ n. n + 1) new.count ∙ sym (length-append (take i configs) (get_or configs i d ∷ []));
-      each = λ k c s at_c at_s.
-          each-more (λ k s c. IsNewNamespace s k c (fork_after k generator) made) spaces (take i configs) space (get_or configs i d) new.count (λ j s c at_s at_c. new.each j c s at_c at_s)
-          (subst (λ n. IsNewNamespace space n (get_or configs i d) (fork_after n generator) made) (sym number) added) k s c at_s at_c;
-    }))
-  where
-    one-more : take (i + 1) configs ≡ take i configs ++ get_or configs i d ∷ []
-    one-more =
-        let e : i + 1 ≡ suc i = omega arith in
-        ap (λ k. take k configs) e ∙ take-suc configs i d lt
+  -- the same number and generator
+  pub new-so : (space : Space T) (k i : ℕ) (config : Config) (r q : List ℕ) (made : ℕ) → k ≡ i → r ≡ q → IsNewNamespace tape blank space k config r made → IsNewNamespace tape blank space i config q made
+  new-so space k i config r q made e f n = subst (λ j. IsNewNamespace tape blank space j config q made) e (subst (λ x. IsNewNamespace tape blank space k config x made) f n)
+
+  -- one namespace more
+  pub new-more : (spaces more : List (Space T)) (configs : List Config) (generator : List ℕ) (made i : ℕ) (space : Space T) (d : Config) → i < length configs → length spaces ≡ i
+      → AreNew tape blank spaces (take i configs) generator made → IsNewNamespace tape blank space i (get_or configs i d) (fork_after i generator) made → more ≡ spaces ++ space ∷ [] → AreNew tape blank more (take (i + 1) configs) generator made
+  new-more spaces more configs generator made i space d lt number new added last =
+      subst (λ l. AreNew tape blank l (take (i + 1) configs) generator made) (sym last) (subst (λ l. AreNew tape blank (spaces ++ space ∷ []) l generator made) (sym one-more) (record {
+        count = length-append spaces (space ∷ []) ∙ ap (λ n. n + 1) new.count ∙ sym (length-append (take i configs) (get_or configs i d ∷ []));
+        each = λ k c s at_c at_s.
+            each-more (λ k s c. IsNewNamespace tape blank s k c (fork_after k generator) made) spaces (take i configs) space (get_or configs i d) new.count (λ j s c at_s at_c. new.each j c s at_c at_s)
+            (subst (λ n. IsNewNamespace tape blank space n (get_or configs i d) (fork_after n generator) made) (sym number) added) k s c at_s at_c;
+      }))
+    where
+      one-more : take (i + 1) configs ≡ take i configs ++ get_or configs i d ∷ []
+      one-more =
+          let e : i + 1 ≡ suc i = omega arith in
+          ap (λ k. take k configs) e ∙ take-suc configs i d lt
 
 -- one fork more
 pub forked-more : (before generator after : List ℕ) (i : ℕ) → stream_from generator ≡ stream_after_forks i (stream_from before) → stream_from after ≡ (fill_bytes 32 (stream_from generator)).1

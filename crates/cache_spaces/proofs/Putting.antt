@@ -1,39 +1,87 @@
 -- One namespace of a service in the place of another.
-use Rattle.std.proofs.Common.{◌≡◌, ℕ, ◌<◌, Bool, true, false, List, length, refl, sym, ap, ◌∙◌, subst, get_or, inr}
-use Rattle.std.specs.Prelude.{slice_set}
+use Rattle.std.proofs.Common.{◌≡◌, ◌≢◌, ℕ, zero, suc, ◌<◌, List, [], ◌∷◌, length, Some, refl, sym, ap, ◌∙◌, subst, get_or, inl, inr, arith}
+use Rattle.std.specs.Prelude.{Result, Ok, Err, IfOk, IfErr, OnOk, slice_set, ◌⊎◌}
 use Rattle.std.specs.List.{slice_get}
-use Rattle.std.proofs.lemmas.Option.{same_Some}
+use Rattle.std.proofs.lemmas.List.{length-set}
+use Rattle.std.proofs.lemmas.Option.{same_Some, slice_get_read, slice_get_within}
 use Rattle.audit_model.specs.declared.input.ServiceError.{ServiceError}
-use Rattle.cache_namespace.proofs.Places.{at-place}
-use Rattle.cache_spaces.specs.Moves.{At}
-use Rattle.cache_spaces.specs.Serves.{SameSpace}
-use Rattle.cache_spaces.specs.Services.{IsSpace, Refuses, RefusesLook}
-use Rattle.cache_spaces.specs.declared.space.Space.{Space}
+use Rattle.cache_spaces.specs.Calls.{At, InSpace, Refuses}
 
-pub put-at : {X : Type 0} (Fact : X → X → Type 0) (xs : List X) (i : ℕ) (was is : X) → i < length xs → was ≡ get_or xs i was → Fact was is → At xs (slice_set xs i is) i Fact
-put-at Fact xs i was is lt at fact = record { was = was; is = is; at = at-place xs i was lt at; set = refl; fact = fact }
+-- two numbers are the same or not
+pub same-or-not : (i j : ℕ) → (i ≡ j) ⊎ (i ≢ j)
+same-or-not zero zero = inl refl
+same-or-not zero (suc j) = inr (λ e. omega arith)
+same-or-not (suc i) zero = inr (λ e. omega arith)
+same-or-not (suc i) (suc j) = go (same-or-not i j)
+  where
+    go : (i ≡ j) ⊎ (i ≢ j) → (suc i ≡ suc j) ⊎ (suc i ≢ suc j)
+    go (inl e) = inl (ap suc e)
+    go (inr ne) = inr (λ e. ne (omega arith))
 
-pub at-of : {X : Type 0} (Fact : X → X → Type 0) (old new : List X) (i j : ℕ) → i ≡ j → At old new i Fact → At old new j Fact
-at-of Fact old new i j e a = subst (λ k. At old new k Fact) e a
+-- what a look at a place found
+pub there : {X : Type 0} (xs : List X) (i : ℕ) (x : X) → i < length xs → x ≡ get_or xs i x → slice_get xs i ≡ Some x
+there xs i x lt e = slice_get_read xs (length xs) i x refl lt e
 
--- a refusal of a namespace that there is
-pub refuses-at : (Cause : Space → Type 0) (old new : List Space) (i j : ℕ) (e : ServiceError) → i ≡ j → At old new i (λ was is. SameSpace was is × Cause was) → Refuses old new j e Cause
-refuses-at Cause old new i j e same a = inr (subst (λ k. At old new k (λ was is. SameSpace was is × Cause was)) same a)
+-- a list that is seen so, and what stands at a place of it
+module _ {X : Type 0} (seen xs : List X) (e : xs ≡ seen) (i : ℕ) (was : X) (at : slice_get xs i ≡ Some was) where
+  pub put-at : (Fact : X → X → Type 0) (is : X) → Fact was is → At seen (slice_set xs i is) i Fact
+  put-at Fact is fact = subst (λ l. At l (slice_set xs i is) i Fact) e (record { was = was; is = is; at = at; set = refl; fact = fact })
 
--- a namespace that was left alone is the same
-pub same-space : (was is : Space) → is ≡ was → SameSpace was is
-same-space was is e =
-    subst (λ x. SameSpace was x) (sym e) (record { stands = λ s stands. stands; recency = λ b keys r. r; config = refl; made = refl; outputs = λ number. refl; closings = λ number. refl; notices = refl; count = refl; goes = record { taken = refl; namespace = refl } })
+  pub put-ok : {A E : Type 0} (Fact : A → X → X → Type 0) (is : X) (r : Result A E) → IfOk r (λ a. Fact a was is) → IfOk r (λ a. At seen (slice_set xs i is) i (Fact a))
+  put-ok Fact is (Ok a) fact = put-at (Fact a) is fact
+  put-ok Fact is (Err e) fact = fact
 
--- what is true of the namespace at a place is true of whatever is the namespace of that number
-pub of-space : (Fact : Space → Type 0) (spaces : List Space) (i j : ℕ) (here : Space) → i ≡ j → i < length spaces → here ≡ get_or spaces i here → Fact here → (space : Space) → IsSpace spaces j space → Fact space
-of-space Fact spaces i j here same lt at fact space is = subst Fact (same_Some here space (sym (at-place spaces i here lt at) ∙ ap (slice_get spaces) same ∙ is)) fact
+  pub put-done : {A E : Type 0} (Fact : X → X → Type 0) (is : X) (r : Result A E) → OnOk r (Fact was is) → OnOk r (At seen (slice_set xs i is) i Fact)
+  put-done Fact is (Ok a) fact = put-at Fact is fact
+  put-done Fact is (Err e) fact = fact
 
--- a look at a namespace that there is was refused by the namespace
-pub refuses-look : (Cause : Space → Type 0) (spaces : List Space) (i j : ℕ) (here : Space) (e : ServiceError) → i ≡ j → i < length spaces → here ≡ get_or spaces i here → Cause here → RefusesLook spaces j e Cause
-refuses-look Cause spaces i j here e same lt at fact = inr (record { space = here; at = sym (ap (slice_get spaces) same) ∙ at-place spaces i here lt at; fact = fact })
+  pub found : (Fact : X → Type 0) → Fact was → InSpace seen i Fact
+  found Fact fact = subst (λ l. InSpace l i Fact) e (record { space = was; at = at; fact = fact })
 
--- what was not refused was opened
-pub opened : (was_opened : Bool) → (was_opened ≡ false → false ≡ true) → was_opened ≡ true
-opened true refused = refl
-opened false refused = refused refl
+  pub found-ok : {A E : Type 0} (Fact : A → X → Type 0) (r : Result A E) → IfOk r (λ a. Fact a was) → IfOk r (λ a. InSpace seen i (Fact a))
+  found-ok Fact (Ok a) fact = found (Fact a) fact
+  found-ok Fact (Err e) fact = fact
+
+  pub refused-at : (error : ServiceError) (Cause : X → Type 0) → Cause was → Refuses seen i error Cause
+  refused-at error Cause cause = inr (found Cause cause)
+
+  pub refused-there : {A : Type 0} (Cause : ServiceError → X → Type 0) (r : Result A ServiceError) → IfErr r (λ e. Cause e was) → IfErr r (λ e. Refuses seen i e (Cause e))
+  refused-there Cause (Ok a) cause = cause
+  refused-there Cause (Err e) cause = refused-at e (Cause e) cause
+
+-- what is so of an error where something else is so
+pub if-err-given : {A E P : Type 0} (Q : E → Type 0) (r : Result A E) → (P → IfErr r Q) → IfErr r (λ e. P → Q e)
+if-err-given Q (Ok a) f = tt
+if-err-given Q (Err e) f = f
+
+-- ---- what is known of a place is known of more
+
+pub at-map : {X : Type 0} {Fact More : X → X → Type 0} (old new : List X) (i : ℕ) → ((was is : X) → slice_get old i ≡ Some was → Fact was is → More was is) → At old new i Fact → At old new i More
+at-map old new i f a = record { was = a.was; is = a.is; at = a.at; set = a.set; fact = f a.was a.is a.at a.fact }
+
+pub refuses-map : {X : Type 0} {Cause More : X → Type 0} (xs : List X) (i : ℕ) (e : ServiceError) → ((was : X) → Cause was → More was) → Refuses xs i e Cause → Refuses xs i e More
+refuses-map xs i e f (inl none) = inl none
+refuses-map xs i e f (inr a) = inr (record { space = a.space; at = a.at; fact = f a.space a.fact })
+
+-- ---- what stands at the place afterwards, and what at others
+
+replaced : {X : Type 0} (xs : List X) (i : ℕ) (x : X) → i < length xs → slice_get (slice_set xs i x) i ≡ Some x
+replaced [] i x lt = absurd (omega arith)
+replaced (y ∷ ys) zero x lt = refl
+replaced (y ∷ ys) (suc i) x lt = replaced ys i x (omega arith)
+
+elsewhere : {X : Type 0} (xs : List X) (i j : ℕ) (x : X) → j ≢ i → slice_get (slice_set xs i x) j ≡ slice_get xs j
+elsewhere [] i j x ne = refl
+elsewhere (y ∷ ys) zero zero x ne = absurd (ne refl)
+elsewhere (y ∷ ys) zero (suc j) x ne = refl
+elsewhere (y ∷ ys) (suc i) zero x ne = refl
+elsewhere (y ∷ ys) (suc i) (suc j) x ne = elsewhere ys i j x (λ e. ne (ap suc e))
+
+pub at-it : {X : Type 0} {Fact : X → X → Type 0} (old new : List X) (i : ℕ) (a : At old new i Fact) (x : X) → slice_get new i ≡ Some x → a.is ≡ x
+at-it old new i a x here = same_Some a.is x (sym (replaced old i a.is (slice_get_within old i a.was a.at)) ∙ ap (λ xs. slice_get xs i) (sym a.set) ∙ here)
+
+pub at-others : {X : Type 0} {Fact : X → X → Type 0} (old new : List X) (i j : ℕ) → At old new i Fact → j ≢ i → slice_get new j ≡ slice_get old j
+at-others old new i j a ne = ap (λ xs. slice_get xs j) a.set ∙ elsewhere old i j a.is ne
+
+pub at-length : {X : Type 0} {Fact : X → X → Type 0} (old new : List X) (i : ℕ) → At old new i Fact → length new ≡ length old
+at-length old new i a = ap length a.set ∙ length-set old i a.is

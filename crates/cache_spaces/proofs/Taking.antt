@@ -1,36 +1,30 @@
--- Loads that are taken from a service that keeps its journals.
-use Rattle.std.proofs.Common.{ℕ, ◌-◌, List, Vec, Global, ap, subst, sym, inl, inr}
-use Rattle.std.specs.Prelude.{Result, Ok, Err, IfOk, IfErr}
-use Rattle.audit_model.specs.declared.input.LoadId.{LoadId}
+-- What takings and looks say of a namespace.
+use Rattle.std.proofs.Common.{◌≡◌, ℕ, ◌-◌, Bool, true, false, List, [], Option, Vec, Global, refl}
+use Rattle.std.specs.Prelude.{◌↔◌, Result, Ok, Err, IfOk, IfErr, IsErr, slice_set}
 use Rattle.audit_model.specs.declared.input.ServiceError.{ServiceError}
-use Rattle.audit_model.specs.declared.transcript.Transcript.{Transcript}
-use Rattle.cache_namespace.specs.Taken.{text_at}
-use Rattle.cache_spaces.specs.Moves.{At}
-use Rattle.cache_spaces.specs.Played.{WerePlayed}
-use Rattle.cache_spaces.specs.Serves.{TakesLoads}
-use Rattle.cache_spaces.specs.Services.{Refuses}
-use Rattle.cache_spaces.specs.declared.space.Space.{Space}
-use Rattle.cache_spaces.proofs.Journaling.{Alike, same-played}
+use Rattle.audit_model.specs.declared.input.ServiceError.TheVariants as error
+use Rattle.cache_spaces.specs.Calls.{IsOpened, IsUnknown, TakesOutput}
+use Rattle.cache_spaces.specs.Spaces.{Space, untaken_output, was_opened}
 
--- but for the loads that wait to be taken the namespace is the same
-alike-but-loads : (was is : Space) (loads : List (LoadId × List ℕ)) → TakesLoads was is loads → Alike was is
-alike-but-loads was is loads t = record {
-  stands = t.stands;
-  recency = t.recency;
-  config = t.config;
-  made = t.made;
-  outputs = λ n. ap (λ cs. text_at cs (n - 1)) t.connections;
-  notices = t.notices;
-}
+-- what was not refused was opened
+opened : (b : Bool) → (b ≡ false → false ≡ true) → b ≡ true
+opened true refused = refl
+opened false refused = refused refl
 
--- the journals stay what some inputs come to
-pub were-loads : (k : ℕ) (ts : List Transcript) (old new : List Space) (r : Result (Vec (LoadId × List ℕ) Global) ServiceError)
-    → IfOk r (λ loads. At old new k (λ was is. TakesLoads was is loads.items)) → IfErr r (λ e. Refuses old new k e (λ was. ⊥)) → WerePlayed old ts → WerePlayed new ts
-were-loads k ts old new (Ok loads) taken refused w = record {
-  configs = w.configs;
-  moment = w.moment;
-  inputs = w.inputs;
-  played = same-played w.configs w.moment w.inputs ts old new k (λ was is. TakesLoads was is loads.items) (λ was is t. alike-but-loads was is loads.items t) w.played taken;
-}
-were-loads k ts old new (Err e) taken (inl none) w = subst (λ spaces. WerePlayed spaces ts) (sym none.2) w
-were-loads k ts old new (Err e) taken (inr refused) w = absurd refused.fact.1
+module _ {T : Type 0} (was : Space T) (number : ℕ) where
+  pub takes-output : (is : Space T) (r : Result (Vec ℕ Global) ServiceError) → IfOk r (λ text. (text.items ≡ untaken_output was number) × (is ≡ record was { outputs = slice_set was.outputs (number - 1) [] })) → IsErr r ↔ (was_opened was number ≡ false)
+      → IfOk r (λ text. TakesOutput was is number text.items)
+  takes-output is (Ok text) taken refused = record { opened = opened (was_opened was number) refused.1; taken = taken.0; rest = taken.1 }
+  takes-output is (Err e) taken refused = taken
+
+  pub unknown : {A : Type 0} (r : Result A ServiceError) → IsErr r ↔ (was_opened was number ≡ false) → IfErr r (λ e. e ≡ error.NoConnection) → IfErr r (λ e. IsUnknown was number e)
+  unknown (Ok a) refused none = none
+  unknown (Err e) refused none = record { unknown = refused.0 refl; error = none }
+
+  pub first-of : {A : Type 0} (Same : Type 0) (r : Result A ServiceError) → IfErr r (λ e. (e ≡ error.NoConnection) × Same) → IfErr r (λ e. e ≡ error.NoConnection)
+  first-of Same (Ok a) both = both
+  first-of Same (Err e) both = both.0
+
+  pub looked : {A : Type 0} (Fact : A → Type 0) (r : Result A ServiceError) → IfOk r Fact → IsErr r ↔ (was_opened was number ≡ false) → IfOk r (λ a. IsOpened was number × Fact a)
+  looked Fact (Ok a) fact refused = (opened (was_opened was number) refused.1, fact)
+  looked Fact (Err e) fact refused = fact

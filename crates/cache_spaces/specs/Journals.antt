@@ -1,29 +1,44 @@
--- The journals of a service.
-use Rattle.std.specs.Prelude.{◌≡◌, ℕ, List, Some}
+-- The journals of a service that keeps them.
+use Rattle.std.specs.Prelude.{◌≡◌, ℕ, List, Some, Option, IsTrue, map}
 use Rattle.std.specs.List.{slice_get}
 use Rattle.audit_laws.specs.Leading.{LeadsTo}
+use Rattle.audit_model.specs.Belongs.{IsAdmitted}
+use Rattle.audit_model.specs.Obeys.{Obeys}
 use Rattle.audit_model.specs.Situation.{Situation}
 use Rattle.audit_model.specs.declared.transcript.Transcript.{Transcript}
-use Rattle.cache_spaces.specs.Services.{spaces_of}
-use Rattle.cache_spaces.specs.Spaces.{StandsFor, config_of}
-use Rattle.cache_spaces.specs.declared.journals.RecordedService.{RecordedService}
-use Rattle.cache_spaces.specs.declared.service.Service.{Service}
-use Rattle.cache_spaces.specs.declared.space.Space.{Space}
+use Rattle.cache_spaces.specs.Played.{journal_of}
+use Rattle.cache_spaces.specs.Recent.{KeepsList}
+use Rattle.cache_spaces.specs.Spaces.{Space, StandsFor, config_of}
+use Rattle.cache_spaces.specs.Throughout.{HasExactKeys, is_bounded_throughout, is_timely_throughout}
+use Rattle.cache_store.specs.Recency.{IsPlainLru}
+use Rattle.cache_tape.specs.Taped.{Taped}
 
-abbrev pub journals_of : RecordedService → List Transcript
-journals_of recorded = recorded.journals.items
+-- what such a tape keeps
+abbrev pub kept_by : Taped → Option Taped
+kept_by t = Some t
 
-abbrev pub service_of : RecordedService → Service
-service_of recorded = recorded.service
+-- the journals of the namespaces, in their order
+abbrev pub journals_of : List (Space Taped) → List Transcript
+journals_of spaces = map journal_of spaces
 
 -- the journal leads to a situation for which the namespace stands
-pub record LeadsSo (space : Space) (journal : Transcript) : Type 0 where
+pub record LeadsSo {T : Type 0} (space : Space T) (journal : Transcript) : Type 0 where
   pub last : Situation
   pub stands : StandsFor space last
   pub leads : LeadsTo (config_of space) journal last
 
 -- so of each namespace and its journal
-abbrev pub IsSoOfEach : (Space → Transcript → Type 0) → RecordedService → Type 0
-IsSoOfEach Fact recorded =
-    (namespace : ℕ) (space : Space) (journal : Transcript) → slice_get (spaces_of (service_of recorded)) namespace ≡ Some space
-    → slice_get (journals_of recorded) namespace ≡ Some journal → Fact space journal
+abbrev pub IsSoOfEach : (Space Taped → Transcript → Type 0) → List (Space Taped) → Type 0
+IsSoOfEach Fact spaces = (namespace : ℕ) (space : Space Taped) → slice_get spaces namespace ≡ Some space → Fact space (journal_of space)
+
+-- The journal obeys, with no event that is refused, and leads to where the namespace stands. Each of its `SYNC`s left timely values, and after
+-- each event each part was within its bound. Under a plain LRU policy each `SYNC` behind one command left exactly the keys of the recency
+-- list, and where its steps are commands of such a list, each followed at once by a `SYNC`, the keys of that list are held.
+pub record IsJournalOf (space : Space Taped) (journal : Transcript) : Type 0 where
+  pub obeys : Obeys (config_of space) journal
+  pub admitted : IsAdmitted (config_of space) journal
+  pub leads : ∥ LeadsSo space journal ∥₁
+  pub timely : IsTrue (is_timely_throughout (config_of space) journal)
+  pub bounded : IsTrue (is_bounded_throughout (config_of space) journal)
+  pub exact : (places : ℕ) → IsPlainLru (config_of space) places → ∥ HasExactKeys (config_of space) places journal ∥₁
+  pub recent : (places : ℕ) → IsPlainLru (config_of space) places → ∥ KeepsList (config_of space) places journal ∥₁

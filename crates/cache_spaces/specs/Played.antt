@@ -14,10 +14,13 @@ use Rattle.cache_commands.specs.Order.{AgreesWith, Settled}
 use Rattle.cache_store.specs.Recency.{IsPlainLru}
 use Rattle.cache_spaces.specs.Served.{is_served}
 use Rattle.cache_spaces.specs.Recent.{KeepsList}
-use Rattle.cache_spaces.specs.Recorded.{IsQuiet}
-use Rattle.cache_spaces.specs.Spaces.{HasItsParts, StandsFor, config_of, made_of, part_in, recency_of}
+use Rattle.cache_spaces.specs.Spaces.{HasItsParts, Space, StandsFor, config_of, made_of, part_in, recency_of}
 use Rattle.cache_spaces.specs.Throughout.{HasExactKeys, HaveKeysFrom, are_bounded_from, are_timely_from, is_bounded_throughout, is_timely_throughout, order_at_end}
-use Rattle.cache_spaces.specs.declared.space.Space.{Space}
+use Rattle.cache_tape.specs.Taped.{Taped}
+
+-- the journal of a namespace, which its tape keeps
+abbrev pub journal_of : Space Taped → Transcript
+journal_of space = space.tape.journal
 
 -- The namespace's transcript: it begins at that moment, belongs to the inputs, leads to a situation and obeys, and none of its events is one
 -- that is refused. Each of its `SYNC`s leaves timely values, and after each event each part is within its bound. Where the least recently
@@ -44,34 +47,31 @@ pub record ArePlayed (configs : List Config) (moment : Instant) (inputs : List I
   pub each : (namespace : ℕ) (config : Config) (transcript : Transcript)
       → slice_get configs namespace ≡ Some config → slice_get transcripts namespace ≡ Some transcript → Plays config namespace moment inputs transcript
 
--- a namespace that has taken the inputs, with its transcript
-pub record HasPlayed (config : Config) (namespace : ℕ) (moment : Instant) (inputs : List Input) (transcript : Transcript) (space : Space) : Type 0 where
-  pub made : transcript.made ≡ moment
+-- a namespace that has taken the inputs
+pub record HasPlayed (config : Config) (namespace : ℕ) (moment : Instant) (inputs : List Input) (space : Space Taped) : Type 0 where
+  pub made : (journal_of space).made ≡ moment
   pub configured : config_of space ≡ config
   pub served : IsTrue (is_served config)
   pub last : Situation
   pub stands : StandsFor space last
   pub within : HasItsParts config (part_in space)
-  pub parted : LeadsBy config (part_in space) transcript last
-  pub belongs : BelongsIn config namespace (empty_situation moment.nanos) inputs transcript.records last
+  pub parted : LeadsBy config (part_in space) (journal_of space) last
+  pub belongs : BelongsIn config namespace (empty_situation moment.nanos) inputs (journal_of space).records last
   pub made_is : made_of space ≡ moment.nanos
-  pub timely : IsTrue (are_timely_from config moment.nanos transcript.records)
-  pub bounded : IsTrue (are_bounded_from config moment.nanos transcript.records)
-  pub agrees : (places : ℕ) → IsPlainLru config places → AgreesWith (recency_of space) places (order_at_end config (suc places) (Settled []) transcript.records)
-  pub exact : (places : ℕ) → IsPlainLru config places → HaveKeysFrom config (suc places) (Settled []) (empty_situation moment.nanos) transcript.records
-  pub quiet : IsQuiet space
+  pub timely : IsTrue (are_timely_from config moment.nanos (journal_of space).records)
+  pub bounded : IsTrue (are_bounded_from config moment.nanos (journal_of space).records)
+  pub agrees : (places : ℕ) → IsPlainLru config places → AgreesWith (recency_of space) places (order_at_end config (suc places) (Settled []) (journal_of space).records)
+  pub exact : (places : ℕ) → IsPlainLru config places → HaveKeysFrom config (suc places) (Settled []) (empty_situation moment.nanos) (journal_of space).records
 
 -- each namespace has taken the inputs
-pub record HavePlayed (configs : List Config) (moment : Instant) (inputs : List Input) (transcripts : List Transcript) (spaces : List Space) : Type 0 where
-  pub count : length transcripts ≡ length configs
-  pub spaces_count : length spaces ≡ length configs
-  pub each : (namespace : ℕ) (config : Config) (transcript : Transcript) (space : Space)
-      → slice_get configs namespace ≡ Some config → slice_get transcripts namespace ≡ Some transcript → slice_get spaces namespace ≡ Some space
-      → HasPlayed config namespace moment inputs transcript space
+pub record HavePlayed (configs : List Config) (moment : Instant) (inputs : List Input) (spaces : List (Space Taped)) : Type 0 where
+  pub count : length spaces ≡ length configs
+  pub each : (namespace : ℕ) (config : Config) (space : Space Taped)
+      → slice_get configs namespace ≡ Some config → slice_get spaces namespace ≡ Some space → HasPlayed config namespace moment inputs space
 
 -- the journals are what some inputs come to, played from namespaces just made
-pub record WerePlayed (spaces : List Space) (journals : List Transcript) : Type 0 where
+pub record WerePlayed (spaces : List (Space Taped)) : Type 0 where
   pub configs : List Config
   pub moment : Instant
   pub inputs : List Input
-  pub played : HavePlayed configs moment inputs journals spaces
+  pub played : HavePlayed configs moment inputs spaces

@@ -7,16 +7,20 @@ use Rattle.audit_model.specs.Situation.{Situation, empty_situation}
 use Rattle.audit_model.specs.declared.config.Config.{Config}
 use Rattle.audit_model.specs.declared.transcript.Record.{Record}
 use Rattle.audit_model.specs.declared.transcript.Transcript.{Transcript}
-use Rattle.cache_namespace.specs.Ordered.{HaveKeys, order_behind}
+use Rattle.cache_lines.specs.Lines.{are_timely}
+use Rattle.cache_lines.specs.Ordered.{HaveKeys, order_behind}
 use Rattle.cache_commands.specs.Order.{Order, Settled}
 use Rattle.cache_store.specs.Running.{is_bounded}
-use Rattle.cache_spaces.specs.Moves.{are_timely_in}
 
 -- these records follow one another from a situation on, and the fact is so of each, of the situation before it and of the one to which it leads
 abbrev pub is_so_of_each : (Situation → Record → Situation → Bool) → Config → Situation → List Record → Bool
 is_so_of_each fact config s [] = true
 is_so_of_each fact config s (entry ∷ entries) =
     option_map_or (λ t. fact s entry t && is_so_of_each fact config t entries) (after_record config s entry) false
+
+-- each `SYNC` of the record leaves no value that is covered or long dead
+abbrev pub are_timely_in : Config → ℕ → Situation → Record → Bool
+are_timely_in config made s entry = are_timely config made (after_event entry.event s) (tasks_in s entry.event) (steps_of entry)
 
 -- each `SYNC` of these records, by a namespace made at that moment, leaves only timely values: none that is covered, none at or past its
 -- acceptance plus the live time, none 300 milliseconds or more past its last use plus the idle time, and none with an own deadline in an

@@ -1,62 +1,45 @@
 //! A service that keeps its journals.
-ghost use Rattle.std.specs.Prelude.{◌≡◌, ℕ, ◌≤◌, ◌<◌, ◌^◌, ◌↔◌, ◌⊎◌, ◌∷◌, [], Some, false, IfOk, IfErr, OnOk, OnErr, IsErrOf, IsTrue, MatchOption, length};
+ghost use Rattle.std.specs.Prelude.{◌≡◌, ℕ, ◌≤◌, ◌<◌, ◌^◌, ◌↔◌, ◌⊎◌, Some, false, IfOk, IfErr, OnErr, IsErrOf, length};
 ghost use Rattle.std.specs.List.{slice_get};
+ghost use Rattle.cache_spaces.specs.Calls.{At, Refuses, TakesLoads};
+ghost use Rattle.cache_spaces.specs.Inputs.{Performs, RefusedInput, namespace_of};
+ghost use Rattle.cache_spaces.specs.Journals.{IsJournalOf, IsSoOfEach, journals_of, kept_by};
 ghost use Rattle.cache_spaces.specs.Played.{WerePlayed};
-ghost use Rattle.cache_spaces.specs.Recorded.{AreEmpty, RecordsAt, RefusedInput, namespace_of};
-ghost use Rattle.cache_spaces.specs.Services.{are_taken, AreNew, Refuses, spaces_of};
+ghost use Rattle.cache_spaces.specs.Services.{AreNew, are_taken, blank_tape};
 
-use crate::outputs::last_output;
-use crate::service::Service;
-use crate::stepping::{empty_transcripts, namespace_of, step_in};
+use crate::service::Core;
+use crate::stepping::Refusal;
 use audit_model::{Bytes, Config, Input, Instant, LoadId, ServiceError, Transcript};
 use audit_receipts::Output;
+use cache_tape::Kept;
 use rand_xoshiro::Xoshiro256PlusPlus;
 use std::alloc::Global;
-use thiserror::Error;
-
-/// An input that was refused, handed back with the reason. By `?` it turns into its `ServiceError`.
-#[derive(Debug, Drop, Error)]
-#[error("{error}")]
-pub struct Refusal {
-    /// Why it was refused.
-    pub error: ServiceError,
-    /// The input, as it was handed in.
-    pub input: Input,
-}
-
-impl From<Refusal> for ServiceError {
-    ghost from_gives = { λ refused error. error ≡ refused.error };
-
-    /// Why it was refused; what was handed back is dropped.
-    fn from(refused: Refusal) -> ServiceError {
-        refused.error
-    }
-}
+use std::marker::Model;
 
 /// A service that keeps the transcript of each namespace, its journal. Replies and notes stand in the journals.
 ///
-/// A journal is kept whole: memory grows with each input.
+/// A journal is kept whole: memory grows with each input. Contracts see it as the list of its namespaces, the journal of each on its tape.
 #[derive(Drop)]
 pub struct RecordedService {
-    service: Service,
-    journals: Vec<Transcript>,
-    ghost played: { ∥ WerePlayed (spaces_of service) journals.items ∥₁ },
+    core: Core<Kept>,
+    /// Room for the journals, which are moved out at the end.
+    room: Vec<Transcript>,
+}
+
+impl Model for RecordedService {
+    ghost use Rattle.std.specs.Prelude.{◌≡◌, ◌≤◌, [], List, length, vec_capacity};
+    ghost use Rattle.cache_spaces.specs.Played.{WerePlayed};
+    ghost use Rattle.cache_spaces.specs.Spaces.{Space};
+    ghost use Rattle.cache_tape.specs.Taped.{Taped};
+
+    ghost Value = { List (Space Taped) };
+
+    ghost view = { λ r. r.core };
+
+    ghost invariant = { λ r. ∥ WerePlayed r.core ∥₁ × (r.room.items ≡ []) × (length r.core ≤ vec_capacity r.room) };
 }
 
 impl RecordedService {
-    ghost use Rattle.audit_model.specs.Belongs.{IsAdmitted};
-    ghost use Rattle.audit_model.specs.Obeys.{Obeys};
-    ghost use Rattle.cache_store.specs.Recency.{IsPlainLru};
-    ghost use Rattle.cache_spaces.specs.Journals.{IsSoOfEach, LeadsSo, journals_of, service_of};
-    ghost use Rattle.cache_spaces.specs.Outputs.{output_after};
-    ghost use Rattle.cache_spaces.specs.Moves.{At};
-    ghost use Rattle.cache_spaces.specs.Recent.{KeepsList};
-    ghost use Rattle.cache_spaces.specs.Serves.{TakesLoads};
-    ghost use Rattle.cache_spaces.specs.Services.{IsSpace};
-    ghost use Rattle.cache_spaces.specs.Spaces.{config_of};
-    ghost use Rattle.cache_spaces.specs.Throughout.{HasExactKeys, is_bounded_throughout, is_timely_throughout};
-    ghost use Rattle.cache_spaces.specs.declared.space.Space.{Space as Seen};
-
     /// A service of one namespace for each configuration, in their order, made at that moment, with an empty journal each.
     ///
     /// Refused with `Moment` above 2^63 - 1 nanoseconds, then with `Config` where there are not 1 to 16 configurations or one is out of
@@ -67,124 +50,82 @@ impl RecordedService {
         generator: Xoshiro256PlusPlus,
         moment: Instant,
     ) -> Result<RecordedService, ServiceError>
-        ensures made { IfOk result (λ recorded. AreNew (spaces_of (service_of recorded)) configs.now generator moment.nanos) }
-        ensures empty { IfOk result (λ recorded. AreEmpty moment (journals_of recorded) × (length (journals_of recorded) ≡ length configs.now)) }
+        ensures made { IfOk result (λ recorded. AreNew kept_by (Some (blank_tape moment)) recorded configs.now generator moment.nanos) }
         ensures moment { IsErrOf result ServiceError.Moment ↔ (2 ^ 63 ≤ moment.nanos) }
         ensures config { IsErrOf result ServiceError.Config ↔ ((moment.nanos < 2 ^ 63) × (are_taken configs.now ≡ false)) }
         ensures memory { IfErr result (λ e. (e ≡ ServiceError.Moment) ⊎ (e ≡ ServiceError.Config) ⊎ (e ≡ ServiceError.OutOfMemory)) }
     {
-        let service = match Service::new(alloc, configs, generator, moment) {
-            Ok(service) => service,
+        let core = match Core::new(alloc, configs, generator, moment) {
+            Ok(core) => core,
             Err(error) => return Err(error),
         };
-        match empty_transcripts(alloc, configs.len(), moment) {
-            Ok(journals) => Ok(RecordedService { service, journals }),
+        match Vec::with_capacity(alloc, configs.len()) {
+            Ok(room) => Ok(RecordedService { core, room }),
             Err(_) => Err(ServiceError::OutOfMemory),
         }
     }
 
     /// Takes an input, adds its record to its namespace's journal, and answers what the record says. Replies and notes are read there.
     ///
-    /// An input that is refused is handed back, with the cause that `Service` has for it, or with `OutOfMemory` for its record: a give-up
-    /// too. Then nothing has changed, and no record is added.
+    /// An input that is refused is handed back, with the cause that the call has for it of which it is the input, the definition's own
+    /// before `OutOfMemory`, which may be for its record, for a closing and a give-up too. Then nothing has changed, and no record is added.
     pub fn step(&mut self, input: Input) -> Result<Output, Refusal>
-        ensures taken { OnOk result (RecordsAt input (journals_of self.old) (journals_of self.new) (spaces_of (service_of self.old)) (spaces_of (service_of self.new))) }
-        ensures output { IfOk result (λ output. (journal : Transcript) → slice_get (journals_of self.new) (namespace_of input) ≡ Some journal → output ≡ output_after (namespace_of input) journal.records) }
-        ensures refused { IfErr result (λ refusal. Refuses (spaces_of (service_of self.old)) (spaces_of (service_of self.new)) (namespace_of input) refusal.error (RefusedInput input refusal.error)) }
+        ensures performed { IfOk result (λ output. At self.old self.new (namespace_of input) (Performs kept_by input output)) }
+        ensures refused { IfErr result (λ refusal. Refuses self.old (namespace_of input) refusal.error (RefusedInput input refusal.error)) }
         ensures back { IfErr result (λ refusal. refusal.input ≡ input) }
-        ensures unrecorded { OnErr result (journals_of self.new ≡ journals_of self.old) }
-        // each `SYNC` leaves timely values
-        ensures timely { IsSoOfEach (λ space journal. IsTrue (is_timely_throughout (config_of space) journal)) self.new }
-        // after each event each part is within its bound
-        ensures bounded { IsSoOfEach (λ space journal. IsTrue (is_bounded_throughout (config_of space) journal)) self.new }
-        // where the steps are commands of a recency list, each followed at once by a `SYNC`, the keys of that list are held, and no other
-        ensures recent { IsSoOfEach (λ space journal. (places : ℕ) → IsPlainLru (config_of space) places → ∥ KeepsList (config_of space) places journal ∥₁) self.new }
+        ensures unchanged { OnErr result (self.new ≡ self.old) }
+        // the journals obey, and each leads to where its namespace stands
+        ensures journals { IsSoOfEach IsJournalOf self.new }
     {
-        match self.record(&input) {
-            Ok(output) => Ok(output),
-            Err(error) => Err(Refusal { error, input }),
-        }
-    }
-
-    /// Takes an input that the caller keeps, adds its record to its namespace's journal, and answers what the record says, as `step` does.
-    ///
-    /// An input that is refused, for the same causes, changes nothing and adds no record.
-    pub fn record(&mut self, input: &Input) -> Result<Output, ServiceError>
-        ensures taken { OnOk result (RecordsAt input.now (journals_of self.old) (journals_of self.new) (spaces_of (service_of self.old)) (spaces_of (service_of self.new))) }
-        ensures output { IfOk result (λ output. (journal : Transcript) → slice_get (journals_of self.new) (namespace_of input.now) ≡ Some journal → output ≡ output_after (namespace_of input.now) journal.records) }
-        ensures refused { IfErr result (λ e. Refuses (spaces_of (service_of self.old)) (spaces_of (service_of self.new)) (namespace_of input.now) e (RefusedInput input.now e)) }
-        ensures unrecorded { OnErr result (journals_of self.new ≡ journals_of self.old) }
-    {
-        match step_in(&mut self.service, &mut self.journals, input) {
-            Ok(()) => Ok(self.output_in(namespace_of(input))),
-            Err(error) => Err(error),
-        }
-    }
-
-    /// What the last record of a namespace came to.
-    fn output_in(&self, namespace: u64) -> Output
-        ensures { (journal : Transcript) → slice_get (journals_of self.now) namespace ≡ Some journal → result ≡ output_after namespace journal.records }
-    {
-        match self.journal_at(namespace) {
-            Some(journal) => last_output(namespace, journal.records.as_slice()),
-            None => Output::Done,
-        }
+        self.core.step(input)
     }
 
     /// The journal of a namespace: a record for each input that it took, in order. It obeys, and leads to where the namespace stands. Takes
     /// no memory. Refused with `NoNamespace`.
     pub fn journal(&self, namespace: u64) -> Result<&Transcript, ServiceError>
         ensures journal { IfOk result (λ journal. slice_get (journals_of self.now) namespace ≡ Some journal.now) }
-        ensures obeys { IfOk result (λ journal. (space : Seen) → IsSpace (spaces_of (service_of self.now)) namespace space → Obeys (config_of space) journal.now × IsAdmitted (config_of space) journal.now) }
-        // each `SYNC` leaves timely values
-        ensures timely { IfOk result (λ journal. (space : Seen) → IsSpace (spaces_of (service_of self.now)) namespace space → IsTrue (is_timely_throughout (config_of space) journal.now)) }
-        // after each event each part is within its bound
-        ensures bounded { IfOk result (λ journal. (space : Seen) → IsSpace (spaces_of (service_of self.now)) namespace space → IsTrue (is_bounded_throughout (config_of space) journal.now)) }
-        // each `SYNC` behind one command leaves exactly the keys of the recency list
-        ensures exact { IfOk result (λ journal. (space : Seen) → IsSpace (spaces_of (service_of self.now)) namespace space → (places : ℕ) → IsPlainLru (config_of space) places → ∥ HasExactKeys (config_of space) places journal.now ∥₁) }
-        // where its steps are commands of a recency list, each followed at once by a `SYNC`, the keys of that list are held, and no other
-        ensures recent { IfOk result (λ journal. (space : Seen) → IsSpace (spaces_of (service_of self.now)) namespace space → (places : ℕ) → IsPlainLru (config_of space) places → ∥ KeepsList (config_of space) places journal.now ∥₁) }
-        ensures stands { IfOk result (λ journal. (space : Seen) → IsSpace (spaces_of (service_of self.now)) namespace space → ∥ LeadsSo space journal.now ∥₁) }
-        ensures refused { IfErr result (λ e. (e ≡ ServiceError.NoNamespace) × (length (spaces_of (service_of self.now)) ≤ namespace)) }
+        ensures is { IsSoOfEach IsJournalOf self.now }
+        ensures refused { IfErr result (λ e. (e ≡ ServiceError.NoNamespace) × (length self.now ≤ namespace)) }
     {
-        match self.journal_at(namespace) {
-            Some(journal) => Ok(journal),
+        match self.core.spaces.get(namespace as usize) {
+            Some(space) => {
+                space.sound();
+                Ok(space.tape().journal())
+            }
             None => Err(ServiceError::NoNamespace),
         }
     }
 
-    /// The journal of a namespace, if there is one.
-    fn journal_at(&self, namespace: u64) -> Option<&Transcript>
-        ensures { MatchOption result (length (journals_of self.now) ≤ namespace) (λ journal. slice_get (journals_of self.now) namespace ≡ Some journal.now) }
+    /// The namespaces under the journals, to be looked at: closings, waiting connections, loads under way. Their output and notes are empty.
+    pub fn service(&self) -> &Core<Kept>
+        ensures core { result.now ≡ self.now }
+        // the journals are what some inputs come to
+        ensures played { ∥ WerePlayed self.now ∥₁ }
     {
-        self.journals.get(namespace as usize)
-    }
-
-    /// The service under the journals, to be looked at: closings, waiting connections, loads under way. Its output and notes are empty.
-    pub fn service(&self) -> &Service
-        ensures { result.now ≡ service_of self.now }
-    {
-        &self.service
+        &self.core
     }
 
     /// The loads of a namespace that went out and were not taken, with their keys, in the order in which they were sent; moved out, so that
     /// each comes once. It is no event, and adds no record. Takes no memory. Refused with `NoNamespace`.
     pub fn take_loads(&mut self, namespace: u64) -> Result<Vec<(LoadId, Bytes)>, ServiceError>
-        ensures taken { IfOk result (λ loads. At (spaces_of (service_of self.old)) (spaces_of (service_of self.new)) namespace (λ was is. TakesLoads was is loads.items)) }
-        ensures refused { IfErr result (λ e. Refuses (spaces_of (service_of self.old)) (spaces_of (service_of self.new)) namespace e (λ was. ⊥)) }
-        ensures journals { journals_of self.new ≡ journals_of self.old }
+        ensures taken { IfOk result (λ loads. At self.old self.new namespace (λ was is. TakesLoads was is loads.items)) }
+        ensures refused { IfErr result (λ e. (e ≡ ServiceError.NoNamespace) × (length self.old ≤ namespace)) }
+        ensures unchanged { OnErr result (self.new ≡ self.old) }
     {
-        match self.service.take_loads(namespace) {
-            Ok(loads) => Ok(loads),
-            Err(error) => Err(error),
-        }
+        self.core.take_loads(namespace)
     }
 
-    /// The journals, in the order of the namespaces, moved out; the service ends.
+    /// The journals, in the order of the namespaces, moved out; the service ends. Takes no memory.
     pub fn into_journals(self) -> Vec<Transcript>
         ensures { result.items ≡ journals_of self }
     {
-        let RecordedService { journals, .. } = self;
+        let RecordedService { core, room } = self;
+        let Core { spaces } = core;
+        let mut journals = room;
+        for space in spaces {
+            space.sound();
+            journals.push_reserved(space.into_tape().into_journal());
+        }
         journals
     }
 }

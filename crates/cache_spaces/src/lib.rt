@@ -3,13 +3,13 @@
 
 mod journals;
 mod making;
-mod outputs;
-mod recording;
 mod service;
-mod settling;
-mod space;
+mod sound;
 mod stepping;
+mod tapes;
 
 pub use audit_receipts::Output;
-pub use journals::{RecordedService, Refusal};
-pub use service::{AnswerError, Fed, Service};
+pub use journals::RecordedService;
+pub use service::{AnswerError, Core, Fed, Service, SpaceStore};
+pub use stepping::Refusal;
+pub use tapes::NewTape;

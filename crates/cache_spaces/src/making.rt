@@ -1,18 +1,26 @@
 //! The namespaces that a service is made with.
-ghost use Rattle.std.specs.Prelude.{◌≡◌, ◌≤◌, ◌<◌, ◌^◌, IfOk, IsTrue, length, true, take};
+ghost use Rattle.std.specs.Prelude.{◌≡◌, ◌<◌, ◌^◌, IfOk, IsTrue};
 ghost use Rattle.std.specs.List.{list_all};
 ghost use Rattle.audit_model.specs.Configs.{is_time, is_valid};
 ghost use Rattle.cache_spaces.specs.Served.{is_served};
-ghost use Rattle.cache_spaces.specs.Services.{are_taken, AreNew};
+ghost use Rattle.cache_spaces.specs.Services.{AreNew, IsNewNamespace, are_taken};
 
-use crate::space::Space;
-use audit_model::Config;
-use rand_core::SeedableRng;
+use crate::service::SpaceStore;
+use crate::tapes::NewTape;
+use audit_model::{Config, Instant};
+use cache_core::Namespace;
+use cache_entries::KeyedHasher;
+use cache_front_store::FrontStore;
+use cache_store::Store;
+use rand_core::{Rng, SeedableRng};
 use rand_xoshiro::Xoshiro256PlusPlus;
 use std::alloc::{AllocError, Global};
 
 /// The most namespaces that a service has.
 const MOST: usize = 16;
+
+/// How many bytes a hasher's secret has.
+const SECRET: usize = 16;
 
 /// Whether a service is made with these configurations.
 pub fn are_taken(configs: &[Config]) -> bool
@@ -59,21 +67,48 @@ fn is_time(milliseconds: Option<u64>) -> bool
 }
 
 /// New namespaces of these configurations, in their order, each with a fork of the generator.
-pub fn new_spaces(
+pub fn new_spaces<T: NewTape>(
     alloc: Global,
     configs: &[Config],
     generator: Xoshiro256PlusPlus,
-    made: u64,
-) -> Result<Vec<Space>, AllocError>
+    made: Instant,
+) -> Result<Vec<Namespace<SpaceStore, T>>, AllocError>
     requires configs { IsTrue (list_all is_served configs.now) }
-    requires moment { made < 2 ^ 63 }
-    ensures { IfOk result (λ spaces. AreNew spaces.items configs.now generator made) }
+    requires moment { made.nanos < 2 ^ 63 }
+    ensures { IfOk result (λ spaces. AreNew T.Tape.view (T.blank made) spaces.items configs.now generator made.nanos) }
 {
     let mut generator = generator;
     let mut spaces = Vec::with_capacity(alloc, configs.len())?;
     for config in configs {
         let namespace = spaces.len() as u64;
-        spaces.push(Space::new(alloc, namespace, *config, generator.fork(), made)?)?;
+        spaces.push(new_space(alloc, namespace, *config, generator.fork(), made)?)?;
     }
     Ok(spaces)
+}
+
+/// A namespace without connections, loads and values, with a generator of its own; its place in the service.
+fn new_space<T: NewTape>(
+    alloc: Global,
+    namespace: u64,
+    config: Config,
+    generator: Xoshiro256PlusPlus,
+    made: Instant,
+) -> Result<Namespace<SpaceStore, T>, AllocError>
+    requires config { IsTrue (is_served config) }
+    requires moment { made.nanos < 2 ^ 63 }
+    ensures { IfOk result (λ space. IsNewNamespace T.Tape.view (T.blank made) space namespace config generator made.nanos) }
+{
+    let hasher = keyed_by(&generator)?;
+    let store = FrontStore::new(alloc, config, made.nanos, generator, hasher)?;
+    store.sound();
+    Namespace::new(alloc, namespace, store, T::make(alloc, made), made.nanos)
+}
+
+/// A hasher that strangers cannot foresee: its secret stands far behind the numbers that the generator gives itself.
+fn keyed_by(generator: &Xoshiro256PlusPlus) -> Result<KeyedHasher, AllocError> {
+    let mut far = generator.clone()?;
+    far.long_jump();
+    let mut secret = [0; SECRET];
+    far.fill_bytes(&mut secret);
+    Ok(KeyedHasher::new(&secret))
 }

@@ -1,67 +1,152 @@
-//! Inputs, each taken in its namespace.
-ghost use Rattle.std.specs.Prelude.{◌≡◌, ◌<◌, ◌∷◌, [], IfOk, IfErr, OnOk, OnErr, length};
-ghost use Rattle.cache_spaces.specs.Recorded.{AreEmpty, AreQuiet, RecordsAt, RefusedInput, namespace_of};
-ghost use Rattle.cache_spaces.specs.Services.{Refuses, spaces_of};
+//! Inputs, taken one by one.
+ghost use Rattle.std.specs.Prelude.{◌≡◌, IfOk, IfErr, OnErr};
+ghost use Rattle.audit_model.specs.declared.input.Input.TheVariants as input;
+ghost use Rattle.cache_spaces.specs.Calls.{At, Refuses};
+ghost use Rattle.cache_spaces.specs.Inputs.{Performs, RefusedInput, namespace_of};
 
-use crate::recording::record_input;
-use crate::service::Service;
-use audit_model::{Input, Instant, Seq, ServiceError, Transcript};
-use std::alloc::{AllocError, Global};
+use crate::service::{AnswerError, Core, Fed};
+use audit_model::{Bytes, Conn, Input, Instant, LoadId, Outcome, ServiceError};
+use audit_receipts::Output;
+use cache_tape::Tape;
+use thiserror::Error;
 
-/// So many transcripts without records.
-pub fn empty_transcripts(
-    alloc: Global,
-    count: usize,
-    made: Instant,
-) -> Result<Vec<Transcript>, AllocError>
-    ensures count { IfOk result (λ transcripts. length transcripts.items ≡ count) }
-    ensures empty { IfOk result (λ transcripts. AreEmpty made transcripts.items) }
-{
-    let mut transcripts = Vec::with_capacity(alloc, count)?;
-    for _ in 0..count {
-        transcripts.push(Transcript {
-            made,
-            records: Seq::new(alloc),
-        })?;
-    }
-    Ok(transcripts)
+/// An input that was refused, handed back with the reason. By `?` it turns into its `ServiceError`.
+#[derive(Debug, Drop, Error)]
+#[error("{error}")]
+pub struct Refusal {
+    /// Why it was refused.
+    pub error: ServiceError,
+    /// The input, as it was handed in.
+    pub input: Input,
 }
 
-/// Takes an input in its namespace, and adds its record to that namespace's transcript. An `Err` leaves all as it was.
-pub fn step_in(
-    service: &mut Service,
-    transcripts: &mut Vec<Transcript>,
-    input: &Input,
-) -> Result<(), ServiceError>
-    requires quiet { AreQuiet (spaces_of service.old) }
-    requires count { length transcripts.old.items ≡ length (spaces_of service.old) }
-    ensures ok { OnOk result (RecordsAt input.now transcripts.old.items transcripts.new.items (spaces_of service.old) (spaces_of service.new)) }
-    ensures refused { IfErr result (λ e. Refuses (spaces_of service.old) (spaces_of service.new) (namespace_of input.now) e (RefusedInput input.now e)) }
-    ensures err { OnErr result (transcripts.new.items ≡ transcripts.old.items) }
-{
-    let namespace = namespace_of(input);
-    if namespace >= service.spaces.len() as u64 {
-        return Err(ServiceError::NoNamespace);
-    }
-    let index = namespace as usize;
-    let alloc = service.alloc;
-    let space = &mut service.spaces[index];
-    let transcript = &mut transcripts[index];
-    match record_input(space, alloc, transcript, input) {
-        Ok(()) => Ok(()),
-        Err(error) => Err(error),
+impl From<Refusal> for ServiceError {
+    ghost from_gives = { λ refused error. error ≡ refused.error };
+
+    /// Why it was refused; what was handed back is dropped.
+    fn from(refused: Refusal) -> ServiceError {
+        refused.error
     }
 }
 
-/// The namespace that an input names.
-pub fn namespace_of(input: &Input) -> u64
-    ensures { result ≡ namespace_of input.now }
-{
-    match input {
-        Input::Open { namespace } => *namespace,
-        Input::Close { conn } => conn.namespace,
-        Input::Feed { conn, .. } => conn.namespace,
-        Input::Answer { load, .. } => load.namespace,
-        Input::GiveUp { load, .. } => load.namespace,
+impl<T: Tape> Core<T> {
+    /// Takes an input, and answers what its event came to.
+    ///
+    /// An input that is refused is handed back, with the cause that the call has for it of which it is the input; then nothing has changed.
+    pub fn step(&mut self, input: Input) -> Result<Output, Refusal>
+        ensures performed { IfOk result (λ output. At self.old self.new (namespace_of input) (Performs T.view input output)) }
+        ensures refused { IfErr result (λ refusal. Refuses self.old (namespace_of input) refusal.error (RefusedInput input refusal.error)) }
+        ensures back { IfErr result (λ refusal. refusal.input ≡ input) }
+        ensures unchanged { OnErr result (self.new ≡ self.old) }
+    {
+        match input {
+            Input::Open { namespace } => self.step_open(namespace),
+            Input::Close { conn } => self.step_close(conn),
+            Input::Feed {
+                conn,
+                piece,
+                moment,
+            } => self.step_feed(conn, piece, moment),
+            Input::Answer {
+                load,
+                outcome,
+                moment,
+            } => self.step_answer(load, outcome, moment),
+            Input::GiveUp { load, moment } => self.step_give_up(load, moment),
+        }
+    }
+
+    /// Opens a connection.
+    fn step_open(&mut self, namespace: u64) -> Result<Output, Refusal>
+        ensures performed { IfOk result (λ output. At self.old self.new namespace (Performs T.view (input.Open namespace) output)) }
+        ensures refused { IfErr result (λ refusal. Refuses self.old namespace refusal.error (RefusedInput (input.Open namespace) refusal.error)) }
+        ensures back { IfErr result (λ refusal. refusal.input ≡ input.Open namespace) }
+        ensures unchanged { OnErr result (self.new ≡ self.old) }
+    {
+        match self.open(namespace) {
+            Ok(conn) => Ok(Output::Opened { conn }),
+            Err(error) => Err(Refusal {
+                error,
+                input: Input::Open { namespace },
+            }),
+        }
+    }
+
+    /// Closes a connection.
+    fn step_close(&mut self, conn: Conn) -> Result<Output, Refusal>
+        ensures performed { IfOk result (λ output. At self.old self.new conn.namespace (Performs T.view (input.Close conn) output)) }
+        ensures refused { IfErr result (λ refusal. Refuses self.old conn.namespace refusal.error (RefusedInput (input.Close conn) refusal.error)) }
+        ensures back { IfErr result (λ refusal. refusal.input ≡ input.Close conn) }
+        ensures unchanged { OnErr result (self.new ≡ self.old) }
+    {
+        match self.close(conn) {
+            Ok(()) => Ok(Output::Done),
+            Err(error) => Err(Refusal {
+                error,
+                input: Input::Close { conn },
+            }),
+        }
+    }
+
+    /// Takes a piece of a connection's bytes.
+    fn step_feed(&mut self, conn: Conn, piece: Bytes, moment: Instant) -> Result<Output, Refusal>
+        ensures performed { IfOk result (λ output. At self.old self.new conn.namespace (Performs T.view (input.Feed conn piece moment) output)) }
+        ensures refused { IfErr result (λ refusal. Refuses self.old conn.namespace refusal.error (RefusedInput (input.Feed conn piece moment) refusal.error)) }
+        ensures back { IfErr result (λ refusal. refusal.input ≡ input.Feed conn piece moment) }
+        ensures unchanged { OnErr result (self.new ≡ self.old) }
+    {
+        match self.feed(conn, piece.as_slice(), moment) {
+            Ok(Fed::All) => Ok(Output::All),
+            Ok(Fed::Held) => Ok(Output::Held),
+            Err(error) => Err(Refusal {
+                error,
+                input: Input::Feed {
+                    conn,
+                    piece,
+                    moment,
+                },
+            }),
+        }
+    }
+
+    /// Answers a load.
+    fn step_answer(
+        &mut self,
+        load: LoadId,
+        outcome: Outcome,
+        moment: Instant,
+    ) -> Result<Output, Refusal>
+        ensures performed { IfOk result (λ output. At self.old self.new load.namespace (Performs T.view (input.Answer load outcome moment) output)) }
+        ensures refused { IfErr result (λ refusal. Refuses self.old load.namespace refusal.error (RefusedInput (input.Answer load outcome moment) refusal.error)) }
+        ensures back { IfErr result (λ refusal. refusal.input ≡ input.Answer load outcome moment) }
+        ensures unchanged { OnErr result (self.new ≡ self.old) }
+    {
+        match self.answer(load, outcome, moment) {
+            Ok(()) => Ok(Output::Done),
+            Err(AnswerError { error, outcome }) => Err(Refusal {
+                error,
+                input: Input::Answer {
+                    load,
+                    outcome,
+                    moment,
+                },
+            }),
+        }
+    }
+
+    /// Gives a load up.
+    fn step_give_up(&mut self, load: LoadId, moment: Instant) -> Result<Output, Refusal>
+        ensures performed { IfOk result (λ output. At self.old self.new load.namespace (Performs T.view (input.GiveUp load moment) output)) }
+        ensures refused { IfErr result (λ refusal. Refuses self.old load.namespace refusal.error (RefusedInput (input.GiveUp load moment) refusal.error)) }
+        ensures back { IfErr result (λ refusal. refusal.input ≡ input.GiveUp load moment) }
+        ensures unchanged { OnErr result (self.new ≡ self.old) }
+    {
+        match self.give_up(load, moment) {
+            Ok(()) => Ok(Output::Done),
+            Err(error) => Err(Refusal {
+                error,
+                input: Input::GiveUp { load, moment },
+            }),
+        }
     }
 }

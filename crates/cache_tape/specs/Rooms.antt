@@ -1,8 +1,16 @@
 -- What room a tape has.
-use Rattle.std.specs.Prelude.{◌≡◌, ℕ, ◌+◌, ◌<◌, ◌≤◌, Bool, true}
+use Rattle.std.specs.Prelude.{◌≡◌, ℕ, ◌+◌, ◌<◌, ◌≤◌, Bool, true, Option, None, Some, MatchOption, Vec, vec_len, vec_capacity}
+use Rattle.std.specs.declared.alloc.Global.{Global}
+use Rattle.audit_model.specs.declared.transcript.Record.{Record}
+use Rattle.audit_model.specs.declared.transcript.Transcript.{Transcript}
+
+-- the journal: its records stand apart while one is under way
+abbrev pub journal_in : Transcript → Option (Vec Record Global) → Transcript
+journal_in journal None = journal
+journal_in journal (Some records) = record { made = journal.made; records = records.items }
 
 -- There is room for the record under way, for a step of each line that can be added to it without memory, and for the drafted one besides.
-pub record IsReady (begun drafted : Bool) (records records_room steps spares steps_room : ℕ) : Type 0 where
-  pub record_fits : begun ≡ true → records < records_room
+pub record IsReady (apart : Option (Vec Record Global)) (drafted : Bool) (steps spares steps_room : ℕ) : Type 0 where
+  pub record_fits : MatchOption apart (Unit {0}) (λ records. vec_len records < vec_capacity records)
   pub steps_fit : steps + spares ≤ steps_room
   pub draft_fits : drafted ≡ true → steps + spares < steps_room

@@ -5,15 +5,20 @@ use Rattle.audit_model.specs.declared.transcript.Accepted.{Accepted}
 use Rattle.audit_model.specs.declared.transcript.Note.{Note}
 use Rattle.audit_model.specs.declared.transcript.Record.{Record}
 use Rattle.audit_model.specs.declared.transcript.Step.{Step}
+use Rattle.audit_model.specs.declared.transcript.Transcript.{Transcript}
 
--- The records, and of the one under way: whether there is one, its steps, how many lines can be added to it without memory, and the line of
+-- The journal, and of the record under way: whether there is one, its steps, how many lines can be added to it without memory, and the line of
 -- the step for which there is room.
 pub record Taped : Type 0 where
-  pub records : List Record
+  pub journal : Transcript
   pub begun : Bool
   pub steps : List Step
   pub spare : ℕ
   pub drafted : Option (List ℕ)
+
+-- the journal with that record behind its others
+abbrev pub with_entry : Record → Transcript → Transcript
+with_entry entry journal = record { made = journal.made; records = journal.records ++ entry ∷ [] }
 
 -- no record is under way
 pub record Rests (t : Taped) : Type 0 where
@@ -24,28 +29,28 @@ pub record Rests (t : Taped) : Type 0 where
 
 -- a record is under way, with room for so many lines
 abbrev pub started : ℕ → Taped → Taped
-started spare t = record { records = t.records; begun = true; steps = []; spare = spare; drafted = None }
+started spare t = record { journal = t.journal; begun = true; steps = []; spare = spare; drafted = None }
 
 -- there is room for a step of the line
 abbrev pub drafts : List ℕ → Taped → Taped
-drafts line t = record { records = t.records; begun = t.begun; steps = t.steps; spare = t.spare; drafted = Some line }
+drafts line t = record { journal = t.journal; begun = t.begun; steps = t.steps; spare = t.spare; drafted = Some line }
 
 -- the step of the drafted line is added
 abbrev pub ends : (List ℕ → Step) → Taped → Taped
-ends step t = record { records = t.records; begun = t.begun; steps = t.steps ++ step (unwrap_or t.drafted []) ∷ []; spare = t.spare; drafted = None }
+ends step t = record { journal = t.journal; begun = t.begun; steps = t.steps ++ step (unwrap_or t.drafted []) ∷ []; spare = t.spare; drafted = None }
 
 -- a step is added in the room for one line
 abbrev pub spends : Step → Taped → Taped
-spends step t = record { records = t.records; begun = t.begun; steps = t.steps ++ step ∷ []; spare = t.spare - 1; drafted = None }
+spends step t = record { journal = t.journal; begun = t.begun; steps = t.steps ++ step ∷ []; spare = t.spare - 1; drafted = None }
 
 -- no record is under way any more
 abbrev pub forgets : Taped → Taped
-forgets t = record { records = t.records; begun = false; steps = []; spare = 0; drafted = None }
+forgets t = record { journal = t.journal; begun = false; steps = []; spare = 0; drafted = None }
 
 -- the record stands behind the others
 abbrev pub finishes : Event → Option Accepted → List Note → Taped → Taped
 finishes event own notices t =
-    record { records = t.records ++ (record { event = event; own = own; notices = notices; steps = t.steps }) ∷ []; begun = false; steps = []; spare = 0; drafted = None }
+    record { journal = with_entry (record { event = event; own = own; notices = notices; steps = t.steps }) t.journal; begun = false; steps = []; spare = 0; drafted = None }
 
 -- a step that holds the line back
 abbrev pub step_held : ℕ → List ℕ → Step

@@ -1,5 +1,5 @@
 //! A tape that keeps records.
-ghost use Rattle.std.specs.Prelude.{◌≡◌, ◌+◌, ◌<◌, ◌≤◌, ◌++◌, ◌∷◌, [], None, Some, false, length, vec_len, vec_capacity};
+ghost use Rattle.std.specs.Prelude.{◌≡◌, ◌+◌, ◌<◌, ◌≤◌, ◌++◌, ◌∷◌, [], IfOk, OnErr, None, Some, false, length, vec_len, vec_capacity};
 ghost use Rattle.std.specs.Option.{option_map};
 ghost use Rattle.cache_commands.specs.Loading.{step_silent};
 ghost use Rattle.cache_commands.specs.Right.{step_saying};
@@ -8,17 +8,18 @@ ghost use Rattle.cache_tape.specs.Taped.{step_held};
 use crate::spare::{Spare, new_spares};
 use crate::tape::Tape;
 use audit_lines::MAX_LINE;
-use audit_model::{Accepted, Event, Note, Record, Seq, Step};
+use audit_model::{Accepted, Event, Instant, Note, Record, Seq, Step, Transcript};
 use std::alloc::{AllocError, Global};
 use std::marker::Model;
 use std::mem;
 
-/// Records, and the one under way. Contracts see it as `Taped`, without what room there is.
+/// A journal, and the record under way. Contracts see it as `Taped`, without what room there is.
 #[derive(Drop)]
 pub struct Kept {
     alloc: Global,
-    records: Vec<Record>,
-    begun: bool,
+    journal: Transcript,
+    /// While a record is under way, the records of the journal, with room for one more.
+    apart: Option<Vec<Record>>,
     steps: Vec<Step>,
     spares: Vec<Spare>,
     draft: Option<Vec<u8>>,
@@ -27,29 +28,49 @@ pub struct Kept {
 impl Model for Kept {
     ghost use Rattle.std.specs.Prelude.{is_some, vec_len, vec_capacity};
     ghost use Rattle.std.specs.Option.{option_map};
-    ghost use Rattle.cache_tape.specs.Rooms.{IsReady};
+    ghost use Rattle.cache_tape.specs.Rooms.{IsReady, journal_in};
     ghost use Rattle.cache_tape.specs.Taped.{Taped};
 
     ghost Value = { Taped };
 
-    ghost view = { λ k. record { records = k.records.items; begun = k.begun; steps = k.steps.items; spare = vec_len k.spares; drafted = option_map (λ line. line.items) k.draft } };
+    ghost view = { λ k. record { journal = journal_in k.journal k.apart; begun = is_some k.apart; steps = k.steps.items; spare = vec_len k.spares; drafted = option_map (λ line. line.items) k.draft } };
 
-    ghost invariant = { λ k. IsReady k.begun (is_some k.draft) (vec_len k.records) (vec_capacity k.records) (vec_len k.steps) (vec_len k.spares) (vec_capacity k.steps) };
+    ghost invariant = { λ k. IsReady k.apart (is_some k.draft) (vec_len k.steps) (vec_len k.spares) (vec_capacity k.steps) };
 }
 
 impl Kept {
-    /// A tape without records.
-    pub fn new(alloc: Global) -> Kept
-        ensures { result ≡ record { records = []; begun = false; steps = []; spare = 0; drafted = None } }
+    /// A tape of no records, whose journal begins at that moment. Takes no memory.
+    pub fn new(alloc: Global, made: Instant) -> Kept
+        ensures { result ≡ record { journal = record { made = made; records = [] }; begun = false; steps = []; spare = 0; drafted = None } }
     {
         Kept {
             alloc,
-            records: Vec::new(alloc),
-            begun: false,
+            journal: Transcript {
+                made,
+                records: Seq::new(alloc),
+            },
+            apart: None,
             steps: Vec::new(alloc),
             spares: Vec::new(alloc),
             draft: None,
         }
+    }
+
+    /// The journal, where no record is under way.
+    pub fn journal(&self) -> &Transcript
+        requires rests { self.now.begun ≡ false }
+        ensures { result.now ≡ self.now.journal }
+    {
+        &self.journal
+    }
+
+    /// The journal, where no record is under way, moved out. Takes no memory.
+    pub fn into_journal(self) -> Transcript
+        requires rests { self.begun ≡ false }
+        ensures { result ≡ self.journal }
+    {
+        let Kept { journal, .. } = self;
+        journal
     }
 }
 
@@ -62,10 +83,10 @@ impl Tape for Kept {
 
     fn start(&mut self, spare: usize) -> Result<(), AllocError> {
         let spares = new_spares(self.alloc, spare)?;
-        self.records.try_reserve(1)?;
         self.steps.try_reserve(spare)?;
+        let records = take_records(self.alloc, &mut self.journal)?;
+        self.apart = Some(records);
         self.spares = spares;
-        self.begun = true;
         Ok(())
     }
 
@@ -108,7 +129,10 @@ impl Tape for Kept {
     }
 
     fn abandon(&mut self) {
-        self.begun = false;
+        match mem::replace(&mut self.apart, None) {
+            Some(records) => self.journal.records = Seq::from_vec(records),
+            None => {}
+        }
         self.draft = None;
         self.steps = Vec::new(self.alloc);
         self.spares = Vec::new(self.alloc);
@@ -118,9 +142,11 @@ impl Tape for Kept {
         let steps = mem::replace(&mut self.steps, Vec::new(self.alloc));
         self.draft = None;
         self.spares = Vec::new(self.alloc);
-        self.begun = false;
+        let Some(mut records) = mem::replace(&mut self.apart, None) else {
+            unreachable!();
+        };
         push_within(
-            &mut self.records,
+            &mut records,
             Record {
                 event,
                 own,
@@ -128,6 +154,24 @@ impl Tape for Kept {
                 steps: Seq::from_vec(steps),
             },
         );
+        self.journal.records = Seq::from_vec(records);
+    }
+}
+
+/// The records of a journal, moved out, with room for one more. An `Err` leaves it as it was.
+fn take_records(alloc: Global, journal: &mut Transcript) -> Result<Vec<Record>, AllocError>
+    ensures records { IfOk result (λ records. records.items ≡ journal.old.records) }
+    ensures room { IfOk result (λ records. vec_len records < vec_capacity records) }
+    ensures made { journal.new.made ≡ journal.old.made }
+    ensures unchanged { OnErr result (journal.new ≡ journal.old) }
+{
+    let mut records = mem::replace(&mut journal.records, Seq::new(alloc)).into_vec();
+    match records.try_reserve(1) {
+        Ok(()) => Ok(records),
+        Err(error) => {
+            journal.records = Seq::from_vec(records);
+            Err(error)
+        }
     }
 }
 

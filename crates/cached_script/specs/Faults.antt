@@ -2,6 +2,8 @@
 use Rattle.std.specs.Prelude.{◌≡◌, ◌≢◌, ℕ, List, [], Option, codes}
 use Rattle.cache_devices.specs.Failures.{HasFailed}
 use Rattle.cache_devices.specs.Sent.{SentBut}
+use Rattle.cache_devices.specs.Watched.{device, failures}
+use Rattle.cache_devices.specs.declared.watched.Watched.{Watched}
 use Rattle.cached_script.specs.declared.faults.Fault.{Fault}
 use Rattle.cached_script.specs.declared.faults.Fault.TheVariants as fault
 
@@ -23,3 +25,7 @@ pub record Tells (text : List ℕ) (before after : Option (List ℕ)) (failed la
   pub rest : List ℕ
   pub sent : SentBut rest text before after
   pub cut : rest ≢ [] → HasFailed failed later
+
+-- the program ends with that status, and that text was told
+abbrev pub EndsTelling : {E : Type 0} → (E → Option (List ℕ)) → (status wanted : ℕ) → List ℕ → Watched E → Watched E → Type 0
+EndsTelling contents status wanted text errors errors' = (status ≡ wanted) × Tells text (contents (device errors)) (contents (device errors')) (failures errors) (failures errors')

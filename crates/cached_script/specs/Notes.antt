@@ -1,12 +1,15 @@
 -- The text of notes.
-use Rattle.std.specs.Prelude.{ℕ, List, [], ◌∷◌, ◌++◌, codes}
+use Rattle.std.specs.Prelude.{◌≡◌, ◌≤◌, ◌⊎◌, ◌-◌, ◌^◌, ℕ, List, [], ◌∷◌, ◌++◌, codes, length}
 use Rattle.std.specs.List.{flat_map, slice_get}
 use Rattle.std.specs.Option.{option_map_or}
 use Rattle.audit_model.specs.declared.transcript.Note.{Note}
 use Rattle.audit_model.specs.declared.transcript.RemovalCause.{RemovalCause}
 use Rattle.audit_model.specs.declared.transcript.RemovalCause.TheVariants.{Expired, Explicit, Replaced, Size}
+use Rattle.cache_devices.specs.Failures.{HasFailed}
+use Rattle.cache_devices.specs.declared.errors.RunError.{RunError}
+use Rattle.cache_devices.specs.declared.errors.RunError.TheVariants as error
+use Rattle.cache_spaces.specs.Bares.{BareSpace}
 use Rattle.cache_spaces.specs.Spaces.{notices_of}
-use Rattle.cache_spaces.specs.declared.space.Space.{Space}
 
 -- the word of a cause
 abbrev pub cause_text : RemovalCause → List ℕ
@@ -24,5 +27,9 @@ abbrev pub notes_text : List Note → List ℕ
 notes_text notes = flat_map note_text notes
 
 -- the notes of a namespace that were told and not taken
-abbrev pub notices_at : List Space → ℕ → List Note
+abbrev pub notices_at : List BareSpace → ℕ → List Note
 notices_at spaces namespace = option_map_or notices_of (slice_get spaces namespace) []
+
+-- why the telling of notes stops: the writer failed, or there were as many notes as are counted
+abbrev pub StopsTelling : (before after : ℕ) → List Note → RunError → Type 0
+StopsTelling before after notes e = ((e ≡ error.Write) × HasFailed before after) ⊎ ((e ≡ error.UsedUp) × (2 ^ 64 - 1 ≤ length notes))

@@ -1,11 +1,10 @@
 //! Why the program ends before its time, and what it then writes.
 ghost use Rattle.std.specs.Prelude.{◌≡◌, ◌≢◌, codes};
 ghost use Rattle.cache_devices.specs.Watched.{device, failures};
-ghost use Rattle.cached_script.specs.Faults.{Tells, fault_message, usage_text};
+ghost use Rattle.cached_script.specs.Faults.{EndsTelling, Tells, fault_message, usage_text};
 
 use crate::words::WordsError;
-use cache_devices::{Watched, send};
-use cache_run::RunError;
+use cache_devices::{RunError, Watched, send};
 use std::io::{ErrorKind, Write};
 
 /// Why the program ends with status 1.
@@ -61,8 +60,8 @@ fn show_usage<E: Write>(errors: &mut Watched<E>) -> u8
 
 /// The program where its words are not served: the text, and the status after it. Without memory that is 1.
 pub fn fail_words<E: Write>(error: WordsError, errors: &mut Watched<E>) -> u8
-    ensures memory { error ≡ WordsError.OutOfMemory → (result ≡ 1) × Tells (fault_message Fault.OutOfMemory) (E.contents (device errors.old)) (E.contents (device errors.new)) (failures errors.old) (failures errors.new) }
-    ensures usage { error ≡ WordsError.Usage → (result ≡ 2) × Tells usage_text (E.contents (device errors.old)) (E.contents (device errors.new)) (failures errors.old) (failures errors.new) }
+    ensures memory { error ≡ WordsError.OutOfMemory → EndsTelling E.contents result 1 (fault_message Fault.OutOfMemory) errors.old errors.new }
+    ensures usage { error ≡ WordsError.Usage → EndsTelling E.contents result 2 usage_text errors.old errors.new }
 {
     match error {
         WordsError::Usage => show_usage(errors),
@@ -72,8 +71,8 @@ pub fn fail_words<E: Write>(error: WordsError, errors: &mut Watched<E>) -> u8
 
 /// The program where its words cannot be had. Without memory its status is 1; words that are no text are not served.
 pub fn without_words<E: Write>(cause: ErrorKind, errors: &mut Watched<E>) -> u8
-    ensures memory { cause ≡ ErrorKind.OutOfMemory → (result ≡ 1) × Tells (fault_message Fault.OutOfMemory) (E.contents (device errors.old)) (E.contents (device errors.new)) (failures errors.old) (failures errors.new) }
-    ensures other { cause ≢ ErrorKind.OutOfMemory → (result ≡ 2) × Tells usage_text (E.contents (device errors.old)) (E.contents (device errors.new)) (failures errors.old) (failures errors.new) }
+    ensures memory { cause ≡ ErrorKind.OutOfMemory → EndsTelling E.contents result 1 (fault_message Fault.OutOfMemory) errors.old errors.new }
+    ensures other { cause ≢ ErrorKind.OutOfMemory → EndsTelling E.contents result 2 usage_text errors.old errors.new }
 {
     if cause == ErrorKind::OutOfMemory {
         return fail(errors, Fault::OutOfMemory);

@@ -1,10 +1,10 @@
 //! Text that is gathered, and written at once.
-ghost use Rattle.std.specs.Prelude.{◌≡◌, ◌≤◌, [], OnOk, OnErr};
+ghost use Rattle.std.specs.Prelude.{◌≡◌, ◌≤◌, [], IfErr, OnOk};
 ghost use Rattle.cache_devices.specs.Failures.{HasFailed};
 ghost use Rattle.cache_devices.specs.Watched.{device, failures};
 ghost use Rattle.cached_script.specs.Gathering.{Gathers};
 
-use cache_devices::{SendError, Watched, send};
+use cache_devices::{RunError, Watched, send};
 use std::io::Write;
 
 /// Gathers a text behind what was gathered. Where there is no room for it, both are written. Takes no memory.
@@ -12,9 +12,9 @@ pub fn put<W: Write>(
     gathered: &mut Vec<u8>,
     text: &[u8],
     writer: &mut Watched<W>,
-) -> Result<(), SendError>
+) -> Result<(), RunError>
     ensures ok { OnOk result (Gathers (W.contents (device writer.old)) gathered.old.items text.now (W.contents (device writer.new)) gathered.new.items) }
-    ensures cause { OnErr result (HasFailed (failures writer.old) (failures writer.new)) }
+    ensures cause { IfErr result (λ e. (e ≡ RunError.Write) × HasFailed (failures writer.old) (failures writer.new)) }
     ensures count { failures writer.old ≤ failures writer.new }
 {
     if text.len() <= gathered.capacity() - gathered.len() {
@@ -26,10 +26,10 @@ pub fn put<W: Write>(
 }
 
 /// Writes what was gathered.
-pub fn write_out<W: Write>(gathered: &mut Vec<u8>, writer: &mut Watched<W>) -> Result<(), SendError>
+pub fn write_out<W: Write>(gathered: &mut Vec<u8>, writer: &mut Watched<W>) -> Result<(), RunError>
     ensures ok { OnOk result (Gathers (W.contents (device writer.old)) gathered.old.items [] (W.contents (device writer.new)) gathered.new.items) }
     ensures none { OnOk result (gathered.new.items ≡ []) }
-    ensures cause { OnErr result (HasFailed (failures writer.old) (failures writer.new)) }
+    ensures cause { IfErr result (λ e. (e ≡ RunError.Write) × HasFailed (failures writer.old) (failures writer.new)) }
     ensures count { failures writer.old ≤ failures writer.new }
 {
     send(gathered, writer)?;

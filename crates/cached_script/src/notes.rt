@@ -1,15 +1,14 @@
 //! Notes, as lines of text.
-ghost use Rattle.std.specs.Prelude.{◌≡◌, ◌≤◌, ◌<◌, ◌∷◌, ◌⊎◌, ◌^◌, ◌-◌, [], length, IfNone, IfSome, OnOk, OnErr};
+ghost use Rattle.std.specs.Prelude.{◌≡◌, ◌≤◌, ◌<◌, ◌∷◌, [], length, IfErr, IfNone, IfSome, OnOk};
 ghost use Rattle.std.specs.Io.KnownBytes.{Appends};
 ghost use Rattle.cache_devices.specs.Failures.{HasFailed};
 ghost use Rattle.cache_devices.specs.Watched.{device, failures};
-ghost use Rattle.cache_spaces.specs.Services.{spaces_of};
 ghost use Rattle.cached_script.specs.Gathering.{Gathers};
-ghost use Rattle.cached_script.specs.Notes.{cause_text, note_text, notes_text, notices_at};
+ghost use Rattle.cached_script.specs.Notes.{StopsTelling, cause_text, note_text, notes_text, notices_at};
 
 use crate::gathering::{put, write_out};
 use audit_model::{Note, RemovalCause};
-use cache_devices::{SendError, Watched};
+use cache_devices::{RunError, Watched};
 use cache_spaces::Service;
 use std::io::Write;
 
@@ -30,9 +29,9 @@ pub fn write_note<W: Write>(
     note: &Note,
     gathered: &mut Vec<u8>,
     writer: &mut Watched<W>,
-) -> Result<(), SendError>
+) -> Result<(), RunError>
     ensures ok { OnOk result (Gathers (W.contents (device writer.old)) gathered.old.items (note_text note.now) (W.contents (device writer.new)) gathered.new.items) }
-    ensures cause { OnErr result (HasFailed (failures writer.old) (failures writer.new)) }
+    ensures cause { IfErr result (λ e. (e ≡ RunError.Write) × HasFailed (failures writer.old) (failures writer.new)) }
     ensures count { failures writer.old ≤ failures writer.new }
 {
     put(gathered, b"NOTE ", writer)?;
@@ -46,10 +45,10 @@ pub fn write_note<W: Write>(
 
 /// The oldest note of a namespace that there is.
 fn next_note(service: &mut Service, namespace: u64) -> Option<Note>
-    requires known { namespace < length (spaces_of service.old) }
-    ensures none { IfNone result ((notices_at (spaces_of service.old) namespace ≡ []) × (notices_at (spaces_of service.new) namespace ≡ [])) }
-    ensures first { IfSome result (λ note. notices_at (spaces_of service.old) namespace ≡ note ∷ notices_at (spaces_of service.new) namespace) }
-    ensures count { length (spaces_of service.new) ≡ length (spaces_of service.old) }
+    requires known { namespace < length service.old }
+    ensures none { IfNone result ((notices_at service.old namespace ≡ []) × (notices_at service.new namespace ≡ [])) }
+    ensures first { IfSome result (λ note. notices_at service.old namespace ≡ note ∷ notices_at service.new namespace) }
+    ensures count { length service.new ≡ length service.old }
 {
     match service.next_notice(namespace) {
         Ok(note) => note,
@@ -64,12 +63,12 @@ pub fn tell_notes<W: Write>(
     namespace: u64,
     gathered: &mut Vec<u8>,
     writer: &mut Watched<W>,
-) -> Result<(), SendError>
-    requires known { namespace < length (spaces_of service.old) }
+) -> Result<(), RunError>
+    requires known { namespace < length service.old }
     requires none { gathered.old.items ≡ [] }
-    ensures told { OnOk result (Appends (W.contents (device writer.old)) (W.contents (device writer.new)) (notes_text (notices_at (spaces_of service.old) namespace))) }
-    ensures all { OnOk result (notices_at (spaces_of service.new) namespace ≡ []) }
-    ensures cause { OnErr result (HasFailed (failures writer.old) (failures writer.new) ⊎ (2 ^ 64 - 1 ≤ length (notices_at (spaces_of service.old) namespace))) }
+    ensures told { OnOk result (Appends (W.contents (device writer.old)) (W.contents (device writer.new)) (notes_text (notices_at service.old namespace))) }
+    ensures all { OnOk result (notices_at service.new namespace ≡ []) }
+    ensures cause { IfErr result (StopsTelling (failures writer.old) (failures writer.new) (notices_at service.old namespace)) }
     ensures count { failures writer.old ≤ failures writer.new }
 {
     for _note in 0..u64::MAX {
@@ -78,5 +77,5 @@ pub fn tell_notes<W: Write>(
             None => return write_out(gathered, writer),
         }
     }
-    Err(SendError::UsedUp)
+    Err(RunError::UsedUp)
 }

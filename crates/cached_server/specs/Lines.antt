@@ -1,12 +1,17 @@
 -- The lines that a server writes.
 use Rattle.std.specs.Prelude.{ℕ, List, [], ◌∷◌, ◌++◌, codes}
 use Rattle.std.specs.Fmt.{decimal}
+use Rattle.std.specs.List.{flat_map}
 use Rattle.audit_model.specs.declared.transcript.Note.{Note}
 use Rattle.cached_script.specs.Notes.{note_text}
 
 -- a note, with the name of its namespace before it
 abbrev pub named_note_line : List ℕ → Note → List ℕ
 named_note_line name note = name ++ 32 ∷ [] ++ note_text note
+
+-- notes, one line behind the other
+abbrev pub named_note_lines : List ℕ → List Note → List ℕ
+named_note_lines name notes = flat_map (named_note_line name) notes
 
 -- a namespace that is served, with its port
 abbrev pub listening_line : List ℕ → ℕ → List ℕ

@@ -13,7 +13,7 @@ use std::time::Instant;
 /// The writer of all lines, which threads share.
 pub type SharedLines<W> = Arc<Mutex<Lines<W>>>;
 
-/// Tells notes as lines, each in one hold of the writer's lock. Once a line could not be written whole, no more are told.
+/// Tells notes as lines, those that come together in one hold of the writer's lock. Once a line could not be written whole, no more are told.
 #[derive(Drop)]
 pub struct Announcer<W: Write + Drop> {
     name: Arc<Bytes>,
@@ -25,9 +25,9 @@ impl<W: Write + Drop> Teller for Announcer<W> {
         true
     }
 
-    fn tell<R: Wait>(&mut self, rt: &R, note: &Note) {
+    fn tell<R: Wait>(&mut self, rt: &R, notes: &[Note]) {
         let mut lines = self.lines.lock(rt);
-        let _ = lines.tell(self.name.as_slice(), note);
+        let _ = lines.tell(self.name.as_slice(), notes);
     }
 }
 

@@ -3,9 +3,8 @@ ghost use Rattle.std.specs.Prelude.{◌≡◌, ◌⊎◌, IfOk, IfErr};
 
 use crate::announcing::{SharedLines, Site};
 use audit_model::{Config, Instant};
-use cache_live::LiveService;
 use cache_serve::host;
-use cache_shared::{Seating, SharedService};
+use cache_shared::{LiveService, Seating, SharedService};
 use cached_config::HostedNamespace;
 use cached_script::Fault;
 use rand_core::SeedableRng;

@@ -1,14 +1,14 @@
 //! Whole lines on one writer.
-ghost use Rattle.std.specs.Prelude.{◌≡◌, ◌≤◌, ◌++◌, ◌∷◌, [], true, codes, decimal, IsErr, IfOk, OnOk, OnErr, false};
+ghost use Rattle.std.specs.Prelude.{◌≡◌, ◌≤◌, ◌++◌, ◌∷◌, [], true, codes, decimal, IsErr, IfErr, IfOk, OnOk, OnErr, false};
 ghost use Rattle.std.specs.Io.KnownBytes.{Appends};
 ghost use Rattle.cache_devices.specs.Failures.{HasFailed};
 ghost use Rattle.cache_devices.specs.Watched.{device, failures};
 ghost use Rattle.cached_script.specs.Gathering.{Gathers};
 ghost use Rattle.cached_script.specs.Notes.{note_text};
-ghost use Rattle.cached_server.specs.Lines.{listening_line, named_note_line};
+ghost use Rattle.cached_server.specs.Lines.{listening_line, named_note_line, named_note_lines};
 
 use audit_model::Note;
-use cache_devices::{SendError, Watched};
+use cache_devices::{RunError, Watched};
 use cached_script::{put, write_note, write_out};
 use itoa::Buffer;
 use std::alloc::{AllocError, Global};
@@ -38,22 +38,22 @@ impl<W: Write + Drop> Lines<W> {
         })
     }
 
-    /// Writes the line of a note of a namespace of that name, in one piece. Takes no memory.
-    pub fn tell(&mut self, name: &[u8], note: &Note) -> Result<(), SendError>
-        ensures ok { OnOk result (Appends (W.contents (device self.old.writer)) (W.contents (device self.new.writer)) (named_note_line name.now note.now)) }
+    /// Writes the lines of some notes of a namespace of that name, one behind the other. Takes no memory.
+    pub fn tell(&mut self, name: &[u8], notes: &[Note]) -> Result<(), RunError>
+        ensures ok { OnOk result (Appends (W.contents (device self.old.writer)) (W.contents (device self.new.writer)) (named_note_lines name.now notes.now)) }
         ensures whole { OnOk result (self.new.is_cut ≡ self.old.is_cut) }
         ensures cut { OnErr result (self.new.is_cut ≡ true) }
         ensures still { self.old.is_cut ≡ true → (self.new ≡ self.old) × IsErr result }
     {
         if self.is_cut {
-            return Err(SendError::Write);
+            return Err(RunError::Write);
         }
         let Lines {
             gathered,
             writer,
             is_cut,
         } = self;
-        match write_note_line(name, note, gathered, writer) {
+        match write_note_lines(name, notes, gathered, writer) {
             Ok(()) => Ok(()),
             Err(error) => {
                 *is_cut = true;
@@ -63,14 +63,14 @@ impl<W: Write + Drop> Lines<W> {
     }
 
     /// Writes that a namespace of that name is served at a port, in one piece. Takes no memory.
-    pub fn show(&mut self, name: &[u8], port: u16) -> Result<(), SendError>
+    pub fn show(&mut self, name: &[u8], port: u16) -> Result<(), RunError>
         ensures ok { OnOk result (Appends (W.contents (device self.old.writer)) (W.contents (device self.new.writer)) (listening_line name.now port)) }
         ensures whole { OnOk result (self.new.is_cut ≡ self.old.is_cut) }
         ensures cut { OnErr result (self.new.is_cut ≡ true) }
         ensures still { self.old.is_cut ≡ true → (self.new ≡ self.old) × IsErr result }
     {
         if self.is_cut {
-            return Err(SendError::Write);
+            return Err(RunError::Write);
         }
         let Lines {
             gathered,
@@ -87,20 +87,39 @@ impl<W: Write + Drop> Lines<W> {
     }
 }
 
-/// Writes a note of a namespace as a line.
-fn write_note_line<W: Write>(
+/// Gathers the line of a note of a namespace.
+fn put_note_line<W: Write>(
     name: &[u8],
     note: &Note,
     gathered: &mut Vec<u8>,
     writer: &mut Watched<W>,
-) -> Result<(), SendError>
-    ensures ok { OnOk result (Appends (W.contents (device writer.old)) (W.contents (device writer.new)) (named_note_line name.now note.now)) }
-    ensures cause { OnErr result (HasFailed (failures writer.old) (failures writer.new)) }
+) -> Result<(), RunError>
+    ensures ok { OnOk result (Gathers (W.contents (device writer.old)) gathered.old.items (named_note_line name.now note.now) (W.contents (device writer.new)) gathered.new.items) }
+    ensures cause { IfErr result (λ e. (e ≡ RunError.Write) × HasFailed (failures writer.old) (failures writer.new)) }
+    ensures count { failures writer.old ≤ failures writer.new }
 {
-    gathered.clear();
     put(gathered, name, writer)?;
     put(gathered, b" ", writer)?;
-    write_note(note, gathered, writer)?;
+    match write_note(note, gathered, writer) {
+        Ok(()) => Ok(()),
+        Err(error) => Err(error),
+    }
+}
+
+/// Writes notes of a namespace as lines.
+fn write_note_lines<W: Write>(
+    name: &[u8],
+    notes: &[Note],
+    gathered: &mut Vec<u8>,
+    writer: &mut Watched<W>,
+) -> Result<(), RunError>
+    ensures ok { OnOk result (Appends (W.contents (device writer.old)) (W.contents (device writer.new)) (named_note_lines name.now notes.now)) }
+    ensures cause { IfErr result (λ e. (e ≡ RunError.Write) × HasFailed (failures writer.old) (failures writer.new)) }
+{
+    gathered.clear();
+    for note in notes {
+        put_note_line(name, note, gathered, writer)?;
+    }
     write_out(gathered, writer)
 }
 
@@ -110,9 +129,9 @@ fn write_listening_line<W: Write>(
     port: u16,
     gathered: &mut Vec<u8>,
     writer: &mut Watched<W>,
-) -> Result<(), SendError>
+) -> Result<(), RunError>
     ensures ok { OnOk result (Appends (W.contents (device writer.old)) (W.contents (device writer.new)) (listening_line name.now port)) }
-    ensures cause { OnErr result (HasFailed (failures writer.old) (failures writer.new)) }
+    ensures cause { IfErr result (λ e. (e ≡ RunError.Write) × HasFailed (failures writer.old) (failures writer.new)) }
 {
     gathered.clear();
     put(gathered, b"listening ", writer)?;
@@ -128,9 +147,9 @@ fn put_number<W: Write>(
     number: u16,
     gathered: &mut Vec<u8>,
     writer: &mut Watched<W>,
-) -> Result<(), SendError>
+) -> Result<(), RunError>
     ensures ok { OnOk result (Gathers (W.contents (device writer.old)) gathered.old.items (decimal number) (W.contents (device writer.new)) gathered.new.items) }
-    ensures cause { OnErr result (HasFailed (failures writer.old) (failures writer.new)) }
+    ensures cause { IfErr result (λ e. (e ≡ RunError.Write) × HasFailed (failures writer.old) (failures writer.new)) }
     ensures count { failures writer.old ≤ failures writer.new }
 {
     let mut digits = Buffer::new();

@@ -68,6 +68,29 @@ pub fn talk<R: Net<Listener = TcpListener, Stream = TcpStream> + Clock>(
     }
 }
 
+/// Sends a text, and another one 1.2 seconds later.
+fn send_both<R: Clock>(rt: &R, stream: &mut TcpStream, texts: (&[u8], &[u8])) -> io::Result<()> {
+    stream.write_all(texts.0)?;
+    thread::sleep(rt, Duration::from_millis(1200));
+    stream.write_all(texts.1)
+}
+
+/// One that sends a text, and another one 1.2 seconds later, and reads to the end.
+pub fn talk_later<R: Net<Listener = TcpListener, Stream = TcpStream> + Clock>(
+    rt: &R,
+    alloc: Global,
+    port: u16,
+    texts: (&[u8], &[u8]),
+) -> Vec<u8> {
+    match connect(rt, port) {
+        Some(mut stream) => match send_both(rt, &mut stream, texts) {
+            Ok(()) => read_all(alloc, &mut stream),
+            Err(_) => Vec::new(alloc),
+        },
+        None => Vec::new(alloc),
+    }
+}
+
 /// One that sends a text, and reads nothing.
 pub fn send_only<R: Net<Listener = TcpListener, Stream = TcpStream> + Clock>(
     rt: &R,

@@ -14,16 +14,16 @@ use std::time::Clock;
 const AMPLE: usize = 1_000_000;
 
 /// A namespace: its name, and its lines beside its name and its port.
-type Space = (&'static str, &'static str);
+pub type Space = (&'static str, &'static str);
 
 /// Namespaces, which clients there are and what they send, what they read, and the notes.
 #[derive(Clone, Copy)]
-struct Row<'a> {
-    spaces: &'a [Space],
-    cast: Cast,
-    texts: (&'a [u8], &'a [u8]),
-    replies: (&'a [u8], &'a [u8]),
-    notes: &'a str,
+pub struct Row<'a> {
+    pub spaces: &'a [Space],
+    pub cast: Cast,
+    pub texts: (&'a [u8], &'a [u8]),
+    pub replies: (&'a [u8], &'a [u8]),
+    pub notes: &'a str,
 }
 
 /// The port of the namespace at a place.
@@ -104,7 +104,7 @@ where
 }
 
 /// Whether a server on free ports comes to what its row says.
-fn serves<R>(rt: R, alloc: Global, row: &Row<'_>) -> bool
+pub fn serves<R>(rt: R, alloc: Global, row: &Row<'_>) -> bool
 where
     R: Net<Listener = TcpListener, Stream = TcpStream>
         + Clock
@@ -152,8 +152,8 @@ const ROWS: &[Row<'static>] = &[
     },
 ];
 
-/// The place of the first row that does not come out so.
-fn first_wrong<R>(rt: R, alloc: Global) -> Option<usize>
+/// The place of the first of these rows that does not come out so.
+pub fn first_wrong<R>(rt: R, alloc: Global, rows: &[Row<'_>]) -> Option<usize>
 where
     R: Net<Listener = TcpListener, Stream = TcpStream>
         + Clock
@@ -165,7 +165,7 @@ where
         + Sync
         + 'static,
 {
-    for (place, row) in ROWS.iter().enumerate() {
+    for (place, row) in rows.iter().enumerate() {
         if !serves(rt, alloc, row) {
             return Some(place);
         }
@@ -175,7 +175,7 @@ where
 
 #[test]
 fn rows_of_servers(rt: HostRuntime) {
-    assert_eq!(rt; first_wrong(rt, rt.alloc()), None);
+    assert_eq!(rt; first_wrong(rt, rt.alloc(), ROWS), None);
 }
 
 /// The text of a client that asks for a long value again and again.

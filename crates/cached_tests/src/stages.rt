@@ -1,5 +1,5 @@
 //! Servers, each with its clients, to its end.
-use crate::clients::{connect, read_all, send_only, talk, use_up};
+use crate::clients::{connect, read_all, send_only, talk, talk_later, use_up};
 use crate::sinks::{Sink, make_sink, read_back};
 use cached_script::Fault;
 use cached_server::serve_text;
@@ -27,6 +27,8 @@ pub struct Served {
 pub enum Cast {
     /// One on the first port.
     One,
+    /// One on the first port that sends its first text, and its second one 1.2 seconds later.
+    Pausing,
     /// One on each port, one after the other.
     Each,
     /// Bad ones on the first port, then a good one.
@@ -38,7 +40,7 @@ pub enum Cast {
 /// How many connections each namespace serves.
 fn count_of(cast: Cast) -> u64 {
     match cast {
-        Cast::One | Cast::Each | Cast::Nobody => 1,
+        Cast::One | Cast::Pausing | Cast::Each | Cast::Nobody => 1,
         Cast::Bad => 6,
     }
 }
@@ -54,6 +56,11 @@ fn play<R: Net<Listener = TcpListener, Stream = TcpStream> + Clock>(
     match cast {
         Cast::One => {
             let replies = talk(rt, alloc, ports.0, texts.0);
+            use_up(rt, ports.0, 1);
+            (replies, Vec::new(alloc))
+        }
+        Cast::Pausing => {
+            let replies = talk_later(rt, alloc, ports.0, texts);
             use_up(rt, ports.0, 1);
             (replies, Vec::new(alloc))
         }

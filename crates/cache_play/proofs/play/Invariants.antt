@@ -1,8 +1,6 @@
 use Rattle.std.proofs.Common.{take}
-use Rattle.cache_spaces.specs.Journals.{journals_of, service_of}
 use Rattle.cache_spaces.specs.Played.{HavePlayed}
-use Rattle.cache_spaces.specs.Services.{spaces_of}
 use Rattle.cache_play.proofs.play.Given as goal
 
 abbrev pub invariant-loop-input : goal.invariant-loop-input
-invariant-loop-input l = record { played : HavePlayed l.configs l.fn.moment (take l.input-index l.inputs) (journals_of l.recorded) (spaces_of (service_of l.recorded)) }
+invariant-loop-input l = record { played : HavePlayed l.configs l.fn.moment (take l.input-index l.inputs) l.recorded }

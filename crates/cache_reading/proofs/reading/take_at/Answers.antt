@@ -1,4 +1,4 @@
-use Rattle.std.proofs.Common.{◌≡◌, length, sym, ◌∙◌, arith}
+use Rattle.std.proofs.Common.{length, sym, ◌∙◌, arith}
 use Rattle.cache_reading.proofs.Noting.{no-record}
 use Rattle.cache_reading.proofs.reading.take_at.Goals as goal
 

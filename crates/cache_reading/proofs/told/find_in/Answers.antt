@@ -1,4 +1,4 @@
-use Rattle.std.proofs.Common.{[], ◌≡◌, ◌≤◌, length, get_or, sym, ap, subst, ◌∙◌, arith}
+use Rattle.std.proofs.Common.{[], ◌≤◌, length, get_or, subst, ◌∙◌, arith}
 use Rattle.cache_reading.proofs.Noting.{next-list}
 use Rattle.cache_reading.specs.Notes.{lists_of}
 use Rattle.cache_reading.proofs.told.find_in.Goals as goal

@@ -1,9 +1,9 @@
-use Rattle.std.proofs.Common.{refl, ◌≡◌, ◌≤◌, length, get_or, sym, ap, subst, ◌∙◌, arith, rules}
+use Rattle.std.proofs.Common.{refl, ◌≡◌, ap, ◌∙◌, arith}
 use Rattle.std.specs.Prelude.{Some}
 use Rattle.std.specs.List.{slice_get}
 use Rattle.std.proofs.lemmas.Option.{slice_get_read}
 use Rattle.cache_reading.proofs.Noting.{lists-there, next-record, no-record}
-use Rattle.cache_reading.specs.Notes.{lists_at, lists_of, rest_in}
+use Rattle.cache_reading.specs.Notes.{rest_in}
 use Rattle.cache_reading.proofs.told.find_note.Goals as goal
 
 pub loop-entry-preserved : goal.loop-entry-preserved

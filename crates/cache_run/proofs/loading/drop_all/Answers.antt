@@ -1,21 +1,14 @@
-use Rattle.cache_spaces.specs.Services.{spaces_of}
 use Rattle.std.proofs.Common.{ℕ, ◌+◌, List, take, get_or, ap, arith, take_all}
 use Rattle.std.proofs.lemmas.List.{take_more}
 use Rattle.audit_model.specs.declared.input.LoadId.{LoadId}
-use Rattle.cache_run.proofs.Connecting.{found-at}
-use Rattle.cache_run.proofs.Gone.{at-gone-next, at-gone-same, drops-still}
-use Rattle.cache_run.proofs.Placing.{at-same}
-use Rattle.cache_run.proofs.Dropping.{at-drops-more, at-undropped, same-at}
-use Rattle.cache_run.proofs.Going.{at-but-loads}
+use Rattle.cache_run.proofs.Dropping.{at-drops-more, at-undropped-still}
+use Rattle.cache_run.proofs.Gone.{at-gone-next, at-gone-none, at-gone-same}
 use Rattle.cache_run.proofs.loading.drop_all.Goals as goal
 
 pub loop-load-init : goal.loop-load-init
 loop-load-init c =
-    let found = found-at (spaces_of c.args.service.now) c.args.conn.namespace c.requires.known in record {
-      dropped = at-undropped c.args.conn.number _ _ _ (at-but-loads _ _ _ (same-at (spaces_of c.args.service.now) c.args.conn.namespace c.requires.known));
-      gone = at-same _ _ _ found.0 found.1 (drops-still found.0);
-      known = c.requires.known;
-    }
+    let i = c.requires.known in
+    record { dropped = at-undropped-still c.args.conn.number _ _ i.space i.at; gone = at-gone-none _ _ i.space i.at; known = i }
 
 pub loop-load-preserved : goal.loop-load-preserved
 loop-load-preserved c = record {

@@ -1,21 +1,19 @@
-use Rattle.std.proofs.Common.{◌≡◌, ◌^◌, ◌-◌, arith, inl, inr}
+use Rattle.std.proofs.Common.{◌≡◌, ◌^◌, ◌-◌, arith}
 use Rattle.cache_devices.proofs.Sending.{failed_after}
 use Rattle.cache_run.specs.Connected.{IsFed, HasTakenReplies}
-use Rattle.cache_run.specs.declared.errors.RunError.TheVariants.{Moment, UsedUp}
+use Rattle.cache_devices.specs.declared.errors.RunError.TheVariants.{Moment, UsedUp}
 use Rattle.cache_run.proofs.Causing.{because-map}
 use Rattle.cache_run.proofs.Connecting.{connected-map}
-use Rattle.cache_run.proofs.Settling.{same-here}
 use Rattle.cache_run.proofs.Turning.{asked-fewer, asked-more, asked-none, at-broken, at-broken-more, at-carried-more, at-carried-same, at-none-taken}
-use Rattle.cache_run.proofs.Going.{at-but-loads}
 use Rattle.cache_run.specs.Accounts.{HasTakenAll}
-use Rattle.cache_run.proofs.Accounting.{at-accounts-later, at-accounts-more, at-later-same, none-there, some-there}
+use Rattle.cache_run.proofs.Accounting.{at-accounts-more, at-accounts-still, none-there, some-there}
 use Rattle.cache_run.proofs.Placing.{at-more}
 use Rattle.cache_run.proofs.loading.settle_loads.Goals as goal
 
 pub loop-turn-init : goal.loop-turn-init
 loop-turn-init g c = record {
-  carried = λ remaining. at-carried-same g.C.Clock.reads g.L.Loader.loads _ _ _ _ _ _ _ (at-none-taken _ _ _ _ (at-but-loads _ _ _ (same-here _ _ _ c.requires.taken)));
-  accounted = at-accounts-later _ _ _ _ (at-later-same _ _ _ (same-here _ _ _ c.requires.taken));
+  carried = λ remaining. at-carried-same g.C.Clock.reads g.L.Loader.loads _ _ _ _ _ _ _ (at-none-taken _ _ _ c.requires.taken.space c.requires.taken.at);
+  accounted = at-accounts-still _ _ c.requires.taken.space c.requires.taken.at _;
   taken = c.requires.taken;
   writes = omega arith;
   asked = asked-none g.L.Loader.loads _;
@@ -63,7 +61,7 @@ returns-in-Err g c = record {
   accounted = at-accounts-more _ _ _ _ _ _ _ c.loop-turn.invariant.accounted (at-accounts-more _ _ _ _ _ _ _ c.take_more.ensures.accounted c.in-Err.ensures.accounted);
   all = tt;
   asks = asked-fewer g.L.Loader.loads _ _ _ 0 (omega arith) (asked-more g.L.Loader.loads _ _ _ _ 1 c.loop-turn.invariant.asked c.in-Err.ensures.asked);
-  why = because-map c.in-Err.error (λ no. no) (failed_after _ _ _ c.loop-turn.invariant.writes c.in-Err.ensures.count) (λ failed. inl (failed_after _ _ _ c.loop-turn.invariant.writes c.in-Err.ensures.count failed)) (λ late. late) c.in-Err.ensures.why;
+  why = because-map c.in-Err.error (λ no. no) (failed_after _ _ _ c.loop-turn.invariant.writes c.in-Err.ensures.count) (λ no. absurd no) (λ late. late) c.in-Err.ensures.why;
   count = omega (arith, c.loop-turn.invariant.writes, c.in-Err.ensures.count);
 }
 
@@ -75,6 +73,6 @@ returns g c = record {
   accounted = c.loop-turn.invariant.accounted;
   all = tt;
   asks = asked-fewer g.L.Loader.loads _ _ _ 0 (omega arith) c.loop-turn.invariant.asked;
-  why = inr (asked-fewer g.L.Loader.loads _ _ _ (2 ^ 64 - 1) (omega (arith, c.loop-turn-test.false)) c.loop-turn.invariant.asked);
+  why = asked-fewer g.L.Loader.loads _ _ _ (2 ^ 64 - 1) (omega (arith, c.loop-turn-test.false)) c.loop-turn.invariant.asked;
   count = c.loop-turn.invariant.writes;
 }

@@ -1,6 +1,6 @@
 use Rattle.std.proofs.Common.{[], None, arith, refl}
 use Rattle.cache_devices.proofs.Sending.{failed_after}
-use Rattle.cache_run.proofs.Carrying.{same_consumes}
+use Rattle.cache_devices.proofs.Reading.{same_consumes}
 use Rattle.cache_run.proofs.Causing.{why-map}
 use Rattle.cache_run.proofs.Turning.{at-more-by, turn-by}
 use Rattle.cache_run.proofs.Accounting.{at-accounts-later, at-accounts-more}
@@ -43,6 +43,6 @@ returns g c = record {
   left = c.deliver.ensures.left;
   accounted = at-accounts-more _ _ _ _ _ _ _ c.in-Ok.ensures.accounted (at-accounts-later _ _ _ _ c.deliver.ensures.later);
   asked = c.in-Ok.ensures.asked;
-  why = why-map c.deliver.result (λ no. no) (failed_after _ _ _ c.in-Ok.ensures.count c.deliver.ensures.count) (failed_after _ _ _ c.in-Ok.ensures.count c.deliver.ensures.count) (λ late. (_, _, c.now-moment.ensures, late)) c.deliver.ensures.why;
+  why = why-map c.deliver.result (λ no. no) (failed_after _ _ _ c.in-Ok.ensures.count c.deliver.ensures.count) (λ no. no) (λ late. (_, _, c.now-moment.ensures, late)) c.deliver.ensures.why;
   count = omega (arith, c.in-Ok.ensures.count, c.deliver.ensures.count);
 }

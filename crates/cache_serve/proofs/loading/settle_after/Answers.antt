@@ -1,17 +1,16 @@
-use Rattle.std.proofs.Common.{arith}
-use Rattle.cache_serve.specs.Out.{HadGoneOut}
-use Rattle.cache_serve.proofs.Asking.{behind-none, drops-one, most-asked-one, settles-dropped}
+use Rattle.cache_serve.proofs.Ending.{drops-none, drops-one}
+use Rattle.cache_serve.proofs.Outgoing.{last-out}
 use Rattle.cache_serve.proofs.loading.settle_after.Goals as goal
 
-pub returns-in-Ok-clause-loader : goal.returns-in-Ok-clause-loader
-returns-in-Ok-clause-loader g c = most-asked-one g.D.Loader.loads _ _ _ _ _ _ c.load-said.ensures c.settle.ensures.one
+pub returns-in_default-clause-dropped : goal.returns-in_default-clause-dropped
+returns-in_default-clause-dropped g c = drops-none
 
-pub returns-in-Ok-clause-asked : goal.returns-in-Ok-clause-asked
-returns-in-Ok-clause-asked g c = λ keeps. drops-one (HadGoneOut g.C.Core.service g.C.Core.events) g.D.Loader.loads _ _ _ _ _ _ _ _ c.requires.out c.load-said.ensures (c.settle.ensures.asked keeps c.args.key.now).0
+pub returns-in-Some-turn-clause-dropped : goal.returns-in-Some-turn-clause-dropped
+returns-in-Some-turn-clause-dropped g c =
+    let out = last-out g.C.Stepping.spaces g.C.Stepping.events _ _ c.deref.result.now c.in-Some.field-0.now c.as_slice.result.now c.deref.ensures.value c.in-Some.ensures.item.3 c.as_slice.ensures c.args.session.now.out in
+    drops-one (c.settle_late-turn.ensures.settled c.as_slice.result.now) out c.load-answer.ensures c.settle_late-turn.ensures.count c.settle_late-turn.ensures.one
 
-pub returns-clause-loader : goal.returns-clause-loader
-returns-clause-loader g c = most-asked-one g.D.Loader.loads _ _ _ _ _ _ c.load-said.ensures (let e = c.in-Err.ensures.kept in let f = c.give_up.ensures.one in omega arith)
-
-pub returns-clause-asked : goal.returns-clause-asked
-returns-clause-asked g c = λ keeps.
-    drops-one (HadGoneOut g.C.Core.service g.C.Core.events) g.D.Loader.loads _ _ _ _ _ _ _ _ c.requires.out c.load-said.ensures (settles-dropped _ _ _ _ _ _ (behind-none _ _ _ _ _ (c.in-Err.ensures.same keeps) (c.give_up.ensures.asked keeps)))
+pub returns-in-None-clause-dropped : goal.returns-in-None-clause-dropped
+returns-in-None-clause-dropped g c =
+    let out = last-out g.C.Stepping.spaces g.C.Stepping.events _ _ c.deref.result.now c.in-Some.field-0.now c.as_slice.result.now c.deref.ensures.value c.in-Some.ensures.item.3 c.as_slice.ensures c.args.session.now.out in
+    drops-one (c.settle_late-turn.ensures.settled c.as_slice.result.now) out c.load-answer.ensures c.settle_late-turn.ensures.count c.settle_late-turn.ensures.one

@@ -1,31 +1,22 @@
-use Rattle.std.proofs.Common.{refl, arith}
-use Rattle.cache_run.proofs.Carrying.{same_consumes}
-use Rattle.cache_serve.specs.Out.{HadGoneOut}
-use Rattle.cache_serve.specs.Unfit.{IsUnfit}
-use Rattle.cache_serve.proofs.Asking.{most-none}
-use Rattle.cache_serve.proofs.Writing.{answers-one, breaks-behind, breaks-one}
-use Rattle.std.proofs.Common.{inr}
-use Rattle.cache_run.proofs.Turning.{still-err}
-use Rattle.cache_run.specs.declared.errors.RunError.TheVariants.{UsedUp}
+use Rattle.std.proofs.Common.{ℕ, []}
+use Rattle.std.specs.Prelude.{Ok, Err}
+use Rattle.cache_serve.specs.Went.{spot}
+use Rattle.cache_serve.proofs.Going.{feeds-with, most-so, went-sent}
+use Rattle.cache_serve.proofs.Settling.{stops-sending}
 use Rattle.cache_serve.proofs.loading.settle_next.Goals as goal
 
-pub returns-in-Err-clause-err : goal.returns-in-Err-clause-err
-returns-in-Err-clause-err g c = breaks-one _ _ _ _ _ (omega arith) c.in-Err.ensures.err
+pub returns-in-Ok-look_again-clause-goes : goal.returns-in-Ok-look_again-clause-goes
+returns-in-Ok-look_again-clause-goes g c = went-sent c.in-Ok-look_again.ensures.replies
 
-pub returns-in-Err-clause-left : goal.returns-in-Err-clause-left
-returns-in-Err-clause-left g c = λ keeps read. most-none (HadGoneOut g.C.Core.service g.C.Core.events) (IsUnfit g.C.Core.service g.C.Core.events) g.K.Clock.reads g.D.Loader.loads c.args.conn _ _ _ _ _ _ (λ n. refl) (same_consumes read)
+pub returns-in-Err-look_again-clause-goes : goal.returns-in-Err-look_again-clause-goes
+returns-in-Err-look_again-clause-goes g c = let sent = c.in-Err-look_again.ensures.replies in record { rest = sent.1; most = most-so (went-sent sent.2); why = stops-sending c.in-Err-look_again.ensures.why }
 
-pub returns-in-Ok-go_on-clause-ok : goal.returns-in-Ok-go_on-clause-ok
-returns-in-Ok-go_on-clause-ok g c = answers-one _ _ _ _ _ c.go_on.ensures.one c.in-Ok.ensures.ok
+pub returns-in-Ok-hand_in-clause-goes : goal.returns-in-Ok-hand_in-clause-goes
+returns-in-Ok-hand_in-clause-goes g c =
+    feeds-with g.C.Takings g.C.Stepping g.O.Write.contents g.K.Clock.reads g.D.Loader.loads c.args.session.now.conn (spot c.args.seat.now c.args.writer.now c.args.clock.now tt) (spot c.hand_in.new.seat c.hand_in.new.writer c.hand_in.new.clock tt) c.args.loader.now [] (Ok c.in-Ok-hand_in.footing)
+    c.in-Ok-hand_in.ensures.goes
 
-pub returns-in-Ok-go_on-clause-nothing : goal.returns-in-Ok-go_on-clause-nothing
-returns-in-Ok-go_on-clause-nothing g c = λ is. answers-one _ _ _ _ _ (let e = c.in-Ok-go_on.ensures.nothing is in omega arith) c.in-Ok.ensures.ok
-
-pub returns-in-Ok-go_on-clause-over : goal.returns-in-Ok-go_on-clause-over
-returns-in-Ok-go_on-clause-over g c = λ is. answers-one _ _ _ _ _ (let e = c.in-Ok-go_on.ensures.over is in omega arith) c.in-Ok.ensures.ok
-
-pub returns-in-Err-go_on-clause-err : goal.returns-in-Err-go_on-clause-err
-returns-in-Err-go_on-clause-err g c = breaks-behind _ _ _ _ _ (let e = c.go_on.ensures.one in omega arith) c.in-Ok.ensures.ok
-
-pub returns-in-Err-go_on-clause-used_up : goal.returns-in-Err-go_on-clause-used_up
-returns-in-Err-go_on-clause-used_up g c = λ is. inr (c.in-Err-go_on.ensures.used_up (still-err c.in-Err-go_on.error UsedUp is))
+pub returns-in-Err-hand_in-clause-goes : goal.returns-in-Err-hand_in-clause-goes
+returns-in-Err-hand_in-clause-goes g c =
+    feeds-with g.C.Takings g.C.Stepping g.O.Write.contents g.K.Clock.reads g.D.Loader.loads c.args.session.now.conn (spot c.args.seat.now c.args.writer.now c.args.clock.now tt) (spot c.hand_in.new.seat c.hand_in.new.writer c.hand_in.new.clock tt) c.args.loader.now {X = ℕ} [] (Err c.in-Err-hand_in.error)
+    c.in-Err-hand_in.ensures.goes

@@ -5,8 +5,6 @@ invariant_of-result g c = record {
   taken = ∣ record {
     core = c.args.core.now;
     reached = c.stands.ensures;
-    space = c.in-Ok.ensures.loads.was;
-    at = c.in-Ok.ensures.loads.at;
-    same = c.in-Ok.ensures.loads.fact.taken;
+    out = record { space = c.in-Ok.ensures.loads.was; at = c.in-Ok.ensures.loads.at; fact = c.in-Ok.ensures.loads.fact.taken };
   } ∣₁;
 }

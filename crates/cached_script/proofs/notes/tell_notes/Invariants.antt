@@ -1,13 +1,12 @@
 use Rattle.std.proofs.Common.{◌≤◌, ◌<◌, length}
 use Rattle.cache_devices.specs.Watched.{device, failures}
-use Rattle.cache_spaces.specs.Services.{spaces_of}
 use Rattle.cached_script.specs.Notes.{notices_at}
 use Rattle.cached_script.proofs.Telling.{HasTold}
 use Rattle.cached_script.proofs.notes.tell_notes.Given as goal
 
 abbrev pub invariant-loop-note : goal.invariant-loop-note
 invariant-loop-note g l = record {
-  known : l.namespace < length (spaces_of l.service);
-  told : HasTold (g.W.Write.contents (device l.fn.writer)) (notices_at (spaces_of l.fn.service) l.namespace) (g.W.Write.contents (device l.writer)) l.gathered.items (notices_at (spaces_of l.service) l.namespace) l._note;
+  known : l.namespace < length l.service;
+  told : HasTold (g.W.Write.contents (device l.fn.writer)) (notices_at l.fn.service l.namespace) (g.W.Write.contents (device l.writer)) l.gathered.items (notices_at l.service l.namespace) l._note;
   count : failures l.fn.writer ≤ failures l.writer;
 }

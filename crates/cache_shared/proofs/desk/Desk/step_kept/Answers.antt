@@ -8,8 +8,8 @@ returns-in-Ok-make_lists-clause-receipt g c =
     gains-result _ c.args.input c.keep.result c.args.seat.now.receipts.items c.make_lists.new.lists.items c.namespace_of-namespace.result _ c.index_mut.result.now c.keep.new.own
     c.in-Ok-make_lists.ensures.same lt c.index_mut.ensures.value c.namespace_of-namespace.ensures c.keep.ensures.receipt
 
-pub returns-in-Ok-make_lists-clause-same : goal.returns-in-Ok-make_lists-clause-same
-returns-in-Ok-make_lists-clause-same g c =
+pub returns-in-Ok-make_lists-clause-unchanged : goal.returns-in-Ok-make_lists-clause-unchanged
+returns-in-Ok-make_lists-clause-unchanged g c =
     let lt : c.namespace_of-namespace.result < length c.make_lists.new.lists.items = search rules in
-    stays-result c.keep.result c.args.seat.now.receipts.items c.make_lists.new.lists.items c.namespace_of-namespace.result c.index_mut.result.now c.keep.new.own
-    c.in-Ok-make_lists.ensures.same lt c.index_mut.ensures.value c.keep.ensures.same
+    stays-result _ _ c.keep.result c.args.seat.now.receipts.items c.make_lists.new.lists.items c.namespace_of-namespace.result c.index_mut.result.now c.keep.new.own
+    c.in-Ok-make_lists.ensures.same lt c.index_mut.ensures.value c.keep.ensures.unchanged

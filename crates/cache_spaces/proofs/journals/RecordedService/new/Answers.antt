@@ -1,13 +1,10 @@
-use Rattle.std.proofs.Common.{[]}
-use Rattle.cache_spaces.proofs.Journaling.{played-none}
+use Rattle.std.proofs.Common.{arith}
+use Rattle.cache_spaces.proofs.Journaling.{were-none}
 use Rattle.cache_spaces.proofs.journals.RecordedService.new.Goals as goal
 
 pub invariant_of-result : goal.invariant_of-result
-invariant_of-result c = record {
-  played = ∣ record {
-    configs = c.args.configs.now;
-    moment = c.args.moment;
-    inputs = [];
-    played = played-none c.args.configs.now c.args.generator c.args.moment c.in-Ok-empty_transcripts.journals.items c.in-Ok.service.spaces.items c.in-Ok.ensures.made c.in-Ok-empty_transcripts.ensures.count c.in-Ok-empty_transcripts.ensures.empty;
-  } ∣₁;
-}
+invariant_of-result c = (
+  ∣ were-none c.args.configs.now c.args.generator c.args.moment c.in-Ok.core c.in-Ok.ensures.made ∣₁,
+  c.in-Ok-with_capacity.ensures.items,
+  let count = c.in-Ok.ensures.made.count in let capacity = c.in-Ok-with_capacity.ensures.capacity in omega (arith, count, capacity),
+)

@@ -1,10 +1,14 @@
+use Rattle.std.proofs.Common.{◌≤◌, subst, sym}
+use Rattle.std.specs.Prelude.{vec_capacity}
 use Rattle.std.proofs.Math.Logic.{∥∥₁_map}
-use Rattle.cache_spaces.specs.Journals.{journals_of, service_of}
-use Rattle.cache_spaces.specs.Services.{spaces_of}
-use Rattle.cache_spaces.proofs.Taking.{were-loads}
+use Rattle.cache_spaces.specs.Calls.{TakesLoads}
+use Rattle.cache_spaces.proofs.Journaling.{step-length, were-loads}
 use Rattle.cache_spaces.proofs.journals.RecordedService.take_loads.Goals as goal
 
 pub invariant_of-self : goal.invariant_of-self
-invariant_of-self c = record {
-  played = ∥∥₁_map c.args.self.now.played (were-loads c.args.namespace (journals_of c.args.self.now) (spaces_of (service_of c.args.self.now)) (spaces_of c.take_loads.new.self) c.take_loads.result c.take_loads.ensures.taken c.take_loads.ensures.refused);
-}
+invariant_of-self c =
+    let inside = c.self.inside in (
+      ∥∥₁_map c.self.invariant.0 (were-loads c.args.namespace inside.core c.take_loads.new.self c.take_loads.result (λ loads was is. TakesLoads was is loads.items) (λ loads was is t. t.rest) c.take_loads.ensures.taken c.take_loads.ensures.unchanged),
+      c.self.invariant.1,
+      subst (λ n. n ≤ vec_capacity inside.room) (sym (step-length c.args.namespace inside.core c.take_loads.new.self c.take_loads.result (λ loads was is. TakesLoads was is loads.items) c.take_loads.ensures.taken c.take_loads.ensures.unchanged)) c.self.invariant.2,
+    )

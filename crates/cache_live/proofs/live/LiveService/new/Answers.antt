@@ -1,5 +1,0 @@
-use Rattle.cache_live.proofs.Living.{lived-none}
-use Rattle.cache_live.proofs.live.LiveService.new.Goals as goal
-
-pub invariant_of-result : goal.invariant_of-result
-invariant_of-result c = record { lived = ∣ lived-none c.args.configs.now c.args.generator c.args.moment c.in-Ok.service.spaces.items c.in-Ok.ensures.made ∣₁ }

@@ -1,7 +1,0 @@
-pub mod Leads
-pub mod Answered
-pub mod GivenUp
-pub mod Laws
-pub mod Noted
-pub mod Resumed
-pub mod Told

@@ -1,0 +1,16 @@
+use Rattle.cache_spaces.specs.Journals.{journals_of, kept_by}
+use Rattle.cache_shared.specs.Events.{record_count}
+use Rattle.cache_shared.proofs.Performing.{all-shown, counts, performs, refused-kept, still}
+use Rattle.cache_shared.proofs.recorded.RecordedServiceStepping.step.Goals as goal
+
+pub returns-clause-taken : goal.returns-clause-taken
+returns-clause-taken c = performs kept_by c.args.input c.step.result c.args.self.now c.step.new.self c.step.ensures.performed
+
+pub returns-clause-count : goal.returns-clause-count
+returns-clause-count c = counts c.args.input c.step.result c.args.self.now c.step.new.self c.service.ensures.played c.step.ensures.performed
+
+pub returns-clause-refused : goal.returns-clause-refused
+returns-clause-refused c = refused-kept c.args.input c.step.result (record_count (journals_of c.args.self.now)) c.args.self.now c.step.ensures.refused
+
+pub returns-clause-unchanged : goal.returns-clause-unchanged
+returns-clause-unchanged c = still all-shown (λ spaces. record_count (journals_of spaces)) c.step.result c.args.self.now c.step.new.self c.step.ensures.unchanged

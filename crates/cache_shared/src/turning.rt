@@ -1,0 +1,82 @@
+//! Turns: an input, and all that its connection is owed behind it, in one hold of the lock.
+ghost use Rattle.std.specs.Prelude.{◌≡◌, ◌⊎◌, IfOk, IfErr, OnErr};
+ghost use Rattle.cache_shared.specs.Events.{IsLate, WasRefused, WasUsedUp};
+ghost use Rattle.cache_shared.specs.Looked.{WereMoved};
+ghost use Rattle.cache_shared.specs.Seats.{Counts, SameReceipts};
+
+use crate::desk::Desk;
+use crate::notices::take_notices;
+use crate::owed::{Owed, take_owed};
+use crate::seat::{Seat, Seating};
+use crate::service_core::Takings;
+use audit_model::{Conn, Input, Note, ServiceError};
+use cache_spaces::{Output, Refusal};
+use std::alloc::Global;
+
+/// What a turn gives.
+#[derive(Drop)]
+pub struct Turn<C: Takings> {
+    /// What the input came to.
+    pub output: Output,
+    /// What its connection is owed behind it.
+    pub owed: Owed<C>,
+}
+
+impl<L: Seating, C: Takings> Desk<L, C> {
+    /// Takes an input for a seat, as `step` does, and moves out what a connection is owed behind it, and its namespace's oldest notes, as many
+    /// as there is room for.
+    pub fn turn(
+        &mut self,
+        alloc: Global,
+        seat: &mut Seat<L>,
+        conn: Conn,
+        input: Input,
+        wants_loads: bool,
+        notes: &mut Vec<Note>,
+    ) -> Result<Turn<C>, Refusal>
+        ensures counted { IfOk result (λ turn. Counts C.KEEPS input turn.output seat.old.count seat.new.count seat.old.receipts.items seat.new.receipts.items) }
+        ensures conn { IfOk result (λ turn. turn.owed.conn ≡ conn) }
+        ensures refused { IfErr result (λ refusal. ∥ WasRefused C.spaces C.events input refusal.error seat.old.count ∥₁) }
+        ensures back { IfErr result (λ refusal. refusal.input ≡ input) }
+        ensures unchanged { OnErr result ((seat.new.count ≡ seat.old.count) × SameReceipts seat.old.receipts.items seat.new.receipts.items) }
+        ensures late { IfErr result (λ refusal. refusal.error ≡ ServiceError.Moment → IsLate input) }
+        ensures used_up { IfErr result (λ refusal. refusal.error ≡ ServiceError.UsedUp → WasUsedUp C.events seat.old.count) }
+        ensures moved { WereMoved C.spaces C.events C.untold conn.namespace notes.old.items notes.new.items }
+    {
+        self.core.stands();
+        match self.step(alloc, seat, input) {
+            Ok(output) => {
+                let owed = self.take_owed(conn, wants_loads, notes);
+                Ok(Turn { output, owed })
+            }
+            Err(refusal) => Err(refusal),
+        }
+    }
+
+    /// What a connection is owed, and its namespace's oldest notes, as many as there is room for, moved out; nothing where it is unknown.
+    pub fn take_owed(&mut self, conn: Conn, wants_loads: bool, notes: &mut Vec<Note>) -> Owed<C>
+        ensures conn { result.conn ≡ conn }
+        ensures moved { WereMoved C.spaces C.events C.untold conn.namespace notes.old.items notes.new.items }
+        ensures events { C.events self.new.core ≡ C.events self.old.core }
+    {
+        // Notes that are not taken for want of memory stay.
+        let _ = self.take_notices(conn.namespace, notes);
+        let Desk { core, .. } = self;
+        take_owed(core, conn, wants_loads)
+    }
+
+    /// The oldest notes of a namespace that were told and not taken, moved out, as many as there is room for.
+    pub fn take_notices(
+        &mut self,
+        namespace: u64,
+        notes: &mut Vec<Note>,
+    ) -> Result<(), ServiceError>
+        ensures moved { WereMoved C.spaces C.events C.untold namespace notes.old.items notes.new.items }
+        ensures refused { IfErr result (λ e. (e ≡ ServiceError.OutOfMemory) ⊎ (e ≡ ServiceError.NoNamespace)) }
+        ensures events { C.events self.new.core ≡ C.events self.old.core }
+    {
+        let Desk { core, .. } = self;
+        core.stands();
+        take_notices(core, namespace, notes)
+    }
+}

@@ -1,8 +1,0 @@
-use Rattle.cache_spaces.proofs.Putting.{at-of, refuses-at}
-use Rattle.cache_spaces.proofs.service.Service.close.Goals as goal
-
-pub returns-in-Ok-close_in-clause-taken : goal.returns-in-Ok-close_in-clause-taken
-returns-in-Ok-close_in-clause-taken c = at-of _ c.args.self.now.spaces.items c.close_in.new.spaces.items c.in-Ok.index c.args.conn.namespace c.in-Ok.ensures.place.0 (c.in-Ok-close_in.ensures.ok)
-
-pub returns-in-Err-close_in-clause-refused : goal.returns-in-Err-close_in-clause-refused
-returns-in-Err-close_in-clause-refused c = refuses-at _ c.args.self.now.spaces.items c.close_in.new.spaces.items c.in-Ok.index c.args.conn.namespace _ c.in-Ok.ensures.place.0 (c.in-Err-close_in.ensures.err)

@@ -1,8 +1,0 @@
-use Rattle.cache_spaces.proofs.Putting.{put-at}
-use Rattle.cache_spaces.proofs.service.open_in.Goals as goal
-
-pub returns-in-Ok-clause-ok : goal.returns-in-Ok-clause-ok
-returns-in-Ok-clause-ok c = put-at _ c.args.spaces.now.items c.args.index c.index_mut-space.result.now c.open.new.self c.requires c.index_mut-space.ensures.value (c.in-Ok.ensures.takes, c.in-Ok.ensures.number)
-
-pub returns-in-Err-clause-err : goal.returns-in-Err-clause-err
-returns-in-Err-clause-err c = put-at _ c.args.spaces.now.items c.args.index c.index_mut-space.result.now c.open.new.self c.requires c.index_mut-space.ensures.value c.in-Err.ensures.same

@@ -1,0 +1,96 @@
+-- What calls of a service do to its namespaces.
+use Rattle.std.specs.Prelude.{◌≡◌, ℕ, ◌-◌, ◌≤◌, Bool, true, false, List, [], length, Option, Some, IsTrue, slice_set, ◌⊎◌}
+use Rattle.std.specs.List.{slice_get}
+use Rattle.audit_model.specs.Situation.{is_holding_in}
+use Rattle.audit_model.specs.declared.event.Event.{Event}
+use Rattle.audit_model.specs.declared.input.LoadId.{LoadId}
+use Rattle.audit_model.specs.declared.input.ServiceError.{ServiceError}
+use Rattle.audit_model.specs.declared.input.ServiceError.TheVariants as error
+use Rattle.audit_model.specs.declared.transcript.Note.{Note}
+use Rattle.cache_core.specs.Settling.{Happens}
+use Rattle.cache_core.specs.State.{situation_with}
+use Rattle.cache_core.specs.Turned.{RefusesBy, Turns}
+use Rattle.cache_loads.specs.Keys.{are_in_turn, have_their_keys}
+use Rattle.cache_spaces.specs.Spaces.{Space, notices_of, outgoing_of, place_of, taken_of, untaken_output, was_opened}
+use Rattle.cache_spaces.specs.Stores.{shown_of}
+use Rattle.cache_store.specs.Handing.{TakesFirstNote}
+use Rattle.cache_store.specs.Values.{GivesNote}
+use Rattle.cache_tape.specs.Taped.{Taped}
+
+-- ---- which namespace
+
+module _ {X : Type 0} where
+  -- the one of that number was put in the place of another, and that is true of the two; no other was touched
+  pub record At (old new : List X) (namespace : ℕ) (Fact : X → X → Type 0) : Type 0 where
+    pub was : X
+    pub is : X
+    pub at : slice_get old namespace ≡ Some was
+    pub set : new ≡ slice_set old namespace is
+    pub fact : Fact was is
+
+  -- the one of that number is this
+  abbrev pub IsSpace : List X → ℕ → X → Type 0
+  IsSpace spaces namespace space = slice_get spaces namespace ≡ Some space
+
+  -- that is true of the one of that number
+  pub record InSpace (spaces : List X) (namespace : ℕ) (Fact : X → Type 0) : Type 0 where
+    pub space : X
+    pub at : slice_get spaces namespace ≡ Some space
+    pub fact : Fact space
+
+  -- A call was refused: there is no such namespace; or there is, and the cause is true of it.
+  abbrev pub Refuses : List X → ℕ → ServiceError → (X → Type 0) → Type 0
+  Refuses spaces namespace e Cause = ((e ≡ error.NoNamespace) × (length spaces ≤ namespace)) ⊎ InSpace spaces namespace Cause
+
+-- ---- events
+
+module _ {T : Type 0} (tape : T → Option Taped) where
+  -- Each situation that the namespace stood for goes on by a record of the event, whose last step is held back, or is not. Where its tape keeps
+  -- records it stands on it; else its replies and notes stand behind those that were not taken. Each connection is closed for the reason that
+  -- the record gives.
+  abbrev pub ServesEvent : Space T → Space T → Event → (is_held : Bool) → Type 0
+  ServesEvent was is happened is_held = Turns shown_of tape was is happened is_held
+
+  -- the same of an answer or a give-up, by which several connections may have steps
+  abbrev pub Settled : Space T → Space T → Event → Type 0
+  Settled was is happened = Happens shown_of tape was is happened
+
+module _ {T : Type 0} where
+  -- a command of the connection is held back
+  abbrev pub is_held_in : Space T → ℕ → Bool
+  is_held_in space number = is_holding_in (situation_with shown_of space []) number
+
+  -- the definition refuses the event with that, or else memory was wanted: with `HeldAgain` only where a command is held back
+  abbrev pub RefusedFor : Space T → Event → (held : Bool) → ServiceError → Type 0
+  RefusedFor was happened held e = RefusesBy shown_of was happened held e
+
+  -- ---- takings and looks
+
+  -- the connection was opened
+  abbrev pub IsOpened : Space T → ℕ → Type 0
+  IsOpened space number = was_opened space number ≡ true
+
+  -- it never was
+  pub record IsUnknown (space : Space T) (number : ℕ) (e : ServiceError) : Type 0 where
+    pub unknown : was_opened space number ≡ false
+    pub error : e ≡ error.NoConnection
+
+  -- the replies of a connection that was opened are moved out, and nothing else changes
+  pub record TakesOutput (was is : Space T) (number : ℕ) (text : List ℕ) : Type 0 where
+    pub opened : IsOpened was number
+    pub taken : text ≡ untaken_output was number
+    pub rest : is ≡ record was { outputs = slice_set was.outputs (number - 1) [] }
+
+  -- the oldest note is taken, if there is one, and nothing else that is seen changes
+  pub record TakesNotice (was is : Space T) (note : Option Note) : Type 0 where
+    pub taken : TakesFirstNote (notices_of was) (notices_of is) note
+    pub gives : GivesNote (shown_of was.store) (shown_of is.store)
+    pub rest : is ≡ record was { store = is.store }
+
+  -- The loads that went out are moved out, and nothing else changes: they are the namespace's loads in turn, behind those that were taken
+  -- before, and each that is under way comes with its key.
+  pub record TakesLoads (was is : Space T) (loads : List (LoadId × List ℕ)) : Type 0 where
+    pub taken : loads ≡ outgoing_of was
+    pub rest : is ≡ record was { outgoing = [] }
+    pub in_turn : IsTrue (are_in_turn (place_of was) (taken_of was) loads)
+    pub keys : IsTrue (have_their_keys was.pending loads)

@@ -1,0 +1,21 @@
+//! What is true of every namespace.
+ghost use Rattle.std.specs.Prelude.{◌≡◌, Some};
+ghost use Rattle.std.specs.List.{slice_get};
+ghost use Rattle.cache_spaces.specs.Sound.{IsSound};
+ghost use Rattle.cache_spaces.specs.Spaces.{Space};
+
+use crate::service::Core;
+use cache_tape::Tape;
+
+impl<T: Tape> Core<T> {
+    /// What is true of a namespace, if it is there: it stands for a situation, it is in order, and its parts suit one another. It does
+    /// nothing.
+    pub fn sound(&self, namespace: u64)
+        ensures { (space : Space T) → slice_get self.now namespace ≡ Some space → IsSound T.view space }
+    {
+        match self.spaces.get(namespace as usize) {
+            Some(space) => space.sound(),
+            None => {}
+        }
+    }
+}

@@ -1,0 +1,41 @@
+//! The tapes of new namespaces.
+ghost use Rattle.std.specs.Prelude.{◌≡◌, Option};
+ghost use Rattle.audit_model.specs.declared.event.Instant.{Instant as Moment};
+ghost use Rattle.cache_tape.specs.Taped.{IsAtRest, Taped};
+
+use audit_model::Instant;
+use cache_tape::{Bare, Kept, Tape};
+use std::alloc::Global;
+
+/// A tape that a new namespace can begin with.
+pub trait NewTape: Tape {
+    // what it keeps of a namespace that is made at that moment, where it keeps anything
+    ghost blank: { Moment → Option Taped };
+
+    /// A tape of a namespace that is made at that moment. Takes no memory.
+    fn make(alloc: Global, made: Instant) -> Self
+        ensures blank { Self.Tape.view result ≡ blank made }
+        ensures rests { IsAtRest (Self.Tape.view result) };
+}
+
+impl NewTape for Bare {
+    ghost use Rattle.std.specs.Prelude.{None};
+
+    ghost blank = { λ made. None };
+
+    fn make(alloc: Global, made: Instant) -> Bare {
+        let _made = made;
+        Bare::new(alloc)
+    }
+}
+
+impl NewTape for Kept {
+    ghost use Rattle.std.specs.Prelude.{Some};
+    ghost use Rattle.cache_spaces.specs.Services.{blank_tape};
+
+    ghost blank = { λ made. Some (blank_tape made) };
+
+    fn make(alloc: Global, made: Instant) -> Kept {
+        Kept::new(alloc, made)
+    }
+}
