@@ -8,7 +8,7 @@ use Rattle.cache_commands.specs.Answered.{Agrees}
 use Rattle.cache_commands.specs.Right.{KeepsFrame}
 use Rattle.cache_lines.specs.Bases.{Seen, seen}
 use Rattle.cache_lines.specs.Ended.{RanTasks}
-use Rattle.cache_lines.specs.Gathered.{IsFresh, gathered, stage}
+use Rattle.cache_lines.specs.Gathered.{IsFresh, gathered}
 use Rattle.cache_lines.specs.Lines.{IsThere, set_in, with_drops}
 use Rattle.cache_lines.specs.Making.{making_of}
 use Rattle.cache_lines.specs.Waiting.{loads_in, with_under_way}
@@ -52,3 +52,7 @@ pub record TakesWaiting (old : Connection) (piece : List ℕ) (new : Connection)
 -- what the lines of a connection run over
 abbrev pub seen_of : {S T : Type 0} → (S → Values) → (T → Option Taped) → Base S T → Connection → Seen
 seen_of view tape base connection = seen view tape base connection.output
+
+-- the same over a base as it was and as it is
+abbrev pub FedOver : {S T : Type 0} → (S → Values) → (T → Option Taped) → (now number : ℕ) → (base left : Base S T) → (old : Connection) → (piece : List ℕ) → (new : Connection) → (is_held : Bool) → Type 0
+FedOver view tape now number base left old piece new is_held = FedRan now number old piece new is_held (seen_of view tape base old) (seen_of view tape left new)

@@ -1,5 +1,5 @@
 -- A connection as the definitions have it.
-use Rattle.std.specs.Prelude.{ℕ, suc, ◌++◌, List, [], ◌∷◌, if◌then◌else◌, is_none}
+use Rattle.std.specs.Prelude.{ℕ, ◌++◌, List}
 use Rattle.audit_model.specs.Situation as model
 use Rattle.audit_model.specs.Situation.{HeldValue, Situation}
 use Rattle.cache_connection.specs.Parts.{put_parts, standing_as}
@@ -8,11 +8,6 @@ use Rattle.cache_connection.specs.declared.connection.Connection.{Connection}
 -- the connection as the definitions have it
 abbrev pub shown : ℕ → Connection → model.Connection
 shown number c = standing_as number c.standing c.waited c.unread.bytes
-
--- the open connections, numbered from n
-abbrev pub open_from : ℕ → List Connection → List model.Connection
-open_from n [] = []
-open_from n (c ∷ cs) = if is_none c.closing then shown n c ∷ open_from (suc n) cs else open_from (suc n) cs
 
 -- the situation, but with those values held and that connection as it now is
 abbrev pub put_in : Situation → List HeldValue → ℕ → Connection → Situation

@@ -1,6 +1,6 @@
 -- A load that may be settled.
-use Rattle.std.proofs.Common.{◌≡◌, ℕ, ◌+◌, ◌<◌, ◌≤◌, ◌^◌, max, Bool, true, false, not, List, [], ◌∷◌, ◌++◌, length, Option, Some, None, if◌then◌else◌, refl, sym, ap, ◌∙◌, subst, arith, nat_le, nat_lt, length-append}
-use Rattle.std.specs.Prelude.{IsTrue, MatchOption, is_none, is_some}
+use Rattle.std.proofs.Common.{◌≡◌, ℕ, ◌<◌, ◌≤◌, ◌^◌, max, Bool, true, false, not, List, [], ◌∷◌, length, Option, Some, None, if◌then◌else◌, refl, sym, ap, ◌∙◌, subst, arith, nat_le, nat_lt, length-append}
+use Rattle.std.specs.Prelude.{MatchOption, is_some}
 use Rattle.std.specs.Option.{option_map, option_or}
 use Rattle.std.proofs.lemmas.Bool.{leb-false, ltb-false}
 use Rattle.audit_model.specs.Belongs.{refusal_of, refusal_of_bytes, refusal_of_ms, refusal_of_outcome, refusal_where}
@@ -16,10 +16,10 @@ use Rattle.audit_model.specs.declared.input.ServiceError.TheVariants as error
 use Rattle.audit_model.specs.declared.transcript.Accepted.{Accepted}
 use Rattle.audit_model.specs.declared.transcript.Note.{Note}
 use Rattle.audit_waiting_laws.proofs.Records.{settled-tidy}
-use Rattle.cache_connection.specs.declared.connection.Connection.{Connection}
+use Rattle.cache_connections.specs.Presence.{Presence}
 use Rattle.cache_lines.specs.Waiting.{under_way}
 use Rattle.cache_lines.specs.declared.base.Base.{Base}
-use Rattle.cache_loads.specs.Pending.{load_numbered, loads_pending}
+use Rattle.cache_loads.specs.Pending.{load_numbered}
 use Rattle.cache_store.specs.Promises.{Frame}
 use Rattle.cache_store.specs.Values.{Values}
 use Rattle.cache_tape.specs.Taped.{IsAtRest, Taped, forgets, started}
@@ -27,7 +27,7 @@ use Rattle.cache_core.specs.Settled.{IsAmid}
 use Rattle.cache_core.specs.Settling.{AllLookAsBefore, AreWaiting, BeginsAnswer, CanSettle, answering, giving_up, known_of_loads, waiting_on}
 use Rattle.cache_core.specs.State.{IsInOrder, at_number, situation_with, state_of}
 use Rattle.cache_core.proofs.Happening.{started-some}
-use Rattle.cache_core.proofs.Touched.{all-seen}
+use Rattle.cache_core.proofs.Touched.{all-texts}
 use Rattle.cache_core.proofs.Waiters.{same-wait, told-wait}
 
 or-first : (a b : Option ServiceError) → option_or a b ≡ None → a ≡ None
@@ -97,7 +97,7 @@ forgot-started n (Some t) rests =
     ∙ ap (λ k. Some (record { journal = t.journal; begun = false; steps = []; spare = k; drafted = t.drafted })) rests.spare
     ∙ ap (λ d. Some (record { journal = t.journal; begun = false; steps = []; spare = 0; drafted = d })) rests.undrafted
 
-module _ {S T : Type 0} (view : S → Values) (tape : T → Option Taped) (base : Base S T) (latest : ℕ) (cs : List Connection) (order : IsInOrder view tape (state_of base latest cs)) where
+module _ {S T : Type 0} (view : S → Values) (tape : T → Option Taped) (base : Base S T) (latest : ℕ) (cs : List Presence) (order : IsInOrder view tape (state_of base latest cs)) where
   -- the record is begun
   pub amid-begun : (begun : T) (now moment room : ℕ) → now ≡ max moment latest → moment < 2 ^ 63 → tape begun ≡ option_map (started room) (tape base.tape) → IsAmid view tape now (record base { tape = begun }) cs room
   amid-begun begun now moment room at_now low starts =
@@ -124,7 +124,7 @@ module _ {S T : Type 0} (view : S → Values) (tape : T → Option Taped) (base 
       let k = order.moment in
       record { in_time = (omega (arith, h, at_now), omega (arith, k, low, at_now)); rests = order.rests; untaken = order.untaken }
 
-  module _ (begun : Base S T) (ds : List Connection) (now load moment room : ℕ) (outcome : Outcome) (accepted : Option Accepted) (notes : List Note) (starts : BeginsAnswer view tape now load outcome accepted notes room base begun) (looks : AllLookAsBefore cs ds) where
+  module _ (begun : Base S T) (ds : List Presence) (now load moment room : ℕ) (outcome : Outcome) (accepted : Option Accepted) (notes : List Note) (starts : BeginsAnswer view tape now load outcome accepted notes room base begun) (looks : AllLookAsBefore cs ds) where
     -- an answer's record is begun
     pub amid-answered : now ≡ max moment latest → moment < 2 ^ 63 → IsAmid view tape now begun ds room
     amid-answered at_now low =
@@ -133,7 +133,7 @@ module _ {S T : Type 0} (view : S → Values) (tape : T → Option Taped) (base 
         record {
           in_time = (subst (λ (f : Frame). f.latest ≤ now) (sym starts.drains.frame) starts.stored.frame.latest, omega (arith, k, low, at_now));
           untaken = λ e. starts.untaken_is ∙ ap (λ b. if b then [] else (view starts.middle).untaken) (sym some ∙ e);
-          outputs = λ e n. ap (λ xs. at_number [] xs n) (all-seen (λ (c : Connection). c.output.text.items) (λ c d same. same.text) cs ds looks) ∙ order.outputs (sym some ∙ e) n;
+          outputs = λ e n. ap (λ xs. at_number [] xs n) (all-texts cs ds looks) ∙ order.outputs (sym some ∙ e) n;
           room = started-room room (tape base.tape) (tape begun.tape) starts.begun;
         }
 

@@ -1,8 +1,8 @@
 -- What goes through a record.
-use Rattle.std.proofs.Common.{◌≡◌, ℕ, suc, ◌+◌, ◌<◌, ◌≤◌, ◌^◌, Bool, true, false, List, [], ◌∷◌, ◌++◌, length, map, Option, Some, None, if◌then◌else◌, refl, sym, ap, ◌∙◌, subst, arith}
+use Rattle.std.proofs.Common.{◌≡◌, ℕ, suc, ◌+◌, ◌<◌, ◌≤◌, true, false, List, [], ◌∷◌, ◌++◌, length, map, Option, Some, None, if◌then◌else◌, refl, sym, ap, ◌∙◌, subst, arith}
 use Rattle.std.specs.Prelude.{is_some, MatchOption}
-use Rattle.std.specs.List.{flat_map, slice_get}
-use Rattle.std.specs.Option.{option_map}
+use Rattle.std.specs.List.{flat_map}
+use Rattle.std.specs.Option.{option_map, option_map_or}
 use Rattle.std.proofs.lemmas.List.{append-nil}
 use Rattle.std.proofs.lemmas.Option.{same_Some}
 use Rattle.audit_model.specs.Bytewise.{is_empty}
@@ -11,7 +11,7 @@ use Rattle.audit_model.specs.Steps.{Task}
 use Rattle.audit_model.specs.declared.config.Config.{Config}
 use Rattle.audit_model.specs.declared.transcript.Step.{Step}
 use Rattle.cache_commands.specs.Right.{KeepsFrame}
-use Rattle.cache_connection.specs.declared.connection.Connection.{Connection}
+use Rattle.cache_connections.specs.Presence.{Presence, reply_text_of, text_at}
 use Rattle.cache_leads.specs.Leads.{BeginsUnknown}
 use Rattle.cache_lines.specs.Bases.{CanRun}
 use Rattle.cache_lines.specs.Ended.{spare_of}
@@ -22,14 +22,13 @@ use Rattle.cache_store.specs.Promises.{Frame}
 use Rattle.cache_store.specs.Values.{Values}
 use Rattle.cache_tape.specs.Taped.{HasSpare, IsBegun, Taped, started}
 use Rattle.cache_core.specs.Fed.{seen_at}
-use Rattle.cache_core.specs.Places.{text_at}
 use Rattle.cache_core.specs.Settled.{IsAmid, Parts, Piece}
 use Rattle.cache_core.specs.Settling.{PartsUnknown, Reruns}
 use Rattle.cache_core.specs.State.{at_number}
 use Rattle.cache_core.specs.Turned.{replies_to}
 use Rattle.cache_core.proofs.Joined.{piece-on, piece-on-steps, still-kept}
 use Rattle.cache_core.proofs.Orders.{there}
-use Rattle.cache_core.proofs.Spots.{seen-was, text-is}
+use Rattle.cache_core.proofs.Spots.{seen-was}
 use Rattle.cache_core.proofs.Steps.{none-begins, piece-none}
 
 -- room for lines is left
@@ -59,7 +58,7 @@ started-begun n (Some t) b e = subst IsBegun (sym e) refl
 
 module _ {S T : Type 0} (view : S → Values) (tape : T → Option Taped) (now : ℕ) where
   -- one connection may run lines
-  pub can-run : (base : Base S T) (cs : List Connection) (i lines : ℕ) → i < length cs → IsAmid view tape now base cs (suc lines) → CanRun now (seen_at view tape base cs i)
+  pub can-run : (base : Base S T) (cs : List Presence) (i lines : ℕ) → i < length cs → IsAmid view tape now base cs (suc lines) → CanRun now (seen_at view tape base cs i)
   can-run base cs i lines lt amid = record {
     in_time = amid.in_time;
     clear = clear (tape base.tape) refl;
@@ -71,13 +70,13 @@ module _ {S T : Type 0} (view : S → Values) (tape : T → Option Taped) (now :
       clear (Some t) e =
           let h : is_some (tape base.tape) ≡ true = ap is_some e in
           let c = there cs i lt in
-          (text-is cs i c.0 c.1 ∙ sym (seen-was (λ (k : Connection). k.output.text.items) [] cs i c.0 c.1) ∙ amid.outputs h (suc i), amid.untaken h)
+          (ap (λ o. option_map_or reply_text_of o []) c.1 ∙ sym (seen-was reply_text_of [] cs i c.0 c.1) ∙ amid.outputs h (suc i), amid.untaken h)
 
-  pub amid-least : (base : Base S T) (cs : List Connection) (a b : ℕ) → b ≤ a → IsAmid view tape now base cs a → IsAmid view tape now base cs b
+  pub amid-least : (base : Base S T) (cs : List Presence) (a b : ℕ) → b ≤ a → IsAmid view tape now base cs a → IsAmid view tape now base cs b
   amid-least base cs a b le amid = record { in_time = amid.in_time; untaken = amid.untaken; outputs = amid.outputs; room = room-least a b (tape base.tape) le amid.room }
 
   -- behind a part
-  pub amid-behind : (was is : Base S T) (old new : List Connection) (tasks : List Task) (held : List HeldValue) (k lines : ℕ) (making : Making) → Piece view tape making now was is old new tasks held → (view is.store).frame.latest ≤ now
+  pub amid-behind : (was is : Base S T) (old new : List Presence) (tasks : List Task) (held : List HeldValue) (k lines : ℕ) (making : Making) → Piece view tape making now was is old new tasks held → (view is.store).frame.latest ≤ now
       → spare_of (tape was.tape) ≤ spare_of (tape is.tape) + k → IsAmid view tape now was old (k + lines) → IsAmid view tape now is new lines
   amid-behind was is old new tasks held k lines making p latest spare amid =
       let same = still-kept view tape making now was is is old new new tasks [] held p in
@@ -86,7 +85,7 @@ module _ {S T : Type 0} (view : S → Values) (tape : T → Option Taped) (now :
         untaken = λ e. let h = sym same ∙ e in p.notes ∙ ap (λ b. (view was.store).untaken ++ (if b then [] else flat_map (λ (step : Step). step.notices) p.steps)) h ∙ append-nil (view was.store).untaken ∙ amid.untaken h;
         outputs = λ e n.
             let h = sym same ∙ e in
-            p.outputs n ∙ ap (λ b. at_number [] (map (λ (c : Connection). c.output.text.items) old) n ++ (if b then [] else replies_to n p.steps)) h ∙ append-nil (at_number [] (map (λ (c : Connection). c.output.text.items) old) n) ∙ amid.outputs h n;
+            p.outputs n ∙ ap (λ b. at_number [] (map reply_text_of old) n ++ (if b then [] else replies_to n p.steps)) h ∙ append-nil (at_number [] (map reply_text_of old) n) ∙ amid.outputs h n;
         room = room-left k lines (tape was.tape) (tape is.tape) same spare amid.room;
       }
 
@@ -98,10 +97,10 @@ module _ {S T : Type 0} (view : S → Values) (tape : T → Option Taped) (now :
   making-same : (a b : Frame) → KeepsFrame a b now → making_of b ≡ making_of a
   making-same a b x = ap making_of x.rest
 
-  pub parts-none : (base : Base S T) (cs : List Connection) → (view base.store).frame.latest ≤ now → Parts view tape now base base cs cs []
+  pub parts-none : (base : Base S T) (cs : List Presence) → (view base.store).frame.latest ≤ now → Parts view tape now base base cs cs []
   parts-none base cs latest = record { ran = λ held stands. piece-none view tape now base base cs held stands; frame = record { rest = refl; latest = latest } }
 
-  pub parts-on : (was mid is : Base S T) (old between new : List Connection) (tasks more : List Task) → Parts view tape now was mid old between tasks → Parts view tape now mid is between new more → Parts view tape now was is old new (tasks ++ more)
+  pub parts-on : (was mid is : Base S T) (old between new : List Presence) (tasks more : List Task) → Parts view tape now was mid old between tasks → Parts view tape now mid is between new more → Parts view tape now was is old new (tasks ++ more)
   parts-on was mid is old between new tasks more a b = record {
     ran = λ held stands.
         let p = a.ran held stands in
@@ -127,7 +126,7 @@ module _ {S T : Type 0} (view : S → Values) (tape : T → Option Taped) (now :
   begins-both config (x ∷ xs) ys a b = a
 
   -- a `LOAD` that ran again, and its lines
-  pub rerun-on : (was mid is : Base S T) (old between new : List Connection) (tasks more : List Task) → Reruns view tape now was mid old between tasks → Parts view tape now mid is between new more → Reruns view tape now was is old new (tasks ++ more)
+  pub rerun-on : (was mid is : Base S T) (old between new : List Presence) (tasks more : List Task) → Reruns view tape now was mid old between tasks → Parts view tape now mid is between new more → Reruns view tape now was is old new (tasks ++ more)
   rerun-on was mid is old between new tasks more a b = record {
     ran = λ held stands.
         let x = a.ran held stands in
@@ -140,11 +139,11 @@ module _ {S T : Type 0} (view : S → Values) (tape : T → Option Taped) (now :
     frame = frame-on (view was.store).frame (view mid.store).frame (view is.store).frame a.frame b.frame;
   }
 
-  pub unknown-none : (base : Base S T) (cs : List Connection) → (view base.store).frame.latest ≤ now → PartsUnknown view tape now base base cs cs []
+  pub unknown-none : (base : Base S T) (cs : List Presence) → (view base.store).frame.latest ≤ now → PartsUnknown view tape now base base cs cs []
   unknown-none base cs latest = record { ran = λ held stands. (piece-none view tape now base base cs held stands, none-begins view tape now base base (view base.store).frame.config cs held stands, λ e. refl); frame = record { rest = refl; latest = latest } }
 
   -- one more of them
-  pub unknown-on : (was mid is : Base S T) (old between new : List Connection) (tasks more : List Task) → PartsUnknown view tape now was mid old between tasks → Reruns view tape now mid is between new more → PartsUnknown view tape now was is old new (tasks ++ more)
+  pub unknown-on : (was mid is : Base S T) (old between new : List Presence) (tasks more : List Task) → PartsUnknown view tape now was mid old between tasks → Reruns view tape now mid is between new more → PartsUnknown view tape now was is old new (tasks ++ more)
   unknown-on was mid is old between new tasks more a b = record {
     ran = λ held stands.
         let x = a.ran held stands in

@@ -1,13 +1,12 @@
 -- An answer's record, from its own step and its parts.
-use Rattle.std.proofs.Common.{◌≡◌, ℕ, suc, ◌+◌, ◌<◌, ◌≤◌, ◌^◌, max, Bool, true, false, not, ◌||◌, ◌==◌, List, [], ◌∷◌, ◌++◌, length, map, Option, Some, None, if◌then◌else◌, refl, sym, ap, ◌∙◌, subst, arith, append_assoc}
-use Rattle.std.specs.Prelude.{IfSome, IsTrue, is_none, is_some}
-use Rattle.std.specs.List.{filter, flat_map}
+use Rattle.std.proofs.Common.{◌≡◌, ℕ, ◌<◌, ◌^◌, max, Bool, true, false, List, [], ◌++◌, length, map, Option, Some, None, if◌then◌else◌, refl, sym, ap, ◌∙◌, subst, append_assoc}
+use Rattle.std.specs.Prelude.{IfSome, IsTrue, is_some}
+use Rattle.std.specs.List.{flat_map}
 use Rattle.std.specs.Option.{option_map, option_map_or}
 use Rattle.std.proofs.lemmas.Bool.{eq-eqb}
 use Rattle.std.proofs.lemmas.List.{append-nil}
 use Rattle.audit_laws.specs.Leading.{is_parted}
 use Rattle.audit_model.specs.Belongs.{refusal_of}
-use Rattle.audit_model.specs.Bytewise.{is_empty}
 use Rattle.audit_model.specs.Follows.{after_event, tasks_in, without_load}
 use Rattle.audit_model.specs.History.{Storing, accepts_values}
 use Rattle.audit_model.specs.Places.{steps_of}
@@ -26,14 +25,11 @@ use Rattle.audit_model.specs.declared.transcript.Note.{Note}
 use Rattle.audit_model.specs.declared.transcript.Record.{Record}
 use Rattle.audit_model.specs.declared.transcript.Step.{Step}
 use Rattle.cache_commands.proofs.Drawn.{spends-kept}
-use Rattle.cache_commands.specs.Answered.{IsStored}
-use Rattle.cache_commands.specs.Loading.{Stores, step_silent}
+use Rattle.cache_commands.specs.Loading.{step_silent}
 use Rattle.cache_commands.specs.Right.{held_when_run}
-use Rattle.cache_connection.specs.Fed.{LooksAsBefore}
-use Rattle.cache_connection.specs.Shown.{open_from}
-use Rattle.cache_connection.specs.declared.connection.Connection.{Connection}
+use Rattle.cache_connections.specs.Presence.{Presence, closing_of, open_from, reply_text_of}
 use Rattle.cache_leads.specs.Laws.{record_answered, when_stored}
-use Rattle.cache_leads.specs.Leads.{SettlingLeads, TasksLead}
+use Rattle.cache_leads.specs.Leads.{TasksLead}
 use Rattle.cache_leads.proofs.Leading.{draws-on}
 use Rattle.cache_leads.proofs.Settling.{answer}
 use Rattle.cache_lines.specs.Drawing.{Identifiers, identifiers_in}
@@ -43,21 +39,19 @@ use Rattle.cache_lines.specs.Waiting.{UnderWay, under_way}
 use Rattle.cache_lines.specs.declared.base.Base.{Base}
 use Rattle.cache_lines.proofs.Drawn.{keeps-more}
 use Rattle.cache_loads.specs.Pending.{SameTaken, loads_pending, namespace_of_loads, outgoing_loads, sent_of}
-use Rattle.cache_loads.specs.declared.loads.Loads.{Loads}
-use Rattle.cache_loads.specs.declared.standing.Standing.{Standing}
 use Rattle.cache_store.specs.Identifiers.{KeepsIdentifiers}
 use Rattle.cache_store.specs.Promises.{Frame}
 use Rattle.cache_store.specs.Running.{is_bounded}
 use Rattle.cache_store.specs.Values.{IsSoundStore, Values}
-use Rattle.cache_tape.specs.Taped.{IsAtRest, Taped, finishes, started}
+use Rattle.cache_tape.specs.Taped.{IsAtRest, Taped, finishes}
 use Rattle.cache_core.specs.Fed.{BaseStays}
-use Rattle.cache_core.specs.Settled.{Absent, Course, Moves, Parts, Piece, course_at, course_of, middle_of}
+use Rattle.cache_core.specs.Settled.{Absent, Moves, Piece, course_at, middle_of}
 use Rattle.cache_core.specs.Settling.{AllLookAsBefore, BeginsAnswer, Happens, HandsOut, answering, but_for, known_of_loads, waiting_on}
-use Rattle.cache_core.specs.State.{IsInOrder, State, StandsFor, at_number, situation_with, state_of}
-use Rattle.cache_core.specs.Turned.{Turned, notes_in, own_steps, replies_to, with_record}
+use Rattle.cache_core.specs.State.{IsInOrder, State, at_number, situation_with, state_of}
+use Rattle.cache_core.specs.Turned.{Turned, own_steps, replies_to, with_record}
 use Rattle.cache_core.proofs.Happening.{closings-moved, orders-lost, settled-kept, started-some}
 use Rattle.cache_core.proofs.Orders.{order-turned}
-use Rattle.cache_core.proofs.Touched.{all-count, all-listed, all-seen}
+use Rattle.cache_core.proofs.Touched.{all-closings, all-courses, all-listed, all-texts}
 use Rattle.cache_core.proofs.Turning.{sit}
 
 -- where identifiers were kept before
@@ -93,7 +87,7 @@ notes-all : (b : Bool) (was mid drained last told more : List Note) → (b ≡ t
 notes-all true was mid drained last told more none adds drains adds_on = adds_on ∙ append-nil drained ∙ drains ∙ sym (none refl) ∙ sym (append-nil was)
 notes-all false was mid drained last told more none adds drains adds_on = adds_on ∙ ap (λ ns. ns ++ more) (drains ∙ adds) ∙ append_assoc was told more
 
-module _ {S T : Type 0} (view : S → Values) (tape : T → Option Taped) (base begun new_base : Base S T) (final : T) (latest now load moment room : ℕ) (outcome : Outcome) (accepted : Option Accepted) (notes : List Note) (old cs ds : List Connection) (at_now : now ≡ max moment latest)
+module _ {S T : Type 0} (view : S → Values) (tape : T → Option Taped) (base begun new_base : Base S T) (final : T) (latest now load moment room : ℕ) (outcome : Outcome) (accepted : Option Accepted) (notes : List Note) (old cs ds : List Presence) (at_now : now ≡ max moment latest)
     (starts : BeginsAnswer view tape now load outcome accepted notes room base begun) (looks : AllLookAsBefore old cs)
     (out : HandsOut view tape now load begun new_base cs ds (λ ns. map (λ conn. Deliver conn outcome) ns ++ map RunLines ns))
     (ended : tape final ≡ option_map (finishes (answering load outcome moment) accepted notes) (tape new_base.tape)) where
@@ -141,26 +135,23 @@ module _ {S T : Type 0} (view : S → Values) (tape : T → Option Taped) (base 
       let a = identifiers_in (view base.store) in
       let b = identifiers_in (view begun.store) in
       let c = identifiers_in (view new_base.store) in
-      let closed : Connection → Option Closing = λ k. k.closing in
-      let count : length (map closed cs) ≡ length (map closed old) = ap length (all-seen closed (λ i j same. same.closing) old cs looks) in
+      let count : length (map closing_of cs) ≡ length (map closing_of old) = ap length (all-closings old cs looks) in
       let dropped_is : (view begun.store).frame.dropped ≡ (view base.store).frame.dropped = ap (λ (f : Frame). f.dropped) begun-frame ∙ starts.stored.dropped in
       let at : ℕ → ℕ → UnderWay → List model.Connection → Bool → Situation = λ latest_is opened_is loads_is ks dropping. record { latest = latest_is; opened = opened_is; sent = loads_is.sent; connections = ks; pending = loads_is.pending; held = w; dropped = dropping } in
       let begins : start ≡ when_stored config u key outcome accepted told =
-      ap (λ n. at n (length (map closed cs)) (under_way out.left) (open_from 1 cs) (view begun.store).frame.dropped) at_now
+      ap (λ n. at n (length (map closing_of cs)) (under_way out.left) (open_from 1 cs) (view begun.store).frame.dropped) at_now
       ∙ ap (λ n. at (max moment latest) n (under_way out.left) (open_from 1 cs) (view begun.store).frame.dropped) count
-      ∙ ap (λ k. at (max moment latest) (length (map closed old)) k (open_from 1 cs) (view begun.store).frame.dropped) (out.left_is ∙ ap (but_for load) same_loads)
-      ∙ ap (λ ks. at (max moment latest) (length (map closed old)) (but_for load l) ks (view begun.store).frame.dropped) (all-listed 1 old cs looks)
-      ∙ ap (at (max moment latest) (length (map closed old)) (but_for load l) (open_from 1 old)) dropped_is in
+      ∙ ap (λ k. at (max moment latest) (length (map closing_of old)) k (open_from 1 cs) (view begun.store).frame.dropped) (out.left_is ∙ ap (but_for load) same_loads)
+      ∙ ap (λ ks. at (max moment latest) (length (map closing_of old)) (but_for load l) ks (view begun.store).frame.dropped) (all-listed 1 old cs looks)
+      ∙ ap (at (max moment latest) (length (map closing_of old)) (but_for load l) (open_from 1 old)) dropped_is in
       let leads : TasksLead config making (when_stored config u key outcome accepted told) tasks steps t [] b c =
       subst (λ v. TasksLead config making v tasks steps t [] b c) begins (subst (λ ts. TasksLead config making start ts steps t [] b c) (append-nil tasks) (p.leads [])) in
       let kept = keeps-more (view base.store).stream (view starts.middle).stream (view begun.store).stream (view base.store).registered (view starts.middle).registered (view begun.store).registered starts.stored.identifiers starts.drains.identifiers in
       let settles = answer config making s t load moment key outcome accepted told steps a c admitted starts.keyed y.1 x.right (stored-parted config making.part_of u key outcome accepted told starts.stored.part)
       (kept-first config making (when_stored config u key outcome accepted told) t tasks [] steps a b c kept leads) in
       let kept_same = started-some room (tape base.tape) (tape begun.tape) starts.begun in
-      let texts : Connection → List ℕ = λ k. k.output.text.items in
-      let same_texts : map texts cs ≡ map texts old = all-seen texts (λ i j same. same.text) old cs looks in
-      let course : Connection → Course = λ k. course_of k.closing k.standing in
-      let same_courses : map course cs ≡ map course old = all-seen course (λ i j same. ap (λ o. course_of o j.standing) same.closing ∙ ap (course_of i.closing) same.standing) old cs looks in
+      let same_texts = all-texts old cs looks in
+      let same_courses = all-courses old cs looks in
       let entry = record_answered load outcome moment accepted told steps in (
         entry,
         refl,
@@ -171,7 +162,7 @@ module _ {S T : Type 0} (view : S → Values) (tape : T → Option Taped) (base 
           kept = settled-kept (answering load outcome moment) accepted notes steps room (tape base.tape) (tape begun.tape) (tape new_base.tape) (tape final) rests starts.begun p.kept ended
               ∙ told-kept (answering load outcome moment) accepted notes told steps (tape base.tape) (λ e. starts.notes_are e ∙ x.handed.added ∙ ap (λ ns. ns ++ told) (untaken e));
           outputs = λ n.
-              subst (λ b. at_number [] (map texts ds) n ≡ at_number [] (map texts old) n ++ (if b then [] else replies_to n steps)) kept_same
+              subst (λ b. at_number [] (map reply_text_of ds) n ≡ at_number [] (map reply_text_of old) n ++ (if b then [] else replies_to n steps)) kept_same
               (p.outputs n ∙ ap (λ xs. at_number [] xs n ++ (if is_some (tape begun.tape) then [] else replies_to n steps)) same_texts);
           notes = notes-all (is_some (tape base.tape)) (view base.store).untaken (view starts.middle).untaken (view begun.store).untaken (view new_base.store).untaken told (flat_map (λ (step : Step). step.notices) steps) untaken x.handed.added starts.untaken_is
               (subst (λ b. (view new_base.store).untaken ≡ (view begun.store).untaken ++ (if b then [] else flat_map (λ (step : Step). step.notices) steps)) kept_same p.notes);
@@ -204,20 +195,20 @@ module _ {S T : Type 0} (view : S → Values) (tape : T → Option Taped) (base 
 
 -- ---- nothing has changed
 
-pub state-looks : {S T : Type 0} (base new_base : Base S T) (latest : ℕ) (cs ds : List Connection) → BaseStays base new_base → AllLookAsBefore cs ds → state_of new_base latest ds ≡ state_of base latest cs
+pub state-looks : {S T : Type 0} (base new_base : Base S T) (latest : ℕ) (cs ds : List Presence) → BaseStays base new_base → AllLookAsBefore cs ds → state_of new_base latest ds ≡ state_of base latest cs
 state-looks {S} {T} base new_base latest cs ds b looks =
     let listed = all-listed 1 cs ds looks in
-    let closings : map (λ (c : Connection). c.closing) ds ≡ map (λ (c : Connection). c.closing) cs = all-seen (λ (c : Connection). c.closing) (λ c d same. same.closing) cs ds looks in
-    let texts : map (λ (c : Connection). c.output.text.items) ds ≡ map (λ (c : Connection). c.output.text.items) cs = all-seen (λ (c : Connection). c.output.text.items) (λ c d same. same.text) cs ds looks in
+    let closings : map closing_of ds ≡ map closing_of cs = all-closings cs ds looks in
+    let texts : map reply_text_of ds ≡ map reply_text_of cs = all-texts cs ds looks in
     let l = b.loads_are in
     let made : S → T → List model.Connection → List (Option Closing) → List (List ℕ) → ℕ → List PendingLoad → List (LoadId × List ℕ) → ℕ → State S T = λ store tape ks whys outs sent pending outgoing namespace.
     record { store = store; tape = tape; latest = latest; connections = ks; closings = whys; outputs = outs; sent = sent; pending = pending; outgoing = outgoing; namespace = namespace } in
-    ap (λ x. made x new_base.tape (open_from 1 ds) (map (λ (c : Connection). c.closing) ds) (map (λ (c : Connection). c.output.text.items) ds) (sent_of new_base.loads) (loads_pending new_base.loads) (outgoing_loads new_base.loads) (namespace_of_loads new_base.loads)) b.store_is
-    ∙ ap (λ x. made base.store x (open_from 1 ds) (map (λ (c : Connection). c.closing) ds) (map (λ (c : Connection). c.output.text.items) ds) (sent_of new_base.loads) (loads_pending new_base.loads) (outgoing_loads new_base.loads) (namespace_of_loads new_base.loads)) b.tape_is
-    ∙ ap (λ x. made base.store base.tape x (map (λ (c : Connection). c.closing) ds) (map (λ (c : Connection). c.output.text.items) ds) (sent_of new_base.loads) (loads_pending new_base.loads) (outgoing_loads new_base.loads) (namespace_of_loads new_base.loads)) listed
-    ∙ ap (λ x. made base.store base.tape (open_from 1 cs) x (map (λ (c : Connection). c.output.text.items) ds) (sent_of new_base.loads) (loads_pending new_base.loads) (outgoing_loads new_base.loads) (namespace_of_loads new_base.loads)) closings
-    ∙ ap (λ x. made base.store base.tape (open_from 1 cs) (map (λ (c : Connection). c.closing) cs) x (sent_of new_base.loads) (loads_pending new_base.loads) (outgoing_loads new_base.loads) (namespace_of_loads new_base.loads)) texts
-    ∙ ap (λ x. made base.store base.tape (open_from 1 cs) (map (λ (c : Connection). c.closing) cs) (map (λ (c : Connection). c.output.text.items) cs) x (loads_pending new_base.loads) (outgoing_loads new_base.loads) (namespace_of_loads new_base.loads)) l.sent
-    ∙ ap (λ x. made base.store base.tape (open_from 1 cs) (map (λ (c : Connection). c.closing) cs) (map (λ (c : Connection). c.output.text.items) cs) (sent_of base.loads) x (outgoing_loads new_base.loads) (namespace_of_loads new_base.loads)) l.pending
-    ∙ ap (λ x. made base.store base.tape (open_from 1 cs) (map (λ (c : Connection). c.closing) cs) (map (λ (c : Connection). c.output.text.items) cs) (sent_of base.loads) (loads_pending base.loads) x (namespace_of_loads new_base.loads)) l.outgoing
-    ∙ ap (λ x. made base.store base.tape (open_from 1 cs) (map (λ (c : Connection). c.closing) cs) (map (λ (c : Connection). c.output.text.items) cs) (sent_of base.loads) (loads_pending base.loads) (outgoing_loads base.loads) x) l.namespace
+    ap (λ x. made x new_base.tape (open_from 1 ds) (map closing_of ds) (map reply_text_of ds) (sent_of new_base.loads) (loads_pending new_base.loads) (outgoing_loads new_base.loads) (namespace_of_loads new_base.loads)) b.store_is
+    ∙ ap (λ x. made base.store x (open_from 1 ds) (map closing_of ds) (map reply_text_of ds) (sent_of new_base.loads) (loads_pending new_base.loads) (outgoing_loads new_base.loads) (namespace_of_loads new_base.loads)) b.tape_is
+    ∙ ap (λ x. made base.store base.tape x (map closing_of ds) (map reply_text_of ds) (sent_of new_base.loads) (loads_pending new_base.loads) (outgoing_loads new_base.loads) (namespace_of_loads new_base.loads)) listed
+    ∙ ap (λ x. made base.store base.tape (open_from 1 cs) x (map reply_text_of ds) (sent_of new_base.loads) (loads_pending new_base.loads) (outgoing_loads new_base.loads) (namespace_of_loads new_base.loads)) closings
+    ∙ ap (λ x. made base.store base.tape (open_from 1 cs) (map closing_of cs) x (sent_of new_base.loads) (loads_pending new_base.loads) (outgoing_loads new_base.loads) (namespace_of_loads new_base.loads)) texts
+    ∙ ap (λ x. made base.store base.tape (open_from 1 cs) (map closing_of cs) (map reply_text_of cs) x (loads_pending new_base.loads) (outgoing_loads new_base.loads) (namespace_of_loads new_base.loads)) l.sent
+    ∙ ap (λ x. made base.store base.tape (open_from 1 cs) (map closing_of cs) (map reply_text_of cs) (sent_of base.loads) x (outgoing_loads new_base.loads) (namespace_of_loads new_base.loads)) l.pending
+    ∙ ap (λ x. made base.store base.tape (open_from 1 cs) (map closing_of cs) (map reply_text_of cs) (sent_of base.loads) (loads_pending base.loads) x (namespace_of_loads new_base.loads)) l.outgoing
+    ∙ ap (λ x. made base.store base.tape (open_from 1 cs) (map closing_of cs) (map reply_text_of cs) (sent_of base.loads) (loads_pending base.loads) (outgoing_loads base.loads) x) l.namespace

@@ -33,19 +33,19 @@ use Rattle.cache_tape.specs.Taped.{IsAtRest, Taped, started}
 use Rattle.cache_connection.specs.Fed.{closing_by}
 use Rattle.cache_core.specs.Fed.{FedTurn, ReplacedAt, seen_at}
 use Rattle.cache_connection.specs.Fits.{ClosesFor}
-use Rattle.cache_core.specs.Places.{closing_at, text_at}
 use Rattle.cache_connection.specs.Shown.{put_in, shown, with_piece}
 use Rattle.cache_core.specs.State.{IsInOrder, State, situation_with, state_of}
 use Rattle.cache_core.specs.Turned.{IsRecordOf, Turned, Turns, feeding, own_steps, reason_of}
 use Rattle.cache_connection.specs.declared.connection.Connection.{Connection}
+use Rattle.cache_connections.specs.Presence.{Here, Presence, closing_at, text_at}
 use Rattle.cache_core.proofs.Orders.{order-turned}
 use Rattle.cache_core.proofs.Own.{all-own, feed-own, own-all}
 use Rattle.cache_core.proofs.Records.{KeptBy, kept-by}
 use Rattle.cache_core.proofs.Spots.{at-replaced, closing-is, replaced-is, text-is}
 use Rattle.cache_core.proofs.Turning.{closings-by, found-open, holding-shown, known-open, leb-above, outputs-by, put-situation, sit, waiting-shown}
 
-module _ {S T : Type 0} (view : S → Values) (tape : T → Option Taped) (base new_base : Base S T) (left : Loads) (latest i moment : ℕ) (cs : List Connection) (old new : Connection) (piece : List ℕ) (is_held : Bool) (at : slice_get cs i ≡ Some old) (is_open : old.closing ≡ None) (low : moment < 2 ^ 63) (rests : IsAtRest (tape base.tape))
-    (turn : FedTurn (max moment latest) (suc i) moment old piece new is_held (seen_at view tape base cs i) (seen_at view tape new_base (slice_set cs i new) i)) where
+module _ {S T : Type 0} (view : S → Values) (tape : T → Option Taped) (base new_base : Base S T) (left : Loads) (latest i moment : ℕ) (cs : List Presence) (old new : Connection) (piece : List ℕ) (is_held : Bool) (at : slice_get cs i ≡ Some (Here old)) (is_open : old.closing ≡ None) (low : moment < 2 ^ 63) (rests : IsAtRest (tape base.tape))
+    (turn : FedTurn (max moment latest) (suc i) moment old piece new is_held (seen_at view tape base cs i) (seen_at view tape new_base (slice_set cs i (Here new)) i)) where
   abbrev m : ℕ
   m = suc i
 
@@ -65,17 +65,17 @@ module _ {S T : Type 0} (view : S → Values) (tape : T → Option Taped) (base 
   pub ran-fed : (held : List HeldValue) → before.Stands held
       → RanTasks (making_of before.frame) (start held) (tasks_to_feed m (holds_line old.standing)) turn.ran.quit is_held turn.ran.silent
       (λ rest. put_in (sit (max moment latest) (under_way new_base.loads) cs behind.frame.dropped held) rest m new)
-      (stage before (text_at cs i) (option_map (started 1) (tape base.tape))) (stage behind (text_at (slice_set cs i new) i) turn.middle)
+      (stage before (text_at cs i) (option_map (started 1) (tape base.tape))) (stage behind (text_at (slice_set cs i (Here new)) i) turn.middle)
   ran-fed held stands = turn.ran.ran (sit (max moment latest) (under_way base.loads) cs before.frame.dropped held) (record { at = refl; dropped = refl; stands = stands }) (ap is_some (found-open m i old cs refl at is_open)) refl
 
-  pub kept-fed : (held : List HeldValue) (stands : before.Stands held) → KeptBy (feeding m piece moment) (ran-fed held stands).steps (tape base.tape) (tape new_base.tape) (text_at cs i) (text_at (slice_set cs i new) i) before.untaken behind.untaken
-  kept-fed held stands = kept-by (feeding m piece moment) (ran-fed held stands).steps (tape base.tape) turn.middle (tape new_base.tape) (text_at cs i) (text_at (slice_set cs i new) i) before.untaken behind.untaken rests (ran-fed held stands).gathered_is turn.ended
+  pub kept-fed : (held : List HeldValue) (stands : before.Stands held) → KeptBy (feeding m piece moment) (ran-fed held stands).steps (tape base.tape) (tape new_base.tape) (text_at cs i) (text_at (slice_set cs i (Here new)) i) before.untaken behind.untaken
+  kept-fed held stands = kept-by (feeding m piece moment) (ran-fed held stands).steps (tape base.tape) turn.middle (tape new_base.tape) (text_at cs i) (text_at (slice_set cs i (Here new)) i) before.untaken behind.untaken rests (ran-fed held stands).gathered_is turn.ended
 
   pub config-stays : behind.frame.config ≡ config
   config-stays = ap (λ (f : Frame). f.config) turn.ran.frame.rest
 
   pub turned-fed : IsSoundStore behind → under_way left ≡ when_left (is_none new.closing) m (under_way new_base.loads) → (held : List HeldValue) → before.Stands held
-      → (entry : Record) × IsRecordOf (feeding m piece moment) is_held entry × Turned view tape (state_of base latest cs) (state_of (record new_base { loads = left }) (max moment latest) (slice_set cs i new)) (situation_with view (state_of base latest cs) held) entry
+      → (entry : Record) × IsRecordOf (feeding m piece moment) is_held entry × Turned view tape (state_of base latest cs) (state_of (record new_base { loads = left }) (max moment latest) (slice_set cs i (Here new))) (situation_with view (state_of base latest cs) held) entry
   turned-fed sound leaves held stands =
       let s = sit latest (under_way base.loads) cs before.frame.dropped held in
       let later = sit (max moment latest) (under_way base.loads) cs before.frame.dropped held in
@@ -87,12 +87,12 @@ module _ {S T : Type 0} (view : S → Values) (tape : T → Option Taped) (base 
       let tasks = tasks_to_feed m (holds_line old.standing) in
       let own : list_all (λ (step : Step). step.conn == m) steps ≡ true = all-own config m (start held) tasks steps _ (feed-own m (holds_line old.standing)) r.after in
       let known = known-open m i old s cs refl refl refl at is_open in
-      let next = sit (max moment latest) (under_way left) (slice_set cs i new) behind.frame.dropped r.left in
+      let next = sit (max moment latest) (under_way left) (slice_set cs i (Here new)) behind.frame.dropped r.left in
       let rest = after_steps config (after_event (feeding m piece moment) s) (tasks_in s (feeding m piece moment)) steps in
       let fed : Option model.Connection → Situation = λ o. option_map_or (λ c. with_connection false (record c { unread = c.unread ++ piece }) later) o later in
       let fed_tasks = λ (o : Option model.Connection). tasks_to_feed m (option_map_or (λ (c : model.Connection). is_holding c.standing) o false) in
       let text : new.output.text.items ≡ old.output.text.items ++ (if is_some (tape base.tape) then [] else flat_map reply_in steps) =
-      sym (text-is (slice_set cs i new) i new (at-replaced cs i new (slice_get_within cs i old at))) ∙ k.text_is ∙ ap (λ t. t ++ (if is_some (tape base.tape) then [] else flat_map reply_in steps)) (text-is cs i old at) in
+      sym (text-is (slice_set cs i (Here new)) i new (at-replaced cs i (Here new) (slice_get_within cs i (Here old) at))) ∙ k.text_is ∙ ap (λ t. t ++ (if is_some (tape base.tape) then [] else flat_map reply_in steps)) (text-is cs i old at) in
       let reason : reason_of config s m (feeding m piece moment) steps ≡ closing_by (waits_for_load old.standing) turn.ran.quit turn.ran.silent =
       ap (λ o. closing_by (option_map_or (λ (c : model.Connection). is_waiting_now c.standing) o false) (ends_quit config (own_steps m steps)) (ends_silent (own_steps m steps))) found
       ∙ ap (λ b. closing_by b (ends_quit config (own_steps m steps)) (ends_silent (own_steps m steps))) (waiting-shown m old)
@@ -111,7 +111,7 @@ module _ {S T : Type 0} (view : S → Values) (tape : T → Option Taped) (base 
               ∙ ap (λ o. after_steps config (fed o) (fed_tasks o) steps) found
               ∙ ap (λ b. after_steps config (start held) (tasks_to_feed m b) steps) (holding-shown m old)
               ∙ r.after ∙ ap Some (put-situation (max moment latest) m i (under_way new_base.loads) old new cs behind.frame.dropped held r.left refl at is_open)
-              ∙ ap (λ l. Some (sit (max moment latest) l (slice_set cs i new) behind.frame.dropped r.left)) (sym leaves);
+              ∙ ap (λ l. Some (sit (max moment latest) l (slice_set cs i (Here new)) behind.frame.dropped r.left)) (sym leaves);
           kept = k.kept;
           outputs = outputs-by cs i old new steps (is_some (tape base.tape)) at text own;
           notes = k.untaken_is;
@@ -136,9 +136,9 @@ module _ {S T : Type 0} (view : S → Values) (tape : T → Option Taped) (base 
       )
 
   pub turns-fed : IsSoundStore behind → under_way left ≡ when_left (is_none new.closing) m (under_way new_base.loads) → SameTaken base.loads new_base.loads → SameTaken new_base.loads left
-      → Turns view tape (state_of base latest cs) (state_of (record new_base { loads = left }) (max moment latest) (slice_set cs i new)) (feeding m piece moment) is_held
+      → Turns view tape (state_of base latest cs) (state_of (record new_base { loads = left }) (max moment latest) (slice_set cs i (Here new))) (feeding m piece moment) is_held
   turns-fed sound leaves goes leaves_goes = record {
-    turned = λ s st. subst (λ x. (entry : Record) × IsRecordOf (feeding m piece moment) is_held entry × Turned view tape (state_of base latest cs) (state_of (record new_base { loads = left }) (max moment latest) (slice_set cs i new)) x entry) (sym st.is)
+    turned = λ s st. subst (λ x. (entry : Record) × IsRecordOf (feeding m piece moment) is_held entry × Turned view tape (state_of base latest cs) (state_of (record new_base { loads = left }) (max moment latest) (slice_set cs i (Here new))) x entry) (sym st.is)
         (turned-fed sound leaves st.held st.stands);
     stays = record {
       config = config-stays;
@@ -150,7 +150,7 @@ module _ {S T : Type 0} (view : S → Values) (tape : T → Option Taped) (base 
   }
 
 -- the same, by the places before and behind
-pub fed-turns : {S T : Type 0} (view : S → Values) (tape : T → Option Taped) (base new_base : Base S T) (left : Loads) (latest now m i moment : ℕ) (cs ds : List Connection) (piece : List ℕ) (is_held : Bool) (p : ReplacedAt cs ds i)
+pub fed-turns : {S T : Type 0} (view : S → Values) (tape : T → Option Taped) (base new_base : Base S T) (left : Loads) (latest now m i moment : ℕ) (cs ds : List Presence) (piece : List ℕ) (is_held : Bool) (p : ReplacedAt cs ds i)
     → m ≡ i + 1 → now ≡ max moment latest → closing_at cs i ≡ None → moment < 2 ^ 63 → IsInOrder view tape (state_of base latest cs) → IsSoundStore (view base.store) → IsSoundStore (view new_base.store)
     → under_way left ≡ when_left (is_none (closing_at ds i)) m (under_way new_base.loads) → SameTaken base.loads new_base.loads → SameTaken new_base.loads left
     → FedTurn now (i + 1) moment p.was piece p.is is_held (seen_at view tape base cs i) (seen_at view tape new_base ds i)
@@ -162,10 +162,10 @@ fed-turns {S} {T} view tape base new_base left latest now m i moment cs ds piece
     next_is : m ≡ suc i
     next_is = omega (arith, number_is)
 
-    behind_at : ℕ → List Connection → State S T
+    behind_at : ℕ → List Presence → State S T
     behind_at n xs = state_of (record new_base { loads = left }) n xs
 
-    Goal : ℕ → ℕ → List Connection → Type 0
+    Goal : ℕ → ℕ → List Presence → Type 0
     Goal k n xs =
         FedTurn n k moment p.was piece p.is is_held (seen_at view tape base cs i) (seen_at view tape new_base xs i) → under_way left ≡ when_left (is_none p.is.closing) k (under_way new_base.loads)
         → Turns view tape (state_of base latest cs) (behind_at n xs) (feeding k piece moment) is_held × IsInOrder view tape (behind_at n xs)
@@ -176,14 +176,14 @@ fed-turns {S} {T} view tape base new_base left latest now m i moment cs ds piece
     Goal_now : ℕ → Type 0
     Goal_now n = Goal (suc i) n ds
 
-    Goal_ds : List Connection → Type 0
+    Goal_ds : List Presence → Type 0
     Goal_ds xs = Goal (suc i) (max moment latest) xs
 
-    core : Goal_ds (slice_set cs i p.is)
+    core : Goal_ds (slice_set cs i (Here p.is))
     core f l =
         let is_open : p.was.closing ≡ None = sym (closing-is cs i p.was p.at) ∙ open_at in
         let turned = turned-fed view tape base new_base left latest i moment cs p.was p.is piece is_held p.at is_open low order.rests f sound_behind l sound.some sound.stands in
         let last = order.moment in (
           turns-fed view tape base new_base left latest i moment cs p.was p.is piece is_held p.at is_open low order.rests f sound_behind l goes leaves_goes,
-          order-turned view tape (state_of base latest cs) (behind_at (max moment latest) (slice_set cs i p.is)) _ turned.0 (record { held = sound.some; stands = sound.stands; is = refl }) turned.2 order (ap (λ (fr : Frame). fr.config) f.ran.frame.rest) f.ran.frame.latest (omega (arith, low, last)),
+          order-turned view tape (state_of base latest cs) (behind_at (max moment latest) (slice_set cs i (Here p.is))) _ turned.0 (record { held = sound.some; stands = sound.stands; is = refl }) turned.2 order (ap (λ (fr : Frame). fr.config) f.ran.frame.rest) f.ran.frame.latest (omega (arith, low, last)),
         )

@@ -1,13 +1,13 @@
 -- A load that is taken out, and those that waited for it.
-use Rattle.std.proofs.Common.{◌≡◌, ℕ, suc, ◌+◌, ◌≤◌, Bool, true, false, not, ◌==◌, if◌then◌else◌, List, [], length, Option, Some, None, refl, sym, ap, ◌∙◌, subst, arith}
-use Rattle.std.specs.Prelude.{IsTrue, is_some}
+use Rattle.std.proofs.Common.{◌≡◌, ℕ, ◌≤◌, Bool, not, ◌==◌, if◌then◌else◌, List, [], Option, Some, refl, ap, ◌∙◌}
+use Rattle.std.specs.Prelude.{is_some}
 use Rattle.std.specs.List.{filter}
 use Rattle.std.specs.Option.{option_map, option_map_or}
 use Rattle.audit_model.specs.Situation.{PendingLoad}
 use Rattle.audit_model.specs.declared.event.Outcome.{Outcome}
 use Rattle.audit_model.specs.declared.transcript.Accepted.{Accepted}
 use Rattle.audit_model.specs.declared.transcript.Note.{Note}
-use Rattle.cache_connection.specs.declared.connection.Connection.{Connection}
+use Rattle.cache_connections.specs.Presence.{Presence}
 use Rattle.cache_lines.specs.Waiting.{UnderWay, under_way}
 use Rattle.cache_lines.specs.declared.base.Base.{Base}
 use Rattle.cache_loads.specs.Pending.{load_numbered, loads_pending, sent_of}
@@ -27,7 +27,7 @@ pub left-but : (number : ℕ) (loads left : Loads) → sent_of left ≡ sent_of 
 left-but number loads left sent pending = ap (λ k. record { sent = k; pending = loads_pending left }) sent ∙ ap (λ ps. record { sent = sent_of loads; pending = ps }) pending
 
 -- what goes through a record does not see the loads
-pub amid-loads : {S T : Type 0} (view : S → Values) (tape : T → Option Taped) (now : ℕ) (base : Base S T) (left : Loads) (cs : List Connection) (a b : ℕ) → b ≤ a → IsAmid view tape now base cs a → IsAmid view tape now (record base { loads = left }) cs b
+pub amid-loads : {S T : Type 0} (view : S → Values) (tape : T → Option Taped) (now : ℕ) (base : Base S T) (left : Loads) (cs : List Presence) (a b : ℕ) → b ≤ a → IsAmid view tape now base cs a → IsAmid view tape now (record base { loads = left }) cs b
 amid-loads view tape now base left cs a b le amid = record { in_time = amid.in_time; untaken = amid.untaken; outputs = amid.outputs; room = room-least a b (tape base.tape) le amid.room }
 
 -- no note is taken

@@ -1,15 +1,14 @@
 -- A settled load's record, from its parts.
-use Rattle.std.proofs.Common.{◌≡◌, ◌≢◌, ℕ, zero, suc, ◌+◌, ◌<◌, ◌≤◌, ◌^◌, max, Bool, true, false, not, ◌||◌, ◌==◌, List, [], ◌∷◌, ◌++◌, length, map, cond, Option, Some, None, if◌then◌else◌, refl, sym, ap, ◌∙◌, subst, arith, append_assoc, inl}
+use Rattle.std.proofs.Common.{◌≡◌, ℕ, zero, suc, ◌+◌, ◌<◌, ◌^◌, max, Bool, true, false, not, ◌||◌, ◌==◌, List, [], ◌∷◌, ◌++◌, map, Option, Some, None, if◌then◌else◌, refl, sym, ap, ◌∙◌, subst, arith, inl}
 use Rattle.std.specs.Prelude.{is_none, is_some, IsTrue, MatchOption}
-use Rattle.std.specs.List.{filter, find, flat_map}
+use Rattle.std.specs.List.{find, flat_map}
 use Rattle.std.specs.Option.{option_map}
-use Rattle.std.proofs.lemmas.Bool.{eq-eqb}
 use Rattle.std.proofs.lemmas.List.{append-nil}
 use Rattle.std.proofs.lemmas.Option.{same_Some}
 use Rattle.audit_model.specs.Belongs.{refusal_of}
 use Rattle.audit_model.specs.Bytewise.{is_empty}
-use Rattle.audit_model.specs.Follows.{after_event, tasks_in, without_load}
-use Rattle.audit_model.specs.Places.{steps_of, tasks_to_give_up}
+use Rattle.audit_model.specs.Follows.{without_load}
+use Rattle.audit_model.specs.Places.{tasks_to_give_up}
 use Rattle.audit_model.specs.Situation as model
 use Rattle.audit_model.specs.Situation.{HeldValue, Situation, connection_in, waiting_in}
 use Rattle.audit_model.specs.Steps.{Task}
@@ -22,19 +21,16 @@ use Rattle.audit_model.specs.declared.transcript.Accepted.{Accepted}
 use Rattle.audit_model.specs.declared.transcript.Note.{Note}
 use Rattle.audit_model.specs.declared.transcript.Record.{Record}
 use Rattle.audit_model.specs.declared.transcript.Step.{Step}
-use Rattle.cache_commands.specs.Order.{AgreesWith, Order, Unknown}
-use Rattle.cache_connection.specs.Fed.{closing_by}
-use Rattle.cache_connection.specs.Shown.{open_from, shown}
-use Rattle.cache_connection.specs.declared.connection.Connection.{Connection}
+use Rattle.cache_commands.specs.Order.{AgreesWith}
+use Rattle.cache_connection.specs.Shown.{shown}
+use Rattle.cache_connections.specs.Presence.{Gone, Here, Out, Presence, closing_of, open_from, reply_text_of}
 use Rattle.cache_leads.specs.Laws.{record_given_up}
-use Rattle.cache_leads.specs.Leads.{BeginsUnknown, LeavesUnknown, SettlingLeads, TasksLead}
+use Rattle.cache_leads.specs.Leads.{LeavesUnknown, TasksLead}
 use Rattle.cache_leads.proofs.Settling.{give-up}
 use Rattle.cache_lines.specs.Drawing.{identifiers_in}
-use Rattle.cache_lines.specs.Ended.{ends_silent}
 use Rattle.cache_lines.specs.Gathered.{adds, written}
-use Rattle.cache_lines.specs.Lines.{ends_quit}
-use Rattle.cache_lines.specs.Making.{Making, making_of}
-use Rattle.cache_lines.specs.Ordered.{HaveKeys, OrdersSteps, order_behind}
+use Rattle.cache_lines.specs.Making.{making_of}
+use Rattle.cache_lines.specs.Ordered.{OrdersSteps}
 use Rattle.cache_lines.specs.Waiting.{UnderWay, under_way}
 use Rattle.cache_lines.specs.declared.base.Base.{Base}
 use Rattle.cache_loads.specs.Pending.{SameTaken, loads_pending}
@@ -46,12 +42,12 @@ use Rattle.cache_store.specs.Running.{is_bounded}
 use Rattle.cache_store.specs.Values.{IsSoundStore, Values}
 use Rattle.cache_tape.specs.Taped.{IsAtRest, IsBegun, Taped, finishes, started, with_entry}
 use Rattle.cache_core.specs.Fed.{WantsMemory}
-use Rattle.cache_core.specs.Settled.{Absent, Closed, Course, Moves, Piece, Resting, Running, course_at, course_of, closing_of_steps, middle_of}
-use Rattle.cache_core.specs.Settling.{AllLookAsBefore, BeginsAnswer, Happens, PartsUnknown, answering, but_for, giving_up, known_of_loads, waiting_on}
-use Rattle.cache_core.specs.State.{IsInOrder, State, StandsFor, at_number, known_of, situation_with, state_of}
-use Rattle.cache_core.specs.Turned.{RefusesBy, Turned, closing_behind, notes_in, own_steps, reason_of, replies_to, with_record}
+use Rattle.cache_core.specs.Settled.{Absent, Closed, Course, Moves, Resting, Running, course_at, course_in, course_of, closing_of_steps, middle_of}
+use Rattle.cache_core.specs.Settling.{Happens, PartsUnknown, but_for, giving_up, known_of_loads, waiting_on}
+use Rattle.cache_core.specs.State.{IsInOrder, State, at_number, known_of, situation_with, state_of}
+use Rattle.cache_core.specs.Turned.{RefusesBy, Turned, closing_behind, own_steps, reason_of, replies_to, with_record}
 use Rattle.cache_core.proofs.Orders.{order-turned}
-use Rattle.cache_core.proofs.Table.{none-below}
+use Rattle.cache_core.proofs.Table.{found-first, listed_as, listed_of, none-below, passed-over}
 use Rattle.cache_core.proofs.Turning.{other-number, sit}
 
 -- ---- why a connection is closed, by what it is at
@@ -80,35 +76,42 @@ open-course None now_is.Ready = refl
 open-course None now_is.Held = refl
 open-course None now_is.Waiting = refl
 
-closing-seen : (cs : List Connection) (n : ℕ) → at_number None (map (λ (c : Connection). c.closing) cs) n ≡ closing_at_course (course_at cs n)
+closing-in : (p : Presence) → closing_of p ≡ closing_at_course (course_in p)
+closing-in (Here c) = closing-course c.closing c.standing
+closing-in Out = refl
+closing-in (Gone why) = refl
+
+open-in : (n : ℕ) (p : Presence) → is_some (listed_of n p) ≡ is_open_course (course_in p)
+open-in n (Here c) = go (is_none c.closing) ∙ open-course c.closing c.standing
+  where
+    go : (b : Bool) → is_some (listed_as b (shown n c)) ≡ b
+    go true = refl
+    go false = refl
+open-in n Out = refl
+open-in n (Gone why) = refl
+
+closing-seen : (cs : List Presence) (n : ℕ) → at_number None (map closing_of cs) n ≡ closing_at_course (course_at cs n)
 closing-seen cs zero = refl
 closing-seen [] (suc n) = refl
-closing-seen (c ∷ cs) (suc zero) = closing-course c.closing c.standing
+closing-seen (c ∷ cs) (suc zero) = closing-in c
 closing-seen (c ∷ cs) (suc (suc n)) = closing-seen cs (suc n)
 
 -- those from a number on
-course-from : (n k : ℕ) (cs : List Connection) → is_some (find (λ (x : model.Connection). x.number == n + k) (open_from n cs)) ≡ is_open_course (at_number Absent (map (λ (c : Connection). course_of c.closing c.standing) cs) (suc k))
+course-from : (n k : ℕ) (cs : List Presence) → is_some (find (λ (x : model.Connection). x.number == n + k) (open_from n cs)) ≡ is_open_course (at_number Absent (map course_in cs) (suc k))
 course-from n k [] = refl
 course-from n zero (c ∷ cs) =
     let is : n + 0 ≡ n = omega arith in
-    ap (λ m. is_some (find (λ (x : model.Connection). x.number == m) (open_from n (c ∷ cs)))) is ∙ go (none-below n (suc n) cs (omega arith)) (is_none c.closing) refl ∙ open-course c.closing c.standing
-  where
-    go : find (λ (x : model.Connection). x.number == n) (open_from (suc n) cs) ≡ None
-        → (b : Bool) → is_none c.closing ≡ b → is_some (find (λ (x : model.Connection). x.number == n) (if b then shown n c ∷ open_from (suc n) cs else open_from (suc n) cs)) ≡ is_none c.closing
-    go none true e = ap (λ t. is_some (cond t (Some (shown n c)) (find (λ (x : model.Connection). x.number == n) (open_from (suc n) cs)))) (eq-eqb n n refl) ∙ sym e
-    go none false e = ap is_some none ∙ sym e
+    ap (λ m. is_some (find (λ (x : model.Connection). x.number == m) (open_from n (c ∷ cs)))) is ∙ ap is_some (found-first n c cs (none-below n (suc n) cs (omega arith))) ∙ open-in n c
 course-from n (suc k) (c ∷ cs) =
     let is : n + suc k ≡ suc n + k = omega arith in
-    ap (λ m. is_some (find (λ (x : model.Connection). x.number == m) (open_from n (c ∷ cs)))) is ∙ go (is_none c.closing) ∙ course-from (suc n) k cs
-  where
-    go : (b : Bool) → is_some (find (λ (x : model.Connection). x.number == suc n + k) (if b then shown n c ∷ open_from (suc n) cs else open_from (suc n) cs)) ≡ is_some (find (λ (x : model.Connection). x.number == suc n + k) (open_from (suc n) cs))
-    go true = ap (λ t. is_some (cond t (Some (shown n c)) (find (λ (x : model.Connection). x.number == suc n + k) (open_from (suc n) cs)))) (other-number n (suc n + k) (λ e. (let no : ⊥ = omega (arith, e) in no)))
-    go false = refl
+    ap (λ m. is_some (find (λ (x : model.Connection). x.number == m) (open_from n (c ∷ cs)))) is
+    ∙ ap is_some (passed-over (suc n + k) n c cs (other-number n (suc n + k) (λ e. (let no : ⊥ = omega (arith, e) in no))))
+    ∙ course-from (suc n) k cs
 
-none-numbered : (n : ℕ) (cs : List Connection) → 0 < n → is_some (find (λ (x : model.Connection). x.number == 0) (open_from n cs)) ≡ false
+none-numbered : (n : ℕ) (cs : List Presence) → 0 < n → is_some (find (λ (x : model.Connection). x.number == 0) (open_from n cs)) ≡ false
 none-numbered n cs lt = ap is_some (none-below 0 n cs lt)
 
-open-seen : (cs : List Connection) (n : ℕ) → is_some (find (λ (x : model.Connection). x.number == n) (open_from 1 cs)) ≡ is_open_course (course_at cs n)
+open-seen : (cs : List Presence) (n : ℕ) → is_some (find (λ (x : model.Connection). x.number == n) (open_from 1 cs)) ≡ is_open_course (course_at cs n)
 open-seen cs zero = none-numbered 1 cs (omega arith)
 open-seen cs (suc k) = let is : suc k ≡ 1 + k = omega arith in ap (λ m. is_some (find (λ (x : model.Connection). x.number == m) (open_from 1 cs))) is ∙ course-from 1 k cs
 
@@ -130,16 +133,16 @@ closed-by config own Resting (Closed why) m = ap Some m.0
 closed-by config own Resting Running m = refl
 closed-by config own Resting Resting m = refl
 
-pub closings-moved : (config : Config) (s next : Situation) (entry : Record) (cs ds : List Connection) → s.connections ≡ open_from 1 cs → next.connections ≡ open_from 1 ds
+pub closings-moved : (config : Config) (s next : Situation) (entry : Record) (cs ds : List Presence) → s.connections ≡ open_from 1 cs → next.connections ≡ open_from 1 ds
     → ((n : ℕ) → reason_of config s n entry.event entry.steps ≡ closing_of_steps config (own_steps n entry.steps)) → ((n : ℕ) → Moves config (own_steps n entry.steps) (course_at cs n) (course_at ds n))
-    → (n : ℕ) → at_number None (map (λ (c : Connection). c.closing) ds) n ≡ closing_behind config s entry next (at_number None (map (λ (c : Connection). c.closing) cs) n) n
+    → (n : ℕ) → at_number None (map closing_of ds) n ≡ closing_behind config s entry next (at_number None (map closing_of cs) n) n
 closings-moved config s next entry cs ds listed relisted reasons moves n =
     closing-seen ds n
     ∙ closed-by config (own_steps n entry.steps) (course_at cs n) (course_at ds n) (moves n)
     ∙ ap (λ b. closing_go config (own_steps n entry.steps) (closing_at_course (course_at cs n)) b (is_open_course (course_at cs n))) (sym (ap (λ ks. is_some (find (λ (x : model.Connection). x.number == n) ks)) relisted ∙ open-seen ds n))
     ∙ ap (λ b. closing_go config (own_steps n entry.steps) (closing_at_course (course_at cs n)) (is_some (connection_in n next)) b) (sym (ap (λ ks. is_some (find (λ (x : model.Connection). x.number == n) ks)) listed ∙ open-seen cs n))
     ∙ ap (λ o. closing_go config (own_steps n entry.steps) o (is_some (connection_in n next)) (is_some (connection_in n s))) (sym (closing-seen cs n))
-    ∙ behind (at_number None (map (λ (c : Connection). c.closing) cs) n)
+    ∙ behind (at_number None (map closing_of cs) n)
   where
     behind : (o : Option Closing) → closing_go config (own_steps n entry.steps) o (is_some (connection_in n next)) (is_some (connection_in n s)) ≡ closing_behind config s entry next o n
     behind (Some why) = refl
@@ -195,7 +198,7 @@ orders-none config old new s tasks (step ∷ steps) l same = orders-lost config 
 
 -- ---- a give-up
 
-module _ {S T : Type 0} (view : S → Values) (tape : T → Option Taped) (base new_base : Base S T) (left : Loads) (begun final : T) (latest now load moment room : ℕ) (cs ds : List Connection) (at_now : now ≡ max moment latest)
+module _ {S T : Type 0} (view : S → Values) (tape : T → Option Taped) (base new_base : Base S T) (left : Loads) (begun final : T) (latest now load moment room : ℕ) (cs ds : List Presence) (at_now : now ≡ max moment latest)
     (starts : tape begun ≡ option_map (started room) (tape base.tape)) (left_is : under_way left ≡ but_for load (under_way base.loads))
     (parts : PartsUnknown view tape now (record { store = base.store; loads = left; tape = begun }) new_base cs ds (tasks_to_give_up (waiting_on load (under_way base.loads))))
     (ended : tape final ≡ option_map (finishes (giving_up load moment) None []) (tape new_base.tape)) where
@@ -235,7 +238,7 @@ module _ {S T : Type 0} (view : S → Values) (tape : T → Option Taped) (base 
           follows = settles.follows;
           kept = settled-kept (giving_up load moment) None [] steps room (tape base.tape) (tape begun) (tape new_base.tape) (tape final) rests starts p.kept ended;
           outputs = λ n.
-              subst (λ b. at_number [] (map (λ (k : Connection). k.output.text.items) ds) n ≡ at_number [] (map (λ (k : Connection). k.output.text.items) cs) n ++ (if b then [] else replies_to n steps)) kept_same (p.outputs n);
+              subst (λ b. at_number [] (map reply_text_of ds) n ≡ at_number [] (map reply_text_of cs) n ++ (if b then [] else replies_to n steps)) kept_same (p.outputs n);
           notes = subst (λ b. (view new_base.store).untaken ≡ (view base.store).untaken ++ (if b then [] else flat_map (λ (step : Step). step.notices) steps)) kept_same p.notes;
           closings = closings-moved config s t (record_given_up load moment steps) cs ds refl refl (λ n. refl) p.moves;
           parted = settles.parted;

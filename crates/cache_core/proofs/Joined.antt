@@ -20,10 +20,11 @@ use Rattle.cache_lines.specs.Waiting.{under_way}
 use Rattle.cache_lines.specs.declared.base.Base.{Base}
 use Rattle.cache_store.specs.Values.{Values}
 use Rattle.cache_tape.specs.Taped.{Taped}
-use Rattle.cache_core.specs.Settled.{Absent, Course, Moves, Piece, course_at, course_of, middle_of}
+use Rattle.cache_core.specs.Settled.{Absent, Moves, Piece, course_at, course_in, course_of, middle_of}
 use Rattle.cache_core.specs.State.{at_number}
 use Rattle.cache_core.specs.Turned.{own_steps, replies_to}
 use Rattle.cache_connection.specs.declared.connection.Connection.{Connection}
+use Rattle.cache_connections.specs.Presence.{Here, Presence, reply_text_of}
 use Rattle.cache_core.proofs.Courses.{moves-none, moves-on, own-both}
 use Rattle.cache_core.proofs.Own.{own-all, own-none}
 use Rattle.cache_core.proofs.Spots.{seen-at, seen-other, seen-was}
@@ -45,7 +46,7 @@ some-map : {A B : Type 0} (f : A → B) (t : Option A) → is_some (option_map f
 some-map f None = refl
 some-map f (Some t) = refl
 
-module _ {S T : Type 0} (view : S → Values) (tape : T → Option Taped) (making : Making) (now : ℕ) (was mid is : Base S T) (old between new : List Connection) (tasks more : List Task) (held : List HeldValue) where
+module _ {S T : Type 0} (view : S → Values) (tape : T → Option Taped) (making : Making) (now : ℕ) (was mid is : Base S T) (old between new : List Presence) (tasks more : List Task) (held : List HeldValue) where
   pub still-kept : Piece view tape making now was mid old between tasks held → is_some (tape mid.tape) ≡ is_some (tape was.tape)
   still-kept p = sym (some-map written (tape mid.tape)) ∙ ap is_some p.kept ∙ some-map (adds p.steps) (option_map written (tape was.tape)) ∙ some-map written (tape was.tape)
 
@@ -66,7 +67,7 @@ module _ {S T : Type 0} (view : S → Values) (tape : T → Option Taped) (makin
             (on making.config making s t u (tasks ++ (more ++ rest)) (more ++ rest) rest p.steps q.steps (identifiers_in (view was.store)) (identifiers_in (view mid.store)) (identifiers_in (view is.store)) (p.leads (more ++ rest)) (q.leads rest));
         outputs = λ n.
             added-both b _ _ _ (replies_to n p.steps) (replies_to n q.steps) (replies_to n steps) (p.outputs n)
-            (subst (λ k. at_number [] (map (λ (c : Connection). c.output.text.items) new) n ≡ at_number [] (map (λ (c : Connection). c.output.text.items) between) n ++ (if k then [] else replies_to n q.steps)) some (q.outputs n))
+            (subst (λ k. at_number [] (map reply_text_of new) n ≡ at_number [] (map reply_text_of between) n ++ (if k then [] else replies_to n q.steps)) some (q.outputs n))
             (ap (flat_map reply_in) (own-both n p.steps q.steps) ∙ flat-both reply_in (own_steps n p.steps) (own_steps n q.steps));
         kept = q.kept ∙ ap (option_map (adds q.steps)) p.kept ∙ adds-both p.steps q.steps (option_map written (tape was.tape));
         notes =
@@ -98,22 +99,19 @@ gathered-apart v w steps (Some t) new_t text new_text e = record {
 }
 
 -- how the connections went on
-pub moves-by : (config : Config) (cs : List Connection) (i : ℕ) (old new : Connection) (steps : List Step) → slice_get cs i ≡ Some old → list_all (λ step. step.conn == suc i) steps ≡ true
+pub moves-by : (config : Config) (cs : List Presence) (i : ℕ) (old new : Connection) (steps : List Step) → slice_get cs i ≡ Some (Here old) → list_all (λ step. step.conn == suc i) steps ≡ true
     → Moves config steps (course_of old.closing old.standing) (course_of new.closing new.standing)
-    → (n : ℕ) → Moves config (own_steps n steps) (course_at cs n) (course_at (slice_set cs i new) n)
+    → (n : ℕ) → Moves config (own_steps n steps) (course_at cs n) (course_at (slice_set cs i (Here new)) n)
 moves-by config cs i old new steps at own moves n = go (n == suc i) refl
   where
-    course : Connection → Course
-    course c = course_of c.closing c.standing
-
-    go : (b : Bool) → (n == suc i) ≡ b → Moves config (own_steps n steps) (at_number Absent (map (λ (c : Connection). course_of c.closing c.standing) cs) n) (at_number Absent (map (λ (c : Connection). course_of c.closing c.standing) (slice_set cs i new)) n)
+    go : (b : Bool) → (n == suc i) ≡ b → Moves config (own_steps n steps) (at_number Absent (map course_in cs) n) (at_number Absent (map course_in (slice_set cs i (Here new))) n)
     go true e =
         let is : n ≡ suc i = eqb-true n (suc i) e in
-        subst (λ k. Moves config (own_steps k steps) (at_number Absent (map course cs) k) (at_number Absent (map course (slice_set cs i new)) k)) (sym is)
-        (subst (λ k. Moves config (own_steps (suc i) steps) k (at_number Absent (map course (slice_set cs i new)) (suc i))) (sym (seen-was course Absent cs i old at))
-        (subst (λ k. Moves config (own_steps (suc i) steps) (course old) k) (sym (seen-at course Absent cs i new (slice_get_within cs i old at)))
-        (subst (λ ss. Moves config ss (course old) (course new)) (sym (own-all (suc i) steps own)) moves)))
+        subst (λ k. Moves config (own_steps k steps) (at_number Absent (map course_in cs) k) (at_number Absent (map course_in (slice_set cs i (Here new))) k)) (sym is)
+        (subst (λ k. Moves config (own_steps (suc i) steps) k (at_number Absent (map course_in (slice_set cs i (Here new))) (suc i))) (sym (seen-was course_in Absent cs i (Here old) at))
+        (subst (λ k. Moves config (own_steps (suc i) steps) (course_of old.closing old.standing) k) (sym (seen-at course_in Absent cs i (Here new) (slice_get_within cs i (Here old) at)))
+        (subst (λ ss. Moves config ss (course_of old.closing old.standing) (course_of new.closing new.standing)) (sym (own-all (suc i) steps own)) moves)))
     go false e =
         let ne : n ≢ suc i = λ h. let no : false ≡ true = sym e ∙ eq-eqb n (suc i) h in cc in
-        subst (λ ss. Moves config ss (at_number Absent (map course cs) n) (at_number Absent (map course (slice_set cs i new)) n)) (sym (own-none (suc i) n steps own ne))
-        (subst (λ k. Moves config [] (at_number Absent (map course cs) n) k) (sym (seen-other course Absent cs i n new ne)) (moves-none config (at_number Absent (map course cs) n)))
+        subst (λ ss. Moves config ss (at_number Absent (map course_in cs) n) (at_number Absent (map course_in (slice_set cs i (Here new))) n)) (sym (own-none (suc i) n steps own ne))
+        (subst (λ k. Moves config [] (at_number Absent (map course_in cs) n) k) (sym (seen-other course_in Absent cs i n (Here new) ne)) (moves-none config (at_number Absent (map course_in cs) n)))

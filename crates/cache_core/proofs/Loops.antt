@@ -1,10 +1,10 @@
 -- Calls on connections, one after another.
-use Rattle.std.proofs.Common.{◌≡◌, ℕ, suc, ◌+◌, ◌-◌, ◌≤◌, ◌<◌, List, [], ◌∷◌, ◌++◌, length, map, take, drop, get_or, Option, refl, sym, ap, ◌∙◌, subst, arith, append_assoc}
+use Rattle.std.proofs.Common.{◌≡◌, ℕ, ◌+◌, ◌-◌, ◌≤◌, ◌<◌, List, [], ◌∷◌, ◌++◌, length, map, take, drop, get_or, Option, refl, sym, ap, ◌∙◌, subst, arith, append_assoc}
 use Rattle.std.specs.List.{flat_map}
 use Rattle.audit_model.specs.Places.{tasks_to_give_up}
 use Rattle.audit_model.specs.Steps.{RunAgain, RunLines, Task}
 use Rattle.audit_waiting_laws.specs.Tidy.{times_in}
-use Rattle.cache_connection.specs.declared.connection.Connection.{Connection}
+use Rattle.cache_connections.specs.Presence.{Presence}
 use Rattle.cache_lines.specs.declared.base.Base.{Base}
 use Rattle.cache_store.specs.Values.{Values}
 use Rattle.cache_tape.specs.Taped.{Taped}
@@ -32,10 +32,10 @@ give-up-more ns at lt = ap tasks_to_give_up (front-more ns at lt) ∙ flat-both 
 pub there-number : (n : ℕ) → 1 ≤ n → n - 1 + 1 ≡ n
 there-number n le = omega (arith, le)
 
-pub first-there : (cs : List Connection) (n : ℕ) → 1 ≤ n → n ≤ length cs → n - 1 < length cs
+pub first-there : (cs : List Presence) (n : ℕ) → 1 ≤ n → n ≤ length cs → n - 1 < length cs
 first-there cs n a b = omega (arith, a, b)
 
-pub left-there : (mid new : List Connection) (n : ℕ) (rest : List ℕ) → AreThere mid (n ∷ rest) → length new ≡ length mid → AreThere new rest
+pub left-there : (mid new : List Presence) (n : ℕ) (rest : List ℕ) → AreThere mid (n ∷ rest) → length new ≡ length mid → AreThere new rest
 left-there mid new n rest there count m some =
     let also : 1 ≤ times_in m (n ∷ rest) = omega (arith, some) in
     let x = there m also in
@@ -43,15 +43,15 @@ left-there mid new n rest there count m some =
 
 module _ {S T : Type 0} (view : S → Values) (tape : T → Option Taped) (now : ℕ) where
   -- with no line more
-  pub amid-all : (was is : Base S T) (old new : List Connection) (a b : ℕ) → ((lines : ℕ) → IsAmid view tape now was old (a + lines) → IsAmid view tape now is new (b + lines)) → IsAmid view tape now was old a → IsAmid view tape now is new b
+  pub amid-all : (was is : Base S T) (old new : List Presence) (a b : ℕ) → ((lines : ℕ) → IsAmid view tape now was old (a + lines) → IsAmid view tape now is new (b + lines)) → IsAmid view tape now was old a → IsAmid view tape now is new b
   amid-all was is old new a b goes amid =
       let x : a ≡ a + 0 = omega arith in
       let y : b + 0 ≡ b = omega arith in
       subst (λ k. IsAmid view tape now is new k) y (goes 0 (subst (λ k. IsAmid view tape now was old k) x amid))
 
   -- the next one has its line
-  pub amid-next : (base : Base S T) (cs : List Connection) (ns : List ℕ) (at : ℕ) → at < length ns → IsAmid view tape now base cs (length (drop at ns)) → IsAmid view tape now base cs 1
+  pub amid-next : (base : Base S T) (cs : List Presence) (ns : List ℕ) (at : ℕ) → at < length ns → IsAmid view tape now base cs (length (drop at ns)) → IsAmid view tape now base cs 1
   amid-next base cs ns at lt amid = let e = ap length (rest-next ns at lt) in amid-least view tape now base cs (length (drop at ns)) 1 (omega (arith, e)) amid
 
-  pub amid-two : (base : Base S T) (cs : List Connection) (ns : List ℕ) (at : ℕ) → at < length ns → IsAmid view tape now base cs (length (drop at ns) + length (drop at ns)) → IsAmid view tape now base cs 2
+  pub amid-two : (base : Base S T) (cs : List Presence) (ns : List ℕ) (at : ℕ) → at < length ns → IsAmid view tape now base cs (length (drop at ns) + length (drop at ns)) → IsAmid view tape now base cs 2
   amid-two base cs ns at lt amid = let e = ap length (rest-next ns at lt) in amid-least view tape now base cs (length (drop at ns) + length (drop at ns)) 2 (omega (arith, e)) amid

@@ -29,10 +29,11 @@ use Rattle.cache_store.specs.Values.{IsSoundStore, Values}
 use Rattle.cache_tape.specs.Taped.{IsAtRest, Taped, finishes, started, with_entry}
 use Rattle.cache_core.specs.Fed.{ReplacedAt}
 use Rattle.cache_connection.specs.Parts.{standing_as}
-use Rattle.cache_connection.specs.Shown.{open_from, shown}
+use Rattle.cache_connection.specs.Shown.{shown}
 use Rattle.cache_core.specs.State.{IsInOrder, State, at_number, situation_with, state_of}
 use Rattle.cache_core.specs.Turned.{Turned, Turns, closing_behind, reason_of, with_record}
 use Rattle.cache_connection.specs.declared.connection.Connection.{Connection}
+use Rattle.cache_connections.specs.Presence.{Here, Presence, closing_of, open_from, reply_text_of}
 use Rattle.cache_core.proofs.Orders.{order-turned}
 use Rattle.cache_core.proofs.Spots.{seen-same}
 use Rattle.cache_core.proofs.Table.{dropped-at, opened-last}
@@ -58,7 +59,7 @@ none-more false xs = sym (append-nil xs)
 
 -- ---- an opening
 
-last-number : {A : Type 0} (f : Connection → A) (d : A) (cs : List Connection) (new : Connection) → f new ≡ d → (n : ℕ) → at_number d (map f (cs ++ new ∷ [])) n ≡ at_number d (map f cs) n
+last-number : {A : Type 0} (f : Presence → A) (d : A) (cs : List Presence) (new : Presence) → f new ≡ d → (n : ℕ) → at_number d (map f (cs ++ new ∷ [])) n ≡ at_number d (map f cs) n
 last-number f d [] new e zero = refl
 last-number f d [] new e (suc zero) = e
 last-number f d [] new e (suc (suc n)) = refl
@@ -66,8 +67,8 @@ last-number f d (c ∷ cs) new e zero = refl
 last-number f d (c ∷ cs) new e (suc zero) = refl
 last-number f d (c ∷ cs) new e (suc (suc n)) = last-number f d cs new e (suc n)
 
-count-more : (cs : List Connection) (new : Connection) → length (map (λ (c : Connection). c.closing) (cs ++ new ∷ [])) ≡ suc (length (map (λ (c : Connection). c.closing) cs))
-count-more cs new = let a = length-map (cs ++ new ∷ []) (λ (c : Connection). c.closing) in let b = length-map cs (λ (c : Connection). c.closing) in let l = length-append cs (new ∷ []) in omega (arith, a, b, l)
+count-more : (cs : List Presence) (new : Presence) → length (map closing_of (cs ++ new ∷ [])) ≡ suc (length (map closing_of cs))
+count-more cs new = let a = length-map (cs ++ new ∷ []) closing_of in let b = length-map cs closing_of in let l = length-append cs (new ∷ []) in omega (arith, a, b, l)
 
 find-more : (n : ℕ) (xs ys : List model.Connection) → is_some (find (λ c. c.number == n) xs) ≡ true → is_some (find (λ c. c.number == n) (xs ++ ys)) ≡ true
 find-more n [] ys e = let no : false ≡ true = e in cc
@@ -88,16 +89,16 @@ stays-closing : (config : Config) (s next : Situation) (entry : Record) (n : ℕ
 stays-closing config s next entry n (Some why) stays = refl
 stays-closing config s next entry n None stays = sym (ap (λ b. if b then None else Some (reason_of config s n entry.event entry.steps)) (stays-open (is_some (connection_in n next)) (is_some (connection_in n s)) stays))
 
-module _ {S T : Type 0} (view : S → Values) (tape : T → Option Taped) (base : Base S T) (final : T) (latest m : ℕ) (cs : List Connection) (new : Connection) (e : m ≡ suc (length cs)) (free : new.standing ≡ now.Ready) (empty : new.unread.bytes ≡ []) (silent : new.output.text.items ≡ []) (is_open : new.closing ≡ None)
+module _ {S T : Type 0} (view : S → Values) (tape : T → Option Taped) (base : Base S T) (final : T) (latest m : ℕ) (cs : List Presence) (new : Connection) (e : m ≡ suc (length cs)) (free : new.standing ≡ now.Ready) (empty : new.unread.bytes ≡ []) (silent : new.output.text.items ≡ []) (is_open : new.closing ≡ None)
     (kept : tape final ≡ option_map (with_record (record_of (event.Open m))) (tape base.tape)) where
   abbrev config : Config
   config = (view base.store).frame.config
 
   abbrev last : State S T
-  last = state_of (record { store = base.store; loads = base.loads; tape = final }) latest (cs ++ new ∷ [])
+  last = state_of (record { store = base.store; loads = base.loads; tape = final }) latest (cs ++ Here new ∷ [])
 
   -- the new connection comes last
-  listed : open_from 1 (cs ++ new ∷ []) ≡ open_from 1 cs ++ ready m [] ∷ []
+  listed : open_from 1 (cs ++ Here new ∷ []) ≡ open_from 1 cs ++ ready m [] ∷ []
   listed =
       let n_is : 1 + length cs ≡ m = omega (arith, e) in
       opened-last 1 cs new (ap is_none is_open) ∙ ap (λ k. open_from 1 cs ++ shown k new ∷ []) n_is
@@ -107,8 +108,8 @@ module _ {S T : Type 0} (view : S → Values) (tape : T → Option Taped) (base 
       → Turned view tape (state_of base latest cs) last (situation_with view (state_of base latest cs) held) (record_of (event.Open m))
   turned-open sound held stands =
       let s = sit latest (under_way base.loads) cs (view base.store).frame.dropped held in
-      let count = length-map cs (λ (c : Connection). c.closing) in
-      let number_is : m ≡ suc (length (map (λ (c : Connection). c.closing) cs)) = omega (arith, e, count) in
+      let count = length-map cs closing_of in
+      let number_is : m ≡ suc (length (map closing_of cs)) = omega (arith, e, count) in
       let next = situation_with view last held in
       record {
         next = next;
@@ -116,13 +117,13 @@ module _ {S T : Type 0} (view : S → Values) (tape : T → Option Taped) (base 
         follows =
             ap (λ b. if b && true then Some (record s { opened = suc s.opened; connections = open_from 1 cs ++ ready m [] ∷ [] }) else None) (eq-eqb m (suc s.opened) number_is)
             ∙ ap (λ ks. Some (record s { opened = suc s.opened; connections = ks })) (sym listed)
-            ∙ ap (λ n. Some (record s { opened = n; connections = open_from 1 (cs ++ new ∷ []) })) (sym (count-more cs new));
+            ∙ ap (λ n. Some (record s { opened = n; connections = open_from 1 (cs ++ Here new ∷ []) })) (sym (count-more cs (Here new)));
         kept = kept;
-        outputs = λ n. last-number (λ (c : Connection). c.output.text.items) [] cs new silent n ∙ none-more (is_some (tape base.tape)) (at_number [] (map (λ (c : Connection). c.output.text.items) cs) n);
+        outputs = λ n. last-number reply_text_of [] cs (Here new) silent n ∙ none-more (is_some (tape base.tape)) (at_number [] (map reply_text_of cs) n);
         notes = none-more (is_some (tape base.tape)) (view base.store).untaken;
         closings = λ n.
-            last-number (λ (c : Connection). c.closing) None cs new is_open n
-            ∙ stays-closing config s next (record_of (event.Open m)) n (at_number None (map (λ (c : Connection). c.closing) cs) n)
+            last-number closing_of None cs (Here new) is_open n
+            ∙ stays-closing config s next (record_of (event.Open m)) n (at_number None (map closing_of cs) n)
             (λ h. ap (λ ks. is_some (find (λ (k : model.Connection). k.number == n) ks)) listed ∙ find-more n (open_from 1 cs) (ready m [] ∷ []) h);
         parted = refl;
         timely = refl;
@@ -142,7 +143,7 @@ module _ {S T : Type 0} (view : S → Values) (tape : T → Option Taped) (base 
 
 -- ---- a closing
 
-module _ {S T : Type 0} (view : S → Values) (tape : T → Option Taped) (base : Base S T) (left : Loads) (final : T) (latest m i : ℕ) (cs ds : List Connection) (p : ReplacedAt cs ds i) (e : m ≡ suc i) (is_open : p.was.closing ≡ None) (closed : p.is.closing ≡ Some by.Asked) (stays : p.is.output.text.items ≡ p.was.output.text.items)
+module _ {S T : Type 0} (view : S → Values) (tape : T → Option Taped) (base : Base S T) (left : Loads) (final : T) (latest m i : ℕ) (cs ds : List Presence) (p : ReplacedAt cs ds i) (e : m ≡ suc i) (is_open : p.was.closing ≡ None) (closed : p.is.closing ≡ Some by.Asked) (stays : p.is.output.text.items ≡ p.was.output.text.items)
     (leaves : under_way left ≡ when_left false m (under_way base.loads)) (kept : tape final ≡ option_map (with_record (record_of (event.Close m))) (tape base.tape)) where
   abbrev closed_last : State S T
   closed_last = state_of (record { store = base.store; loads = left; tape = final }) latest ds
@@ -155,10 +156,10 @@ module _ {S T : Type 0} (view : S → Values) (tape : T → Option Taped) (base 
       let next = situation_with view closed_last held in
       let known = known-open m i p.was s cs refl refl e p.at is_open in
       let rest : Option Situation = Some (without_connection m s) in
-      let within = slice_get_within cs i p.was p.at in
-      let relisted : open_from 1 (slice_set cs i p.is) ≡ open_from 1 ds = ap (open_from 1) (sym p.set) in
-      let count : length (map (λ (c : Connection). c.closing) cs) ≡ length (map (λ (c : Connection). c.closing) ds) = sym (ap (λ xs. length (map (λ (c : Connection). c.closing) xs)) p.set ∙ opened-same cs i p.is) in
-      let texts = ap (map (λ (c : Connection). c.output.text.items)) p.set ∙ seen-same (λ (c : Connection). c.output.text.items) cs i p.was p.is p.at stays in
+      let within = slice_get_within cs i (Here p.was) p.at in
+      let relisted : open_from 1 (slice_set cs i (Here p.is)) ≡ open_from 1 ds = ap (open_from 1) (sym p.set) in
+      let count : length (map closing_of cs) ≡ length (map closing_of ds) = sym (ap (λ xs. length (map closing_of xs)) p.set ∙ opened-same cs i (Here p.is)) in
+      let texts = ap (map reply_text_of) p.set ∙ seen-same reply_text_of cs i (Here p.was) (Here p.is) p.at stays in
       record {
         next = next;
         stands = record { held = held; stands = stands; is = refl };
@@ -169,10 +170,10 @@ module _ {S T : Type 0} (view : S → Values) (tape : T → Option Taped) (base 
             ∙ ap (λ n. Some (record s { opened = n; connections = open_from 1 ds; pending = map (without_waiting m) s.pending })) count
             ∙ ap (λ l. Some (sit latest l ds frame.dropped held)) (sym leaves);
         kept = kept;
-        outputs = λ n. ap (λ xs. at_number [] xs n) texts ∙ none-more (is_some (tape base.tape)) (at_number [] (map (λ (c : Connection). c.output.text.items) cs) n);
+        outputs = λ n. ap (λ xs. at_number [] xs n) texts ∙ none-more (is_some (tape base.tape)) (at_number [] (map reply_text_of cs) n);
         notes = none-more (is_some (tape base.tape)) (view base.store).untaken;
         closings = λ n.
-            ap (λ xs. at_number None (map (λ (c : Connection). c.closing) xs) n) p.set
+            ap (λ xs. at_number None (map closing_of xs) n) p.set
             ∙ closings-by frame.config s next (record_of (event.Close m)) cs i p.was p.is p.at is_open refl (sym relisted) (inr closed) n;
         parted = refl;
         timely = refl;
@@ -195,5 +196,5 @@ pub left-is : (loads left : Loads) (n : ℕ) → sent_of left ≡ sent_of loads 
 left-is loads left n sent pending = ap (λ k. record { sent = k; pending = loads_pending left }) sent ∙ ap (λ ps. record { sent = sent_of loads; pending = ps }) pending
 
 -- how many connections there are
-pub count-open : (cs : List Connection) → length (map (λ (c : Connection). c.closing) cs) ≡ length cs
-count-open cs = length-map cs (λ (c : Connection). c.closing)
+pub count-open : (cs : List Presence) → length (map closing_of cs) ≡ length cs
+count-open cs = length-map cs closing_of

@@ -31,13 +31,15 @@ use Rattle.cache_tape.specs.Taped.{IsAtRest, Taped}
 use Rattle.cache_connection.specs.Fed.{LooksAsBefore}
 use Rattle.cache_core.specs.Fed.{BaseStays, CanTurn, ReplacedAt, WantsMemory, seen_at}
 use Rattle.cache_connection.specs.Parts.{standing_as}
-use Rattle.cache_core.specs.Places.{closing_at, known_of_all, refusal_at, text_at}
-use Rattle.cache_connection.specs.Shown.{open_from, shown}
+use Rattle.cache_core.specs.Places.{known_of_all, refusal_at}
+use Rattle.cache_connection.specs.Shown.{shown}
+use Rattle.cache_connections.proofs.Listed.{open-same}
 use Rattle.cache_core.specs.State.{IsInOrder, StandsFor, State, known_of, output_in, situation_with, state_of}
 use Rattle.cache_core.specs.Turned.{RefusesBy, Turned, feeding, notes_in, replies_to, with_record}
 use Rattle.cache_connection.specs.declared.connection.Connection.{Connection}
-use Rattle.cache_core.proofs.Spots.{closing-is, listed-same, seen-same, seen-was, text-is}
-use Rattle.cache_core.proofs.Table.{listed_as}
+use Rattle.cache_connections.specs.Presence.{Gone, Here, Out, Presence, closing_at, closing_of, open_from, reply_text_of, text_at}
+use Rattle.cache_core.proofs.Spots.{here-open, seen-same, seen-was}
+use Rattle.cache_core.proofs.Table.{listed_as, listed_of}
 use Rattle.cache_core.proofs.Turning.{found-is, found-open, holding-shown, known-open, leb-above}
 
 still-kept : (entry : Record) (t : Option Taped) → is_some (option_map (with_record entry) t) ≡ is_some t
@@ -93,13 +95,13 @@ order-noticed view tape n store taken takes gives order = record {
 }
 
 -- a connection stands there
-pub there : (cs : List Connection) (i : ℕ) → i < length cs → (c : Connection) × (slice_get cs i ≡ Some c)
+pub there : (cs : List Presence) (i : ℕ) → i < length cs → (c : Presence) × (slice_get cs i ≡ Some c)
 there [] i lt = absurd (omega (arith, lt))
 there (c ∷ cs) zero lt = (c, refl)
 there (c ∷ cs) (suc i) lt = there cs i (omega (arith, lt))
 
 -- a turn may begin
-pub can-turn : {S T : Type 0} (view : S → Values) (tape : T → Option Taped) (base : Base S T) (latest now i : ℕ) (cs : List Connection) → IsInOrder view tape (state_of base latest cs) → latest ≤ now → now < 2 ^ 63 → i < length cs
+pub can-turn : {S T : Type 0} (view : S → Values) (tape : T → Option Taped) (base : Base S T) (latest now i : ℕ) (cs : List Presence) → IsInOrder view tape (state_of base latest cs) → latest ≤ now → now < 2 ^ 63 → i < length cs
     → CanTurn now (seen_at view tape base cs i)
 can-turn view tape base latest now i cs order later low lt = record {
   in_time = (in-time order.in_time, low);
@@ -115,54 +117,56 @@ can-turn view tape base latest now i cs order later low lt = record {
     clear (Some t) e =
         let h : is_some (tape base.tape) ≡ true = ap is_some e in
         let c = there cs i lt in
-        (text-is cs i c.0 c.1 ∙ sym (seen-was (λ (k : Connection). k.output.text.items) [] cs i c.0 c.1) ∙ order.outputs h (suc i), order.untaken h)
+        (ap (λ o. option_map_or reply_text_of o []) c.1 ∙ sym (seen-was reply_text_of [] cs i c.0 c.1) ∙ order.outputs h (suc i), order.untaken h)
 
 -- ---- nothing has changed
 
-pub state-same : {S T : Type 0} (base new_base : Base S T) (latest i : ℕ) (cs ds : List Connection) → BaseStays base new_base → (p : ReplacedAt cs ds i) → LooksAsBefore p.was p.is → state_of new_base latest ds ≡ state_of base latest cs
+pub state-same : {S T : Type 0} (base new_base : Base S T) (latest i : ℕ) (cs ds : List Presence) → BaseStays base new_base → (p : ReplacedAt cs ds i) → LooksAsBefore p.was p.is → state_of new_base latest ds ≡ state_of base latest cs
 state-same {S} {T} base new_base latest i cs ds b p same =
     let shows : (k : ℕ) → shown k p.is ≡ shown k p.was =
     λ k. ap (λ st. standing_as k st p.is.waited p.is.unread.bytes) same.standing ∙ ap (λ n. standing_as k p.was.standing n p.is.unread.bytes) same.waited ∙ ap (standing_as k p.was.standing p.was.waited) same.bytes in
-    let listed : open_from 1 ds ≡ open_from 1 cs = ap (open_from 1) p.set ∙ listed-same 1 i p.was p.is cs p.at same.closing shows in
-    let closings : map (λ (c : Connection). c.closing) ds ≡ map (λ (c : Connection). c.closing) cs = ap (map (λ (c : Connection). c.closing)) p.set ∙ seen-same (λ (c : Connection). c.closing) cs i p.was p.is p.at same.closing in
-    let texts : map (λ (c : Connection). c.output.text.items) ds ≡ map (λ (c : Connection). c.output.text.items) cs = ap (map (λ (c : Connection). c.output.text.items)) p.set ∙ seen-same (λ (c : Connection). c.output.text.items) cs i p.was p.is p.at same.text in
+    let listed : open_from 1 ds ≡ open_from 1 cs = ap (open_from 1) p.set ∙ open-same 1 i p.was p.is cs p.at same.closing shows in
+    let closings : map closing_of ds ≡ map closing_of cs = ap (map closing_of) p.set ∙ seen-same closing_of cs i (Here p.was) (Here p.is) p.at same.closing in
+    let texts : map reply_text_of ds ≡ map reply_text_of cs = ap (map reply_text_of) p.set ∙ seen-same reply_text_of cs i (Here p.was) (Here p.is) p.at same.text in
     let l = b.loads_are in
     let made : S → T → List model.Connection → List (Option Closing) → List (List ℕ) → ℕ → List PendingLoad → List (LoadId × List ℕ) → ℕ → State S T = λ store tape ks whys outs sent pending outgoing namespace.
     record { store = store; tape = tape; latest = latest; connections = ks; closings = whys; outputs = outs; sent = sent; pending = pending; outgoing = outgoing; namespace = namespace } in
-    ap (λ x. made x new_base.tape (open_from 1 ds) (map (λ (c : Connection). c.closing) ds) (map (λ (c : Connection). c.output.text.items) ds) (sent_of new_base.loads) (loads_pending new_base.loads) (outgoing_loads new_base.loads) (namespace_of_loads new_base.loads)) b.store_is
-    ∙ ap (λ x. made base.store x (open_from 1 ds) (map (λ (c : Connection). c.closing) ds) (map (λ (c : Connection). c.output.text.items) ds) (sent_of new_base.loads) (loads_pending new_base.loads) (outgoing_loads new_base.loads) (namespace_of_loads new_base.loads)) b.tape_is
-    ∙ ap (λ x. made base.store base.tape x (map (λ (c : Connection). c.closing) ds) (map (λ (c : Connection). c.output.text.items) ds) (sent_of new_base.loads) (loads_pending new_base.loads) (outgoing_loads new_base.loads) (namespace_of_loads new_base.loads)) listed
-    ∙ ap (λ x. made base.store base.tape (open_from 1 cs) x (map (λ (c : Connection). c.output.text.items) ds) (sent_of new_base.loads) (loads_pending new_base.loads) (outgoing_loads new_base.loads) (namespace_of_loads new_base.loads)) closings
-    ∙ ap (λ x. made base.store base.tape (open_from 1 cs) (map (λ (c : Connection). c.closing) cs) x (sent_of new_base.loads) (loads_pending new_base.loads) (outgoing_loads new_base.loads) (namespace_of_loads new_base.loads)) texts
-    ∙ ap (λ x. made base.store base.tape (open_from 1 cs) (map (λ (c : Connection). c.closing) cs) (map (λ (c : Connection). c.output.text.items) cs) x (loads_pending new_base.loads) (outgoing_loads new_base.loads) (namespace_of_loads new_base.loads)) l.sent
-    ∙ ap (λ x. made base.store base.tape (open_from 1 cs) (map (λ (c : Connection). c.closing) cs) (map (λ (c : Connection). c.output.text.items) cs) (sent_of base.loads) x (outgoing_loads new_base.loads) (namespace_of_loads new_base.loads)) l.pending
-    ∙ ap (λ x. made base.store base.tape (open_from 1 cs) (map (λ (c : Connection). c.closing) cs) (map (λ (c : Connection). c.output.text.items) cs) (sent_of base.loads) (loads_pending base.loads) x (namespace_of_loads new_base.loads)) l.outgoing
-    ∙ ap (λ x. made base.store base.tape (open_from 1 cs) (map (λ (c : Connection). c.closing) cs) (map (λ (c : Connection). c.output.text.items) cs) (sent_of base.loads) (loads_pending base.loads) (outgoing_loads base.loads) x) l.namespace
+    ap (λ x. made x new_base.tape (open_from 1 ds) (map closing_of ds) (map reply_text_of ds) (sent_of new_base.loads) (loads_pending new_base.loads) (outgoing_loads new_base.loads) (namespace_of_loads new_base.loads)) b.store_is
+    ∙ ap (λ x. made base.store x (open_from 1 ds) (map closing_of ds) (map reply_text_of ds) (sent_of new_base.loads) (loads_pending new_base.loads) (outgoing_loads new_base.loads) (namespace_of_loads new_base.loads)) b.tape_is
+    ∙ ap (λ x. made base.store base.tape x (map closing_of ds) (map reply_text_of ds) (sent_of new_base.loads) (loads_pending new_base.loads) (outgoing_loads new_base.loads) (namespace_of_loads new_base.loads)) listed
+    ∙ ap (λ x. made base.store base.tape (open_from 1 cs) x (map reply_text_of ds) (sent_of new_base.loads) (loads_pending new_base.loads) (outgoing_loads new_base.loads) (namespace_of_loads new_base.loads)) closings
+    ∙ ap (λ x. made base.store base.tape (open_from 1 cs) (map closing_of cs) x (sent_of new_base.loads) (loads_pending new_base.loads) (outgoing_loads new_base.loads) (namespace_of_loads new_base.loads)) texts
+    ∙ ap (λ x. made base.store base.tape (open_from 1 cs) (map closing_of cs) (map reply_text_of cs) x (loads_pending new_base.loads) (outgoing_loads new_base.loads) (namespace_of_loads new_base.loads)) l.sent
+    ∙ ap (λ x. made base.store base.tape (open_from 1 cs) (map closing_of cs) (map reply_text_of cs) (sent_of base.loads) x (outgoing_loads new_base.loads) (namespace_of_loads new_base.loads)) l.pending
+    ∙ ap (λ x. made base.store base.tape (open_from 1 cs) (map closing_of cs) (map reply_text_of cs) (sent_of base.loads) (loads_pending base.loads) x (namespace_of_loads new_base.loads)) l.outgoing
+    ∙ ap (λ x. made base.store base.tape (open_from 1 cs) (map closing_of cs) (map reply_text_of cs) (sent_of base.loads) (loads_pending base.loads) (outgoing_loads base.loads) x) l.namespace
 
 -- ---- refusals
 
+closed-listed : (m : ℕ) (p : Presence) → is_none (closing_of p) ≡ false → is_some (listed_of m p) ≡ false
+closed-listed m (Here c) gone = ap (λ b. is_some (listed_as b (shown m c))) gone
+closed-listed m Out gone = refl
+closed-listed m (Gone why) gone = refl
+
 -- a closed connection is refused as such
-pub refused-closed : (m i : ℕ) (cs : List Connection) → m ≡ suc i → i < length cs → is_none (closing_at cs i) ≡ false → refusal_at cs m ≡ Some error.Closed
+pub refused-closed : (m i : ℕ) (cs : List Presence) → m ≡ suc i → i < length cs → is_none (closing_at cs i) ≡ false → refusal_at cs m ≡ Some error.Closed
 refused-closed m i cs e lt closed =
     let c = there cs i lt in
-    let gone : is_none c.0.closing ≡ false = ap is_none (sym (closing-is cs i c.0 c.1)) ∙ closed in
-    let count = length-map cs (λ (x : Connection). x.closing) in
-    let opened : (known_of_all cs).was_opened m ≡ true = and_from (nat_lt 0 m) (nat_le m (length (map (λ (x : Connection). x.closing) cs))) (lt-ltb 0 m (omega (arith, e))) (le-leb m (length (map (λ (x : Connection). x.closing) cs)) (omega (arith, e, lt, count))) in
+    let gone : is_none (closing_of c.0) ≡ false = ap (λ o. is_none (option_map_or closing_of o None)) (sym c.1) ∙ closed in
+    let count = length-map cs closing_of in
+    let opened : (known_of_all cs).was_opened m ≡ true = and_from (nat_lt 0 m) (nat_le m (length (map closing_of cs))) (lt-ltb 0 m (omega (arith, e))) (le-leb m (length (map closing_of cs)) (omega (arith, e, lt, count))) in
     ap (λ a. option_or (refusal_where (not a) error.NoConnection) (refusal_where (not ((known_of_all cs).is_open m)) error.Closed)) opened
-    ∙ ap (λ o. refusal_where (not (is_some o)) error.Closed) (found-is m i c.0 cs e c.1 ∙ ap (λ b. listed_as b (shown m c.0)) gone)
+    ∙ ap (λ b. refusal_where (not b) error.Closed) (ap is_some (found-is m i c.0 cs e c.1) ∙ closed-listed m c.0 gone)
 
-module _ {S T : Type 0} (view : S → Values) (base : Base S T) (latest m i moment : ℕ) (cs : List Connection) (piece : List ℕ) (e : m ≡ suc i) (lt : i < length cs) (is_open : closing_at cs i ≡ None) where
+module _ {S T : Type 0} (view : S → Values) (base : Base S T) (latest m i moment : ℕ) (cs : List Presence) (piece : List ℕ) (e : m ≡ suc i) (lt : i < length cs) (is_open : closing_at cs i ≡ None) where
   abbrev n : State S T
   n = state_of base latest cs
-
-  open-there : (there cs i lt).0.closing ≡ None
-  open-there = sym (closing-is cs i (there cs i lt).0 (there cs i lt).1) ∙ is_open
 
   -- an open connection is known
   pub known-none : refusal_of_conn (known_of view n) m ≡ None
   known-none =
-      let c = there cs i lt in
-      let k = known-open m i c.0 (situation_with view n []) cs refl refl e c.1 open-there in
+      let c = here-open cs i lt is_open in
+      let k = known-open m i c.0 (situation_with view n []) cs refl refl e c.1 c.2 in
       ap (λ a. option_or (refusal_where (not a) error.NoConnection) (refusal_where (not ((known_of view n).is_open m)) error.Closed)) k.0
       ∙ ap (λ a. refusal_where (not a) error.Closed) k.1
 
@@ -174,12 +178,12 @@ module _ {S T : Type 0} (view : S → Values) (base : Base S T) (latest m i mome
       subst (λ r. MatchOption r ((error.Moment ≡ error.OutOfMemory) ⊎ ((error.Moment ≡ error.HeldAgain) × (held ≡ true))) (λ refused. error.Moment ≡ refused)) (sym late) refl
 
   -- want of memory
-  pub refuses-memory : (refused : ServiceError) → moment < 2 ^ 63 → ((c : Connection) → slice_get cs i ≡ Some c → WantsMemory (holds_line c.standing) refused)
+  pub refuses-memory : (refused : ServiceError) → moment < 2 ^ 63 → ((c : Connection) → slice_get cs i ≡ Some (Here c) → WantsMemory (holds_line c.standing) refused)
       → RefusesBy view n (feeding m piece moment) (is_holding_in (situation_with view n []) m) refused
   refuses-memory refused low wants =
-      let c = there cs i lt in
+      let c = here-open cs i lt is_open in
       let held : is_holding_in (situation_with view n []) m ≡ holds_line c.0.standing =
-      ap (λ o. option_map_or (λ (k : model.Connection). is_holding k.standing) o false) (found-open m i c.0 cs e c.1 open-there) ∙ holding-shown m c.0 in
+      ap (λ o. option_map_or (λ (k : model.Connection). is_holding k.standing) o false) (found-open m i c.0 cs e c.1 c.2) ∙ holding-shown m c.0 in
       let none : refusal_of (view base.store).frame.config (known_of view n) (feeding m piece moment) ≡ None =
       ap (λ o. option_or o (refusal_where (nat_le (2 ^ 63) moment) error.Moment)) known-none ∙ ap (λ a. refusal_where a error.Moment) (leb-above (2 ^ 63) moment low) in
       subst (λ r. MatchOption r (WantsMemory (is_holding_in (situation_with view n []) m) refused) (λ x. refused ≡ x)) (sym none)

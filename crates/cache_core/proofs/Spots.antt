@@ -1,15 +1,16 @@
 -- What stands at a place of a list, before and after it is replaced.
-use Rattle.std.proofs.Common.{◌≡◌, ◌≢◌, ℕ, zero, suc, ◌<◌, List, [], ◌∷◌, map, Some, None, if◌then◌else◌, length, refl, sym, ap, ◌∙◌, arith, get_or}
-use Rattle.std.specs.Prelude.{is_none, slice_set}
+use Rattle.std.proofs.Common.{◌≡◌, ◌≢◌, ℕ, zero, suc, ◌<◌, true, false, List, [], ◌∷◌, map, Option, Some, None, length, refl, sym, ap, ◌∙◌, arith, get_or}
+use Rattle.std.specs.Prelude.{MatchOption, is_some, slice_set}
 use Rattle.std.specs.List.{slice_get}
 use Rattle.std.specs.Option.{option_map_or}
 use Rattle.std.proofs.lemmas.List.{get_or-set_same, length-set}
 use Rattle.std.proofs.lemmas.Option.{slice_get-get_or, slice_get_within, same_Some}
+use Rattle.audit_model.specs.declared.command.Closing.TheVariants as by
+use Rattle.cache_connections.proofs.Listed.{put-back as put-twice}
 use Rattle.cache_core.specs.Fed.{ReplacedAt}
-use Rattle.cache_core.specs.Places.{closing_at, text_at}
-use Rattle.cache_connection.specs.Shown.{open_from, shown}
 use Rattle.cache_core.specs.State.{at_number}
 use Rattle.cache_connection.specs.declared.connection.Connection.{Connection}
+use Rattle.cache_connections.specs.Presence.{Gone, Here, Out, Presence, closing_at, closing_of, is_here, reply_text_of, text_at}
 
 pub at-place : {X : Type 0} (xs : List X) (i : ℕ) (x : X) → i < length xs → x ≡ get_or xs i x → slice_get xs i ≡ Some x
 at-place xs i x lt is = slice_get-get_or xs i x lt ∙ ap Some (sym is)
@@ -17,29 +18,29 @@ at-place xs i x lt is = slice_get-get_or xs i x lt ∙ ap Some (sym is)
 pub at-replaced : {X : Type 0} (xs : List X) (i : ℕ) (x : X) → i < length xs → slice_get (slice_set xs i x) i ≡ Some x
 at-replaced xs i x lt = slice_get-get_or (slice_set xs i x) i x (let e = length-set xs i x in omega arith) ∙ ap Some (get_or-set_same xs i x x lt)
 
-pub text-is : (cs : List Connection) (i : ℕ) (c : Connection) → slice_get cs i ≡ Some c → text_at cs i ≡ c.output.text.items
-text-is cs i c at = ap (λ o. option_map_or (λ (k : Connection). k.output.text.items) o []) at
+pub text-is : (cs : List Presence) (i : ℕ) (c : Connection) → slice_get cs i ≡ Some (Here c) → text_at cs i ≡ c.output.text.items
+text-is cs i c at = ap (λ o. option_map_or reply_text_of o []) at
 
-pub closing-is : (cs : List Connection) (i : ℕ) (c : Connection) → slice_get cs i ≡ Some c → closing_at cs i ≡ c.closing
-closing-is cs i c at = ap (λ o. option_map_or (λ (k : Connection). k.closing) o None) at
+pub closing-is : (cs : List Presence) (i : ℕ) (c : Connection) → slice_get cs i ≡ Some (Here c) → closing_at cs i ≡ c.closing
+closing-is cs i c at = ap (λ o. option_map_or closing_of o None) at
 
 -- the connection that was put at a place stands there
-pub replaced-is : (old new : List Connection) (i : ℕ) → (p : ReplacedAt old new i) → slice_get new i ≡ Some p.is
-replaced-is old new i p = ap (λ cs. slice_get cs i) p.set ∙ at-replaced old i p.is (slice_get_within old i p.was p.at)
+pub replaced-is : (old new : List Presence) (i : ℕ) → (p : ReplacedAt old new i) → slice_get new i ≡ Some (Here p.is)
+replaced-is old new i p = ap (λ cs. slice_get cs i) p.set ∙ at-replaced old i (Here p.is) (slice_get_within old i (Here p.was) p.at)
 
 -- what is seen under a number, where the connection at a place was replaced
-pub seen-at : {A : Type 0} (f : Connection → A) (d : A) (cs : List Connection) (i : ℕ) (new : Connection) → i < length cs → at_number d (map f (slice_set cs i new)) (suc i) ≡ f new
+pub seen-at : {A : Type 0} (f : Presence → A) (d : A) (cs : List Presence) (i : ℕ) (new : Presence) → i < length cs → at_number d (map f (slice_set cs i new)) (suc i) ≡ f new
 seen-at f d [] i new lt = absurd (omega arith)
 seen-at f d (c ∷ cs) zero new lt = refl
 seen-at f d (c ∷ cs) (suc i) new lt = seen-at f d cs i new (omega arith)
 
-pub seen-was : {A : Type 0} (f : Connection → A) (d : A) (cs : List Connection) (i : ℕ) (old : Connection) → slice_get cs i ≡ Some old → at_number d (map f cs) (suc i) ≡ f old
+pub seen-was : {A : Type 0} (f : Presence → A) (d : A) (cs : List Presence) (i : ℕ) (old : Presence) → slice_get cs i ≡ Some old → at_number d (map f cs) (suc i) ≡ f old
 seen-was f d [] i old at = let no : None ≡ Some old = at in cc
 seen-was f d (c ∷ cs) zero old at = ap f (same_Some c old at)
 seen-was f d (c ∷ cs) (suc i) old at = seen-was f d cs i old at
 
 -- under another number
-pub seen-other : {A : Type 0} (f : Connection → A) (d : A) (cs : List Connection) (i n : ℕ) (new : Connection) → n ≢ suc i → at_number d (map f (slice_set cs i new)) n ≡ at_number d (map f cs) n
+pub seen-other : {A : Type 0} (f : Presence → A) (d : A) (cs : List Presence) (i n : ℕ) (new : Presence) → n ≢ suc i → at_number d (map f (slice_set cs i new)) n ≡ at_number d (map f cs) n
 seen-other f d cs i zero new ne = refl
 seen-other f d [] i (suc n) new ne = refl
 seen-other f d (c ∷ cs) zero (suc zero) new ne = absurd (ne refl)
@@ -48,16 +49,55 @@ seen-other f d (c ∷ cs) (suc i) (suc zero) new ne = refl
 seen-other f d (c ∷ cs) (suc i) (suc (suc n)) new ne = seen-other f d cs i (suc n) new (λ e. ne (ap suc e))
 
 -- all the same where what is seen stays
-pub seen-same : {A : Type 0} (f : Connection → A) (cs : List Connection) (i : ℕ) (old new : Connection) → slice_get cs i ≡ Some old → f new ≡ f old → map f (slice_set cs i new) ≡ map f cs
+pub seen-same : {A : Type 0} (f : Presence → A) (cs : List Presence) (i : ℕ) (old new : Presence) → slice_get cs i ≡ Some old → f new ≡ f old → map f (slice_set cs i new) ≡ map f cs
 seen-same f [] i old new at e = refl
 seen-same f (c ∷ cs) zero old new at e = ap (λ x. x ∷ map f cs) (e ∙ sym (ap f (same_Some c old at)))
 seen-same f (c ∷ cs) (suc i) old new at e = ap (λ xs. f c ∷ xs) (seen-same f cs i old new at e)
 
--- the same connections are listed
-pub listed-same : (n i : ℕ) (old new : Connection) (cs : List Connection) → slice_get cs i ≡ Some old → new.closing ≡ old.closing → ((k : ℕ) → shown k new ≡ shown k old) → open_from n (slice_set cs i new) ≡ open_from n cs
-listed-same n i old new [] at closing shows = refl
-listed-same n zero old new (c ∷ cs) at closing shows =
-    ap (λ x. if is_none x then shown n new ∷ open_from (suc n) cs else open_from (suc n) cs) closing
-    ∙ ap (λ k. if is_none old.closing then k ∷ open_from (suc n) cs else open_from (suc n) cs) (shows n)
-    ∙ sym (ap (λ (k : Connection). if is_none k.closing then shown n k ∷ open_from (suc n) cs else open_from (suc n) cs) (same_Some c old at))
-listed-same n (suc i) old new (c ∷ cs) at closing shows = ap (λ ks. if is_none c.closing then shown n c ∷ ks else ks) (listed-same (suc n) i old new cs at closing shows)
+-- ---- a connection that is here
+
+pub same-Here : (c d : Connection) → Here c ≡ Here d → c ≡ d
+same-Here c d e = ap (λ p. connection_in p) e
+  where
+    connection_in : Presence → Connection
+    connection_in (Here x) = x
+    connection_in Out = c
+    connection_in (Gone why) = c
+
+pub same-here : (o : Option Presence) (c d : Connection) → o ≡ Some (Here c) → o ≡ Some (Here d) → c ≡ d
+same-here o c d e f = same-Here c d (same_Some (Here c) (Here d) (sym e ∙ f))
+
+-- an open connection is here
+pub here-open : (cs : List Presence) (i : ℕ) → i < length cs → closing_at cs i ≡ None → (c : Connection) × (slice_get cs i ≡ Some (Here c)) × (c.closing ≡ None)
+here-open [] i lt is_open = absurd (omega (arith, lt))
+here-open (Here c ∷ cs) zero lt is_open = (c, refl, is_open)
+here-open (Out ∷ cs) zero lt is_open = let no : Some by.Asked ≡ None = is_open in cc
+here-open (Gone why ∷ cs) zero lt is_open = let no : Some why ≡ None = is_open in cc
+here-open (c ∷ cs) (suc i) lt is_open = here-open cs i (omega (arith, lt)) is_open
+
+pub is-here : (o : Option Presence) (c : Connection) → o ≡ Some (Here c) → is_here o ≡ true
+is-here o c e = ap is_here e
+
+pub here-is : (o : Option Presence) → is_here o ≡ true → (c : Connection) × (o ≡ Some (Here c))
+here-is None e = let no : false ≡ true = e in cc
+here-is (Some (Here c)) e = (c, refl)
+here-is (Some Out) e = let no : false ≡ true = e in cc
+here-is (Some (Gone why)) e = let no : false ≡ true = e in cc
+
+-- ---- one that is taken out and put back
+
+pub out-at : (cs mid : List Presence) (i : ℕ) (c : Connection) → slice_get cs i ≡ Some (Here c) → mid ≡ slice_set cs i Out → slice_get mid i ≡ Some Out
+out-at cs mid i c at rest = ap (λ ps. slice_get ps i) rest ∙ at-replaced cs i Out (slice_get_within cs i (Here c) at)
+
+-- another connection is put in its place
+pub put-back : (cs mid new : List Presence) (i : ℕ) (is : Connection) → mid ≡ slice_set cs i Out → new ≡ slice_set mid i (Here is) → new ≡ slice_set cs i (Here is)
+put-back cs mid new i is rest put = put ∙ ap (λ ps. slice_set ps i (Here is)) rest ∙ put-twice cs i is
+
+-- what was looked at, and was there or was not
+pub was-none : {X : Type 0} (o : Option X) (Q : Type 0) (P : X → Type 0) → is_some o ≡ false → MatchOption o Q P → Q
+was-none None Q P e m = m
+was-none (Some x) Q P e m = let no : true ≡ false = e in cc
+
+pub was-some : {X : Type 0} (o : Option X) (Q R : Type 0) (P : X → Type 0) → ((x : X) → P x → R) → is_some o ≡ true → MatchOption o Q P → R
+was-some None Q R P f e m = let no : false ≡ true = e in cc
+was-some (Some x) Q R P f e m = f x m

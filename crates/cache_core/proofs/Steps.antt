@@ -1,13 +1,12 @@
 -- Parts of a record in which one connection has its steps.
-use Rattle.std.proofs.Common.{◌≡◌, ℕ, suc, ◌+◌, ◌≤◌, Bool, true, false, not, ◌||◌, ◌&&◌, ◌==◌, List, [], ◌∷◌, ◌++◌, length, map, Option, Some, None, if◌then◌else◌, refl, sym, ap, ◌∙◌, subst, arith, inl, inr}
-use Rattle.std.specs.Prelude.{is_none, is_some, slice_set, ◌⊎◌}
-use Rattle.std.specs.List.{find, flat_map, list_all, slice_get}
+use Rattle.std.proofs.Common.{◌≡◌, ℕ, suc, Bool, true, false, ◌&&◌, ◌==◌, List, [], ◌∷◌, ◌++◌, map, Option, Some, None, if◌then◌else◌, refl, sym, ap, ◌∙◌, subst, inl, inr}
+use Rattle.std.specs.Prelude.{is_none, is_some, slice_set}
+use Rattle.std.specs.List.{flat_map, list_all, slice_get}
 use Rattle.std.specs.Option.{option_map, option_map_or}
 use Rattle.std.proofs.lemmas.Bool.{and_from, eq-eqb}
 use Rattle.std.proofs.lemmas.List.{append-nil, set-get_or}
 use Rattle.std.proofs.lemmas.Option.{get_or_from_slice_get}
 use Rattle.audit_model.specs.Bytewise.{is_empty}
-use Rattle.audit_model.specs.Follows.{after_steps}
 use Rattle.audit_model.specs.Places.{tasks_to_feed}
 use Rattle.audit_model.specs.Situation as model
 use Rattle.audit_model.specs.Situation.{HeldValue, Situation, connection_in, is_ready, may_run_in, without_connection}
@@ -20,8 +19,9 @@ use Rattle.cache_connection.specs.Again.{EndsCalm, StepRan}
 use Rattle.cache_connection.specs.Fed.{FedRan, closing_by}
 use Rattle.cache_connection.specs.Fits.{ClosesFor, RunsOn}
 use Rattle.cache_connection.specs.Parts.{standing_as}
-use Rattle.cache_connection.specs.Shown.{open_from, put_in, shown, with_piece}
+use Rattle.cache_connection.specs.Shown.{put_in, shown, with_piece}
 use Rattle.cache_connection.specs.declared.connection.Connection.{Connection}
+use Rattle.cache_connections.specs.Presence.{Gone, Here, Out, Presence, closing_at, is_here, reply_text_of, text_at}
 use Rattle.cache_leads.specs.Leads.{BeginsUnknown, TasksLead}
 use Rattle.cache_leads.proofs.Leading.{lines, no-lines, nothing}
 use Rattle.cache_lines.specs.Drawing.{identifiers_in}
@@ -38,17 +38,16 @@ use Rattle.cache_loads.specs.declared.standing.Standing.TheVariants as now_is
 use Rattle.cache_store.specs.Values.{Values}
 use Rattle.cache_tape.specs.Taped.{Taped}
 use Rattle.cache_core.specs.Fed.{ReplacedAt, seen_at}
-use Rattle.cache_core.specs.Places.{closing_at, text_at}
-use Rattle.cache_core.specs.Settled.{Absent, Closed, Course, Moves, Piece, Resting, Running, course_at, course_of, closing_of_steps, middle_of}
+use Rattle.cache_core.specs.Settled.{Moves, Piece, Running, course_at, course_of, closing_of_steps, middle_of}
 use Rattle.cache_core.specs.Settling.{runs_at, runs_with}
 use Rattle.cache_core.specs.State.{at_number}
 use Rattle.cache_core.specs.Turned.{own_steps, replies_to}
 use Rattle.cache_core.proofs.Courses.{moves-none}
-use Rattle.cache_core.proofs.Joined.{GatheredApart, gathered-apart, moves-by}
+use Rattle.cache_core.proofs.Joined.{gathered-apart, moves-by}
 use Rattle.cache_core.proofs.Opened.{none-more}
 use Rattle.cache_core.proofs.Own.{all-own, feed-own}
 use Rattle.cache_core.proofs.Spots.{closing-is, replaced-is, text-is}
-use Rattle.cache_core.proofs.Table.{listed_as}
+use Rattle.cache_core.proofs.Table.{listed_as, listed_of}
 use Rattle.cache_core.proofs.Turning.{found-is, found-open, outputs-by, put-situation, sit}
 
 -- ---- no step
@@ -95,15 +94,15 @@ moves-lines config steps quit silent was is standing standing' was_open ready qu
 -- ---- the connection where it stands
 
 -- what is put where it stands changes nothing
-put-same : (latest m i : ℕ) (l : UnderWay) (cs : List Connection) (dropped : Bool) (held : List HeldValue) (c : Connection) → m ≡ suc i → slice_get cs i ≡ Some c → c.closing ≡ None
+put-same : (latest m i : ℕ) (l : UnderWay) (cs : List Presence) (dropped : Bool) (held : List HeldValue) (c : Connection) → m ≡ suc i → slice_get cs i ≡ Some (Here c) → c.closing ≡ None
     → set_in (sit latest l cs dropped held) held (shown m c) ≡ sit latest l cs dropped held
 put-same latest m i l cs dropped held c e at is_open =
     let s = sit latest l cs dropped held in
     sym (ap (λ o. if is_none o then set_in s held (shown m c) else without_connection m (record s { held = held })) is_open)
     ∙ put-situation latest m i l c c cs dropped held held e at is_open
-    ∙ ap (λ o. sit latest (when_left (is_none o) m l) (slice_set cs i c) dropped held) is_open
-    ∙ ap (λ k. sit latest l (slice_set cs i k) dropped held) (sym (get_or_from_slice_get cs i c c at))
-    ∙ ap (λ ks. sit latest l ks dropped held) (set-get_or cs i c)
+    ∙ ap (λ o. sit latest (when_left (is_none o) m l) (slice_set cs i (Here c)) dropped held) is_open
+    ∙ ap (λ k. sit latest l (slice_set cs i k) dropped held) (sym (get_or_from_slice_get cs i (Here c) (Here c) at))
+    ∙ ap (λ ks. sit latest l ks dropped held) (set-get_or cs i (Here c))
 
 -- a connection that runs no lines
 idle-stops : (m : ℕ) (closing : Option Closing) (standing : Standing) (times : ℕ) (bytes : List ℕ) → runs_with closing standing ≡ false
@@ -113,6 +112,11 @@ idle-stops m None now_is.Ready times bytes e = let no : true ≡ false = e in cc
 idle-stops m None now_is.Held times bytes e = refl
 idle-stops m None now_is.Waiting times bytes e = refl
 
+idle-one : (m : ℕ) (p : Presence) → runs_at (Some p) ≡ false → option_map_or (λ (k : model.Connection). is_ready k.standing && is_some (first_line k.unread)) (listed_of m p) false ≡ false
+idle-one m (Here c) e = idle-stops m c.closing c.standing c.waited c.unread.bytes e
+idle-one m Out e = refl
+idle-one m (Gone why) e = refl
+
 piece-nothing : (c : model.Connection) → with_piece [] c ≡ c
 piece-nothing c = ap (λ bs. record c { unread = bs }) (append-nil c.unread)
 
@@ -121,28 +125,28 @@ module _ {S T : Type 0} (view : S → Values) (tape : T → Option Taped) (now :
   frame_was = making_of (view was.store).frame
 
   -- nothing happened
-  pub piece-none : (cs : List Connection) (held : List HeldValue) → (view was.store).Stands held → Piece view tape frame_was now was was cs cs [] held
+  pub piece-none : (cs : List Presence) (held : List HeldValue) → (view was.store).Stands held → Piece view tape frame_was now was was cs cs [] held
   piece-none cs held stands = record {
     steps = [];
     left = held;
     stands = stands;
     leads = λ more. nothing frame_was.config frame_was (middle_of (view was.store) now (under_way was.loads) cs held) more (identifiers_in (view was.store));
-    outputs = λ n. none-more (is_some (tape was.tape)) (at_number [] (map (λ (c : Connection). c.output.text.items) cs) n);
+    outputs = λ n. none-more (is_some (tape was.tape)) (at_number [] (map reply_text_of cs) n);
     kept = adds-none (tape was.tape);
     notes = none-more (is_some (tape was.tape)) (view was.store).untaken;
     moves = λ n. moves-none frame_was.config (course_at cs n);
   }
 
-  pub none-begins : (config : Config) (cs : List Connection) (held : List HeldValue) (stands : (view was.store).Stands held) → BeginsUnknown config (piece-none cs held stands).steps
+  pub none-begins : (config : Config) (cs : List Presence) (held : List HeldValue) (stands : (view was.store).Stands held) → BeginsUnknown config (piece-none cs held stands).steps
   unfolding piece-none
   none-begins config cs held stands = tt
 
-  module _ (m i : ℕ) (cs ds : List Connection) (p : ReplacedAt cs ds i) (e : m ≡ suc i) (was_open : p.was.closing ≡ None) where
+  module _ (m i : ℕ) (cs ds : List Presence) (p : ReplacedAt cs ds i) (e : m ≡ suc i) (was_open : p.was.closing ≡ None) where
     -- the texts, where the steps are the connection's own
     texts-own : (steps : List Step) → text_at ds i ≡ text_at cs i ++ (if is_some (tape was.tape) then [] else flat_map reply_in steps) → list_all (λ step. step.conn == suc i) steps ≡ true
-        → (n : ℕ) → at_number [] (map (λ c. c.output.text.items) ds) n ≡ at_number [] (map (λ c. c.output.text.items) cs) n ++ (if is_some (tape was.tape) then [] else replies_to n steps)
+        → (n : ℕ) → at_number [] (map reply_text_of ds) n ≡ at_number [] (map reply_text_of cs) n ++ (if is_some (tape was.tape) then [] else replies_to n steps)
     texts-own steps text own n =
-        subst (λ ks. at_number [] (map (λ (c : Connection). c.output.text.items) ks) n ≡ at_number [] (map (λ (c : Connection). c.output.text.items) cs) n ++ (if is_some (tape was.tape) then [] else replies_to n steps)) (sym p.set)
+        subst (λ ks. at_number [] (map reply_text_of ks) n ≡ at_number [] (map reply_text_of cs) n ++ (if is_some (tape was.tape) then [] else replies_to n steps)) (sym p.set)
         (outputs-by cs i p.was p.is steps (is_some (tape was.tape)) p.at
         (sym (text-is ds i p.is (replaced-is cs ds i p)) ∙ text ∙ ap (λ t. t ++ (if is_some (tape was.tape) then [] else flat_map reply_in steps)) (text-is cs i p.was p.at)) own n)
 
@@ -161,7 +165,7 @@ module _ {S T : Type 0} (view : S → Values) (tape : T → Option Taped) (now :
         let own : list_all (λ (step : Step). step.conn == suc i) steps ≡ true = and_from (x.step.conn == suc i) true (eq-eqb x.step.conn (suc i) (x.own ∙ e)) refl in
         let target : put_in (with_under_way (under_way is.loads) (with_drops (view is.store).frame.dropped s)) x.left m p.is ≡ middle_of (view is.store) now (under_way is.loads) ds x.left =
         put-situation now m i (under_way is.loads) p.was p.is cs (view is.store).frame.dropped held x.left e p.at was_open
-        ∙ ap (λ o. sit now (when_left (is_none o) m (under_way is.loads)) (slice_set cs i p.is) (view is.store).frame.dropped x.left) r.is_open
+        ∙ ap (λ o. sit now (when_left (is_none o) m (under_way is.loads)) (slice_set cs i (Here p.is)) (view is.store).frame.dropped x.left) r.is_open
         ∙ ap (λ ks. sit now (under_way is.loads) ks (view is.store).frame.dropped x.left) (sym p.set) in (
           record {
             steps = steps;
@@ -212,13 +216,13 @@ module _ {S T : Type 0} (view : S → Values) (tape : T → Option Taped) (now :
         }
 
   -- no line of it may run
-  pub piece-idle : (m i : ℕ) (cs : List Connection) (c : Connection) → m ≡ suc i → slice_get cs i ≡ Some c → runs_with c.closing c.standing ≡ false → (held : List HeldValue) → (view was.store).Stands held
+  pub piece-idle : (m i : ℕ) (cs : List Presence) (p : Presence) → m ≡ suc i → slice_get cs i ≡ Some p → runs_at (Some p) ≡ false → (held : List HeldValue) → (view was.store).Stands held
       → Piece view tape frame_was now was was cs cs (RunLines m ∷ []) held
   unfolding piece-none
-  piece-idle m i cs c e at idle held stands =
+  piece-idle m i cs p e at idle held stands =
       let s = sit now (under_way was.loads) cs (view was.store).frame.dropped held in
       let none = piece-none cs held stands in
-      let stops : may_run_in s m ≡ false = ap (λ o. option_map_or (λ (k : model.Connection). is_ready k.standing && is_some (first_line k.unread)) o false) (found-is m i c cs e at) ∙ idle-stops m c.closing c.standing c.waited c.unread.bytes idle in
+      let stops : may_run_in s m ≡ false = ap (λ o. option_map_or (λ (k : model.Connection). is_ready k.standing && is_some (first_line k.unread)) o false) (found-is m i p cs e at) ∙ idle-one m p idle in
       record {
         steps = [];
         left = held;
@@ -231,8 +235,18 @@ module _ {S T : Type 0} (view : S → Values) (tape : T → Option Taped) (now :
       }
 
 -- where one runs lines, or does not
-pub runs-here : (closing : Option Closing) (standing : Standing) → runs_with closing standing ≡ true → (standing ≡ now_is.Ready) × (closing ≡ None)
+runs-here : (closing : Option Closing) (standing : Standing) → runs_with closing standing ≡ true → (standing ≡ now_is.Ready) × (closing ≡ None)
 runs-here (Some by) standing e = let no : false ≡ true = e in cc
 runs-here None now_is.Ready e = (refl, refl)
 runs-here None now_is.Held e = let no : false ≡ true = e in cc
 runs-here None now_is.Waiting e = let no : false ≡ true = e in cc
+
+-- one that runs lines is here
+pub runs-is : (o : Option Presence) (c : Connection) → o ≡ Some (Here c) → runs_at o ≡ true → (c.standing ≡ now_is.Ready) × (c.closing ≡ None)
+runs-is o c at e = runs-here c.closing c.standing (sym (ap runs_at at) ∙ e)
+
+pub runs-is-here : (o : Option Presence) → runs_at o ≡ true → is_here o ≡ true
+runs-is-here None e = let no : false ≡ true = e in cc
+runs-is-here (Some (Here c)) e = refl
+runs-is-here (Some Out) e = e
+runs-is-here (Some (Gone why)) e = e

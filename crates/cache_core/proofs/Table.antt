@@ -5,8 +5,9 @@ use Rattle.std.specs.List.{find}
 use Rattle.std.proofs.lemmas.Bool.{eq-eqb, eqb-true}
 use Rattle.audit_model.specs.Situation as model
 use Rattle.audit_model.specs.Situation.{without_number}
-use Rattle.cache_connection.specs.Shown.{shown, open_from}
+use Rattle.cache_connection.specs.Shown.{shown}
 use Rattle.cache_connection.specs.declared.connection.Connection.{Connection}
+use Rattle.cache_connections.specs.Presence.{Gone, Here, Out, Presence, open_from}
 
 -- numbers that differ
 pub apart : (a b : ℕ) → a < b → (a == b) ≡ false
@@ -27,119 +28,141 @@ apart_back a b lt = go (a == b) refl
 abbrev pub listed_as : Bool → model.Connection → Option model.Connection
 listed_as listed c = if listed then Some c else None
 
--- none of the connections from n on has a number below
-pub none-below : (m n : ℕ) (cs : List Connection) → m < n → find (λ k. k.number == m) (open_from n cs) ≡ None
-none-below m n [] lt = refl
-none-below m n (c ∷ cs) lt = go (none-below m (suc n) cs (omega arith)) (is_none c.closing)
-  where
-    go : find (λ k. k.number == m) (open_from (suc n) cs) ≡ None → (b : Bool) → find (λ k. k.number == m) (if b then shown n c ∷ open_from (suc n) cs else open_from (suc n) cs) ≡ None
-    go next true = ap (λ t. cond t (Some (shown n c)) (find (λ k. k.number == m) (open_from (suc n) cs))) (apart_back n m lt) ∙ next
-    go next false = next
+-- and of one that was opened
+abbrev pub listed_of : ℕ → Presence → Option model.Connection
+listed_of m (Here c) = listed_as (is_none c.closing) (shown m c)
+listed_of m Out = None
+listed_of m (Gone why) = None
 
-swap-above : (m n : ℕ) (new : model.Connection) (cs : List Connection) → m < n → map (λ (k : model.Connection). if k.number == m then new else k) (open_from n cs) ≡ open_from n cs
+-- one of another number is passed over
+pub passed-over : (m n : ℕ) (p : Presence) (ps : List Presence) → (n == m) ≡ false → find (λ k. k.number == m) (open_from n (p ∷ ps)) ≡ find (λ k. k.number == m) (open_from (suc n) ps)
+passed-over m n (Here c) ps other = go (is_none c.closing)
+  where
+    go : (b : Bool) → find (λ (k : model.Connection). k.number == m) (if b then shown n c ∷ open_from (suc n) ps else open_from (suc n) ps) ≡ find (λ (k : model.Connection). k.number == m) (open_from (suc n) ps)
+    go true = ap (λ t. cond t (Some (shown n c)) (find (λ (k : model.Connection). k.number == m) (open_from (suc n) ps))) other
+    go false = refl
+passed-over m n Out ps other = refl
+passed-over m n (Gone why) ps other = refl
+
+-- none of the connections from n on has a number below
+pub none-below : (m n : ℕ) (cs : List Presence) → m < n → find (λ k. k.number == m) (open_from n cs) ≡ None
+none-below m n [] lt = refl
+none-below m n (c ∷ cs) lt = passed-over m n c cs (apart_back n m lt) ∙ none-below m (suc n) cs (omega arith)
+
+swap-above : (m n : ℕ) (new : model.Connection) (cs : List Presence) → m < n → map (λ (k : model.Connection). if k.number == m then new else k) (open_from n cs) ≡ open_from n cs
 swap-above m n new [] lt = refl
-swap-above m n new (c ∷ cs) lt = go (swap-above m (suc n) new cs (omega arith)) (is_none c.closing)
+swap-above m n new (Here c ∷ cs) lt = go (swap-above m (suc n) new cs (omega arith)) (is_none c.closing)
   where
     go : map (λ (k : model.Connection). if k.number == m then new else k) (open_from (suc n) cs) ≡ open_from (suc n) cs
         → (b : Bool) → map (λ (k : model.Connection). if k.number == m then new else k) (if b then shown n c ∷ open_from (suc n) cs else open_from (suc n) cs) ≡ (if b then shown n c ∷ open_from (suc n) cs else open_from (suc n) cs)
     go next true = ap (λ t. (if t then new else shown n c) ∷ map (λ (k : model.Connection). if k.number == m then new else k) (open_from (suc n) cs)) (apart_back n m lt) ∙ ap (λ ks. shown n c ∷ ks) next
     go next false = next
+swap-above m n new (Out ∷ cs) lt = swap-above m (suc n) new cs (omega arith)
+swap-above m n new (Gone why ∷ cs) lt = swap-above m (suc n) new cs (omega arith)
 
-drop-above : (m n : ℕ) (cs : List Connection) → m < n → without_number m (open_from n cs) ≡ open_from n cs
+drop-above : (m n : ℕ) (cs : List Presence) → m < n → without_number m (open_from n cs) ≡ open_from n cs
 drop-above m n [] lt = refl
-drop-above m n (c ∷ cs) lt = go (drop-above m (suc n) cs (omega arith)) (is_none c.closing)
+drop-above m n (Here c ∷ cs) lt = go (drop-above m (suc n) cs (omega arith)) (is_none c.closing)
   where
     go : without_number m (open_from (suc n) cs) ≡ open_from (suc n) cs
         → (b : Bool) → without_number m (if b then shown n c ∷ open_from (suc n) cs else open_from (suc n) cs) ≡ (if b then shown n c ∷ open_from (suc n) cs else open_from (suc n) cs)
     go next true = ap (λ t. cond (not t) (shown n c ∷ without_number m (open_from (suc n) cs)) (without_number m (open_from (suc n) cs))) (apart_back n m lt) ∙ ap (λ ks. shown n c ∷ ks) next
     go next false = next
+drop-above m n (Out ∷ cs) lt = drop-above m (suc n) cs (omega arith)
+drop-above m n (Gone why ∷ cs) lt = drop-above m (suc n) cs (omega arith)
+
+-- the first of them is found under its number, where it is open
+pub found-first : (n : ℕ) (p : Presence) (ps : List Presence) → find (λ k. k.number == n) (open_from (suc n) ps) ≡ None → find (λ k. k.number == n) (open_from n (p ∷ ps)) ≡ listed_of n p
+found-first n (Here c) ps none = go (is_none c.closing)
+  where
+    go : (b : Bool) → find (λ (x : model.Connection). x.number == n) (if b then shown n c ∷ open_from (suc n) ps else open_from (suc n) ps) ≡ listed_as b (shown n c)
+    go true = ap (λ t. cond t (Some (shown n c)) (find (λ (x : model.Connection). x.number == n) (open_from (suc n) ps))) (eq-eqb n n refl)
+    go false = none
+found-first n Out ps none = none
+found-first n (Gone why) ps none = none
 
 -- the connection of a number is the one at its place, if it is open
-pub found-at : (m n i : ℕ) (c : Connection) (cs : List Connection) → m ≡ n + i → i < length cs → get_or cs i c ≡ c
-    → find (λ k. k.number == m) (open_from n cs) ≡ listed_as (is_none c.closing) (shown m c)
+pub found-at : (m n i : ℕ) (c : Presence) (cs : List Presence) → m ≡ n + i → i < length cs → get_or cs i c ≡ c
+    → find (λ k. k.number == m) (open_from n cs) ≡ listed_of m c
 found-at m n i c [] e lt at = absurd (omega arith)
 found-at m n zero c (d ∷ ds) e lt at =
     let m_is : m ≡ n = omega arith in
     ap (λ k. find (λ (x : model.Connection). x.number == k) (open_from n (d ∷ ds))) m_is
-    ∙ go (none-below n (suc n) ds (omega arith)) (is_none d.closing)
-    ∙ ap (λ k. listed_as (is_none d.closing) (shown k d)) (sym m_is)
-    ∙ ap (λ (x : Connection). listed_as (is_none x.closing) (shown m x)) at
-  where
-    go : find (λ (x : model.Connection). x.number == n) (open_from (suc n) ds) ≡ None
-        → (b : Bool) → find (λ (x : model.Connection). x.number == n) (if b then shown n d ∷ open_from (suc n) ds else open_from (suc n) ds) ≡ listed_as b (shown n d)
-    go none true = ap (λ t. cond t (Some (shown n d)) (find (λ (x : model.Connection). x.number == n) (open_from (suc n) ds))) (eq-eqb n n refl)
-    go none false = none
-found-at m n (suc i) c (d ∷ ds) e lt at = go (found-at m (suc n) i c ds (omega arith) (omega arith) at) (is_none d.closing)
-  where
-    go : find (λ (x : model.Connection). x.number == m) (open_from (suc n) ds) ≡ listed_as (is_none c.closing) (shown m c)
-        → (b : Bool) → find (λ (x : model.Connection). x.number == m) (if b then shown n d ∷ open_from (suc n) ds else open_from (suc n) ds) ≡ listed_as (is_none c.closing) (shown m c)
-    go next true = ap (λ t. cond t (Some (shown n d)) (find (λ (x : model.Connection). x.number == m) (open_from (suc n) ds))) (apart n m (omega arith)) ∙ next
-    go next false = next
+    ∙ found-first n d ds (none-below n (suc n) ds (omega arith))
+    ∙ ap (λ k. listed_of k d) (sym m_is)
+    ∙ ap (listed_of m) at
+found-at m n (suc i) c (d ∷ ds) e lt at = passed-over m n d ds (apart n m (omega arith)) ∙ found-at m (suc n) i c ds (omega arith) (omega arith) at
 
 -- a connection that stays open is put in its place
-pub swapped-at : (m n i : ℕ) (old new : Connection) (cs : List Connection) → m ≡ n + i → i < length cs → get_or cs i old ≡ old → is_none old.closing ≡ true → is_none new.closing ≡ true
-    → map (λ (k : model.Connection). if k.number == m then shown m new else k) (open_from n cs) ≡ open_from n (slice_set cs i new)
+pub swapped-at : (m n i : ℕ) (old new : Connection) (cs : List Presence) → m ≡ n + i → i < length cs → get_or cs i (Here old) ≡ Here old → is_none old.closing ≡ true → is_none new.closing ≡ true
+    → map (λ (k : model.Connection). if k.number == m then shown m new else k) (open_from n cs) ≡ open_from n (slice_set cs i (Here new))
 swapped-at m n i old new [] e lt at was is = absurd (omega arith)
 swapped-at m n zero old new (d ∷ ds) e lt at was is =
     let m_is : m ≡ n = omega arith in
-    ap (λ b. map (λ (k : model.Connection). if k.number == m then shown m new else k) (if b then shown n d ∷ open_from (suc n) ds else open_from (suc n) ds))
-    (ap (λ (x : Connection). is_none x.closing) at ∙ was)
-    ∙ ap (λ t. (if t then shown m new else shown n d) ∷ map (λ (k : model.Connection). if k.number == m then shown m new else k) (open_from (suc n) ds)) (eq-eqb n m (sym m_is))
+    ap (λ p. map (λ (k : model.Connection). if k.number == m then shown m new else k) (open_from n (p ∷ ds))) at
+    ∙ ap (λ b. map (λ (k : model.Connection). if k.number == m then shown m new else k) (if b then shown n old ∷ open_from (suc n) ds else open_from (suc n) ds)) was
+    ∙ ap (λ t. (if t then shown m new else shown n old) ∷ map (λ (k : model.Connection). if k.number == m then shown m new else k) (open_from (suc n) ds)) (eq-eqb n m (sym m_is))
     ∙ ap (λ ks. shown m new ∷ ks) (swap-above m (suc n) (shown m new) ds (omega arith))
     ∙ ap (λ k. shown k new ∷ open_from (suc n) ds) m_is
     ∙ sym (ap (λ b. if b then shown n new ∷ open_from (suc n) ds else open_from (suc n) ds) is)
-swapped-at m n (suc i) old new (d ∷ ds) e lt at was is = go (swapped-at m (suc n) i old new ds (omega arith) (omega arith) at was is) (is_none d.closing)
+swapped-at m n (suc i) old new (Here d ∷ ds) e lt at was is = go (swapped-at m (suc n) i old new ds (omega arith) (omega arith) at was is) (is_none d.closing)
   where
-    go : map (λ (k : model.Connection). if k.number == m then shown m new else k) (open_from (suc n) ds) ≡ open_from (suc n) (slice_set ds i new)
+    go : map (λ (k : model.Connection). if k.number == m then shown m new else k) (open_from (suc n) ds) ≡ open_from (suc n) (slice_set ds i (Here new))
         → (b : Bool) → map (λ (k : model.Connection). if k.number == m then shown m new else k) (if b then shown n d ∷ open_from (suc n) ds else open_from (suc n) ds)
-        ≡ (if b then shown n d ∷ open_from (suc n) (slice_set ds i new) else open_from (suc n) (slice_set ds i new))
+        ≡ (if b then shown n d ∷ open_from (suc n) (slice_set ds i (Here new)) else open_from (suc n) (slice_set ds i (Here new)))
     go next true =
         ap (λ t. (if t then shown m new else shown n d) ∷ map (λ (k : model.Connection). if k.number == m then shown m new else k) (open_from (suc n) ds)) (apart n m (omega arith))
         ∙ ap (λ ks. shown n d ∷ ks) next
     go next false = next
+swapped-at m n (suc i) old new (Out ∷ ds) e lt at was is = swapped-at m (suc n) i old new ds (omega arith) (omega arith) at was is
+swapped-at m n (suc i) old new (Gone why ∷ ds) e lt at was is = swapped-at m (suc n) i old new ds (omega arith) (omega arith) at was is
+
+drop-first : (m n : ℕ) (d : Presence) (ds : List Presence) → without_number m (open_from (suc n) ds) ≡ open_from (suc n) ds → (n == m) ≡ true → without_number m (open_from n (d ∷ ds)) ≡ open_from (suc n) ds
+drop-first m n (Here d) ds next same = go (is_none d.closing)
+  where
+    go : (b : Bool) → without_number m (if b then shown n d ∷ open_from (suc n) ds else open_from (suc n) ds) ≡ open_from (suc n) ds
+    go true = ap (λ t. cond (not t) (shown n d ∷ without_number m (open_from (suc n) ds)) (without_number m (open_from (suc n) ds))) same ∙ next
+    go false = next
+drop-first m n Out ds next same = next
+drop-first m n (Gone why) ds next same = next
 
 -- a connection that is open no more leaves
-pub dropped-at : (m n i : ℕ) (new : Connection) (cs : List Connection) → m ≡ n + i → i < length cs → is_none new.closing ≡ false
-    → without_number m (open_from n cs) ≡ open_from n (slice_set cs i new)
+pub dropped-at : (m n i : ℕ) (new : Connection) (cs : List Presence) → m ≡ n + i → i < length cs → is_none new.closing ≡ false
+    → without_number m (open_from n cs) ≡ open_from n (slice_set cs i (Here new))
 dropped-at m n i new [] e lt is = absurd (omega arith)
 dropped-at m n zero new (d ∷ ds) e lt is =
     let m_is : m ≡ n = omega arith in
-    go (drop-above m (suc n) ds (omega arith)) (eq-eqb n m (sym m_is)) (is_none d.closing)
+    drop-first m n d ds (drop-above m (suc n) ds (omega arith)) (eq-eqb n m (sym m_is))
     ∙ sym (ap (λ b. if b then shown n new ∷ open_from (suc n) ds else open_from (suc n) ds) is)
+dropped-at m n (suc i) new (Here d ∷ ds) e lt is = go (dropped-at m (suc n) i new ds (omega arith) (omega arith) is) (is_none d.closing)
   where
-    go : without_number m (open_from (suc n) ds) ≡ open_from (suc n) ds → (n == m) ≡ true
-        → (b : Bool) → without_number m (if b then shown n d ∷ open_from (suc n) ds else open_from (suc n) ds) ≡ open_from (suc n) ds
-    go next same true = ap (λ t. cond (not t) (shown n d ∷ without_number m (open_from (suc n) ds)) (without_number m (open_from (suc n) ds))) same ∙ next
-    go next same false = next
-dropped-at m n (suc i) new (d ∷ ds) e lt is = go (dropped-at m (suc n) i new ds (omega arith) (omega arith) is) (is_none d.closing)
-  where
-    go : without_number m (open_from (suc n) ds) ≡ open_from (suc n) (slice_set ds i new)
+    go : without_number m (open_from (suc n) ds) ≡ open_from (suc n) (slice_set ds i (Here new))
         → (b : Bool) → without_number m (if b then shown n d ∷ open_from (suc n) ds else open_from (suc n) ds)
-        ≡ (if b then shown n d ∷ open_from (suc n) (slice_set ds i new) else open_from (suc n) (slice_set ds i new))
+        ≡ (if b then shown n d ∷ open_from (suc n) (slice_set ds i (Here new)) else open_from (suc n) (slice_set ds i (Here new)))
     go next true =
         ap (λ t. cond (not t) (shown n d ∷ without_number m (open_from (suc n) ds)) (without_number m (open_from (suc n) ds))) (apart n m (omega arith)) ∙ ap (λ ks. shown n d ∷ ks) next
     go next false = next
+dropped-at m n (suc i) new (Out ∷ ds) e lt is = dropped-at m (suc n) i new ds (omega arith) (omega arith) is
+dropped-at m n (suc i) new (Gone why ∷ ds) e lt is = dropped-at m (suc n) i new ds (omega arith) (omega arith) is
 
 -- a connection that was opened comes last
-pub opened-last : (n : ℕ) (cs : List Connection) (c : Connection) → is_none c.closing ≡ true → open_from n (cs ++ c ∷ []) ≡ open_from n cs ++ shown (n + length cs) c ∷ []
+pub opened-last : (n : ℕ) (cs : List Presence) (c : Connection) → is_none c.closing ≡ true → open_from n (cs ++ Here c ∷ []) ≡ open_from n cs ++ shown (n + length cs) c ∷ []
 opened-last n [] c is =
     let n_is : n + 0 ≡ n = omega arith in
     ap (λ b. if b then shown n c ∷ [] else []) is ∙ ap (λ k. shown k c ∷ []) (sym n_is)
-opened-last n (d ∷ ds) c is =
-    let n_is : n + length (d ∷ ds) ≡ suc n + length ds = omega arith in
+opened-last n (Here d ∷ ds) c is =
+    let n_is : n + length (Here d ∷ ds) ≡ suc n + length ds = omega arith in
     go (opened-last (suc n) ds c is ∙ ap (λ k. open_from (suc n) ds ++ shown k c ∷ []) (sym n_is)) (is_none d.closing)
   where
-    go : open_from (suc n) (ds ++ c ∷ []) ≡ open_from (suc n) ds ++ shown (n + length (d ∷ ds)) c ∷ []
-        → (b : Bool) → (if b then shown n d ∷ open_from (suc n) (ds ++ c ∷ []) else open_from (suc n) (ds ++ c ∷ []))
-        ≡ (if b then shown n d ∷ open_from (suc n) ds else open_from (suc n) ds) ++ shown (n + length (d ∷ ds)) c ∷ []
+    go : open_from (suc n) (ds ++ Here c ∷ []) ≡ open_from (suc n) ds ++ shown (n + length (Here d ∷ ds)) c ∷ []
+        → (b : Bool) → (if b then shown n d ∷ open_from (suc n) (ds ++ Here c ∷ []) else open_from (suc n) (ds ++ Here c ∷ []))
+        ≡ (if b then shown n d ∷ open_from (suc n) ds else open_from (suc n) ds) ++ shown (n + length (Here d ∷ ds)) c ∷ []
     go next true = ap (λ ks. shown n d ∷ ks) next
     go next false = next
+opened-last n (Out ∷ ds) c is = let n_is : n + length (Out ∷ ds) ≡ suc n + length ds = omega arith in opened-last (suc n) ds c is ∙ ap (λ k. open_from (suc n) ds ++ shown k c ∷ []) (sym n_is)
+opened-last n (Gone why ∷ ds) c is = let n_is : n + length (Gone why ∷ ds) ≡ suc n + length ds = omega arith in opened-last (suc n) ds c is ∙ ap (λ k. open_from (suc n) ds ++ shown k c ∷ []) (sym n_is)
 
 -- no connection has a number from n + length on
-pub none-beyond : (m n : ℕ) (cs : List Connection) → n + length cs < suc m → find (λ k. k.number == m) (open_from n cs) ≡ None
+pub none-beyond : (m n : ℕ) (cs : List Presence) → n + length cs < suc m → find (λ k. k.number == m) (open_from n cs) ≡ None
 none-beyond m n [] lt = refl
-none-beyond m n (c ∷ cs) lt = go (none-beyond m (suc n) cs (omega arith)) (is_none c.closing)
-  where
-    go : find (λ k. k.number == m) (open_from (suc n) cs) ≡ None → (b : Bool) → find (λ k. k.number == m) (if b then shown n c ∷ open_from (suc n) cs else open_from (suc n) cs) ≡ None
-    go next true = ap (λ t. cond t (Some (shown n c)) (find (λ k. k.number == m) (open_from (suc n) cs))) (apart n m (omega arith)) ∙ next
-    go next false = next
+none-beyond m n (c ∷ cs) lt = passed-over m n c cs (apart n m (omega arith)) ∙ none-beyond m (suc n) cs (omega arith)

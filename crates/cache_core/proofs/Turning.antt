@@ -22,14 +22,15 @@ use Rattle.cache_loads.specs.declared.standing.Standing.{Standing}
 use Rattle.cache_loads.specs.declared.standing.Standing.TheVariants as now
 use Rattle.cache_connection.specs.Fits.{ClosesFor, Fits}
 use Rattle.cache_connection.specs.Parts.{standing_as}
-use Rattle.cache_connection.specs.Shown.{open_from, put_in, shown}
+use Rattle.cache_connection.specs.Shown.{put_in, shown}
 use Rattle.cache_core.specs.State.{at_number}
 use Rattle.cache_core.specs.Turned.{closing_behind, reason_of, replies_to}
 use Rattle.cache_connection.specs.declared.connection.Connection.{Connection}
+use Rattle.cache_connections.specs.Presence.{Gone, Here, Out, Presence, closing_of, open_from, reply_text_of}
 use Rattle.cache_core.proofs.Own.{own-all, own-none}
 use Rattle.cache_connection.proofs.Putting.{not-above}
 use Rattle.cache_core.proofs.Spots.{at-replaced, seen-at, seen-other, seen-was}
-use Rattle.cache_core.proofs.Table.{dropped-at, found-at, listed_as, swapped-at}
+use Rattle.cache_core.proofs.Table.{dropped-at, found-at, listed_as, listed_of, passed-over, swapped-at}
 
 -- ---- one connection
 
@@ -66,11 +67,11 @@ waiting-shown m c = go c.standing
 -- ---- connections by number
 
 -- the connection at a place is found under its number, where it is open
-pub found-is : (m i : ℕ) (c : Connection) (cs : List Connection) → m ≡ suc i → slice_get cs i ≡ Some c → find (λ k. k.number == m) (open_from 1 cs) ≡ listed_as (is_none c.closing) (shown m c)
+pub found-is : (m i : ℕ) (c : Presence) (cs : List Presence) → m ≡ suc i → slice_get cs i ≡ Some c → find (λ k. k.number == m) (open_from 1 cs) ≡ listed_of m c
 found-is m i c cs e at = found-at m 1 i c cs (omega arith) (slice_get_within cs i c at) (get_or_from_slice_get cs i c c at)
 
-pub found-open : (m i : ℕ) (c : Connection) (cs : List Connection) → m ≡ suc i → slice_get cs i ≡ Some c → c.closing ≡ None → find (λ k. k.number == m) (open_from 1 cs) ≡ Some (shown m c)
-found-open m i c cs e at is_open = found-is m i c cs e at ∙ ap (λ o. listed_as (is_none o) (shown m c)) is_open
+pub found-open : (m i : ℕ) (c : Connection) (cs : List Presence) → m ≡ suc i → slice_get cs i ≡ Some (Here c) → c.closing ≡ None → find (λ k. k.number == m) (open_from 1 cs) ≡ Some (shown m c)
+found-open m i c cs e at is_open = found-is m i (Here c) cs e at ∙ ap (λ o. listed_as (is_none o) (shown m c)) is_open
 
 pub none-is : (o : Option Closing) → is_none o ≡ true → o ≡ None
 none-is None e = refl
@@ -84,62 +85,59 @@ other-number n k ne = go (n == k) refl
     go false e = refl
 
 -- under other numbers nothing changes
-pub found-other : (k n i : ℕ) (new : Connection) (cs : List Connection) → k ≢ n + i → find (λ x. x.number == k) (open_from n (slice_set cs i new)) ≡ find (λ x. x.number == k) (open_from n cs)
+pub found-other : (k n i : ℕ) (new : Presence) (cs : List Presence) → k ≢ n + i → find (λ x. x.number == k) (open_from n (slice_set cs i new)) ≡ find (λ x. x.number == k) (open_from n cs)
 found-other k n i new [] ne = refl
-found-other k n zero new (d ∷ ds) ne = skip new (is_none new.closing) ∙ sym (skip d (is_none d.closing))
-  where
-    differs : (n == k) ≡ false
-    differs = other-number n k (λ e. ne (omega (arith, e)))
-
-    skip : (c : Connection) (b : Bool) → find (λ (x : model.Connection). x.number == k) (if b then shown n c ∷ open_from (suc n) ds else open_from (suc n) ds) ≡ find (λ (x : model.Connection). x.number == k) (open_from (suc n) ds)
-    skip c true = ap (λ t. cond t (Some (shown n c)) (find (λ (x : model.Connection). x.number == k) (open_from (suc n) ds))) differs
-    skip c false = refl
-found-other k n (suc i) new (d ∷ ds) ne = go (is_none d.closing) (found-other k (suc n) i new ds (λ e. ne (omega (arith, e))))
+found-other k n zero new (d ∷ ds) ne =
+    let differs = other-number n k (λ e. ne (omega (arith, e))) in
+    passed-over k n new ds differs ∙ sym (passed-over k n d ds differs)
+found-other k n (suc i) new (Here d ∷ ds) ne = go (is_none d.closing) (found-other k (suc n) i new ds (λ e. ne (omega (arith, e))))
   where
     go : (b : Bool) → find (λ (x : model.Connection). x.number == k) (open_from (suc n) (slice_set ds i new)) ≡ find (λ (x : model.Connection). x.number == k) (open_from (suc n) ds)
         → find (λ (x : model.Connection). x.number == k) (if b then shown n d ∷ open_from (suc n) (slice_set ds i new) else open_from (suc n) (slice_set ds i new))
         ≡ find (λ (x : model.Connection). x.number == k) (if b then shown n d ∷ open_from (suc n) ds else open_from (suc n) ds)
     go true next = ap (λ o. cond (n == k) (Some (shown n d)) o) next
     go false next = next
+found-other k n (suc i) new (Out ∷ ds) ne = found-other k (suc n) i new ds (λ e. ne (omega (arith, e)))
+found-other k n (suc i) new (Gone why ∷ ds) ne = found-other k (suc n) i new ds (λ e. ne (omega (arith, e)))
 
 -- ---- situations
 
-abbrev pub sit : ℕ → UnderWay → List Connection → Bool → List HeldValue → Situation
+abbrev pub sit : ℕ → UnderWay → List Presence → Bool → List HeldValue → Situation
 sit latest l cs dropped held =
-    record { latest = latest; opened = length (map (λ (c : Connection). c.closing) cs); sent = l.sent; connections = open_from 1 cs; pending = l.pending; held = held; dropped = dropped }
+    record { latest = latest; opened = length (map closing_of cs); sent = l.sent; connections = open_from 1 cs; pending = l.pending; held = held; dropped = dropped }
 
-pub opened-same : (cs : List Connection) (i : ℕ) (new : Connection) → length (map (λ (c : Connection). c.closing) (slice_set cs i new)) ≡ length (map (λ (c : Connection). c.closing) cs)
-opened-same cs i new = length-map (slice_set cs i new) (λ (c : Connection). c.closing) ∙ length-set cs i new ∙ sym (length-map cs (λ (c : Connection). c.closing))
+pub opened-same : (cs : List Presence) (i : ℕ) (new : Presence) → length (map closing_of (slice_set cs i new)) ≡ length (map closing_of cs)
+opened-same cs i new = length-map (slice_set cs i new) closing_of ∙ length-set cs i new ∙ sym (length-map cs closing_of)
 
 -- the situation with one connection as it now is
-pub put-situation : (latest m i : ℕ) (l : UnderWay) (old new : Connection) (cs : List Connection) (dropped : Bool) (x left : List HeldValue) → m ≡ suc i → slice_get cs i ≡ Some old → old.closing ≡ None
-    → put_in (sit latest l cs dropped x) left m new ≡ sit latest (when_left (is_none new.closing) m l) (slice_set cs i new) dropped left
+pub put-situation : (latest m i : ℕ) (l : UnderWay) (old new : Connection) (cs : List Presence) (dropped : Bool) (x left : List HeldValue) → m ≡ suc i → slice_get cs i ≡ Some (Here old) → old.closing ≡ None
+    → put_in (sit latest l cs dropped x) left m new ≡ sit latest (when_left (is_none new.closing) m l) (slice_set cs i (Here new)) dropped left
 put-situation latest m i l old new cs dropped x left e at is_open = go (is_none new.closing) refl
   where
     n : ℕ
-    n = length (map (λ (c : Connection). c.closing) cs)
+    n = length (map closing_of cs)
 
-    go : (b : Bool) → is_none new.closing ≡ b → put_in (sit latest l cs dropped x) left m new ≡ sit latest (when_left (is_none new.closing) m l) (slice_set cs i new) dropped left
+    go : (b : Bool) → is_none new.closing ≡ b → put_in (sit latest l cs dropped x) left m new ≡ sit latest (when_left (is_none new.closing) m l) (slice_set cs i (Here new)) dropped left
     go true is =
         let fits = fits-open m new (none-is new.closing is) in
         ap (λ b. if b then set_in (sit latest l cs dropped x) left (shown m new) else without_connection m (record (sit latest l cs dropped x) { held = left })) is
         ∙ ap (λ b. record { latest = latest; opened = n; sent = l.sent; connections = if b then without_number m (open_from 1 cs) else map (λ (k : model.Connection). if k.number == m then shown m new else k) (open_from 1 cs); pending = if b then map (without_waiting m) l.pending else l.pending; held = left; dropped = dropped }) fits
         ∙ ap (λ ks. record { latest = latest; opened = n; sent = l.sent; connections = ks; pending = l.pending; held = left; dropped = dropped })
-        (swapped-at m 1 i old new cs (omega arith) (slice_get_within cs i old at) (get_or_from_slice_get cs i old old at) (ap is_none is_open) is)
-        ∙ ap (λ k. record { latest = latest; opened = k; sent = l.sent; connections = open_from 1 (slice_set cs i new); pending = l.pending; held = left; dropped = dropped }) (sym (opened-same cs i new))
-        ∙ sym (ap (λ b. sit latest (when_left b m l) (slice_set cs i new) dropped left) is)
+        (swapped-at m 1 i old new cs (omega arith) (slice_get_within cs i (Here old) at) (get_or_from_slice_get cs i (Here old) (Here old) at) (ap is_none is_open) is)
+        ∙ ap (λ k. record { latest = latest; opened = k; sent = l.sent; connections = open_from 1 (slice_set cs i (Here new)); pending = l.pending; held = left; dropped = dropped }) (sym (opened-same cs i (Here new)))
+        ∙ sym (ap (λ b. sit latest (when_left b m l) (slice_set cs i (Here new)) dropped left) is)
     go false is =
         ap (λ b. if b then set_in (sit latest l cs dropped x) left (shown m new) else without_connection m (record (sit latest l cs dropped x) { held = left })) is
-        ∙ ap (λ ks. record { latest = latest; opened = n; sent = l.sent; connections = ks; pending = map (without_waiting m) l.pending; held = left; dropped = dropped }) (dropped-at m 1 i new cs (omega arith) (slice_get_within cs i old at) is)
-        ∙ ap (λ k. record { latest = latest; opened = k; sent = l.sent; connections = open_from 1 (slice_set cs i new); pending = map (without_waiting m) l.pending; held = left; dropped = dropped }) (sym (opened-same cs i new))
-        ∙ sym (ap (λ b. sit latest (when_left b m l) (slice_set cs i new) dropped left) is)
+        ∙ ap (λ ks. record { latest = latest; opened = n; sent = l.sent; connections = ks; pending = map (without_waiting m) l.pending; held = left; dropped = dropped }) (dropped-at m 1 i new cs (omega arith) (slice_get_within cs i (Here old) at) is)
+        ∙ ap (λ k. record { latest = latest; opened = k; sent = l.sent; connections = open_from 1 (slice_set cs i (Here new)); pending = map (without_waiting m) l.pending; held = left; dropped = dropped }) (sym (opened-same cs i (Here new)))
+        ∙ sym (ap (λ b. sit latest (when_left b m l) (slice_set cs i (Here new)) dropped left) is)
 
 -- an open connection is known
-pub known-open : (m i : ℕ) (c : Connection) (s : Situation) (cs : List Connection) → s.opened ≡ length (map (λ (x : Connection). x.closing) cs) → s.connections ≡ open_from 1 cs
-    → m ≡ suc i → slice_get cs i ≡ Some c → c.closing ≡ None → ((known_in s).was_opened m ≡ true) × ((known_in s).is_open m ≡ true)
+pub known-open : (m i : ℕ) (c : Connection) (s : Situation) (cs : List Presence) → s.opened ≡ length (map closing_of cs) → s.connections ≡ open_from 1 cs
+    → m ≡ suc i → slice_get cs i ≡ Some (Here c) → c.closing ≡ None → ((known_in s).was_opened m ≡ true) × ((known_in s).is_open m ≡ true)
 known-open m i c s cs opened listed e at is_open =
-    let within = slice_get_within cs i c at in
-    let count = length-map cs (λ (x : Connection). x.closing) in (
+    let within = slice_get_within cs i (Here c) at in
+    let count = length-map cs closing_of in (
       and_from (nat_lt 0 m) (nat_le m s.opened) (lt-ltb 0 m (omega arith)) (le-leb m s.opened (omega (arith, opened, count, within, e))),
       ap (λ ks. is_some (find (λ (k : model.Connection). k.number == m) ks)) listed ∙ ap is_some (found-open m i c cs e at is_open),
     )
@@ -158,24 +156,21 @@ none-added true xs rs e = sym (append-nil xs)
 none-added false xs rs e = sym (append-nil xs) ∙ ap (λ r. xs ++ r) (sym e)
 
 -- the outputs
-pub outputs-by : (cs : List Connection) (i : ℕ) (old new : Connection) (steps : List Step) (b : Bool) → slice_get cs i ≡ Some old
+pub outputs-by : (cs : List Presence) (i : ℕ) (old new : Connection) (steps : List Step) (b : Bool) → slice_get cs i ≡ Some (Here old)
     → new.output.text.items ≡ old.output.text.items ++ (if b then [] else flat_map reply_in steps) → list_all (λ step. step.conn == suc i) steps ≡ true
-    → (n : ℕ) → at_number [] (map (λ (c : Connection). c.output.text.items) (slice_set cs i new)) n ≡ at_number [] (map (λ (c : Connection). c.output.text.items) cs) n ++ (if b then [] else replies_to n steps)
+    → (n : ℕ) → at_number [] (map reply_text_of (slice_set cs i (Here new))) n ≡ at_number [] (map reply_text_of cs) n ++ (if b then [] else replies_to n steps)
 outputs-by cs i old new steps b at text own n = go (n == suc i) refl
   where
-    text_of : Connection → List ℕ
-    text_of c = c.output.text.items
-
-    go : (t : Bool) → (n == suc i) ≡ t → at_number [] (map (λ (c : Connection). c.output.text.items) (slice_set cs i new)) n ≡ at_number [] (map (λ (c : Connection). c.output.text.items) cs) n ++ (if b then [] else replies_to n steps)
+    go : (t : Bool) → (n == suc i) ≡ t → at_number [] (map reply_text_of (slice_set cs i (Here new))) n ≡ at_number [] (map reply_text_of cs) n ++ (if b then [] else replies_to n steps)
     go true e =
         let is : n ≡ suc i = eqb-true n (suc i) e in
-        subst (λ k. at_number [] (map text_of (slice_set cs i new)) k ≡ at_number [] (map text_of cs) k ++ (if b then [] else replies_to k steps)) (sym is)
-        (seen-at text_of [] cs i new (slice_get_within cs i old at) ∙ text
+        subst (λ k. at_number [] (map reply_text_of (slice_set cs i (Here new))) k ≡ at_number [] (map reply_text_of cs) k ++ (if b then [] else replies_to k steps)) (sym is)
+        (seen-at reply_text_of [] cs i (Here new) (slice_get_within cs i (Here old) at) ∙ text
         ∙ ap (λ ss. old.output.text.items ++ (if b then [] else flat_map reply_in ss)) (sym (own-all (suc i) steps own))
-        ∙ ap (λ xs. xs ++ (if b then [] else replies_to (suc i) steps)) (sym (seen-was text_of [] cs i old at)))
+        ∙ ap (λ xs. xs ++ (if b then [] else replies_to (suc i) steps)) (sym (seen-was reply_text_of [] cs i (Here old) at)))
     go false e =
         let ne : n ≢ suc i = λ h. let no : false ≡ true = sym e ∙ eq-eqb n (suc i) h in cc in
-        seen-other text_of [] cs i n new ne ∙ none-added b (at_number [] (map text_of cs) n) (replies_to n steps) (ap (flat_map reply_in) (own-none (suc i) n steps own ne))
+        seen-other reply_text_of [] cs i n (Here new) ne ∙ none-added b (at_number [] (map reply_text_of cs) n) (replies_to n steps) (ap (flat_map reply_in) (own-none (suc i) n steps own ne))
 
 -- one that was not touched is closed as it was
 same-closing : (config : Config) (s next : Situation) (entry : Record) (n : ℕ) (o : Option Closing) → connection_in n next ≡ connection_in n s → o ≡ closing_behind config s entry next o n
@@ -196,26 +191,23 @@ own-closing config s next entry m old new was is (inr closes) =
     ∙ sym (ap (λ (c : Option model.Connection). if is_some c || not (is_some (connection_in m s)) then None else Some (reason_of config s m entry.event entry.steps)) (is ∙ ap (λ o. listed_as (is_none o) (shown m new)) closes)
     ∙ ap (λ (c : Option model.Connection). if false || not (is_some c) then None else Some (reason_of config s m entry.event entry.steps)) was)
 
-pub closings-by : (config : Config) (s next : Situation) (entry : Record) (cs : List Connection) (i : ℕ) (old new : Connection) → slice_get cs i ≡ Some old → old.closing ≡ None
-    → s.connections ≡ open_from 1 cs → next.connections ≡ open_from 1 (slice_set cs i new) → ClosesFor (reason_of config s (suc i) entry.event entry.steps) new.closing
-    → (n : ℕ) → at_number None (map (λ (c : Connection). c.closing) (slice_set cs i new)) n ≡ closing_behind config s entry next (at_number None (map (λ (c : Connection). c.closing) cs) n) n
+pub closings-by : (config : Config) (s next : Situation) (entry : Record) (cs : List Presence) (i : ℕ) (old new : Connection) → slice_get cs i ≡ Some (Here old) → old.closing ≡ None
+    → s.connections ≡ open_from 1 cs → next.connections ≡ open_from 1 (slice_set cs i (Here new)) → ClosesFor (reason_of config s (suc i) entry.event entry.steps) new.closing
+    → (n : ℕ) → at_number None (map closing_of (slice_set cs i (Here new))) n ≡ closing_behind config s entry next (at_number None (map closing_of cs) n) n
 closings-by config s next entry cs i old new at is_open listed relisted closes n = go (n == suc i) refl
   where
-    why : Connection → Option Closing
-    why c = c.closing
-
-    go : (t : Bool) → (n == suc i) ≡ t → at_number None (map (λ (c : Connection). c.closing) (slice_set cs i new)) n ≡ closing_behind config s entry next (at_number None (map (λ (c : Connection). c.closing) cs) n) n
+    go : (t : Bool) → (n == suc i) ≡ t → at_number None (map closing_of (slice_set cs i (Here new))) n ≡ closing_behind config s entry next (at_number None (map closing_of cs) n) n
     go true e =
         let is : n ≡ suc i = eqb-true n (suc i) e in
-        let within = slice_get_within cs i old at in
-        subst (λ k. at_number None (map why (slice_set cs i new)) k ≡ closing_behind config s entry next (at_number None (map why cs) k) k) (sym is)
-        (seen-at why None cs i new within
+        let within = slice_get_within cs i (Here old) at in
+        subst (λ k. at_number None (map closing_of (slice_set cs i (Here new))) k ≡ closing_behind config s entry next (at_number None (map closing_of cs) k) k) (sym is)
+        (seen-at closing_of None cs i (Here new) within
         ∙ own-closing config s next entry (suc i) old new
         (ap (λ ks. find (λ (k : model.Connection). k.number == suc i) ks) listed ∙ found-open (suc i) i old cs refl at is_open)
-        (ap (λ ks. find (λ (k : model.Connection). k.number == suc i) ks) relisted ∙ found-is (suc i) i new (slice_set cs i new) refl (at-replaced cs i new within)) closes
-        ∙ ap (λ o. closing_behind config s entry next o (suc i)) (sym (seen-was why None cs i old at ∙ is_open)))
+        (ap (λ ks. find (λ (k : model.Connection). k.number == suc i) ks) relisted ∙ found-is (suc i) i (Here new) (slice_set cs i (Here new)) refl (at-replaced cs i (Here new) within)) closes
+        ∙ ap (λ o. closing_behind config s entry next o (suc i)) (sym (seen-was closing_of None cs i (Here old) at ∙ is_open)))
     go false e =
         let ne : n ≢ suc i = λ h. let no : false ≡ true = sym e ∙ eq-eqb n (suc i) h in cc in
-        seen-other why None cs i n new ne
-        ∙ same-closing config s next entry n (at_number None (map why cs) n)
-        (ap (λ ks. find (λ (k : model.Connection). k.number == n) ks) relisted ∙ found-other n 1 i new cs (λ h. ne (omega (arith, h))) ∙ sym (ap (λ ks. find (λ (k : model.Connection). k.number == n) ks) listed))
+        seen-other closing_of None cs i n (Here new) ne
+        ∙ same-closing config s next entry n (at_number None (map closing_of cs) n)
+        (ap (λ ks. find (λ (k : model.Connection). k.number == n) ks) relisted ∙ found-other n 1 i (Here new) cs (λ h. ne (omega (arith, h))) ∙ sym (ap (λ ks. find (λ (k : model.Connection). k.number == n) ks) listed))

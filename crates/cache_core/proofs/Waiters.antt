@@ -1,7 +1,7 @@
 -- The connections that wait for a load.
-use Rattle.std.proofs.Common.{◌≡◌, ◌≢◌, ℕ, zero, suc, ◌+◌, ◌-◌, ◌≤◌, ◌<◌, Bool, true, false, ◌==◌, cond, List, [], ◌∷◌, ◌++◌, Option, Some, None, if◌then◌else◌, length, refl, sym, ap, ◌∙◌, subst, arith, get_or, drop, take, vec_len}
+use Rattle.std.proofs.Common.{◌≡◌, ◌≢◌, ℕ, suc, ◌+◌, ◌-◌, ◌≤◌, ◌<◌, Bool, true, false, ◌==◌, cond, List, [], ◌∷◌, ◌++◌, Option, Some, None, if◌then◌else◌, length, refl, sym, ap, ◌∙◌, subst, arith, get_or, drop, take}
 use Rattle.std.proofs.Math.Seq.{drop-cons, take-suc}
-use Rattle.std.specs.Prelude.{is_none, vec_capacity}
+use Rattle.std.specs.Prelude.{is_none}
 use Rattle.std.specs.List.{find, slice_get}
 use Rattle.std.specs.Option.{option_map_or}
 use Rattle.std.proofs.lemmas.Bool.{eqb-true, eq-eqb}
@@ -13,31 +13,31 @@ use Rattle.audit_model.specs.declared.command.Closing.{Closing}
 use Rattle.audit_model.specs.declared.config.Config.{Config}
 use Rattle.audit_waiting_laws.specs.Tidy.{Tidy, times_in}
 use Rattle.audit_waiting_laws.proofs.Counts.{one_if}
-use Rattle.cache_connection.specs.Fed.{LooksAsBefore}
 use Rattle.cache_connection.specs.Parts.{stands_before}
-use Rattle.cache_connection.specs.Shown.{open_from, shown}
+use Rattle.cache_connection.specs.Shown.{shown}
 use Rattle.cache_connection.specs.declared.connection.Connection.{Connection}
+use Rattle.cache_connections.specs.Presence.{Gone, Here, Out, Presence, open_from}
 use Rattle.cache_leads.specs.Waiters.{WaitForLoads}
 use Rattle.cache_leads.proofs.Turns.{counted}
 use Rattle.cache_lines.specs.Waiting.{is_load}
 use Rattle.cache_lines.specs.Whole.{held_line}
 use Rattle.cache_loads.specs.declared.standing.Standing.{Standing}
 use Rattle.cache_loads.specs.declared.standing.Standing.TheVariants as now
-use Rattle.cache_core.specs.Settling.{AllLookAsBefore, AreThere, AreWaiting, HasReplyRoomAt, HaveReplyRoom, IsWaitingAt, LeavesOthers}
+use Rattle.cache_core.specs.Settling.{AllLookAsBefore, AreThere, AreWaiting, HaveReplyRoom, IsWaitingAt, LeavesOthers}
 use Rattle.cache_core.proofs.Touched.{all-at}
 
 -- ---- where a connection is found
 
 -- a connection of that number stands at its place, and is open
-record FoundAt (m n : ℕ) (k : model.Connection) (cs : List Connection) : Type 0 where
+record FoundAt (m n : ℕ) (k : model.Connection) (cs : List Presence) : Type 0 where
   index : ℕ
   place : m ≡ n + index
   is : Connection
-  at : slice_get cs index ≡ Some is
+  at : slice_get cs index ≡ Some (Here is)
   is_open : is.closing ≡ None
   shows : shown m is ≡ k
 
-found-later : (m n : ℕ) (k : model.Connection) (c : Connection) (cs : List Connection) → FoundAt m (suc n) k cs → FoundAt m n k (c ∷ cs)
+found-later : (m n : ℕ) (k : model.Connection) (c : Presence) (cs : List Presence) → FoundAt m (suc n) k cs → FoundAt m n k (c ∷ cs)
 found-later m n k c cs f = record { index = suc f.index; place = let e = f.place in omega (arith, e); is = f.is; at = f.at; is_open = f.is_open; shows = f.shows }
 
 open-so : (closing : Option Closing) → is_none closing ≡ true → closing ≡ None
@@ -49,18 +49,20 @@ find-first : (m n : ℕ) (c : Connection) (rest : List model.Connection) → (b 
 find-first m n c rest true = refl
 find-first m n c rest false = refl
 
-found-first : (m n : ℕ) (k : model.Connection) (c : Connection) (cs : List Connection) (rest : List model.Connection) → (find (λ (x : model.Connection). x.number == m) rest ≡ Some k → FoundAt m (suc n) k cs)
-    → (b t : Bool) → is_none c.closing ≡ b → (n == m) ≡ t → (if b then cond t (Some (shown n c)) (find (λ (x : model.Connection). x.number == m) rest) else find (λ (x : model.Connection). x.number == m) rest) ≡ Some k → FoundAt m n k (c ∷ cs)
-found-first m n k c cs rest next false t is same h = found-later m n k c cs (next h)
-found-first m n k c cs rest next true false is other h = found-later m n k c cs (next h)
+found-first : (m n : ℕ) (k : model.Connection) (c : Connection) (cs : List Presence) (rest : List model.Connection) → (find (λ (x : model.Connection). x.number == m) rest ≡ Some k → FoundAt m (suc n) k cs)
+    → (b t : Bool) → is_none c.closing ≡ b → (n == m) ≡ t → (if b then cond t (Some (shown n c)) (find (λ (x : model.Connection). x.number == m) rest) else find (λ (x : model.Connection). x.number == m) rest) ≡ Some k → FoundAt m n k (Here c ∷ cs)
+found-first m n k c cs rest next false t is same h = found-later m n k (Here c) cs (next h)
+found-first m n k c cs rest next true false is other h = found-later m n k (Here c) cs (next h)
 found-first m n k c cs rest next true true is same h =
     let e = eqb-true n m same in
     record { index = 0; place = omega (arith, e); is = c; at = refl; is_open = open-so c.closing is; shows = ap (λ x. shown x c) (sym e) ∙ same_Some (shown n c) k h }
 
-found-back : (m n : ℕ) (k : model.Connection) (cs : List Connection) → find (λ (x : model.Connection). x.number == m) (open_from n cs) ≡ Some k → FoundAt m n k cs
+found-back : (m n : ℕ) (k : model.Connection) (cs : List Presence) → find (λ (x : model.Connection). x.number == m) (open_from n cs) ≡ Some k → FoundAt m n k cs
 found-back m n k [] e = let no : None ≡ Some k = e in cc
-found-back m n k (c ∷ cs) e =
+found-back m n k (Here c ∷ cs) e =
     found-first m n k c cs (open_from (suc n) cs) (λ h. found-back m (suc n) k cs h) (is_none c.closing) (n == m) refl refl (find-first m n c (open_from (suc n) cs) (is_none c.closing) ∙ e)
+found-back m n k (Out ∷ cs) e = found-later m n k Out cs (found-back m (suc n) k cs e)
+found-back m n k (Gone why ∷ cs) e = found-later m n k (Gone why) cs (found-back m (suc n) k cs e)
 
 waits-so : (standing : Standing) (line : List ℕ) → is_waiting_now (stands_before standing line) ≡ true → standing ≡ now.Waiting
 waits-so now.Ready line e = let no : false ≡ true = e in cc
@@ -77,7 +79,7 @@ waits-once (Some k) = go (is_waiting_now k.standing)
     go false = omega arith
 
 -- those who are to be told do wait
-pub told-wait : (config : Config) (told : List ℕ) (s : Situation) (cs : List Connection) → s.connections ≡ open_from 1 cs → Tidy told s → WaitForLoads config s → AreWaiting config cs told
+pub told-wait : (config : Config) (told : List ℕ) (s : Situation) (cs : List Presence) → s.connections ≡ open_from 1 cs → Tidy told s → WaitForLoads config s → AreWaiting config cs told
 told-wait config told s cs listed tidy reads = record {
   once = λ n. let once = tidy.once n in let few = waits-once (connection_in n s) in omega arith;
   each = λ n some.
@@ -114,20 +116,20 @@ no-two m n rest same some few =
     let here : times_in m rest ≡ times_in n rest = ap (λ k. times_in k rest) same in omega arith
 
 -- the first of them
-pub first-waits : (config : Config) (cs : List Connection) (n : ℕ) (rest : List ℕ) → AreWaiting config cs (n ∷ rest) → IsWaitingAt config cs n
+pub first-waits : (config : Config) (cs : List Presence) (n : ℕ) (rest : List ℕ) → AreWaiting config cs (n ∷ rest) → IsWaitingAt config cs n
 first-waits config cs n rest w = w.each n (once-first n rest)
 
-pub waits-above : (config : Config) (cs : List Connection) (n : ℕ) → IsWaitingAt config cs n → 1 ≤ n
+pub waits-above : (config : Config) (cs : List Presence) (n : ℕ) → IsWaitingAt config cs n → 1 ≤ n
 waits-above config cs n w = let e = w.place in omega (arith, e)
 
-pub waits-inside : (config : Config) (cs : List Connection) (n : ℕ) → IsWaitingAt config cs n → n - 1 < length cs
-waits-inside config cs n w = let e = w.place in let lt = slice_get_within cs w.index w.is w.at in omega (arith, e, lt)
+pub waits-inside : (config : Config) (cs : List Presence) (n : ℕ) → IsWaitingAt config cs n → n - 1 < length cs
+waits-inside config cs n w = let e = w.place in let lt = slice_get_within cs w.index (Here w.is) w.at in omega (arith, e, lt)
 
-pub waits-numbered : (config : Config) (cs : List Connection) (n : ℕ) → IsWaitingAt config cs n → IsWaitingAt config cs (n - 1 + 1)
+pub waits-numbered : (config : Config) (cs : List Presence) (n : ℕ) → IsWaitingAt config cs n → IsWaitingAt config cs (n - 1 + 1)
 waits-numbered config cs n w = let e = w.place in let is : n ≡ n - 1 + 1 = omega (arith, e) in subst (IsWaitingAt config cs) is w
 
 -- those that are left wait as they did
-pub left-wait : (config : Config) (n : ℕ) (rest : List ℕ) (mid new : List Connection) → AreWaiting config mid (n ∷ rest) → LeavesOthers mid new (n - 1) → AreWaiting config new rest
+pub left-wait : (config : Config) (n : ℕ) (rest : List ℕ) (mid new : List Presence) → AreWaiting config mid (n ∷ rest) → LeavesOthers mid new (n - 1) → AreWaiting config new rest
 left-wait config n rest mid new w o = record {
   once = λ m. let few = w.once m in omega (arith, few);
   each = λ m some.
@@ -142,7 +144,7 @@ left-wait config n rest mid new w o = record {
 }
 
 -- and have the room that they had
-pub left-room : (config : Config) (n size : ℕ) (rest : List ℕ) (mid new : List Connection) → AreWaiting config mid (n ∷ rest) → HaveReplyRoom mid size (n ∷ rest) → LeavesOthers mid new (n - 1) → HaveReplyRoom new size rest
+pub left-room : (config : Config) (n size : ℕ) (rest : List ℕ) (mid new : List Presence) → AreWaiting config mid (n ∷ rest) → HaveReplyRoom mid size (n ∷ rest) → LeavesOthers mid new (n - 1) → HaveReplyRoom new size rest
 left-room config n size rest mid new w room o m some c at =
     let also : 1 ≤ times_in m (n ∷ rest) = omega (arith, some) in
     let here = w.each m also in
@@ -154,7 +156,7 @@ left-room config n size rest mid new w room o m some c at =
     room m also c (sym (o.others (m - 1) differs) ∙ at)
 
 -- where nothing changed that is seen
-pub same-wait : (config : Config) (numbers : List ℕ) (old new : List Connection) → AllLookAsBefore old new → AreWaiting config old numbers → AreWaiting config new numbers
+pub same-wait : (config : Config) (numbers : List ℕ) (old new : List Presence) → AllLookAsBefore old new → AreWaiting config old numbers → AreWaiting config new numbers
 same-wait config numbers old new same w = record {
   once = w.once;
   each = λ n some.
@@ -172,9 +174,9 @@ same-wait config numbers old new same w = record {
 }
 
 -- they were opened
-pub wait-there : (config : Config) (numbers : List ℕ) (old new : List Connection) → AreWaiting config old numbers → length new ≡ length old → AreThere new numbers
+pub wait-there : (config : Config) (numbers : List ℕ) (old new : List Presence) → AreWaiting config old numbers → length new ≡ length old → AreThere new numbers
 wait-there config numbers old new w count n some =
     let here = w.each n some in
     let e = here.place in
-    let lt = slice_get_within old here.index here.is here.at in
+    let lt = slice_get_within old here.index (Here here.is) here.at in
     (omega (arith, e), omega (arith, e, lt, count))

@@ -12,9 +12,9 @@ use Rattle.cache_lines.specs.declared.base.Base.{Base}
 use Rattle.cache_loads.specs.Pending.{SameLoads}
 use Rattle.cache_store.specs.Values.{IsMoment, Values}
 use Rattle.cache_tape.specs.Taped.{IsAtRest, Taped, finishes, started}
-use Rattle.cache_core.specs.Places.{text_at}
 use Rattle.cache_connection.specs.declared.connection.Connection.{Connection}
 use Rattle.cache_connection.specs.Fed.{FedRan, seen_of}
+use Rattle.cache_connections.specs.Presence.{Here, Presence, text_at}
 
 -- such lines, but where the tape shows that
 abbrev pub with_tape : Option Taped → Seen → Seen
@@ -25,6 +25,10 @@ pub record FedTurn (now number moment : ℕ) (old : Connection) (piece : List �
   pub middle : Option Taped
   pub ran : FedRan now number old piece new is_held (with_tape (option_map (started 1) was.stage.tape) was) (with_tape middle is)
   pub ended : is.stage.tape ≡ option_map (finishes (event.Feed number piece (record { nanos = moment })) None []) middle
+
+-- the same over a base as it was and as it is
+abbrev pub FedTurnOver : {S T : Type 0} → (S → Values) → (T → Option Taped) → (now number moment : ℕ) → (base left : Base S T) → (old : Connection) → (piece : List ℕ) → (new : Connection) → (is_held : Bool) → Type 0
+FedTurnOver view tape now number moment base left old piece new is_held = FedTurn now number moment old piece new is_held (seen_of view tape base old) (seen_of view tape left new)
 
 -- the store, the tape and the loads are the same
 pub record BaseStays {S T : Type 0} (old new : Base S T) : Type 0 where
@@ -42,18 +46,18 @@ pub record CanTurn (now : ℕ) (x : Seen) : Type 0 where
 abbrev pub WantsMemory : (held : Bool) → ServiceError → Type 0
 WantsMemory held e = (e ≡ error.OutOfMemory) ⊎ ((e ≡ error.HeldAgain) × (held ≡ true))
 
--- one connection was put in the place of another
-pub record ReplacedAt (old new : List Connection) (index : ℕ) : Type 0 where
+-- one connection that is here was put in the place of another
+pub record ReplacedAt (old new : List Presence) (index : ℕ) : Type 0 where
   pub was : Connection
   pub is : Connection
-  pub at : slice_get old index ≡ Some was
-  pub set : new ≡ slice_set old index is
+  pub at : slice_get old index ≡ Some (Here was)
+  pub set : new ≡ slice_set old index (Here is)
 
 -- what the lines of the connection at a place run over
-abbrev pub seen_at : {S T : Type 0} → (S → Values) → (T → Option Taped) → Base S T → List Connection → ℕ → Seen
+abbrev pub seen_at : {S T : Type 0} → (S → Values) → (T → Option Taped) → Base S T → List Presence → ℕ → Seen
 seen_at view tape base connections index = record { stage = stage (view base.store) (text_at connections index) (tape base.tape); loads = under_way base.loads }
 
 -- the open connection at a place took a piece
-abbrev pub FeedsAt : {S T : Type 0} → (S → Values) → (T → Option Taped) → (now moment index : ℕ) → List ℕ → Bool → (old new : Base S T) → (were are : List Connection) → Type 0
+abbrev pub FeedsAt : {S T : Type 0} → (S → Values) → (T → Option Taped) → (now moment index : ℕ) → List ℕ → Bool → (old new : Base S T) → (were are : List Presence) → Type 0
 FeedsAt view tape now moment index piece is_held old new were are =
     (p : ReplacedAt were are index) × FedTurn now (index + 1) moment p.was piece p.is is_held (seen_at view tape old were index) (seen_at view tape new are index)

@@ -6,6 +6,7 @@ use Rattle.audit_model.specs.Bytewise.{is_empty}
 use Rattle.audit_model.specs.Situation.{HeldValue, Situation}
 use Rattle.audit_model.specs.Steps.{Task}
 use Rattle.audit_model.specs.declared.command.Closing.{Closing}
+use Rattle.audit_model.specs.declared.command.Closing.TheVariants as by
 use Rattle.audit_model.specs.declared.config.Config.{Config}
 use Rattle.audit_model.specs.declared.transcript.Step.{Step}
 use Rattle.cache_commands.specs.Right.{KeepsFrame}
@@ -23,10 +24,9 @@ use Rattle.cache_store.specs.Values.{IsMoment, Values}
 use Rattle.cache_tape.specs.Taped.{Taped}
 use Rattle.cache_connection.specs.Again.{EndsCalm}
 use Rattle.cache_connection.specs.Fed.{closing_by}
-use Rattle.cache_connection.specs.Shown.{open_from}
 use Rattle.cache_core.specs.State.{at_number}
 use Rattle.cache_core.specs.Turned.{own_steps, replies_to}
-use Rattle.cache_connection.specs.declared.connection.Connection.{Connection}
+use Rattle.cache_connections.specs.Presence.{Gone, Here, Out, Presence, closing_of, open_from, reply_text_of}
 
 -- ---- what a connection is at
 
@@ -43,9 +43,15 @@ course_of None now_is.Ready = Running
 course_of None now_is.Held = Resting
 course_of None now_is.Waiting = Resting
 
+-- what one that was opened is at
+abbrev pub course_in : Presence → Course
+course_in (Here c) = course_of c.closing c.standing
+course_in Out = Closed by.Asked
+course_in (Gone why) = Closed why
+
 -- that of the connection of a number
-abbrev pub course_at : List Connection → ℕ → Course
-course_at connections number = at_number Absent (map (λ c. course_of c.closing c.standing) connections) number
+abbrev pub course_at : List Presence → ℕ → Course
+course_at connections number = at_number Absent (map course_in connections) number
 
 -- why it closes by these steps of its own
 abbrev pub closing_of_steps : Config → List Step → Closing
@@ -68,30 +74,30 @@ Moves config own Resting Resting = Unit {0}
 -- ---- a piece of a record
 
 -- the situation at that moment, by what lines run over, and the connections
-abbrev pub middle_of : Values → ℕ → UnderWay → List Connection → List HeldValue → Situation
+abbrev pub middle_of : Values → ℕ → UnderWay → List Presence → List HeldValue → Situation
 middle_of v now l cs held =
-    record { latest = now; opened = length (map (λ (c : Connection). c.closing) cs); sent = l.sent; connections = open_from 1 cs; pending = l.pending; held = held; dropped = v.frame.dropped }
+    record { latest = now; opened = length (map closing_of cs); sent = l.sent; connections = open_from 1 cs; pending = l.pending; held = held; dropped = v.frame.dropped }
 
 -- Where these values were held, steps for these tasks ran, whatever is due behind them. Where a record is made they stand in it; else their
 -- replies and notes stand behind those that were not taken. Each connection went on by its own steps.
-pub record Piece {S T : Type 0} (view : S → Values) (tape : T → Option Taped) (making : Making) (now : ℕ) (was is : Base S T) (old new : List Connection) (tasks : List Task) (held : List HeldValue) : Type 0 where
+pub record Piece {S T : Type 0} (view : S → Values) (tape : T → Option Taped) (making : Making) (now : ℕ) (was is : Base S T) (old new : List Presence) (tasks : List Task) (held : List HeldValue) : Type 0 where
   pub steps : List Step
   pub left : List HeldValue
   pub stands : (view is.store).Stands left
   pub leads : (more : List Task) → TasksLead making.config making (middle_of (view was.store) now (under_way was.loads) old held) (tasks ++ more) steps (middle_of (view is.store) now (under_way is.loads) new left) more (identifiers_in (view was.store)) (identifiers_in (view is.store))
-  pub outputs : (n : ℕ) → at_number [] (map (λ c. c.output.text.items) new) n ≡ at_number [] (map (λ c. c.output.text.items) old) n ++ (if is_some (tape was.tape) then [] else replies_to n steps)
+  pub outputs : (n : ℕ) → at_number [] (map reply_text_of new) n ≡ at_number [] (map reply_text_of old) n ++ (if is_some (tape was.tape) then [] else replies_to n steps)
   pub kept : option_map written (tape is.tape) ≡ option_map (adds steps) (option_map written (tape was.tape))
   pub notes : (view is.store).untaken ≡ (view was.store).untaken ++ (if is_some (tape was.tape) then [] else flat_map (λ step. step.notices) steps)
   pub moves : (n : ℕ) → Moves making.config (own_steps n steps) (course_at old n) (course_at new n)
 
 -- what goes through a record: at that moment, with nothing beside a record, and so many lines of room
-pub record IsAmid {S T : Type 0} (view : S → Values) (tape : T → Option Taped) (now : ℕ) (base : Base S T) (connections : List Connection) (lines : ℕ) : Type 0 where
+pub record IsAmid {S T : Type 0} (view : S → Values) (tape : T → Option Taped) (now : ℕ) (base : Base S T) (connections : List Presence) (lines : ℕ) : Type 0 where
   pub in_time : IsMoment (view base.store) now
   pub untaken : is_some (tape base.tape) ≡ true → (view base.store).untaken ≡ []
-  pub outputs : is_some (tape base.tape) ≡ true → (n : ℕ) → at_number [] (map (λ c. c.output.text.items) connections) n ≡ []
+  pub outputs : is_some (tape base.tape) ≡ true → (n : ℕ) → at_number [] (map reply_text_of connections) n ≡ []
   pub room : MatchOption (tape base.tape) (Unit {0}) (λ t. lines ≤ t.spare)
 
 -- a part of a record: from whatever values were held
-pub record Parts {S T : Type 0} (view : S → Values) (tape : T → Option Taped) (now : ℕ) (was is : Base S T) (old new : List Connection) (tasks : List Task) : Type 0 where
+pub record Parts {S T : Type 0} (view : S → Values) (tape : T → Option Taped) (now : ℕ) (was is : Base S T) (old new : List Presence) (tasks : List Task) : Type 0 where
   pub ran : (held : List HeldValue) → (view was.store).Stands held → Piece view tape (making_of (view was.store).frame) now was is old new tasks held
   pub frame : KeepsFrame (view was.store).frame (view is.store).frame now

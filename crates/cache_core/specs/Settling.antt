@@ -1,5 +1,5 @@
 -- Answers and give-ups, and the connections that wait for the load.
-use Rattle.std.specs.Prelude.{◌≡◌, ◌≢◌, ℕ, suc, ◌+◌, ◌-◌, ◌≤◌, ◌==◌, not, Bool, true, false, List, [], ◌∷◌, ◌++◌, if◌then◌else◌, is_some, length, Option, Some, None, vec_len, vec_capacity}
+use Rattle.std.specs.Prelude.{◌≡◌, ◌≢◌, ℕ, suc, ◌+◌, ◌-◌, ◌≤◌, ◌==◌, not, Bool, true, false, List, [], ◌∷◌, if◌then◌else◌, is_some, length, Option, Some, None, vec_len, vec_capacity}
 use Rattle.std.specs.List.{filter, slice_get}
 use Rattle.std.specs.Option.{option_map, option_map_or}
 use Rattle.audit_model.specs.Belongs.{Known}
@@ -21,6 +21,7 @@ use Rattle.cache_commands.specs.Answered.{IsStored}
 use Rattle.cache_commands.specs.Right.{KeepsFrame}
 use Rattle.cache_connection.specs.Fed.{FedRan, LooksAsBefore}
 use Rattle.cache_connection.specs.declared.connection.Connection.{Connection}
+use Rattle.cache_connections.specs.Presence.{Gone, Here, Out, Presence}
 use Rattle.cache_leads.specs.Leads.{BeginsUnknown}
 use Rattle.cache_lines.specs.Making.{making_of}
 use Rattle.cache_lines.specs.Waiting.{UnderWay, is_load, under_way}
@@ -67,41 +68,49 @@ pub record Happens {S T : Type 0} (view : S → Values) (tape : T → Option Tap
 -- ---- connections that wait
 
 -- the connection of that number is there and open, and its first unread line is a `LOAD` that waits
-pub record IsWaitingAt (config : Config) (connections : List Connection) (number : ℕ) : Type 0 where
+pub record IsWaitingAt (config : Config) (connections : List Presence) (number : ℕ) : Type 0 where
   pub index : ℕ
   pub place : number ≡ suc index
   pub is : Connection
-  pub at : slice_get connections index ≡ Some is
+  pub at : slice_get connections index ≡ Some (Here is)
   pub waits : is.standing ≡ now_is.Waiting
   pub is_open : is.closing ≡ None
   pub load : is_load (reading config (held_line is.unread.bytes)) ≡ true
 
 -- each of them is so, and stands among them once
-pub record AreWaiting (config : Config) (connections : List Connection) (numbers : List ℕ) : Type 0 where
+pub record AreWaiting (config : Config) (connections : List Presence) (numbers : List ℕ) : Type 0 where
   pub once : (n : ℕ) → times_in n numbers ≤ 1
   pub each : (n : ℕ) → 1 ≤ times_in n numbers → IsWaitingAt config connections n
 
 -- each of them was opened
-abbrev pub AreThere : List Connection → List ℕ → Type 0
+abbrev pub AreThere : List Presence → List ℕ → Type 0
 AreThere connections numbers = (n : ℕ) → 1 ≤ times_in n numbers → (1 ≤ n) × (n ≤ length connections)
 
--- the connection at a place, if there is one, has room for so many bytes more of replies
-abbrev pub HasReplyRoomAt : List Connection → ℕ → ℕ → Type 0
-HasReplyRoomAt connections size index = (c : Connection) → slice_get connections index ≡ Some c → vec_len c.output.text + size ≤ vec_capacity c.output.text
+-- the connection at a place, if one is here, has room for so many bytes more of replies
+abbrev pub HasReplyRoomAt : List Presence → ℕ → ℕ → Type 0
+HasReplyRoomAt connections size index = (c : Connection) → slice_get connections index ≡ Some (Here c) → vec_len c.output.text + size ≤ vec_capacity c.output.text
 
 -- each of those connections has it
-abbrev pub HaveReplyRoom : List Connection → ℕ → List ℕ → Type 0
+abbrev pub HaveReplyRoom : List Presence → ℕ → List ℕ → Type 0
 HaveReplyRoom connections size numbers = (n : ℕ) → 1 ≤ times_in n numbers → HasReplyRoomAt connections size (n - 1)
 
--- each connection is the same to whoever looks at it
-abbrev pub AllLookAsBefore : (old new : List Connection) → Type 0
+-- one that was opened is the same to whoever looks at it
+abbrev pub LooksLike : (old new : Presence) → Type 0
+LooksLike (Here c) (Here d) = LooksAsBefore c d
+LooksLike (Here c) Out = ⊥
+LooksLike (Here c) (Gone why) = ⊥
+LooksLike Out new = new ≡ Out
+LooksLike (Gone why) new = new ≡ Gone why
+
+-- each of them is
+abbrev pub AllLookAsBefore : (old new : List Presence) → Type 0
 AllLookAsBefore [] [] = Unit {0}
 AllLookAsBefore [] (d ∷ ds) = ⊥
 AllLookAsBefore (c ∷ cs) [] = ⊥
-AllLookAsBefore (c ∷ cs) (d ∷ ds) = LooksAsBefore c d × AllLookAsBefore cs ds
+AllLookAsBefore (c ∷ cs) (d ∷ ds) = LooksLike c d × AllLookAsBefore cs ds
 
 -- no connection but the one at that place was touched
-pub record LeavesOthers (old new : List Connection) (index : ℕ) : Type 0 where
+pub record LeavesOthers (old new : List Presence) (index : ℕ) : Type 0 where
   pub count : length new ≡ length old
   pub others : (place : ℕ) → place ≢ index → slice_get new place ≡ slice_get old place
 
@@ -115,9 +124,11 @@ runs_with None now_is.Held = false
 runs_with None now_is.Waiting = false
 
 -- there is a connection, and it is open and runs lines
-abbrev pub runs_at : Option Connection → Bool
+abbrev pub runs_at : Option Presence → Bool
 runs_at None = false
-runs_at (Some c) = runs_with c.closing c.standing
+runs_at (Some (Here c)) = runs_with c.closing c.standing
+runs_at (Some Out) = false
+runs_at (Some (Gone why)) = false
 
 -- A value was stored under the load's key, and what that told was taken, or was not.
 pub record StoresNoted {S : Type 0} (view : S → Values) (takes : Bool) (now : ℕ) (key : List ℕ) (outcome : Outcome) (accepted : Option Accepted) (notes : List Note) (old new : S) : Type 0 where
@@ -129,18 +140,18 @@ pub record StoresNoted {S : Type 0} (view : S → Values) (takes : Bool) (now : 
 
 module _ {S T : Type 0} (view : S → Values) (tape : T → Option Taped) where
   -- the lines of the connection at a place ran, as in a feed of nothing
-  pub record ResumesAt (now index : ℕ) (old new : Base S T) (were are : List Connection) : Type 0 where
+  pub record ResumesAt (now index : ℕ) (old new : Base S T) (were are : List Presence) : Type 0 where
     pub put : ReplacedAt were are index
     pub is_held : Bool
     pub ran : FedRan now (index + 1) put.was [] put.is is_held (seen_at view tape old were index) (seen_at view tape new are index)
 
   -- a part of a record that has a step, behind whose first nothing is known of the order of use
-  pub record Reruns (now : ℕ) (was is : Base S T) (old new : List Connection) (tasks : List Task) : Type 0 where
+  pub record Reruns (now : ℕ) (was is : Base S T) (old new : List Presence) (tasks : List Task) : Type 0 where
     pub ran : (held : List HeldValue) → (view was.store).Stands held → (p : Piece view tape (making_of (view was.store).frame) now was is old new tasks held) × BeginsUnknown (view was.store).frame.config p.steps × (is_empty p.steps ≡ false)
     pub frame : KeepsFrame (view was.store).frame (view is.store).frame now
 
   -- the same of one that may have no step, and then has done nothing
-  pub record PartsUnknown (now : ℕ) (was is : Base S T) (old new : List Connection) (tasks : List Task) : Type 0 where
+  pub record PartsUnknown (now : ℕ) (was is : Base S T) (old new : List Presence) (tasks : List Task) : Type 0 where
     pub ran : (held : List HeldValue) → (view was.store).Stands held → (p : Piece view tape (making_of (view was.store).frame) now was is old new tasks held) × BeginsUnknown (view was.store).frame.config p.steps × (is_empty p.steps ≡ true → is.store ≡ was.store)
     pub frame : KeepsFrame (view was.store).frame (view is.store).frame now
 
@@ -166,13 +177,13 @@ module _ {S T : Type 0} (view : S → Values) (tape : T → Option Taped) where
     pub loads_are : new.loads ≡ old.loads
 
   -- The load was taken out, and parts of a record followed for those that waited for it.
-  pub record HandsOut (now load : ℕ) (old new : Base S T) (were are : List Connection) (tasks : List ℕ → List Task) : Type 0 where
+  pub record HandsOut (now load : ℕ) (old new : Base S T) (were are : List Presence) (tasks : List ℕ → List Task) : Type 0 where
     pub left : Loads
     pub left_is : under_way left ≡ but_for load (under_way old.loads)
     pub parts : Parts view tape now (record { store = old.store; loads = left; tape = old.tape }) new were are (tasks (waiting_on load (under_way old.loads)))
 
   -- the same, behind whose first step nothing is known of the order of use
-  pub record RunsAgain (now load : ℕ) (old new : Base S T) (were are : List Connection) (tasks : List ℕ → List Task) : Type 0 where
+  pub record RunsAgain (now load : ℕ) (old new : Base S T) (were are : List Presence) (tasks : List ℕ → List Task) : Type 0 where
     pub left : Loads
     pub left_is : under_way left ≡ but_for load (under_way old.loads)
     pub parts : PartsUnknown now (record { store = old.store; loads = left; tape = old.tape }) new were are (tasks (waiting_on load (under_way old.loads)))

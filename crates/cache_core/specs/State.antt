@@ -14,8 +14,7 @@ use Rattle.cache_tape.specs.Taped.{IsAtRest, Taped}
 use Rattle.cache_lines.specs.declared.base.Base.{Base}
 use Rattle.cache_loads.specs.Keys.{were_sent}
 use Rattle.cache_loads.specs.Pending.{loads_pending, namespace_of_loads, outgoing_loads, sent_of}
-use Rattle.cache_connection.specs.Shown.{open_from}
-use Rattle.cache_connection.specs.declared.connection.Connection.{Connection}
+use Rattle.cache_connections.specs.Presence.{Presence, closing_of, open_from, reply_text_of}
 
 -- A namespace: its store, and the tape of its records; the latest moment; the open connections; of each connection that was opened why it
 -- closed, if it did, and its replies that were not taken; how many loads were sent, and those under way; those that went out and were not
@@ -71,15 +70,20 @@ module _ {S T : Type 0} where
 
   -- ---- of what it is made
 
+  -- a namespace without connections
+  abbrev pub new_state : S → T → ℕ → ℕ → State S T
+  new_state store tape latest namespace =
+      record { store = store; tape = tape; latest = latest; connections = []; closings = []; outputs = []; sent = 0; pending = []; outgoing = []; namespace = namespace }
+
   -- a namespace of these parts
-  abbrev pub state_of : Base S T → ℕ → List Connection → State S T
+  abbrev pub state_of : Base S T → ℕ → List Presence → State S T
   state_of base latest connections = record {
     store = base.store;
     tape = base.tape;
     latest = latest;
     connections = open_from 1 connections;
-    closings = map (λ c. c.closing) connections;
-    outputs = map (λ c. c.output.text.items) connections;
+    closings = map closing_of connections;
+    outputs = map reply_text_of connections;
     sent = sent_of base.loads;
     pending = loads_pending base.loads;
     outgoing = outgoing_loads base.loads;

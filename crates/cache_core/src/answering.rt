@@ -14,9 +14,9 @@ ghost use Rattle.cache_store.specs.Values.{IsMoment};
 use crate::recording::begin_kept;
 use crate::reserving::reserve_all;
 use crate::settling::{resume_all, tell_all};
-use audit_model::{Accepted, Note, Outcome, Seq};
+use audit_model::{Accepted, Note, Outcome};
 use cache_commands::Keyed;
-use cache_connection::Connection;
+use cache_connections::Connections;
 use cache_lines::{Base, drain, most_notes};
 use cache_store::Store;
 use cache_tape::Tape;
@@ -89,7 +89,7 @@ pub fn begin_answer<S: Store, T: Tape>(
     alloc: Global,
     base: &mut Base<S, T>,
     now: u64,
-    connections: &mut Vec<Connection>,
+    connections: &mut Connections,
     load: u64,
     outcome: &Outcome,
 ) -> Result<Stored, AllocError>
@@ -97,8 +97,8 @@ pub fn begin_answer<S: Store, T: Tape>(
     requires fit { refusal_of_outcome (S.view base.old.store).frame.config outcome.now ≡ None }
     requires under { is_some (load_numbered load (loads_pending base.old.loads)) ≡ true }
     ensures begins { IfOk result (λ stored. BeginsAnswer S.view T.view now load outcome.now stored.accepted stored.notes.items (lines_for load (under_way base.old.loads)) base.old base.new) }
-    ensures same { AllLookAsBefore connections.old.items connections.new.items }
-    ensures room { OnOk result (HaveReplyRoom connections.new.items (length (outcome_text outcome.now)) (waiting_on load (under_way base.old.loads))) }
+    ensures same { AllLookAsBefore connections.old connections.new }
+    ensures room { OnOk result (HaveReplyRoom connections.new (length (outcome_text outcome.now)) (waiting_on load (under_way base.old.loads))) }
     ensures unchanged { OnErr result (BaseStays base.old base.new) }
 {
     let Some(found) = base.loads.get(load) else {
@@ -131,15 +131,15 @@ pub fn begin_answer<S: Store, T: Tape>(
 pub fn hand_out<S: Store, T: Tape>(
     base: &mut Base<S, T>,
     now: u64,
-    connections: &mut Vec<Connection>,
+    connections: &mut Connections,
     load: u64,
     outcome: &Outcome,
 )
-    requires amid { IsAmid S.view T.view now base.old connections.old.items (length (waiting_on load (under_way base.old.loads)) + length (waiting_on load (under_way base.old.loads))) }
+    requires amid { IsAmid S.view T.view now base.old connections.old (lines_for load (under_way base.old.loads)) }
     requires under { is_some (load_numbered load (loads_pending base.old.loads)) ≡ true }
-    requires waits { AreWaiting (S.view base.old.store).frame.config connections.old.items (waiting_on load (under_way base.old.loads)) }
-    requires room { HaveReplyRoom connections.old.items (length (outcome_text outcome.now)) (waiting_on load (under_way base.old.loads)) }
-    ensures out { HandsOut S.view T.view now load base.old base.new connections.old.items connections.new.items (λ numbers. map (λ conn. Deliver conn outcome.now) numbers ++ map RunLines numbers) }
+    requires waits { AreWaiting (S.view base.old.store).frame.config connections.old (waiting_on load (under_way base.old.loads)) }
+    requires room { HaveReplyRoom connections.old (length (outcome_text outcome.now)) (waiting_on load (under_way base.old.loads)) }
+    ensures out { HandsOut S.view T.view now load base.old base.new connections.old connections.new (λ numbers. map (λ conn. Deliver conn outcome.now) numbers ++ map RunLines numbers) }
     ensures goes { SameTaken base.old.loads base.new.loads }
 {
     let Some(settled) = base.loads.settle(load) else {

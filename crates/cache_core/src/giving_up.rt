@@ -1,7 +1,8 @@
 //! A give-up: each `LOAD` that waits for the load runs again, followed by its connection's lines.
-ghost use Rattle.std.specs.Prelude.{◌≡◌, ◌+◌, true, is_some, length, OnOk, OnErr};
+ghost use Rattle.std.specs.Prelude.{◌≡◌, ◌+◌, true, is_some, OnOk, OnErr};
 ghost use Rattle.std.specs.Option.{option_map};
 ghost use Rattle.audit_model.specs.Places.{tasks_to_give_up};
+ghost use Rattle.cache_core.specs.Rooms.{lines_for};
 ghost use Rattle.cache_core.specs.Settled.{IsAmid};
 ghost use Rattle.cache_core.specs.Settling.{AreWaiting, RunsAgain, waiting_on};
 ghost use Rattle.cache_lines.specs.Waiting.{under_way};
@@ -10,7 +11,7 @@ ghost use Rattle.cache_tape.specs.Taped.{IsAtRest, started};
 
 use crate::recording::begin_kept;
 use crate::settling::give_up_all;
-use cache_connection::Connection;
+use cache_connections::Connections;
 use cache_lines::Base;
 use cache_store::Store;
 use cache_tape::Tape;
@@ -20,7 +21,7 @@ use std::alloc::AllocError;
 pub fn begin_give_up<S: Store, T: Tape>(base: &mut Base<S, T>, load: u64) -> Result<(), AllocError>
     requires rests { IsAtRest (T.view base.old.tape) }
     requires under { is_some (load_numbered load (loads_pending base.old.loads)) ≡ true }
-    ensures begun { OnOk result (T.view base.new.tape ≡ option_map (started (length (waiting_on load (under_way base.old.loads)) + length (waiting_on load (under_way base.old.loads)))) (T.view base.old.tape)) }
+    ensures begun { OnOk result (T.view base.new.tape ≡ option_map (started (lines_for load (under_way base.old.loads))) (T.view base.old.tape)) }
     ensures rest { base.new ≡ record base.old { tape = base.new.tape } }
     ensures unchanged { OnErr result (base.new.tape ≡ base.old.tape) }
     ensures kept { OnErr result (is_some (T.view base.old.tape) ≡ true) }
@@ -36,13 +37,13 @@ pub fn begin_give_up<S: Store, T: Tape>(base: &mut Base<S, T>, load: u64) -> Res
 pub fn settle_give_up<S: Store, T: Tape>(
     base: &mut Base<S, T>,
     now: u64,
-    connections: &mut Vec<Connection>,
+    connections: &mut Connections,
     load: u64,
 )
-    requires amid { IsAmid S.view T.view now base.old connections.old.items (length (waiting_on load (under_way base.old.loads)) + length (waiting_on load (under_way base.old.loads))) }
+    requires amid { IsAmid S.view T.view now base.old connections.old (lines_for load (under_way base.old.loads)) }
     requires under { is_some (load_numbered load (loads_pending base.old.loads)) ≡ true }
-    requires waits { AreWaiting (S.view base.old.store).frame.config connections.old.items (waiting_on load (under_way base.old.loads)) }
-    ensures ran { RunsAgain S.view T.view now load base.old base.new connections.old.items connections.new.items tasks_to_give_up }
+    requires waits { AreWaiting (S.view base.old.store).frame.config connections.old (waiting_on load (under_way base.old.loads)) }
+    ensures ran { RunsAgain S.view T.view now load base.old base.new connections.old connections.new tasks_to_give_up }
     ensures goes { SameTaken base.old.loads base.new.loads }
 {
     let Some(settled) = base.loads.settle(load) else {

@@ -4,7 +4,7 @@ ghost use Rattle.audit_model.specs.Belongs.{refusal_of};
 ghost use Rattle.audit_model.specs.Situation.{Situation, is_holding_in};
 ghost use Rattle.audit_model.specs.declared.event.Event.TheVariants as event;
 ghost use Rattle.cache_core.specs.Settling.{Happens, answering, giving_up};
-ghost use Rattle.cache_core.specs.State.{IsInOrder, StandsFor, SuitsItself, closing_in, known_of, loads_taken_of, output_in, situation_with, was_opened};
+ghost use Rattle.cache_core.specs.State.{IsInOrder, StandsFor, SuitsItself, closing_in, known_of, loads_taken_of, new_state, output_in, situation_with, was_opened};
 ghost use Rattle.cache_core.specs.Turned.{RefusesBy, Turns, feeding, is_waiting_in};
 ghost use Rattle.cache_loads.specs.Keys.{are_in_turn, have_their_keys};
 ghost use Rattle.cache_store.specs.Handing.{TakesFirstNote};
@@ -13,15 +13,13 @@ ghost use Rattle.cache_tape.specs.Taped.{IsAtRest};
 
 use crate::answering::{Stored, begin_answer, hand_out};
 use crate::giving_up::{begin_give_up, settle_give_up};
-use crate::places::{
-    close_at, closing_of, find_open, find_opened, leave_closed, push_within, take_at,
-    waits_at_place,
-};
+use crate::places::{close_at, find_open, find_opened, leave_closed, take_at, waits_at_place};
 use crate::recording::{begin_kept, feed_at};
 use crate::refusing::{refuse_answer, refuse_load};
 use audit_model::{Bytes, Closing, Event, Instant, LoadId, Note, Outcome, Seq, ServiceError};
 use cache_commands::Keyed;
-use cache_connection::{Connection, new_connection};
+use cache_connection::new_connection;
+use cache_connections::Connections;
 use cache_lines::Base;
 use cache_loads::Loads;
 use cache_store::Store;
@@ -38,7 +36,7 @@ pub struct Namespace<S: Store, T: Tape> {
     alloc: Global,
     base: Base<S, T>,
     latest: u64,
-    connections: Vec<Connection>,
+    connections: Connections,
 }
 
 impl<S: Store, T: Tape> Model for Namespace<S, T> {
@@ -47,9 +45,9 @@ impl<S: Store, T: Tape> Model for Namespace<S, T> {
 
     ghost Value = { State S T };
 
-    ghost view = { λ n. state_of n.base n.latest n.connections.items };
+    ghost view = { λ n. state_of n.base n.latest n.connections };
 
-    ghost invariant = { λ n. IsInOrder S.view T.view (state_of n.base n.latest n.connections.items) };
+    ghost invariant = { λ n. IsInOrder S.view T.view (state_of n.base n.latest n.connections) };
 }
 
 impl<S: Store, T: Tape> Namespace<S, T> {
@@ -65,7 +63,7 @@ impl<S: Store, T: Tape> Namespace<S, T> {
         requires moment { latest < 2 ^ 63 }
         requires rests { IsAtRest (T.view tape) }
         requires untaken { (S.view store).untaken ≡ [] }
-        ensures { IfOk result (λ made. made ≡ record { store = store; tape = tape; latest = latest; connections = []; closings = []; outputs = []; sent = 0; pending = []; outgoing = []; namespace = namespace }) }
+        ensures { IfOk result (λ made. made ≡ new_state store tape latest namespace) }
     {
         let store = Keyed::new(alloc, store)?;
         Ok(Namespace {
@@ -76,7 +74,7 @@ impl<S: Store, T: Tape> Namespace<S, T> {
                 tape,
             },
             latest,
-            connections: Vec::new(alloc),
+            connections: Connections::new(alloc),
         })
     }
 
@@ -86,14 +84,20 @@ impl<S: Store, T: Tape> Namespace<S, T> {
         ensures unchanged { OnErr result (self.new ≡ self.old) }
     {
         self.base.store.sound();
-        self.connections.try_reserve(1)?;
         begin_kept(&mut self.base.tape, 0)?;
-        push_within(&mut self.connections, new_connection(self.alloc));
-        let number = self.connections.len() as u64;
-        self.base
-            .tape
-            .finish(Event::Open { conn: number }, None, Seq::new(self.alloc));
-        Ok(number)
+        match self.connections.push(new_connection(self.alloc)) {
+            Ok(()) => {
+                let number = self.connections.len() as u64;
+                self.base
+                    .tape
+                    .finish(Event::Open { conn: number }, None, Seq::new(self.alloc));
+                Ok(number)
+            }
+            Err(error) => {
+                self.base.tape.abandon();
+                Err(error)
+            }
+        }
     }
 
     /// Takes a piece of a connection's bytes, and answers whether its last command is held back. An `Err` changes nothing.
@@ -122,6 +126,7 @@ impl<S: Store, T: Tape> Namespace<S, T> {
             Ok(is_held) => {
                 self.base.store.sound();
                 leave_closed(&mut self.base.loads, number, &self.connections, index);
+                self.connections.retire(index);
                 self.latest = now;
                 Ok(is_held)
             }
@@ -145,6 +150,7 @@ impl<S: Store, T: Tape> Namespace<S, T> {
             return Err(ServiceError::OutOfMemory);
         };
         close_at(&mut self.connections, index);
+        self.connections.retire(index);
         self.base.loads.leave(number);
         self.base
             .tape
@@ -277,7 +283,7 @@ impl<S: Store, T: Tape> Namespace<S, T> {
             Ok(index) => index,
             Err(error) => return Err(error),
         };
-        Ok(closing_of(&self.connections, index))
+        Ok(self.connections.closing(index))
     }
 
     /// Whether a `LOAD` of a connection waits.

@@ -1,40 +1,32 @@
 //! The connections of a namespace, each at the place below its number.
-ghost use Rattle.std.specs.Prelude.{◌≡◌, ◌+◌, ◌<◌, ◌++◌, ◌∷◌, ◌&&◌, ◌↔◌, [], None, Some, false, IfOk, IfErr, IsErr, is_none, length, nat_le, nat_lt, vec_len, vec_capacity};
+ghost use Rattle.std.specs.Prelude.{◌≡◌, ◌+◌, ◌<◌, ◌&&◌, ◌↔◌, [], None, Some, false, IfOk, IfErr, IsErr, is_none, length, nat_le, nat_lt};
+ghost use Rattle.cache_connections.specs.Presence.{closing_at, text_at};
 ghost use Rattle.cache_core.specs.Fed.{ReplacedAt};
-ghost use Rattle.cache_core.specs.Places.{IsTakenFrom, closing_at, refusal_at, waits_at};
+ghost use Rattle.cache_core.specs.Places.{IsTakenAt, IsTakenFrom, refusal_at, waits_at};
 ghost use Rattle.cache_lines.specs.Outputs.{IsRoomy};
 ghost use Rattle.cache_lines.specs.Waiting.{under_way, when_left};
 ghost use Rattle.cache_loads.specs.Pending.{SameTaken};
 
 use audit_model::{Closing, ServiceError};
 use cache_connection::Connection;
+use cache_connections::Connections;
 use cache_lines::Output;
 use cache_loads::{Loads, Standing, is_waiting};
 use std::alloc::Global;
 use std::mem;
 
-/// Adds a connection for which there is room.
-pub fn push_within(connections: &mut Vec<Connection>, connection: Connection)
-    requires { vec_len connections.old < vec_capacity connections.old }
-    ensures items { connections.new.items ≡ connections.old.items ++ connection ∷ [] }
-    ensures len { vec_len connections.new ≡ vec_len connections.old + 1 }
-{
-    let Ok(()) = connections.push(connection) else {
-        unreachable!();
-    };
-}
-
-/// Why the connection at a place is closed, if it is.
-pub fn closing_of(connections: &[Connection], index: usize) -> Option<Closing>
+/// The number of the connection at a place.
+pub fn number_at(connections: &Connections, index: usize) -> u64
     requires { index < length connections.now }
-    ensures { result ≡ closing_at connections.now index }
+    ensures { result ≡ index + 1 }
 {
-    let connection = &connections[index];
-    connection.closing
+    let count = connections.len();
+    prove!(index < count);
+    index as u64 + 1
 }
 
 /// The place of an open connection.
-pub fn find_open(connections: &[Connection], number: u64) -> Result<usize, ServiceError>
+pub fn find_open(connections: &Connections, number: u64) -> Result<usize, ServiceError>
     ensures place { IfOk result (λ index. (number ≡ index + 1) × (index < length connections.now)) }
     ensures open { IfOk result (λ index. closing_at connections.now index ≡ None) }
     ensures refused { IfErr result (λ e. refusal_at connections.now number ≡ Some e) }
@@ -43,7 +35,7 @@ pub fn find_open(connections: &[Connection], number: u64) -> Result<usize, Servi
         return Err(ServiceError::NoConnection);
     }
     let index = (number - 1) as usize;
-    if closing_of(connections, index).is_none() {
+    if connections.closing(index).is_none() {
         Ok(index)
     } else {
         Err(ServiceError::Closed)
@@ -51,23 +43,25 @@ pub fn find_open(connections: &[Connection], number: u64) -> Result<usize, Servi
 }
 
 /// Takes the connection at a place out of those that wait, where it is closed.
-pub fn leave_closed(loads: &mut Loads, number: u64, connections: &[Connection], index: usize)
+pub fn leave_closed(loads: &mut Loads, number: u64, connections: &Connections, index: usize)
     requires { index < length connections.now }
     ensures left { under_way loads.new ≡ when_left (is_none (closing_at connections.now index)) number (under_way loads.old) }
     ensures goes { SameTaken loads.old loads.new }
 {
-    if closing_of(connections, index).is_some() {
+    if connections.closing(index).is_some() {
         loads.leave(number);
     }
 }
 
-/// Closes the connection at a place.
-pub fn close_at(connections: &mut Vec<Connection>, index: usize)
-    requires { index < length connections.old.items }
-    ensures { (p : ReplacedAt connections.old.items connections.new.items index) × (p.is.closing ≡ Some Closing.Asked) × (p.is.output.text.items ≡ p.was.output.text.items) }
+/// Closes the open connection at a place.
+pub fn close_at(connections: &mut Connections, index: usize)
+    requires inside { index < length connections.old }
+    requires open { closing_at connections.old index ≡ None }
+    ensures { (p : ReplacedAt connections.old connections.new index) × (p.is.closing ≡ Some Closing.Asked) × (p.is.output.text.items ≡ p.was.output.text.items) }
 {
-    let connection = &mut connections[index];
-    close_connection(connection);
+    let mut connection = connections.take(index);
+    close_connection(&mut connection);
+    connections.put(index, connection);
 }
 
 fn close_connection(connection: &mut Connection)
@@ -81,7 +75,7 @@ fn close_connection(connection: &mut Connection)
 }
 
 /// The place of a connection that was opened.
-pub fn find_opened(connections: &[Connection], number: u64) -> Result<usize, ServiceError>
+pub fn find_opened(connections: &Connections, number: u64) -> Result<usize, ServiceError>
     ensures place { IfOk result (λ index. (number ≡ index + 1) × (index < length connections.now)) }
     ensures refused { IsErr result ↔ ((nat_lt 0 number && nat_le number (length connections.now)) ≡ false) }
     ensures error { IfErr result (λ e. e ≡ ServiceError.NoConnection) }
@@ -93,12 +87,14 @@ pub fn find_opened(connections: &[Connection], number: u64) -> Result<usize, Ser
 }
 
 /// Whether a `LOAD` of the connection at a place waits.
-pub fn waits_at_place(connections: &[Connection], index: usize) -> bool
+pub fn waits_at_place(connections: &Connections, index: usize) -> bool
     requires { index < length connections.now }
     ensures { result ≡ waits_at connections.now index }
 {
-    let connection = &connections[index];
-    connection.closing.is_none() && is_waiting(connection.standing)
+    match connections.get(index) {
+        Some(connection) => connection.closing.is_none() && is_waiting(connection.standing),
+        None => false,
+    }
 }
 
 /// Moves an output out, and leaves room for the reply to the `LOAD` that waits.
@@ -126,11 +122,18 @@ fn take_text(alloc: Global, connection: &mut Connection) -> Vec<u8>
     mem::replace(&mut connection.output.text, Vec::new(alloc))
 }
 
-/// Moves out the replies of the connection at a place.
-pub fn take_at(alloc: Global, connections: &mut Vec<Connection>, index: usize) -> Vec<u8>
-    requires { index < length connections.old.items }
-    ensures { (p : ReplacedAt connections.old.items connections.new.items index) × IsTakenFrom p.was p.is × (result.items ≡ p.was.output.text.items) }
+/// Moves out the replies of the connection at a place, of which little stays where it has closed.
+pub fn take_at(alloc: Global, connections: &mut Connections, index: usize) -> Vec<u8>
+    requires { index < length connections.old }
+    ensures rest { IsTakenAt connections.old connections.new index }
+    ensures taken { result.items ≡ text_at connections.old index }
 {
-    let connection = &mut connections[index];
-    take_text(alloc, connection)
+    if connections.get(index).is_none() {
+        return Vec::new(alloc);
+    }
+    let mut connection = connections.take(index);
+    let text = take_text(alloc, &mut connection);
+    connections.put(index, connection);
+    connections.retire(index);
+    text
 }

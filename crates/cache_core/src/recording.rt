@@ -1,17 +1,19 @@
 //! A piece of a connection's bytes, and its record.
-ghost use Rattle.std.specs.Prelude.{◌≡◌, ◌+◌, ◌<◌, ◌≤◌, None, Some, true, is_some, length, IfOk, IfErr, OnOk, OnErr};
+ghost use Rattle.std.specs.Prelude.{◌≡◌, ◌<◌, ◌≤◌, None, Some, true, is_some, length, IfOk, IfErr, OnOk, OnErr};
 ghost use Rattle.std.specs.List.{slice_get};
 ghost use Rattle.std.specs.Option.{option_map};
 ghost use Rattle.cache_connection.specs.Fed.{LooksAsBefore, seen_of};
-ghost use Rattle.cache_core.specs.Fed.{BaseStays, CanTurn, FedTurn, FeedsAt, ReplacedAt, WantsMemory, seen_at};
-ghost use Rattle.cache_core.specs.Places.{closing_at};
+ghost use Rattle.cache_core.specs.Fed.{BaseStays, CanTurn, FedTurnOver, FeedsAt, ReplacedAt, WantsMemory, seen_at};
+ghost use Rattle.cache_connections.specs.Presence.{Here, closing_at};
 ghost use Rattle.cache_connection.specs.declared.connection.Connection.{Connection as Open};
 ghost use Rattle.cache_loads.specs.Pending.{SameTaken};
 ghost use Rattle.cache_loads.specs.Standings.{holds_line};
 ghost use Rattle.cache_tape.specs.Taped.{IsAtRest, started};
 
+use crate::places::number_at;
 use audit_model::{Bytes, Event, Instant, Seq, ServiceError};
 use cache_connection::{Connection, feed_connection};
+use cache_connections::Connections;
 use cache_lines::Base;
 use cache_store::Store;
 use cache_tape::Tape;
@@ -78,7 +80,7 @@ pub fn feed_recorded<S: Store, T: Tape>(
 ) -> Result<bool, ServiceError>
     requires can_turn { CanTurn now (seen_of S.view T.view base.old connection.old) }
     requires open { connection.old.closing ≡ None }
-    ensures turned { IfOk result (λ is_held. FedTurn now number moment.nanos connection.old piece.now connection.new is_held (seen_of S.view T.view base.old connection.old) (seen_of S.view T.view base.new connection.new)) }
+    ensures turned { IfOk result (λ is_held. FedTurnOver S.view T.view now number moment.nanos base.old base.new connection.old piece.now connection.new is_held) }
     ensures refused { IfErr result (WantsMemory (holds_line connection.old.standing)) }
     ensures unchanged { OnErr result (BaseStays base.old base.new × LooksAsBefore connection.old connection.new) }
     ensures goes { SameTaken base.old.loads base.new.loads }
@@ -104,23 +106,22 @@ pub fn feed_recorded<S: Store, T: Tape>(
 pub fn feed_at<S: Store, T: Tape>(
     base: &mut Base<S, T>,
     now: u64,
-    connections: &mut Vec<Connection>,
+    connections: &mut Connections,
     index: usize,
     piece: &[u8],
     moment: Instant,
 ) -> Result<bool, ServiceError>
-    requires can_turn { CanTurn now (seen_at S.view T.view base.old connections.old.items index) }
-    requires inside { index < length connections.old.items }
-    requires open { closing_at connections.old.items index ≡ None }
-    ensures turned { IfOk result (λ is_held. FeedsAt S.view T.view now moment.nanos index piece.now is_held base.old base.new connections.old.items connections.new.items) }
-    ensures refused { IfErr result (λ e. (c : Open) → slice_get connections.old.items index ≡ Some c → WantsMemory (holds_line c.standing) e) }
-    ensures unchanged { OnErr result (BaseStays base.old base.new × (p : ReplacedAt connections.old.items connections.new.items index) × LooksAsBefore p.was p.is) }
+    requires can_turn { CanTurn now (seen_at S.view T.view base.old connections.old index) }
+    requires inside { index < length connections.old }
+    requires open { closing_at connections.old index ≡ None }
+    ensures turned { IfOk result (λ is_held. FeedsAt S.view T.view now moment.nanos index piece.now is_held base.old base.new connections.old connections.new) }
+    ensures refused { IfErr result (λ e. (c : Open) → slice_get connections.old index ≡ Some (Here c) → WantsMemory (holds_line c.standing) e) }
+    ensures unchanged { OnErr result (BaseStays base.old base.new × (p : ReplacedAt connections.old connections.new index) × LooksAsBefore p.was p.is) }
     ensures goes { SameTaken base.old.loads base.new.loads }
 {
-    let number = index as u64 + 1;
-    let connection = &mut connections[index];
-    match feed_recorded(base, now, number, connection, piece, moment) {
-        Ok(is_held) => Ok(is_held),
-        Err(error) => Err(error),
-    }
+    let number = number_at(connections, index);
+    let mut connection = connections.take(index);
+    let fed = feed_recorded(base, now, number, &mut connection, piece, moment);
+    connections.put(index, connection);
+    fed
 }

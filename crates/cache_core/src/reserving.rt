@@ -1,12 +1,13 @@
 //! Room for the replies to the connections that wait for a load.
-ghost use Rattle.std.specs.Prelude.{◌≡◌, ◌≢◌, ◌≤◌, ◌<◌, ◌+◌, ◌-◌, ℕ, Some, OnOk, length, vec_len, vec_capacity};
+ghost use Rattle.std.specs.Prelude.{◌≡◌, ◌≢◌, ◌≤◌, ◌+◌, ◌-◌, ℕ, true, OnOk, vec_len, vec_capacity};
 ghost use Rattle.std.specs.List.{slice_get};
 ghost use Rattle.cache_connection.specs.Fed.{LooksAsBefore};
-ghost use Rattle.cache_connection.specs.declared.connection.Connection.{Connection as Waiter};
 ghost use Rattle.cache_core.specs.Fed.{ReplacedAt};
-ghost use Rattle.cache_core.specs.Settling.{AllLookAsBefore, HaveReplyRoom};
+ghost use Rattle.cache_connections.specs.Presence.{is_here};
+ghost use Rattle.cache_core.specs.Settling.{AllLookAsBefore, HasReplyRoomAt, HaveReplyRoom};
 
 use cache_connection::Connection;
+use cache_connections::Connections;
 use std::alloc::AllocError;
 
 /// Makes room for so many more bytes of replies. An `Err` changes nothing that is seen.
@@ -18,27 +19,25 @@ fn reserve(connection: &mut Connection, size: usize) -> Result<(), AllocError>
 }
 
 /// Makes room for so many more bytes of replies of the connection at a place. An `Err` changes nothing that is seen.
-fn reserve_there(
-    connections: &mut Vec<Connection>,
-    index: usize,
-    size: usize,
-) -> Result<(), AllocError>
-    requires inside { index < length connections.old.items }
-    ensures same { (p : ReplacedAt connections.old.items connections.new.items index) × LooksAsBefore p.was p.is }
-    ensures room { OnOk result ((c : Waiter) → slice_get connections.new.items index ≡ Some c → vec_len c.output.text + size ≤ vec_capacity c.output.text) }
+fn reserve_there(connections: &mut Connections, index: usize, size: usize) -> Result<(), AllocError>
+    requires { is_here (slice_get connections.old index) ≡ true }
+    ensures same { (p : ReplacedAt connections.old connections.new index) × LooksAsBefore p.was p.is }
+    ensures room { OnOk result (HasReplyRoomAt connections.new size index) }
 {
-    let connection = &mut connections[index];
-    reserve(connection, size)
+    let mut connection = connections.take(index);
+    let reserved = reserve(&mut connection, size);
+    connections.put(index, connection);
+    reserved
 }
 
 /// Makes room for so many more bytes of replies of a connection, if it is there. An `Err` changes nothing that is seen.
-fn reserve_at(connections: &mut Vec<Connection>, number: u64, size: usize) -> Result<(), AllocError>
-    ensures same { AllLookAsBefore connections.old.items connections.new.items }
-    ensures others { (place : ℕ) → place ≢ number - 1 → slice_get connections.new.items place ≡ slice_get connections.old.items place }
-    ensures room { OnOk result ((c : Waiter) → slice_get connections.new.items (number - 1) ≡ Some c → vec_len c.output.text + size ≤ vec_capacity c.output.text) }
+fn reserve_at(connections: &mut Connections, number: u64, size: usize) -> Result<(), AllocError>
+    ensures same { AllLookAsBefore connections.old connections.new }
+    ensures others { (place : ℕ) → place ≢ number - 1 → slice_get connections.new place ≡ slice_get connections.old place }
+    ensures room { OnOk result (HasReplyRoomAt connections.new size (number - 1)) }
 {
     let index = number.saturating_sub(1) as usize;
-    if index >= connections.len() {
+    if index >= connections.len() || connections.get(index).is_none() {
         return Ok(());
     }
     reserve_there(connections, index, size)
@@ -46,12 +45,12 @@ fn reserve_at(connections: &mut Vec<Connection>, number: u64, size: usize) -> Re
 
 /// Makes room for so many more bytes of replies of each of those connections. An `Err` changes nothing that is seen.
 pub fn reserve_all(
-    connections: &mut Vec<Connection>,
+    connections: &mut Connections,
     waiting: &[u64],
     size: usize,
 ) -> Result<(), AllocError>
-    ensures same { AllLookAsBefore connections.old.items connections.new.items }
-    ensures room { OnOk result (HaveReplyRoom connections.new.items size waiting.now) }
+    ensures same { AllLookAsBefore connections.old connections.new }
+    ensures room { OnOk result (HaveReplyRoom connections.new size waiting.now) }
 {
     for number in waiting {
         reserve_at(connections, *number, size)?;

@@ -6,14 +6,15 @@ ghost use Rattle.audit_model.specs.Replies.{outcome_text};
 ghost use Rattle.audit_model.specs.Steps.{Deliver, RunAgain, RunLines};
 ghost use Rattle.cache_core.specs.Fed.{seen_at};
 ghost use Rattle.cache_core.specs.Settled.{IsAmid, Parts};
-ghost use Rattle.cache_core.specs.Settling.{AreThere, AreWaiting, HasReplyRoomAt, HaveReplyRoom, IsWaitingAt, LeavesOthers, PartsUnknown, Reruns, ResumesAt, runs_at};
+ghost use Rattle.cache_core.specs.Settling.{AreThere, AreWaiting, HasReplyRoomAt, HaveReplyRoom, IsWaitingAt, LeavesOthers, PartsUnknown, Reruns, ResumesAt, runs_at, runs_with};
 ghost use Rattle.cache_lines.specs.Bases.{CanRun};
 ghost use Rattle.cache_lines.specs.Ended.{spare_of};
 ghost use Rattle.cache_loads.specs.Pending.{SameTaken};
 
-use crate::places::leave_closed;
+use crate::places::{leave_closed, number_at};
 use audit_model::Outcome;
 use cache_connection::{Connection, deliver, feed_ready, run_again};
+use cache_connections::Connections;
 use cache_lines::Base;
 use cache_loads::Standing;
 use cache_store::Store;
@@ -21,7 +22,7 @@ use cache_tape::Tape;
 
 /// Whether the connection is open and runs lines.
 fn runs(connection: &Connection) -> bool
-    ensures { result ≡ runs_at (Some connection.now) }
+    ensures { result ≡ runs_with connection.now.closing connection.now.standing }
 {
     match connection.closing {
         Some(_) => false,
@@ -34,45 +35,48 @@ fn runs(connection: &Connection) -> bool
 }
 
 /// Whether the connection at a place is open and runs lines.
-fn runs_there(connections: &[Connection], index: usize) -> bool
+fn runs_there(connections: &Connections, index: usize) -> bool
     requires { index < length connections.now }
     ensures { result ≡ runs_at (slice_get connections.now index) }
 {
-    let connection = &connections[index];
-    runs(connection)
+    match connections.get(index) {
+        Some(connection) => runs(connection),
+        None => false,
+    }
 }
 
 /// Runs the lines of the connection at a place, which is open and runs lines.
 fn resume_there<S: Store, T: Tape>(
     base: &mut Base<S, T>,
     now: u64,
-    connections: &mut Vec<Connection>,
+    connections: &mut Connections,
     index: usize,
 )
-    requires can_run { CanRun now (seen_at S.view T.view base.old connections.old.items index) }
-    requires inside { index < length connections.old.items }
-    requires runs { runs_at (slice_get connections.old.items index) ≡ true }
-    ensures ran { ResumesAt S.view T.view now index base.old base.new connections.old.items connections.new.items }
+    requires can_run { CanRun now (seen_at S.view T.view base.old connections.old index) }
+    requires inside { index < length connections.old }
+    requires runs { runs_at (slice_get connections.old index) ≡ true }
+    ensures ran { ResumesAt S.view T.view now index base.old base.new connections.old connections.new }
     ensures spare { spare_of (T.view base.old.tape) ≤ spare_of (T.view base.new.tape) + 1 }
     ensures goes { SameTaken base.old.loads base.new.loads }
 {
-    let number = index as u64 + 1;
-    let connection = &mut connections[index];
-    feed_ready(base, now, number, connection, &[]);
+    let number = number_at(connections, index);
+    let mut connection = connections.take(index);
+    feed_ready(base, now, number, &mut connection, &[]);
+    connections.put(index, connection);
 }
 
 /// Runs the lines of the connection at a place, where it is open and runs lines.
 pub fn resume_at<S: Store, T: Tape>(
     base: &mut Base<S, T>,
     now: u64,
-    connections: &mut Vec<Connection>,
+    connections: &mut Connections,
     index: usize,
 )
-    requires amid { IsAmid S.view T.view now base.old connections.old.items 1 }
-    requires inside { index < length connections.old.items }
-    ensures ran { Parts S.view T.view now base.old base.new connections.old.items connections.new.items (RunLines (index + 1) ∷ []) }
-    ensures amid { (lines : ℕ) → IsAmid S.view T.view now base.old connections.old.items (suc lines) → IsAmid S.view T.view now base.new connections.new.items lines }
-    ensures others { LeavesOthers connections.old.items connections.new.items index }
+    requires amid { IsAmid S.view T.view now base.old connections.old 1 }
+    requires inside { index < length connections.old }
+    ensures ran { Parts S.view T.view now base.old base.new connections.old connections.new (RunLines (index + 1) ∷ []) }
+    ensures amid { (lines : ℕ) → IsAmid S.view T.view now base.old connections.old (suc lines) → IsAmid S.view T.view now base.new connections.new lines }
+    ensures others { LeavesOthers connections.old connections.new index }
     ensures goes { SameTaken base.old.loads base.new.loads }
 {
     base.store.sound();
@@ -80,66 +84,69 @@ pub fn resume_at<S: Store, T: Tape>(
         return;
     }
     resume_there(base, now, connections, index);
-    leave_closed(&mut base.loads, index as u64 + 1, connections, index);
+    let number = number_at(connections, index);
+    leave_closed(&mut base.loads, number, connections, index);
 }
 
 /// Hands the outcome to the connection at a place, whose `LOAD` waits, in reserved room.
 fn tell_at<S: Store, T: Tape>(
     base: &mut Base<S, T>,
     now: u64,
-    connections: &mut Vec<Connection>,
+    connections: &mut Connections,
     index: usize,
     outcome: &Outcome,
 )
-    requires amid { IsAmid S.view T.view now base.old connections.old.items 1 }
-    requires inside { index < length connections.old.items }
-    requires waits { IsWaitingAt (S.view base.old.store).frame.config connections.old.items (index + 1) }
-    requires room { HasReplyRoomAt connections.old.items (length (outcome_text outcome.now)) index }
-    ensures ran { Parts S.view T.view now base.old base.new connections.old.items connections.new.items (Deliver (index + 1) outcome.now ∷ []) }
-    ensures amid { (lines : ℕ) → IsAmid S.view T.view now base.old connections.old.items (suc lines) → IsAmid S.view T.view now base.new connections.new.items lines }
-    ensures others { LeavesOthers connections.old.items connections.new.items index }
+    requires amid { IsAmid S.view T.view now base.old connections.old 1 }
+    requires inside { index < length connections.old }
+    requires waits { IsWaitingAt (S.view base.old.store).frame.config connections.old (index + 1) }
+    requires room { HasReplyRoomAt connections.old (length (outcome_text outcome.now)) index }
+    ensures ran { Parts S.view T.view now base.old base.new connections.old connections.new (Deliver (index + 1) outcome.now ∷ []) }
+    ensures amid { (lines : ℕ) → IsAmid S.view T.view now base.old connections.old (suc lines) → IsAmid S.view T.view now base.new connections.new lines }
+    ensures others { LeavesOthers connections.old connections.new index }
     ensures goes { SameTaken base.old.loads base.new.loads }
 {
     base.store.sound();
-    let number = index as u64 + 1;
-    let connection = &mut connections[index];
-    deliver(base, now, number, connection, outcome);
+    let number = number_at(connections, index);
+    let mut connection = connections.take(index);
+    deliver(base, now, number, &mut connection, outcome);
+    connections.put(index, connection);
 }
 
 /// Runs the waiting `LOAD` of the connection at a place again.
 fn again_at<S: Store, T: Tape>(
     base: &mut Base<S, T>,
     now: u64,
-    connections: &mut Vec<Connection>,
+    connections: &mut Connections,
     index: usize,
 )
-    requires amid { IsAmid S.view T.view now base.old connections.old.items 1 }
-    requires inside { index < length connections.old.items }
-    requires waits { IsWaitingAt (S.view base.old.store).frame.config connections.old.items (index + 1) }
-    ensures ran { Reruns S.view T.view now base.old base.new connections.old.items connections.new.items (RunAgain (index + 1) ∷ []) }
-    ensures amid { (lines : ℕ) → IsAmid S.view T.view now base.old connections.old.items (suc lines) → IsAmid S.view T.view now base.new connections.new.items lines }
-    ensures others { LeavesOthers connections.old.items connections.new.items index }
+    requires amid { IsAmid S.view T.view now base.old connections.old 1 }
+    requires inside { index < length connections.old }
+    requires waits { IsWaitingAt (S.view base.old.store).frame.config connections.old (index + 1) }
+    ensures ran { Reruns S.view T.view now base.old base.new connections.old connections.new (RunAgain (index + 1) ∷ []) }
+    ensures amid { (lines : ℕ) → IsAmid S.view T.view now base.old connections.old (suc lines) → IsAmid S.view T.view now base.new connections.new lines }
+    ensures others { LeavesOthers connections.old connections.new index }
     ensures goes { SameTaken base.old.loads base.new.loads }
 {
     base.store.sound();
-    let number = index as u64 + 1;
-    let connection = &mut connections[index];
-    run_again(base, now, number, connection);
+    let number = number_at(connections, index);
+    let mut connection = connections.take(index);
+    run_again(base, now, number, &mut connection);
+    connections.put(index, connection);
 }
 
 /// Runs the waiting `LOAD` of the connection at a place again, and then its lines.
 fn give_up_at<S: Store, T: Tape>(
     base: &mut Base<S, T>,
     now: u64,
-    connections: &mut Vec<Connection>,
+    connections: &mut Connections,
     index: usize,
 )
-    requires amid { IsAmid S.view T.view now base.old connections.old.items 2 }
-    requires inside { index < length connections.old.items }
-    requires waits { IsWaitingAt (S.view base.old.store).frame.config connections.old.items (index + 1) }
-    ensures ran { Reruns S.view T.view now base.old base.new connections.old.items connections.new.items (RunAgain (index + 1) ∷ RunLines (index + 1) ∷ []) }
-    ensures amid { (lines : ℕ) → IsAmid S.view T.view now base.old connections.old.items (suc (suc lines)) → IsAmid S.view T.view now base.new connections.new.items lines }
-    ensures others { LeavesOthers connections.old.items connections.new.items index }
+    requires amid { IsAmid S.view T.view now base.old connections.old 2 }
+    requires inside { index < length connections.old }
+    requires waits { IsWaitingAt (S.view base.old.store).frame.config connections.old (index + 1) }
+    ensures ran { Reruns S.view T.view now base.old base.new connections.old connections.new (RunAgain (index + 1) ∷ RunLines (index + 1) ∷ []) }
+    ensures amid { (lines : ℕ) → IsAmid S.view T.view now base.old connections.old (suc (suc lines)) → IsAmid S.view T.view now base.new connections.new lines }
+    ensures others { LeavesOthers connections.old connections.new index }
     ensures goes { SameTaken base.old.loads base.new.loads }
 {
     again_at(base, now, connections, index);
@@ -150,16 +157,16 @@ fn give_up_at<S: Store, T: Tape>(
 pub fn tell_all<S: Store, T: Tape>(
     base: &mut Base<S, T>,
     now: u64,
-    connections: &mut Vec<Connection>,
+    connections: &mut Connections,
     waiting: &[u64],
     outcome: &Outcome,
 )
-    requires amid { IsAmid S.view T.view now base.old connections.old.items (length waiting.now) }
-    requires waits { AreWaiting (S.view base.old.store).frame.config connections.old.items waiting.now }
-    requires room { HaveReplyRoom connections.old.items (length (outcome_text outcome.now)) waiting.now }
-    ensures ran { Parts S.view T.view now base.old base.new connections.old.items connections.new.items (map (λ conn. Deliver conn outcome.now) waiting.now) }
-    ensures amid { (lines : ℕ) → IsAmid S.view T.view now base.old connections.old.items (length waiting.now + lines) → IsAmid S.view T.view now base.new connections.new.items lines }
-    ensures count { length connections.new.items ≡ length connections.old.items }
+    requires amid { IsAmid S.view T.view now base.old connections.old (length waiting.now) }
+    requires waits { AreWaiting (S.view base.old.store).frame.config connections.old waiting.now }
+    requires room { HaveReplyRoom connections.old (length (outcome_text outcome.now)) waiting.now }
+    ensures ran { Parts S.view T.view now base.old base.new connections.old connections.new (map (λ conn. Deliver conn outcome.now) waiting.now) }
+    ensures amid { (lines : ℕ) → IsAmid S.view T.view now base.old connections.old (length waiting.now + lines) → IsAmid S.view T.view now base.new connections.new lines }
+    ensures count { length connections.new ≡ length connections.old }
     ensures goes { SameTaken base.old.loads base.new.loads }
 {
     for number in waiting {
@@ -172,12 +179,12 @@ pub fn tell_all<S: Store, T: Tape>(
 pub fn resume_all<S: Store, T: Tape>(
     base: &mut Base<S, T>,
     now: u64,
-    connections: &mut Vec<Connection>,
+    connections: &mut Connections,
     waiting: &[u64],
 )
-    requires amid { IsAmid S.view T.view now base.old connections.old.items (length waiting.now) }
-    requires inside { AreThere connections.old.items waiting.now }
-    ensures ran { Parts S.view T.view now base.old base.new connections.old.items connections.new.items (map RunLines waiting.now) }
+    requires amid { IsAmid S.view T.view now base.old connections.old (length waiting.now) }
+    requires inside { AreThere connections.old waiting.now }
+    ensures ran { Parts S.view T.view now base.old base.new connections.old connections.new (map RunLines waiting.now) }
     ensures goes { SameTaken base.old.loads base.new.loads }
 {
     for number in waiting {
@@ -190,12 +197,12 @@ pub fn resume_all<S: Store, T: Tape>(
 pub fn give_up_all<S: Store, T: Tape>(
     base: &mut Base<S, T>,
     now: u64,
-    connections: &mut Vec<Connection>,
+    connections: &mut Connections,
     waiting: &[u64],
 )
-    requires amid { IsAmid S.view T.view now base.old connections.old.items (length waiting.now + length waiting.now) }
-    requires waits { AreWaiting (S.view base.old.store).frame.config connections.old.items waiting.now }
-    ensures ran { PartsUnknown S.view T.view now base.old base.new connections.old.items connections.new.items (tasks_to_give_up waiting.now) }
+    requires amid { IsAmid S.view T.view now base.old connections.old (length waiting.now + length waiting.now) }
+    requires waits { AreWaiting (S.view base.old.store).frame.config connections.old waiting.now }
+    ensures ran { PartsUnknown S.view T.view now base.old base.new connections.old connections.new (tasks_to_give_up waiting.now) }
     ensures goes { SameTaken base.old.loads base.new.loads }
 {
     for number in waiting {

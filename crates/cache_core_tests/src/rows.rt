@@ -1,6 +1,6 @@
 //! What two connections of a namespace that load are asked, row by row, and what has to come of it. What is refused for memory is asked
 //! once more.
-ghost use Rattle.std.specs.Prelude.{◌≡◌, ◌≤◌, ℕ, true, Some};
+ghost use Rattle.std.specs.Prelude.{◌≡◌, ◌≤◌, ◌<◌, ◌^◌, ℕ, [], true, Some};
 ghost use Rattle.cache_parts.specs.Parts.{IsBrief};
 ghost use Rattle.cache_tape.specs.Taped.{IsAtRest};
 
@@ -46,13 +46,16 @@ pub enum Given<'a> {
     Fault(&'a [u8]),
 }
 
-/// What is asked, and what has to come of it. Where no moment is named it is the start's. Replies are told where no records are kept.
+/// What is asked, and what has to come of it. Pieces are fed at the space's moment, which is the start's where none is named. Replies are
+/// told where no records are kept.
 #[derive(Clone, Copy)]
 pub enum Row<'a> {
     /// A piece, and what the connection is replied till then.
     Says(u64, &'a [u8], &'a [u8]),
     /// A piece of so many bytes without a line's end, of which all is taken.
     Feeds(u64, usize),
+    /// A piece that is refused.
+    Refuses(u64, &'a [u8], ServiceError),
     Output(u64, &'a [u8]),
     /// The numbers of the loads of `k` that go out.
     Sends(&'a [u64]),
@@ -61,6 +64,8 @@ pub enum Row<'a> {
     GivesUp(u64, Instant, Result<(), ServiceError>),
     /// The loads from one number to before another go out and are given up, one after the other, and nobody is replied.
     GivesUpEach(u64, u64),
+    /// A further connection, which has that number.
+    Opens(u64),
     Closes(u64),
     Closed(u64, Option<Closing>),
     /// How many notes come out.
@@ -73,6 +78,7 @@ struct Space<S: Store, T: Tape> {
     alloc: Global,
     inner: Namespace<S, T>,
     keeps: bool,
+    now: Instant,
 }
 
 fn open<S: Store, T: Tape>(space: &mut Space<S, T>) -> Result<u64, AllocError> {
@@ -88,8 +94,8 @@ fn feed_piece<S: Store, T: Tape>(
     conn: u64,
     piece: &[u8],
 ) -> Result<bool, ServiceError> {
-    match space.inner.feed(conn, piece, START) {
-        Err(ServiceError::OutOfMemory) => space.inner.feed(conn, piece, START),
+    match space.inner.feed(conn, piece, space.now) {
+        Err(ServiceError::OutOfMemory) => space.inner.feed(conn, piece, space.now),
         fed => fed,
     }
 }
@@ -101,7 +107,7 @@ fn feed<S: Store, T: Tape>(
     piece: &[u8],
 ) -> Result<bool, ServiceError> {
     match feed_piece(space, conn, piece) {
-        Ok(true) => space.inner.feed(conn, b"", START),
+        Ok(true) => space.inner.feed(conn, b"", space.now),
         fed => fed,
     }
 }
@@ -288,6 +294,7 @@ fn comes_so<S: Store, T: Tape>(space: &mut Space<S, T>, row: Row<'_>) -> bool {
     match row {
         Row::Says(conn, piece, replies) => says(space, conn, piece, replies),
         Row::Feeds(conn, length) => feeds(space, conn, length),
+        Row::Refuses(conn, piece, wanted) => feed_piece(space, conn, piece) == Err(wanted),
         Row::Output(conn, wanted) => is_output(space, conn, wanted),
         Row::Sends(numbers) => sends(space, numbers),
         Row::Waits(conn, wanted) => space.inner.waiting(conn) == Ok(wanted),
@@ -296,6 +303,7 @@ fn comes_so<S: Store, T: Tape>(space: &mut Space<S, T>, row: Row<'_>) -> bool {
         }
         Row::GivesUp(number, moment, wanted) => give_up(space, number, moment) == wanted,
         Row::GivesUpEach(first, end) => gives_up_each(space, first, end),
+        Row::Opens(number) => open(space) == Ok(number),
         Row::Closes(conn) => space.inner.close(conn).is_ok() || space.inner.close(conn).is_ok(),
         Row::Closed(conn, wanted) => space.inner.closed(conn) == Ok(wanted),
         Row::Notes(count) => are_notes(space, count),
@@ -316,8 +324,6 @@ fn open_two<S: Store, T: Tape>(space: &mut Space<S, T>) -> Result<bool, AllocErr
     Ok(open(space)? == FIRST && open(space)? == SECOND)
 }
 
-type Values = FrontStore<SplitMix64, KeyedHasher>;
-
 /// Whether a time has at most twelve digits.
 fn is_short(milliseconds: Option<u64>) -> bool
     ensures { result ≡ true → (ms : ℕ) → milliseconds ≡ Some ms → ms ≤ 999999999999 }
@@ -335,60 +341,102 @@ fn is_brief(config: &Config) -> bool
     is_short(config.live_ms) && is_short(config.idle_ms)
 }
 
-fn make<T: Tape>(
+/// When a namespace is made, and when pieces are fed to it.
+#[derive(Clone, Copy)]
+pub struct Moments {
+    pub made: u64,
+    pub now: Instant,
+}
+
+/// All at the start.
+const AT_START: Moments = Moments {
+    made: 0,
+    now: START,
+};
+
+/// Whether a namespace opens two connections, and then each row comes out so.
+fn all_so<S: Store, T: Tape>(space: &mut Space<S, T>, rows: &[Row<'_>]) -> bool {
+    match open_two(space) {
+        Ok(true) => first_wrong_of(space, rows).is_none(),
+        _ => false,
+    }
+}
+
+/// Whether each row comes out so, of a new namespace over a store; none without memory for it.
+fn so_over<S: Store, T: Tape>(
+    alloc: Global,
+    store: S,
+    tape: T,
+    moments: Moments,
+    keeps: bool,
+    rows: &[Row<'_>],
+) -> Option<bool>
+    requires latest { (S.view store).frame.latest ≡ moments.made }
+    requires moment { moments.made < 2 ^ 63 }
+    requires rests { IsAtRest (T.view tape) }
+    requires untaken { (S.view store).untaken ≡ [] }
+{
+    let Moments { made, now } = moments;
+    match Namespace::new(alloc, 0, store, tape, made) {
+        Ok(inner) => {
+            let mut space = Space {
+                alloc,
+                inner,
+                keeps,
+                now,
+            };
+            Some(all_so(&mut space, rows))
+        }
+        Err(_) => None,
+    }
+}
+
+/// The same over a new store.
+fn so_of_new<T: Tape>(
     alloc: Global,
     config: Config,
+    moments: Moments,
     tape: T,
     keeps: bool,
-) -> Result<Space<Values, T>, AllocError>
+    rows: &[Row<'_>],
+) -> Option<bool>
     requires { IsAtRest (T.view tape) }
 {
-    if !is_brief(&config) {
-        return Err(AllocError);
+    if moments.made >= LATE.nanos || !is_brief(&config) {
+        return None;
     }
     let generator = SplitMix64::seed_from_u64(1);
     let hasher = KeyedHasher::new(b"sixteen bytes ...");
-    let Ok(store) = FrontStore::new(alloc, config, 0, generator, hasher) else {
-        return Err(AllocError);
+    match FrontStore::new(alloc, config, moments.made, generator, hasher) {
+        Ok(store) => so_over(alloc, store, tape, moments, keeps, rows),
+        Err(_) => None,
+    }
+}
+
+/// The same where no records are kept.
+fn bare_so(alloc: Global, config: Config, moments: Moments, rows: &[Row<'_>]) -> Option<bool> {
+    so_of_new(alloc, config, moments, Bare::new(alloc), false, rows)
+}
+
+/// The same where records are kept, from the start on.
+fn kept_so(alloc: Global, config: Config, moments: Moments, rows: &[Row<'_>]) -> Option<bool> {
+    so_of_new(alloc, config, moments, Kept::new(alloc, START), true, rows)
+}
+
+/// Whether each row comes out so at these moments, by both tapes, at the second try where memory is refused.
+pub fn both_so_at(alloc: Global, config: Config, moments: Moments, rows: &[Row<'_>]) -> bool {
+    let bare = match bare_so(alloc, config, moments, rows) {
+        None => bare_so(alloc, config, moments, rows),
+        came => came,
     };
-    let Ok(inner) = Namespace::new(alloc, 0, store, tape, 0) else {
-        return Err(AllocError);
+    let kept = match kept_so(alloc, config, moments, rows) {
+        None => kept_so(alloc, config, moments, rows),
+        came => came,
     };
-    Ok(Space {
-        alloc,
-        inner,
-        keeps,
-    })
-}
-
-/// Whether each row comes out so, of a namespace with two connections.
-fn all_so<S: Store, T: Tape>(space: Result<Space<S, T>, AllocError>, rows: &[Row<'_>]) -> bool {
-    match space {
-        Ok(mut space) => match open_two(&mut space) {
-            Ok(true) => first_wrong_of(&mut space, rows).is_none(),
-            _ => false,
-        },
-        Err(_) => false,
-    }
-}
-
-/// A namespace that keeps no records, at the second try where memory is refused.
-fn bare(alloc: Global, config: Config) -> Result<Space<Values, Bare>, AllocError> {
-    match make(alloc, config, Bare::new(alloc), false) {
-        Err(_) => make(alloc, config, Bare::new(alloc), false),
-        made => made,
-    }
-}
-
-/// One that keeps records.
-fn kept(alloc: Global, config: Config) -> Result<Space<Values, Kept>, AllocError> {
-    match make(alloc, config, Kept::new(alloc, START), true) {
-        Err(_) => make(alloc, config, Kept::new(alloc, START), true),
-        made => made,
-    }
+    bare == Some(true) && kept == Some(true)
 }
 
 /// Whether each row comes out so, by both tapes.
 pub fn both_so(alloc: Global, config: Config, rows: &[Row<'_>]) -> bool {
-    all_so(bare(alloc, config), rows) && all_so(kept(alloc, config), rows)
+    both_so_at(alloc, config, AT_START, rows)
 }

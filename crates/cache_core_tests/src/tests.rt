@@ -1,16 +1,8 @@
-//! One namespace, over a tape that keeps nothing and over one that keeps records.
-ghost use Rattle.cache_tape.specs.Taped.{IsAtRest};
-
+//! One namespace that weighs bytes and has own deadlines, over a tape that keeps nothing and over one that keeps records.
+use crate::rows::{FIRST, Moments, Row, SECOND, both_so_at};
 use audit_model::{Closing, Config, EvictionPolicy, Instant, ServiceError, Weight};
-use cache_core::Namespace;
-use cache_entries::KeyedHasher;
-use cache_front_store::FrontStore;
-use cache_tape::{Bare, Kept, Tape};
-use rand_core::SeedableRng;
-use rand_xoshiro::SplitMix64;
-use std::alloc::Global;
 
-const PLAIN: Config = Config {
+const WEIGHING: Config = Config {
     capacity: None,
     policy: EvictionPolicy::Lru,
     parts: 1,
@@ -20,95 +12,29 @@ const PLAIN: Config = Config {
     own_deadlines: true,
 };
 
-/// A value is stored and looked up; then a `LOAD` waits, and what stands behind it does not run.
-const PIECE: &[u8] = b"SET a - one\nGET a\r\nLOAD k\nGET a\n";
+const LATER: Moments = Moments {
+    made: 5,
+    now: Instant { nanos: 7 },
+};
 
-/// What is answered to it.
-const REPLIES: &[u8] = b"OK\nVAL one\n";
-
-/// What became of two connections.
-#[derive(Drop)]
-struct Course {
-    text: Vec<u8>,
-    waits: bool,
-    loads: usize,
-    first: Option<Closing>,
-    second: Option<Closing>,
-    late: bool,
-}
-
-/// Two connections: the first is fed the piece, and closed; the second says `QUIT`. What is fed to a closed one is refused.
-fn became<T: Tape>(alloc: Global, tape: T) -> Result<Course, ServiceError>
-    requires { IsAtRest (T.view tape) }
-{
-    let generator = SplitMix64::seed_from_u64(1);
-    let hasher = KeyedHasher::new(b"sixteen bytes ...");
-    let Ok(store) = FrontStore::new(alloc, PLAIN, 5, generator, hasher) else {
-        return Err(ServiceError::OutOfMemory);
-    };
-    let Ok(mut space) = Namespace::new(alloc, 0, store, tape, 5) else {
-        return Err(ServiceError::OutOfMemory);
-    };
-    let now = Instant { nanos: 7 };
-    let Ok(first) = space.open() else {
-        return Err(ServiceError::OutOfMemory);
-    };
-    let Ok(second) = space.open() else {
-        return Err(ServiceError::OutOfMemory);
-    };
-    let held = space.feed(first, PIECE, now)?;
-    let waits = space.waiting(first)?;
-    let loads = space.take_loads().len();
-    let text = space.take_output(first)?;
-    space.close(first)?;
-    let again = space.feed(second, b"QUIT\n", now)?;
-    let late = match space.feed(second, b"GET a\n", now) {
-        Ok(_) => false,
-        Err(error) => error == ServiceError::Closed,
-    };
-    Ok(Course {
-        text,
-        waits: waits && !held && !again,
-        loads,
-        first: space.closed(first)?,
-        second: space.closed(second)?,
-        late,
-    })
-}
-
-/// Whether it came out so, with that text.
-fn is_so(course: Result<Course, ServiceError>, text: &[u8]) -> bool {
-    match course {
-        Ok(course) => course.text.as_slice() == text
-            && course.waits
-            && course.loads == 1
-            && course.first == Some(Closing::Asked)
-            && course.second == Some(Closing::Quit)
-            && course.late,
-        Err(_) => false,
-    }
-}
-
-/// Whether replies stay where nothing is kept.
-fn stays(alloc: Global) -> bool {
-    is_so(became(alloc, Bare::new(alloc)), REPLIES)
-}
-
-/// Whether they go into records, where any are kept.
-fn goes(alloc: Global) -> bool {
-    is_so(became(alloc, Kept::new(alloc, Instant { nanos: 0 })), b"")
-}
-
-// Each tries a second time, for when an allocation is refused.
+/// A value is stored and looked up; then a `LOAD` waits, and what stands behind it does not run, also once its connection is closed. What is
+/// fed to a closed one is refused.
+const CLOSED_ONES: &[Row<'static>] = &[
+    Row::Says(
+        FIRST,
+        b"SET a - one\nGET a\r\nLOAD k\nGET a\n",
+        b"OK\nVAL one\n",
+    ),
+    Row::Waits(FIRST, true),
+    Row::Sends(&[1]),
+    Row::Closes(FIRST),
+    Row::Says(SECOND, b"QUIT\n", b"OK\n"),
+    Row::Refuses(SECOND, b"GET a\n", ServiceError::Closed),
+    Row::Closed(FIRST, Some(Closing::Asked)),
+    Row::Closed(SECOND, Some(Closing::Quit)),
+];
 
 #[test]
-fn a_namespace_that_keeps_nothing(rt: HostRuntime) {
-    let alloc = rt.alloc();
-    assert!(rt; stays(alloc) || stays(alloc));
-}
-
-#[test]
-fn a_namespace_that_keeps_records(rt: HostRuntime) {
-    let alloc = rt.alloc();
-    assert!(rt; goes(alloc) || goes(alloc));
+fn what_is_fed_to_closed_connections(rt: HostRuntime) {
+    assert!(rt; both_so_at(rt.alloc(), WEIGHING, LATER, CLOSED_ONES));
 }

@@ -47,7 +47,7 @@ fn hand_in(
     recorded: &mut RecordedService,
     input: &Input,
 ) -> Result<Output, ServiceError>
-    ensures performed { IfOk result (λ output. At recorded.old recorded.new (namespace_of input.now) (Performs kept_by input.now output)) }
+    ensures performed { IfOk result (λ output. At recorded.old.spaces recorded.new.spaces (namespace_of input.now) (Performs kept_by input.now output)) }
     ensures unchanged { OnErr result (recorded.new ≡ recorded.old) }
 {
     let Ok(copy) = copy_input(alloc, input) else {

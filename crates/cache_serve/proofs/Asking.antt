@@ -41,15 +41,15 @@ asks-more n a b c xs ys p q = record {
 pub asks-one : (i : Input) (output : Output) (a b : Lists) → (number : ℕ) × Gains a b (namespace_of i) (receipt_for i output number) → Asks (namespace_of i) a b (i ∷ [])
 asks-one i output a b g = record { added = receipt_for i output g.0 ∷ []; grows = grows-one (namespace_of i) a b (receipt_for i output g.0) g.1; asked = refl }
 
--- so it is behind what asked nothing
-pub asks-after : {E : Type 0} (i : Input) (a b d : Lists) (r : Result Output E) → SameReceipts a b → IfOk r (λ output. (number : ℕ) × Gains b d (namespace_of i) (receipt_for i output number)) → OnErr r (SameReceipts b d)
-    → AsksOrNot (namespace_of i) a d i
-asks-after i a b d (Ok output) same g none = inr (asks-more (namespace_of i) a b d [] (i ∷ []) (asks-none (namespace_of i) a b same) (asks-one i output b d g))
-asks-after i a b d (Err e) same g none = inl (asks-none (namespace_of i) a d (λ n. none n ∙ same n))
-
--- an input that a turn took
+-- an input that was taken, by a step or a turn
 pub asks-counted : {keeps : Bool} {i : Input} {output : Output} {count later : ℕ} {a b : Lists} → Counts keeps i output count later a b → keeps ≡ true → Asks (namespace_of i) a b (i ∷ [])
 asks-counted {i = i} {output = output} {a = a} {b = b} counts keeps = asks-one i output a b (counts.receipt keeps)
+
+-- an input that was taken or refused, behind what asked nothing
+pub asks-after : {E : Type 0} (Uncounted : Type 0) {keeps : Bool} (i : Input) (count later : ℕ) (a b d : Lists) (r : Result Output E) → keeps ≡ true
+    → SameReceipts a b → IfOk r (λ output. Counts keeps i output count later b d) → OnErr r (Uncounted × SameReceipts b d) → AsksOrNot (namespace_of i) a d i
+asks-after Uncounted i count later a b d (Ok output) kept same counts none = inr (asks-more (namespace_of i) a b d [] (i ∷ []) (asks-none (namespace_of i) a b same) (asks-counted counts kept))
+asks-after Uncounted i count later a b d (Err e) kept same counts none = inl (asks-none (namespace_of i) a d (λ n. none.1 n ∙ same n))
 
 -- behind what asked nothing
 pub asks-later : {n : ℕ} {a b c : Lists} {inputs : List Input} → SameReceipts a b → Asks n b c inputs → Asks n a c inputs

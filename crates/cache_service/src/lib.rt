@@ -1,12 +1,13 @@
 //! A cache that is served by lines: namespaces with their connections, journals, runs over readers and writers, play, and services that
 //! threads share.
 //!
-//! The types of configurations, inputs and transcripts are `moka_audit`'s.
+//! The types of configurations, inputs and transcripts are `moka_audit`'s; the module `model` gives them on.
 #![tactic(auto)]
+
+pub mod model;
 
 pub use cache_devices::{Clock, Loader, RunError, Watched};
 pub use cache_play::play;
-pub use cache_reading::ReadService;
 pub use cache_run::run;
 pub use cache_serve::{Devices, Hosted, Teller, Untold, host, serve, serve_and_tell};
 pub use cache_shared::{

@@ -1,7 +1,7 @@
 //! The example of the repository's README.
 use anyhow::Result;
 use cache_service::Service;
-use moka_audit::{Config, EvictionPolicy, Instant, Outcome, Weight};
+use cache_service::model::{Config, EvictionPolicy, Instant, Outcome, Weight};
 use rand_core::SeedableRng;
 use rand_xoshiro::Xoshiro256PlusPlus;
 use std::alloc::Global;

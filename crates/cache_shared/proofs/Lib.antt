@@ -1,5 +1,6 @@
 pub mod Coming
 pub mod Agreeing
+mod Counted
 pub mod Counting
 pub mod Keeping
 mod Living
@@ -7,3 +8,4 @@ pub mod Looking
 pub mod Marked
 mod Moving
 pub mod Performing
+mod Recording

@@ -12,17 +12,11 @@ use Rattle.audit_model.specs.declared.transcript.Note.{Note}
 use Rattle.cache_core.specs.State.{at_number}
 use Rattle.cache_shared.specs.Live.{LiveState, seen_in, untaken_of, untold_of}
 use Rattle.cache_spaces.proofs.Putting.{at-others, same-or-not}
+use Rattle.cache_spaces.proofs.Reading.{same-conn}
 use Rattle.cache_spaces.proofs.Showing.{in-shown, length-shown, refuses-shown}
 use Rattle.cache_spaces.specs.Bares.{BareSpace, bare_tape}
 use Rattle.cache_spaces.specs.Calls.{At, InSpace, IsOpened, IsUnknown, Refuses, TakesNotice, TakesOutput}
 use Rattle.cache_spaces.specs.Spaces.{notices_of, shown, untaken_output}
-
--- connections of one namespace and number are one
-pub same-conn : (a b : Conn) → a.namespace ≡ b.namespace → a.number ≡ b.number → a ≡ b
-same-conn a b e f =
-    let first : record { namespace = a.namespace; number = a.number } ≡ record { namespace = b.namespace; number = a.number } = ap (λ n. record { namespace = n; number = a.number }) e in
-    let second : record { namespace = b.namespace; number = a.number } ≡ record { namespace = b.namespace; number = b.number } = ap (λ n. record { namespace = b.namespace; number = n }) f in
-    first ∙ second
 
 -- what was put at a place stands there
 put-there : {X : Type 0} (xs : List X) (k : ℕ) (was is : X) → slice_get xs k ≡ Some was → slice_get (slice_set xs k is) k ≡ Some is

@@ -55,6 +55,12 @@ module _ {T : Type 0} (tape : T → Option Taped) where
   none-shown n old (Ok a) cause = cause
   none-shown n old (Err e) cause = (cause.0, subst (λ k. k ≤ n) (sym (length-shown (shown tape) old)) cause.1)
 
+  pub none-or-full : {A : Type 0} (n : ℕ) (old : List (Space T)) (r : Result A ServiceError) → IfErr r (λ e. (e ≡ error.OutOfMemory) ⊎ ((e ≡ error.NoNamespace) × (length old ≤ n)))
+      → IfErr r (λ e. (e ≡ error.OutOfMemory) ⊎ ((e ≡ error.NoNamespace) × (length (map (shown tape) old) ≤ n)))
+  none-or-full n old (Ok a) cause = cause
+  none-or-full n old (Err e) (inl full) = inl full
+  none-or-full n old (Err e) (inr cause) = inr (cause.0, subst (λ k. k ≤ n) (sym (length-shown (shown tape) old)) cause.1)
+
   pub look-shown : {A : Type 0} (of : Space T → A) (seen : Shown → A) (n number : ℕ) (spaces : List (Space T)) (r : Result A ServiceError) → ((x : Space T) → seen (shown tape x) ≡ of x)
       → IfOk r (λ a. InSpace spaces n (λ space. IsOpened space number × (a ≡ of space))) → IfOk r (λ a. InSpace (map (shown tape) spaces) n (λ space. a ≡ seen space))
   look-shown of seen n number spaces (Ok a) same looked = in-shown (shown tape) spaces n (λ x p. p.1 ∙ sym (same x)) looked

@@ -4,3 +4,4 @@ pub mod Seats
 pub mod Untaken
 pub mod Looked
 pub mod Live
+pub mod Recordings

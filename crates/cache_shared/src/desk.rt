@@ -2,7 +2,7 @@
 ghost use Rattle.std.specs.Prelude.{◌≡◌, ℕ, ◌+◌, ◌≤◌, ◌<◌, ◌++◌, ◌∷◌, ◌⊎◌, [], true, false, length, map, sum_by, vec_len, vec_capacity, IfOk, IfErr, OnOk, OnErr};
 ghost use Rattle.cache_shared.specs.Events.{IsLastNumber, IsReached, Performs, RefusesStep, TakesNothing};
 ghost use Rattle.cache_shared.specs.Looked.{WasOldestNote, HeldAtSomeMoment};
-ghost use Rattle.cache_shared.specs.Seats.{AgreeAll, GainsReceipt, SameReceipts, receipt_for};
+ghost use Rattle.cache_shared.specs.Seats.{AgreeAll, Counts, GainsReceipt, SameReceipts, receipt_for};
 ghost use Rattle.cache_spaces.specs.Inputs.{namespace_of};
 ghost use Rattle.cache_spaces.specs.Calls.{InSpace, IsUnknown, Refuses};
 ghost use Rattle.cache_spaces.specs.Spaces.{closing_of, is_waiting_for};
@@ -100,13 +100,14 @@ impl<L: Seating, C: Stepping> Desk<L, C> {
         input: Input,
     ) -> Result<Output, Refusal>
         ensures taken { IfOk result (λ output. Performs input output (C.spaces self.old.core) (C.spaces self.new.core)) }
-        ensures count { OnOk result ((C.events self.new.core ≡ C.events self.old.core + 1) × (seat.new.count ≡ seat.old.count + 1)) }
+        ensures events { OnOk result (C.events self.new.core ≡ C.events self.old.core + 1) }
+        ensures counted { IfOk result (λ output. Counts C.KEEPS input output seat.old.count seat.new.count seat.old.receipts.items seat.new.receipts.items) }
         ensures receipt { C.KEEPS ≡ true → IfOk result (λ output. GainsReceipt (C.journals self.new.core) seat.old.receipts.items seat.new.receipts.items input output) }
-        ensures bare { C.KEEPS ≡ false → SameReceipts seat.old.receipts.items seat.new.receipts.items }
         ensures refused { IfErr result (λ refusal. RefusesStep input refusal.error seat.old.count (C.events self.old.core) (C.spaces self.old.core)) }
         ensures unchanged { OnErr result (TakesNothing C.spaces C.events self.old.core self.new.core × (seat.new.count ≡ seat.old.count) × SameReceipts seat.old.receipts.items seat.new.receipts.items) }
         ensures back { IfErr result (λ refusal. refusal.input ≡ input) }
     {
+        self.core.stands();
         if C::KEEPS {
             self.step_kept(alloc, seat, input)
         } else {

@@ -1,10 +1,9 @@
 //! The shared form.
-ghost use Rattle.std.specs.Prelude.{◌≡◌, ℕ, ◌+◌, ◌≤◌, ◌⊎◌, [], true, false, length, map, sum_by, vec_len, vec_capacity, IfOk, IfErr, IsSome, IsTrue, OnOk, OnErr};
+ghost use Rattle.std.specs.Prelude.{◌≡◌, ◌≤◌, ◌⊎◌, [], length, map, sum_by, IfOk, IfErr, IsSome, OnErr};
 ghost use Rattle.std.specs.Arc.{arc_value};
-ghost use Rattle.cache_shared.specs.Events.{IsLate, IsReached, WasRefused, WasUsedUp, is_output_for};
+ghost use Rattle.cache_shared.specs.Events.{IsLate, IsReached, WasRefused, WasUsedUp};
 ghost use Rattle.cache_shared.specs.Looked.{WasOldestNote, HeldAtSomeMoment, WereMoved};
-ghost use Rattle.cache_shared.specs.Seats.{AgreeAll, Counts, Gains, SameReceipts, receipt_for};
-ghost use Rattle.cache_spaces.specs.Inputs.{namespace_of};
+ghost use Rattle.cache_shared.specs.Seats.{AgreeAll, Counts, SameReceipts};
 ghost use Rattle.cache_spaces.specs.Calls.{InSpace, IsUnknown, Refuses};
 ghost use Rattle.cache_spaces.specs.Spaces.{closing_of, is_waiting_for};
 
@@ -101,15 +100,11 @@ impl<L: Seating, C: Stepping> SharedService<L, C> {
     /// the lock refuses it, with `OutOfMemory` also where there is none for the receipt, and with `UsedUp` where the seat's count or that
     /// of all inputs is at 2^64 - 1.
     pub fn step(&self, rt: &impl Wait, seat: &mut Seat<L>, input: Input) -> Result<Output, Refusal>
-        ensures count { OnOk result (seat.new.count ≡ seat.old.count + 1) }
-        ensures receipt { C.KEEPS ≡ true → IfOk result (λ output. (number : ℕ) × Gains seat.old.receipts.items seat.new.receipts.items (namespace_of input) (receipt_for input output number)) }
-        ensures bare { C.KEEPS ≡ false → SameReceipts seat.old.receipts.items seat.new.receipts.items }
-        ensures uncounted { OnErr result (seat.new.count ≡ seat.old.count) }
-        ensures same { OnErr result (SameReceipts seat.old.receipts.items seat.new.receipts.items) }
-        ensures back { IfErr result (λ refusal. refusal.input ≡ input) }
+        ensures counted { IfOk result (λ output. Counts C.KEEPS input output seat.old.count seat.new.count seat.old.receipts.items seat.new.receipts.items) }
         ensures refused { IfErr result (λ refusal. ∥ WasRefused C.spaces C.events input refusal.error seat.old.count ∥₁) }
+        ensures back { IfErr result (λ refusal. refusal.input ≡ input) }
+        ensures unchanged { OnErr result ((seat.new.count ≡ seat.old.count) × SameReceipts seat.old.receipts.items seat.new.receipts.items) }
         ensures late { IfErr result (λ refusal. refusal.error ≡ ServiceError.Moment → IsLate input) }
-        ensures output { IfOk result (λ output. IsTrue (is_output_for input output)) }
         ensures used_up { IfErr result (λ refusal. refusal.error ≡ ServiceError.UsedUp → WasUsedUp C.events seat.old.count) }
     {
         let inner = self.inner();
@@ -139,12 +134,8 @@ impl<L: Seating, C: Stepping> SharedService<L, C> {
         ensures back { IfErr result (λ both. both.1 ≡ seats) }
     {
         let SharedService { mut inner, alloc } = self;
-        let mut receipts = Vec::new(alloc);
-        let Ok(()) = receipts.reserve(seats.len()) else {
-            return Err((SharedService { inner, alloc }, seats));
-        };
         let closed = match Arc::get_mut(&mut inner) {
-            Some(slot) => close_if_all(alloc, slot, seats, receipts),
+            Some(slot) => close_if_all(alloc, slot, seats),
             None => Err(seats),
         };
         match closed {
@@ -289,16 +280,13 @@ impl<L: Seating, C: Takings> SharedService<L, C> {
     }
 }
 
-/// Closes the desk, where these are all seats, and their receipts stand.
+/// Closes the desk, where these are all seats, their receipts stand, and there is memory.
 fn close_if_all<L: Seating, C: Stepping>(
     alloc: Global,
     slot: &mut Option<Inner<L, C>>,
     seats: Vec<Seat<L>>,
-    receipts: Vec<Vec<Vec<Receipt>>>,
 ) -> Result<Finished<C>, Vec<Seat<L>>>
     requires ledger { L.all ≡ L.parts }
-    requires none { receipts.items ≡ [] }
-    requires room { vec_len seats ≤ vec_capacity receipts }
     requires full { IsSome slot.old }
     ensures count { IfOk result (λ finished. C.events finished.service ≡ sum_by (λ seat. seat.count) seats.items) }
     ensures receipts { IfOk result (λ finished. finished.receipts.items ≡ map (λ seat. seat.receipts) seats.items) }
@@ -307,6 +295,10 @@ fn close_if_all<L: Seating, C: Stepping>(
     ensures back { IfErr result (λ back. back ≡ seats) }
     ensures full { OnErr result (IsSome slot.new) }
 {
+    let mut receipts = Vec::new(alloc);
+    if receipts.reserve(seats.len()).is_err() {
+        return Err(seats);
+    }
     let Some(inner) = slot.take() else {
         unreachable!()
     };

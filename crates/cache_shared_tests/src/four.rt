@@ -1,10 +1,10 @@
 //! Four threads, each with a seat.
 ghost use Rattle.std.specs.Prelude.{◌≡◌, ℕ};
 ghost use Rattle.cache_shared.specs.Events.{record_count};
-ghost use Rattle.cache_spaces.specs.Journals.{journals_of};
+ghost use Rattle.cache_shared.specs.Recordings.{journals_in};
 
 use crate::inputs::{conn, make_core};
-use crate::seats::{feed_once, list_of, open, two_seats};
+use crate::seats::{feed_once, open, two_seats};
 use audit_model::{Conn, Input};
 use audit_receipts::Receipt;
 use cache_shared::{Finished, Seat, Seating, SharedService};
@@ -121,6 +121,45 @@ fn refused_beside_clone<L: Seating>(
     back
 }
 
+/// What all seats leave, and whether the service was not to be had with them beside a clone.
+fn finish_beside_clone<L: Seating>(
+    shared: SharedService<L>,
+    seats: Vec<Seat<L>>,
+) -> Option<(Finished<RecordedService>, bool)>
+    requires ledger { L.all ≡ L.parts }
+{
+    let (shared, seats) = refused_beside_clone(shared, seats)?;
+    let is_clone_refused = seats.len() == 4;
+    match shared.finish(seats) {
+        Ok(finished) => Some((finished, is_clone_refused)),
+        Err(_) => None,
+    }
+}
+
+/// A list of seats, and one more.
+fn with_last<L: Seating>(mut seats: Vec<Seat<L>>, last: Seat<L>) -> Option<Vec<Seat<L>>> {
+    match seats.push(last) {
+        Ok(()) => Some(seats),
+        Err(_) => None,
+    }
+}
+
+/// The service back with all seats, where it is not to be had without the last one, and whether the others came back.
+fn refused_without_last<L: Seating>(
+    shared: SharedService<L>,
+    seats: Vec<Seat<L>>,
+    last: Seat<L>,
+) -> Option<(SharedService<L>, Vec<Seat<L>>, bool)>
+    requires ledger { L.all ≡ L.parts }
+{
+    let (shared, seats) = refused(shared, seats)?;
+    let is_missing_seat_refused = seats.len() == 3;
+    match with_last(seats, last) {
+        Some(seats) => Some((shared, seats, is_missing_seat_refused)),
+        None => None,
+    }
+}
+
 /// What three seats and then the last one leave, whether the service was not to be had with three, and whether it was not with all beside
 /// a clone.
 fn finish_at_last<L: Seating>(
@@ -130,14 +169,12 @@ fn finish_at_last<L: Seating>(
 ) -> Option<(Finished<RecordedService>, (bool, bool))>
     requires ledger { L.all ≡ L.parts }
 {
-    let (shared, mut seats) = refused(shared, seats)?;
-    let is_missing_seat_refused = seats.len() == 3;
-    seats.push(last).ok()?;
-    let (shared, seats) = refused_beside_clone(shared, seats)?;
-    let is_clone_refused = seats.len() == 4;
-    match shared.finish(seats) {
-        Ok(finished) => Some((finished, (is_missing_seat_refused, is_clone_refused))),
-        Err(_) => None,
+    let (shared, seats, is_missing_seat_refused) = refused_without_last(shared, seats, last)?;
+    match finish_beside_clone(shared, seats) {
+        Some((finished, is_clone_refused)) => {
+            Some((finished, (is_missing_seat_refused, is_clone_refused)))
+        }
+        None => None,
     }
 }
 
@@ -175,6 +212,21 @@ fn count_of<L: Seating>(seats: &(Seat<L>, Seat<L>)) -> u64 {
     seats.0.count().saturating_add(seats.1.count())
 }
 
+/// What is seen of what three seats and then the last one leave.
+fn finish_and_see<L: Seating>(
+    shared: SharedService<L>,
+    seats: Vec<Seat<L>>,
+    last: Seat<L>,
+    counts: u64,
+) -> Option<Outcome>
+    requires ledger { L.all ≡ L.parts }
+{
+    match finish_at_last(shared, seats, last) {
+        Some((finished, are_refused)) => seen(&finished, counts, are_refused),
+        None => None,
+    }
+}
+
 /// What four seats leave.
 fn finish_four<L: Seating>(
     alloc: Global,
@@ -185,10 +237,24 @@ fn finish_four<L: Seating>(
     requires ledger { L.all ≡ L.parts }
 {
     let counts = count_of(&front).saturating_add(count_of(&back));
-    let mut seats = list_of(alloc, front.0, front.1)?;
-    seats.push(back.0).ok()?;
-    let (finished, are_refused) = finish_at_last(shared, seats, back.1)?;
-    seen(&finished, counts, are_refused)
+    match Vec::from_array(alloc, [front.0, front.1, back.0]) {
+        Ok(seats) => finish_and_see(shared, seats, back.1, counts),
+        Err(_) => None,
+    }
+}
+
+/// What four seats leave by which four threads work.
+fn work_to_the_end<L: Seating + Send + Sync, R: Threads + Wait + Sync>(
+    rt: &R,
+    alloc: Global,
+    shared: SharedService<L>,
+    mut front: (Seat<L>, Seat<L>),
+    mut back: (Seat<L>, Seat<L>),
+) -> Option<Outcome>
+    requires ledger { L.all ≡ L.parts }
+{
+    work_all(rt, alloc, &shared, &mut front, &mut back);
+    finish_four(alloc, shared, front, back)
 }
 
 fn run<L: Seating + Send + Sync, R: Threads + Wait + Sync>(
@@ -198,15 +264,15 @@ fn run<L: Seating + Send + Sync, R: Threads + Wait + Sync>(
     blank: Blank,
     parts: u64,
 ) -> Option<Outcome>
-    requires empty { record_count (journals_of core) ≡ 0 }
+    requires empty { record_count (journals_in core) ≡ 0 }
     requires name { blank.name ≡ L.name }
     requires parts { (blank.parts ≡ L.parts) × (L.all ≡ L.parts) × (parts ≡ L.parts) }
 {
     let shared: SharedService<L> = SharedService::new(alloc, core, blank, parts).ok()?;
-    let mut front = two_seats(rt, &shared)?;
-    let mut back = two_seats(rt, &shared)?;
-    work_all(rt, alloc, &shared, &mut front, &mut back);
-    finish_four(alloc, shared, front, back)
+    match (two_seats(rt, &shared), two_seats(rt, &shared)) {
+        (Some(front), Some(back)) => work_to_the_end(rt, alloc, shared, front, back),
+        _ => None,
+    }
 }
 
 /// Runs four threads over a service of no events, with a ledger of so many parts.

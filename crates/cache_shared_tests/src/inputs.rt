@@ -1,7 +1,7 @@
 //! A service, and inputs of it.
 ghost use Rattle.std.specs.Prelude.{◌≡◌, IfSome};
 ghost use Rattle.cache_shared.specs.Events.{record_count};
-ghost use Rattle.cache_spaces.specs.Journals.{journals_of};
+ghost use Rattle.cache_shared.specs.Recordings.{journals_in};
 
 use audit_model::{Config, Conn, EvictionPolicy, Input, Instant, Seq, Weight};
 use cache_spaces::RecordedService;
@@ -22,7 +22,7 @@ pub const PLAIN: Config = Config {
 
 /// A new service of one plain namespace.
 pub fn make_core(alloc: Global) -> Option<RecordedService>
-    ensures { IfSome result (λ core. record_count (journals_of core) ≡ 0) }
+    ensures { IfSome result (λ core. record_count (journals_in core) ≡ 0) }
 {
     let generator = Xoshiro256PlusPlus::seed_from_u64(1);
     match RecordedService::new(alloc, &[PLAIN], generator, Instant { nanos: 0 }) {

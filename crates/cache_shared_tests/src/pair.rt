@@ -1,7 +1,7 @@
 //! Two threads, whose receipts are judged.
 ghost use Rattle.std.specs.Prelude.{◌≡◌, ℕ};
 ghost use Rattle.cache_shared.specs.Events.{record_count};
-ghost use Rattle.cache_spaces.specs.Journals.{journals_of};
+ghost use Rattle.cache_shared.specs.Recordings.{journals_in};
 
 use crate::inputs::{conn, feed, make_core};
 use crate::seats::{feed_once, list_of, open, two_seats};
@@ -163,6 +163,20 @@ fn judged(
     }
 }
 
+/// The same, by the journal of a service's one namespace.
+fn judged_by(
+    alloc: Global,
+    service: &RecordedService,
+    first: Vec<Receipt>,
+    second: Vec<Receipt>,
+    is_unknown_left_out: bool,
+) -> Option<Pair> {
+    match service.journal(0) {
+        Ok(journal) => judged(alloc, journal, first, second, is_unknown_left_out),
+        Err(_) => None,
+    }
+}
+
 /// The first list of the receipts of the last seat.
 fn last_list(receipts: &mut Vec<Vec<Vec<Receipt>>>) -> Option<Vec<Receipt>> {
     let mut lists = receipts.pop()?;
@@ -179,11 +193,43 @@ fn seen(
         service,
         mut receipts,
     } = finished;
-    let second = last_list(&mut receipts)?;
-    let first = last_list(&mut receipts)?;
-    match service.journal(0) {
-        Ok(journal) => judged(alloc, journal, first, second, is_unknown_left_out),
+    match (last_list(&mut receipts), last_list(&mut receipts)) {
+        (Some(second), Some(first)) => {
+            judged_by(alloc, &service, first, second, is_unknown_left_out)
+        }
+        _ => None,
+    }
+}
+
+/// What is seen of a service and all its seats.
+fn finish_pair<L: Seating>(
+    alloc: Global,
+    shared: SharedService<L>,
+    seats: Vec<Seat<L>>,
+    is_unknown_left_out: bool,
+) -> Option<Pair>
+    requires ledger { L.all ≡ L.parts }
+{
+    match shared.finish(seats) {
+        Ok(finished) => seen(alloc, finished, is_unknown_left_out),
         Err(_) => None,
+    }
+}
+
+/// What is seen of a service by whose two seats two threads talk.
+fn talk_to_the_end<L: Seating + Send + Sync, R: Threads + Wait + Sync>(
+    rt: &R,
+    alloc: Global,
+    shared: SharedService<L>,
+    mut both: (Seat<L>, Seat<L>),
+) -> Option<Pair>
+    requires ledger { L.all ≡ L.parts }
+{
+    talk_both(rt, alloc, &shared, &mut both);
+    let is_unknown_left_out = leaves_none(rt, alloc, &shared, &mut both.0);
+    match list_of(alloc, both.0, both.1) {
+        Some(seats) => finish_pair(alloc, shared, seats, is_unknown_left_out),
+        None => None,
     }
 }
 
@@ -194,18 +240,14 @@ fn run<L: Seating + Send + Sync, R: Threads + Wait + Sync>(
     blank: Blank,
     parts: u64,
 ) -> Option<Pair>
-    requires empty { record_count (journals_of core) ≡ 0 }
+    requires empty { record_count (journals_in core) ≡ 0 }
     requires name { blank.name ≡ L.name }
     requires parts { (blank.parts ≡ L.parts) × (L.all ≡ L.parts) × (parts ≡ L.parts) }
 {
     let shared: SharedService<L> = SharedService::new(alloc, core, blank, parts).ok()?;
-    let mut both = two_seats(rt, &shared)?;
-    talk_both(rt, alloc, &shared, &mut both);
-    let is_unknown_left_out = leaves_none(rt, alloc, &shared, &mut both.0);
-    let seats = list_of(alloc, both.0, both.1)?;
-    match shared.finish(seats) {
-        Ok(finished) => seen(alloc, finished, is_unknown_left_out),
-        Err(_) => None,
+    match two_seats(rt, &shared) {
+        Some(both) => talk_to_the_end(rt, alloc, shared, both),
+        None => None,
     }
 }
 

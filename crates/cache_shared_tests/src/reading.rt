@@ -1,16 +1,15 @@
 //! What a recording service hands out that is read.
-use crate::inputs::{PLAIN, conn, feed};
-use crate::runs::{Served, make_empty, serve_both};
+use crate::inputs::{PLAIN, conn, feed, make_core};
+use crate::runs::{Served, serve_both};
 use audit_model::{Conn, Input, Instant, LoadId, Note, Outcome, RemovalCause, Seq, ServiceError};
-use cache_reading::ReadService;
-use cache_shared::{Stepping, Takings};
+use cache_spaces::RecordedService;
 use moka_audit::{Verdict, audit};
 use std::alloc::Global;
 use std::sync::Wait;
 use std::thread::Threads;
 
 /// Hands a piece in. Answers whether it was taken.
-fn feeds(alloc: Global, service: &mut ReadService, number: u64, text: &[u8]) -> bool {
+fn feeds(alloc: Global, service: &mut RecordedService, number: u64, text: &[u8]) -> bool {
     match feed(alloc, conn(number), text) {
         Ok(input) => service.step(input).is_ok(),
         Err(_) => false,
@@ -18,7 +17,7 @@ fn feeds(alloc: Global, service: &mut ReadService, number: u64, text: &[u8]) -> 
 }
 
 /// Whether these are the bytes that were not taken.
-fn takes(service: &mut ReadService, number: u64, wanted: &[u8]) -> bool {
+fn takes(service: &mut RecordedService, number: u64, wanted: &[u8]) -> bool {
     match service.take_output(conn(number)) {
         Ok(taken) => taken.as_slice() == wanted,
         Err(_) => false,
@@ -26,7 +25,7 @@ fn takes(service: &mut ReadService, number: u64, wanted: &[u8]) -> bool {
 }
 
 /// Whether nothing is taken from such a connection, for that reason.
-fn is_taking_refused(service: &mut ReadService, conn: Conn, error: ServiceError) -> bool {
+fn is_taking_refused(service: &mut RecordedService, conn: Conn, error: ServiceError) -> bool {
     match service.take_output(conn) {
         Ok(_) => false,
         Err(refused) => refused == error,
@@ -34,14 +33,14 @@ fn is_taking_refused(service: &mut ReadService, conn: Conn, error: ServiceError)
 }
 
 /// Opens two connections.
-fn opens_two(service: &mut ReadService) -> bool {
+fn opens_two(service: &mut RecordedService) -> bool {
     service.step(Input::Open { namespace: 0 }).is_ok()
         && service.step(Input::Open { namespace: 0 }).is_ok()
 }
 
 /// A service of one plain namespace and two connections.
-fn make_open(alloc: Global) -> Option<ReadService> {
-    let mut service = make_empty(alloc)?;
+fn make_open(alloc: Global) -> Option<RecordedService> {
+    let mut service = make_core(alloc)?;
     if opens_two(&mut service) {
         Some(service)
     } else {
@@ -62,7 +61,7 @@ const TAKINGS: &[(u64, &[u8], u64, &[u8])] = &[
 ];
 
 /// Whether nothing is taken from connections that are not there.
-fn takes_nowhere(service: &mut ReadService) -> bool {
+fn takes_nowhere(service: &mut RecordedService) -> bool {
     let elsewhere = Conn {
         namespace: 1,
         number: 1,
@@ -72,7 +71,7 @@ fn takes_nowhere(service: &mut ReadService) -> bool {
 }
 
 /// The place of the first row that does not come out so, or their number where something is taken from connections that are not there.
-fn first_wrong_taking(alloc: Global, service: &mut ReadService) -> Option<usize> {
+fn first_wrong_taking(alloc: Global, service: &mut RecordedService) -> Option<usize> {
     for (place, (from, text, to, wanted)) in TAKINGS.iter().enumerate() {
         if !feeds(alloc, service, *from, text) || !takes(service, *to, wanted) {
             return Some(place);
@@ -121,7 +120,7 @@ fn is_note(note: Option<Note>, wanted: Option<(RemovalCause, &[u8])>) -> bool {
 }
 
 /// Whether the next note is as wanted.
-fn tells(service: &mut ReadService, wanted: Option<(RemovalCause, &[u8])>) -> bool {
+fn tells(service: &mut RecordedService, wanted: Option<(RemovalCause, &[u8])>) -> bool {
     match service.next_notice(0) {
         Ok(note) => is_note(note, wanted),
         Err(_) => false,
@@ -129,7 +128,7 @@ fn tells(service: &mut ReadService, wanted: Option<(RemovalCause, &[u8])>) -> bo
 }
 
 /// Whether no note is told of a namespace that is not there.
-fn tells_nowhere(service: &mut ReadService) -> bool {
+fn tells_nowhere(service: &mut RecordedService) -> bool {
     match service.next_notice(1) {
         Ok(_) => false,
         Err(error) => error == ServiceError::NoNamespace,
@@ -137,7 +136,7 @@ fn tells_nowhere(service: &mut ReadService) -> bool {
 }
 
 /// The place of the first row that does not come out so, or their number where a note is told of a namespace that is not there.
-fn first_wrong_note(alloc: Global, service: &mut ReadService) -> Option<usize> {
+fn first_wrong_note(alloc: Global, service: &mut RecordedService) -> Option<usize> {
     for (place, (text, wanted)) in NOTES.iter().enumerate() {
         if !feeds(alloc, service, 1, text) || !tells(service, *wanted) {
             return Some(place);
@@ -194,7 +193,7 @@ fn two_connections_are_served(rt: HostRuntime) {
 }
 
 /// The load of `k`, where it is the one load that was not taken.
-fn take_load(service: &mut ReadService) -> Option<LoadId> {
+fn take_load(service: &mut RecordedService) -> Option<LoadId> {
     match service.take_loads(0).ok()?.as_slice() {
         [(load, key)] if key.as_slice() == b"k".as_slice() => Some(*load),
         _ => None,
@@ -202,13 +201,13 @@ fn take_load(service: &mut ReadService) -> Option<LoadId> {
 }
 
 /// Whether no load is left to be taken, and there is none of a namespace that is not there.
-fn are_loads_taken(service: &mut ReadService) -> bool {
+fn are_loads_taken(service: &mut RecordedService) -> bool {
     matches!(service.take_loads(0), Ok(loads) if loads.is_empty())
         && matches!(service.take_loads(1), Err(ServiceError::NoNamespace))
 }
 
 /// Answers a load with the value `v`.
-fn answers(alloc: Global, service: &mut ReadService, load: LoadId) -> bool {
+fn answers(alloc: Global, service: &mut RecordedService, load: LoadId) -> bool {
     match Vec::from_slice(alloc, b"v") {
         Ok(value) => service
             .step(Input::Answer {
@@ -222,7 +221,7 @@ fn answers(alloc: Global, service: &mut ReadService, load: LoadId) -> bool {
 }
 
 /// Whether two connections that load the same key send one load, which is taken once, and whose answer both are told.
-fn is_load_taken_once(alloc: Global, service: &mut ReadService) -> Option<bool> {
+fn is_load_taken_once(alloc: Global, service: &mut RecordedService) -> Option<bool> {
     let are_fed = feeds(alloc, service, 1, b"LOAD k\nGET k\n")
         && feeds(alloc, service, 2, b"LOAD k\n");
     let load = take_load(service)?;

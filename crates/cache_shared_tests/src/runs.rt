@@ -1,16 +1,16 @@
 //! Two connections of a recording service, served on two threads over memory.
-ghost use Rattle.std.specs.Prelude.{◌≡◌, IfSome};
+ghost use Rattle.std.specs.Prelude.{◌≡◌};
 ghost use Rattle.cache_shared.specs.Events.{record_count};
-ghost use Rattle.cache_reading.specs.Read.{journals_in};
+ghost use Rattle.cache_shared.specs.Recordings.{journals_in};
 
 use crate::devices::{NoLoader, StillClock};
 use crate::inputs::make_core;
 use crate::seats::{list_of, two_seats};
 use audit_model::Transcript;
 use cache_devices::Watched;
-use cache_reading::ReadService;
 use cache_serve::serve;
 use cache_shared::{Seat, Seating, SharedService};
+use cache_spaces::RecordedService;
 use std::alloc::Global;
 use std::marker::Brand;
 use std::sync::Wait;
@@ -33,7 +33,7 @@ pub struct Served {
 fn attend<L: Seating, R: Wait>(
     rt: &R,
     alloc: Global,
-    shared: &SharedService<L, ReadService>,
+    shared: &SharedService<L, RecordedService>,
     seat: &mut Seat<L>,
     text: &[u8],
 ) -> Vec<u8> {
@@ -58,7 +58,7 @@ fn attend<L: Seating, R: Wait>(
 fn attend_both<L: Seating + Send + Sync + 'static, R: Threads + Wait + Sync>(
     rt: &R,
     alloc: Global,
-    shared: &SharedService<L, ReadService>,
+    shared: &SharedService<L, RecordedService>,
     seats: &mut (Seat<L>, Seat<L>),
     texts: (&[u8], &[u8]),
 ) -> (Vec<u8>, Vec<u8>) {
@@ -73,35 +73,28 @@ fn attend_both<L: Seating + Send + Sync + 'static, R: Threads + Wait + Sync>(
 /// The journals that two seats leave.
 fn journals_of_both<L: Seating>(
     alloc: Global,
-    shared: SharedService<L, ReadService>,
+    shared: SharedService<L, RecordedService>,
     both: (Seat<L>, Seat<L>),
 ) -> Option<Vec<Transcript>>
     requires ledger { L.all ≡ L.parts }
 {
     let seats = list_of(alloc, both.0, both.1)?;
     match shared.finish(seats) {
-        Ok(finished) => Some(finished.service.into_recorded().into_journals()),
+        Ok(finished) => Some(finished.service.into_journals()),
         Err(_) => None,
     }
 }
 
-fn run<L, R>(
+/// Serves both, and what comes of it.
+fn serve_to_the_end<L: Seating + Send + Sync + 'static, R: Threads + Wait + Sync>(
     rt: &R,
     alloc: Global,
-    core: ReadService,
-    blank: Blank,
-    parts: u64,
+    shared: SharedService<L, RecordedService>,
+    mut both: (Seat<L>, Seat<L>),
     texts: (&[u8], &[u8]),
 ) -> Option<Served>
-where
-    L: Seating + Send + Sync + 'static,
-    R: Threads + Wait + Sync,
-    requires empty { record_count (journals_in core) ≡ 0 }
-    requires name { blank.name ≡ L.name }
-    requires parts { (blank.parts ≡ L.parts) × (L.all ≡ L.parts) × (parts ≡ L.parts) }
+    requires ledger { L.all ≡ L.parts }
 {
-    let shared: SharedService<L, ReadService> = SharedService::new(alloc, core, blank, parts).ok()?;
-    let mut both = two_seats(rt, &shared)?;
     let replies = attend_both(rt, alloc, &shared, &mut both, texts);
     let counts = (both.0.count(), both.1.count());
     match journals_of_both(alloc, shared, both) {
@@ -114,22 +107,36 @@ where
     }
 }
 
+fn run<L, R>(
+    rt: &R,
+    alloc: Global,
+    core: RecordedService,
+    blank: Blank,
+    parts: u64,
+    texts: (&[u8], &[u8]),
+) -> Option<Served>
+where
+    L: Seating + Send + Sync + 'static,
+    R: Threads + Wait + Sync,
+    requires empty { record_count (journals_in core) ≡ 0 }
+    requires name { blank.name ≡ L.name }
+    requires parts { (blank.parts ≡ L.parts) × (L.all ≡ L.parts) × (parts ≡ L.parts) }
+{
+    let shared: SharedService<L, RecordedService> = SharedService::new(
+        alloc, core, blank, parts,
+    ).ok()?;
+    match two_seats(rt, &shared) {
+        Some(both) => serve_to_the_end(rt, alloc, shared, both, texts),
+        None => None,
+    }
+}
+
 /// Serves two connections over a ledger of three parts.
 pub fn serve_both<R: Threads + Wait + Sync>(
     rt: &R,
     alloc: Global,
     texts: (&[u8], &[u8]),
 ) -> Option<Served> {
-    let core = make_empty(alloc)?;
+    let core = make_core(alloc)?;
     run::<Brand, R>(rt, alloc, core, Blank::new(3), 3, texts)
-}
-
-/// A new service of one plain namespace.
-pub fn make_empty(alloc: Global) -> Option<ReadService>
-    ensures { IfSome result (λ core. record_count (journals_in core) ≡ 0) }
-{
-    match make_core(alloc) {
-        Some(recorded) => Some(ReadService::new(alloc, recorded)),
-        None => None,
-    }
 }

@@ -11,17 +11,15 @@ pub fn two_seats<L: Seating, C: Stepping>(
     rt: &impl Wait,
     shared: &SharedService<L, C>,
 ) -> Option<(Seat<L>, Seat<L>)> {
-    let one = shared.seat(rt).ok()?;
-    let two = shared.seat(rt).ok()?;
-    Some((one, two))
+    match (shared.seat(rt), shared.seat(rt)) {
+        (Ok(one), Ok(two)) => Some((one, two)),
+        _ => None,
+    }
 }
 
 /// A list of two seats.
 pub fn list_of<L: Seating>(alloc: Global, one: Seat<L>, two: Seat<L>) -> Option<Vec<Seat<L>>> {
-    let mut seats = Vec::with_capacity(alloc, 2).ok()?;
-    seats.push(one).ok()?;
-    seats.push(two).ok()?;
-    Some(seats)
+    Vec::from_array(alloc, [one, two]).ok()
 }
 
 /// Opens a connection.

@@ -1,7 +1,7 @@
 //! One seat, where memory may be refused. `tools/refuse_allocations.py` runs its test with each allocation refused in turn.
 ghost use Rattle.std.specs.Prelude.{◌≡◌, ℕ};
 ghost use Rattle.cache_shared.specs.Events.{record_count};
-ghost use Rattle.cache_spaces.specs.Journals.{journals_of};
+ghost use Rattle.cache_shared.specs.Recordings.{journals_in};
 
 use crate::inputs::{feed, make_core};
 use audit_model::{Conn, Input};
@@ -95,7 +95,7 @@ fn share_at_last<L: Seating>(
     blank: Blank,
     parts: u64,
 ) -> Option<SharedService<L>>
-    requires empty { record_count (journals_of core) ≡ 0 }
+    requires empty { record_count (journals_in core) ≡ 0 }
     requires name { blank.name ≡ L.name }
     requires parts { (blank.parts ≡ L.parts) × (L.all ≡ L.parts) × (parts ≡ L.parts) }
 {
@@ -119,6 +119,34 @@ fn leaves_four<L: Seating>(shared: SharedService<L>, seats: Vec<Seat<L>>) -> Opt
     }
 }
 
+/// Whether a seat takes the four inputs at last, counts them and has their receipts.
+fn takes_four<L: Seating, R: Wait>(
+    rt: &R,
+    alloc: Global,
+    shared: &SharedService<L>,
+    seat: &mut Seat<L>,
+) -> bool {
+    take_four(rt, alloc, shared, seat).is_some() && seat.count() == 4 && seat.receipts(0).len() == 4
+}
+
+/// Whether a seat takes the four inputs at last, and leaves a service that has a record of each.
+fn serves_four<L: Seating, R: Wait>(
+    rt: &R,
+    alloc: Global,
+    shared: SharedService<L>,
+    mut seat: Seat<L>,
+) -> Option<bool>
+    requires ledger { L.all ≡ L.parts }
+{
+    if !takes_four(rt, alloc, &shared, &mut seat) {
+        return None;
+    }
+    match one_seat(alloc, seat) {
+        Some(seats) => leaves_four(shared, seats),
+        None => None,
+    }
+}
+
 fn run<L: Seating, R: Wait>(
     rt: &R,
     alloc: Global,
@@ -126,16 +154,15 @@ fn run<L: Seating, R: Wait>(
     blank: Blank,
     parts: u64,
 ) -> Option<bool>
-    requires empty { record_count (journals_of core) ≡ 0 }
+    requires empty { record_count (journals_in core) ≡ 0 }
     requires name { blank.name ≡ L.name }
     requires parts { (blank.parts ≡ L.parts) × (L.all ≡ L.parts) × (parts ≡ L.parts) }
 {
     let shared: SharedService<L> = share_at_last(alloc, core, blank, parts)?;
-    let mut seat = shared.seat(rt).ok()?;
-    let _ = take_four(rt, alloc, &shared, &mut seat)?;
-    let are_counted = seat.count() == 4 && seat.receipts(0).len() == 4;
-    let seats = one_seat(alloc, seat)?;
-    Some(leaves_four(shared, seats)? && are_counted)
+    match shared.seat(rt) {
+        Ok(seat) => serves_four(rt, alloc, shared, seat),
+        Err(_) => None,
+    }
 }
 
 /// Whether four inputs were taken and have four receipts, whatever was refused for memory once.

@@ -1,12 +1,12 @@
 -- What namespaces and their journals are, input by input.
-use Rattle.std.proofs.Common.{◌≡◌, ◌≢◌, ℕ, zero, suc, ◌<◌, ◌+◌, ◌≤◌, List, [], ◌∷◌, ◌++◌, length, map, Option, Some, None, refl, sym, ap, ◌∙◌, subst, inl, inr, arith, get_or, take}
-use Rattle.std.specs.Prelude.{◌⊎◌, Result, Ok, Err, OnOk, OnErr, IfOk, IsTrue}
+use Rattle.std.proofs.Common.{◌≡◌, ◌≢◌, ℕ, zero, suc, ◌<◌, ◌+◌, ◌≤◌, List, [], ◌∷◌, ◌++◌, length, map, Some, refl, sym, ap, ◌∙◌, subst, inl, inr, arith, get_or, take}
+use Rattle.std.specs.Prelude.{◌⊎◌, Result, Ok, Err, OnErr, IfOk, IsTrue}
 use Rattle.std.proofs.Math.Logic.{∥∥₁_elim, ∥∥₁_map}
 use Rattle.std.proofs.Math.Seq.{take-suc}
 use Rattle.std.proofs.Props.{props}
 use Rattle.std.specs.List.{list_all, slice_get}
 use Rattle.std.proofs.lemmas.List.{take_all}
-use Rattle.std.proofs.lemmas.Option.{none-some, same_Some, slice_get-map, slice_get_within}
+use Rattle.std.proofs.lemmas.Option.{none-some, same_Some, slice_get_within}
 use Rattle.audit_laws.proofs.Belonging.{belongs_on, belongs_step_by_step}
 use Rattle.audit_laws.proofs.Journals.{leads_by-more, obeys-led}
 use Rattle.audit_laws.specs.Leading.{LeadsBy, is_parted}
@@ -25,13 +25,12 @@ use Rattle.audit_model.specs.declared.transcript.Transcript.{Transcript}
 use Rattle.audit_receipts.specs.declared.output.Output.{Output}
 use Rattle.cache_commands.specs.Order.{AgreesWith, Settled}
 use Rattle.cache_lines.specs.Ordered.{OrdersSteps}
-use Rattle.cache_spaces.specs.Calls.{At, TakesLoads}
+use Rattle.cache_spaces.specs.Calls.{At}
 use Rattle.cache_spaces.specs.Inputs.{Performs, namespace_of}
 use Rattle.cache_spaces.specs.Journals.{IsJournalOf, IsSoOfEach, LeadsSo, journals_of, kept_by}
 use Rattle.cache_spaces.specs.Played.{ArePlayed, HasPlayed, HavePlayed, Plays, WerePlayed, journal_of}
-use Rattle.cache_spaces.specs.Recent.{KeepsList}
 use Rattle.cache_spaces.specs.Services.{AreNew, blank_tape}
-use Rattle.cache_spaces.specs.Spaces.{HasItsParts, Space, config_of, made_of, part_in, recency_of}
+use Rattle.cache_spaces.specs.Spaces.{HasItsParts, Space, config_of, part_in, recency_of}
 use Rattle.cache_spaces.specs.Throughout.{HasExactKeys, HaveKeysFrom, are_bounded_from, are_timely_from, are_timely_in, is_bounded_throughout, is_timely_throughout, order_at_end}
 use Rattle.cache_spaces.proofs.Chaining.{keys-one-more, order-at-end-more, so-of-one-more}
 use Rattle.cache_spaces.proofs.Listing.{keeps-list}

@@ -6,4 +6,6 @@ pub mod Performing
 pub mod Journaling
 pub mod Newly
 pub mod Showing
+mod Noting
+pub mod Reading
 mod Taking

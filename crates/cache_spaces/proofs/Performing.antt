@@ -12,15 +12,14 @@ use Rattle.audit_model.specs.declared.input.Input.{Input}
 use Rattle.audit_model.specs.declared.input.Input.TheVariants as input
 use Rattle.audit_model.specs.declared.input.LoadId.{LoadId}
 use Rattle.audit_model.specs.declared.input.ServiceError.{ServiceError}
-use Rattle.audit_model.specs.declared.transcript.Record.{Record}
 use Rattle.audit_model.specs.declared.transcript.Step.{Step}
-use Rattle.audit_receipts.specs.Answers.{last_is_held, output_of, output_with}
+use Rattle.audit_receipts.specs.Answers.{last_is_held, output_with}
 use Rattle.audit_receipts.specs.declared.output.Output.{Output}
-use Rattle.audit_receipts.specs.declared.output.Output.TheVariants.{Opened, All, Held, Done}
+use Rattle.audit_receipts.specs.declared.output.Output.TheVariants.{All, Held}
 use Rattle.cache_core.specs.Settling.{answering, giving_up}
 use Rattle.cache_core.specs.Turned.{feeding}
 use Rattle.cache_lines.specs.Ended.{ends_held}
-use Rattle.cache_spaces.specs.Calls.{RefusedFor, ServesEvent, Settled, is_held_in}
+use Rattle.cache_spaces.specs.Calls.{RefusedFor, ServesEvent, Settled}
 use Rattle.cache_spaces.specs.Inputs.{Performs, RefusedInput, is_held_for, namespace_of}
 use Rattle.cache_spaces.specs.Spaces.{Space}
 use Rattle.cache_tape.specs.Taped.{Taped}

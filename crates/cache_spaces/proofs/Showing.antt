@@ -1,5 +1,5 @@
 -- Namespaces, shown with what their tapes keep.
-use Rattle.std.proofs.Common.{◌≡◌, ℕ, zero, suc, ◌≤◌, Bool, List, [], ◌∷◌, length, map, Option, Some, None, refl, sym, ap, ◌∙◌, subst, inl, inr}
+use Rattle.std.proofs.Common.{◌≡◌, ℕ, zero, suc, ◌≤◌, List, [], ◌∷◌, length, map, Option, Some, refl, sym, ap, ◌∙◌, subst, inl, inr}
 use Rattle.std.specs.Prelude.{slice_set}
 use Rattle.std.specs.List.{slice_get}
 use Rattle.std.proofs.lemmas.Option.{none-some, same_Some}
@@ -8,11 +8,9 @@ use Rattle.audit_model.specs.declared.input.Input.{Input}
 use Rattle.audit_model.specs.declared.input.Input.TheVariants as input
 use Rattle.audit_model.specs.declared.input.ServiceError.{ServiceError}
 use Rattle.audit_receipts.specs.declared.output.Output.{Output}
-use Rattle.cache_core.specs.Turned.{Turned}
 use Rattle.cache_spaces.specs.Calls.{At, InSpace, RefusedFor, Refuses}
-use Rattle.cache_spaces.specs.Inputs.{Performs, PerformsFrom, RefusedInput, is_held_for}
+use Rattle.cache_spaces.specs.Inputs.{Performs, RefusedInput, is_held_for}
 use Rattle.cache_spaces.specs.Spaces.{Space, StandsFor, shown, shown_tape}
-use Rattle.cache_spaces.specs.Stores.{shown_of}
 use Rattle.cache_tape.specs.Taped.{Taped}
 
 module _ {X Y : Type 0} (f : X → Y) where

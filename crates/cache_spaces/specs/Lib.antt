@@ -10,3 +10,6 @@ pub mod Throughout
 pub mod Recent
 pub mod Played
 pub mod Journals
+pub mod Notes
+pub mod Replies
+pub mod Recorded

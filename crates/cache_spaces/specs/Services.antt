@@ -8,7 +8,7 @@ use Rattle.audit_model.specs.Situation.{empty_situation}
 use Rattle.audit_model.specs.declared.config.Config.{Config}
 use Rattle.audit_model.specs.declared.event.Instant.{Instant}
 use Rattle.cache_spaces.specs.Served.{is_served}
-use Rattle.cache_spaces.specs.Spaces.{HasItsParts, Space, StandsFor, config_of, generator_of, made_of, notices_of, part_in, place_of, recency_of}
+use Rattle.cache_spaces.specs.Spaces.{HasItsParts, Space, StandsFor, config_of, generator_of, made_of, notices_of, part_in, recency_of}
 use Rattle.cache_spaces.specs.declared.service.Fed.{Fed}
 use Rattle.cache_spaces.specs.declared.service.Fed.TheVariants.{All, Held}
 use Rattle.cache_tape.specs.Taped.{Taped}

@@ -1,42 +1,47 @@
 //! A service that keeps its journals.
 ghost use Rattle.std.specs.Prelude.{◌≡◌, ℕ, ◌≤◌, ◌<◌, ◌^◌, ◌↔◌, ◌⊎◌, Some, false, IfOk, IfErr, OnErr, IsErrOf, length};
 ghost use Rattle.std.specs.List.{slice_get};
-ghost use Rattle.cache_spaces.specs.Calls.{At, Refuses, TakesLoads};
+ghost use Rattle.cache_spaces.specs.Calls.{At, IsUnknown, Refuses, TakesLoads};
 ghost use Rattle.cache_spaces.specs.Inputs.{Performs, RefusedInput, namespace_of};
 ghost use Rattle.cache_spaces.specs.Journals.{IsJournalOf, IsSoOfEach, journals_of, kept_by};
 ghost use Rattle.cache_spaces.specs.Played.{WerePlayed};
+ghost use Rattle.cache_spaces.specs.Recorded.{AreAtStart, IsUnread, TakesNote, TakesReplies};
 ghost use Rattle.cache_spaces.specs.Services.{AreNew, are_taken, blank_tape};
 
+use crate::cursors::Cursors;
 use crate::service::Core;
 use crate::stepping::Refusal;
-use audit_model::{Bytes, Config, Input, Instant, LoadId, ServiceError, Transcript};
+use audit_model::{Bytes, Config, Conn, Input, Instant, LoadId, Note, ServiceError, Transcript};
 use audit_receipts::Output;
 use cache_tape::Kept;
 use rand_xoshiro::Xoshiro256PlusPlus;
-use std::alloc::Global;
+use std::alloc::{AllocError, Global};
 use std::marker::Model;
 
-/// A service that keeps the transcript of each namespace, its journal. Replies and notes stand in the journals.
+/// A service that keeps the transcript of each namespace, its journal. Replies and notes stand in the journals, from which the takings copy
+/// them.
 ///
-/// A journal is kept whole: memory grows with each input. Contracts see it as the list of its namespaces, the journal of each on its tape.
+/// A journal is kept whole: memory grows with each input. Contracts see the list of its namespaces, the journal of each on its tape, and how
+/// far the replies and notes of each were taken.
 #[derive(Drop)]
 pub struct RecordedService {
     core: Core<Kept>,
     /// Room for the journals, which are moved out at the end.
     room: Vec<Transcript>,
+    /// How far each namespace was read.
+    read: Vec<Cursors>,
 }
 
 impl Model for RecordedService {
-    ghost use Rattle.std.specs.Prelude.{◌≡◌, ◌≤◌, [], List, length, vec_capacity};
+    ghost use Rattle.std.specs.Prelude.{◌≡◌, ◌≤◌, [], length, vec_capacity};
     ghost use Rattle.cache_spaces.specs.Played.{WerePlayed};
-    ghost use Rattle.cache_spaces.specs.Spaces.{Space};
-    ghost use Rattle.cache_tape.specs.Taped.{Taped};
+    ghost use Rattle.cache_spaces.specs.Recorded.{Recorded, recorded_of};
 
-    ghost Value = { List (Space Taped) };
+    ghost Value = { Recorded };
 
-    ghost view = { λ r. r.core };
+    ghost view = { λ r. recorded_of r.core r.read.items };
 
-    ghost invariant = { λ r. ∥ WerePlayed r.core ∥₁ × (r.room.items ≡ []) × (length r.core ≤ vec_capacity r.room) };
+    ghost invariant = { λ r. ∥ WerePlayed r.core ∥₁ × (r.room.items ≡ []) × (length r.core ≤ vec_capacity r.room) × (length r.read.items ≡ length r.core) };
 }
 
 impl RecordedService {
@@ -50,7 +55,8 @@ impl RecordedService {
         generator: Xoshiro256PlusPlus,
         moment: Instant,
     ) -> Result<RecordedService, ServiceError>
-        ensures made { IfOk result (λ recorded. AreNew kept_by (Some (blank_tape moment)) recorded configs.now generator moment.nanos) }
+        ensures made { IfOk result (λ recorded. AreNew kept_by (Some (blank_tape moment)) recorded.spaces configs.now generator moment.nanos) }
+        ensures unread { IfOk result IsUnread }
         ensures moment { IsErrOf result ServiceError.Moment ↔ (2 ^ 63 ≤ moment.nanos) }
         ensures config { IsErrOf result ServiceError.Config ↔ ((moment.nanos < 2 ^ 63) × (are_taken configs.now ≡ false)) }
         ensures memory { IfErr result (λ e. (e ≡ ServiceError.Moment) ⊎ (e ≡ ServiceError.Config) ⊎ (e ≡ ServiceError.OutOfMemory)) }
@@ -59,8 +65,11 @@ impl RecordedService {
             Ok(core) => core,
             Err(error) => return Err(error),
         };
-        match Vec::with_capacity(alloc, configs.len()) {
-            Ok(room) => Ok(RecordedService { core, room }),
+        let Ok(room) = Vec::with_capacity(alloc, configs.len()) else {
+            return Err(ServiceError::OutOfMemory);
+        };
+        match new_cursors(alloc, configs.len()) {
+            Ok(read) => Ok(RecordedService { core, room, read }),
             Err(_) => Err(ServiceError::OutOfMemory),
         }
     }
@@ -70,12 +79,13 @@ impl RecordedService {
     /// An input that is refused is handed back, with the cause that the call has for it of which it is the input, the definition's own
     /// before `OutOfMemory`, which may be for its record, for a closing and a give-up too. Then nothing has changed, and no record is added.
     pub fn step(&mut self, input: Input) -> Result<Output, Refusal>
-        ensures performed { IfOk result (λ output. At self.old self.new (namespace_of input) (Performs kept_by input output)) }
-        ensures refused { IfErr result (λ refusal. Refuses self.old (namespace_of input) refusal.error (RefusedInput input refusal.error)) }
+        ensures performed { IfOk result (λ output. At self.old.spaces self.new.spaces (namespace_of input) (Performs kept_by input output)) }
+        ensures cursors { self.new.cursors ≡ self.old.cursors }
+        ensures refused { IfErr result (λ refusal. Refuses self.old.spaces (namespace_of input) refusal.error (RefusedInput input refusal.error)) }
         ensures back { IfErr result (λ refusal. refusal.input ≡ input) }
         ensures unchanged { OnErr result (self.new ≡ self.old) }
         // the journals obey, and each leads to where its namespace stands
-        ensures journals { IsSoOfEach IsJournalOf self.new }
+        ensures journals { IsSoOfEach IsJournalOf self.new.spaces }
     {
         self.core.step(input)
     }
@@ -83,43 +93,84 @@ impl RecordedService {
     /// The journal of a namespace: a record for each input that it took, in order. It obeys, and leads to where the namespace stands. Takes
     /// no memory. Refused with `NoNamespace`.
     pub fn journal(&self, namespace: u64) -> Result<&Transcript, ServiceError>
-        ensures journal { IfOk result (λ journal. slice_get (journals_of self.now) namespace ≡ Some journal.now) }
-        ensures is { IsSoOfEach IsJournalOf self.now }
-        ensures refused { IfErr result (λ e. (e ≡ ServiceError.NoNamespace) × (length self.now ≤ namespace)) }
+        ensures journal { IfOk result (λ journal. slice_get (journals_of self.now.spaces) namespace ≡ Some journal.now) }
+        ensures is { IsSoOfEach IsJournalOf self.now.spaces }
+        ensures refused { IfErr result (λ e. (e ≡ ServiceError.NoNamespace) × (length self.now.spaces ≤ namespace)) }
     {
-        match self.core.spaces.get(namespace as usize) {
-            Some(space) => {
-                space.sound();
-                Ok(space.tape().journal())
-            }
-            None => Err(ServiceError::NoNamespace),
-        }
+        journal_in(&self.core, namespace)
     }
 
     /// The namespaces under the journals, to be looked at: closings, waiting connections, loads under way. Their output and notes are empty.
     pub fn service(&self) -> &Core<Kept>
-        ensures core { result.now ≡ self.now }
+        ensures core { result.now ≡ self.now.spaces }
         // the journals are what some inputs come to
-        ensures played { ∥ WerePlayed self.now ∥₁ }
+        ensures played { ∥ WerePlayed self.now.spaces ∥₁ }
     {
         &self.core
+    }
+
+    /// The replies of a connection since the last taking, copied out of the journal, also after it closed. It is no event.
+    ///
+    /// Refused with `NoNamespace`, then with `NoConnection`, then with `OutOfMemory` where there is no memory for the copy; then nothing has
+    /// changed.
+    pub fn take_output(&mut self, conn: Conn) -> Result<Vec<u8>, ServiceError>
+        ensures taken { IfOk result (λ text. TakesReplies self.old self.new conn text.items) }
+        ensures refused { IfErr result (λ e. (e ≡ ServiceError.OutOfMemory) ⊎ Refuses self.old.spaces conn.namespace e (λ space. IsUnknown space conn.number e)) }
+        ensures unchanged { OnErr result (self.new ≡ self.old) }
+    {
+        match self.core.closed(conn) {
+            Ok(_) => {}
+            Err(error) => return Err(error),
+        }
+        let RecordedService { core, read, .. } = self;
+        let Ok(journal) = journal_in(core, conn.namespace) else {
+            unreachable!();
+        };
+        let alloc = *read.allocator();
+        let cursors = &mut read[conn.namespace as usize];
+        match cursors.take_replies(alloc, journal.records.as_slice(), conn.number) {
+            Ok(text) => Ok(text),
+            Err(_) => Err(ServiceError::OutOfMemory),
+        }
     }
 
     /// The loads of a namespace that went out and were not taken, with their keys, in the order in which they were sent; moved out, so that
     /// each comes once. It is no event, and adds no record. Takes no memory. Refused with `NoNamespace`.
     pub fn take_loads(&mut self, namespace: u64) -> Result<Vec<(LoadId, Bytes)>, ServiceError>
-        ensures taken { IfOk result (λ loads. At self.old self.new namespace (λ was is. TakesLoads was is loads.items)) }
-        ensures refused { IfErr result (λ e. (e ≡ ServiceError.NoNamespace) × (length self.old ≤ namespace)) }
+        ensures taken { IfOk result (λ loads. At self.old.spaces self.new.spaces namespace (λ was is. TakesLoads was is loads.items)) }
+        ensures cursors { self.new.cursors ≡ self.old.cursors }
+        ensures refused { IfErr result (λ e. (e ≡ ServiceError.NoNamespace) × (length self.old.spaces ≤ namespace)) }
         ensures unchanged { OnErr result (self.new ≡ self.old) }
     {
         self.core.take_loads(namespace)
     }
 
+    /// The oldest note of a namespace that was told and not taken, copied out of the journal; none where there is none. It is no event.
+    ///
+    /// Refused with `NoNamespace`, then with `OutOfMemory` where there is no memory for the copy; then nothing has changed.
+    pub fn next_notice(&mut self, namespace: u64) -> Result<Option<Note>, ServiceError>
+        ensures taken { IfOk result (TakesNote self.old self.new namespace) }
+        ensures refused { IfErr result (λ e. (e ≡ ServiceError.OutOfMemory) ⊎ ((e ≡ ServiceError.NoNamespace) × (length self.old.spaces ≤ namespace))) }
+        ensures unchanged { OnErr result (self.new ≡ self.old) }
+    {
+        let RecordedService { core, read, .. } = self;
+        let journal = match journal_in(core, namespace) {
+            Ok(journal) => journal,
+            Err(error) => return Err(error),
+        };
+        let alloc = *read.allocator();
+        let cursors = &mut read[namespace as usize];
+        match cursors.take_note(alloc, journal.records.as_slice()) {
+            Ok(note) => Ok(note),
+            Err(_) => Err(ServiceError::OutOfMemory),
+        }
+    }
+
     /// The journals, in the order of the namespaces, moved out; the service ends. Takes no memory.
     pub fn into_journals(self) -> Vec<Transcript>
-        ensures { result.items ≡ journals_of self }
+        ensures { result.items ≡ journals_of self.spaces }
     {
-        let RecordedService { core, room } = self;
+        let RecordedService { core, room, .. } = self;
         let Core { spaces } = core;
         let mut journals = room;
         for space in spaces {
@@ -127,5 +178,30 @@ impl RecordedService {
             journals.push_reserved(space.into_tape().into_journal());
         }
         journals
+    }
+}
+
+/// So many namespaces of which nothing was read.
+fn new_cursors(alloc: Global, count: usize) -> Result<Vec<Cursors>, AllocError>
+    ensures { IfOk result (λ read. AreAtStart read.items count) }
+{
+    let mut read = Vec::with_capacity(alloc, count)?;
+    for _namespace in 0..count {
+        read.push(Cursors::new(alloc))?;
+    }
+    Ok(read)
+}
+
+/// The journal of a namespace. Refused with `NoNamespace`.
+fn journal_in(core: &Core<Kept>, namespace: u64) -> Result<&Transcript, ServiceError>
+    ensures journal { IfOk result (λ journal. slice_get (journals_of core.now) namespace ≡ Some journal.now) }
+    ensures refused { IfErr result (λ e. (e ≡ ServiceError.NoNamespace) × (length core.now ≤ namespace)) }
+{
+    match core.spaces.get(namespace as usize) {
+        Some(space) => {
+            space.sound();
+            Ok(space.tape().journal())
+        }
+        None => Err(ServiceError::NoNamespace),
     }
 }

@@ -1,12 +1,15 @@
 //! A cache that is served by lines: namespaces, connections, loads.
 #![tactic(auto)]
 
+mod cursors;
 mod journals;
 mod making;
+mod replies;
 mod service;
 mod sound;
 mod stepping;
 mod tapes;
+mod told;
 
 pub use audit_receipts::Output;
 pub use journals::RecordedService;

@@ -3,7 +3,7 @@ ghost use Rattle.std.specs.Prelude.{◌≡◌, ◌≢◌, ◌≤◌, ◌⊎◌, 
 ghost use Rattle.toml.specs.Parse.{parse_document};
 ghost use Rattle.cache_devices.specs.Watched.{device, failures};
 ghost use Rattle.cached_script.specs.Faults.{Tells, fault_message, usage_text};
-ghost use Rattle.cached_script.specs.Scripts.{ServesScript};
+ghost use Rattle.cached_script.specs.Scripts.{ServesStreams};
 
 use crate::hosts::serve_spaces;
 use crate::lines::Lines;
@@ -53,7 +53,7 @@ where
         + Sync
         + 'static,
     ensures status { result ≤ 2 }
-    ensures served { result ≡ 0 → ServesScript (I.remaining (device reader.old)) (I.remaining (device reader.new)) (O.contents (device writer.old)) (O.contents (device writer.new)) (E.contents (device errors.old)) (E.contents (device errors.new)) }
+    ensures served { result ≡ 0 → ServesStreams I.remaining O.contents E.contents reader.old reader.new writer.old writer.new errors.old errors.new }
     ensures usage { result ≡ 2 → Tells usage_text (E.contents (device errors.old)) (E.contents (device errors.new)) (failures errors.old) (failures errors.new) }
     ensures unread { result ≡ 2 → reader.new ≡ reader.old }
     ensures unwritten { result ≡ 2 → writer.new ≡ writer.old }

@@ -1,9 +1,7 @@
-use Rattle.std.proofs.Common.{◌≡◌, ◌+◌, ◌≤◌, ◌<◌, [], ℕ, List, Some, true, length, refl, ap, sym, subst, arith, ◌∙◌}
+use Rattle.std.proofs.Common.{◌+◌, ℕ, List, Some, length, refl, ap, sym, subst, arith, ◌∙◌}
 use Rattle.std.specs.Option.{option_map}
-use Rattle.audit_model.specs.Replies.{outcome_text}
 use Rattle.audit_model.specs.Situation.{PendingLoad}
 use Rattle.cache_lines.specs.Waiting.{under_way}
-use Rattle.cache_tape.specs.Taped.{started}
 use Rattle.cache_core.specs.Settling.{BeginsAnswer, HaveReplyRoom, waiting_on}
 use Rattle.cache_core.proofs.Admitted.{few-replied, forgot-started}
 use Rattle.cache_core.proofs.Handed.{begins-answer, waiting-is}
@@ -31,7 +29,7 @@ returns-in-Ok-clause-begins g c =
 pub returns-in-Ok-clause-room : goal.returns-in-Ok-clause-room
 returns-in-Ok-clause-room g c =
     let is = c.as_slice-waiting.ensures.value ∙ waiting-is c.args.load (under_way c.args.base.now.loads) _ c.in-Some.ensures in
-    subst (λ (k : ℕ). HaveReplyRoom c.reserve_all.new.connections.items k (waiting_on c.args.load (under_way c.args.base.now.loads))) c.reply_len.ensures (subst (λ (ns : List ℕ). HaveReplyRoom c.reserve_all.new.connections.items c.reply_len.result ns) is c.in_ok-reserve_all.ensures.room)
+    subst (λ (k : ℕ). HaveReplyRoom c.reserve_all.new.connections k (waiting_on c.args.load (under_way c.args.base.now.loads))) c.reply_len.ensures (subst (λ (ns : List ℕ). HaveReplyRoom c.reserve_all.new.connections c.reply_len.result ns) is c.in_ok-reserve_all.ensures.room)
 
 pub returns-in-Err-clause-unchanged : goal.returns-in-Err-clause-unchanged
 returns-in-Err-clause-unchanged g c =

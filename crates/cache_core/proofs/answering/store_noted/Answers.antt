@@ -1,5 +1,4 @@
-use Rattle.std.proofs.Common.{◌≡◌, ◌+◌, ◌≤◌, ◌++◌, [], true, false, List, length, refl, ap, sym, subst, arith, ◌∙◌, if◌then◌else◌}
-use Rattle.std.proofs.lemmas.List.{append-nil}
+use Rattle.std.proofs.Common.{◌≡◌, ◌++◌, [], true, false, List, length, ap, sym, arith, ◌∙◌, if◌then◌else◌}
 use Rattle.audit_model.specs.declared.transcript.Note.{Note}
 use Rattle.cache_core.proofs.Handed.{gives-itself}
 use Rattle.cache_core.proofs.answering.store_noted.Goals as goal

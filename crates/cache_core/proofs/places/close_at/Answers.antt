@@ -1,10 +1,22 @@
-use Rattle.std.proofs.Common.{refl}
-use Rattle.cache_core.proofs.Spots.{at-place}
+use Rattle.cache_core.proofs.Spots.{here-open, is-here, out-at, put-back}
 use Rattle.cache_core.proofs.places.close_at.Goals as goal
+
+pub take-connection-requires : goal.take-connection-requires
+take-connection-requires c =
+    let o = here-open c.args.connections.now c.args.index c.requires.inside c.requires.open in
+    is-here _ o.0 o.1
+
+pub put-requires : goal.put-requires
+put-requires c = out-at c.args.connections.now c.take-connection.new.self c.args.index c.take-connection.result c.take-connection.ensures.taken c.take-connection.ensures.rest
 
 pub returns : goal.returns
 returns c = (
-  record { was = c.index_mut-connection.result.now; is = c.close_connection.new.connection; at = at-place c.args.connections.now.items c.args.index c.index_mut-connection.result.now c.requires c.index_mut-connection.ensures.value; set = refl },
+  record {
+    was = c.take-connection.result;
+    is = c.close_connection.new.connection;
+    at = c.take-connection.ensures.taken;
+    set = put-back c.args.connections.now c.take-connection.new.self c.put.new.self c.args.index c.close_connection.new.connection c.take-connection.ensures.rest c.put.ensures;
+  },
   c.close_connection.ensures.closing,
   c.close_connection.ensures.text,
 )

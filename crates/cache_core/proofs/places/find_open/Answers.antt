@@ -10,6 +10,7 @@ none-gone None e = let no : false ≡ true = e in cc
 
 pub returns-else-is_none-clause-refused : goal.returns-else-is_none-clause-refused
 returns-else-is_none-clause-refused c =
-    let inside = c.if-number-connections.false in
+    let inside = c.if-number-len.false in
     let some = c.if-number-eq0.false in
-    refused-closed c.args.number (c.args.number - 1) c.args.connections.now (omega (arith, some)) (omega (arith, some, inside)) (ap is_none (sym c.closing_of.ensures) ∙ none-gone c.closing_of.result c.if-is_none.ensures)
+    let len = c.len.ensures in
+    refused-closed c.args.number (c.args.number - 1) c.args.connections.now (omega (arith, some)) (omega (arith, some, inside, len)) (ap is_none (sym c.closing.ensures) ∙ none-gone c.closing.result c.if-is_none.ensures)

@@ -1,10 +1,31 @@
-use Rattle.std.proofs.Common.{refl}
-use Rattle.cache_core.proofs.Spots.{at-place}
+use Rattle.std.proofs.Common.{◌∙◌, sym, ap}
+use Rattle.cache_connections.specs.Presence.{is_here}
+use Rattle.cache_core.proofs.Spots.{out-at, put-back, text-is, was-none, was-some}
+use Rattle.cache_core.proofs.Takings.{taken-at, taken-none, text-none}
 use Rattle.cache_core.proofs.places.take_at.Goals as goal
 
-pub returns : goal.returns
-returns c = (
-  record { was = c.index_mut-connection.result.now; is = c.take_text.new.connection; at = at-place c.args.connections.now.items c.args.index c.index_mut-connection.result.now c.requires c.index_mut-connection.ensures.value; set = refl },
-  c.take_text.ensures.rest,
-  c.take_text.ensures.taken,
-)
+pub returns-then-is_none-clause-rest : goal.returns-then-is_none-clause-rest
+returns-then-is_none-clause-rest c = taken-none c.args.connections.now c.args.index c.requires (was-none c.get.result _ _ c.if-is_none.ensures c.get.ensures)
+
+pub returns-then-is_none-clause-taken : goal.returns-then-is_none-clause-taken
+returns-then-is_none-clause-taken c = c.new.ensures.items ∙ sym (text-none c.args.connections.now c.args.index c.requires (was-none c.get.result _ _ c.if-is_none.ensures c.get.ensures))
+
+pub take-connection-requires : goal.take-connection-requires
+take-connection-requires c = was-some c.get.result _ _ _ (λ x at. ap is_here at) c.if-is_none.ensures c.get.ensures
+
+pub put-requires : goal.put-requires
+put-requires c = out-at c.args.connections.now c.take-connection.new.self c.args.index c.take-connection.result c.take-connection.ensures.taken c.take-connection.ensures.rest
+
+pub returns-clause-rest : goal.returns-clause-rest
+returns-clause-rest c =
+    taken-at c.args.connections.now c.put.new.self c.retire.new.self c.args.index
+    (record {
+      was = c.take-connection.result;
+      is = c.take_text-text.new.connection;
+      at = c.take-connection.ensures.taken;
+      set = put-back c.args.connections.now c.take-connection.new.self c.put.new.self c.args.index c.take_text-text.new.connection c.take-connection.ensures.rest c.put.ensures;
+    })
+    c.take_text-text.ensures.rest c.retire.ensures
+
+pub returns-clause-taken : goal.returns-clause-taken
+returns-clause-taken c = c.take_text-text.ensures.taken ∙ sym (text-is c.args.connections.now c.args.index c.take-connection.result c.take-connection.ensures.taken)

@@ -5,19 +5,19 @@ use Rattle.cache_core.proofs.Waiters.{front-more}
 use Rattle.cache_core.proofs.reserving.reserve_all.Goals as goal
 
 pub returns-in_err-reserve_at-clause-same : goal.returns-in_err-reserve_at-clause-same
-returns-in_err-reserve_at-clause-same c = all-on c.args.connections.now.items c.loop-number.connections.items c.reserve_at.new.connections.items c.loop-number.invariant.same c.reserve_at.ensures.same
+returns-in_err-reserve_at-clause-same c = all-on c.args.connections.now c.loop-number.connections c.reserve_at.new.connections c.loop-number.invariant.same c.reserve_at.ensures.same
 
 pub loop-number-preserved : goal.loop-number-preserved
 loop-number-preserved c =
     let at = c.loop-number.number-index in
     let ns = c.args.waiting.now in
-    let mid = c.loop-number.connections.items in
-    let new = c.reserve_at.new.connections.items in
+    let mid = c.loop-number.connections in
+    let new = c.reserve_at.new.connections in
     record {
-      same = all-on c.args.connections.now.items mid new c.loop-number.invariant.same c.reserve_at.ensures.same;
+      same = all-on c.args.connections.now mid new c.loop-number.invariant.same c.reserve_at.ensures.same;
       room = subst (HaveReplyRoom new c.args.size) (sym (front-more ns at c.loop-number-test.true))
           (room-more mid new c.args.size (get_or ns at 0) (take at ns) c.loop-number.invariant.room c.reserve_at.ensures.others c.in_ok-reserve_at.ensures.room);
     }
 
 pub loop-number-init : goal.loop-number-init
-loop-number-init c = record { same = all-itself c.args.connections.now.items; room = λ n some k at. absurd (omega (arith, some)) }
+loop-number-init c = record { same = all-itself c.args.connections.now; room = λ n some k at. absurd (omega (arith, some)) }

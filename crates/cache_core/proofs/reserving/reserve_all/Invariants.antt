@@ -4,6 +4,6 @@ use Rattle.cache_core.proofs.reserving.reserve_all.Given as goal
 
 abbrev pub invariant-loop-number : goal.invariant-loop-number
 invariant-loop-number l = record {
-  same : AllLookAsBefore l.fn.connections.items l.connections.items;
-  room : HaveReplyRoom l.connections.items l.size (take l.number-index l.waiting);
+  same : AllLookAsBefore l.fn.connections l.connections;
+  room : HaveReplyRoom l.connections l.size (take l.number-index l.waiting);
 }

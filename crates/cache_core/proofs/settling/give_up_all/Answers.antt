@@ -1,20 +1,19 @@
-use Rattle.std.proofs.Common.{◌≡◌, ◌+◌, ◌-◌, ◌≤◌, ◌<◌, ◌++◌, ◌∷◌, [], ℕ, List, suc, length, map, take, drop, get_or, refl, sym, ap, ◌∙◌, subst, arith}
-use Rattle.std.proofs.lemmas.List.{drop_all, take_all}
+use Rattle.std.proofs.Common.{◌≡◌, ◌+◌, ◌-◌, ◌∷◌, [], ℕ, List, length, take, drop, get_or, refl, sym, ap, ◌∙◌, subst, arith}
+use Rattle.std.proofs.lemmas.List.{take_all}
 use Rattle.audit_model.specs.Places.{tasks_to_give_up}
-use Rattle.audit_model.specs.Replies.{outcome_text}
-use Rattle.audit_model.specs.Steps.{Deliver, RunAgain, RunLines, Task}
+use Rattle.audit_model.specs.Steps.{RunAgain, RunLines, Task}
 use Rattle.audit_model.specs.declared.config.Config.{Config}
 use Rattle.cache_store.specs.Promises.{Frame}
-use Rattle.cache_core.specs.Settled.{IsAmid, Parts}
-use Rattle.cache_core.specs.Settling.{AreThere, AreWaiting, HaveReplyRoom, IsWaitingAt, PartsUnknown, Reruns}
-use Rattle.cache_core.proofs.Amid.{parts-none, parts-on, unknown-none, unknown-on}
-use Rattle.cache_core.proofs.Loops.{amid-all, amid-next, amid-two, first-there, give-up-more, left-there, mapped-more, there-number}
-use Rattle.cache_core.proofs.Waiters.{first-waits, front-more, left-room, left-wait, once-first, rest-next, waits-above, waits-inside, waits-numbered}
+use Rattle.cache_core.specs.Settled.{IsAmid}
+use Rattle.cache_core.specs.Settling.{AreWaiting, IsWaitingAt, PartsUnknown, Reruns}
+use Rattle.cache_core.proofs.Amid.{unknown-none, unknown-on}
+use Rattle.cache_core.proofs.Loops.{amid-all, amid-two, give-up-more, there-number}
+use Rattle.cache_core.proofs.Waiters.{first-waits, left-wait, rest-next, waits-above, waits-inside, waits-numbered}
 use Rattle.cache_core.proofs.settling.give_up_all.Goals as goal
 
 pub loop-number-init : goal.loop-number-init
 loop-number-init g c = record {
-  ran = unknown-none g.S.Store.view g.T.Tape.view c.args.now c.args.base.now c.args.connections.now.items c.requires.amid.in_time.0;
+  ran = unknown-none g.S.Store.view g.T.Tape.view c.args.now c.args.base.now c.args.connections.now c.requires.amid.in_time.0;
   amid = λ lines amid. amid;
   waits = c.requires.waits;
   count = refl;
@@ -30,7 +29,7 @@ overflow_sub-index g c =
     let next = rest-next ns at c.loop-number-test.true in
     let i = c.loop-number.invariant in
     let config = (g.S.Store.view c.args.base.now.store).frame.config in
-    let mid = c.loop-number.connections.items in
+    let mid = c.loop-number.connections in
     let waits = subst (AreWaiting config mid) next i.waits in
     let first = first-waits config mid n rest waits in
     waits-above config mid n first
@@ -44,7 +43,7 @@ give_up_at-requires-clause-inside g c =
     let next = rest-next ns at c.loop-number-test.true in
     let i = c.loop-number.invariant in
     let config = (g.S.Store.view c.args.base.now.store).frame.config in
-    let mid = c.loop-number.connections.items in
+    let mid = c.loop-number.connections in
     let waits = subst (AreWaiting config mid) next i.waits in
     let first = first-waits config mid n rest waits in
     waits-inside config mid n first
@@ -58,10 +57,10 @@ give_up_at-requires-clause-amid g c =
     let next = rest-next ns at c.loop-number-test.true in
     let i = c.loop-number.invariant in
     let config = (g.S.Store.view c.args.base.now.store).frame.config in
-    let mid = c.loop-number.connections.items in
+    let mid = c.loop-number.connections in
     let waits = subst (AreWaiting config mid) next i.waits in
     let first = first-waits config mid n rest waits in
-    amid-two g.S.Store.view g.T.Tape.view c.args.now c.loop-number.base mid ns at c.loop-number-test.true (amid-all g.S.Store.view g.T.Tape.view c.args.now c.args.base.now c.loop-number.base c.args.connections.now.items mid (length ns + length ns) (length (drop at ns) + length (drop at ns)) i.amid c.requires.amid)
+    amid-two g.S.Store.view g.T.Tape.view c.args.now c.loop-number.base mid ns at c.loop-number-test.true (amid-all g.S.Store.view g.T.Tape.view c.args.now c.args.base.now c.loop-number.base c.args.connections.now mid (length ns + length ns) (length (drop at ns) + length (drop at ns)) i.amid c.requires.amid)
 
 pub give_up_at-requires-clause-waits : goal.give_up_at-requires-clause-waits
 give_up_at-requires-clause-waits g c =
@@ -72,7 +71,7 @@ give_up_at-requires-clause-waits g c =
     let next = rest-next ns at c.loop-number-test.true in
     let i = c.loop-number.invariant in
     let config = (g.S.Store.view c.args.base.now.store).frame.config in
-    let mid = c.loop-number.connections.items in
+    let mid = c.loop-number.connections in
     let waits = subst (AreWaiting config mid) next i.waits in
     let first = first-waits config mid n rest waits in
     subst (λ (k : Config). IsWaitingAt k mid (n - 1 + 1)) (sym (ap (λ (f : Frame). f.config) i.ran.frame.rest)) (waits-numbered config mid n first)
@@ -86,18 +85,18 @@ loop-number-preserved g c =
     let next = rest-next ns at c.loop-number-test.true in
     let i = c.loop-number.invariant in
     let config = (g.S.Store.view c.args.base.now.store).frame.config in
-    let mid = c.loop-number.connections.items in
+    let mid = c.loop-number.connections in
     let waits = subst (AreWaiting config mid) next i.waits in
     let first = first-waits config mid n rest waits in
     let number : n - 1 + 1 ≡ n = there-number n (waits-above config mid n first) in
-    let one = subst (λ (k : ℕ). Reruns g.S.Store.view g.T.Tape.view c.args.now c.loop-number.base c.give_up_at.new.base mid c.give_up_at.new.connections.items (RunAgain k ∷ RunLines k ∷ [])) number c.give_up_at.ensures.ran in
+    let one = subst (λ (k : ℕ). Reruns g.S.Store.view g.T.Tape.view c.args.now c.loop-number.base c.give_up_at.new.base mid c.give_up_at.new.connections (RunAgain k ∷ RunLines k ∷ [])) number c.give_up_at.ensures.ran in
     record {
-      ran = subst (λ (ts : List Task). PartsUnknown g.S.Store.view g.T.Tape.view c.args.now c.args.base.now c.give_up_at.new.base c.args.connections.now.items c.give_up_at.new.connections.items ts) (sym (give-up-more ns at c.loop-number-test.true))
-          (unknown-on g.S.Store.view g.T.Tape.view c.args.now c.args.base.now c.loop-number.base c.give_up_at.new.base c.args.connections.now.items mid c.give_up_at.new.connections.items (tasks_to_give_up (take at ns)) (RunAgain n ∷ RunLines n ∷ []) i.ran one);
+      ran = subst (λ (ts : List Task). PartsUnknown g.S.Store.view g.T.Tape.view c.args.now c.args.base.now c.give_up_at.new.base c.args.connections.now c.give_up_at.new.connections ts) (sym (give-up-more ns at c.loop-number-test.true))
+          (unknown-on g.S.Store.view g.T.Tape.view c.args.now c.args.base.now c.loop-number.base c.give_up_at.new.base c.args.connections.now mid c.give_up_at.new.connections (tasks_to_give_up (take at ns)) (RunAgain n ∷ RunLines n ∷ []) i.ran one);
       amid = λ lines amid.
           let h = i.amid lines amid in
           c.give_up_at.ensures.amid (length rest + length rest + lines) (subst (λ k. IsAmid g.S.Store.view g.T.Tape.view c.args.now c.loop-number.base mid k) (let e = ap length next in omega (arith, e)) h);
-      waits = left-wait config n rest mid c.give_up_at.new.connections.items waits c.give_up_at.ensures.others;
+      waits = left-wait config n rest mid c.give_up_at.new.connections waits c.give_up_at.ensures.others;
       count = c.give_up_at.ensures.others.count ∙ i.count;
       goes = record { taken = c.give_up_at.ensures.goes.taken ∙ i.goes.taken; namespace = c.give_up_at.ensures.goes.namespace ∙ i.goes.namespace };
     }
@@ -106,4 +105,4 @@ pub returns-clause-ran : goal.returns-clause-ran
 returns-clause-ran g c =
     let at = c.loop-number.number-index in
     let ns = c.args.waiting.now in
-    subst (λ (xs : List ℕ). PartsUnknown g.S.Store.view g.T.Tape.view c.args.now c.args.base.now c.loop-number.base c.args.connections.now.items c.loop-number.connections.items (tasks_to_give_up xs)) (take_all at ns c.loop-number-test.false) c.loop-number.invariant.ran
+    subst (λ (xs : List ℕ). PartsUnknown g.S.Store.view g.T.Tape.view c.args.now c.args.base.now c.loop-number.base c.args.connections.now c.loop-number.connections (tasks_to_give_up xs)) (take_all at ns c.loop-number-test.false) c.loop-number.invariant.ran

@@ -1,20 +1,16 @@
-use Rattle.std.proofs.Common.{◌≡◌, ◌+◌, ◌-◌, ◌≤◌, ◌<◌, ◌++◌, ◌∷◌, [], ℕ, List, suc, length, map, take, drop, get_or, refl, sym, ap, ◌∙◌, subst, arith}
-use Rattle.std.proofs.lemmas.List.{drop_all, take_all}
-use Rattle.audit_model.specs.Places.{tasks_to_give_up}
-use Rattle.audit_model.specs.Replies.{outcome_text}
-use Rattle.audit_model.specs.Steps.{Deliver, RunAgain, RunLines, Task}
-use Rattle.audit_model.specs.declared.config.Config.{Config}
-use Rattle.cache_store.specs.Promises.{Frame}
+use Rattle.std.proofs.Common.{◌≡◌, ◌+◌, ◌-◌, ◌∷◌, [], ℕ, List, length, map, take, drop, get_or, refl, sym, ap, ◌∙◌, subst, arith}
+use Rattle.std.proofs.lemmas.List.{take_all}
+use Rattle.audit_model.specs.Steps.{RunLines, Task}
 use Rattle.cache_core.specs.Settled.{IsAmid, Parts}
-use Rattle.cache_core.specs.Settling.{AreThere, AreWaiting, HaveReplyRoom, IsWaitingAt, PartsUnknown, Reruns}
-use Rattle.cache_core.proofs.Amid.{parts-none, parts-on, unknown-none, unknown-on}
-use Rattle.cache_core.proofs.Loops.{amid-all, amid-next, amid-two, first-there, give-up-more, left-there, mapped-more, there-number}
-use Rattle.cache_core.proofs.Waiters.{first-waits, front-more, left-room, left-wait, once-first, rest-next, waits-above, waits-inside, waits-numbered}
+use Rattle.cache_core.specs.Settling.{AreThere}
+use Rattle.cache_core.proofs.Amid.{parts-none, parts-on}
+use Rattle.cache_core.proofs.Loops.{amid-all, amid-next, first-there, left-there, mapped-more, there-number}
+use Rattle.cache_core.proofs.Waiters.{once-first, rest-next}
 use Rattle.cache_core.proofs.settling.resume_all.Goals as goal
 
 pub loop-number-init : goal.loop-number-init
 loop-number-init g c = record {
-  ran = parts-none g.S.Store.view g.T.Tape.view c.args.now c.args.base.now c.args.connections.now.items c.requires.amid.in_time.0;
+  ran = parts-none g.S.Store.view g.T.Tape.view c.args.now c.args.base.now c.args.connections.now c.requires.amid.in_time.0;
   amid = λ lines amid. amid;
   inside = c.requires.inside;
   count = refl;
@@ -30,7 +26,7 @@ overflow_sub-index g c =
     let next = rest-next ns at c.loop-number-test.true in
     let i = c.loop-number.invariant in
     let config = (g.S.Store.view c.args.base.now.store).frame.config in
-    let mid = c.loop-number.connections.items in
+    let mid = c.loop-number.connections in
     let there = subst (AreThere mid) next i.inside in
     let first = there n (once-first n rest) in
     first.0
@@ -44,7 +40,7 @@ resume_at-requires-clause-inside g c =
     let next = rest-next ns at c.loop-number-test.true in
     let i = c.loop-number.invariant in
     let config = (g.S.Store.view c.args.base.now.store).frame.config in
-    let mid = c.loop-number.connections.items in
+    let mid = c.loop-number.connections in
     let there = subst (AreThere mid) next i.inside in
     let first = there n (once-first n rest) in
     first-there mid n first.0 first.1
@@ -58,10 +54,10 @@ resume_at-requires-clause-amid g c =
     let next = rest-next ns at c.loop-number-test.true in
     let i = c.loop-number.invariant in
     let config = (g.S.Store.view c.args.base.now.store).frame.config in
-    let mid = c.loop-number.connections.items in
+    let mid = c.loop-number.connections in
     let there = subst (AreThere mid) next i.inside in
     let first = there n (once-first n rest) in
-    amid-next g.S.Store.view g.T.Tape.view c.args.now c.loop-number.base mid ns at c.loop-number-test.true (amid-all g.S.Store.view g.T.Tape.view c.args.now c.args.base.now c.loop-number.base c.args.connections.now.items mid (length ns) (length (drop at ns)) i.amid c.requires.amid)
+    amid-next g.S.Store.view g.T.Tape.view c.args.now c.loop-number.base mid ns at c.loop-number-test.true (amid-all g.S.Store.view g.T.Tape.view c.args.now c.args.base.now c.loop-number.base c.args.connections.now mid (length ns) (length (drop at ns)) i.amid c.requires.amid)
 
 pub loop-number-preserved : goal.loop-number-preserved
 loop-number-preserved g c =
@@ -72,18 +68,18 @@ loop-number-preserved g c =
     let next = rest-next ns at c.loop-number-test.true in
     let i = c.loop-number.invariant in
     let config = (g.S.Store.view c.args.base.now.store).frame.config in
-    let mid = c.loop-number.connections.items in
+    let mid = c.loop-number.connections in
     let there = subst (AreThere mid) next i.inside in
     let first = there n (once-first n rest) in
     let number : n - 1 + 1 ≡ n = there-number n first.0 in
-    let one = subst (λ (k : ℕ). Parts g.S.Store.view g.T.Tape.view c.args.now c.loop-number.base c.resume_at.new.base mid c.resume_at.new.connections.items (RunLines k ∷ [])) number c.resume_at.ensures.ran in
+    let one = subst (λ (k : ℕ). Parts g.S.Store.view g.T.Tape.view c.args.now c.loop-number.base c.resume_at.new.base mid c.resume_at.new.connections (RunLines k ∷ [])) number c.resume_at.ensures.ran in
     record {
-      ran = subst (λ (ts : List Task). Parts g.S.Store.view g.T.Tape.view c.args.now c.args.base.now c.resume_at.new.base c.args.connections.now.items c.resume_at.new.connections.items ts) (sym (mapped-more RunLines ns at c.loop-number-test.true))
-          (parts-on g.S.Store.view g.T.Tape.view c.args.now c.args.base.now c.loop-number.base c.resume_at.new.base c.args.connections.now.items mid c.resume_at.new.connections.items (map RunLines (take at ns)) (RunLines n ∷ []) i.ran one);
+      ran = subst (λ (ts : List Task). Parts g.S.Store.view g.T.Tape.view c.args.now c.args.base.now c.resume_at.new.base c.args.connections.now c.resume_at.new.connections ts) (sym (mapped-more RunLines ns at c.loop-number-test.true))
+          (parts-on g.S.Store.view g.T.Tape.view c.args.now c.args.base.now c.loop-number.base c.resume_at.new.base c.args.connections.now mid c.resume_at.new.connections (map RunLines (take at ns)) (RunLines n ∷ []) i.ran one);
       amid = λ lines amid.
           let h = i.amid lines amid in
           c.resume_at.ensures.amid (length rest + lines) (subst (λ k. IsAmid g.S.Store.view g.T.Tape.view c.args.now c.loop-number.base mid k) (let e = ap length next in omega (arith, e)) h);
-      inside = left-there mid c.resume_at.new.connections.items n rest there c.resume_at.ensures.others.count;
+      inside = left-there mid c.resume_at.new.connections n rest there c.resume_at.ensures.others.count;
       count = c.resume_at.ensures.others.count ∙ i.count;
       goes = record { taken = c.resume_at.ensures.goes.taken ∙ i.goes.taken; namespace = c.resume_at.ensures.goes.namespace ∙ i.goes.namespace };
     }
@@ -92,4 +88,4 @@ pub returns-clause-ran : goal.returns-clause-ran
 returns-clause-ran g c =
     let at = c.loop-number.number-index in
     let ns = c.args.waiting.now in
-    subst (λ (xs : List ℕ). Parts g.S.Store.view g.T.Tape.view c.args.now c.args.base.now c.loop-number.base c.args.connections.now.items c.loop-number.connections.items (map RunLines xs)) (take_all at ns c.loop-number-test.false) c.loop-number.invariant.ran
+    subst (λ (xs : List ℕ). Parts g.S.Store.view g.T.Tape.view c.args.now c.args.base.now c.loop-number.base c.args.connections.now c.loop-number.connections (map RunLines xs)) (take_all at ns c.loop-number-test.false) c.loop-number.invariant.ran

@@ -1,17 +1,15 @@
 use Rattle.std.proofs.Common.{◌≡◌, ◌+◌, ℕ, length, map, take, drop}
-use Rattle.audit_model.specs.Places.{tasks_to_give_up}
-use Rattle.audit_model.specs.Replies.{outcome_text}
-use Rattle.audit_model.specs.Steps.{Deliver, RunLines}
+use Rattle.audit_model.specs.Steps.{RunLines}
 use Rattle.cache_loads.specs.Pending.{SameTaken}
 use Rattle.cache_core.specs.Settled.{IsAmid, Parts}
-use Rattle.cache_core.specs.Settling.{AreThere, AreWaiting, HaveReplyRoom, PartsUnknown}
+use Rattle.cache_core.specs.Settling.{AreThere}
 use Rattle.cache_core.proofs.settling.resume_all.Given as goal
 
 abbrev pub invariant-loop-number : goal.invariant-loop-number
 invariant-loop-number g l = record {
-  ran : Parts g.S.Store.view g.T.Tape.view l.now l.fn.base l.base l.fn.connections.items l.connections.items (map RunLines (take l.number-index l.waiting));
-  amid : (lines : ℕ) → IsAmid g.S.Store.view g.T.Tape.view l.now l.fn.base l.fn.connections.items (length l.waiting + lines) → IsAmid g.S.Store.view g.T.Tape.view l.now l.base l.connections.items (length (drop l.number-index l.waiting) + lines);
-  inside : AreThere l.connections.items (drop l.number-index l.waiting);
-  count : length l.connections.items ≡ length l.fn.connections.items;
+  ran : Parts g.S.Store.view g.T.Tape.view l.now l.fn.base l.base l.fn.connections l.connections (map RunLines (take l.number-index l.waiting));
+  amid : (lines : ℕ) → IsAmid g.S.Store.view g.T.Tape.view l.now l.fn.base l.fn.connections (length l.waiting + lines) → IsAmid g.S.Store.view g.T.Tape.view l.now l.base l.connections (length (drop l.number-index l.waiting) + lines);
+  inside : AreThere l.connections (drop l.number-index l.waiting);
+  count : length l.connections ≡ length l.fn.connections;
   goes : SameTaken l.fn.base.loads l.base.loads;
 }

@@ -1,45 +1,33 @@
-use Rattle.std.proofs.Common.{◌≡◌, ◌+◌, List, ℕ, [], refl, sym, subst, ◌∙◌, ap}
-use Rattle.std.specs.Prelude.{slice_set}
+use Rattle.std.proofs.Common.{[]}
 use Rattle.cache_connection.specs.Fed.{FedRan}
-use Rattle.cache_lines.specs.Bases.{Seen}
-use Rattle.cache_lines.specs.Gathered.{stage}
-use Rattle.cache_lines.specs.Waiting.{under_way}
-use Rattle.cache_core.specs.Places.{text_at}
-use Rattle.cache_core.specs.Settling.{runs_at}
-use Rattle.cache_core.proofs.Spots.{at-place, at-replaced, text-is}
-use Rattle.cache_core.proofs.Steps.{runs-here}
+use Rattle.cache_core.specs.Fed.{ReplacedAt}
+use Rattle.cache_core.proofs.At.{moved-there}
+use Rattle.cache_core.proofs.Spots.{out-at, put-back}
+use Rattle.cache_core.proofs.Steps.{runs-is, runs-is-here}
 use Rattle.cache_core.proofs.settling.resume_there.Goals as goal
+
+pub take-connection-requires : goal.take-connection-requires
+take-connection-requires g c = runs-is-here _ c.requires.runs
+
+pub put-requires : goal.put-requires
+put-requires g c = out-at c.args.connections.now c.take-connection.new.self c.args.index c.take-connection.result c.take-connection.ensures.taken c.take-connection.ensures.rest
 
 pub returns-clause-ran : goal.returns-clause-ran
 returns-clause-ran g c =
-    let view = g.S.Store.view in
-    let tape = g.T.Tape.view in
-    let cs = c.args.connections.now.items in
-    let i = c.args.index in
-    let base = c.args.base.now in
-    let new_base = c.feed_ready.new.base in
-    let old = c.index_mut-connection.result.now in
-    let new = c.feed_ready.new.connection in
-    let at = at-place cs i old c.requires.inside c.index_mut-connection.ensures.value in
-    let was : List ℕ → Seen = λ t. record { stage = stage (view base.store) t (tape base.tape); loads = under_way base.loads } in
-    let is : List ℕ → Seen = λ t. record { stage = stage (view new_base.store) t (tape new_base.tape); loads = under_way new_base.loads } in
+    let p : ReplacedAt c.args.connections.now c.put.new.self c.args.index = record {
+      was = c.take-connection.result;
+      is = c.feed_ready.new.connection;
+      at = c.take-connection.ensures.taken;
+      set = put-back c.args.connections.now c.take-connection.new.self c.put.new.self c.args.index c.feed_ready.new.connection c.take-connection.ensures.rest c.put.ensures;
+    } in
     record {
-      put = record { was = old; is = new; at = at; set = refl };
+      put = p;
       is_held = c.feed_ready.result;
-      ran = subst (λ t. FedRan c.args.now (i + 1) old [] new c.feed_ready.result (was t) (is (text_at (slice_set cs i new) i))) (sym (text-is cs i old at))
-          (subst (λ t. FedRan c.args.now (i + 1) old [] new c.feed_ready.result (was old.output.text.items) (is t)) (sym (text-is (slice_set cs i new) i new (at-replaced cs i new c.requires.inside))) c.feed_ready.ensures.ran);
+      ran = moved-there g.S.Store.view g.T.Tape.view (λ k x y. FedRan c.args.now k p.was [] p.is c.feed_ready.result x y) c.args.base.now c.feed_ready.new.base c.args.connections.now c.put.new.self c.number_at-number.result c.args.index p c.number_at-number.ensures c.feed_ready.ensures.ran;
     }
 
 pub feed_ready-requires-clause-open : goal.feed_ready-requires-clause-open
-feed_ready-requires-clause-open g c =
-    let cs = c.args.connections.now.items in
-    let old = c.index_mut-connection.result.now in
-    let at = at-place cs c.args.index old c.requires.inside c.index_mut-connection.ensures.value in
-    (runs-here old.closing old.standing (sym (ap runs_at at) ∙ c.requires.runs)).1
+feed_ready-requires-clause-open g c = (runs-is _ c.take-connection.result c.take-connection.ensures.taken c.requires.runs).1
 
 pub feed_ready-requires-clause-ready : goal.feed_ready-requires-clause-ready
-feed_ready-requires-clause-ready g c =
-    let cs = c.args.connections.now.items in
-    let old = c.index_mut-connection.result.now in
-    let at = at-place cs c.args.index old c.requires.inside c.index_mut-connection.ensures.value in
-    (runs-here old.closing old.standing (sym (ap runs_at at) ∙ c.requires.runs)).0
+feed_ready-requires-clause-ready g c = (runs-is _ c.take-connection.result c.take-connection.ensures.taken c.requires.runs).0

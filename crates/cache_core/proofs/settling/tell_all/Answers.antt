@@ -1,20 +1,19 @@
-use Rattle.std.proofs.Common.{◌≡◌, ◌+◌, ◌-◌, ◌≤◌, ◌<◌, ◌++◌, ◌∷◌, [], ℕ, List, suc, length, map, take, drop, get_or, refl, sym, ap, ◌∙◌, subst, arith}
+use Rattle.std.proofs.Common.{◌≡◌, ◌+◌, ◌-◌, ◌∷◌, [], ℕ, List, length, map, take, drop, get_or, refl, sym, ap, ◌∙◌, subst, arith}
 use Rattle.std.proofs.lemmas.List.{drop_all, take_all}
-use Rattle.audit_model.specs.Places.{tasks_to_give_up}
 use Rattle.audit_model.specs.Replies.{outcome_text}
-use Rattle.audit_model.specs.Steps.{Deliver, RunAgain, RunLines, Task}
+use Rattle.audit_model.specs.Steps.{Deliver, Task}
 use Rattle.audit_model.specs.declared.config.Config.{Config}
 use Rattle.cache_store.specs.Promises.{Frame}
 use Rattle.cache_core.specs.Settled.{IsAmid, Parts}
-use Rattle.cache_core.specs.Settling.{AreThere, AreWaiting, HaveReplyRoom, IsWaitingAt, PartsUnknown, Reruns}
-use Rattle.cache_core.proofs.Amid.{parts-none, parts-on, unknown-none, unknown-on}
-use Rattle.cache_core.proofs.Loops.{amid-all, amid-next, amid-two, first-there, give-up-more, left-there, mapped-more, there-number}
-use Rattle.cache_core.proofs.Waiters.{first-waits, front-more, left-room, left-wait, once-first, rest-next, waits-above, waits-inside, waits-numbered}
+use Rattle.cache_core.specs.Settling.{AreWaiting, HaveReplyRoom, IsWaitingAt}
+use Rattle.cache_core.proofs.Amid.{parts-none, parts-on}
+use Rattle.cache_core.proofs.Loops.{amid-all, amid-next, mapped-more, there-number}
+use Rattle.cache_core.proofs.Waiters.{first-waits, left-room, left-wait, once-first, rest-next, waits-above, waits-inside, waits-numbered}
 use Rattle.cache_core.proofs.settling.tell_all.Goals as goal
 
 pub loop-number-init : goal.loop-number-init
 loop-number-init g c = record {
-  ran = parts-none g.S.Store.view g.T.Tape.view c.args.now c.args.base.now c.args.connections.now.items c.requires.amid.in_time.0;
+  ran = parts-none g.S.Store.view g.T.Tape.view c.args.now c.args.base.now c.args.connections.now c.requires.amid.in_time.0;
   amid = λ lines amid. amid;
   waits = c.requires.waits;
   room = c.requires.room;
@@ -31,7 +30,7 @@ overflow_sub-index g c =
     let next = rest-next ns at c.loop-number-test.true in
     let i = c.loop-number.invariant in
     let config = (g.S.Store.view c.args.base.now.store).frame.config in
-    let mid = c.loop-number.connections.items in
+    let mid = c.loop-number.connections in
     let waits = subst (AreWaiting config mid) next i.waits in
     let first = first-waits config mid n rest waits in
     waits-above config mid n first
@@ -45,7 +44,7 @@ tell_at-requires-clause-inside g c =
     let next = rest-next ns at c.loop-number-test.true in
     let i = c.loop-number.invariant in
     let config = (g.S.Store.view c.args.base.now.store).frame.config in
-    let mid = c.loop-number.connections.items in
+    let mid = c.loop-number.connections in
     let waits = subst (AreWaiting config mid) next i.waits in
     let first = first-waits config mid n rest waits in
     waits-inside config mid n first
@@ -59,10 +58,10 @@ tell_at-requires-clause-amid g c =
     let next = rest-next ns at c.loop-number-test.true in
     let i = c.loop-number.invariant in
     let config = (g.S.Store.view c.args.base.now.store).frame.config in
-    let mid = c.loop-number.connections.items in
+    let mid = c.loop-number.connections in
     let waits = subst (AreWaiting config mid) next i.waits in
     let first = first-waits config mid n rest waits in
-    amid-next g.S.Store.view g.T.Tape.view c.args.now c.loop-number.base mid ns at c.loop-number-test.true (amid-all g.S.Store.view g.T.Tape.view c.args.now c.args.base.now c.loop-number.base c.args.connections.now.items mid (length ns) (length (drop at ns)) i.amid c.requires.amid)
+    amid-next g.S.Store.view g.T.Tape.view c.args.now c.loop-number.base mid ns at c.loop-number-test.true (amid-all g.S.Store.view g.T.Tape.view c.args.now c.args.base.now c.loop-number.base c.args.connections.now mid (length ns) (length (drop at ns)) i.amid c.requires.amid)
 
 pub tell_at-requires-clause-waits : goal.tell_at-requires-clause-waits
 tell_at-requires-clause-waits g c =
@@ -73,7 +72,7 @@ tell_at-requires-clause-waits g c =
     let next = rest-next ns at c.loop-number-test.true in
     let i = c.loop-number.invariant in
     let config = (g.S.Store.view c.args.base.now.store).frame.config in
-    let mid = c.loop-number.connections.items in
+    let mid = c.loop-number.connections in
     let waits = subst (AreWaiting config mid) next i.waits in
     let first = first-waits config mid n rest waits in
     subst (λ (k : Config). IsWaitingAt k mid (n - 1 + 1)) (sym (ap (λ (f : Frame). f.config) i.ran.frame.rest)) (waits-numbered config mid n first)
@@ -87,7 +86,7 @@ tell_at-requires-clause-room g c =
     let next = rest-next ns at c.loop-number-test.true in
     let i = c.loop-number.invariant in
     let config = (g.S.Store.view c.args.base.now.store).frame.config in
-    let mid = c.loop-number.connections.items in
+    let mid = c.loop-number.connections in
     let waits = subst (AreWaiting config mid) next i.waits in
     let first = first-waits config mid n rest waits in
     (subst (HaveReplyRoom mid (length (outcome_text c.args.outcome.now))) next i.room) n (once-first n rest)
@@ -101,19 +100,19 @@ loop-number-preserved g c =
     let next = rest-next ns at c.loop-number-test.true in
     let i = c.loop-number.invariant in
     let config = (g.S.Store.view c.args.base.now.store).frame.config in
-    let mid = c.loop-number.connections.items in
+    let mid = c.loop-number.connections in
     let waits = subst (AreWaiting config mid) next i.waits in
     let first = first-waits config mid n rest waits in
     let number : n - 1 + 1 ≡ n = there-number n (waits-above config mid n first) in
-    let one = subst (λ (k : ℕ). Parts g.S.Store.view g.T.Tape.view c.args.now c.loop-number.base c.tell_at.new.base mid c.tell_at.new.connections.items (Deliver k c.args.outcome.now ∷ [])) number c.tell_at.ensures.ran in
+    let one = subst (λ (k : ℕ). Parts g.S.Store.view g.T.Tape.view c.args.now c.loop-number.base c.tell_at.new.base mid c.tell_at.new.connections (Deliver k c.args.outcome.now ∷ [])) number c.tell_at.ensures.ran in
     record {
-      ran = subst (λ (ts : List Task). Parts g.S.Store.view g.T.Tape.view c.args.now c.args.base.now c.tell_at.new.base c.args.connections.now.items c.tell_at.new.connections.items ts) (sym (mapped-more (λ conn. Deliver conn c.args.outcome.now) ns at c.loop-number-test.true))
-          (parts-on g.S.Store.view g.T.Tape.view c.args.now c.args.base.now c.loop-number.base c.tell_at.new.base c.args.connections.now.items mid c.tell_at.new.connections.items (map (λ conn. Deliver conn c.args.outcome.now) (take at ns)) (Deliver n c.args.outcome.now ∷ []) i.ran one);
+      ran = subst (λ (ts : List Task). Parts g.S.Store.view g.T.Tape.view c.args.now c.args.base.now c.tell_at.new.base c.args.connections.now c.tell_at.new.connections ts) (sym (mapped-more (λ conn. Deliver conn c.args.outcome.now) ns at c.loop-number-test.true))
+          (parts-on g.S.Store.view g.T.Tape.view c.args.now c.args.base.now c.loop-number.base c.tell_at.new.base c.args.connections.now mid c.tell_at.new.connections (map (λ conn. Deliver conn c.args.outcome.now) (take at ns)) (Deliver n c.args.outcome.now ∷ []) i.ran one);
       amid = λ lines amid.
           let h = i.amid lines amid in
           c.tell_at.ensures.amid (length rest + lines) (subst (λ k. IsAmid g.S.Store.view g.T.Tape.view c.args.now c.loop-number.base mid k) (let e = ap length next in omega (arith, e)) h);
-      waits = left-wait config n rest mid c.tell_at.new.connections.items waits c.tell_at.ensures.others;
-      room = left-room config n (length (outcome_text c.args.outcome.now)) rest mid c.tell_at.new.connections.items waits (subst (HaveReplyRoom mid (length (outcome_text c.args.outcome.now))) next i.room) c.tell_at.ensures.others;
+      waits = left-wait config n rest mid c.tell_at.new.connections waits c.tell_at.ensures.others;
+      room = left-room config n (length (outcome_text c.args.outcome.now)) rest mid c.tell_at.new.connections waits (subst (HaveReplyRoom mid (length (outcome_text c.args.outcome.now))) next i.room) c.tell_at.ensures.others;
       count = c.tell_at.ensures.others.count ∙ i.count;
       goes = record { taken = c.tell_at.ensures.goes.taken ∙ i.goes.taken; namespace = c.tell_at.ensures.goes.namespace ∙ i.goes.namespace };
     }
@@ -122,11 +121,11 @@ pub returns-clause-ran : goal.returns-clause-ran
 returns-clause-ran g c =
     let at = c.loop-number.number-index in
     let ns = c.args.waiting.now in
-    subst (λ (xs : List ℕ). Parts g.S.Store.view g.T.Tape.view c.args.now c.args.base.now c.loop-number.base c.args.connections.now.items c.loop-number.connections.items (map (λ conn. Deliver conn c.args.outcome.now) xs)) (take_all at ns c.loop-number-test.false) c.loop-number.invariant.ran
+    subst (λ (xs : List ℕ). Parts g.S.Store.view g.T.Tape.view c.args.now c.args.base.now c.loop-number.base c.args.connections.now c.loop-number.connections (map (λ conn. Deliver conn c.args.outcome.now) xs)) (take_all at ns c.loop-number-test.false) c.loop-number.invariant.ran
 
 pub returns-clause-amid : goal.returns-clause-amid
 returns-clause-amid g c = λ lines amid.
     let at = c.loop-number.number-index in
     let ns = c.args.waiting.now in
     let none = ap length (drop_all at ns c.loop-number-test.false) in
-    subst (λ k. IsAmid g.S.Store.view g.T.Tape.view c.args.now c.loop-number.base c.loop-number.connections.items k) (omega (arith, none)) (c.loop-number.invariant.amid lines amid)
+    subst (λ k. IsAmid g.S.Store.view g.T.Tape.view c.args.now c.loop-number.base c.loop-number.connections k) (omega (arith, none)) (c.loop-number.invariant.amid lines amid)

@@ -1,25 +1,21 @@
-use Rattle.std.proofs.Common.{◌≡◌, ◌+◌, ◌++◌, ◌<◌, ℕ, List, [], None, Some, false, true, length, map, refl, ap, sym, subst, arith, ◌∙◌, inl}
+use Rattle.std.proofs.Common.{◌+◌, ℕ, [], false, length, refl, ap, sym, subst, arith, ◌∙◌}
 use Rattle.std.specs.Prelude.{is_some}
 use Rattle.std.specs.Option.{option_map}
 use Rattle.audit_model.specs.Belongs.{refusal_of}
-use Rattle.audit_model.specs.Places.{tasks_to_give_up}
 use Rattle.audit_model.specs.Replies.{outcome_text}
-use Rattle.audit_model.specs.Steps.{Deliver, RunLines}
 use Rattle.audit_model.specs.declared.config.Config.{Config}
 use Rattle.audit_model.specs.declared.input.ServiceError.TheVariants as error
 use Rattle.cache_lines.specs.Waiting.{under_way}
-use Rattle.cache_lines.specs.declared.base.Base.{Base}
-use Rattle.cache_loads.specs.Pending.{SameTaken, load_numbered, loads_pending}
-use Rattle.cache_store.specs.Values.{IsSoundStore}
+use Rattle.cache_loads.specs.Pending.{load_numbered, loads_pending}
 use Rattle.cache_tape.specs.Taped.{finishes}
 use Rattle.cache_core.specs.Settled.{IsAmid}
-use Rattle.cache_core.specs.Settling.{AreWaiting, Happens, HaveReplyRoom, RunsAgain, answering, giving_up, known_of_loads, waiting_on}
-use Rattle.cache_core.specs.State.{IsInOrder, State, known_of, state_of}
+use Rattle.cache_core.specs.Settling.{Happens, HaveReplyRoom, answering, known_of_loads, waiting_on}
+use Rattle.cache_core.specs.State.{IsInOrder, State, state_of}
 use Rattle.cache_core.specs.Turned.{RefusesBy}
-use Rattle.cache_core.proofs.Admitted.{amid-answered, amid-begun, answer-admitted, can-settle, given-admitted, waiting-answered, waiting-now}
+use Rattle.cache_core.proofs.Admitted.{amid-answered, answer-admitted, can-settle, waiting-answered}
 use Rattle.cache_core.proofs.Amid.{started-begun, written-begun}
 use Rattle.cache_core.proofs.Answered.{happens-answered, state-looks}
-use Rattle.cache_core.proofs.Happening.{happens-given, refuses-known, refuses-wanting}
+use Rattle.cache_core.proofs.Happening.{refuses-known, refuses-wanting}
 use Rattle.cache_core.proofs.namespace.Namespace.answer.Goals as goal
 
 pub returns-in-Some-clause-refused : goal.returns-in-Some-clause-refused
@@ -28,7 +24,7 @@ returns-in-Some-clause-refused g c =
     let view = g.S.Store.view in
     let tape = g.T.Tape.view in
     let base = inside.base in
-    let cs = inside.connections.items in
+    let cs = inside.connections in
     let load = c.args.load in
     let moment = c.args.moment.nanos in
     let outcome = c.args.outcome in
@@ -42,7 +38,7 @@ begin_answer-requires-clause-can_settle g c =
     let view = g.S.Store.view in
     let tape = g.T.Tape.view in
     let base = inside.base in
-    let cs = inside.connections.items in
+    let cs = inside.connections in
     let load = c.args.load in
     let moment = c.args.moment.nanos in
     let outcome = c.args.outcome in
@@ -57,7 +53,7 @@ begin_answer-requires-clause-fit g c =
     let view = g.S.Store.view in
     let tape = g.T.Tape.view in
     let base = inside.base in
-    let cs = inside.connections.items in
+    let cs = inside.connections in
     let load = c.args.load in
     let moment = c.args.moment.nanos in
     let outcome = c.args.outcome in
@@ -72,7 +68,7 @@ begin_answer-requires-clause-under g c =
     let view = g.S.Store.view in
     let tape = g.T.Tape.view in
     let base = inside.base in
-    let cs = inside.connections.items in
+    let cs = inside.connections in
     let load = c.args.load in
     let moment = c.args.moment.nanos in
     let outcome = c.args.outcome in
@@ -87,7 +83,7 @@ returns-in-Err-clause-refused g c =
     let view = g.S.Store.view in
     let tape = g.T.Tape.view in
     let base = inside.base in
-    let cs = inside.connections.items in
+    let cs = inside.connections in
     let load = c.args.load in
     let moment = c.args.moment.nanos in
     let outcome = c.args.outcome in
@@ -98,11 +94,11 @@ returns-in-Err-clause-refused g c =
 
 pub returns-in-Err-clause-unchanged : goal.returns-in-Err-clause-unchanged
 returns-in-Err-clause-unchanged g c =
-    state-looks c.self.inside.base c.begin_answer.new.base c.self.inside.latest c.self.inside.connections.items c.begin_answer.new.connections.items c.in-Err.ensures.unchanged c.begin_answer.ensures.same ∙ c.self.view_is
+    state-looks c.self.inside.base c.begin_answer.new.base c.self.inside.latest c.self.inside.connections c.begin_answer.new.connections c.in-Err.ensures.unchanged c.begin_answer.ensures.same ∙ c.self.view_is
 
 pub invariant_of-self-in-Err : goal.invariant_of-self-in-Err
 invariant_of-self-in-Err g c =
-    subst (λ n. IsInOrder g.S.Store.view g.T.Tape.view n) (sym (state-looks c.self.inside.base c.begin_answer.new.base c.self.inside.latest c.self.inside.connections.items c.begin_answer.new.connections.items c.in-Err.ensures.unchanged c.begin_answer.ensures.same)) c.self.invariant
+    subst (λ n. IsInOrder g.S.Store.view g.T.Tape.view n) (sym (state-looks c.self.inside.base c.begin_answer.new.base c.self.inside.latest c.self.inside.connections c.begin_answer.new.connections c.in-Err.ensures.unchanged c.begin_answer.ensures.same)) c.self.invariant
 
 pub hand_out-requires-clause-amid : goal.hand_out-requires-clause-amid
 hand_out-requires-clause-amid g c =
@@ -110,7 +106,7 @@ hand_out-requires-clause-amid g c =
     let view = g.S.Store.view in
     let tape = g.T.Tape.view in
     let base = inside.base in
-    let cs = inside.connections.items in
+    let cs = inside.connections in
     let load = c.args.load in
     let moment = c.args.moment.nanos in
     let outcome = c.args.outcome in
@@ -118,7 +114,7 @@ hand_out-requires-clause-amid g c =
     let admitted = sym (c.in-None.ensures ∙ ap (λ (k : Config). refusal_of k (known_of_loads (loads_pending base.loads)) (answering load outcome moment)) config_is) in
     let a = answer-admitted (view base.store).frame.config (loads_pending base.loads) load moment outcome admitted in
     let begun = c.begin_answer.new.base in
-    let ds = c.begin_answer.new.connections.items in
+    let ds = c.begin_answer.new.connections in
     let room = length (waiting_on load (under_way base.loads)) + length (waiting_on load (under_way base.loads)) in
     let starts = c.in-Ok.ensures.begins in
     let looks = c.begin_answer.ensures.same in
@@ -132,7 +128,7 @@ hand_out-requires-clause-under g c =
     let view = g.S.Store.view in
     let tape = g.T.Tape.view in
     let base = inside.base in
-    let cs = inside.connections.items in
+    let cs = inside.connections in
     let load = c.args.load in
     let moment = c.args.moment.nanos in
     let outcome = c.args.outcome in
@@ -140,7 +136,7 @@ hand_out-requires-clause-under g c =
     let admitted = sym (c.in-None.ensures ∙ ap (λ (k : Config). refusal_of k (known_of_loads (loads_pending base.loads)) (answering load outcome moment)) config_is) in
     let a = answer-admitted (view base.store).frame.config (loads_pending base.loads) load moment outcome admitted in
     let begun = c.begin_answer.new.base in
-    let ds = c.begin_answer.new.connections.items in
+    let ds = c.begin_answer.new.connections in
     let room = length (waiting_on load (under_way base.loads)) + length (waiting_on load (under_way base.loads)) in
     let starts = c.in-Ok.ensures.begins in
     let looks = c.begin_answer.ensures.same in
@@ -153,7 +149,7 @@ hand_out-requires-clause-waits g c =
     let view = g.S.Store.view in
     let tape = g.T.Tape.view in
     let base = inside.base in
-    let cs = inside.connections.items in
+    let cs = inside.connections in
     let load = c.args.load in
     let moment = c.args.moment.nanos in
     let outcome = c.args.outcome in
@@ -161,7 +157,7 @@ hand_out-requires-clause-waits g c =
     let admitted = sym (c.in-None.ensures ∙ ap (λ (k : Config). refusal_of k (known_of_loads (loads_pending base.loads)) (answering load outcome moment)) config_is) in
     let a = answer-admitted (view base.store).frame.config (loads_pending base.loads) load moment outcome admitted in
     let begun = c.begin_answer.new.base in
-    let ds = c.begin_answer.new.connections.items in
+    let ds = c.begin_answer.new.connections in
     let room = length (waiting_on load (under_way base.loads)) + length (waiting_on load (under_way base.loads)) in
     let starts = c.in-Ok.ensures.begins in
     let looks = c.begin_answer.ensures.same in
@@ -174,7 +170,7 @@ hand_out-requires-clause-room g c =
     let view = g.S.Store.view in
     let tape = g.T.Tape.view in
     let base = inside.base in
-    let cs = inside.connections.items in
+    let cs = inside.connections in
     let load = c.args.load in
     let moment = c.args.moment.nanos in
     let outcome = c.args.outcome in
@@ -182,7 +178,7 @@ hand_out-requires-clause-room g c =
     let admitted = sym (c.in-None.ensures ∙ ap (λ (k : Config). refusal_of k (known_of_loads (loads_pending base.loads)) (answering load outcome moment)) config_is) in
     let a = answer-admitted (view base.store).frame.config (loads_pending base.loads) load moment outcome admitted in
     let begun = c.begin_answer.new.base in
-    let ds = c.begin_answer.new.connections.items in
+    let ds = c.begin_answer.new.connections in
     let room = length (waiting_on load (under_way base.loads)) + length (waiting_on load (under_way base.loads)) in
     let starts = c.in-Ok.ensures.begins in
     let looks = c.begin_answer.ensures.same in
@@ -195,7 +191,7 @@ finish-requires g c =
     let view = g.S.Store.view in
     let tape = g.T.Tape.view in
     let base = inside.base in
-    let cs = inside.connections.items in
+    let cs = inside.connections in
     let load = c.args.load in
     let moment = c.args.moment.nanos in
     let outcome = c.args.outcome in
@@ -203,7 +199,7 @@ finish-requires g c =
     let admitted = sym (c.in-None.ensures ∙ ap (λ (k : Config). refusal_of k (known_of_loads (loads_pending base.loads)) (answering load outcome moment)) config_is) in
     let a = answer-admitted (view base.store).frame.config (loads_pending base.loads) load moment outcome admitted in
     let begun = c.begin_answer.new.base in
-    let ds = c.begin_answer.new.connections.items in
+    let ds = c.begin_answer.new.connections in
     let room = length (waiting_on load (under_way base.loads)) + length (waiting_on load (under_way base.loads)) in
     let starts = c.in-Ok.ensures.begins in
     let looks = c.begin_answer.ensures.same in
@@ -219,7 +215,7 @@ returns-in-Ok-clause-turned g c =
     let view = g.S.Store.view in
     let tape = g.T.Tape.view in
     let base = inside.base in
-    let cs = inside.connections.items in
+    let cs = inside.connections in
     let load = c.args.load in
     let moment = c.args.moment.nanos in
     let outcome = c.args.outcome in
@@ -227,7 +223,7 @@ returns-in-Ok-clause-turned g c =
     let admitted = sym (c.in-None.ensures ∙ ap (λ (k : Config). refusal_of k (known_of_loads (loads_pending base.loads)) (answering load outcome moment)) config_is) in
     let a = answer-admitted (view base.store).frame.config (loads_pending base.loads) load moment outcome admitted in
     let begun = c.begin_answer.new.base in
-    let ds = c.begin_answer.new.connections.items in
+    let ds = c.begin_answer.new.connections in
     let room = length (waiting_on load (under_way base.loads)) + length (waiting_on load (under_way base.loads)) in
     let starts = c.in-Ok.ensures.begins in
     let looks = c.begin_answer.ensures.same in
@@ -236,10 +232,10 @@ returns-in-Ok-clause-turned g c =
     let at_now = c.max-now.ensures in
     let low = a.1 in
     let last = c.self.invariant.moment in
-    let x = happens-answered view tape base begun new_base c.finish.new.self inside.latest now load moment room outcome c.in-Ok.field-0.accepted c.in-Ok.field-0.notes.items cs ds c.hand_out.new.connections.items at_now starts looks c.hand_out.ensures.out
+    let x = happens-answered view tape base begun new_base c.finish.new.self inside.latest now load moment room outcome c.in-Ok.field-0.accepted c.in-Ok.field-0.notes.items cs ds c.hand_out.new.connections at_now starts looks c.hand_out.ensures.out
     (c.finish.ensures ∙ ap (λ ns. option_map (finishes (answering load outcome moment) c.in-Ok.field-0.accepted ns) (tape new_base.tape)) c.from_vec.ensures)
     c.self.invariant c.sound.ensures c.sound-in-Ok.ensures admitted (omega (arith, at_now, low, last)) c.hand_out.ensures.goes in
-    subst (λ (n : State _ _). Happens view tape n (state_of (record new_base { tape = c.finish.new.self }) now c.hand_out.new.connections.items) (answering load outcome moment)) c.self.view_is x.0
+    subst (λ (n : State _ _). Happens view tape n (state_of (record new_base { tape = c.finish.new.self }) now c.hand_out.new.connections) (answering load outcome moment)) c.self.view_is x.0
 
 pub invariant_of-self : goal.invariant_of-self
 invariant_of-self g c =
@@ -247,7 +243,7 @@ invariant_of-self g c =
     let view = g.S.Store.view in
     let tape = g.T.Tape.view in
     let base = inside.base in
-    let cs = inside.connections.items in
+    let cs = inside.connections in
     let load = c.args.load in
     let moment = c.args.moment.nanos in
     let outcome = c.args.outcome in
@@ -255,7 +251,7 @@ invariant_of-self g c =
     let admitted = sym (c.in-None.ensures ∙ ap (λ (k : Config). refusal_of k (known_of_loads (loads_pending base.loads)) (answering load outcome moment)) config_is) in
     let a = answer-admitted (view base.store).frame.config (loads_pending base.loads) load moment outcome admitted in
     let begun = c.begin_answer.new.base in
-    let ds = c.begin_answer.new.connections.items in
+    let ds = c.begin_answer.new.connections in
     let room = length (waiting_on load (under_way base.loads)) + length (waiting_on load (under_way base.loads)) in
     let starts = c.in-Ok.ensures.begins in
     let looks = c.begin_answer.ensures.same in
@@ -264,7 +260,7 @@ invariant_of-self g c =
     let at_now = c.max-now.ensures in
     let low = a.1 in
     let last = c.self.invariant.moment in
-    let x = happens-answered view tape base begun new_base c.finish.new.self inside.latest now load moment room outcome c.in-Ok.field-0.accepted c.in-Ok.field-0.notes.items cs ds c.hand_out.new.connections.items at_now starts looks c.hand_out.ensures.out
+    let x = happens-answered view tape base begun new_base c.finish.new.self inside.latest now load moment room outcome c.in-Ok.field-0.accepted c.in-Ok.field-0.notes.items cs ds c.hand_out.new.connections at_now starts looks c.hand_out.ensures.out
     (c.finish.ensures ∙ ap (λ ns. option_map (finishes (answering load outcome moment) c.in-Ok.field-0.accepted ns) (tape new_base.tape)) c.from_vec.ensures)
     c.self.invariant c.sound.ensures c.sound-in-Ok.ensures admitted (omega (arith, at_now, low, last)) c.hand_out.ensures.goes in
     x.1

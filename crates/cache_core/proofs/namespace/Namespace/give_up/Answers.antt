@@ -1,10 +1,8 @@
-use Rattle.std.proofs.Common.{◌≡◌, ◌+◌, ◌++◌, ◌<◌, ℕ, List, [], None, Some, false, true, length, map, refl, ap, sym, subst, arith, ◌∙◌, inl}
+use Rattle.std.proofs.Common.{◌≡◌, ◌+◌, None, Some, false, true, length, ap, sym, subst, arith, ◌∙◌}
 use Rattle.std.specs.Prelude.{is_some}
 use Rattle.std.specs.Option.{option_map}
 use Rattle.audit_model.specs.Belongs.{refusal_of}
 use Rattle.audit_model.specs.Places.{tasks_to_give_up}
-use Rattle.audit_model.specs.Replies.{outcome_text}
-use Rattle.audit_model.specs.Steps.{Deliver, RunLines}
 use Rattle.audit_model.specs.declared.config.Config.{Config}
 use Rattle.audit_model.specs.declared.input.ServiceError.TheVariants as error
 use Rattle.cache_lines.specs.Waiting.{under_way}
@@ -13,12 +11,11 @@ use Rattle.cache_loads.specs.Pending.{SameTaken, load_numbered, loads_pending}
 use Rattle.cache_store.specs.Values.{IsSoundStore}
 use Rattle.cache_tape.specs.Taped.{finishes}
 use Rattle.cache_core.specs.Settled.{IsAmid}
-use Rattle.cache_core.specs.Settling.{AreWaiting, Happens, HaveReplyRoom, RunsAgain, answering, giving_up, known_of_loads, waiting_on}
-use Rattle.cache_core.specs.State.{IsInOrder, State, known_of, state_of}
+use Rattle.cache_core.specs.Settling.{AreWaiting, Happens, RunsAgain, giving_up, known_of_loads, waiting_on}
+use Rattle.cache_core.specs.State.{State, known_of, state_of}
 use Rattle.cache_core.specs.Turned.{RefusesBy}
-use Rattle.cache_core.proofs.Admitted.{amid-answered, amid-begun, answer-admitted, can-settle, given-admitted, waiting-answered, waiting-now}
+use Rattle.cache_core.proofs.Admitted.{amid-begun, given-admitted, waiting-now}
 use Rattle.cache_core.proofs.Amid.{started-begun, written-begun}
-use Rattle.cache_core.proofs.Answered.{happens-answered, state-looks}
 use Rattle.cache_core.proofs.Happening.{happens-given, refuses-known, refuses-wanting}
 use Rattle.cache_core.proofs.namespace.Namespace.give_up.Goals as goal
 
@@ -31,7 +28,7 @@ returns-in-Some-clause-refused g c =
     let moment = c.args.moment.nanos in
     let config_is = c.config.ensures ∙ ap (λ st. (view st).frame.config) c.store.ensures in
     let is = sym (c.in-Some.ensures ∙ ap (λ (k : Config). refusal_of k (known_of_loads (loads_pending base.loads)) (giving_up load moment)) config_is) in
-    subst (λ (n : State _ _). RefusesBy view n (giving_up load moment) false c.in-Some.error) c.self.view_is (refuses-known view (state_of base inside.latest inside.connections.items) (giving_up load moment) c.in-Some.error is)
+    subst (λ (n : State _ _). RefusesBy view n (giving_up load moment) false c.in-Some.error) c.self.view_is (refuses-known view (state_of base inside.latest inside.connections) (giving_up load moment) c.in-Some.error is)
 
 pub returns-in-Some-clause-spare : goal.returns-in-Some-clause-spare
 returns-in-Some-clause-spare g c = λ bare.
@@ -50,7 +47,7 @@ begin_give_up-requires-clause-under g c =
     let view = g.S.Store.view in
     let tape = g.T.Tape.view in
     let base = inside.base in
-    let cs = inside.connections.items in
+    let cs = inside.connections in
     let load = c.args.load in
     let moment = c.args.moment.nanos in
     let config_is = c.config.ensures ∙ ap (λ st. (view st).frame.config) c.store.ensures in
@@ -64,7 +61,7 @@ returns-in_default-clause-refused g c =
     let view = g.S.Store.view in
     let tape = g.T.Tape.view in
     let base = inside.base in
-    let cs = inside.connections.items in
+    let cs = inside.connections in
     let load = c.args.load in
     let moment = c.args.moment.nanos in
     let config_is = c.config.ensures ∙ ap (λ st. (view st).frame.config) c.store.ensures in
@@ -78,7 +75,7 @@ settle_give_up-requires-clause-amid g c =
     let view = g.S.Store.view in
     let tape = g.T.Tape.view in
     let base = inside.base in
-    let cs = inside.connections.items in
+    let cs = inside.connections in
     let load = c.args.load in
     let moment = c.args.moment.nanos in
     let config_is = c.config.ensures ∙ ap (λ st. (view st).frame.config) c.store.ensures in
@@ -98,7 +95,7 @@ settle_give_up-requires-clause-under g c =
     let view = g.S.Store.view in
     let tape = g.T.Tape.view in
     let base = inside.base in
-    let cs = inside.connections.items in
+    let cs = inside.connections in
     let load = c.args.load in
     let moment = c.args.moment.nanos in
     let config_is = c.config.ensures ∙ ap (λ st. (view st).frame.config) c.store.ensures in
@@ -117,7 +114,7 @@ settle_give_up-requires-clause-waits g c =
     let view = g.S.Store.view in
     let tape = g.T.Tape.view in
     let base = inside.base in
-    let cs = inside.connections.items in
+    let cs = inside.connections in
     let load = c.args.load in
     let moment = c.args.moment.nanos in
     let config_is = c.config.ensures ∙ ap (λ st. (view st).frame.config) c.store.ensures in
@@ -136,7 +133,7 @@ finish-requires g c =
     let view = g.S.Store.view in
     let tape = g.T.Tape.view in
     let base = inside.base in
-    let cs = inside.connections.items in
+    let cs = inside.connections in
     let load = c.args.load in
     let moment = c.args.moment.nanos in
     let config_is = c.config.ensures ∙ ap (λ st. (view st).frame.config) c.store.ensures in
@@ -157,7 +154,7 @@ returns-clause-turned g c =
     let view = g.S.Store.view in
     let tape = g.T.Tape.view in
     let base = inside.base in
-    let cs = inside.connections.items in
+    let cs = inside.connections in
     let load = c.args.load in
     let moment = c.args.moment.nanos in
     let config_is = c.config.ensures ∙ ap (λ st. (view st).frame.config) c.store.ensures in
@@ -169,15 +166,15 @@ returns-clause-turned g c =
     let starts = c.in-Ok.ensures.begun in
     let now = c.max-now.result in
     let new_base = c.settle_give_up.new.base in
-    let r = subst (λ (b : Base _ _). RunsAgain view tape now load b new_base cs c.settle_give_up.new.connections.items tasks_to_give_up) rest c.settle_give_up.ensures.ran in
+    let r = subst (λ (b : Base _ _). RunsAgain view tape now load b new_base cs c.settle_give_up.new.connections tasks_to_give_up) rest c.settle_give_up.ensures.ran in
     let goes = subst (λ (b : Base _ _). SameTaken b.loads new_base.loads) rest c.settle_give_up.ensures.goes in
     let at_now = c.max-now.ensures in
     let low = a.1 in
     let last = c.self.invariant.moment in
-    let x = happens-given view tape base new_base r.left middle.tape c.finish.new.self inside.latest now load moment room cs c.settle_give_up.new.connections.items at_now starts r.left_is r.parts
+    let x = happens-given view tape base new_base r.left middle.tape c.finish.new.self inside.latest now load moment room cs c.settle_give_up.new.connections at_now starts r.left_is r.parts
     (c.finish.ensures ∙ ap (λ ns. option_map (finishes (giving_up load moment) None ns) (tape new_base.tape)) c.new.ensures)
     c.self.invariant c.sound.ensures c.sound-2.ensures admitted (omega (arith, at_now, low, last)) goes in
-    subst (λ (n : State _ _). Happens view tape n (state_of (record new_base { tape = c.finish.new.self }) now c.settle_give_up.new.connections.items) (giving_up load moment)) c.self.view_is x.0
+    subst (λ (n : State _ _). Happens view tape n (state_of (record new_base { tape = c.finish.new.self }) now c.settle_give_up.new.connections) (giving_up load moment)) c.self.view_is x.0
 
 pub invariant_of-self-2 : goal.invariant_of-self-2
 invariant_of-self-2 g c =
@@ -185,7 +182,7 @@ invariant_of-self-2 g c =
     let view = g.S.Store.view in
     let tape = g.T.Tape.view in
     let base = inside.base in
-    let cs = inside.connections.items in
+    let cs = inside.connections in
     let load = c.args.load in
     let moment = c.args.moment.nanos in
     let config_is = c.config.ensures ∙ ap (λ st. (view st).frame.config) c.store.ensures in
@@ -197,12 +194,12 @@ invariant_of-self-2 g c =
     let starts = c.in-Ok.ensures.begun in
     let now = c.max-now.result in
     let new_base = c.settle_give_up.new.base in
-    let r = subst (λ (b : Base _ _). RunsAgain view tape now load b new_base cs c.settle_give_up.new.connections.items tasks_to_give_up) rest c.settle_give_up.ensures.ran in
+    let r = subst (λ (b : Base _ _). RunsAgain view tape now load b new_base cs c.settle_give_up.new.connections tasks_to_give_up) rest c.settle_give_up.ensures.ran in
     let goes = subst (λ (b : Base _ _). SameTaken b.loads new_base.loads) rest c.settle_give_up.ensures.goes in
     let at_now = c.max-now.ensures in
     let low = a.1 in
     let last = c.self.invariant.moment in
-    let x = happens-given view tape base new_base r.left middle.tape c.finish.new.self inside.latest now load moment room cs c.settle_give_up.new.connections.items at_now starts r.left_is r.parts
+    let x = happens-given view tape base new_base r.left middle.tape c.finish.new.self inside.latest now load moment room cs c.settle_give_up.new.connections at_now starts r.left_is r.parts
     (c.finish.ensures ∙ ap (λ ns. option_map (finishes (giving_up load moment) None ns) (tape new_base.tape)) c.new.ensures)
     c.self.invariant c.sound.ensures c.sound-2.ensures admitted (omega (arith, at_now, low, last)) goes in
     x.1

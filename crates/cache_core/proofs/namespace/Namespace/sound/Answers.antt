@@ -10,11 +10,11 @@ returns-clause-stands g c =
     let inside = c.self.inside in
     let sound = c.sound.ensures in
     subst (λ n. (s : Situation) × StandsFor view n s) c.self.view_is
-    (situation_with view (state_of inside.base inside.latest inside.connections.items) sound.some, record { held = sound.some; stands = sound.stands; is = refl })
+    (situation_with view (state_of inside.base inside.latest inside.connections) sound.some, record { held = sound.some; stands = sound.stands; is = refl })
 
 pub returns-clause-suits : goal.returns-clause-suits
 returns-clause-suits g c =
     let view = g.S.Store.view in
     let inside = c.self.inside in
     let loads = inside.base.loads in
-    subst (λ n. SuitsItself view n) c.self.view_is (record { listed = λ number opened. listed-open inside.connections.items number opened; counted = counted-all inside.connections.items; sent = loads.sent_before; fewer = loads.fewer })
+    subst (λ n. SuitsItself view n) c.self.view_is (record { listed = λ number opened. listed-open inside.connections number opened; counted = counted-all inside.connections; sent = loads.sent_before; fewer = loads.fewer })

@@ -1,5 +1,4 @@
-use Rattle.std.proofs.Common.{◌≡◌, ◌∙◌, [], ap, subst}
-use Rattle.cache_core.specs.Places.{waits_at}
+use Rattle.std.proofs.Common.{◌≡◌, ◌∙◌, [], subst}
 use Rattle.cache_core.specs.State.{situation_with}
 use Rattle.cache_core.specs.Turned.{is_waiting_in}
 use Rattle.cache_core.proofs.Takings.{waits-number}
@@ -9,6 +8,6 @@ pub returns-clause-waits : goal.returns-clause-waits
 returns-clause-waits g c =
     let inside = c.self.inside in
     let view = g.S.Store.view in
-    let place = rw c.deref.ensures.value at c.in-Ok.ensures.place in
+    let place = c.in-Ok.ensures.place in
     subst (λ n. c.waits_at_place.result ≡ is_waiting_in (situation_with view n []) c.args.number) c.self.view_is
-    (c.waits_at_place.ensures ∙ ap (λ xs. waits_at xs c.in-Ok.index) c.deref-2.ensures.value ∙ waits-number view inside.base inside.latest inside.connections.items c.in-Ok.index c.args.number place.0 place.1)
+    (c.waits_at_place.ensures ∙ waits-number view inside.base inside.latest inside.connections c.in-Ok.index c.args.number place.0 place.1)

@@ -3,4 +3,4 @@ use Rattle.cache_shared.proofs.Performing.{reached}
 use Rattle.cache_shared.proofs.recorded.RecordedServiceStepping.stands.Goals as goal
 
 pub returns : goal.returns
-returns c = ∥∥₁_map c.service.ensures.played (reached c.args.self.now)
+returns c = ∥∥₁_map c.service.ensures.played (reached c.args.self.now.spaces)

@@ -5,9 +5,9 @@ use Rattle.cache_spaces.proofs.journals.RecordedService.into_journals.Given as g
 
 abbrev pub invariant-loop-space : goal.invariant-loop-space
 invariant-loop-space l = record {
-  split : l.yielded ++ into_iter_items l.space-iterator ≡ l.fn.self;
+  split : l.yielded ++ into_iter_items l.space-iterator ≡ l.fn.self.spaces;
   len : into_iter_len l.space-iterator ≡ length (into_iter_items l.space-iterator);
   journals : l.journals.items ≡ journals_of l.yielded;
   many : vec_len l.journals ≡ length l.yielded;
-  room : length l.fn.self ≤ vec_capacity l.journals;
+  room : length l.fn.self.spaces ≤ vec_capacity l.journals;
 }

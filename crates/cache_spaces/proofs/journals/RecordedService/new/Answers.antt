@@ -7,4 +7,5 @@ invariant_of-result c = (
   ∣ were-none c.args.configs.now c.args.generator c.args.moment c.in-Ok.core c.in-Ok.ensures.made ∣₁,
   c.in-Ok-with_capacity.ensures.items,
   let count = c.in-Ok.ensures.made.count in let capacity = c.in-Ok-with_capacity.ensures.capacity in omega (arith, count, capacity),
+  let count = c.in-Ok.ensures.made.count in let counted = c.in-Ok-new_cursors.ensures.counted in omega (arith, count, counted),
 )

@@ -1,4 +1,4 @@
-use Rattle.std.proofs.Common.{◌≤◌, subst, sym}
+use Rattle.std.proofs.Common.{◌≤◌, ◌∙◌, subst, sym}
 use Rattle.std.specs.Prelude.{vec_capacity}
 use Rattle.std.proofs.Math.Logic.{∥∥₁_map}
 use Rattle.cache_spaces.proofs.Journaling.{step-length, were-journals, were-on}
@@ -10,6 +10,7 @@ invariant_of-self c =
       ∥∥₁_map c.self.invariant.0 (were-on c.args.input inside.core c.step.new.self c.step.result c.step.ensures.performed c.step.ensures.unchanged),
       c.self.invariant.1,
       subst (λ n. n ≤ vec_capacity inside.room) (sym (step-length _ inside.core c.step.new.self c.step.result _ c.step.ensures.performed c.step.ensures.unchanged)) c.self.invariant.2,
+      c.self.invariant.3 ∙ sym (step-length _ inside.core c.step.new.self c.step.result _ c.step.ensures.performed c.step.ensures.unchanged),
     )
 
 pub returns-clause-journals : goal.returns-clause-journals

@@ -1,4 +1,4 @@
-use Rattle.std.proofs.Common.{◌≤◌, subst, sym}
+use Rattle.std.proofs.Common.{◌≤◌, ◌∙◌, subst, sym}
 use Rattle.std.specs.Prelude.{vec_capacity}
 use Rattle.std.proofs.Math.Logic.{∥∥₁_map}
 use Rattle.cache_spaces.specs.Calls.{TakesLoads}
@@ -11,4 +11,5 @@ invariant_of-self c =
       ∥∥₁_map c.self.invariant.0 (were-loads c.args.namespace inside.core c.take_loads.new.self c.take_loads.result (λ loads was is. TakesLoads was is loads.items) (λ loads was is t. t.rest) c.take_loads.ensures.taken c.take_loads.ensures.unchanged),
       c.self.invariant.1,
       subst (λ n. n ≤ vec_capacity inside.room) (sym (step-length c.args.namespace inside.core c.take_loads.new.self c.take_loads.result (λ loads was is. TakesLoads was is loads.items) c.take_loads.ensures.taken c.take_loads.ensures.unchanged)) c.self.invariant.2,
+      c.self.invariant.3 ∙ sym (step-length c.args.namespace inside.core c.take_loads.new.self c.take_loads.result (λ loads was is. TakesLoads was is loads.items) c.take_loads.ensures.taken c.take_loads.ensures.unchanged),
     )

@@ -1,0 +1,46 @@
+-- What stands at a place of a list, before and after it changes.
+use Rattle.std.proofs.Common.{◌≡◌, ◌≢◌, ℕ, zero, suc, ◌<◌, ◌⊎◌, List, [], ◌∷◌, ◌++◌, map, Some, length, refl, sym, ap, ◌∙◌, arith, get_or, inl, inr}
+use Rattle.std.specs.Prelude.{slice_set}
+use Rattle.std.specs.List.{slice_get}
+use Rattle.std.proofs.lemmas.List.{get_or-set_same, length-set}
+use Rattle.std.proofs.lemmas.Option.{none-some, same_Some, slice_get-get_or}
+
+pub ext-get : {X : Type 0} (xs ys : List X) → ((i : ℕ) → slice_get xs i ≡ slice_get ys i) → xs ≡ ys
+ext-get [] [] h = refl
+ext-get [] (y ∷ ys) h = absurd (none-some y (h zero))
+ext-get (x ∷ xs) [] h = absurd (none-some x (sym (h zero)))
+ext-get (x ∷ xs) (y ∷ ys) h = ap (λ z. z ∷ xs) (same_Some x y (h zero)) ∙ ap (λ zs. y ∷ zs) (ext-get xs ys (λ i. h (suc i)))
+
+pub at-place : {X : Type 0} (xs : List X) (i : ℕ) (x : X) → i < length xs → x ≡ get_or xs i x → slice_get xs i ≡ Some x
+at-place xs i x lt is = slice_get-get_or xs i x lt ∙ ap Some (sym is)
+
+pub at-replaced : {X : Type 0} (xs : List X) (i : ℕ) (x : X) → i < length xs → slice_get (slice_set xs i x) i ≡ Some x
+at-replaced xs i x lt = slice_get-get_or (slice_set xs i x) i x (let e = length-set xs i x in omega arith) ∙ ap Some (get_or-set_same xs i x x lt)
+
+pub at-other : {X : Type 0} (xs : List X) (i j : ℕ) (x : X) → i ≢ j → slice_get (slice_set xs j x) i ≡ slice_get xs i
+at-other [] i j x ne = refl
+at-other (y ∷ ys) zero zero x ne = absurd (ne refl)
+at-other (y ∷ ys) zero (suc j) x ne = refl
+at-other (y ∷ ys) (suc i) zero x ne = refl
+at-other (y ∷ ys) (suc i) (suc j) x ne = at-other ys i j x (λ e. ne (ap suc e))
+
+pub at-front : {X : Type 0} (xs : List X) (x : X) (i : ℕ) → i < length xs → slice_get (xs ++ x ∷ []) i ≡ slice_get xs i
+at-front [] x i lt = absurd (omega arith)
+at-front (y ∷ ys) x zero lt = refl
+at-front (y ∷ ys) x (suc i) lt = at-front ys x i (omega arith)
+
+pub at-end : {X : Type 0} (xs : List X) (x : X) → slice_get (xs ++ x ∷ []) (length xs) ≡ Some x
+at-end [] x = refl
+at-end (y ∷ ys) x = at-end ys x
+
+pub front-or-end : {X : Type 0} (xs : List X) (x : X) (i : ℕ) (y : X) → slice_get (xs ++ x ∷ []) i ≡ Some y → (slice_get xs i ≡ Some y) ⊎ ((i ≡ length xs) × (y ≡ x))
+front-or-end [] x zero y e = inr (refl, sym (same_Some x y e))
+front-or-end [] x (suc i) y e = absurd (none-some y e)
+front-or-end (z ∷ zs) x zero y e = inl e
+front-or-end (z ∷ zs) x (suc i) y e = elim (front-or-end zs x i y e) [ inl h ↦ inl h | inr h ↦ inr (ap suc h.0, h.1) ]
+
+-- all the same where what is seen of it stays
+pub map-same : {A X : Type 0} (f : X → A) (xs : List X) (i : ℕ) (old new : X) → slice_get xs i ≡ Some old → f new ≡ f old → map f (slice_set xs i new) ≡ map f xs
+map-same f [] i old new at e = refl
+map-same f (x ∷ xs) zero old new at e = ap (λ y. y ∷ map f xs) (e ∙ sym (ap f (same_Some x old at)))
+map-same f (x ∷ xs) (suc i) old new at e = ap (λ ys. f x ∷ ys) (map-same f xs i old new at e)

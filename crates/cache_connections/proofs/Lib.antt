@@ -1,0 +1,4 @@
+pub mod Getting
+pub mod Listed
+pub mod Matching
+pub mod Saying

@@ -1,2 +1,0 @@
-mod Noting
-mod Setting

@@ -1,6 +1,0 @@
-use Rattle.std.proofs.Common.{◌≡◌}
-use Rattle.cache_reading.specs.Notes.{notes_from}
-use Rattle.cache_reading.proofs.told.find_note.Given as goal
-
-abbrev pub invariant-loop-entry : goal.invariant-loop-entry
-invariant-loop-entry l = notes_from l.records l.fn.told ≡ notes_from l.records (record { entry = l.entry; list = l.list; note = l.note })

@@ -1,4 +1,0 @@
-pub mod Cursors
-pub mod Notes
-pub mod Replies
-pub mod Read

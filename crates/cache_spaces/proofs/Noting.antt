@@ -1,0 +1,143 @@
+-- Notes in lists of records.
+use Rattle.std.proofs.Common.{◌≡◌, ℕ, zero, suc, ◌+◌, ◌≤◌, List, [], ◌∷◌, ◌++◌, length, get_or, take, drop, map, Some, None, refl, sym, ap, ◌∙◌, arith, add-one}
+use Rattle.std.specs.List.{slice_get}
+use Rattle.std.proofs.Math.ListN.{drop_of_length-le}
+use Rattle.std.proofs.Math.Seq.{drop-nil}
+use Rattle.std.proofs.lemmas.List.{append_assoc, append_cancel_right, take-append-drop}
+use Rattle.std.proofs.lemmas.List.Concat.{flat_map-append}
+use Rattle.std.proofs.lemmas.Option.{none-some, same_Some}
+use Rattle.audit_model.specs.declared.transcript.Note.{Note}
+use Rattle.audit_model.specs.declared.transcript.Record.{Record}
+use Rattle.audit_model.specs.declared.transcript.Step.{Step}
+use Rattle.cache_spaces.specs.Notes.{before_in, lists_joined, lists_of, notes_before, notes_of_records, rest_in, lists_at, notes_from}
+use Rattle.cache_spaces.specs.declared.told.Told.{Told}
+
+module _ {X : Type 0} where
+  get-over : (lists : List (List X)) (k : ℕ) → length lists ≤ k → get_or lists k [] ≡ []
+  get-over [] zero h = refl
+  get-over [] (suc k) h = refl
+  get-over (x ∷ xs) zero h = absurd (omega arith)
+  get-over (x ∷ xs) (suc k) h = get-over xs k (omega arith)
+
+  joined-from : (lists : List (List X)) (k : ℕ) → lists_joined (drop k lists) ≡ get_or lists k [] ++ lists_joined (drop (suc k) lists)
+  joined-from [] zero = refl
+  joined-from [] (suc k) = refl
+  joined-from (x ∷ xs) zero = refl
+  joined-from (x ∷ xs) (suc k) = joined-from xs k
+
+  joined-next : (lists : List (List X)) (k : ℕ) → lists_joined (drop (k + 1) lists) ≡ rest_in lists (k + 1) 0
+  joined-next lists k = joined-from lists (k + 1) ∙ ap (λ m. get_or lists (k + 1) [] ++ lists_joined (drop m lists)) (sym (add-one (k + 1)))
+
+  -- nothing stands in that list from there on
+  pub next-list : (lists : List (List X)) (k n : ℕ) → length (get_or lists k []) ≤ n → rest_in lists k n ≡ rest_in lists (k + 1) 0
+  next-list lists k n h = ap (λ l. l ++ lists_joined (drop (k + 1) lists)) (drop_of_length-le (get_or lists k []) h) ∙ joined-next lists k
+
+  -- there is no such list
+  pub no-list : (lists : List (List X)) (k n : ℕ) → length lists ≤ k → rest_in lists k n ≡ []
+  no-list lists k n h =
+      ap (λ l. l ++ lists_joined (drop (k + 1) lists)) (ap (drop n) (get-over lists k h) ∙ drop-nil n)
+      ∙ ap lists_joined (drop_of_length-le lists (omega arith))
+
+  drop-one : (xs : List X) (n : ℕ) (x : X) → slice_get xs n ≡ Some x → drop n xs ≡ x ∷ drop (suc n) xs
+  drop-one [] n x e = absurd (none-some x e)
+  drop-one (y ∷ ys) zero x e = ap (λ z. z ∷ ys) (same_Some y x e)
+  drop-one (y ∷ ys) (suc n) x e = drop-one ys n x e
+
+  -- one stands there
+  pub one-there : (lists : List (List X)) (k n : ℕ) (x : X) → slice_get (get_or lists k []) n ≡ Some x → rest_in lists k n ≡ x ∷ rest_in lists k (n + 1)
+  one-there lists k n x e =
+      ap (λ l. l ++ lists_joined (drop (k + 1) lists)) (drop-one (get_or lists k []) n x e ∙ ap (λ m. x ∷ drop m (get_or lists k [])) (sym (add-one n)))
+
+records-from : (records : List Record) (k : ℕ) → notes_of_records (drop k records) ≡ rest_in (lists_at records k) 0 0 ++ notes_of_records (drop (suc k) records)
+records-from [] zero = refl
+records-from [] (suc k) = refl
+records-from (x ∷ xs) zero = refl
+records-from (x ∷ xs) (suc k) = records-from xs k
+
+-- nothing stands in that record from there on
+pub next-record : (records : List Record) (k l n : ℕ) → rest_in (lists_at records k) l n ≡ []
+    → notes_from records (record { entry = k; list = l; note = n }) ≡ notes_from records (record { entry = k + 1; list = 0; note = 0 })
+next-record records k l n e =
+    ap (λ (r : List Note). r ++ notes_of_records (drop (k + 1) records)) e ∙ records-from records (k + 1)
+    ∙ ap (λ m. rest_in (lists_at records (k + 1)) 0 0 ++ notes_of_records (drop m records)) (sym (add-one (k + 1)))
+
+lists-over : (records : List Record) (k : ℕ) → length records ≤ k → lists_at records k ≡ []
+lists-over [] zero h = refl
+lists-over [] (suc k) h = refl
+lists-over (x ∷ xs) zero h = absurd (omega arith)
+lists-over (x ∷ xs) (suc k) h = lists-over xs k (omega arith)
+
+-- there is no such record
+pub no-record : (records : List Record) (told : Told) → length records ≤ told.entry → notes_from records told ≡ []
+no-record records told h =
+    ap (λ (r : List Note). r ++ notes_of_records (drop (told.entry + 1) records)) (ap (λ l. rest_in l told.list told.note) (lists-over records told.entry h) ∙ no-list [] told.list told.note (omega arith))
+    ∙ ap notes_of_records (drop_of_length-le records (omega arith))
+
+-- one stands in that record
+pub one-in : (records : List Record) (k l n l' n' : ℕ) (x : Note) → rest_in (lists_at records k) l n ≡ x ∷ rest_in (lists_at records k) l' n'
+    → notes_from records (record { entry = k; list = l; note = n }) ≡ x ∷ notes_from records (record { entry = k; list = l'; note = n' })
+one-in records k l n l' n' x e = ap (λ (r : List Note). r ++ notes_of_records (drop (k + 1) records)) e
+
+-- the lists of the record that stands there
+pub lists-there : (records : List Record) (k : ℕ) (entry : Record) → slice_get records k ≡ Some entry → lists_at records k ≡ lists_of entry
+lists-there [] k entry e = absurd (none-some entry e)
+lists-there (x ∷ xs) zero entry e = ap lists_of (same_Some x entry e)
+lists-there (x ∷ xs) (suc k) entry e = lists-there xs k entry e
+
+-- the notes of a step
+pub step-there : (entry : Record) (k : ℕ) (step : Step) → slice_get entry.steps k ≡ Some step → step.notices ≡ get_or (lists_of entry) (suc k) []
+step-there entry k step e = go entry.steps k e
+  where
+    go : (steps : List Step) (k : ℕ) → slice_get steps k ≡ Some step → step.notices ≡ get_or (map (λ step. step.notices) steps) k []
+    go [] k e = absurd (none-some step e)
+    go (x ∷ xs) zero e = ap (λ (s : Step). s.notices) (sym (same_Some x step e))
+    go (x ∷ xs) (suc k) e = go xs k e
+
+pub step-none : (entry : Record) (k : ℕ) → slice_get entry.steps k ≡ None → [] ≡ get_or (lists_of entry) (suc k) []
+step-none entry k e = go entry.steps k e
+  where
+    go : (steps : List Step) (k : ℕ) → slice_get steps k ≡ None → [] ≡ get_or (map (λ step. step.notices) steps) k []
+    go [] zero e = refl
+    go [] (suc k) e = refl
+    go (x ∷ xs) zero e = absurd (none-some x (sym e))
+    go (x ∷ xs) (suc k) e = go xs k e
+
+pub lists-count : (entry : Record) → length (lists_of entry) ≡ length entry.steps + 1
+lists-count entry = let e = go entry.steps in omega (arith, e)
+  where
+    go : (steps : List Step) → length (map (λ step. step.notices) steps) ≡ length steps
+    go [] = refl
+    go (x ∷ xs) = let e = go xs in omega (arith, e)
+
+-- ---- what was taken, and what was not
+
+module _ {X : Type 0} where
+  joined-parts : (lists : List (List X)) (k : ℕ) → lists_joined (take k lists) ++ lists_joined (drop k lists) ≡ lists_joined lists
+  joined-parts lists k = sym (flat_map-append (λ (l : List X). l) (take k lists) (drop k lists)) ∙ ap lists_joined (take-append-drop k lists)
+
+  parts-in : (lists : List (List X)) (k n : ℕ) → before_in lists k n ++ rest_in lists k n ≡ lists_joined lists
+  parts-in lists k n =
+      let x = get_or lists k [] in
+      let rest = lists_joined (drop (k + 1) lists) in
+      append_assoc (lists_joined (take k lists)) (take n x) (drop n x ++ rest)
+      ∙ ap (λ l. lists_joined (take k lists) ++ l) (sym (append_assoc (take n x) (drop n x) rest) ∙ ap (λ l. l ++ rest) (take-append-drop n x)
+      ∙ ap (λ m. x ++ lists_joined (drop m lists)) (add-one k) ∙ sym (joined-from lists k))
+      ∙ joined-parts lists k
+
+-- the notes before a place, and those from there on, are all
+pub all-notes : (records : List Record) (told : Told) → notes_of_records records ≡ notes_before records told ++ notes_from records told
+all-notes records told =
+    let k = told.entry in
+    let lists = lists_at records k in
+    let rest = notes_of_records (drop (k + 1) records) in
+    let whole : rest_in lists 0 0 ≡ before_in lists told.list told.note ++ rest_in lists told.list told.note = sym (joined-from lists 0) ∙ sym (parts-in lists told.list told.note) in
+    ap notes_of_records (sym (take-append-drop k records)) ∙ flat_map-append (λ (entry : Record). lists_joined (lists_of entry)) (take k records) (drop k records)
+    ∙ ap (λ l. notes_of_records (take k records) ++ l) (records-from records k ∙ ap (λ m. rest_in lists 0 0 ++ notes_of_records (drop m records)) (sym (add-one k)) ∙ ap (λ l. l ++ rest) whole
+    ∙ append_assoc (before_in lists told.list told.note) (rest_in lists told.list told.note) rest)
+    ∙ sym (append_assoc (notes_of_records (take k records)) (before_in lists told.list told.note) (rest_in lists told.list told.note ++ rest))
+
+-- so what was taken grows by what a taking gives
+pub told-grows : (records : List Record) (was is : Told) (given : List Note) → notes_from records was ≡ given ++ notes_from records is → notes_before records is ≡ notes_before records was ++ given
+told-grows records was is given e =
+    append_cancel_right (notes_before records is) (notes_before records was ++ given) (notes_from records is)
+    (sym (all-notes records is) ∙ all-notes records was ∙ ap (λ l. notes_before records was ++ l) e ∙ sym (append_assoc (notes_before records was) given (notes_from records is)))

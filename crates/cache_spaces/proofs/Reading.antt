@@ -1,0 +1,201 @@
+-- How far journals were read.
+use Rattle.std.proofs.Common.{◌≡◌, ◌≢◌, ℕ, zero, suc, ◌+◌, ◌<◌, List, [], ◌∷◌, ◌++◌, length, get_or, drop, map, slice_set, Option, Some, refl, sym, ap, ◌∙◌, subst, inl, inr, arith}
+use Rattle.std.specs.Prelude.{◌⊎◌, IsNone}
+use Rattle.std.specs.List.{slice_get}
+use Rattle.std.specs.Option.{option_map_or, option_to_list}
+use Rattle.std.proofs.Math.ListN.{drop_of_length-le}
+use Rattle.std.proofs.lemmas.Option.{none-some}
+use Rattle.audit_model.specs.declared.input.Conn.{Conn}
+use Rattle.audit_model.specs.declared.transcript.Note.{Note}
+use Rattle.audit_model.specs.declared.transcript.Transcript.{Transcript}
+use Rattle.cache_spaces.specs.Calls.{InSpace, IsOpened}
+use Rattle.cache_spaces.specs.Journals.{journals_of}
+use Rattle.cache_spaces.specs.Notes.{TakesFrom, notes_before, notes_from}
+use Rattle.cache_spaces.specs.Recorded.{AreAtStart, Cursor, Recorded, TakesNote, TakesReplies, cursor_at_start, cursor_in, cursor_of, records_in, recorded_of, untaken_in}
+use Rattle.cache_spaces.specs.Replies.{replies_for}
+use Rattle.cache_spaces.specs.Spaces.{Space}
+use Rattle.cache_spaces.specs.declared.cursors.Cursors.{Cursors}
+use Rattle.cache_spaces.proofs.Noting.{all-notes, told-grows}
+use Rattle.cache_spaces.proofs.Putting.{same-or-not}
+use Rattle.cache_tape.specs.Taped.{Taped}
+
+-- connections of one namespace and number are one
+pub same-conn : (a b : Conn) → a.namespace ≡ b.namespace → a.number ≡ b.number → a ≡ b
+same-conn a b e f =
+    let first : record { namespace = a.namespace; number = a.number } ≡ record { namespace = b.namespace; number = a.number } = ap (λ n. record { namespace = n; number = a.number }) e in
+    let second : record { namespace = b.namespace; number = a.number } ≡ record { namespace = b.namespace; number = b.number } = ap (λ n. record { namespace = b.namespace; number = n }) f in
+    first ∙ second
+
+-- ---- lists in which one was put in the place of another
+
+module _ {A : Type 0} where
+  pub put-there : (l : List A) (k : ℕ) (x d : A) → k < length l → get_or (slice_set l k x) k d ≡ x
+  put-there [] k x d lt = absurd (omega arith)
+  put-there (y ∷ l) zero x d lt = refl
+  put-there (y ∷ l) (suc k) x d lt = put-there l k x d (omega arith)
+
+  pub put-elsewhere : (l : List A) (k n : ℕ) (x d : A) → n ≢ k → get_or (slice_set l k x) n d ≡ get_or l n d
+  put-elsewhere [] k n x d ne = refl
+  put-elsewhere (y ∷ l) zero zero x d ne = absurd (ne refl)
+  put-elsewhere (y ∷ l) zero (suc n) x d ne = refl
+  put-elsewhere (y ∷ l) (suc k) zero x d ne = refl
+  put-elsewhere (y ∷ l) (suc k) (suc n) x d ne = put-elsewhere l k n x d (λ e. ne (ap suc e))
+
+put-seen : (read : List Cursors) (k : ℕ) (c : Cursors) → map cursor_of (slice_set read k c) ≡ slice_set (map cursor_of read) k (cursor_of c)
+put-seen [] k c = refl
+put-seen (y ∷ read) zero c = refl
+put-seen (y ∷ read) (suc k) c = ap (λ l. cursor_of y ∷ l) (put-seen read k c)
+
+seen-there : (read : List Cursors) (k : ℕ) (here : Cursors) → k < length read → here ≡ get_or read k here → get_or (map cursor_of read) k cursor_at_start ≡ cursor_of here
+seen-there [] k here lt e = absurd (omega arith)
+seen-there (y ∷ read) zero here lt e = ap cursor_of (sym e)
+seen-there (y ∷ read) (suc k) here lt e = seen-there read k here (omega arith) e
+
+seen-count : (read : List Cursors) → length (map cursor_of read) ≡ length read
+seen-count [] = refl
+seen-count (y ∷ read) = ap suc (seen-count read)
+
+module _ (spaces : List (Space Taped)) (read : List Cursors) (namespace : ℕ) (here is : Cursors) (lt : namespace < length read) (at : here ≡ get_or read namespace here) where
+  was-there : cursor_in (recorded_of spaces read) namespace ≡ cursor_of here
+  was-there = seen-there read namespace here lt at
+
+  is-there : cursor_in (recorded_of spaces (slice_set read namespace is)) namespace ≡ cursor_of is
+  is-there =
+      ap (λ cs. get_or cs namespace cursor_at_start) (put-seen read namespace is)
+      ∙ put-there (map cursor_of read) namespace (cursor_of is) cursor_at_start (subst (λ n. namespace < n) (sym (seen-count read)) lt)
+
+  is-elsewhere : (other : ℕ) → other ≢ namespace → cursor_in (recorded_of spaces (slice_set read namespace is)) other ≡ cursor_in (recorded_of spaces read) other
+  is-elsewhere other ne =
+      ap (λ cs. get_or cs other cursor_at_start) (put-seen read namespace is)
+      ∙ put-elsewhere (map cursor_of read) namespace other (cursor_of is) cursor_at_start ne
+
+  -- so it is of what is seen of a namespace's cursor, where that is the same of the one that was put in the place of another
+  same-seen : {X : Type 0} (f : Cursor → X) → f (cursor_of is) ≡ f (cursor_of here)
+      → (other : ℕ) → f (cursor_in (recorded_of spaces (slice_set read namespace is)) other) ≡ f (cursor_in (recorded_of spaces read) other)
+  same-seen {X} f e other = go (same-or-not other namespace)
+    where
+      go : (other ≡ namespace) ⊎ (other ≢ namespace) → f (cursor_in (recorded_of spaces (slice_set read namespace is)) other) ≡ f (cursor_in (recorded_of spaces read) other)
+      go (inl here-is) =
+          ap (λ n. f (cursor_in (recorded_of spaces (slice_set read namespace is)) n)) here-is ∙ ap f is-there ∙ e ∙ sym (ap f was-there)
+          ∙ sym (ap (λ n. f (cursor_in (recorded_of spaces read) n)) here-is)
+      go (inr ne) = ap f (is-elsewhere other ne)
+
+  module _ (journal : Transcript) (stands : slice_get (journals_of spaces) namespace ≡ Some journal) where
+    abbrev was : Recorded
+    was = recorded_of spaces read
+
+    abbrev now : Recorded
+    now = recorded_of spaces (slice_set read namespace is)
+
+    records-are : records_in was namespace ≡ journal.records
+    records-are = ap (λ o. option_map_or (λ (j : Transcript). j.records) o []) stands
+
+    -- what a taking of replies leaves
+    pub takes-replies : (number : ℕ) (text : List ℕ)
+        → InSpace spaces namespace (λ space. IsOpened space number)
+        → text ≡ replies_for number (drop (get_or here.replies.items number 0) journal.records)
+        → get_or is.replies.items number 0 ≡ length journal.records
+        → ((other : ℕ) → other ≢ number → get_or is.replies.items other 0 ≡ get_or here.replies.items other 0)
+        → is.notes ≡ here.notes
+        → TakesReplies was now (record { namespace = namespace; number = number }) text
+    takes-replies number text opened text-is cursor others notes = record {
+      known = opened;
+      text_is = text-is ∙ ap (λ c. replies_for number (drop (get_or c.replies number 0) journal.records)) (sym was-there)
+          ∙ ap (λ rs. replies_for number (drop (get_or (cursor_in was namespace).replies number 0) rs)) (sym records-are);
+      none = ap (λ rs. replies_for number (drop (get_or (cursor_in now namespace).replies number 0) rs)) records-are
+          ∙ ap (λ c. replies_for number (drop (get_or c.replies number 0) journal.records)) is-there
+          ∙ ap (λ n. replies_for number (drop n journal.records)) cursor
+          ∙ ap (replies_for number) (drop_of_length-le journal.records (omega arith));
+      others = λ other ne. other-replies other ne (same-or-not other.namespace namespace);
+      notes = λ n. let e = same-seen (λ c. c.notes) notes n in (ap (notes_before (records_in was n)) e, ap (notes_from (records_in was n)) e);
+      spaces = refl;
+    }
+      where
+        other-replies : (other : Conn) → other ≢ record { namespace = namespace; number = number } → (other.namespace ≡ namespace) ⊎ (other.namespace ≢ namespace)
+            → untaken_in now other ≡ untaken_in was other
+        other-replies other ne (inr elsewhere) =
+            ap (λ c. replies_for other.number (drop (get_or c.replies other.number 0) (records_in was other.namespace))) (is-elsewhere other.namespace elsewhere)
+        other-replies other ne (inl same) =
+            let numbers = others other.number (λ e. ne (same-conn other (record { namespace = namespace; number = number }) same e)) in
+            ap (λ k. replies_for other.number (drop k (records_in was other.namespace)))
+            (ap (λ n. get_or (cursor_in now n).replies other.number 0) same ∙ ap (λ c. get_or c.replies other.number 0) is-there ∙ numbers
+            ∙ sym (ap (λ c. get_or c.replies other.number 0) was-there) ∙ sym (ap (λ n. get_or (cursor_in was n).replies other.number 0) same))
+
+    -- what a taking of a note leaves
+    pub takes-note : (note : Option Note) → TakesFrom journal.records here.notes is.notes note → (IsNone note → notes_from journal.records here.notes ≡ [])
+        → is.replies.items ≡ here.replies.items → TakesNote was now namespace note
+    takes-note note takes none replies =
+        let before : (r : Cursors) (c : Cursor) → c ≡ cursor_of r → notes_before (records_in was namespace) c.notes ≡ notes_before journal.records r.notes =
+        λ r c e. ap (λ rs. notes_before rs c.notes) records-are ∙ ap (λ (d : Cursor). notes_before journal.records d.notes) e in
+        let from : (r : Cursors) (c : Cursor) → c ≡ cursor_of r → notes_from (records_in was namespace) c.notes ≡ notes_from journal.records r.notes =
+        λ r c e. ap (λ rs. notes_from rs c.notes) records-are ∙ ap (λ (d : Cursor). notes_from journal.records d.notes) e in
+        record {
+          grows = before is (cursor_in now namespace) is-there ∙ told-grows journal.records here.notes is.notes (option_to_list note) takes
+              ∙ ap (λ l. l ++ option_to_list note) (sym (before here (cursor_in was namespace) was-there));
+          left = from here (cursor_in was namespace) was-there ∙ takes ∙ ap (λ l. option_to_list note ++ l) (sym (from is (cursor_in now namespace) is-there));
+          none = λ no. from here (cursor_in was namespace) was-there ∙ none no;
+          all = all-notes (records_in now namespace) (cursor_in now namespace).notes;
+          others = λ other ne. let e = is-elsewhere other ne in (ap (λ (c : Cursor). notes_before (records_in was other) c.notes) e, ap (λ (c : Cursor). notes_from (records_in was other) c.notes) e);
+          replies = λ conn. ap (λ l. replies_for conn.number (drop (get_or l conn.number 0) (records_in was conn.namespace))) (same-seen (λ c. c.replies) replies conn.namespace);
+          spaces = refl;
+        }
+
+-- ---- a taking that is refused
+
+cursor-same : (a b : Cursors) → a.replies.items ≡ b.replies.items → a.notes ≡ b.notes → cursor_of a ≡ cursor_of b
+cursor-same a b e f =
+    let first : cursor_of a ≡ record { replies = b.replies.items; notes = a.notes } = ap (λ l. record { replies = l; notes = a.notes }) e in
+    let second : record { replies = b.replies.items; notes = a.notes } ≡ cursor_of b = ap (λ n. record { replies = b.replies.items; notes = n }) f in
+    first ∙ second
+
+-- one that is seen as the one before it, in its place
+pub same-read : (spaces : List (Space Taped)) (read : List Cursors) (k : ℕ) (here is : Cursors) → here ≡ get_or read k here → is.replies.items ≡ here.replies.items → is.notes ≡ here.notes
+    → recorded_of spaces (slice_set read k is) ≡ recorded_of spaces read
+same-read spaces read k here is at replies notes = ap (λ cs. record { spaces = spaces; cursors = cs }) (go read k at)
+  where
+    go : (rs : List Cursors) (j : ℕ) → here ≡ get_or rs j here → map cursor_of (slice_set rs j is) ≡ map cursor_of rs
+    go [] j e = refl
+    go (r ∷ rs) zero e = ap (λ c. c ∷ map cursor_of rs) (cursor-same is here replies notes ∙ ap cursor_of e)
+    go (r ∷ rs) (suc j) e = ap (λ cs. cursor_of r ∷ cs) (go rs j e)
+
+-- where there is a journal it was read from somewhere
+pub read-there : (spaces : List (Space Taped)) (read : List Cursors) (k : ℕ) (journal : Transcript) → slice_get (journals_of spaces) k ≡ Some journal → length read ≡ length spaces → k < length read
+read-there spaces read k journal at count = subst (λ n. k < n) (sym count) (go spaces k at)
+  where
+    go : (ss : List (Space Taped)) (j : ℕ) → slice_get (journals_of ss) j ≡ Some journal → j < length ss
+    go [] j e = absurd (none-some journal e)
+    go (s ∷ ss) zero e = omega arith
+    go (s ∷ ss) (suc j) e = let lt = go ss j e in omega (arith, lt)
+
+-- ---- at the start
+
+-- no namespace
+pub start-none : AreAtStart [] 0
+start-none = record { counted = refl; each = λ n. none n }
+  where
+    none : (n : ℕ) → get_or (map cursor_of []) n cursor_at_start ≡ cursor_at_start
+    none zero = refl
+    none (suc n) = refl
+
+pub fresh-cursor : (c : Cursors) → c.replies.items ≡ [] → c.notes ≡ record { entry = 0; list = 0; note = 0 } → cursor_of c ≡ cursor_at_start
+fresh-cursor c e f =
+    let first : cursor_of c ≡ record { replies = []; notes = c.notes } = ap (λ l. record { replies = l; notes = c.notes }) e in
+    let second : record { replies = []; notes = c.notes } ≡ cursor_at_start = ap (λ n. record { replies = []; notes = n }) f in
+    first ∙ second
+
+-- one namespace more of which nothing was read
+pub start-more : (read : List Cursors) (fresh : Cursors) (count : ℕ) → AreAtStart read count → cursor_of fresh ≡ cursor_at_start → AreAtStart (read ++ fresh ∷ []) (count + 1)
+start-more read fresh count s e = record {
+  counted = let l = counted-more read in let c = s.counted in omega (arith, l, c);
+  each = λ n. at-start read n (s.each n);
+}
+  where
+    counted-more : (rs : List Cursors) → length (rs ++ fresh ∷ []) ≡ length rs + 1
+    counted-more [] = refl
+    counted-more (r ∷ rs) = let e = counted-more rs in omega (arith, e)
+
+    at-start : (rs : List Cursors) (n : ℕ) → get_or (map cursor_of rs) n cursor_at_start ≡ cursor_at_start → get_or (map cursor_of (rs ++ fresh ∷ [])) n cursor_at_start ≡ cursor_at_start
+    at-start [] zero h = e
+    at-start [] (suc n) h = refl
+    at-start (r ∷ rs) zero h = h
+    at-start (r ∷ rs) (suc n) h = at-start rs n h

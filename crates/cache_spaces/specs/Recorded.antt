@@ -1,0 +1,83 @@
+-- A recording service, and how far it was read.
+use Rattle.std.specs.Prelude.{◌≡◌, ◌≢◌, ℕ, ◌++◌, Option, List, [], drop, get_or, length, map, IsNone}
+use Rattle.std.specs.Option.{option_to_list}
+use Rattle.audit_model.specs.declared.input.Conn.{Conn}
+use Rattle.audit_model.specs.declared.transcript.Note.{Note}
+use Rattle.audit_model.specs.declared.transcript.Record.{Record}
+use Rattle.cache_spaces.specs.Calls.{InSpace, IsOpened}
+use Rattle.cache_spaces.specs.Journals.{journals_of}
+use Rattle.cache_spaces.specs.Notes.{notes_before, notes_from, notes_of_records}
+use Rattle.cache_spaces.specs.Replies.{records_at, replies_for}
+use Rattle.cache_spaces.specs.Spaces.{Space}
+use Rattle.cache_spaces.specs.declared.cursors.Cursors.{Cursors}
+use Rattle.cache_spaces.specs.declared.told.Told.{Told}
+use Rattle.cache_tape.specs.Taped.{Taped}
+
+-- of a namespace: how many records the takings of a connection's replies went through, by its number, and where the first note stands that was
+-- not taken
+pub record Cursor : Type 0 where
+  pub replies : List ℕ
+  pub notes : Told
+
+-- nothing was taken
+abbrev pub cursor_at_start : Cursor
+cursor_at_start = record { replies = []; notes = record { entry = 0; list = 0; note = 0 } }
+
+abbrev pub cursor_of : Cursors → Cursor
+cursor_of cursors = record { replies = cursors.replies.items; notes = cursors.notes }
+
+-- the namespaces, the journal of each on its tape, and how far each was read
+pub record Recorded : Type 0 where
+  pub spaces : List (Space Taped)
+  pub cursors : List Cursor
+
+abbrev pub recorded_of : List (Space Taped) → List Cursors → Recorded
+recorded_of spaces read = record { spaces = spaces; cursors = map cursor_of read }
+
+abbrev pub cursor_in : Recorded → ℕ → Cursor
+cursor_in recorded namespace = get_or recorded.cursors namespace cursor_at_start
+
+-- the records of a namespace's journal
+abbrev pub records_in : Recorded → ℕ → List Record
+records_in recorded namespace = records_at (journals_of recorded.spaces) namespace
+
+-- the replies of a connection that stand in the records behind the last taking
+abbrev pub untaken_in : Recorded → Conn → List ℕ
+untaken_in recorded conn = replies_for conn.number (drop (get_or (cursor_in recorded conn.namespace).replies conn.number 0) (records_in recorded conn.namespace))
+
+-- the notes of a namespace's records that were taken
+abbrev pub notes_taken : Recorded → ℕ → List Note
+notes_taken recorded namespace = notes_before (records_in recorded namespace) (cursor_in recorded namespace).notes
+
+-- those that were not
+abbrev pub untold_in : Recorded → ℕ → List Note
+untold_in recorded namespace = notes_from (records_in recorded namespace) (cursor_in recorded namespace).notes
+
+-- nothing was read of it
+abbrev pub IsUnread : Recorded → Type 0
+IsUnread recorded = (namespace : ℕ) → cursor_in recorded namespace ≡ cursor_at_start
+
+-- the replies of a connection that was opened were taken, which are those since the last taking; nothing else changed
+pub record TakesReplies (was is : Recorded) (conn : Conn) (text : List ℕ) : Type 0 where
+  pub known : InSpace was.spaces conn.namespace (λ space. IsOpened space conn.number)
+  pub text_is : text ≡ untaken_in was conn
+  pub none : untaken_in is conn ≡ []
+  pub others : (other : Conn) → other ≢ conn → untaken_in is other ≡ untaken_in was other
+  pub notes : (namespace : ℕ) → (notes_taken is namespace ≡ notes_taken was namespace) × (untold_in is namespace ≡ untold_in was namespace)
+  pub spaces : is.spaces ≡ was.spaces
+
+-- The first note of a namespace that was not taken was taken, if there is one. Those that were taken and those that were not are all that its
+-- journal holds, in order; nothing else changed.
+pub record TakesNote (was is : Recorded) (namespace : ℕ) (note : Option Note) : Type 0 where
+  pub grows : notes_taken is namespace ≡ notes_taken was namespace ++ option_to_list note
+  pub left : untold_in was namespace ≡ option_to_list note ++ untold_in is namespace
+  pub none : IsNone note → untold_in was namespace ≡ []
+  pub all : notes_of_records (records_in is namespace) ≡ notes_taken is namespace ++ untold_in is namespace
+  pub others : (other : ℕ) → other ≢ namespace → (notes_taken is other ≡ notes_taken was other) × (untold_in is other ≡ untold_in was other)
+  pub replies : (conn : Conn) → untaken_in is conn ≡ untaken_in was conn
+  pub spaces : is.spaces ≡ was.spaces
+
+-- so many namespaces, of which nothing was read
+pub record AreAtStart (read : List Cursors) (count : ℕ) : Type 0 where
+  pub counted : length read ≡ count
+  pub each : (namespace : ℕ) → get_or (map cursor_of read) namespace cursor_at_start ≡ cursor_at_start

@@ -1,0 +1,72 @@
+//! Notes, found in records.
+ghost use Rattle.std.specs.Prelude.{◌≡◌, ◌∷◌, [], get_or, IfOk, MatchOption};
+ghost use Rattle.cache_spaces.specs.Notes.{lists_of, notes_from, rest_in};
+
+use audit_model::{Note, Record, copy_bytes};
+use std::alloc::{AllocError, Global};
+
+/// Where the first note stands that was not taken: so many records before its own, so many lists before its own in its record, and so
+/// many notes before it in its list. A record's first list is that of an answer's value, and each step has one.
+#[derive(Clone, Copy, Drop)]
+pub struct Told {
+    pub entry: usize,
+    pub list: usize,
+    pub note: usize,
+}
+
+/// The first note from there on, and the place behind it.
+pub fn find_note(records: &[Record], told: Told) -> Option<(&Note, Told)>
+    ensures { MatchOption result (notes_from records.now told ≡ []) (λ found. notes_from records.now told ≡ found.0.now ∷ notes_from records.now found.1) }
+{
+    let mut list = told.list;
+    let mut note = told.note;
+    for entry in told.entry..records.len() {
+        match find_in(&records[entry], list, note) {
+            Some((found, list, note)) => return Some((found, Told { entry, list, note })),
+            None => {
+                list = 0;
+                note = 0;
+            }
+        }
+    }
+    None
+}
+
+/// The first note of a record from that place on, and the place behind it.
+fn find_in(entry: &Record, list: usize, note: usize) -> Option<(&Note, usize, usize)>
+    ensures { MatchOption result (rest_in (lists_of entry.now) list note ≡ []) (λ found. rest_in (lists_of entry.now) list note ≡ found.0.now ∷ rest_in (lists_of entry.now) found.1 found.2) }
+{
+    let mut from = note;
+    for at in list..entry.steps.as_slice().len() + 1 {
+        let notes = list_at(entry, at);
+        if from < notes.len() {
+            return Some((&notes[from], at, from + 1));
+        }
+        from = 0;
+    }
+    None
+}
+
+/// One of a record's lists.
+fn list_at(entry: &Record, at: usize) -> &[Note]
+    ensures { result.now ≡ get_or (lists_of entry.now) at [] }
+{
+    if at == 0 {
+        return entry.notices.as_slice();
+    }
+    match entry.steps.as_slice().get(at - 1) {
+        Some(step) => step.notices.as_slice(),
+        None => &[],
+    }
+}
+
+/// A copy of a note.
+pub fn copy_note(alloc: Global, note: &Note) -> Result<Note, AllocError>
+    ensures { IfOk result (λ copy. copy ≡ note.now) }
+{
+    Ok(Note {
+        cause: note.cause,
+        key: note.key.clone()?,
+        value: copy_bytes(alloc, &note.value)?,
+    })
+}
