@@ -1,6 +1,6 @@
 //! What two connections of a namespace that load are asked, row by row, and what has to come of it. What is refused for memory is asked
 //! once more.
-ghost use Rattle.std.specs.Prelude.{◌≡◌, ◌≤◌, ◌<◌, ◌^◌, ℕ, [], true, Some};
+ghost use Rattle.std.specs.Prelude.{◌≡◌, ◌≤◌, ℕ, true, Some};
 ghost use Rattle.cache_parts.specs.Parts.{IsBrief};
 ghost use Rattle.cache_tape.specs.Taped.{IsAtRest};
 
@@ -64,8 +64,6 @@ pub enum Row<'a> {
     GivesUp(u64, Instant, Result<(), ServiceError>),
     /// The loads from one number to before another go out and are given up, one after the other, and nobody is replied.
     GivesUpEach(u64, u64),
-    /// A further connection, which has that number.
-    Opens(u64),
     Closes(u64),
     Closed(u64, Option<Closing>),
     /// How many notes come out.
@@ -303,7 +301,6 @@ fn comes_so<S: Store, T: Tape>(space: &mut Space<S, T>, row: Row<'_>) -> bool {
         }
         Row::GivesUp(number, moment, wanted) => give_up(space, number, moment) == wanted,
         Row::GivesUpEach(first, end) => gives_up_each(space, first, end),
-        Row::Opens(number) => open(space) == Ok(number),
         Row::Closes(conn) => space.inner.close(conn).is_ok() || space.inner.close(conn).is_ok(),
         Row::Closed(conn, wanted) => space.inner.closed(conn) == Ok(wanted),
         Row::Notes(count) => are_notes(space, count),
@@ -323,6 +320,8 @@ fn first_wrong_of<S: Store, T: Tape>(space: &mut Space<S, T>, rows: &[Row<'_>]) 
 fn open_two<S: Store, T: Tape>(space: &mut Space<S, T>) -> Result<bool, AllocError> {
     Ok(open(space)? == FIRST && open(space)? == SECOND)
 }
+
+type Values = FrontStore<SplitMix64, KeyedHasher>;
 
 /// Whether a time has at most twelve digits.
 fn is_short(milliseconds: Option<u64>) -> bool
@@ -354,86 +353,73 @@ const AT_START: Moments = Moments {
     now: START,
 };
 
-/// Whether a namespace opens two connections, and then each row comes out so.
-fn all_so<S: Store, T: Tape>(space: &mut Space<S, T>, rows: &[Row<'_>]) -> bool {
-    match open_two(space) {
-        Ok(true) => first_wrong_of(space, rows).is_none(),
-        _ => false,
-    }
-}
-
-/// Whether each row comes out so, of a new namespace over a store; none without memory for it.
-fn so_over<S: Store, T: Tape>(
-    alloc: Global,
-    store: S,
-    tape: T,
-    moments: Moments,
-    keeps: bool,
-    rows: &[Row<'_>],
-) -> Option<bool>
-    requires latest { (S.view store).frame.latest ≡ moments.made }
-    requires moment { moments.made < 2 ^ 63 }
-    requires rests { IsAtRest (T.view tape) }
-    requires untaken { (S.view store).untaken ≡ [] }
-{
-    let Moments { made, now } = moments;
-    match Namespace::new(alloc, 0, store, tape, made) {
-        Ok(inner) => {
-            let mut space = Space {
-                alloc,
-                inner,
-                keeps,
-                now,
-            };
-            Some(all_so(&mut space, rows))
-        }
-        Err(_) => None,
-    }
-}
-
-/// The same over a new store.
-fn so_of_new<T: Tape>(
+fn make<T: Tape>(
     alloc: Global,
     config: Config,
     moments: Moments,
     tape: T,
     keeps: bool,
-    rows: &[Row<'_>],
-) -> Option<bool>
+) -> Result<Space<Values, T>, AllocError>
     requires { IsAtRest (T.view tape) }
 {
-    if moments.made >= LATE.nanos || !is_brief(&config) {
-        return None;
+    let Moments { made, now } = moments;
+    if made >= LATE.nanos || !is_brief(&config) {
+        return Err(AllocError);
     }
     let generator = SplitMix64::seed_from_u64(1);
     let hasher = KeyedHasher::new(b"sixteen bytes ...");
-    match FrontStore::new(alloc, config, moments.made, generator, hasher) {
-        Ok(store) => so_over(alloc, store, tape, moments, keeps, rows),
-        Err(_) => None,
+    let Ok(store) = FrontStore::new(alloc, config, made, generator, hasher) else {
+        return Err(AllocError);
+    };
+    let Ok(inner) = Namespace::new(alloc, 0, store, tape, made) else {
+        return Err(AllocError);
+    };
+    Ok(Space {
+        alloc,
+        inner,
+        keeps,
+        now,
+    })
+}
+
+/// Whether each row comes out so, of a namespace with two connections.
+fn all_so<S: Store, T: Tape>(space: Result<Space<S, T>, AllocError>, rows: &[Row<'_>]) -> bool {
+    match space {
+        Ok(mut space) => match open_two(&mut space) {
+            Ok(true) => first_wrong_of(&mut space, rows).is_none(),
+            _ => false,
+        },
+        Err(_) => false,
     }
 }
 
-/// The same where no records are kept.
-fn bare_so(alloc: Global, config: Config, moments: Moments, rows: &[Row<'_>]) -> Option<bool> {
-    so_of_new(alloc, config, moments, Bare::new(alloc), false, rows)
+/// A namespace that keeps no records, at the second try where memory is refused.
+fn bare(
+    alloc: Global,
+    config: Config,
+    moments: Moments,
+) -> Result<Space<Values, Bare>, AllocError> {
+    match make(alloc, config, moments, Bare::new(alloc), false) {
+        Err(_) => make(alloc, config, moments, Bare::new(alloc), false),
+        made => made,
+    }
 }
 
-/// The same where records are kept, from the start on.
-fn kept_so(alloc: Global, config: Config, moments: Moments, rows: &[Row<'_>]) -> Option<bool> {
-    so_of_new(alloc, config, moments, Kept::new(alloc, START), true, rows)
+/// One that keeps records, from the start on.
+fn kept(
+    alloc: Global,
+    config: Config,
+    moments: Moments,
+) -> Result<Space<Values, Kept>, AllocError> {
+    match make(alloc, config, moments, Kept::new(alloc, START), true) {
+        Err(_) => make(alloc, config, moments, Kept::new(alloc, START), true),
+        made => made,
+    }
 }
 
-/// Whether each row comes out so at these moments, by both tapes, at the second try where memory is refused.
+/// Whether each row comes out so at these moments, by both tapes.
 pub fn both_so_at(alloc: Global, config: Config, moments: Moments, rows: &[Row<'_>]) -> bool {
-    let bare = match bare_so(alloc, config, moments, rows) {
-        None => bare_so(alloc, config, moments, rows),
-        came => came,
-    };
-    let kept = match kept_so(alloc, config, moments, rows) {
-        None => kept_so(alloc, config, moments, rows),
-        came => came,
-    };
-    bare == Some(true) && kept == Some(true)
+    all_so(bare(alloc, config, moments), rows) && all_so(kept(alloc, config, moments), rows)
 }
 
 /// Whether each row comes out so, by both tapes.

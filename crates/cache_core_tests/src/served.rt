@@ -243,31 +243,3 @@ const A_GIVEN_UP_LOAD_WAITS_ON: &[Row<'static>] = &[
 fn a_given_up_load_waits_for_the_next(rt: HostRuntime) {
     assert!(rt; both_so(rt.alloc(), PLAIN, A_GIVEN_UP_LOAD_WAITS_ON));
 }
-
-/// Those that have closed, and whose replies were taken, leave only why they closed: others keep what they have, and further ones come.
-const CLOSED_ONES_LEAVE_OTHERS_ALONE: &[Row<'static>] = &[
-    Row::Says(SECOND, b"SET a - 1\nGE", b"OK\n"),
-    Row::Says(FIRST, b"QUIT\n", b"OK\n"),
-    Row::Output(FIRST, b""),
-    Row::Refuses(FIRST, b"GET a\n", ServiceError::Closed),
-    Row::Says(SECOND, b"T a\n", b"VAL 1\n"),
-    Row::Opens(3),
-    Row::Says(3, b"GET a\nLOAD k\nHAS a\n", b"VAL 1\n"),
-    Row::Closes(SECOND),
-    Row::Opens(4),
-    Row::Says(4, b"LOAD k\nQUIT\n", b""),
-    Row::Answers(1, Given::Value(b"v", None), START, Ok(())),
-    Row::Output(4, b"VAL v\nOK\n"),
-    Row::Output(3, b"VAL v\nYES\n"),
-    Row::Closed(FIRST, Some(Closing::Quit)),
-    Row::Closed(SECOND, Some(Closing::Asked)),
-    Row::Closed(3, None),
-    Row::Closed(4, Some(Closing::Quit)),
-    Row::Opens(5),
-    Row::Says(5, b"GET a\n", b"VAL 1\n"),
-];
-
-#[test]
-fn closed_ones_leave_others_alone(rt: HostRuntime) {
-    assert!(rt; both_so(rt.alloc(), PLAIN, CLOSED_ONES_LEAVE_OTHERS_ALONE));
-}

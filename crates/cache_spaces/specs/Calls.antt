@@ -1,9 +1,8 @@
 -- What calls of a service do to its namespaces.
-use Rattle.std.specs.Prelude.{◌≡◌, ℕ, ◌+◌, ◌-◌, ◌≤◌, Bool, true, false, List, [], length, Option, Some, IsTrue, slice_set, ◌⊎◌}
+use Rattle.std.specs.Prelude.{◌≡◌, ℕ, ◌-◌, ◌≤◌, Bool, true, false, List, [], length, Option, Some, IsTrue, slice_set, ◌⊎◌}
 use Rattle.std.specs.List.{slice_get}
 use Rattle.audit_model.specs.Situation.{is_holding_in}
 use Rattle.audit_model.specs.declared.event.Event.{Event}
-use Rattle.audit_model.specs.declared.event.Event.TheVariants as event
 use Rattle.audit_model.specs.declared.input.LoadId.{LoadId}
 use Rattle.audit_model.specs.declared.input.ServiceError.{ServiceError}
 use Rattle.audit_model.specs.declared.input.ServiceError.TheVariants as error
@@ -51,10 +50,6 @@ module _ {T : Type 0} (tape : T → Option Taped) where
   -- the record gives.
   abbrev pub ServesEvent : Space T → Space T → Event → (is_held : Bool) → Type 0
   ServesEvent was is happened is_held = Turns shown_of tape was is happened is_held
-
-  -- A connection was opened, whose number is the next one of the namespace, from 1 on.
-  abbrev pub OpensNext : Space T → Space T → ℕ → Type 0
-  OpensNext was is number = ServesEvent was is (event.Open number) false × (number ≡ length was.closings + 1)
 
   -- the same of an answer or a give-up, by which several connections may have steps
   abbrev pub Settled : Space T → Space T → Event → Type 0

@@ -1,10 +1,10 @@
 //! A service: namespaces, each with its connections.
-ghost use Rattle.std.specs.Prelude.{◌≡◌, ◌≤◌, ◌<◌, ◌^◌, ◌⊎◌, ◌↔◌, None, Some, false, length, IfOk, IfErr, OnOk, OnErr, IsErrOf};
+ghost use Rattle.std.specs.Prelude.{◌≡◌, ◌≤◌, ◌<◌, ◌^◌, ◌+◌, ◌⊎◌, ◌↔◌, None, Some, false, length, IfOk, IfErr, OnOk, OnErr, IsErrOf};
 ghost use Rattle.audit_model.specs.Belongs.{refusal_of};
 ghost use Rattle.audit_model.specs.declared.event.Event.TheVariants as event;
 ghost use Rattle.cache_core.specs.Settling.{answering, giving_up};
 ghost use Rattle.cache_core.specs.Turned.{feeding};
-ghost use Rattle.cache_spaces.specs.Calls.{At, InSpace, IsUnknown, OpensNext, RefusedFor, Refuses, ServesEvent, Settled, TakesLoads, TakesNotice, TakesOutput, IsOpened, is_held_in};
+ghost use Rattle.cache_spaces.specs.Calls.{At, InSpace, IsUnknown, RefusedFor, Refuses, ServesEvent, Settled, TakesLoads, TakesNotice, TakesOutput, IsOpened, is_held_in};
 ghost use Rattle.cache_spaces.specs.Services.{AreNew, are_taken, feed_is_held};
 ghost use Rattle.cache_spaces.specs.Spaces.{closing_of, config_of, is_waiting_for, known_of};
 
@@ -111,7 +111,7 @@ impl<T: Tape> Core<T> {
     ///
     /// Refused with `NoNamespace`, then with `OutOfMemory`. Then nothing has changed.
     pub fn open(&mut self, namespace: u64) -> Result<Conn, ServiceError>
-        ensures taken { IfOk result (λ conn. (conn.namespace ≡ namespace) × At self.old self.new namespace (λ was is. OpensNext T.view was is conn.number)) }
+        ensures taken { IfOk result (λ conn. (conn.namespace ≡ namespace) × At self.old self.new namespace (λ was is. ServesEvent T.view was is (event.Open conn.number) false × (conn.number ≡ length was.closings + 1))) }
         ensures refused { IfErr result (λ e. Refuses self.old namespace e (λ was. e ≡ ServiceError.OutOfMemory)) }
         ensures unchanged { OnErr result (self.new ≡ self.old) }
     {

@@ -3,4 +3,4 @@ use Rattle.cache_spaces.specs.Played.{HavePlayed}
 use Rattle.cache_play.proofs.play.Given as goal
 
 abbrev pub invariant-loop-input : goal.invariant-loop-input
-invariant-loop-input l = record { played : HavePlayed l.configs l.fn.moment (take l.input-index l.inputs) l.recorded.spaces }
+invariant-loop-input l = record { played : HavePlayed l.configs l.fn.moment (take l.input-index l.inputs) l.recorded }

@@ -1,0 +1,148 @@
+//! A thread for each connection.
+
+use crate::devices::{Devices, Teller};
+use crate::serving::serve_and_tell;
+use crate::workers::Workers;
+use cache_devices::{Clock, Loader, Watched};
+use cache_shared::{Seat, Seating, SharedService, Takings};
+use std::alloc::Global;
+use std::net::{TcpListener, TcpStream};
+use std::sync::Wait;
+use std::thread;
+use std::thread::{SpawnError, Threads};
+
+/// What `host` leaves: the seats of the connections that were served, and whether it could not go on.
+#[derive(Drop)]
+pub struct Hosted<L: Seating> {
+    /// The seats, in no order; one serves many connections, one after another. One that no memory could keep is missing, so that
+    /// `SharedService::finish` then hands all back.
+    pub seats: Vec<Seat<L>>,
+    /// Whether an accept failed while nobody was connected, or there was no memory to begin with, which ended it early.
+    pub failed: bool,
+}
+
+/// What one connection is served with.
+#[derive(Drop)]
+struct Work<L: Seating, C: Takings, K: Clock + Drop, D: Loader + Drop, T: Teller> {
+    shared: SharedService<L, C>,
+    seat: Seat<L>,
+    namespace: u64,
+    devices: (K, D, T),
+    stream: TcpStream,
+}
+
+impl<L: Seating, C: Takings, K: Clock + Drop, D: Loader + Drop, T: Teller> Work<L, C, K, D, T> {
+    /// Serves the connection, and gives the seat back.
+    fn attend(self, rt: &impl Wait, alloc: Global) -> Seat<L> {
+        let mut work = self;
+        let (clock, loader, teller) = &mut work.devices;
+        let _ = serve_and_tell(
+            rt,
+            alloc,
+            &work.shared,
+            &mut work.seat,
+            work.namespace,
+            &mut Watched::new(&work.stream),
+            &mut Watched::new(&work.stream),
+            clock,
+            loader,
+            teller,
+        );
+        let Work { seat, .. } = work;
+        seat
+    }
+}
+
+/// Serves the connections that a listener accepts as connections of that namespace, by `serve_and_tell`, each on a thread of its own with
+/// devices and a seat of its own; `limit` of them, or without one 2^64 - 1; and joins the threads.
+///
+/// An accept whose client has gone already is tried again. One that fails otherwise, as where no descriptor is free, waits until a
+/// connection has ended, and is tried again; while nobody is connected it ends the host early.
+///
+/// Where devices, seat or memory cannot be had, that connection alone is closed; where no thread can be made, it is served here.
+pub fn host<L, C, D, R>(
+    rt: R,
+    alloc: Global,
+    shared: &SharedService<L, C>,
+    namespace: u64,
+    listener: &TcpListener,
+    devices: &D,
+    limit: Option<u64>,
+) -> Hosted<L>
+where
+    L: Seating + Send + Sync + 'static,
+    C: Takings + Send + 'static,
+    D: Devices,
+    R: Threads + Wait + Copy + Send + Sync + 'static,
+{
+    let Ok(mut workers) = Workers::new(alloc) else {
+        return Hosted {
+            seats: Vec::new(alloc),
+            failed: true,
+        };
+    };
+    let mut failed = false;
+    for _served in 0..limit.unwrap_or(u64::MAX) {
+        let Some(stream) = workers.accept(&rt, listener) else {
+            failed = true;
+            break;
+        };
+        admit(rt, alloc, shared, namespace, devices, stream, &mut workers);
+    }
+    Hosted {
+        seats: workers.finish(&rt),
+        failed,
+    }
+}
+
+/// Serves one connection on a thread of its own, or here where none can be made.
+fn admit<L, C, D, R>(
+    rt: R,
+    alloc: Global,
+    shared: &SharedService<L, C>,
+    namespace: u64,
+    devices: &D,
+    stream: TcpStream,
+    workers: &mut Workers<L>,
+)
+where
+    L: Seating + Send + Sync + 'static,
+    C: Takings + Send + 'static,
+    D: Devices,
+    R: Threads + Wait + Copy + Send + Sync + 'static,
+{
+    // The replies of a piece go out in several writes, none of which is to wait for the client's acknowledgement.
+    let _ = stream.set_nodelay(true);
+    let Ok((place, done)) = workers.reserve(&rt) else {
+        return;
+    };
+    let Some(devices) = devices.make(alloc) else {
+        return;
+    };
+    let theirs: Result<_, _> = shared.clone();
+    let Ok(shared) = theirs else {
+        return;
+    };
+    let Some(seat) = workers.take_seat(&rt, &shared) else {
+        return;
+    };
+    let work = Work {
+        shared,
+        seat,
+        namespace,
+        devices,
+        stream,
+    };
+    let spawned = thread::spawn(&rt, move || {
+        let seat = work.attend(&rt, alloc);
+        done.tell(&rt, place);
+        seat
+    });
+    match spawned {
+        Ok(thread) => workers.add(thread),
+        Err(refused) => {
+            let SpawnError { value } = refused;
+            workers.give_back(&rt, place, value());
+        }
+    }
+}

@@ -1,0 +1,182 @@
+//! The threads that serve connections, and the seats that they give back.
+
+use cache_shared::{Seat, Seating, SharedService, Takings};
+use slab::Slab;
+use std::alloc::{AllocError, Global};
+use std::io::ErrorKind;
+use std::net::{TcpListener, TcpStream};
+use std::sync::{Arc, Condvar, Mutex, Wait};
+use std::thread::{JoinHandle, Threads};
+
+/// The places of threads that are done and were not joined.
+#[derive(Drop)]
+pub struct Done {
+    places: Mutex<Vec<usize>>,
+    told: Condvar,
+}
+
+impl Done {
+    /// None is done.
+    fn new(alloc: Global) -> Done {
+        Done {
+            places: Mutex::new(Vec::new(alloc)),
+            told: Condvar::new(),
+        }
+    }
+
+    /// Makes room for the places of so many threads.
+    fn reserve(&self, rt: &impl Wait, threads: usize) -> Result<(), AllocError> {
+        self.places.lock(rt).reserve(threads)
+    }
+
+    /// Tells that the thread of a place is about to end. There is room for it.
+    pub fn tell(&self, rt: &impl Wait, place: usize) {
+        let _ = self.places.lock(rt).push(place);
+        self.told.notify_one();
+    }
+
+    /// Takes a place out at which no thread runs.
+    fn forget(&self, rt: &impl Wait, place: usize) {
+        self.places.lock(rt).retain(|told| *told != place);
+    }
+
+    /// Takes a place that was told.
+    fn take(&self, rt: &impl Wait) -> Option<usize> {
+        self.places.lock(rt).pop()
+    }
+
+    /// Waits for a place that is told, and takes it.
+    fn wait(&self, rt: &impl Wait) -> usize {
+        let mut guard = self.places.lock(rt);
+        for _ in rt.forever() {
+            match guard.pop() {
+                Some(place) => return place,
+                None => guard = self.told.wait(rt, guard),
+            }
+        }
+        unreachable!()
+    }
+}
+
+/// Whether an accept failed since its client has gone or cannot be reached any more.
+fn is_of_client(kind: ErrorKind) -> bool {
+    matches!(
+        kind,
+        ErrorKind::ConnectionAborted
+            | ErrorKind::ConnectionReset
+            | ErrorKind::HostUnreachable
+            | ErrorKind::NetworkDown
+            | ErrorKind::NetworkUnreachable
+    )
+}
+
+/// Threads that serve a connection each, by their places, and the seats that no thread has.
+#[derive(Drop)]
+pub struct Workers<L: Seating> {
+    running: Slab<JoinHandle<Seat<L>>>,
+    seats: Vec<Seat<L>>,
+    done: Arc<Done>,
+}
+
+impl<L: Seating + Send + Sync + 'static> Workers<L> {
+    /// None.
+    pub fn new(alloc: Global) -> Result<Workers<L>, AllocError> {
+        Ok(Workers {
+            running: Slab::new(alloc),
+            seats: Vec::new(alloc),
+            done: Arc::new(alloc, Done::new(alloc))?,
+        })
+    }
+
+    /// Makes room for one thread more, its seat and its end. Answers its place, and where it tells its end.
+    pub fn reserve(&mut self, rt: &impl Wait) -> Result<(usize, Arc<Done>), AllocError> {
+        self.running.reserve(1)?;
+        let threads = self.running.len().saturating_add(1);
+        self.seats.reserve(threads)?;
+        self.done.reserve(rt, threads)?;
+        let done = Arc::try_clone(&self.done)?;
+        Ok((self.running.vacant_key(), done))
+    }
+
+    /// A seat that is free, or else a new one. None where the service has no more.
+    pub fn take_seat<C: Takings>(
+        &mut self,
+        rt: &impl Wait,
+        shared: &SharedService<L, C>,
+    ) -> Option<Seat<L>> {
+        match self.seats.pop() {
+            Some(seat) => Some(seat),
+            None => shared.seat(rt).ok(),
+        }
+    }
+
+    /// Takes a thread in, at the place that `reserve` answered last.
+    pub fn add(&mut self, thread: JoinHandle<Seat<L>>) {
+        let _ = self.running.insert(thread);
+    }
+
+    /// Takes back a seat whose work was done here, though the end of a thread was told.
+    pub fn give_back(&mut self, rt: &impl Wait, place: usize, seat: Seat<L>) {
+        self.done.forget(rt, place);
+        self.keep(seat);
+    }
+
+    /// Keeps a seat. Without memory it is lost, and `SharedService::finish` then hands all back.
+    fn keep(&mut self, seat: Seat<L>) {
+        let _ = self.seats.push(seat);
+    }
+
+    /// The next connection; meanwhile threads that are done are joined. None where accepting fails while nobody is connected.
+    pub fn accept<R: Threads + Wait>(&mut self, rt: &R, listener: &TcpListener) -> Option<TcpStream> {
+        for _try in rt.forever() {
+            self.join_done(rt);
+            let error = match listener.accept() {
+                Ok((stream, _)) => return Some(stream),
+                Err(error) => error,
+            };
+            if !is_of_client(error.kind()) {
+                if self.running.is_empty() {
+                    return None;
+                }
+                self.join_next(rt);
+            }
+        }
+        unreachable!()
+    }
+
+    /// Joins the threads that are done, which takes no time for those that run.
+    fn join_done<R: Threads + Wait>(&mut self, rt: &R) {
+        for _joined in 0..self.running.len() {
+            match self.done.take(rt) {
+                Some(place) => self.join(rt, place),
+                None => return,
+            }
+        }
+    }
+
+    /// Waits until a thread is done, and joins it.
+    fn join_next<R: Threads + Wait>(&mut self, rt: &R) {
+        let place = self.done.wait(rt);
+        self.join(rt, place);
+    }
+
+    /// Joins the thread of a place.
+    fn join<R: Threads + Wait>(&mut self, rt: &R, place: usize) {
+        if let Some(thread) = self.running.try_remove(place) {
+            self.keep(thread.join(rt));
+        }
+    }
+
+    /// Joins all, and answers the seats, in no order.
+    pub fn finish(self, rt: &impl Threads) -> Vec<Seat<L>> {
+        let Workers {
+            mut running,
+            mut seats,
+            done: _,
+        } = self;
+        for thread in running.drain() {
+            let _ = seats.push(thread.join(rt));
+        }
+        seats
+    }
+}
