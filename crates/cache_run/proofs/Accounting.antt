@@ -1,10 +1,9 @@
 -- What becomes of the loads of a namespace, call by call.
-use Rattle.std.proofs.Common.{◌≡◌, ◌≢◌, ℕ, zero, suc, ◌+◌, ◌-◌, ◌<◌, ◌≤◌, ◌==◌, ◌&&◌, ◌||◌, not, nat_lt, nat_le, Bool, true, false, List, [], ◌∷◌, length, take, Option, Some, is_some, cond, refl, sym, ap, ◌∙◌, subst, arith, inl, inr, ⊎_elim}
+use Rattle.std.proofs.Common.{◌≡◌, ℕ, suc, ◌+◌, ◌-◌, ◌<◌, ◌≤◌, ◌==◌, ◌&&◌, ◌||◌, not, nat_lt, nat_le, Bool, true, false, List, [], ◌∷◌, length, Some, is_some, cond, refl, sym, ap, ◌∙◌, subst, arith, inl, inr, ⊎_elim}
 use Rattle.std.specs.Prelude.{◌⊎◌}
-use Rattle.std.specs.List.{find, slice_get}
+use Rattle.std.specs.List.{find}
 use Rattle.std.specs.Option.{option_map}
-use Rattle.std.proofs.lemmas.Bool.{and_from, and_parts, cases_lt, eq-eqb, eqb-true, le-leb, leb-true, lt-ltb, ltb-true, ne_eqb, or_cases, or_left, or_right}
-use Rattle.std.proofs.lemmas.Option.{none-some, same_Some}
+use Rattle.std.proofs.lemmas.Bool.{and_from, and_parts, cases_lt, eq-eqb, eqb-true, le-leb, leb-true, lt-ltb, ltb-true, or_cases, or_left, or_right}
 use Rattle.audit_model.specs.Follows.{Follows, after_event, tasks_in}
 use Rattle.audit_model.specs.Situation.{Situation, PendingLoad}
 use Rattle.audit_model.specs.declared.event.Event.{Event}
@@ -12,18 +11,16 @@ use Rattle.audit_model.specs.declared.event.Event.TheVariants as event
 use Rattle.audit_model.specs.declared.input.LoadId.{LoadId}
 use Rattle.audit_model.specs.declared.transcript.Record.{Record}
 use Rattle.cache_loads.specs.Keys.{are_in_turn}
-use Rattle.cache_spaces.specs.Calls.{At, ServesEvent, Settled, TakesLoads, TakesOutput}
+use Rattle.cache_spaces.specs.Calls.{ServesEvent, Settled, TakesLoads, TakesOutput}
 use Rattle.cache_spaces.specs.Sound.{IsSound}
 use Rattle.cache_spaces.specs.Spaces.{StandsFor, config_of, known_of, outgoing_of, place_of, taken_of}
 use Rattle.audit_waiting_laws.specs.Sending.{IsSettlingOf, are_all, are_others, are_old_or_later, is_under_way}
 use Rattle.audit_waiting_laws.proofs.Sending.{all-from, all-own, all-without, one-of, passes-record, settle}
-use Rattle.cache_run.specs.Accounts.{Accounts, AddsNoLoads, HasTakenAll, KeepsLoads, SendsLater, SettlesLoad, are_accounted, is_left, pending_of, were_taken}
+use Rattle.cache_run.specs.Accounts.{Accounts, AddsNoLoads, KeepsLoads, SendsLater, SettlesLoad, are_accounted, is_left, pending_of, were_taken}
 use Rattle.cache_run.specs.Connected.{HasSituation}
-use Rattle.cache_run.specs.Loading.{GivesLoads}
 use Rattle.cache_spaces.specs.Bares.{BareSpace, bare_tape}
 use Rattle.cache_run.proofs.Opening.{IsPlain, quiet-steps}
-use Rattle.cache_run.proofs.Placing.{at-given-was, at-is, at-map, at-more, at-same, at-was}
-use Rattle.cache_run.proofs.Happening.{HasSituationAt, IsSoundAt, happened-so, pending-is, sent-is}
+use Rattle.cache_run.proofs.Happening.{pending-is, sent-is}
 
 -- ---- loads are sent later, or not at all
 
@@ -60,20 +57,6 @@ later-same x = later-kept x x (keeps-same x)
 pub later-output : (was is : BareSpace) (number : ℕ) (text : List ℕ) → TakesOutput was is number text → SendsLater was is
 later-output was is number text t = record { taken = ap taken_of t.rest; loads = ap (λ l. are_old_or_later (pending_of was) (taken_of was) l) (ap pending_of t.rest) ∙ (later-same was).loads }
 
-pub later-more : (x y z : BareSpace) → SendsLater x y → SendsLater y z → SendsLater x z
-later-more x y z a b =
-    let p : ℕ → Bool = λ n. is_under_way n (pending_of x) || nat_lt (taken_of x) n in
-    let q : ℕ → Bool = λ n. is_under_way n (pending_of y) || nat_lt (taken_of y) n in
-    let same = a.taken in
-    record {
-      taken = b.taken ∙ a.taken;
-      loads = all-from q q p (pending_of z)
-          (λ n here again.
-          ⊎_elim (λ under. one-of p n (pending_of y) a.loads under)
-          (λ above. or_right (is_under_way n (pending_of x)) (nat_lt (taken_of x) n) (let lt = ltb-true (taken_of y) n above in lt-ltb (taken_of x) n (omega (arith, lt, same)))) (or_cases (is_under_way n (pending_of y)) (nat_lt (taken_of y) n) here))
-          b.loads b.loads;
-    }
-
 -- ---- a load is settled
 
 pub settles-load : (number : ℕ) (was is : BareSpace) (happened : Event) → IsSettlingOf number happened → HasSituation was → Settled bare_tape was is happened → SettlesLoad number was is
@@ -101,26 +84,6 @@ others-unknown number was unknown = unfound number (pending_of was) unknown
 
 pub settles-unknown : (number : ℕ) (x : BareSpace) → (known_of x).is_under_way number ≡ false → SettlesLoad number x x
 settles-unknown number x unknown = record { later = later-same x; settled = λ taken. others-unknown number x unknown }
-
--- behind a call that takes no load
-pub settles-behind : (number : ℕ) (x y z : BareSpace) → SendsLater x y → SettlesLoad number y z → SettlesLoad number x z
-settles-behind number x y z a b = let same = a.taken in record { later = later-more x y z a b.later; settled = λ taken. b.settled (omega (arith, taken, same)) }
-
--- before such a call
-pub settles-before : (number : ℕ) (x y z : BareSpace) → SettlesLoad number x y → SendsLater y z → SettlesLoad number x z
-settles-before number x y z a b =
-    let q : ℕ → Bool = λ n. is_under_way n (pending_of y) || nat_lt (taken_of y) n in
-    let r : ℕ → Bool = λ n. not (n == number) in
-    let same = a.later.taken in
-    record {
-      later = later-more x y z a.later b;
-      settled = λ taken.
-          all-from q q r (pending_of z)
-          (λ n here again.
-          ⊎_elim (λ under. one-of r n (pending_of y) (a.settled taken) under)
-          (λ above. let lt = ltb-true (taken_of y) n above in ap not (ne_eqb n number (λ e. absurd (omega (arith, lt, same, taken, e))))) (or_cases (is_under_way n (pending_of y)) (nat_lt (taken_of y) n) here))
-          b.loads b.loads;
-    }
 
 -- ---- loads that were taken
 
@@ -200,49 +163,6 @@ accounts-settled was is number before after left fewer but l =
           (λ lt. inr (omega (arith, lt, same))) c);
     }
 
--- ---- the last of them is taken off
-
-split-last : (m : ℕ) (outs : Outs) (out : LoadId × List ℕ) (n : ℕ) → length outs ≡ suc m → slice_get outs m ≡ Some out → is_left n outs ≡ true → (is_left n (take m outs) ≡ true) ⊎ (n ≡ out.0.number)
-split-last m [] out n count at left = let no : false ≡ true = left in cc
-split-last zero (o ∷ []) out n count at left =
-    ⊎_elim (λ here. inr (sym (eqb-true o.0.number n here) ∙ ap (λ (x : LoadId × List ℕ). x.0.number) (same_Some o out at))) (λ later. let no : false ≡ true = later in cc) (or_cases (o.0.number == n) false left)
-split-last zero (o ∷ p ∷ outs) out n count at left = absurd (omega (arith, count))
-split-last (suc m) (o ∷ outs) out n count at left =
-    ⊎_elim (λ here. inl (or_left (o.0.number == n) (is_left n (take m outs)) here))
-    (λ later. ⊎_elim (λ rest. inl (or_right (o.0.number == n) (is_left n (take m outs)) rest)) (λ is. inr is) (split-last m outs out n (omega (arith, count)) at later)) (or_cases (o.0.number == n) (is_left n outs) left)
-
-left-at : (m : ℕ) (outs : Outs) (out : LoadId × List ℕ) → slice_get outs m ≡ Some out → is_left out.0.number outs ≡ true
-left-at m [] out at = absurd (none-some out at)
-left-at zero (o ∷ outs) out at = or_left (o.0.number == out.0.number) (is_left out.0.number outs) (eq-eqb o.0.number out.0.number (ap (λ (x : LoadId × List ℕ). x.0.number) (same_Some o out at)))
-left-at (suc m) (o ∷ outs) out at = or_right (o.0.number == out.0.number) (is_left out.0.number outs) (left-at m outs out at)
-
-taken-first : (taken m : ℕ) (outs : Outs) → were_taken taken outs ≡ true → were_taken taken (take m outs) ≡ true
-taken-first taken zero outs e = refl
-taken-first taken (suc m) [] e = refl
-taken-first taken (suc m) (o ∷ outs) e = let parts = and_parts (nat_le o.0.number taken) (were_taken taken outs) e in and_from (nat_le o.0.number taken) (were_taken taken (take m outs)) parts.0 (taken-first taken m outs parts.1)
-
-count-at : (m : ℕ) (outs : Outs) (out : LoadId × List ℕ) → m ≡ length outs - 1 → slice_get outs m ≡ Some out → length outs ≡ suc m
-count-at m [] out is at = absurd (none-some out at)
-count-at m (o ∷ outs) out is at = omega (arith, is)
-
--- the last of those that were taken is settled
-pub accounts-last : (was is : BareSpace) (outs seen after : Outs) (out : LoadId × List ℕ) (last : Option (LoadId × List ℕ)) (count : ℕ) → seen ≡ outs → last ≡ slice_get seen (length seen - 1) → last ≡ Some out → count ≡ length outs
-    → after ≡ take (count - 1) outs → SettlesLoad out.0.number was is → Accounts was is outs after
-accounts-last was is outs seen after out last count same at is_out counted rest l =
-    let m : ℕ = length outs - 1 in
-    let found : slice_get outs m ≡ Some out = ap (λ (xs : Outs). slice_get xs (length xs - 1)) (sym same) ∙ sym at ∙ is_out in
-    subst (λ xs. Accounts was is outs xs) (sym (rest ∙ ap (λ k. take (k - 1) outs) counted))
-    (accounts-settled was is out.0.number outs (take m outs) (left-at m outs out found) (λ taken e. taken-first taken m outs e) (λ n left. split-last m outs out n (count-at m outs out refl found) found left) l)
-
--- none of them is there
-pub none-there : (outs : Outs) (count : ℕ) (empty : Bool) → count ≡ length outs → empty ≡ (count == 0) → empty ≡ true → outs ≡ []
-none-there [] count empty counted is e = refl
-none-there (out ∷ outs) count empty counted is e = let no : false ≡ true = sym (is ∙ ne_eqb count 0 (λ none. absurd (omega (arith, none, counted)))) ∙ e in cc
-
--- one of them is
-pub some-there : (outs : Outs) (count : ℕ) (empty : Bool) → count ≡ length outs → empty ≡ (count == 0) → empty ≡ false → outs ≢ []
-some-there outs count empty counted is e none = let no : true ≡ false = sym (is ∙ eq-eqb count 0 (counted ∙ ap length none)) ∙ e in cc
-
 -- ---- loads are taken
 
 pub in-turn-has : (place before : ℕ) (outs : Outs) (n : ℕ) → are_in_turn place before outs ≡ true → before < n → n ≤ before + length outs → is_left n outs ≡ true
@@ -320,75 +240,6 @@ adds-more x y z a b =
     let p : ℕ → Bool = λ n. is_under_way n (pending_of x) in
     let q : ℕ → Bool = λ n. is_under_way n (pending_of y) in all-from q q p (pending_of z) (λ n under again. one-of p n (pending_of y) a under) b b
 
--- ---- among many
-
--- two facts of the same two
-pub at-both : {X : Type 0} (F G : X → X → Type 0) (xs ys : List X) (n : ℕ) → At xs ys n F → At xs ys n G → At xs ys n (λ x y. F x y × G x y)
-at-both F G xs ys n a b =
-    let was = at-was G xs ys n b a.was a.at in
-    let is = same_Some b.is a.is (sym (at-is G xs ys n b) ∙ at-is F xs ys n a) in
-    record { was = a.was; is = a.is; at = a.at; set = a.set; fact = (a.fact, subst (λ y. G a.was y) is (subst (λ x. G x b.is) was b.fact)) }
-
-module _ (first second third : List BareSpace) (n : ℕ) where
-  pub at-later-more : At first second n SendsLater → At second third n SendsLater → At first third n SendsLater
-  at-later-more a b = at-more SendsLater SendsLater SendsLater first second third n a b later-more
-
-  pub at-accounts-more : (x y z : Outs) → At first second n (λ was is. Accounts was is x y) → At second third n (λ was is. Accounts was is y z) → At first third n (λ was is. Accounts was is x z)
-  at-accounts-more x y z a b = at-more (λ was is. Accounts was is x y) (λ was is. Accounts was is y z) (λ was is. Accounts was is x z) first second third n a b (λ u v w p q. accounts-more u v w x y z p q)
-
-module _ (old new : List BareSpace) (n : ℕ) where
-  pub at-later-takes : (happened : Event) (held : Bool) → HasSituationAt old n → At old new n (λ was is. ServesEvent bare_tape was is happened held) → At old new n SendsLater
-  at-later-takes happened held begun a =
-      at-given-was (λ was is. ServesEvent bare_tape was is happened held) SendsLater old new n a (λ x y at t. later-happened x y happened (begun x at) (happened-so x y happened held t))
-
-  pub at-later-output : (number : ℕ) (text : List ℕ) → At old new n (λ was is. TakesOutput was is number text) → At old new n SendsLater
-  at-later-output number text a = at-map (λ was is. TakesOutput was is number text) SendsLater old new n a (λ x y t. later-output x y number text t)
-
-  pub at-accounts-later : (outs : Outs) → At old new n SendsLater → At old new n (λ was is. Accounts was is outs outs)
-  at-accounts-later outs a = at-map SendsLater (λ was is. Accounts was is outs outs) old new n a (λ x y l. accounts-later x y outs l)
-
-  pub at-accounts-taken : (before loads : Outs) → before ≡ [] → At old new n (GivesLoads loads) → At old new n (λ was is. Accounts was is before loads)
-  at-accounts-taken before loads none a = at-map (GivesLoads loads) (λ was is. Accounts was is before loads) old new n a (λ x y t. accounts-taken x y before loads none t.0 t.1)
-
-  pub at-settles : (number : ℕ) (happened : Event) → IsSettlingOf number happened → HasSituationAt old n → At old new n (λ was is. Settled bare_tape was is happened) → At old new n (SettlesLoad number)
-  at-settles number happened of begun a =
-      at-given-was (λ was is. Settled bare_tape was is happened) (SettlesLoad number) old new n a (λ x y at s. settles-load number x y happened of (begun x at) s)
-
-  -- where each was taken and none is left
-  pub at-adds-none : (before after : Outs) → IsSoundAt new n → before ≡ [] → after ≡ [] → At old new n HasTakenAll → At old new n (λ was is. Accounts was is before after) → At old new n AddsNoLoads
-  at-adds-none before after sound none left out a =
-      let both = at-both (λ was is. Accounts was is before after) HasTakenAll old new n a out in
-      record {
-        was = both.was;
-        is = both.is;
-        at = both.at;
-        set = both.set;
-        fact = adds-none both.was both.is before after (sound both.is (at-is (λ was is. Accounts was is before after × HasTakenAll was is) old new n both)) none left both.fact.1 both.fact.0;
-      }
-
--- where nothing was called
-module _ (spaces : List BareSpace) (n : ℕ) (x : BareSpace) (at : slice_get spaces n ≡ Some x) where
-  pub at-later-same : At spaces spaces n SendsLater
-  at-later-same = at-same SendsLater spaces n x at (later-same x)
-
-  pub at-accounts-still : (outs : Outs) → At spaces spaces n (λ was is. Accounts was is outs outs)
-  at-accounts-still outs = at-same (λ was is. Accounts was is outs outs) spaces n x at (accounts-later x x outs (later-same x))
-
-  pub at-accounts-start : (outs : Outs) → outs ≡ [] → At spaces spaces n (λ was is. Accounts was is [] outs)
-  at-accounts-start outs fresh = subst (λ xs. At spaces spaces n (λ was is. Accounts was is [] xs)) (sym fresh) (at-accounts-still [])
-
-  pub at-adds-still : At spaces spaces n AddsNoLoads
-  at-adds-still = at-same AddsNoLoads spaces n x at (own-loads (pending_of x))
-
-  pub at-settles-unknown : (number : ℕ) → (known_of x).is_under_way number ≡ false → At spaces spaces n (SettlesLoad number)
-  at-settles-unknown number unknown = at-same (SettlesLoad number) spaces n x at (settles-unknown number x unknown)
-
-  pub at-keeps-same : At spaces spaces n KeepsLoads
-  at-keeps-same = at-same KeepsLoads spaces n x at (keeps-same x)
-
-pub at-adds-more : (first second third : List BareSpace) (n : ℕ) → At first second n AddsNoLoads → At second third n AddsNoLoads → At first third n AddsNoLoads
-at-adds-more first second third n a b = at-more AddsNoLoads AddsNoLoads AddsNoLoads first second third n a b adds-more
-
 -- ---- an opening and a closing
 
 -- they take no load, and each that is under way was so before
@@ -405,12 +256,10 @@ keeps-quiet was is happened held quiet idle plain begun takes =
           ∙ quiet begun.some p (ap (are_all p) (pending-is was begun.some begun.stands) ∙ own-loads (pending_of was));
     }
 
-pub at-opens : (old new : List BareSpace) (n number : ℕ) → HasSituationAt old n → At old new n (λ was is. ServesEvent bare_tape was is (event.Open number) false × (number ≡ length was.closings + 1)) → At old new n KeepsLoads
-at-opens old new n number begun a =
-    at-given-was (λ was is. ServesEvent bare_tape was is (event.Open number) false × (number ≡ length was.closings + 1)) KeepsLoads old new n a
-    (λ x y at p. keeps-quiet x y (event.Open number) false (λ s p all. all) (λ s. refl) tt (begun x at) p.0)
+-- a connection was opened
+pub keeps-opened : (was is : BareSpace) (number : ℕ) → HasSituation was → ServesEvent bare_tape was is (event.Open number) false → KeepsLoads was is
+keeps-opened was is number begun takes = keeps-quiet was is (event.Open number) false (λ s p all. all) (λ s. refl) tt begun takes
 
-pub at-closes : (old new : List BareSpace) (n number : ℕ) → HasSituationAt old n → At old new n (λ was is. ServesEvent bare_tape was is (event.Close number) false) → At old new n KeepsLoads
-at-closes old new n number begun a =
-    at-given-was (λ was is. ServesEvent bare_tape was is (event.Close number) false) KeepsLoads old new n a
-    (λ x y at p. keeps-quiet x y (event.Close number) false (λ s p all. all-without p number s.pending all) (λ s. refl) tt (begun x at) p)
+-- it was closed
+pub keeps-closed : (was is : BareSpace) (number : ℕ) → HasSituation was → ServesEvent bare_tape was is (event.Close number) false → KeepsLoads was is
+keeps-closed was is number begun takes = keeps-quiet was is (event.Close number) false (λ s p all. all-without p number s.pending all) (λ s. refl) tt begun takes

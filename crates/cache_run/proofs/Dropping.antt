@@ -1,9 +1,8 @@
 -- Loads that are given up behind a closing.
-use Rattle.std.proofs.Common.{◌≡◌, ℕ, suc, ◌<◌, ◌≤◌, ◌+◌, Bool, true, false, not, ◌&&◌, ◌||◌, ◌==◌, List, [], ◌∷◌, ◌++◌, length, Some, refl, sym, ap, ◌∙◌, subst, arith, append_assoc}
-use Rattle.std.specs.List.{flat_map, list_all, slice_get}
+use Rattle.std.proofs.Common.{◌≡◌, ℕ, suc, ◌≤◌, ◌+◌, Bool, true, false, not, ◌&&◌, ◌||◌, ◌==◌, List, [], ◌∷◌, ◌++◌, length, Some, refl, sym, ap, ◌∙◌, subst, arith, append_assoc}
+use Rattle.std.specs.List.{flat_map, list_all}
 use Rattle.std.proofs.lemmas.Bool.{and_parts, eq-eqb, eqb-true}
 use Rattle.std.proofs.lemmas.List.{append-nil}
-use Rattle.std.proofs.lemmas.Option.{slice_get_within}
 use Rattle.std.proofs.lemmas.Grind.{flat_map-append}
 use Rattle.audit_laws.proofs.Views.{same-true}
 use Rattle.audit_model.specs.Bytewise.{same}
@@ -17,17 +16,16 @@ use Rattle.audit_waiting_laws.specs.Keys.{HasKey}
 use Rattle.cache_core.specs.Settling.{giving_up}
 use Rattle.cache_core.specs.Turned.{notes_in}
 use Rattle.cache_spaces.specs.Calls as served
-use Rattle.cache_spaces.specs.Calls.{At, InSpace, TakesLoads}
-use Rattle.cache_spaces.specs.Spaces.{closing_of, config_of, notices_of, outgoing_of, place_of, taken_of}
+use Rattle.cache_spaces.specs.Calls.{TakesLoads}
+use Rattle.cache_spaces.specs.Spaces.{StandsFor, closing_of, config_of, notices_of, outgoing_of, place_of, taken_of}
 use Rattle.cache_spaces.specs.Bares.{BareSpace, bare_tape}
 use Rattle.cache_run.specs.Connected.{HasSituation}
 use Rattle.cache_run.specs.Happened.{AreDrops}
-use Rattle.cache_run.specs.Loading.{AreKnown, GivesLoads, OnlyGivesUp, GivesUpLoads, SameButLoads, TakesMore}
+use Rattle.cache_run.specs.Loading.{AreKnown, GivesLoads, OnlyGivesUp, GivesUpLoads, SameButLoads}
 use Rattle.cache_run.proofs.Accounting.{taken-count}
 use Rattle.cache_run.proofs.Carrying.{record-one, records-more}
-use Rattle.cache_run.proofs.Going.{goes-more, goes-same, still-stands}
-use Rattle.cache_run.proofs.Placing.{at-given-was, at-is, at-map, at-more, at-same}
-use Rattle.cache_run.proofs.Happening.{HasSituationAt, goes-by, pending-is, sent-is, situation-behind, stays-closed}
+use Rattle.cache_run.proofs.Going.{goes-more, goes-same}
+use Rattle.cache_run.proofs.Happening.{goes-by, pending-is, sent-is, stays-closed}
 
 pub drops-more : (xs ys : List Record) → AreDrops xs → AreDrops ys → AreDrops (xs ++ ys)
 drops-more [] ys a b = b
@@ -69,6 +67,13 @@ known-taken place before (out ∷ outs) s turn few have =
     let keys = and_parts (has_its_key s.pending out) (have_their_keys s.pending outs) have in
     ((omega (arith, few, is), key-out out s.pending keys.0), known-taken place (suc before) outs s ours.1 (omega (arith, few)) keys.1)
 
+-- loads that are taken have the keys that they come with
+pub known-given : (was is : BareSpace) (loads : List (LoadId × List ℕ)) (s : Situation) → GivesLoads loads was is → StandsFor was s → AreKnown loads s
+known-given was is loads s t stands =
+    let count = taken-count was is loads t.0 t.1 in
+    let sent = sent-is was s stands in
+    known-taken (place_of was) (taken_of was) loads s t.1.in_turn (omega (arith, count, sent)) (ap (λ l. have_their_keys l loads) (pending-is was s stands) ∙ t.1.keys)
+
 -- nothing was given up
 pub drops-none : (number : ℕ) (was is : BareSpace) → SameButLoads was is → GivesUpLoads number was is
 drops-none number was is same = (
@@ -96,55 +101,3 @@ drops-one number was is load begun settled = (
       }),
   λ closed is_open. closed (sym (stays-closed was is (giving_up load 0) settled number begun closed) ∙ is_open),
 )
-
--- ---- among many
-
-pub known-still : {X : Type 0} (F : X → X → Type 0) (old new : List X) (n : ℕ) → At old new n F → n < length new
-known-still F old new n a = slice_get_within new n a.is (at-is F old new n a)
-
--- loads were taken
-pub at-taken : (old new : List BareSpace) (n : ℕ) (loads : List (LoadId × List ℕ)) → At old new n (GivesLoads loads) → At old new n SameButLoads
-at-taken old new n loads a = at-map (GivesLoads loads) SameButLoads old new n a (λ x y t. taken-same x y loads t.1)
-
--- behind it the namespace stands for a situation
-pub situation-taken : (old new : List BareSpace) (n : ℕ) (loads : List (LoadId × List ℕ)) → At old new n (GivesLoads loads) → InSpace new n HasSituation
-situation-taken old new n loads a = record {
-  space = a.is;
-  at = at-is (GivesLoads loads) old new n a;
-  fact = record { some = a.fact.0.some; stands = still-stands a.was a.is a.fact.0.some (taken-same a.was a.is loads a.fact.1) a.fact.0.stands };
-}
-
--- and are known
-pub at-more-taken : (old new : List BareSpace) (n : ℕ) (before loads : List (LoadId × List ℕ)) → At old new n (GivesLoads loads) → At old new n (λ was is. TakesMore was is before loads)
-at-more-taken old new n before loads a =
-    at-map (GivesLoads loads) (λ was is. TakesMore was is before loads) old new n a
-    (λ x y t. record {
-      same = taken-same x y loads t.1;
-      known = λ s stands known.
-          let count = taken-count x y loads t.0 t.1 in
-          let sent = sent-is x s stands in
-          known-taken (place_of x) (taken_of x) loads s t.1.in_turn (omega (arith, count, sent)) (ap (λ l. have_their_keys l loads) (pending-is x s stands) ∙ t.1.keys);
-    })
-
-module _ (number n : ℕ) where
-  pub at-drop : (old new : List BareSpace) (load : ℕ) → HasSituationAt old n → At old new n (λ was is. served.Settled bare_tape was is (giving_up load 0)) → At old new n (GivesUpLoads number)
-  at-drop old new load begun a =
-      at-given-was (λ was is. served.Settled bare_tape was is (giving_up load 0)) (GivesUpLoads number) old new n a (λ x y at settled. drops-one number x y load (begun x at) settled)
-
-  -- behind it the namespace stands for a situation
-  pub situation-dropped : (old new : List BareSpace) (load : ℕ) → HasSituationAt old n → At old new n (λ was is. served.Settled bare_tape was is (giving_up load 0)) → InSpace new n HasSituation
-  situation-dropped old new load begun a = record {
-    space = a.is;
-    at = at-is (λ was is. served.Settled bare_tape was is (giving_up load 0)) old new n a;
-    fact = situation-behind a.was a.is (giving_up load 0) a.fact (begun a.was a.at);
-  }
-
-  pub at-undropped : (old new : List BareSpace) → At old new n SameButLoads → At old new n (GivesUpLoads number)
-  at-undropped old new a = at-map SameButLoads (GivesUpLoads number) old new n a (λ x y same. drops-none number x y same)
-
-  -- nothing was called
-  pub at-undropped-still : (spaces : List BareSpace) (x : BareSpace) → slice_get spaces n ≡ Some x → At spaces spaces n (GivesUpLoads number)
-  at-undropped-still spaces x at = at-same (GivesUpLoads number) spaces n x at (drops-none number x x refl)
-
-  pub at-drops-more : (first second third : List BareSpace) → At first second n (GivesUpLoads number) → At second third n (GivesUpLoads number) → At first third n (GivesUpLoads number)
-  at-drops-more first second third a b = at-more (GivesUpLoads number) (GivesUpLoads number) (GivesUpLoads number) first second third n a b (λ x y z p q. drops-again number x y z p q)

@@ -1,5 +1,5 @@
 -- How a namespace goes on by several calls.
-use Rattle.std.proofs.Common.{◌≡◌, ◌≢◌, ℕ, zero, suc, ◌-◌, ◌<◌, nat_lt, nat_le, Bool, List, [], ◌∷◌, ◌++◌, length, Option, Some, refl, sym, ap, ◌∙◌, subst, arith, inl, inr}
+use Rattle.std.proofs.Common.{◌≡◌, ◌≢◌, ℕ, zero, suc, ◌-◌, ◌<◌, nat_lt, nat_le, List, [], ◌∷◌, ◌++◌, length, Option, refl, sym, ap, ◌∙◌, subst, arith}
 use Rattle.std.specs.Prelude.{slice_set, unwrap_or}
 use Rattle.std.specs.List.{slice_get, flat_map}
 use Rattle.std.proofs.lemmas.Bool.{and_parts, ltb-true}
@@ -10,23 +10,17 @@ use Rattle.audit_model.specs.declared.config.Config.{Config}
 use Rattle.audit_model.specs.declared.transcript.Note.{Note}
 use Rattle.audit_model.specs.declared.transcript.Record.{Record}
 use Rattle.cache_core.specs.State.{at_number}
-use Rattle.cache_core.specs.Turned.{feeding, notes_in, replies_to}
+use Rattle.cache_core.specs.Turned.{feeding, notes_in}
 use Rattle.cache_lines.specs.Gathered.{reply_in}
-use Rattle.cache_spaces.specs.Calls.{At, IsOpened, ServesEvent, TakesOutput}
-use Rattle.cache_spaces.specs.Spaces.{StandsFor, closing_of, config_of, notices_of, untaken_output}
-use Rattle.cache_spaces.specs.Bares.{BareSpace, bare_tape}
-use Rattle.cache_run.specs.Connected.{Connected, IsReady}
-use Rattle.cache_run.specs.Delivered.{Answered, IsCause, Unanswered}
+use Rattle.cache_spaces.specs.Calls.{IsOpened, TakesOutput}
+use Rattle.cache_spaces.specs.Spaces.{StandsFor, closing_of, config_of, untaken_output}
+use Rattle.cache_spaces.specs.Bares.{BareSpace}
 use Rattle.cache_run.specs.Goes.{Goes}
-use Rattle.cache_devices.specs.Sources.{Asking}
 use Rattle.cache_run.specs.Happened.{Fed, record_of}
 use Rattle.cache_run.specs.Loading.{SameButLoads}
-use Rattle.cache_devices.specs.declared.errors.RunError.{RunError}
-use Rattle.cache_devices.specs.declared.errors.RunError.TheVariants.{OutOfMemory}
 use Rattle.cache_run.proofs.Carrying.{record-one}
+use Rattle.cache_run.proofs.Led.{Led, led-turn}
 use Rattle.cache_run.proofs.Opening.{IsPlain, plain-record}
-use Rattle.cache_run.proofs.Placing.{at-map, at-more, at-same, at-with}
-use Rattle.cache_run.proofs.Happening.{goes-by, happened-so, own-replies}
 
 -- one after another
 pub goes-more : (number : ℕ) (x y z : BareSpace) (F G H : Situation → Situation → Type 0) → Goes number x y F → Goes number y z G → ((s t u : Situation) → F s t → G t u → H s u) → Goes number x z H
@@ -123,73 +117,13 @@ goes-output number x y z text F taken goes = record {
   config = ap config_of taken.rest ∙ goes.config;
 }
 
--- ---- among many
-
-pub at-goes-more : (number n : ℕ) (xs ys zs : List BareSpace) (F G H : BareSpace → BareSpace → Situation → Situation → Type 0)
-    → At xs ys n (λ was is. Goes number was is (F was is)) → At ys zs n (λ was is. Goes number was is (G was is))
-    → ((x y z : BareSpace) → config_of y ≡ config_of x → (s t u : Situation) → F x y s t → G y z t u → H x z s u)
-    → At xs zs n (λ was is. Goes number was is (H was is))
-at-goes-more number n xs ys zs F G H a b h =
-    at-more (λ was is. Goes number was is (F was is)) (λ was is. Goes number was is (G was is)) (λ was is. Goes number was is (H was is)) xs ys zs n a b
-    (λ x y z p q. goes-more number x y z (F x y) (G y z) (H x z) p q (h x y z p.config))
-
-pub at-goes-map : (number n : ℕ) (xs ys : List BareSpace) (F G : BareSpace → BareSpace → Situation → Situation → Type 0)
-    → At xs ys n (λ was is. Goes number was is (F was is)) → ((x y : BareSpace) (s t : Situation) → F x y s t → G x y s t) → At xs ys n (λ was is. Goes number was is (G was is))
-at-goes-map number n xs ys F G a h =
-    at-map (λ was is. Goes number was is (F was is)) (λ was is. Goes number was is (G was is)) xs ys n a (λ x y p. goes-map number x y (F x y) (G x y) p (h x y))
-
 -- ---- a piece
 
 -- the turn of a piece that was fed
 pub fed-turn : (config : Config) (number : ℕ) (piece : List ℕ) (moment : ℕ) (entry : Record) (s t : Situation) (before after : List Note) (text : List ℕ) → Follows config s entry t → entry.event ≡ feeding number piece moment
-    → after ≡ before ++ notes_in entry → text ≡ flat_map reply_in entry.steps → Answered config number piece moment [] s t before after text
+    → after ≡ before ++ notes_in entry → text ≡ flat_map reply_in entry.steps → Led config number s t before after piece (moment ∷ []) [] text
 fed-turn config number piece moment entry s t before after text follows is notices replies =
     let plain = plain-record config s t entry (feeding number piece moment) follows is (subst IsPlain (sym is) tt) in
     let steps = entry.steps in
-    record {
-      turn = Fed piece moment steps;
-      piece_is = refl;
-      moment_is = refl;
-      asks_are = refl;
-      right = tt;
-      placed = tt;
-      follows = record-one config s (record_of (feeding number piece moment) steps) t (subst (λ e. Follows config s e t) plain follows);
-      notices = notices ∙ ap (λ e. before ++ notes_in e) plain ∙ ap (λ z. before ++ z) (sym (append-nil (flat_map (λ step. step.notices) steps)));
-      replies = replies ∙ sym (append-nil (flat_map reply_in steps));
-    }
-
--- it was fed and its replies were taken
-pub at-answered : (old between new : List BareSpace) (n number : ℕ) (piece : List ℕ) (moment : ℕ) (held : Bool) (text : List ℕ) → Connected old n number IsReady
-    → At old between n (λ was is. ServesEvent bare_tape was is (feeding number piece moment) held) → At between new n (λ was is. TakesOutput was is number text)
-    → At old new n (λ was is. Goes number was is (λ s t. Answered (config_of was) number piece moment [] s t (notices_of was) (notices_of is) text))
-at-answered old between new n number piece moment held text c a b =
-    at-more (λ x y. (untaken_output x number ≡ []) × ServesEvent bare_tape x y (feeding number piece moment) held) (λ y z. TakesOutput y z number text)
-    (λ x z. Goes number x z (λ s t. Answered (config_of x) number piece moment [] s t (notices_of x) (notices_of z) text)) old between new n
-    (at-with (λ x y. ServesEvent bare_tape x y (feeding number piece moment) held) (λ x y. (untaken_output x number ≡ []) × ServesEvent bare_tape x y (feeding number piece moment) held) old between n c.space c.at a (λ y takes. (c.left.1, takes)))
-    b
-    (λ x y z takes taken.
-    goes-output number x y z text (λ s t. Answered (config_of x) number piece moment [] s t (notices_of x) (notices_of z) text) taken
-    (goes-by x y (feeding number piece moment) (happened-so x y (feeding number piece moment) held takes.1) number refl
-    (λ s t. Answered (config_of x) number piece moment [] s t (notices_of x) (notices_of z) text)
-    (λ s t entry is turned follows own stands.
-    fed-turn (config_of x) number piece moment entry s t (notices_of x) (notices_of z) text follows is (ap notices_of taken.rest ∙ turned.notes)
-    (taken.taken ∙ turned.outputs number ∙ ap (λ o. o ++ replies_to number entry.steps) takes.0 ∙ own-replies number entry.steps own))))
-
--- it was fed, and a command was held back
-pub at-held : (old new : List BareSpace) (n number : ℕ) (piece : List ℕ) (moment : ℕ) (held : Bool)
-    → At old new n (λ was is. ServesEvent bare_tape was is (feeding number piece moment) held)
-    → At old new n (λ was is. Goes number was is (λ s t. Unanswered (config_of was) number piece moment [] s t (notices_of was) (notices_of is) OutOfMemory))
-at-held old new n number piece moment held a =
-    at-map (λ x y. ServesEvent bare_tape x y (feeding number piece moment) held) (λ x y. Goes number x y (λ s t. Unanswered (config_of x) number piece moment [] s t (notices_of x) (notices_of y) OutOfMemory)) old new n a
-    (λ x y takes.
-    goes-by x y (feeding number piece moment) (happened-so x y (feeding number piece moment) held takes) number refl
-    (λ s t. Unanswered (config_of x) number piece moment [] s t (notices_of x) (notices_of y) OutOfMemory)
-    (λ s t entry is turned follows own stands.
-    inr (flat_map reply_in entry.steps, fed-turn (config_of x) number piece moment entry s t (notices_of x) (notices_of y) (flat_map reply_in entry.steps) follows is turned.notes refl, refl)))
-
--- it was refused
-pub at-refused : (spaces : List BareSpace) (n number : ℕ) (piece : List ℕ) (moment : ℕ) (asks : List Asking) (e : RunError) (x : BareSpace) → slice_get spaces n ≡ Some x → IsCause moment e
-    → At spaces spaces n (λ was is. Goes number was is (λ s t. Unanswered (config_of was) number piece moment asks s t (notices_of was) (notices_of is) e))
-at-refused spaces n number piece moment asks e x at cause =
-    at-same (λ x y. Goes number x y (λ s t. Unanswered (config_of x) number piece moment asks s t (notices_of x) (notices_of y) e)) spaces n x at
-    (goes-still number x (λ s t. Unanswered (config_of x) number piece moment asks s t (notices_of x) (notices_of x) e) (λ s. inl (record { same = refl; notices = refl }, cause)))
+    led-turn config number s t before after (Fed piece moment steps) text tt tt (record-one config s (record_of (feeding number piece moment) steps) t (subst (λ e. Follows config s e t) plain follows))
+    (notices ∙ ap (λ e. before ++ notes_in e) plain ∙ ap (λ z. before ++ z) (sym (append-nil (flat_map (λ step. step.notices) steps)))) (replies ∙ sym (append-nil (flat_map reply_in steps)))

@@ -1,7 +1,6 @@
 -- What is under way behind loads that are given up where nobody waits.
 use Rattle.std.proofs.Common.{◌≡◌, ◌≢◌, ℕ, ◌==◌, ◌^◌, ◌&&◌, ◌||◌, not, nat_lt, nat_le, Bool, true, false, List, [], ◌∷◌, ◌++◌, Option, None, Some, is_some, refl, sym, ap, ◌∙◌, subst, arith, ⊎_elim}
 use Rattle.std.specs.Prelude.{is_none}
-use Rattle.std.specs.List.{slice_get}
 use Rattle.std.specs.Option.{option_or}
 use Rattle.std.proofs.lemmas.Bool.{and_from, and_parts, cases_lt, eq-eqb, eqb-true, le-leb, leb-true, ltb-true, not-true, or_cases, or_from}
 use Rattle.std.proofs.lemmas.List.Folds.{list_any-append}
@@ -15,7 +14,7 @@ use Rattle.audit_model.specs.declared.input.ServiceError.TheVariants as error
 use Rattle.cache_core.specs.Settling.{giving_up}
 use Rattle.cache_core.specs.State.{situation_with}
 use Rattle.cache_spaces.specs.Calls as served
-use Rattle.cache_spaces.specs.Calls.{At, IsOpened, TakesLoads}
+use Rattle.cache_spaces.specs.Calls.{IsOpened, TakesLoads}
 use Rattle.cache_spaces.specs.Sound.{IsSound}
 use Rattle.cache_spaces.specs.Spaces.{closing_of, config_of, known_of, place_of, taken_of}
 use Rattle.cache_spaces.specs.Stores.{shown_of}
@@ -31,8 +30,9 @@ use Rattle.cache_run.specs.Connected.{HasSituation}
 use Rattle.cache_run.specs.Goes.{Goes}
 use Rattle.cache_run.specs.Loading.{GivesLoads}
 use Rattle.cache_run.proofs.Accounting.{accounts-begun, in-turn-has, loads-same, others-unknown, own-loads, sent-under, taken-count}
-use Rattle.cache_run.proofs.Placing.{at-given-was, at-more, at-same}
-use Rattle.cache_run.proofs.Happening.{HasSituationAt, listed-is, pending-is}
+use Rattle.cache_run.specs.Lent.{Drops, DropsBoth}
+use Rattle.cache_run.proofs.Dropping.{drops-again, drops-none, drops-one, taken-same}
+use Rattle.cache_run.proofs.Happening.{listed-is, pending-is}
 
 -- ---- nobody waits
 
@@ -194,36 +194,28 @@ none-behind x v adds none = go (pending_of v) (ap (λ l. are_all (λ n. is_under
     go [] e = refl
     go (load ∷ loads) e = let no : false ≡ true = e in cc
 
--- ---- among many
+-- ---- and nothing else came
 
-pub at-gone : (old new : List BareSpace) (n load : ℕ) → HasSituationAt old n → At old new n (λ was is. served.Settled bare_tape was is (giving_up load 0)) → At old new n (DropsUnwaited (λ m. m == load))
-at-gone old new n load begun a =
-    at-given-was (λ was is. served.Settled bare_tape was is (giving_up load 0)) (DropsUnwaited (λ m. m == load)) old new n a (λ x y at settled. drops-settled x y load (begun x at) settled)
+module _ (number : ℕ) where
+  -- one was given up
+  pub dropped-settled : (was is : BareSpace) (load : ℕ) → HasSituation was → served.Settled bare_tape was is (giving_up load 0) → Drops number (λ n. n == load) was is
+  dropped-settled was is load begun settled = record { gives = drops-one number was is load begun settled; gone = drops-settled was is load begun settled }
 
--- it is not under way
-pub at-gone-before : (spaces : List BareSpace) (n load : ℕ) (e : ServiceError) (x : BareSpace) → slice_get spaces n ≡ Some x → refusal_of (config_of x) (known_of x) (giving_up load 0) ≡ Some e → At spaces spaces n (DropsUnwaited (λ m. m == load))
-at-gone-before spaces n load e x at refused = at-same (DropsUnwaited (λ m. m == load)) spaces n x at (drops-unknown x load (refused-unknown x load e refused))
+  -- it is not under way
+  pub dropped-unknown : (x : BareSpace) (load : ℕ) (e : ServiceError) → refusal_of (config_of x) (known_of x) (giving_up load 0) ≡ Some e → Drops number (λ n. n == load) x x
+  dropped-unknown x load e refused = record { gives = drops-none number x x refl; gone = drops-unknown x load (refused-unknown x load e refused) }
 
--- none was given up
-pub at-gone-none : (spaces : List BareSpace) (n : ℕ) (x : BareSpace) → slice_get spaces n ≡ Some x → At spaces spaces n (DropsUnwaited (λ m. is_left m []))
-at-gone-none spaces n x at = at-same (DropsUnwaited (λ m. is_left m [])) spaces n x at (drops-still x)
+  -- none was
+  pub dropped-none : (x : BareSpace) → Drops number (λ n. is_left n []) x x
+  dropped-none x = record { gives = drops-none number x x refl; gone = drops-still x }
 
-pub at-gone-next : (first second third : List BareSpace) (n : ℕ) (outs all : List (LoadId × List ℕ)) (out : LoadId × List ℕ) (load : ℕ) → all ≡ outs ++ out ∷ [] → load ≡ out.0.number
-    → At first second n (DropsUnwaited (λ m. is_left m outs)) → At second third n (DropsUnwaited (λ m. m == load)) → At first third n (DropsUnwaited (λ m. is_left m all))
-at-gone-next first second third n outs all out load whole is a b =
-    at-more (DropsUnwaited (λ m. is_left m outs)) (DropsUnwaited (λ m. m == load)) (DropsUnwaited (λ m. is_left m all)) first second third n a b (λ x y z p q. drops-next outs all out load x y z whole is p q)
+  -- the next of them
+  pub dropped-next : (outs all : List (LoadId × List ℕ)) (out : LoadId × List ℕ) (load : ℕ) (x y z : BareSpace) → all ≡ outs ++ out ∷ [] → load ≡ out.0.number → Drops number (λ n. is_left n outs) x y → Drops number (λ n. n == load) y z → Drops number (λ n. is_left n all) x z
+  dropped-next outs all out load x y z whole is p q = record { gives = drops-again number x y z p.gives q.gives; gone = drops-next outs all out load x y z whole is p.gone q.gone }
 
-pub at-gone-all : (first second third fourth : List BareSpace) (n : ℕ) (outs loads : List (LoadId × List ℕ))
-    → At first second n (DropsUnwaited (λ m. is_left m outs)) → At second third n (GivesLoads loads) → At third fourth n (DropsUnwaited (λ m. is_left m loads)) → At first fourth n (DropsAll outs)
-at-gone-all first second third fourth n outs loads a b c =
-    at-more (DropsUnwaited (λ m. is_left m outs)) (λ y w. (z : BareSpace) × IsSound bare_tape y × TakesLoads y z loads × DropsUnwaited (λ m. is_left m loads) z w) (DropsAll outs) first second fourth n a
-    (at-more (GivesLoads loads) (DropsUnwaited (λ m. is_left m loads)) (λ y w. (z : BareSpace) × IsSound bare_tape y × TakesLoads y z loads × DropsUnwaited (λ m. is_left m loads) z w) second third fourth n
-    b c (λ y z w p q. (z, p.0, p.1, q)))
-    (λ x y w p q. drops-all outs loads x y q.0 w q.1 p q.2 q.3)
-
--- the same loads
-pub at-gone-same : (old new : List BareSpace) (n : ℕ) (outs all : List (LoadId × List ℕ)) → outs ≡ all → At old new n (DropsUnwaited (λ m. is_left m outs)) → At old new n (DropsUnwaited (λ m. is_left m all))
-at-gone-same old new n outs all same a = subst (λ xs. At old new n (DropsUnwaited (λ m. is_left m xs))) same a
-
-pub at-drops-same : (old new : List BareSpace) (n : ℕ) (outs all : List (LoadId × List ℕ)) → outs ≡ all → At old new n (DropsAll outs) → At old new n (DropsAll all)
-at-drops-same old new n outs all same a = subst (λ xs. At old new n (DropsAll xs)) same a
+  -- those in hand, and then those that had gone out
+  pub dropped-both : (hand loads : List (LoadId × List ℕ)) (x y z w : BareSpace) → Drops number (λ n. is_left n hand) x y → GivesLoads loads y z → Drops number (λ n. is_left n loads) z w → DropsBoth number hand x w
+  dropped-both hand loads x y z w p t q = record {
+    gives = drops-again number x y w p.gives (drops-again number y z w (drops-none number y z (taken-same y z loads t.1)) q.gives);
+    gone = drops-all hand loads x y z w t.0 p.gone t.1 q.gone;
+  }

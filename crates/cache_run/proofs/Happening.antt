@@ -50,10 +50,6 @@ listed-is x s number sound stands opened = ap (λ (t : Situation). is_some (conn
 pub situation-of : (x : BareSpace) → IsSound bare_tape x → HasSituation x
 situation-of x sound = record { some = sound.some; stands = sound.stands }
 
--- each namespace of that number stands for a situation
-abbrev pub HasSituationAt : List BareSpace → ℕ → Type 0
-HasSituationAt spaces n = (x : BareSpace) → slice_get spaces n ≡ Some x → HasSituation x
-
 -- each namespace of that number is sound
 abbrev pub IsSoundAt : List BareSpace → ℕ → Type 0
 IsSoundAt spaces n = (x : BareSpace) → slice_get spaces n ≡ Some x → IsSound bare_tape x

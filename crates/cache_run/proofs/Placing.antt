@@ -1,9 +1,10 @@
 -- One of many in the place of another, over several calls.
-use Rattle.std.proofs.Common.{◌≡◌, ℕ, zero, suc, ◌<◌, List, [], ◌∷◌, length, Some, refl, sym, ap, ◌∙◌, subst, arith}
+use Rattle.std.proofs.Common.{◌≡◌, ℕ, zero, suc, ◌<◌, ◌≤◌, List, [], ◌∷◌, length, Some, refl, sym, ap, ◌∙◌, subst, arith, inl, inr}
 use Rattle.std.specs.Prelude.{slice_set}
 use Rattle.std.specs.List.{slice_get}
 use Rattle.std.proofs.lemmas.Option.{slice_get_within, same_Some}
-use Rattle.cache_spaces.specs.Calls.{At}
+use Rattle.audit_model.specs.declared.input.ServiceError.{ServiceError}
+use Rattle.cache_spaces.specs.Calls.{At, InSpace, Refuses}
 
 set-again : {X : Type 0} (xs : List X) (n : ℕ) (a b : X) → slice_set (slice_set xs n a) n b ≡ slice_set xs n b
 set-again [] n a b = refl
@@ -48,15 +49,9 @@ at-same F xs n x at fact = record { was = x; is = x; at = at; set = set-same xs 
 pub at-map : {X : Type 0} (F G : X → X → Type 0) (xs ys : List X) (n : ℕ) → At xs ys n F → ((x y : X) → F x y → G x y) → At xs ys n G
 at-map F G xs ys n a h = record { was = a.was; is = a.is; at = a.at; set = a.set; fact = h a.was a.is a.fact }
 
--- another fact, by what is known of what stood there
-pub at-with : {X : Type 0} (F G : X → X → Type 0) (xs ys : List X) (n : ℕ) (x : X) → slice_get xs n ≡ Some x → At xs ys n F → ((y : X) → F x y → G x y) → At xs ys n G
-at-with F G xs ys n x at a h =
-    let same = at-was F xs ys n a x at in
-    record { was = x; is = a.is; at = at; set = a.set; fact = h a.is (subst (λ w. F w a.is) same a.fact) }
-
--- another fact, by where the first stood
-pub at-given-was : {X : Type 0} (F G : X → X → Type 0) (xs ys : List X) (n : ℕ) → At xs ys n F → ((x y : X) → slice_get xs n ≡ Some x → F x y → G x y) → At xs ys n G
-at-given-was F G xs ys n a h = record { was = a.was; is = a.is; at = a.at; set = a.set; fact = h a.was a.is a.at a.fact }
+-- another fact, by where the two stand
+pub at-given : {X : Type 0} (F G : X → X → Type 0) (xs ys : List X) (n : ℕ) → At xs ys n F → ((x y : X) → slice_get xs n ≡ Some x → slice_get ys n ≡ Some y → F x y → G x y) → At xs ys n G
+at-given F G xs ys n a h = record { was = a.was; is = a.is; at = a.at; set = a.set; fact = h a.was a.is a.at (at-is F xs ys n a) a.fact }
 
 -- what was left as it was
 pub at-unmoved : {X : Type 0} {F : X → X → Type 0} {n : ℕ} (old new : List X) → new ≡ old → At old old n F → At old new n F
@@ -65,3 +60,24 @@ at-unmoved {X} {F} {n} old new e a = subst (λ l. At old l n F) (sym e) a
 -- what comes behind a call that left it so
 pub at-after : {X : Type 0} {F : X → X → Type 0} {n : ℕ} (old mid new : List X) → mid ≡ old → At mid new n F → At old new n F
 at-after {X} {F} {n} old mid new e a = subst (λ l. At l new n F) e a
+
+-- ---- one that is there
+
+-- what stands at a place
+pub found-at : {X : Type 0} (xs : List X) (i : ℕ) → i < length xs → (x : X) × (slice_get xs i ≡ Some x)
+found-at [] i lt = absurd (omega (arith, lt))
+found-at (x ∷ xs) zero lt = (x, refl)
+found-at (x ∷ xs) (suc i) lt = found-at xs i (omega (arith, lt))
+
+-- there is a namespace of that number
+pub within-not : {X : Type 0} (xs : List X) (n : ℕ) (x : X) → slice_get xs n ≡ Some x → length xs ≤ n → ⊥
+within-not xs n x at past = let within = slice_get_within xs n x at in absurd (omega (arith, within, past))
+
+-- a refusal of one that there is
+pub refused-here : {X : Type 0} (spaces : List X) (n : ℕ) (e : ServiceError) (Cause : X → Type 0) (x : X) → slice_get spaces n ≡ Some x → Refuses spaces n e Cause → Cause x
+refused-here spaces n e Cause x at (inl none) = absurd (within-not spaces n x at none.1)
+refused-here spaces n e Cause x at (inr i) = subst Cause (same_Some i.space x (sym i.at ∙ at)) i.fact
+
+-- what is true of the one of a number is true of this
+pub fact-here : {X : Type 0} (Fact : X → Type 0) (spaces : List X) (n : ℕ) (x : X) → slice_get spaces n ≡ Some x → InSpace spaces n Fact → Fact x
+fact-here Fact spaces n x at i = subst Fact (same_Some i.space x (sym i.at ∙ at)) i.fact

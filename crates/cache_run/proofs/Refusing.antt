@@ -1,5 +1,5 @@
 -- Why a load is not settled.
-use Rattle.std.proofs.Common.{◌≡◌, ◌≢◌, ◌∙◌, ℕ, ◌≤◌, ◌^◌, List, Bool, true, false, not, nat_le, nat_lt, Option, None, Some, is_some, refl, sym, ap, length, inl, inr}
+use Rattle.std.proofs.Common.{◌≡◌, ◌≢◌, ◌∙◌, ℕ, ◌≤◌, ◌^◌, Bool, true, false, not, nat_le, nat_lt, Option, None, Some, is_some, refl, sym, ap, length, inl, inr}
 use Rattle.std.specs.Prelude.{◌⊎◌, ◌||◌, MatchOption}
 use Rattle.std.specs.Option.{option_or}
 use Rattle.std.proofs.lemmas.Bool.{leb-true}
@@ -13,8 +13,7 @@ use Rattle.audit_model.specs.declared.event.Outcome.TheVariants as came
 use Rattle.audit_model.specs.declared.input.ServiceError.{ServiceError}
 use Rattle.audit_model.specs.declared.input.ServiceError.TheVariants as error
 use Rattle.cache_core.specs.Settling.{answering, giving_up}
-use Rattle.cache_core.specs.Turned.{feeding}
-use Rattle.cache_spaces.specs.Calls.{RefusedFor, Refuses}
+use Rattle.cache_spaces.specs.Calls.{RefusedFor}
 use Rattle.cache_spaces.specs.Spaces.{config_of, known_of}
 use Rattle.cache_spaces.specs.Bares.{BareSpace}
 
@@ -35,22 +34,6 @@ under-way-where true false e is ne = absurd (none-some e is)
 
 pub give-up-unknown : (config : Config) (known : Known) (load moment : ℕ) (e : ServiceError) → refusal_of config known (giving_up load moment) ≡ Some e → e ≢ error.Moment → known.is_under_way load ≡ false
 give-up-unknown config known load moment e is ne = under-way-where (known.is_under_way load) (nat_le (2 ^ 63) moment) e is ne
-
--- ---- a feed
-
-fed-late-where : (moment : ℕ) (held was_opened is_open late : Bool) → nat_le (2 ^ 63) moment ≡ late
-    → MatchOption (option_or (option_or (refusal_where (not was_opened) error.NoConnection) (refusal_where (not is_open) error.Closed)) (refusal_where late error.Moment))
-    ((error.Moment ≡ error.OutOfMemory) ⊎ ((error.Moment ≡ error.HeldAgain) × (held ≡ true))) (λ refused. error.Moment ≡ refused)
-    → 2 ^ 63 ≤ moment
-fed-late-where moment held false is_open late is e = let h : error.Moment ≡ error.NoConnection = e in cc
-fed-late-where moment held true false late is e = let h : error.Moment ≡ error.Closed = e in cc
-fed-late-where moment held true true true is e = leb-true (2 ^ 63) moment is
-fed-late-where moment held true true false is (inl e) = let h : error.Moment ≡ error.OutOfMemory = e in cc
-fed-late-where moment held true true false is (inr e) = let h : error.Moment ≡ error.HeldAgain = e.0 in cc
-
--- a feed is refused for its moment only where that is late
-pub fed-late : (space : BareSpace) (number : ℕ) (piece : List ℕ) (moment : ℕ) (held : Bool) → RefusedFor space (feeding number piece moment) held error.Moment → 2 ^ 63 ≤ moment
-fed-late space number piece moment held e = fed-late-where moment held ((known_of space).was_opened number) ((known_of space).is_open number) (nat_le (2 ^ 63) moment) refl e
 
 -- ---- an answer
 
@@ -141,7 +124,3 @@ answer-refused space load outcome moment e r no_load no_moment no_memory = go (a
     go (inr (inl p)) = absurd (no_moment p.0)
     go (inr (inr (inl refused))) = ap is_some refused
     go (inr (inr (inr is))) = absurd (no_memory is)
-
-pub feed-refused-late : (spaces : List BareSpace) (n number : ℕ) (piece : List ℕ) (moment : ℕ) (held : BareSpace → Bool) → Refuses spaces n error.Moment (λ was. RefusedFor was (feeding number piece moment) (held was) error.Moment) → 2 ^ 63 ≤ moment
-feed-refused-late spaces n number piece moment held (inl none) = let h : error.Moment ≡ error.NoNamespace = none.0 in cc
-feed-refused-late spaces n number piece moment held (inr i) = fed-late i.space number piece moment (held i.space) i.fact

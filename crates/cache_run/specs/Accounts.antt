@@ -1,10 +1,10 @@
 -- What becomes of the loads of a namespace.
-use Rattle.std.specs.Prelude.{◌≡◌, ℕ, ◌≤◌, ◌==◌, ◌||◌, ◌&&◌, not, nat_lt, nat_le, Bool, List, [], IsTrue}
+use Rattle.std.specs.Prelude.{◌≡◌, ℕ, ◌≤◌, ◌==◌, ◌||◌, ◌&&◌, not, nat_lt, nat_le, Bool, List, IsTrue}
 use Rattle.std.specs.List.{list_all, list_any}
 use Rattle.audit_model.specs.Bytewise.{is_empty}
 use Rattle.audit_model.specs.Situation.{PendingLoad}
 use Rattle.audit_model.specs.declared.input.LoadId.{LoadId}
-use Rattle.cache_spaces.specs.Spaces.{outgoing_of, taken_of}
+use Rattle.cache_spaces.specs.Spaces.{taken_of}
 use Rattle.audit_waiting_laws.specs.Sending.{are_all, are_others, are_old_or_later, is_under_way}
 use Rattle.cache_spaces.specs.Bares.{BareSpace}
 
@@ -52,10 +52,6 @@ pub record Accounts (was is : BareSpace) (before after : List (LoadId × List �
   pub taken : IsTrue (were_taken (taken_of was) before) → IsTrue (were_taken (taken_of is) after)
   pub loads : (is_kept : ℕ → Bool) → IsTrue (were_taken (taken_of was) before) → IsTrue (are_accounted is_kept before (taken_of was) (pending_of was))
       → IsTrue (are_accounted is_kept after (taken_of is) (pending_of is))
-
--- each load that was sent has been taken
-abbrev pub HasTakenAll : BareSpace → BareSpace → Type 0
-HasTakenAll was is = outgoing_of is ≡ []
 
 -- nobody waits for these loads
 abbrev pub has_no_waiting : List PendingLoad → Bool

@@ -1,12 +1,9 @@
 pub mod Worlds
-pub mod Causes
 pub mod Happened
 pub mod Carried
 pub mod Goes
 pub mod Connected
-pub mod Delivered
-pub mod Turns
 pub mod Loading
 pub mod Accounts
+pub mod Lent
 pub mod Runs
-pub mod Promised

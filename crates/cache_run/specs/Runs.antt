@@ -20,10 +20,10 @@ use Rattle.cache_run.specs.Accounts.{AddsNoLoads, pending_of}
 use Rattle.cache_spaces.specs.Bares.{BareSpace}
 use Rattle.cache_run.specs.Carried.{Broken, Carried, nothing_left}
 use Rattle.cache_run.specs.Connected.{IsEnded}
-use Rattle.cache_run.specs.Delivered.{Unfed}
 use Rattle.cache_run.specs.Goes.{Goes}
 use Rattle.cache_run.specs.Happened.{record_of}
-use Rattle.cache_run.specs.Worlds.{Outside, outside, world}
+use Rattle.cache_driver.specs.Drives.{Outside}
+use Rattle.cache_run.specs.Worlds.{outside, world}
 use Rattle.cache_devices.specs.declared.errors.RunError.{RunError}
 use Rattle.cache_devices.specs.declared.errors.RunError.TheVariants.{OutOfMemory}
 
@@ -34,6 +34,11 @@ next_number space = length space.closings + 1
 -- the event's record follows without steps, and nothing was told
 pub record Quiet (config : Config) (happened : Event) (s t : Situation) (before after : List Note) : Type 0 where
   pub follows : Follows config s (record_of happened []) t
+  pub notices : after ≡ before
+
+-- no record follows, and nothing was told
+pub record Unfed (s t : Situation) (before after : List Note) : Type 0 where
+  pub same : t ≡ s
   pub notices : after ≡ before
 
 -- an open connection closes as asked, and one that has closed for what it was fed stays so

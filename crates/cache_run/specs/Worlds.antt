@@ -4,13 +4,7 @@ use Rattle.audit_model.specs.Situation.{Situation}
 use Rattle.audit_model.specs.declared.transcript.Note.{Note}
 use Rattle.cache_spaces.specs.Spaces.{notices_of}
 use Rattle.cache_spaces.specs.Bares.{BareSpace}
-
--- what a reader has left, what a writer holds, a clock and a loader
-pub record Outside (C L : Type 0) : Type 0 where
-  pub remaining : Option (List ℕ)
-  pub contents : Option (List ℕ)
-  pub clock : C
-  pub loader : L
+use Rattle.cache_driver.specs.Drives.{Outside}
 
 -- a situation, the notes told and not taken, and what stands outside
 pub record World (C L : Type 0) : Type 0 where

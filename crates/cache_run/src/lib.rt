@@ -1,9 +1,10 @@
 //! One connection of a service over a reader and a writer.
 #![tactic(auto)]
 
-mod feeding;
-mod loading;
+mod drops;
+mod giving;
+mod lent;
+mod loads;
 mod serving;
-mod turns;
 
 pub use serving::run;

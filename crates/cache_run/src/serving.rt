@@ -1,123 +1,17 @@
 //! One connection, from its opening to its closing.
-ghost use Rattle.std.specs.Prelude.{◌≡◌, ◌<◌, ◌^◌, ◌-◌, [], length, IfOk, IfErr, OnOk, IsErrOf, MatchResult};
-ghost use Rattle.audit_model.specs.declared.event.Event.TheVariants as event;
-ghost use Rattle.cache_devices.specs.Watched.{device};
-ghost use Rattle.cache_spaces.specs.Bares.{bare_tape};
-ghost use Rattle.cache_spaces.specs.Calls.{At, InSpace, IsOpened};
-ghost use Rattle.cache_spaces.specs.Sound.{IsSound};
-ghost use Rattle.cache_run.specs.Accounts.{Accounts, AddsNoLoads, KeepsLoads, pending_of};
-ghost use Rattle.cache_run.specs.Connected.{Connected, IsFed, IsOver, IsReady};
-ghost use Rattle.cache_run.specs.Runs.{Closes, RunsPartly, RunsWhole};
+ghost use Rattle.std.specs.Prelude.{◌≡◌, ◌<◌, [], length, IfErr, OnOk, IsErrOf};
 ghost use Rattle.cache_devices.specs.Sources.{HasToldLate};
-ghost use Rattle.cache_run.specs.Turns.{Fails, RunsOut};
-ghost use Rattle.cache_run.specs.Promised.{Converses, Opens, StopsFor};
+ghost use Rattle.cache_driver.specs.Causes.{Fails, RunsOut};
+ghost use Rattle.cache_spaces.specs.Calls.{At};
+ghost use Rattle.cache_run.specs.Accounts.{pending_of};
+ghost use Rattle.cache_run.specs.Runs.{RunsPartly, RunsWhole};
 
-use crate::loading::drop_loads;
-use crate::turns::{Progress, take_turn};
-use audit_model::{Bytes, Conn, LoadId};
+use crate::lent::Lent;
 use cache_devices::{Clock, Loader, RunError, Watched};
+use cache_driver::{close, converse, open, outcome_of};
 use cache_spaces::Service;
 use std::alloc::Global;
 use std::io::{Read, Write};
-
-/// The most bytes that are read at once.
-const PIECE_BYTES: usize = 8192;
-
-/// Opens a connection of a namespace that there is.
-fn open_connection(service: &mut Service, namespace: u64) -> Result<Conn, RunError>
-    requires sound { InSpace service.old namespace (λ space. IsSound bare_tape space) }
-    ensures ok { IfOk result (λ conn. Opens conn namespace service.old service.new) }
-    ensures ready { IfOk result (λ conn. Connected service.new conn.namespace conn.number IsReady) }
-    ensures loads { IfOk result (λ conn. At service.old service.new namespace KeepsLoads) }
-    ensures err { IfErr result (λ e. (e ≡ RunError.OutOfMemory) × (service.new ≡ service.old)) }
-{
-    match service.open(namespace) {
-        Ok(conn) => Ok(conn),
-        Err(_) => Err(RunError::OutOfMemory),
-    }
-}
-
-/// Closes a connection, unless it has closed.
-fn close_if_open(service: &mut Service, conn: Conn)
-    requires fed { Connected service.old conn.namespace conn.number IsFed }
-    ensures closes { At service.old service.new conn.namespace (Closes conn.number) }
-    ensures loads { At service.old service.new conn.namespace KeepsLoads }
-    ensures known { InSpace service.new conn.namespace (λ space. IsOpened space conn.number) }
-{
-    service.sound(conn.namespace);
-    match service.close(conn) {
-        Ok(()) => (),
-        // It has closed.
-        Err(_) => (),
-    }
-}
-
-/// Answers the pieces that are read, to the end of the input or until the connection has closed.
-fn converse<R: Read, W: Write, C: Clock, L: Loader>(
-    service: &mut Service,
-    conn: Conn,
-    buffer: &mut [u8],
-    reader: &mut Watched<R>,
-    writer: &mut Watched<W>,
-    clock: &mut C,
-    loader: &mut L,
-    taken: &mut Vec<(LoadId, Bytes)>,
-) -> Result<(), RunError>
-    requires room { 0 < length buffer.old }
-    requires ready { Connected service.old conn.namespace conn.number IsReady }
-    requires fresh { taken.old.items ≡ [] }
-    ensures goes { Converses result R.remaining W.contents C.reads L.loads conn service.old service.new reader.old reader.new writer.old writer.new clock.old clock.new loader.old loader.new }
-    ensures left { MatchResult result (λ done. Connected service.new conn.namespace conn.number (IsOver (R.remaining (device reader.new)))) (λ e. Connected service.new conn.namespace conn.number IsFed) }
-    ensures settled { OnOk result (At service.old service.new conn.namespace AddsNoLoads) }
-    ensures accounted { At service.old service.new conn.namespace (λ was is. Accounts was is [] taken.new.items) }
-    ensures why { IfErr result (StopsFor R.remaining C.reads L.loads reader.old reader.new writer.old writer.new clock.new loader.old loader.new) }
-{
-    for _turn in 0..u64::MAX {
-        match take_turn(service, conn, buffer, reader, writer, clock, loader, taken) {
-            Ok(Progress::More) => {}
-            Ok(Progress::Over) => return Ok(()),
-            Err(error) => return Err(error),
-        }
-    }
-    Err(RunError::UsedUp)
-}
-
-/// Serves one connection of a namespace, and reads into a buffer.
-fn serve_with<R: Read, W: Write, C: Clock, L: Loader>(
-    service: &mut Service,
-    alloc: Global,
-    namespace: u64,
-    buffer: &mut [u8],
-    reader: &mut Watched<R>,
-    writer: &mut Watched<W>,
-    clock: &mut C,
-    loader: &mut L,
-) -> Result<(), RunError>
-    requires known { namespace < length service.old }
-    requires room { 0 < length buffer.old }
-    ensures ok { OnOk result (RunsWhole R.remaining W.contents C.reads L.loads namespace service.old service.new reader.old reader.new writer.old writer.new clock.old clock.new loader.old loader.new) }
-    ensures err { IfErr result (RunsPartly R.remaining W.contents C.reads L.loads namespace service.old service.new reader.old reader.new writer.old writer.new clock.old clock.new loader.old loader.new) }
-    ensures why { IfErr result (StopsFor R.remaining C.reads L.loads reader.old reader.new writer.old writer.new clock.new loader.old loader.new) }
-{
-    service.sound(namespace);
-    let conn = match open_connection(service, namespace) {
-        Ok(conn) => conn,
-        Err(error) => return Err(error),
-    };
-    let mut taken = Vec::new(alloc);
-    let outcome = converse(
-        service, conn, buffer, reader, writer, clock, loader, &mut taken,
-    );
-    close_if_open(service, conn);
-    service.sound(conn.namespace);
-    match outcome {
-        Ok(()) => Ok(()),
-        Err(error) => {
-            drop_loads(service, conn, taken.as_slice());
-            Err(error)
-        }
-    }
-}
 
 /// Serves one connection of a namespace that there is, from its opening to the end of its input, where it is closed, or until it has closed
 /// for what was read. It reads up to 8192 bytes at a time, feeds them at the clock's reading, and writes the replies before it reads on.
@@ -157,18 +51,19 @@ pub fn run<R: Read, W: Write, C: Clock, L: Loader>(
     // counted.
     ensures used_up { IsErrOf result RunError.UsedUp → RunsOut R.remaining L.loads reader.old reader.new loader.old loader.new }
 {
-    let mut buffer = match vec![in alloc; 0u8; PIECE_BYTES] {
-        Ok(buffer) => buffer,
-        Err(_) => return Err(RunError::OutOfMemory),
+    let mut host = Lent;
+    let mut session = match open(&mut host, service, alloc, namespace) {
+        Ok(session) => session,
+        Err(error) => return Err(error),
     };
-    serve_with(
+    let outcome = outcome_of(converse(
+        &mut host,
         service,
-        alloc,
-        namespace,
-        &mut buffer,
+        &mut session,
         reader,
         writer,
         clock,
         loader,
-    )
+    ));
+    close(&mut host, service, &session, outcome, loader)
 }

@@ -1,12 +1,11 @@
 -- What is asked, one after another.
-use Rattle.std.proofs.Common.{◌≡◌, ℕ, Bool, true, List, [], ◌∷◌, ◌++◌, map, Vec, Global, refl, sym, ap, ◌∙◌, append_assoc, inl, inr}
-use Rattle.std.specs.Prelude.{Result, Ok, Err, IfOk, OnErr}
+use Rattle.std.proofs.Common.{◌≡◌, ℕ, Bool, true, List, [], ◌∷◌, ◌++◌, map, Vec, Global, refl, sym, ap, ◌∙◌, append_assoc}
 use Rattle.std.proofs.lemmas.List.{append-nil, map-append}
 use Rattle.audit_model.specs.declared.input.Input.{Input}
 use Rattle.audit_receipts.specs.declared.output.Output.{Output}
 use Rattle.audit_receipts.specs.declared.receipt.Receipt.{Receipt}
-use Rattle.cache_serve.specs.Asked.{Asks, AsksOrNot, Grows}
-use Rattle.cache_shared.specs.Seats.{Counts, Gains, SameReceipts, receipt_for, receipts_at}
+use Rattle.cache_serve.specs.Asked.{Asks, Grows}
+use Rattle.cache_shared.specs.Seats.{Counts, SameReceipts, receipt_for, receipts_at}
 use Rattle.cache_spaces.specs.Inputs.{namespace_of}
 
 abbrev Lists : Type 0
@@ -24,9 +23,6 @@ grows-more n a b c xs ys p q = record {
   others = λ other ne. q.others other ne ∙ p.others other ne;
 }
 
-grows-one : (n : ℕ) (a b : Lists) (x : Receipt) → Gains a b n x → Grows n a b (x ∷ [])
-grows-one n a b x g = record { own = g.own; others = g.others }
-
 pub asks-none : (n : ℕ) (a b : Lists) → SameReceipts a b → Asks n a b []
 asks-none n a b same = record { added = []; grows = grows-none n a b same; asked = refl }
 
@@ -37,20 +33,6 @@ asks-more n a b c xs ys p q = record {
   asked = map-append (λ (receipt : Receipt). receipt.input) p.added q.added ∙ ap (λ l. l ++ asked_in q.added) p.asked ∙ ap (λ l. xs ++ l) q.asked;
 }
 
--- an input that was taken
-pub asks-one : (i : Input) (output : Output) (a b : Lists) → (number : ℕ) × Gains a b (namespace_of i) (receipt_for i output number) → Asks (namespace_of i) a b (i ∷ [])
-asks-one i output a b g = record { added = receipt_for i output g.0 ∷ []; grows = grows-one (namespace_of i) a b (receipt_for i output g.0) g.1; asked = refl }
-
 -- an input that was taken, by a step or a turn
 pub asks-counted : {keeps : Bool} {i : Input} {output : Output} {count later : ℕ} {a b : Lists} → Counts keeps i output count later a b → keeps ≡ true → Asks (namespace_of i) a b (i ∷ [])
-asks-counted {i = i} {output = output} {a = a} {b = b} counts keeps = asks-one i output a b (counts.receipt keeps)
-
--- an input that was taken or refused, behind what asked nothing
-pub asks-after : {E : Type 0} (Uncounted : Type 0) {keeps : Bool} (i : Input) (count later : ℕ) (a b d : Lists) (r : Result Output E) → keeps ≡ true
-    → SameReceipts a b → IfOk r (λ output. Counts keeps i output count later b d) → OnErr r (Uncounted × SameReceipts b d) → AsksOrNot (namespace_of i) a d i
-asks-after Uncounted i count later a b d (Ok output) kept same counts none = inr (asks-more (namespace_of i) a b d [] (i ∷ []) (asks-none (namespace_of i) a b same) (asks-counted counts kept))
-asks-after Uncounted i count later a b d (Err e) kept same counts none = inl (asks-none (namespace_of i) a d (λ n. none.1 n ∙ same n))
-
--- behind what asked nothing
-pub asks-later : {n : ℕ} {a b c : Lists} {inputs : List Input} → SameReceipts a b → Asks n b c inputs → Asks n a c inputs
-asks-later {n} {a} {b} {c} {inputs} same asks = asks-more n a b c [] inputs (asks-none n a b same) asks
+asks-counted {i = i} {output = output} counts kept = let g = counts.receipt kept in record { added = receipt_for i output g.0 ∷ []; grows = record { own = g.1.own; others = g.1.others }; asked = refl }

@@ -1,9 +1,6 @@
 mod Asking
-mod Attending
-mod Ending
-mod Full
-mod Going
 mod Outgoing
+mod Passing
 mod Refusing
-mod Settling
-mod Writing
+mod Seating
+mod Promised

@@ -1,8 +1,8 @@
 pub mod Out
-pub mod Handed
 pub mod Served
 pub mod Unfit
 pub mod Asked
 pub mod Full
-pub mod Went
+pub mod Seated
+pub mod Sitting
 pub mod Written

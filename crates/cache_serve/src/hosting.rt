@@ -2,13 +2,12 @@
 
 use crate::devices::{Devices, Teller};
 use crate::serving::serve_and_tell;
-use crate::workers::{Done, Workers};
+use crate::workers::Workers;
 use cache_devices::{Clock, Loader, Watched};
 use cache_shared::{Seat, Seating, SharedService, Takings};
 use std::alloc::Global;
-use std::io::ErrorKind;
 use std::net::{TcpListener, TcpStream};
-use std::sync::{Arc, Wait};
+use std::sync::Wait;
 use std::thread;
 use std::thread::{SpawnError, Threads};
 
@@ -28,43 +27,33 @@ struct Work<L: Seating, C: Takings, K: Clock + Drop, D: Loader + Drop, T: Teller
     shared: SharedService<L, C>,
     seat: Seat<L>,
     namespace: u64,
-    clock: K,
-    loader: D,
-    teller: T,
+    devices: (K, D, T),
     stream: TcpStream,
-    place: usize,
-    done: Arc<Done>,
 }
 
 impl<L: Seating, C: Takings, K: Clock + Drop, D: Loader + Drop, T: Teller> Work<L, C, K, D, T> {
-    /// Serves the connection, tells that it is done, and gives the seat back.
-    fn attend<R: Wait>(self, rt: &R, alloc: Global) -> Seat<L> {
+    /// Serves the connection, and gives the seat back.
+    fn attend(self, rt: &impl Wait, alloc: Global) -> Seat<L> {
         let Work {
             shared,
             mut seat,
             namespace,
-            mut clock,
-            mut loader,
-            mut teller,
+            devices,
             stream,
-            place,
-            done,
         } = self;
-        let mut reader = Watched::new(&stream);
-        let mut writer = Watched::new(&stream);
+        let (mut clock, mut loader, mut teller) = devices;
         let _ = serve_and_tell(
             rt,
             alloc,
             &shared,
             &mut seat,
             namespace,
-            &mut reader,
-            &mut writer,
+            &mut Watched::new(&stream),
+            &mut Watched::new(&stream),
             &mut clock,
             &mut loader,
             &mut teller,
         );
-        done.tell(rt, place);
         seat
     }
 }
@@ -99,7 +88,7 @@ where
     };
     let mut failed = false;
     for _served in 0..limit.unwrap_or(u64::MAX) {
-        let Some(stream) = accept(&rt, listener, &mut workers) else {
+        let Some(stream) = workers.accept(&rt, listener) else {
             failed = true;
             break;
         };
@@ -109,41 +98,6 @@ where
         seats: workers.finish(&rt),
         failed,
     }
-}
-
-/// The next connection. None where accepting fails while nobody is connected.
-fn accept<L, R>(rt: &R, listener: &TcpListener, workers: &mut Workers<L>) -> Option<TcpStream>
-where
-    L: Seating + Send + Sync + 'static,
-    R: Threads + Wait,
-{
-    for _try in rt.forever() {
-        workers.join_done(rt);
-        match listener.accept() {
-            Ok((stream, _)) => return Some(stream),
-            Err(error) => {
-                if !is_of_client(error.kind()) {
-                    if workers.is_idle() {
-                        return None;
-                    }
-                    workers.join_next(rt);
-                }
-            }
-        }
-    }
-    unreachable!()
-}
-
-/// Whether an accept failed since its client has gone or cannot be reached any more.
-fn is_of_client(kind: ErrorKind) -> bool {
-    matches!(
-        kind,
-        ErrorKind::ConnectionAborted
-            | ErrorKind::ConnectionReset
-            | ErrorKind::HostUnreachable
-            | ErrorKind::NetworkDown
-            | ErrorKind::NetworkUnreachable
-    )
 }
 
 /// Serves one connection on a thread of its own, or here where none can be made.
@@ -167,28 +121,29 @@ where
     let Ok((place, done)) = workers.reserve(&rt) else {
         return;
     };
-    let Some((clock, loader, teller)) = devices.make(alloc) else {
+    let Some(devices) = devices.make(alloc) else {
         return;
     };
     let theirs: Result<_, _> = shared.clone();
-    let Ok(theirs) = theirs else {
+    let Ok(shared) = theirs else {
         return;
     };
-    let Some(seat) = workers.take_seat(&rt, shared) else {
+    let Some(seat) = workers.take_seat(&rt, &shared) else {
         return;
     };
     let work = Work {
-        shared: theirs,
+        shared,
         seat,
         namespace,
-        clock,
-        loader,
-        teller,
+        devices,
         stream,
-        place,
-        done,
     };
-    match thread::spawn(&rt, move || work.attend(&rt, alloc)) {
+    let spawned = thread::spawn(&rt, move || {
+        let seat = work.attend(&rt, alloc);
+        done.tell(&rt, place);
+        seat
+    });
+    match spawned {
         Ok(thread) => workers.add(thread),
         Err(refused) => {
             let SpawnError { value } = refused;

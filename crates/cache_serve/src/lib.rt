@@ -4,13 +4,10 @@
 mod cutting;
 mod devices;
 mod errors;
-mod handing;
 mod hosting;
-mod loading;
 mod pausing;
 mod serving;
-mod session;
-mod turns;
+mod sitting;
 mod workers;
 
 pub use devices::{Devices, Teller, Untold};

@@ -1,108 +1,24 @@
 //! One connection of a shared service, from its opening to its closing.
-ghost use Rattle.std.specs.Prelude.{◌≡◌, ◌≢◌, ◌≤◌, ◌+◌, true, IfOk, IfErr, OnOk, OnErr, IsErrOf};
-ghost use Rattle.audit_model.specs.declared.input.Input.TheVariants as asked;
+ghost use Rattle.std.specs.Prelude.{◌≡◌, ◌≤◌, ◌↔◌, Ok, IsErrOf, IsTrue};
 ghost use Rattle.cache_devices.specs.Failures.{HasFailed};
 ghost use Rattle.cache_devices.specs.Watched.{failures};
 ghost use Rattle.cache_devices.specs.Sources.{HasToldLate};
-ghost use Rattle.cache_serve.specs.Asked.{AsksOrNot, HasAskedSome, Opens};
+ghost use Rattle.cache_serve.specs.Asked.{HasAskedSome};
 ghost use Rattle.cache_serve.specs.Full.{HasUsedUp};
 ghost use Rattle.cache_serve.specs.Served.{AsksAll, WritesAll};
-ghost use Rattle.cache_serve.specs.Went.{ReadsPiece, Talk, spot};
-ghost use Rattle.cache_shared.specs.Seats.{SameReceipts};
 
 use crate::devices::{Teller, Untold};
-use crate::loading::settle_rest;
-use crate::pausing::pause;
-use crate::session::Session;
-use crate::turns::answer_piece;
-use audit_model::{Conn, Input, Note, ServiceError};
+use crate::sitting::Sitting;
+use audit_model::Note;
 use cache_devices::{Clock, Loader, RunError, Watched};
+use cache_driver::{Progress, close, converse, open, outcome_of};
 use cache_shared::{Seat, Seating, SharedService, Takings};
-use cache_spaces::{Output, Refusal};
 use std::alloc::{AllocError, Global};
-use std::io::{ErrorKind, Read, Write};
+use std::io::{Read, Write};
 use std::sync::Wait;
-
-/// The most bytes that are read at once.
-const PIECE_BYTES: usize = 8192;
 
 /// The most notes that are taken at once.
 const NOTES_AT_ONCE: usize = 64;
-
-/// Opens a connection of a namespace.
-fn open_connection<L: Seating, C: Takings>(
-    rt: &impl Wait,
-    shared: &SharedService<L, C>,
-    seat: &mut Seat<L>,
-    namespace: u64,
-) -> Result<Conn, RunError>
-    ensures opened { OnOk result (seat.new.count ≡ seat.old.count + 1) }
-    ensures closed { OnErr result (seat.new.count ≤ seat.old.count + 1) }
-    ensures count { seat.old.count ≤ seat.new.count }
-    ensures used_up { IsErrOf result RunError.UsedUp → HasUsedUp C.events seat.old.count seat.new.count }
-    ensures causes { IfErr result (λ e. (e ≢ RunError.Read) × (e ≢ RunError.Write) × (e ≢ RunError.Moment)) }
-    ensures here { IfOk result (λ conn. conn.namespace ≡ namespace) }
-    ensures asked { C.KEEPS ≡ true → IfOk result (λ conn. Opens namespace seat.old.receipts.items seat.new.receipts.items conn) }
-    ensures same { C.KEEPS ≡ true → OnErr result (SameReceipts seat.old.receipts.items seat.new.receipts.items) }
-{
-    match shared.step(rt, seat, Input::Open { namespace }) {
-        Ok(Output::Opened { conn }) => Ok(conn),
-        Ok(_) => unreachable!(),
-        Err(
-            Refusal {
-                error: ServiceError::UsedUp,
-                ..
-            },
-        ) => Err(RunError::UsedUp),
-        Err(_) => Err(RunError::OutOfMemory),
-    }
-}
-
-/// Closes a connection, unless it has closed. Where that is refused for memory it is tried again.
-fn close_if_open<L: Seating, C: Takings>(
-    rt: &impl Wait,
-    shared: &SharedService<L, C>,
-    seat: &mut Seat<L>,
-    conn: Conn,
-)
-    ensures one { seat.new.count ≤ seat.old.count + 1 }
-    ensures count { seat.old.count ≤ seat.new.count }
-    ensures asked { C.KEEPS ≡ true → AsksOrNot conn.namespace seat.old.receipts.items seat.new.receipts.items (asked.Close conn) }
-{
-    for _try in 0..u64::MAX {
-        match shared.step(rt, seat, Input::Close { conn }) {
-            Err(
-                Refusal {
-                    error: ServiceError::OutOfMemory,
-                    ..
-                },
-            ) => pause(rt),
-            _ => return,
-        }
-    }
-}
-
-/// Reads a piece. None at the end of the input. After an interrupted read it is empty.
-fn read_piece<I: Read>(
-    buffer: &mut [u8],
-    reader: &mut Watched<I>,
-) -> Result<Option<usize>, RunError>
-    ensures { ReadsPiece I.remaining result buffer.new reader.old reader.new }
-{
-    let count = match reader.read(buffer) {
-        Ok(count) => count,
-        Err(error) => {
-            if error.kind() == ErrorKind::Interrupted {
-                return Ok(Some(0));
-            }
-            return Err(RunError::Read);
-        }
-    };
-    if count == 0 {
-        return Ok(None);
-    }
-    Ok(Some(count))
-}
 
 /// Room for the notes that are taken at once; none where none are told.
 fn room_for_notes<T: Teller>(alloc: Global, teller: &T) -> Result<Vec<Note>, AllocError> {
@@ -110,45 +26,11 @@ fn room_for_notes<T: Teller>(alloc: Global, teller: &T) -> Result<Vec<Note>, All
     Vec::with_capacity(alloc, room)
 }
 
-/// Answers the pieces that are read, and settles the loads that go out, to the end of the input or until the connection has closed.
-fn converse<L: Seating, C: Takings, I: Read, O: Write, K: Clock, D: Loader, T: Teller, R: Wait>(
-    rt: &R,
-    shared: &SharedService<L, C>,
-    seat: &mut Seat<L>,
-    session: &mut Session<C>,
-    buffer: &mut [u8],
-    reader: &mut Watched<I>,
-    writer: &mut Watched<O>,
-    clock: &mut K,
-    loader: &mut D,
-    teller: &mut T,
-) -> Result<(), RunError>
-    ensures conn { session.new.conn ≡ session.old.conn }
-    ensures ran { Talk I.remaining O.contents K.reads D.loads session.old result reader.old reader.new (spot seat.old writer.old clock.old loader.old) (spot seat.new writer.new clock.new loader.new) }
+/// Whether a driver's turns were used up, so that it is called again.
+fn is_more(ended: &Result<Progress, RunError>) -> bool
+    ensures { IsTrue result ↔ (ended.now ≡ Ok Progress.More) }
 {
-    for _turn in rt.forever() {
-        let count = match read_piece(buffer, reader) {
-            Ok(Some(count)) => count,
-            Ok(None) => return Ok(()),
-            Err(error) => return Err(error),
-        };
-        match answer_piece(
-            rt,
-            shared,
-            seat,
-            session,
-            &buffer[..count],
-            writer,
-            clock,
-            loader,
-            teller,
-        ) {
-            Ok(Some(_)) => {}
-            Ok(None) => return Ok(()),
-            Err(error) => return Err(error),
-        }
-    }
-    unreachable!()
+    matches!(ended, Ok(Progress::More))
 }
 
 /// Serves one connection of a namespace that there is, from its opening to the end of its input, where it is closed, or until it has
@@ -190,7 +72,7 @@ pub fn serve<L: Seating, C: Takings, I: Read, O: Write, K: Clock, D: Loader, R: 
     ensures moment { IsErrOf result RunError.Moment → HasToldLate K.reads clock.new }
     ensures loader { HasAskedSome D.loads loader.old loader.new }
 {
-    match serve_and_tell(
+    serve_and_tell(
         rt,
         alloc,
         shared,
@@ -201,10 +83,7 @@ pub fn serve<L: Seating, C: Takings, I: Read, O: Write, K: Clock, D: Loader, R: 
         clock,
         loader,
         &mut Untold,
-    ) {
-        Ok(()) => Ok(()),
-        Err(error) => Err(error),
-    }
+    )
 }
 
 /// As `serve`; besides, after each piece that it hands in and each load that it settles, and before the replies of that are written, it
@@ -239,37 +118,29 @@ pub fn serve_and_tell<
     ensures moment { IsErrOf result RunError.Moment → HasToldLate K.reads clock.new }
     ensures loader { HasAskedSome D.loads loader.old loader.new }
 {
-    let mut buffer = match vec![in alloc; 0u8; PIECE_BYTES] {
-        Ok(buffer) => buffer,
-        Err(_) => return Err(RunError::OutOfMemory),
-    };
     let notes = match room_for_notes(alloc, teller) {
         Ok(notes) => notes,
         Err(_) => return Err(RunError::OutOfMemory),
     };
-    let conn = match open_connection(rt, shared, seat, namespace) {
-        Ok(conn) => conn,
+    let mut sitting = Sitting::new(rt, alloc, shared, teller, notes);
+    let mut session = match open(&mut sitting, seat, alloc, namespace) {
+        Ok(session) => session,
         Err(error) => return Err(error),
     };
-    let mut session = Session::new(alloc, conn, notes);
-    let outcome = converse(
-        rt,
-        shared,
-        seat,
-        &mut session,
-        &mut buffer,
-        reader,
-        writer,
-        clock,
-        loader,
-        teller,
-    );
-    close_if_open(rt, shared, seat, conn);
-    match outcome {
-        Ok(()) => Ok(()),
-        Err(error) => {
-            settle_rest(rt, shared, seat, &mut session, loader, teller);
-            Err(error)
+    for _turn in rt.forever() {
+        let ended = converse(
+            &mut sitting,
+            seat,
+            &mut session,
+            reader,
+            writer,
+            clock,
+            loader,
+        );
+        if is_more(&ended) {
+            continue;
         }
+        return close(&mut sitting, seat, &session, outcome_of(ended), loader);
     }
+    unreachable!()
 }

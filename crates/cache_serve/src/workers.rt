@@ -3,6 +3,8 @@
 use cache_shared::{Seat, Seating, SharedService, Takings};
 use slab::Slab;
 use std::alloc::{AllocError, Global};
+use std::io::ErrorKind;
+use std::net::{TcpListener, TcpStream};
 use std::sync::{Arc, Condvar, Mutex, Wait};
 use std::thread::{JoinHandle, Threads};
 
@@ -24,46 +26,48 @@ impl Done {
 
     /// Makes room for the places of so many threads.
     fn reserve(&self, rt: &impl Wait, threads: usize) -> Result<(), AllocError> {
-        let mut guard = self.places.lock(rt);
-        let places = &mut *guard;
-        places.reserve(threads)
+        self.places.lock(rt).reserve(threads)
     }
 
     /// Tells that the thread of a place is about to end. There is room for it.
     pub fn tell(&self, rt: &impl Wait, place: usize) {
-        let mut guard = self.places.lock(rt);
-        let places = &mut *guard;
-        let _ = places.push(place);
-        drop(guard);
+        let _ = self.places.lock(rt).push(place);
         self.told.notify_one();
     }
 
     /// Takes a place out at which no thread runs.
     fn forget(&self, rt: &impl Wait, place: usize) {
-        let mut guard = self.places.lock(rt);
-        let places = &mut *guard;
-        places.retain(|told| *told != place);
+        self.places.lock(rt).retain(|told| *told != place);
     }
 
     /// Takes a place that was told.
     fn take(&self, rt: &impl Wait) -> Option<usize> {
-        let mut guard = self.places.lock(rt);
-        let places = &mut *guard;
-        places.pop()
+        self.places.lock(rt).pop()
     }
 
     /// Waits for a place that is told, and takes it.
     fn wait(&self, rt: &impl Wait) -> usize {
         let mut guard = self.places.lock(rt);
         for _ in rt.forever() {
-            let places = &mut *guard;
-            match places.pop() {
+            match guard.pop() {
                 Some(place) => return place,
                 None => guard = self.told.wait(rt, guard),
             }
         }
         unreachable!()
     }
+}
+
+/// Whether an accept failed since its client has gone or cannot be reached any more.
+fn is_of_client(kind: ErrorKind) -> bool {
+    matches!(
+        kind,
+        ErrorKind::ConnectionAborted
+            | ErrorKind::ConnectionReset
+            | ErrorKind::HostUnreachable
+            | ErrorKind::NetworkDown
+            | ErrorKind::NetworkUnreachable
+    )
 }
 
 /// Threads that serve a connection each, by their places, and the seats that no thread has.
@@ -82,11 +86,6 @@ impl<L: Seating + Send + Sync + 'static> Workers<L> {
             seats: Vec::new(alloc),
             done: Arc::new(alloc, Done::new(alloc))?,
         })
-    }
-
-    /// Whether no thread runs.
-    pub fn is_idle(&self) -> bool {
-        self.running.is_empty()
     }
 
     /// Makes room for one thread more, its seat and its end. Answers its place, and where it tells its end.
@@ -127,8 +126,30 @@ impl<L: Seating + Send + Sync + 'static> Workers<L> {
         let _ = self.seats.push(seat);
     }
 
+    /// The next connection; meanwhile threads that are done are joined. None where accepting fails while nobody is connected.
+    pub fn accept<R: Threads + Wait>(
+        &mut self,
+        rt: &R,
+        listener: &TcpListener,
+    ) -> Option<TcpStream> {
+        for _try in rt.forever() {
+            self.join_done(rt);
+            let error = match listener.accept() {
+                Ok((stream, _)) => return Some(stream),
+                Err(error) => error,
+            };
+            if !is_of_client(error.kind()) {
+                if self.running.is_empty() {
+                    return None;
+                }
+                self.join_next(rt);
+            }
+        }
+        unreachable!()
+    }
+
     /// Joins the threads that are done, which takes no time for those that run.
-    pub fn join_done<R: Threads + Wait>(&mut self, rt: &R) {
+    fn join_done<R: Threads + Wait>(&mut self, rt: &R) {
         for _joined in 0..self.running.len() {
             match self.done.take(rt) {
                 Some(place) => self.join(rt, place),
@@ -138,7 +159,7 @@ impl<L: Seating + Send + Sync + 'static> Workers<L> {
     }
 
     /// Waits until a thread is done, and joins it.
-    pub fn join_next<R: Threads + Wait>(&mut self, rt: &R) {
+    fn join_next<R: Threads + Wait>(&mut self, rt: &R) {
         let place = self.done.wait(rt);
         self.join(rt, place);
     }

@@ -1,33 +1,58 @@
-use Rattle.std.proofs.Common.{◌≡◌, [], refl, inl}
+use Rattle.std.proofs.Common.{◌≡◌, [], true, refl, sym, ◌∙◌, subst, inl, ⊎_elim}
+use Rattle.std.specs.Prelude.{Err, IfErr}
+use Rattle.cache_devices.specs.Sources.{HasToldLate}
+use Rattle.cache_devices.specs.declared.errors.RunError.TheVariants.{Moment, Read, UsedUp, Write}
+use Rattle.cache_driver.specs.Causes.{Because, Fails, RunsOut}
+use Rattle.cache_driver.specs.Driven.{ClosesAfter, around}
+use Rattle.cache_driver.specs.Drives.{Drives}
+use Rattle.cache_driver.proofs.Whole.{converses-drives}
 use Rattle.cache_run.specs.Accounts.{pending_of}
-use Rattle.std.specs.Prelude.{Err}
-use Rattle.cache_devices.specs.declared.errors.RunError.TheVariants.{Moment, OutOfMemory, Read, UsedUp, Write}
-use Rattle.cache_run.proofs.Causing.{cause-of}
-use Rattle.cache_run.proofs.Connecting.{found-at}
-use Rattle.cache_run.proofs.Ending.{run-none}
-use Rattle.cache_run.proofs.Placing.{at-same}
+use Rattle.cache_run.specs.Lent.{ClosesAt, ComesAt, DropsAt, OpensAt}
+use Rattle.cache_run.proofs.Driving.{lent-none}
+use Rattle.cache_run.proofs.Placing.{at-same, at-unmoved, found-at}
+use Rattle.cache_run.proofs.Running.{cause-of, memory-only, runs-partly, runs-whole, stops-for, unasked}
 use Rattle.cache_run.proofs.serving.run.Goals as goal
 
 pub returns-in-Err : goal.returns-in-Err
 returns-in-Err g c =
+    let e = c.in-Err.error in
+    let why = c.in-Err.ensures.why in
+    let same = ⊎_elim (λ p. p) (λ p. p) c.in-Err.ensures.rests in
     let found = found-at c.args.service.now c.args.namespace c.requires.known in record {
       ok = tt;
-      err = inl (refl, refl, refl, refl, refl, refl);
-      none = at-same (λ was is. pending_of was ≡ [] → pending_of is ≡ []) c.args.service.now c.args.namespace found.0 found.1 (λ none. none);
-      read = λ is. absurd (cause-of ⊥ ⊥ ⊥ ⊥ (Err OutOfMemory) Read tt is);
-      write = λ is. absurd (cause-of ⊥ ⊥ ⊥ ⊥ (Err OutOfMemory) Write tt is);
-      moment = λ is. absurd (cause-of ⊥ ⊥ ⊥ ⊥ (Err OutOfMemory) Moment tt is);
-      used_up = λ is. absurd (cause-of ⊥ ⊥ ⊥ ⊥ (Err OutOfMemory) UsedUp tt is);
+      err = inl (memory-only e why, same, refl, refl, refl, refl);
+      none = at-unmoved _ _ same (at-same (λ was is. pending_of was ≡ [] → pending_of is ≡ []) c.args.service.now c.args.namespace found.0 found.1 (λ none. none));
+      read = λ is. absurd (cause-of ⊥ ⊥ ⊥ ⊥ (Err e) Read why is);
+      write = λ is. absurd (cause-of ⊥ ⊥ ⊥ ⊥ (Err e) Write why is);
+      moment = λ is. absurd (cause-of ⊥ ⊥ ⊥ ⊥ (Err e) Moment why is);
+      used_up = λ is. absurd (cause-of ⊥ ⊥ ⊥ ⊥ (Err e) UsedUp why is);
     }
 
 pub returns : goal.returns
 returns g c =
-    let found = found-at c.args.service.now c.args.namespace c.requires.known in record {
-      ok = c.serve_with.ensures.ok;
-      err = c.serve_with.ensures.err;
-      none = run-none g.C.Clock.reads g.L.Loader.loads _ _ _ _ _ found.0 found.1 _ c.serve_with.result c.serve_with.ensures.ok c.serve_with.ensures.err (λ e p. p.1);
-      read = cause-of _ _ _ _ c.serve_with.result Read c.serve_with.ensures.why;
-      write = cause-of _ _ _ _ c.serve_with.result Write c.serve_with.ensures.why;
-      moment = cause-of _ _ _ _ c.serve_with.result Moment c.serve_with.ensures.why;
-      used_up = cause-of _ _ _ _ c.serve_with.result UsedUp c.serve_with.ensures.why;
+    let remaining = g.R.Read.remaining in
+    let contents = g.W.Write.contents in
+    let reads = g.C.Clock.reads in
+    let loads = g.L.Loader.loads in
+    let ran = c.converse in
+    let result = c.close.result in
+    let is = c.close.ensures.same ∙ c.outcome_of-outcome.ensures in
+    let fresh = c.in-Ok.ensures.opens.1 in
+    let closes = subst (λ o. ClosesAfter ClosesAt DropsAt loads o ran.new.session ran.new.place c.close.new.place ran.new.loader c.close.new.loader) c.outcome_of-outcome.ensures c.close.ensures.closes in
+    let drives = converses-drives true OpensAt ComesAt ClosesAt DropsAt reads loads remaining contents ran.result c.args.namespace c.in-Ok.session ran.new.session c.args.service.now c.open.new.place ran.new.place c.close.new.place c.args.reader.now ran.new.reader c.args.writer.now ran.new.writer c.args.clock.now ran.new.clock c.args.loader.now ran.new.loader c.close.new.loader
+    c.in-Ok.ensures.opens.0 fresh ran.ensures.known.1 ran.ensures.goes closes in
+    let came = subst (λ o. Drives true OpensAt ComesAt ClosesAt DropsAt reads loads c.args.namespace c.args.service.now c.close.new.place (around remaining contents c.args.reader.now c.args.writer.now c.args.clock.now c.args.loader.now) (around remaining contents ran.new.reader ran.new.writer ran.new.clock c.close.new.loader) o) (sym is) drives in
+    let Reads = Fails c.args.reader.now ran.new.reader in
+    let Writes = Fails c.args.writer.now ran.new.writer in
+    let Turns = RunsOut remaining loads c.args.reader.now ran.new.reader c.args.loader.now c.close.new.loader in
+    let Late = HasToldLate reads ran.new.clock in
+    let turns = subst (λ loader. RunsOut remaining loads c.args.reader.now ran.new.reader c.args.loader.now loader) (sym (unasked loads _ ran.new.session ran.new.place c.close.new.place ran.new.loader c.close.new.loader closes)) in
+    let why = subst (λ o. IfErr o (Because Reads Writes Turns Late)) (sym is) (stops-for Reads Writes Turns Late (true ≡ true) (c.in-Ok.session.inbox ≡ []) (RunsOut remaining loads c.args.reader.now ran.new.reader c.args.loader.now ran.new.loader) ran.result refl fresh.inbox turns ran.ensures.why ran.ensures.more) in record {
+      ok = runs-whole remaining contents reads loads c.args.namespace c.args.service.now c.close.new.place c.args.reader.now ran.new.reader c.args.writer.now ran.new.writer c.args.clock.now ran.new.clock c.args.loader.now c.close.new.loader result came;
+      err = runs-partly remaining contents reads loads c.args.namespace c.args.service.now c.close.new.place c.args.reader.now ran.new.reader c.args.writer.now ran.new.writer c.args.clock.now ran.new.clock c.args.loader.now c.close.new.loader result came;
+      none = lent-none reads loads c.args.namespace c.args.service.now c.close.new.place (around remaining contents c.args.reader.now c.args.writer.now c.args.clock.now c.args.loader.now) (around remaining contents ran.new.reader ran.new.writer ran.new.clock c.close.new.loader) result came;
+      read = cause-of Reads Writes Turns Late result Read why;
+      write = cause-of Reads Writes Turns Late result Write why;
+      moment = cause-of Reads Writes Turns Late result Moment why;
+      used_up = cause-of Reads Writes Turns Late result UsedUp why;
     }

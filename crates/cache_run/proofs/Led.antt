@@ -1,0 +1,139 @@
+-- What exchanges come to, from one situation to another.
+use Rattle.std.proofs.Common.{◌≡◌, ℕ, true, false, List, [], ◌∷◌, ◌++◌, map, Option, None, Some, refl, sym, ap, ◌∙◌, subst, append_assoc}
+use Rattle.std.specs.List.{flat_map}
+use Rattle.std.specs.Option.{option_and_then}
+use Rattle.std.specs.Io.KnownBytes.{Appends, Consumes}
+use Rattle.std.proofs.lemmas.Grind.{flat_map-append}
+use Rattle.std.proofs.lemmas.List.{append-nil, map-append}
+use Rattle.std.proofs.lemmas.Option.{none-some, same_Some}
+use Rattle.audit_model.specs.Follows.{after_record, after_records}
+use Rattle.audit_model.specs.Situation.{Situation}
+use Rattle.audit_model.specs.declared.config.Config.{Config}
+use Rattle.audit_model.specs.declared.event.Event.TheVariants as event
+use Rattle.audit_model.specs.declared.event.Outcome.{Outcome}
+use Rattle.audit_model.specs.declared.input.LoadId.{LoadId}
+use Rattle.audit_model.specs.declared.transcript.Note.{Note}
+use Rattle.audit_model.specs.declared.transcript.Record.{Record}
+use Rattle.audit_waiting_laws.specs.Keys.{IsKnown}
+use Rattle.audit_waiting_laws.proofs.Keys.{keeps}
+use Rattle.cache_devices.specs.Sources.{Asking, Askings, Readings}
+use Rattle.cache_run.specs.Carried.{Carried, Left, open_records}
+use Rattle.cache_run.specs.Runs.{Quiet}
+use Rattle.cache_run.specs.Happened.{Turn, record_of, AreInPlace, AreRight, IsInPlace, IsRight, asked_in, moment_in, piece_in, records_in, replies_in, turn_notes}
+use Rattle.cache_run.specs.Loading.{AreKnown}
+use Rattle.cache_driver.specs.Drives.{Outside}
+use Rattle.cache_run.specs.Worlds.{world}
+use Rattle.cache_run.proofs.Carrying.{placed-more, record-one, records-more, right-more}
+use Rattle.cache_spaces.specs.Bares.{BareSpace}
+use Rattle.cache_spaces.specs.Spaces.{notices_of}
+
+-- turns came, for which these pieces were fed, the clock told these moments and the loader was asked so, and those are their replies
+pub record Led (config : Config) (number : ℕ) (s t : Situation) (before after : List Note) (pieces moments : List ℕ) (asks : List Asking) (text : List ℕ) : Type 0 where
+  pub turns : List Turn
+  pub right : AreRight config turns
+  pub placed : AreInPlace config number s turns
+  pub follows : after_records config s (flat_map (records_in number) turns) ≡ Some t
+  pub notices : after ≡ before ++ flat_map (turn_notes number) turns
+  pub fed : flat_map piece_in turns ≡ pieces
+  pub told : map moment_in turns ≡ moments
+  pub asked : flat_map asked_in turns ≡ asks
+  pub replies : flat_map (replies_in number) turns ≡ text
+
+-- what two lists come to, one behind the other
+joined : {X A : Type 0} (f : X → List A) (xs ys : List X) (ps qs : List A) → flat_map f xs ≡ ps → flat_map f ys ≡ qs → flat_map f (xs ++ ys) ≡ ps ++ qs
+joined f xs ys ps qs p q = flat_map-append f xs ys ∙ ap (λ z. z ++ flat_map f ys) p ∙ ap (λ z. ps ++ z) q
+
+module _ (config : Config) (number : ℕ) where
+  -- no turn came
+  pub led-none : (s : Situation) (before after : List Note) (text : List ℕ) → after ≡ before → text ≡ [] → Led config number s s before after [] [] [] text
+  led-none s before after text notices none = record {
+    turns = [];
+    right = tt;
+    placed = tt;
+    follows = refl;
+    notices = notices ∙ sym (append-nil before);
+    fed = refl;
+    told = refl;
+    asked = refl;
+    replies = sym none;
+  }
+
+  -- one came
+  pub led-turn : (s t : Situation) (before after : List Note) (turn : Turn) (text : List ℕ) → IsRight config turn → IsInPlace s turn → after_records config s (records_in number turn) ≡ Some t → after ≡ before ++ turn_notes number turn → text ≡ replies_in number turn
+      → Led config number s t before after (piece_in turn) (moment_in turn ∷ []) (asked_in turn) text
+  led-turn s t before after turn text right placed follows notices replies = record {
+    turns = turn ∷ [];
+    right = (right, tt);
+    placed = (placed, λ m g. tt);
+    follows = ap (after_records config s) (append-nil (records_in number turn)) ∙ follows;
+    notices = notices ∙ ap (λ z. before ++ z) (sym (append-nil (turn_notes number turn)));
+    fed = append-nil (piece_in turn);
+    told = refl;
+    asked = append-nil (asked_in turn);
+    replies = append-nil (replies_in number turn) ∙ sym replies;
+  }
+
+  -- one after another
+  pub led-more : (s t u : Situation) (before between after : List Note) (pieces more_pieces moments more_moments : List ℕ) (asks more_asks : List Asking) (text more_text : List ℕ)
+      → Led config number s t before between pieces moments asks text → Led config number t u between after more_pieces more_moments more_asks more_text
+      → Led config number s u before after (pieces ++ more_pieces) (moments ++ more_moments) (asks ++ more_asks) (text ++ more_text)
+  led-more s t u before between after pieces more_pieces moments more_moments asks more_asks text more_text x y =
+      let xs = x.turns in
+      let ys = y.turns in
+      let notes = flat_map (turn_notes number) in
+      record {
+        turns = xs ++ ys;
+        right = right-more config xs ys x.right y.right;
+        placed = placed-more config number s xs t ys x.placed x.follows y.placed;
+        follows = ap (after_records config s) (flat_map-append (records_in number) xs ys) ∙ records-more config s (flat_map (records_in number) xs) t (flat_map (records_in number) ys) u x.follows y.follows;
+        notices = y.notices ∙ ap (λ z. z ++ notes ys) x.notices ∙ append_assoc before (notes xs) (notes ys) ∙ ap (λ z. before ++ z) (sym (flat_map-append (turn_notes number) xs ys));
+        fed = joined piece_in xs ys pieces more_pieces x.fed y.fed;
+        told = map-append moment_in xs ys ∙ ap (λ z. z ++ map moment_in ys) x.told ∙ ap (λ z. moments ++ z) y.told;
+        asked = joined asked_in xs ys asks more_asks x.asked y.asked;
+        replies = joined (replies_in number) xs ys text more_text x.replies y.replies;
+      }
+
+-- ---- the keys of loads
+
+known-records : (config : Config) (n : ℕ) (key : List ℕ) (s : Situation) (xs : List Record) (t : Situation) → after_records config s xs ≡ Some t → IsKnown n key s → IsKnown n key t
+known-records config n key s [] t e known = subst (λ (u : Situation). IsKnown n key u) (same_Some s t e) known
+known-records config n key s (x ∷ xs) t e known = go (λ m h knows. known-records config n key m xs t h knows) (after_record config s x) refl e
+  where
+    go : ((m : Situation) → after_records config m xs ≡ Some t → IsKnown n key m → IsKnown n key t) → (o : Option Situation) → after_record config s x ≡ o → option_and_then (λ m. after_records config m xs) o ≡ Some t → IsKnown n key t
+    go next None is h = absurd (none-some t h)
+    go next (Some m) is h = next m h (keeps config s m x n key is known)
+
+known-outs : (outs : List (LoadId × List ℕ)) (s t : Situation) → ((n : ℕ) (key : List ℕ) → IsKnown n key s → IsKnown n key t) → AreKnown outs s → AreKnown outs t
+known-outs [] s t keep known = tt
+known-outs (out ∷ outs) s t keep known = (keep out.0.number out.1 known.0, known-outs outs s t keep known.1)
+
+-- what was known of them is known behind the turns
+pub led-known : (config : Config) (number : ℕ) (s t : Situation) (before after : List Note) (pieces moments : List ℕ) (asks : List Asking) (text : List ℕ) (outs : List (LoadId × List ℕ))
+    → Led config number s t before after pieces moments asks text → AreKnown outs s → AreKnown outs t
+led-known config number s t before after pieces moments asks text outs l known = known-outs outs s t (λ n key knows. known-records config n key s (flat_map (records_in number) l.turns) t l.follows knows) known
+
+-- ---- what is carried
+
+-- where a connection was opened and turns came, and that was read and written, told and asked
+pub carried-led : {C L : Type 0} (reads : C → ℕ → C → Type 0) (loads : L → List ℕ → Option Outcome → L → Type 0) (config : Config) (number : ℕ) (x y z : BareSpace) (s m t : Situation) (a b : Outside C L)
+    (pieces moments : List ℕ) (asks : List Asking) (text : List ℕ) (left : Left) (sent : List ℕ)
+    → Quiet config (event.Open number) s m (notices_of x) (notices_of y) → Led config number m t (notices_of y) (notices_of z) pieces moments asks text
+    → Consumes a.remaining b.remaining (pieces ++ left.lost) → Appends a.contents b.contents sent → sent ++ left.unsent ≡ text
+    → Readings reads a.clock (moments ++ left.late) b.clock → Askings loads a.loader (asks ++ left.asked) b.loader
+    → Carried config number reads loads (world x s a) (world z t b) true false [] left
+carried-led reads loads config number x y z s m t a b pieces moments asks text left sent opened l read wrote replies clock loader =
+    let first = record-one config s (record_of (event.Open number) []) m opened.follows in
+    let records = flat_map (records_in number) l.turns in
+    record {
+      turns = l.turns;
+      right = l.right;
+      placed = λ u e. subst (λ k. AreInPlace config number k l.turns) (same_Some m u (sym first ∙ e)) l.placed;
+      follows = ap (after_records config s) (append-nil (open_records number true ++ records)) ∙ records-more config s (open_records number true) m records t first l.follows;
+      notices = l.notices ∙ ap (λ n. n ++ flat_map (turn_notes number) l.turns) opened.notices ∙ sym (append-nil (notices_of x ++ flat_map (turn_notes number) l.turns));
+      read = subst (λ bytes. Consumes a.remaining b.remaining (bytes ++ left.lost)) (sym l.fed) read;
+      sent = sent;
+      wrote = wrote;
+      replies = replies ∙ sym l.replies;
+      clock = subst (λ ts. Readings reads a.clock (ts ++ left.late) b.clock) (sym l.told) clock;
+      loader = subst (λ ks. Askings loads a.loader (ks ++ left.asked) b.loader) (sym l.asked) loader;
+    }

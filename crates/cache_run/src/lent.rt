@@ -1,0 +1,112 @@
+//! The host of a connection to whom a service is lent.
+ghost use Rattle.std.specs.Prelude.{◌≡◌, true};
+ghost use Rattle.std.proofs.Common.{subst};
+ghost use Rattle.cache_run.specs.Lent.{ClosesAt, ComesAt, DropsAt, IsThere, OpensAt};
+
+use crate::drops::{close_if_open, drop_loads};
+use crate::giving::{feed_piece, give};
+use crate::loads::settle;
+use audit_model::{Bytes, Conn, LoadId, Outcome};
+use cache_devices::{Loader, RunError};
+use cache_driver::{Given, Host};
+use cache_spaces::Service;
+
+/// Nobody else has the service.
+#[derive(Clone, Copy, Drop)]
+pub struct Lent;
+
+impl Host for Lent {
+    type Place = Service;
+
+    ghost LENT = { true };
+
+    ghost opens = { OpensAt };
+
+    ghost knows = { IsThere };
+
+    ghost fits = { λ piece. Unit {0} };
+
+    ghost came = { ComesAt };
+
+    ghost rests = { λ old new. new ≡ old };
+
+    ghost counted = { λ service. 0 };
+
+    ghost exhausts = { λ before after. ⊥ };
+
+    ghost closes = { ClosesAt };
+
+    ghost drops = { DropsAt };
+
+    fn open(&mut self, place: &mut Service, namespace: u64) -> Result<Conn, RunError> {
+        place.sound(namespace);
+        match place.open(namespace) {
+            Ok(conn) => Ok(conn),
+            Err(_) => Err(RunError::OutOfMemory),
+        }
+    }
+
+    fn cut(&mut self, bytes: &[u8]) -> usize {
+        bytes.len()
+    }
+
+    fn feed(
+        &mut self,
+        place: &mut Service,
+        conn: Conn,
+        piece: &[u8],
+        moment: u64,
+        wants_loads: bool,
+    ) -> Result<Option<Given>, RunError> {
+        match feed_piece(place, conn, piece, moment) {
+            Ok(held) => Ok(Some(give(place, conn, held, wants_loads))),
+            Err(error) => Err(error),
+        }
+    }
+
+    fn settle(
+        &mut self,
+        place: &mut Service,
+        conn: Conn,
+        load: u64,
+        said: Option<Outcome>,
+        moment: u64,
+        wants_loads: bool,
+    ) -> Result<Given, RunError> {
+        match settle(place, conn, load, said, moment) {
+            Ok(()) => Ok(give(place, conn, false, wants_loads)),
+            Err(error) => Err(error),
+        }
+    }
+
+    fn look(&mut self, place: &mut Service, conn: Conn, wants_loads: bool) -> Given {
+        give(place, conn, false, wants_loads)
+    }
+
+    fn await_ready(&mut self, place: &Service, conn: Conn) {
+        // No `LOAD` waits for others.
+        let _place = place;
+        let _conn = conn;
+    }
+
+    fn close(&mut self, place: &mut Service, conn: Conn) {
+        close_if_open(place, conn)
+    }
+
+    fn drop_loads<L: Loader>(
+        &mut self,
+        place: &mut Service,
+        conn: Conn,
+        hand: &[(LoadId, Bytes)],
+        loader: &mut L,
+    ) {
+        let _loader = loader;
+        drop_loads(place, conn, hand)
+    }
+
+    ghost fits_none = { tt };
+
+    ghost exhausts_within = { λ i j k l below above never. never };
+
+    ghost closes_behind = { λ conn p q r same closes. subst (λ x. ClosesAt conn x r) same closes };
+}

@@ -1,0 +1,384 @@
+-- What a driver answers for who has a seat gives what `serve` promises.
+use Rattle.std.proofs.Common.{◌≡◌, ℕ, ◌+◌, ◌≤◌, Bool, true, false, List, [], ◌∷◌, ◌++◌, length, map, Option, None, Some, refl, sym, ap, ◌∙◌, subst, arith, append_assoc, length-append, inl, inr}
+use Rattle.std.specs.Prelude.{◌≢◌, ◌⊎◌, IfErr, IfSome, MatchResult, Result, Ok, Err, Vec}
+use Rattle.std.specs.List.{All, flat_map}
+use Rattle.std.specs.Option.{option_map_or}
+use Rattle.std.specs.declared.alloc.Global.{Global}
+use Rattle.std.specs.Io.KnownBytes.{Consumes}
+use Rattle.std.proofs.lemmas.Grind.{flat_map-append}
+use Rattle.std.proofs.lemmas.List.{append-nil, length-map, map-append}
+use Rattle.std.proofs.lemmas.List.Elements.{All-append, All-cons, All-nil}
+use Rattle.audit_model.specs.declared.event.Outcome.{Outcome}
+use Rattle.audit_model.specs.declared.input.Conn.{Conn}
+use Rattle.audit_model.specs.declared.input.Input.TheVariants as input
+use Rattle.audit_model.specs.declared.input.LoadId.{LoadId}
+use Rattle.audit_receipts.specs.declared.receipt.Receipt.{Receipt}
+use Rattle.cache_devices.specs.Sources.{Asking, Askings, Readings}
+use Rattle.cache_devices.specs.declared.errors.RunError.{RunError}
+use Rattle.cache_devices.specs.declared.watched.Watched.{Watched}
+use Rattle.cache_devices.proofs.Reading.{askings_more}
+use Rattle.cache_devices.proofs.Sending.{same_appends}
+use Rattle.cache_driver.specs.Drives as driven
+use Rattle.cache_driver.specs.Drives.{IsOfHand, Rest, Talks, asked_of, late_of, lost_of}
+use Rattle.cache_driver.proofs.Settled.{because-map}
+use Rattle.cache_driver.proofs.Whole.{comes-drives}
+use Rattle.cache_driver.specs.Causes.{Because}
+use Rattle.cache_driver.specs.Driven.{ClosesAfter, ComesTo, around}
+use Rattle.cache_driver.specs.Ending.{outcome_by}
+use Rattle.cache_driver.specs.declared.driving.Progress.{Progress}
+use Rattle.cache_driver.specs.declared.driving.Progress.TheVariants.{More, Over}
+use Rattle.cache_driver.specs.declared.session.Session.{Session}
+use Rattle.cache_driver.specs.Exchanges as did
+use Rattle.cache_driver.specs.Exchanges.{Chain, Doing, Exchange, Outs, askings_in, moments_in, pieces_in, replies_in, untaken_in}
+use Rattle.cache_serve.specs.Asked as asked
+use Rattle.cache_serve.specs.Asked.{Asks, AsksOrNot, HasAskedSome, IsOfLoad, IsShort, MayBeGivenUp, Opens, ServedInput, ServesConnection, ServesConnectionOrNot, Settling, clock_reading, closing_inputs, inputs_of, piece_bytes, settling_asking, settling_inputs, settlings_of}
+use Rattle.cache_serve.specs.Out.{HadGoneOut}
+use Rattle.cache_serve.specs.Served.{AsksAll, BeginsOrIdles, BeginsWith, WritesAll}
+use Rattle.cache_serve.specs.Sitting as sitting
+use Rattle.cache_serve.specs.Sitting.{SeatRests, tally}
+use Rattle.cache_serve.specs.Unfit.{IsUnfit}
+use Rattle.cache_serve.specs.Written.{Serves, WritesTexts}
+use Rattle.cache_shared.specs.declared.seat.Seat.{Seat}
+use Rattle.cache_shared.specs.declared.seat.Seating.{Ghosts as Ledgers}
+use Rattle.cache_shared.specs.Untaken.{WereUntaken}
+use Rattle.cache_spaces.specs.Spaces.{Shown}
+use Rattle.cache_serve.proofs.Asking.{asks-more, asks-none, grows-more}
+use Rattle.cache_serve.specs.Seated.{SeatCloses, SeatComes, SeatDrops, SeatOpens, Tally, WentAllOut}
+use Rattle.cache_serve.proofs.Passing.{Passed, askings-same, chain-passed, deeds_in, moments-same, of-last, pieces-same, texts-same, texts_in}
+
+-- ---- what was refused: a load for which the loader was asked, and nothing was asked of the service; or a piece, for which the clock told late
+
+module _ (keeps : Bool) (WentOut : ℕ → ℕ → List ℕ → Type 0) (Unfit : ℕ → Outcome → Type 0) (IsTaken : Conn → List ℕ → Type 0) (conn : Conn) where
+  -- deeds at which nothing was asked, and what the clock told besides
+  record Refused (moments : List ℕ) (askings : List Asking) : Type 0 where
+    deeds : List ServedInput
+    late : List ℕ
+    inputs : flat_map (inputs_of conn) deeds ≡ []
+    bytes : flat_map piece_bytes deeds ≡ []
+    told : map clock_reading deeds ++ late ≡ moments
+    asks : flat_map asked.asks_of deeds ≡ askings
+    few : length late ≤ 1
+    short : All IsShort deeds
+    out : All (IsOfLoad WentOut conn.namespace) (flat_map settlings_of deeds)
+    fit : All (MayBeGivenUp Unfit conn.namespace) (flat_map settlings_of deeds)
+
+  refused-none : (late : List ℕ) → length late ≤ 1 → Refused late []
+  refused-none late few = record {
+    deeds = [];
+    late = late;
+    inputs = refl;
+    bytes = refl;
+    told = refl;
+    asks = refl;
+    few = few;
+    short = All-nil IsShort;
+    out = All-nil (IsOfLoad WentOut conn.namespace);
+    fit = All-nil (MayBeGivenUp Unfit conn.namespace);
+  }
+
+  refused-load : (load : ℕ) (asking : Asking) (moment : ℕ) → WentOut conn.namespace load asking.key → Refused (moment ∷ []) (asking ∷ [])
+  refused-load load asking moment of = let settling = asked.Dropped load asking in record {
+    deeds = asked.Settled settling moment ∷ [];
+    late = [];
+    inputs = refl;
+    bytes = refl;
+    told = refl;
+    asks = refl;
+    few = omega arith;
+    short = All-cons IsShort (asked.Settled settling moment) [] tt (All-nil IsShort);
+    out = All-cons (IsOfLoad WentOut conn.namespace) settling [] of (All-nil (IsOfLoad WentOut conn.namespace));
+    fit = All-cons (MayBeGivenUp Unfit conn.namespace) settling [] tt (All-nil (MayBeGivenUp Unfit conn.namespace));
+  }
+
+  -- it was of the last load in hand
+  refused-any : (o : Option Doing) (hand : Outs) → IfSome o (IsOfHand hand) → WentAllOut keeps WentOut Unfit IsTaken conn.namespace hand → Refused (option_map_or did.told_of o []) (option_map_or did.asks_of o [])
+  refused-any None hand of out = refused-none [] (omega arith)
+  refused-any (Some (did.Fed piece moment held)) hand of out = refused-none (moment ∷ []) (omega arith)
+  refused-any (Some (did.Answered load key outcome moment)) hand of out = refused-load load (record { key = key; answer = Some outcome }) moment (of-last keeps WentOut Unfit IsTaken conn hand load key of.0 of.1 out).1
+  refused-any (Some (did.GivenUp load asking moment)) hand of out = refused-load load asking moment (of-last keeps WentOut Unfit IsTaken conn hand load asking.key of.0 of.1 out).1
+  refused-any (Some (did.Dropped load asking moment)) hand of out = refused-load load asking moment (of-last keeps WentOut Unfit IsTaken conn hand load asking.key of.0 of.1 out).1
+  refused-any (Some did.Looked) hand of out = refused-none [] (omega arith)
+
+-- a closing came, or none
+closing-some : (conn : Conn) (a b : List (Vec Receipt Global)) → AsksOrNot conn.namespace a b (input.Close conn) → (closes : Bool) × Asks conn.namespace a b (closing_inputs conn closes)
+closing-some conn a b (inl none) = (false, none)
+closing-some conn a b (inr one) = (true, one)
+
+-- ---- a connection, from its opening to what was dropped behind its closing
+
+module _ {H C D : Type 0} (keeps : Bool) (WentOut : ℕ → ℕ → List ℕ → Type 0) (Unfit : ℕ → Outcome → Type 0) (IsTaken : Conn → List ℕ → Type 0) (tally : H → Tally) (reads : C → ℕ → C → Type 0) (loads : D → List ℕ → Option Outcome → D → Type 0) (namespace : ℕ) (h k : H) (a b : driven.Outside C D) where
+  abbrev Opened : ℕ → Conn → H → H → Type 0
+  Opened n conn p q = SeatOpens keeps WentOut Unfit IsTaken n conn (tally p) (tally q)
+
+  abbrev Came : Conn → H → Exchange → H → Type 0
+  Came conn p x q = SeatComes keeps WentOut Unfit IsTaken conn (tally p) x (tally q)
+
+  abbrev Closed : Conn → H → H → Type 0
+  Closed conn p q = SeatCloses keeps WentOut Unfit IsTaken conn (tally p) (tally q)
+
+  abbrev Dropped : Conn → Outs → H → List Asking → H → Type 0
+  Dropped conn hand p askings q = SeatDrops keeps WentOut Unfit IsTaken conn hand (tally p) askings (tally q)
+
+  -- what is common to a connection that was driven to its end and to one that was driven to an error
+  record Drove (drops : List Settling) : Type 0 where
+    conn : Conn
+    opened : H
+    stopped : H
+    closed : H
+    opens : Opened namespace conn h opened
+    hand : Outs
+    rest : Rest
+    asked : D
+    talks : Talks (Came conn) reads loads opened stopped a (record { remaining = b.remaining; contents = b.contents; clock = b.clock; loader = asked }) [] hand rest
+    few : rest.untaken ≤ 1
+    closes : Closed conn stopped closed
+    asks : keeps ≡ true → Asks conn.namespace (tally closed).receipts (tally k).receipts (flat_map (settling_inputs conn.namespace 0) drops)
+    loaded : Askings loads asked (map settling_asking drops) b.loader
+    out : WentAllOut keeps WentOut Unfit IsTaken conn.namespace hand → All (IsOfLoad WentOut conn.namespace) drops
+    counts : (tally k).count ≤ (tally closed).count + length drops
+
+  abbrev DroveWhole : Type 0
+  DroveWhole = driven.DrivesWhole false Opened Came Closed Dropped reads loads namespace h k a b
+
+  abbrev DrovePartly : RunError → Type 0
+  DrovePartly e = driven.DrivesPartly false Opened Came Closed Dropped reads loads namespace h k a b e
+
+  abbrev drove-whole : DroveWhole → Drove []
+  drove-whole d = let none = d.sent.1 in record {
+    conn = d.conn;
+    opened = d.opened;
+    stopped = d.closed;
+    closed = k;
+    opens = d.opens;
+    hand = [];
+    rest = d.rest;
+    asked = b.loader;
+    talks = d.talks;
+    few = omega (arith, none);
+    closes = d.closes;
+    asks = λ kept. asks-none d.conn.namespace (tally k).receipts (tally k).receipts (λ n. refl);
+    loaded = refl;
+    out = λ out. All-nil (IsOfLoad WentOut d.conn.namespace);
+    counts = omega arith;
+  }
+
+  abbrev drove-partly : (e : RunError) (d : DrovePartly e) → Drove d.drops.drops
+  drove-partly e d = record {
+    conn = d.conn;
+    opened = d.opened;
+    stopped = d.stopped;
+    closed = d.closed;
+    opens = d.opens;
+    hand = d.hand;
+    rest = d.rest;
+    asked = d.asked;
+    talks = d.talks;
+    few = d.few;
+    closes = d.closes;
+    asks = d.drops.asks;
+    loaded = subst (λ askings. Askings loads d.asked askings b.loader) d.drops.loaded d.loaded;
+    out = d.drops.out;
+    counts = d.drops.few;
+  }
+
+  module _ (drops : List Settling) (d : Drove drops) where
+    passed : Passed keeps WentOut Unfit IsTaken d.conn (tally d.opened) d.talks.exchanges (tally d.stopped) d.hand
+    passed = chain-passed keeps WentOut Unfit IsTaken d.conn tally d.opened [] d.talks.exchanges d.stopped d.hand (All-nil (λ (o : LoadId × List ℕ). WentOut d.conn.namespace o.0.number o.1)) d.talks.chain
+
+    refused : Refused keeps WentOut Unfit IsTaken d.conn (late_of d.rest) (asked_of d.rest)
+    refused = refused-any keeps WentOut Unfit IsTaken d.conn d.rest.refused d.hand d.talks.refused passed.hand
+
+    abbrev own : List ServedInput
+    own = deeds_in d.talks.exchanges
+
+    abbrev deeds : List ServedInput
+    deeds = own ++ refused.deeds
+
+    deeds-read : flat_map piece_bytes deeds ++ lost_of d.rest ≡ pieces_in d.talks.exchanges ++ lost_of d.rest
+    deeds-read =
+        ap (λ l. l ++ lost_of d.rest)
+        (flat_map-append piece_bytes own refused.deeds ∙ ap (λ l. flat_map piece_bytes own ++ l) refused.bytes ∙ append-nil (flat_map piece_bytes own) ∙ pieces-same d.talks.exchanges)
+
+    deeds-told : map clock_reading deeds ++ refused.late ≡ moments_in d.talks.exchanges ++ late_of d.rest
+    deeds-told =
+        ap (λ l. l ++ refused.late) (map-append clock_reading own refused.deeds) ∙ append_assoc (map clock_reading own) (map clock_reading refused.deeds) refused.late
+        ∙ ap (λ l. l ++ (map clock_reading refused.deeds ++ refused.late)) (moments-same d.talks.exchanges) ∙ ap (λ l. moments_in d.talks.exchanges ++ l) refused.told
+
+    deeds-asked : flat_map asked.asks_of deeds ≡ askings_in d.talks.exchanges ++ asked_of d.rest
+    deeds-asked =
+        flat_map-append asked.asks_of own refused.deeds ∙ ap (λ l. l ++ flat_map asked.asks_of refused.deeds) (askings-same d.talks.exchanges) ∙ ap (λ l. askings_in d.talks.exchanges ++ l) refused.asks
+
+    deeds-inputs : flat_map (inputs_of d.conn) own ≡ flat_map (inputs_of d.conn) deeds
+    deeds-inputs = sym (flat_map-append (inputs_of d.conn) own refused.deeds ∙ ap (λ l. flat_map (inputs_of d.conn) own ++ l) refused.inputs ∙ append-nil (flat_map (inputs_of d.conn) own))
+
+    -- of what was settled
+    deeds-all : (P : Settling → Type 0) → All P (flat_map settlings_of own) → All P (flat_map settlings_of refused.deeds) → All P (flat_map settlings_of deeds)
+    deeds-all P some last = subst (All P) (sym (flat_map-append settlings_of own refused.deeds)) (All-append P (flat_map settlings_of own) (flat_map settlings_of refused.deeds) some last)
+
+    -- what was asked behind the opening
+    asked-behind : keeps ≡ true
+        → (closes : Bool) × Asks d.conn.namespace (tally d.opened).receipts (tally k).receipts ((flat_map (inputs_of d.conn) deeds ++ closing_inputs d.conn closes) ++ flat_map (settling_inputs d.conn.namespace 0) drops)
+    asked-behind kept =
+        let n = d.conn.namespace in
+        let inputs = flat_map (inputs_of d.conn) deeds in
+        let close = closing-some d.conn (tally d.stopped).receipts (tally d.closed).receipts (d.closes.asks kept) in
+        let done = subst (Asks n (tally d.opened).receipts (tally d.stopped).receipts) deeds-inputs (passed.asks kept) in (
+          close.0,
+          asks-more n (tally d.opened).receipts (tally d.closed).receipts (tally k).receipts (inputs ++ closing_inputs d.conn close.0) (flat_map (settling_inputs n 0) drops)
+              (asks-more n (tally d.opened).receipts (tally d.stopped).receipts (tally d.closed).receipts inputs (closing_inputs d.conn close.0) done close.1) (d.asks kept),
+        )
+
+    opened-there : keeps ≡ true → Opens d.conn.namespace (tally h).receipts (tally d.opened).receipts d.conn
+    opened-there kept = subst (λ n. Opens n (tally h).receipts (tally d.opened).receipts d.conn) (sym d.opens.here) (d.opens.asks kept)
+
+    -- each receipt is of what was done for the connection
+    serves-connection : keeps ≡ true → ServesConnection WentOut Unfit reads loads (tally h).receipts (tally k).receipts a.remaining b.remaining a.clock b.clock a.loader b.loader namespace d.conn drops
+    serves-connection kept =
+        let n = d.conn.namespace in
+        let opens = opened-there kept in
+        let all = asked-behind kept in
+        let added = all.1.added in
+        subst (λ m. ServesConnection WentOut Unfit reads loads (tally h).receipts (tally k).receipts a.remaining b.remaining a.clock b.clock a.loader b.loader m d.conn drops) d.opens.here (record {
+          first = opens.first;
+          opening = opens.asked;
+          opened = opens.opened;
+          rest = added;
+          grows = grows-more n (tally h).receipts (tally d.opened).receipts (tally k).receipts (opens.first ∷ []) added opens.grows all.1.grows;
+          deeds = deeds;
+          short = All-append IsShort own refused.deeds passed.short refused.short;
+          closes = all.0;
+          asked = all.1.asked;
+          lost = lost_of d.rest;
+          late = refused.late;
+          read = subst (Consumes a.remaining b.remaining) (sym deeds-read) d.talks.read;
+          told = subst (λ ts. Readings reads a.clock ts b.clock) (sym deeds-told) d.talks.clock;
+          few = refused.few;
+          loaded = askings_more loads a.loader (flat_map asked.asks_of deeds) d.asked (map settling_asking drops) b.loader (subst (λ ks. Askings loads a.loader ks d.asked) (sym deeds-asked) d.talks.loader) d.loaded;
+          out = All-append (IsOfLoad WentOut n) (flat_map settlings_of deeds) drops (deeds-all (IsOfLoad WentOut n) passed.out refused.out) (d.out passed.hand);
+          fit = deeds-all (MayBeGivenUp Unfit n) passed.fit refused.fit;
+        })
+
+    -- its receipts begin with that of the opening
+    begins-with : keeps ≡ true → BeginsWith namespace (tally h).receipts (tally k).receipts d.conn
+    begins-with kept =
+        let all = asked-behind kept in
+        subst (λ n. BeginsWith n (tally h).receipts (tally k).receipts d.conn) d.opens.here (record { between = (tally d.opened).receipts; opens = opened-there kept; rest = all.1.added; grows = all.1.grows })
+
+    -- the texts were the connection's replies, and were written but for the rest
+    writes-texts : WritesTexts (IsTaken d.conn) (length (texts_in d.talks.exchanges)) a.contents b.contents d.rest.unsent
+    writes-texts = record {
+      texts = texts_in d.talks.exchanges;
+      number = refl;
+      taken = passed.taken;
+      sent = record { sent = d.talks.sent; whole = d.talks.replies ∙ sym (texts-same d.talks.exchanges); wrote = d.talks.wrote };
+    }
+
+    -- there is one for each input that is counted, but for those that are spared
+    counted : (tally k).count ≤ (tally h).count + length (texts_in d.talks.exchanges) + (length drops + 3)
+    counted =
+        let one = d.opens.one in
+        let seen = passed.few in
+        let same = d.talks.untaken in
+        let few = d.few in
+        let close = d.closes.one in
+        let last = d.counts in omega (arith, one, seen, same, few, close, last)
+
+    -- the loader was asked at least as often as loads were dropped
+    asked-all : (asks : List Asking) × Askings loads a.loader asks b.loader × (length drops ≤ length asks)
+    asked-all =
+        let first = askings_in d.talks.exchanges ++ asked_of d.rest in
+        let both = length-append first (map settling_asking drops) in
+        let own : length (map settling_asking drops) ≡ length drops = length-map drops settling_asking in
+        (first ++ map settling_asking drops, askings_more loads a.loader first d.asked (map settling_asking drops) b.loader d.talks.loader d.loaded, omega (arith, both, own))
+
+  -- ---- the theorems
+
+  -- what was asked, where receipts are kept
+  drove-asked : {X : Type 0} (result : Result X RunError) → MatchResult result (λ x. DroveWhole) DrovePartly → keeps ≡ true
+      → MatchResult result (λ x. (conn : Conn) × ServesConnection WentOut Unfit reads loads (tally h).receipts (tally k).receipts a.remaining b.remaining a.clock b.clock a.loader b.loader namespace conn [])
+      (λ e. (conn : Conn) × ServesConnectionOrNot WentOut Unfit reads loads (tally h).receipts (tally k).receipts a.remaining b.remaining a.clock b.clock a.loader b.loader namespace conn)
+  drove-asked (Ok x) d kept = (d.conn, serves-connection [] (drove-whole d) kept)
+  drove-asked (Err e) d kept = (d.conn, inl (d.drops.drops, serves-connection d.drops.drops (drove-partly e d) kept))
+
+  -- what the loader was asked
+  drove-loaded : {X : Type 0} (result : Result X RunError) → MatchResult result (λ x. DroveWhole) DrovePartly → HasAskedSome loads a.loader b.loader
+  drove-loaded (Ok x) d = let all = asked-all [] (drove-whole d) in (all.0, all.1)
+  drove-loaded (Err e) d = let all = asked-all d.drops.drops (drove-partly e d) in (all.0, all.1)
+
+-- what was written
+module _ {H C D X : Type 0} (keeps : Bool) (WentOut : ℕ → ℕ → List ℕ → Type 0) (Unfit : ℕ → Outcome → Type 0) (spaces : X → List Shown) (events : X → ℕ) (untaken : X → Conn → List ℕ) (tally : H → Tally) (reads : C → ℕ → C → Type 0) (loads : D → List ℕ → Option Outcome → D → Type 0)
+    (namespace : ℕ) (h k : H) (a b : driven.Outside C D) where
+  abbrev IsReply : Conn → List ℕ → Type 0
+  IsReply conn text = ∥ WereUntaken spaces events untaken conn text ∥₁
+
+  abbrev Wrote : ℕ → List ℕ → Type 0
+  Wrote spared rest = Serves spaces events untaken namespace (BeginsOrIdles keeps namespace (tally h).receipts (tally k).receipts) (tally h).count (tally k).count spared a.contents b.contents rest
+
+  wrote : (drops : List Settling) (d : Drove keeps WentOut Unfit IsReply tally reads loads namespace h k a b drops) (spared : ℕ) → length drops + 3 ≤ spared → Wrote spared d.rest.unsent
+  wrote drops d spared most = let few = counted keeps WentOut Unfit IsReply tally reads loads namespace h k a b drops d in record {
+    conn = d.conn;
+    here = d.opens.here;
+    asked = λ kept. inl (begins-with keeps WentOut Unfit IsReply tally reads loads namespace h k a b drops d kept);
+    count = length (texts_in d.talks.exchanges);
+    counted = omega (arith, few, most);
+    writes = writes-texts keeps WentOut Unfit IsReply tally reads loads namespace h k a b drops d;
+  }
+
+  drove-wrote : {Y : Type 0} (result : Result Y RunError) → MatchResult result (λ x. DroveWhole keeps WentOut Unfit IsReply tally reads loads namespace h k a b) (DrovePartly keeps WentOut Unfit IsReply tally reads loads namespace h k a b)
+      → MatchResult result (λ x. Wrote 3 []) (λ e. (rest : List ℕ) × (asks : List Asking) × Askings loads a.loader asks b.loader × Wrote (length asks + 3) rest)
+  drove-wrote (Ok x) d = subst (Wrote 3) d.sent.0 (wrote [] (drove-whole keeps WentOut Unfit IsReply tally reads loads namespace h k a b d) 3 (omega arith))
+  drove-wrote (Err e) d =
+      let p = drove-partly keeps WentOut Unfit IsReply tally reads loads namespace h k a b e d in
+      let all = asked-all keeps WentOut Unfit IsReply tally reads loads namespace h k a b d.drops.drops p in
+      let often = all.2 in (d.rest.unsent, all.0, all.1, wrote d.drops.drops p (length all.0 + 3) (omega (arith, often)))
+
+-- none was opened
+pub rested : {L : Type 0} {G : Ledgers L} (p q : Seat L G) → (q ≡ p) ⊎ SeatRests (tally p) (tally q) → SeatRests (tally p) (tally q)
+rested p q (inl is) = subst (λ (r : Seat _ _). SeatRests (tally p) (tally r)) (sym is) (record { count = refl; same = λ n. refl })
+rested p q (inr rests) = rests
+
+-- nothing was written
+pub rested-wrote : {X : Type 0} (keeps : Bool) (spaces : X → List Shown) (events : X → ℕ) (untaken : X → Conn → List ℕ) (namespace : ℕ) (h k : Tally) (contents : Option (List ℕ)) → SeatRests h k
+    → Serves spaces events untaken namespace (BeginsOrIdles keeps namespace h.receipts k.receipts) h.count k.count 3 contents contents []
+rested-wrote keeps spaces events untaken namespace h k contents rests = let same = rests.count in record {
+  conn = record { namespace = namespace; number = 0 };
+  here = refl;
+  asked = λ kept. inr rests.same;
+  count = 0;
+  counted = omega (arith, same);
+  writes = record { texts = []; number = refl; taken = tt; sent = record { sent = []; whole = refl; wrote = same_appends contents } };
+}
+
+-- ---- what serving a connection promises
+
+module _ {C L R W K D : Type 0} {G : Ledgers L} (spaces : C → List Shown) (events : C → ℕ) (untaken : C → Conn → List ℕ) (keeps : Bool) (remaining : R → Option (List ℕ)) (contents : W → Option (List ℕ)) (reads : K → ℕ → K → Type 0) (loads : D → List ℕ → Option Outcome → D → Type 0) (namespace : ℕ)
+    (p q : Seat L G) (reader reader' : Watched R) (writer writer' : Watched W) (clock clock' : K) (loader loader' : D) where
+  pub record Promises (outcome : Result (Unit {0}) RunError) : Type 0 where
+    pub wrote : WritesAll keeps spaces events untaken contents loads namespace outcome p q writer writer' loader loader'
+    pub asked : AsksAll keeps spaces events remaining reads loads namespace outcome p q reader reader' clock clock' loader loader'
+    pub loaded : HasAskedSome loads loader loader'
+
+  -- it was opened, it came to an end or an error, and was closed
+  pub attended : (s t : Session) (start m : Seat L G) (middle : D) (ended : Result Progress RunError) (outcome result : Result (Unit {0}) RunError) → sitting.Opens spaces events untaken keeps namespace s.conn p start → t.conn ≡ s.conn
+      → ComesTo false (sitting.Comes spaces events untaken keeps) (sitting.Closes spaces events untaken keeps) reads loads start (around remaining contents reader writer clock loader) ended t m (around remaining contents reader' writer' clock' middle)
+      → outcome ≡ outcome_by ended → ClosesAfter (sitting.Closes spaces events untaken keeps) (sitting.Drops spaces events untaken keeps) loads outcome t m q middle loader' → result ≡ outcome → Promises result
+  attended s t start m middle ended outcome result opened same comes is closes so =
+      let a = around remaining contents reader writer clock loader in
+      let b = around remaining contents reader' writer' clock' loader' in
+      let drives = comes-drives false (sitting.Opens spaces events untaken keeps) (sitting.Comes spaces events untaken keeps) (sitting.Closes spaces events untaken keeps) (sitting.Drops spaces events untaken keeps) reads loads namespace p start m q a
+      (around remaining contents reader' writer' clock' middle) loader' t (subst (λ conn. sitting.Opens spaces events untaken keeps namespace conn p start) (sym same) opened) ended comes
+      (subst (λ (o : Result (Unit {0}) RunError). ClosesAfter (sitting.Closes spaces events untaken keeps) (sitting.Drops spaces events untaken keeps) loads o t m q middle loader') is closes) in
+      subst Promises (sym (so ∙ is)) (record {
+        wrote = drove-wrote keeps (HadGoneOut spaces events) (IsUnfit spaces events) spaces events untaken tally reads loads namespace p q a b (outcome_by ended) drives;
+        asked = drove-asked keeps (HadGoneOut spaces events) (IsUnfit spaces events) (sitting.IsReply spaces events untaken) tally reads loads namespace p q a b (outcome_by ended) drives;
+        loaded = drove-loaded keeps (HadGoneOut spaces events) (IsUnfit spaces events) (sitting.IsReply spaces events untaken) tally reads loads namespace p q a b (outcome_by ended) drives;
+      })
+
+-- ---- causes
+
+-- the cause of an error, seen from further off
+pub ended-because : {r w u l r' w' u' l' : Type 0} (ended : Result Progress RunError) (outcome : Result (Unit {0}) RunError) → outcome ≡ outcome_by ended → ended ≢ Ok More → (r → r') → (w → w') → (u → u') → (l → l') → IfErr ended (Because r w u l) → (e : RunError) → outcome ≡ Err e
+    → Because r' w' u' l' e
+ended-because (Ok More) outcome is over f g h k why e came = absurd (over refl)
+ended-because (Ok Over) outcome is over f g h k why e came = let no : Ok tt ≡ Err e = sym is ∙ came in cc
+ended-because {r} {w} {u} {l} (Err x) outcome is over f g h k why e came = let both : Err x ≡ Err e = sym is ∙ came in let same : x ≡ e = cc in because-map e f g h k (subst (Because r w u l) same why)

@@ -1,0 +1,119 @@
+-- What the host of a connection of a shared service answers for, by its seat.
+use Rattle.std.proofs.Common.{◌∙◌, ap, arith, inl, inr}
+use Rattle.std.specs.Prelude.{◌≡◌, ℕ, ◌+◌, ◌≤◌, ◌==◌, Bool, true, false, List, [], ◌∷◌, ◌++◌, count_by, Option, Some, None, IfSome, Result, Ok, Err, Vec}
+use Rattle.std.specs.Option.{option_map}
+use Rattle.std.specs.declared.alloc.Global.{Global}
+use Rattle.audit_model.specs.declared.event.Outcome.{Outcome}
+use Rattle.audit_model.specs.declared.input.Conn.{Conn}
+use Rattle.audit_model.specs.declared.input.Input.{Input}
+use Rattle.audit_model.specs.declared.input.Input.TheVariants as input
+use Rattle.audit_receipts.specs.declared.receipt.Receipt.{Receipt}
+use Rattle.cache_devices.specs.Sources.{Asking, Askings}
+use Rattle.cache_driver.specs.Exchanges.{Exchange, Outs}
+use Rattle.cache_driver.specs.Hosting.{Suits}
+use Rattle.cache_driver.specs.declared.host.Given.{Given}
+use Rattle.cache_serve.specs.Asked.{Asks, AsksOrNot}
+use Rattle.cache_serve.specs.Out.{AreOut, HadGoneOut}
+use Rattle.cache_serve.specs.Seated.{SeatCloses, SeatComes, SeatDrops, SeatOpens, SeatSettles, Tally}
+use Rattle.cache_serve.specs.Unfit.{IsUnfit}
+use Rattle.cache_shared.specs.Seats.{SameReceipts}
+use Rattle.cache_shared.specs.Untaken.{WereUntaken}
+use Rattle.cache_shared.specs.declared.seat.Seat.{Seat}
+use Rattle.cache_shared.specs.declared.seat.Seating.{Ghosts as Ledgers}
+use Rattle.cache_spaces.specs.Inputs.{namespace_of}
+use Rattle.cache_spaces.specs.Spaces.{Shown}
+
+-- its count and its receipts
+abbrev pub tally : {L : Type 0} → {G : Ledgers L} → Seat L G → Tally
+tally seat = record { count = seat.count; receipts = seat.receipts.items }
+
+-- no more than 16 lines end in the piece
+abbrev pub IsShortPiece : List ℕ → Type 0
+IsShortPiece piece = count_by (λ byte. byte == 10) piece ≤ 16
+
+-- nothing was taken
+pub record SeatRests (h k : Tally) : Type 0 where
+  pub count : k.count ≡ h.count
+  pub same : SameReceipts h.receipts k.receipts
+
+-- an input was taken
+pub record SeatTakes (keeps : Bool) (i : Input) (h k : Tally) : Type 0 where
+  pub one : k.count ≡ h.count + 1
+  pub asks : keeps ≡ true → Asks (namespace_of i) h.receipts k.receipts (i ∷ [])
+
+-- it was taken where something is given, and else nothing was
+abbrev pub TakesIfGiven : {X E : Type 0} → Bool → Input → Result (Option X) E → Tally → Tally → Type 0
+TakesIfGiven keeps i (Ok (Some x)) h k = SeatTakes keeps i h k
+TakesIfGiven keeps i (Ok None) h k = SeatRests h k
+TakesIfGiven keeps i (Err e) h k = SeatRests h k
+
+module _ {C : Type 0} (spaces : C → List Shown) (events : C → ℕ) (untaken : C → Conn → List ℕ) where
+  -- the text was the replies of the connection
+  abbrev pub IsReply : Conn → List ℕ → Type 0
+  IsReply conn text = ∥ WereUntaken spaces events untaken conn text ∥₁
+
+  -- The texts were replies of the connection, and the loads had gone out; they are given only where they were wanted.
+  pub record Gives (conn : Conn) (wants_loads : Bool) (given : Given) : Type 0 where
+    pub text : IfSome (option_map (λ text. text.items) given.replies) (IsReply conn)
+    pub out : IfSome (option_map (λ loads. loads.items) given.loads) (AreOut spaces events conn.namespace)
+    pub suits : Suits false wants_loads given
+
+  module _ {L : Type 0} {G : Ledgers L} (keeps : Bool) where
+    -- in the words of a seat
+    abbrev pub Opens : ℕ → Conn → Seat L G → Seat L G → Type 0
+    Opens namespace conn p q = SeatOpens keeps (HadGoneOut spaces events) (IsUnfit spaces events) IsReply namespace conn (tally p) (tally q)
+
+    abbrev pub Comes : Conn → Seat L G → Exchange → Seat L G → Type 0
+    Comes conn p exchange q = SeatComes keeps (HadGoneOut spaces events) (IsUnfit spaces events) IsReply conn (tally p) exchange (tally q)
+
+    abbrev pub Closes : Conn → Seat L G → Seat L G → Type 0
+    Closes conn p q = SeatCloses keeps (HadGoneOut spaces events) (IsUnfit spaces events) IsReply conn (tally p) (tally q)
+
+    abbrev pub Drops : Conn → Outs → Seat L G → List Asking → Seat L G → Type 0
+    Drops conn hand p askings q = SeatDrops keeps (HadGoneOut spaces events) (IsUnfit spaces events) IsReply conn hand (tally p) askings (tally q)
+
+    -- whatever the key, a load was settled by what the loader said
+    abbrev pub Settles : ℕ → ℕ → Option Outcome → ℕ → Seat L G → Seat L G → Type 0
+    Settles namespace load said moment p q =
+        (key : List ℕ) → SeatSettles keeps (HadGoneOut spaces events) (IsUnfit spaces events) IsReply namespace moment load (record { key = key; answer = said }) (tally p) (tally q)
+
+    -- so it was at moment 0, whatever the service refuses
+    abbrev pub SettlesLate : ℕ → ℕ → Option Outcome → Seat L G → Seat L G → Type 0
+    SettlesLate namespace load said p q =
+        (key : List ℕ) → SeatSettles keeps (HadGoneOut spaces events) (λ n outcome. Unit {0}) IsReply namespace 0 load (record { key = key; answer = said }) (tally p) (tally q)
+
+    -- a loader was asked for the load by that key, and it was settled so
+    abbrev pub DropsOne : {D : Type 0} → (D → List ℕ → Option Outcome → D → Type 0) → ℕ → ℕ → List ℕ → Seat L G → Seat L G → D → D → Type 0
+    DropsOne loads namespace load key p q d e = (said : Option Outcome) × SettlesLate namespace load said p q × loads d key said e
+
+    -- it was asked for several
+    abbrev pub DropsBy : {D : Type 0} → (D → List ℕ → Option Outcome → D → Type 0) → Conn → Outs → Seat L G → Seat L G → D → D → Type 0
+    DropsBy loads conn hand p q d e = (askings : List Asking) × Drops conn hand p askings q × Askings loads d askings e
+
+-- ---- what the trait of a host wants to be known
+
+-- behind what asked nothing
+pub asks-behind : {n : ℕ} {a b c : List (Vec Receipt Global)} {inputs : List Input} → SameReceipts a b → Asks n b c inputs → Asks n a c inputs
+asks-behind {n} same asks = record {
+  added = asks.added;
+  grows = record { own = asks.grows.own ∙ ap (λ l. l ++ asks.added) (same n); others = λ other ne. asks.grows.others other ne ∙ same other };
+  asked = asks.asked;
+}
+
+or-behind : (n : ℕ) (a b c : List (Vec Receipt Global)) (i : Input) → SameReceipts a b → AsksOrNot n b c i → AsksOrNot n a c i
+or-behind n a b c i same (inl none) = inl (asks-behind same none)
+or-behind n a b c i same (inr one) = inr (asks-behind same one)
+
+-- a closing behind what rested
+pub closes-behind : {keeps : Bool} {WentOut : ℕ → ℕ → List ℕ → Type 0} {Unfit : ℕ → Outcome → Type 0} {IsTaken : Conn → List ℕ → Type 0} (conn : Conn) (h m k : Tally) → SeatRests h m → SeatCloses keeps WentOut Unfit IsTaken conn m k → SeatCloses keeps WentOut Unfit IsTaken conn h k
+closes-behind conn h m k rests closes =
+    let same = rests.count in
+    let one = closes.one in
+    let rises = closes.rises in record {
+      asks = λ kept. or-behind conn.namespace h.receipts m.receipts k.receipts (input.Close conn) rests.same (closes.asks kept);
+      one = omega (arith, same, one);
+      rises = omega (arith, same, rises);
+    }
+
+pub none-short : IsShortPiece []
+none-short = omega arith

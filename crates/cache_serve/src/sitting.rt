@@ -1,0 +1,475 @@
+//! The host of a connection that has a seat of a service which threads share.
+ghost use Rattle.std.specs.Prelude.{◌≡◌, ◌≤◌, ◌^◌, ℕ, false, None, IfOk, IfErr, IfSome, OnOk, OnErr};
+ghost use Rattle.std.specs.Option.{ForSome, option_map};
+ghost use Rattle.audit_model.specs.declared.input.Conn.{Conn};
+ghost use Rattle.cache_driver.specs.Hosting.{Stops};
+ghost use Rattle.cache_serve.specs.Asked.{feed_input, give_up_input};
+ghost use Rattle.cache_serve.specs.Full.{HasUsedUp, used-up-within};
+ghost use Rattle.cache_serve.specs.Out.{AreOut};
+ghost use Rattle.cache_serve.specs.Sitting.{Closes, Comes, Drops, DropsBy, DropsOne, Gives, IsReply, IsShortPiece, Opens, SeatRests, SeatTakes, Settles, SettlesLate, TakesIfGiven, closes-behind, none-short, tally};
+ghost use Rattle.cache_shared.specs.Events.{IsLate, WasRefused, WasUsedUp};
+
+use crate::cutting::{Pace, length_of_cut};
+use crate::devices::Teller;
+use crate::errors::error_of_refusal;
+use crate::pausing::pause;
+use audit_model::{Bytes, Conn, Input, Instant, LoadId, Note, Outcome, Seq, ServiceError};
+use cache_devices::{Loader, RunError};
+use cache_driver::{Given, Host};
+use cache_shared::{Owed, Replies, Seat, Seating, SharedService, TakenLoads, Takings, Turn};
+use cache_spaces::{Output, Refusal};
+use std::alloc::Global;
+use std::sync::Wait;
+
+/// What a connection is served by, besides its seat: the service, who is told notes, and room for them.
+#[derive(Drop)]
+pub struct Sitting<'a, L: Seating, C: Takings, T: Teller, R: Wait> {
+    rt: &'a R,
+    alloc: Global,
+    shared: &'a SharedService<L, C>,
+    teller: &'a mut T,
+    notes: Vec<Note>,
+    pace: Pace,
+}
+
+/// The bytes of replies.
+fn text_of<C: Takings>(replies: Option<Replies<C>>) -> Option<Vec<u8>>
+    ensures { (conn : Conn) → ForSome replies (λ one. one.conn ≡ conn) → IfSome (option_map (λ text. text.items) result) (IsReply C.spaces C.events C.untaken conn) }
+{
+    match replies {
+        Some(replies) => Some(replies.into_text()),
+        None => None,
+    }
+}
+
+/// Loads that were taken, where they are wanted.
+fn loads_of<C: Takings>(loads: Option<TakenLoads<C>>, wanted: bool) -> Option<Vec<(LoadId, Bytes)>>
+    ensures out { (n : ℕ) → ForSome loads (λ one. one.namespace ≡ n) → IfSome (option_map (λ given. given.items) result) (AreOut C.spaces C.events n) }
+    ensures unwanted { wanted ≡ false → result ≡ None }
+{
+    match loads {
+        Some(loads) if wanted => Some(loads.into_loads()),
+        _ => None,
+    }
+}
+
+impl<'a, L: Seating, C: Takings, T: Teller, R: Wait> Sitting<'a, L, C, T, R> {
+    /// What a connection is served by, with room for notes.
+    pub fn new(
+        rt: &'a R,
+        alloc: Global,
+        shared: &'a SharedService<L, C>,
+        teller: &'a mut T,
+        notes: Vec<Note>,
+    ) -> Self {
+        Sitting {
+            rt,
+            alloc,
+            shared,
+            teller,
+            notes,
+            pace: Pace::new(),
+        }
+    }
+}
+
+impl<L: Seating, C: Takings, T: Teller, R: Wait> Sitting<'_, L, C, T, R> {
+    /// Tells the notes that were taken, and those that there was no room for.
+    fn tell_notes(&mut self, namespace: u64) {
+        for _turn in 0..u64::MAX {
+            if self.notes.is_empty() {
+                return;
+            }
+            let is_full = self.notes.len() == self.notes.capacity();
+            self.teller.tell(self.rt, self.notes.as_slice());
+            self.notes.clear();
+            if !is_full {
+                return;
+            }
+            let _ = self
+                .shared
+                .take_notices(self.rt, namespace, &mut self.notes);
+        }
+    }
+
+    /// Gives what is owed, and counts the reply bytes.
+    fn give(&mut self, owed: Owed<C>, held: bool, wants_loads: bool) -> Given
+        ensures { Gives C.spaces C.events C.untaken owed.conn wants_loads result }
+    {
+        let Owed {
+            replies,
+            loads,
+            closing,
+            waits,
+            ..
+        } = owed;
+        let replies = text_of(replies);
+        match &replies {
+            Some(text) => self.pace.note(text.len()),
+            None => {}
+        }
+        Given {
+            held,
+            replies,
+            loads: loads_of(loads, wants_loads),
+            closing,
+            waits,
+        }
+    }
+
+    /// Takes an input, and gives what the connection is owed behind it, in one hold of the lock; then notes are told.
+    fn ask(
+        &mut self,
+        seat: &mut Seat<L>,
+        conn: Conn,
+        input: Input,
+        wants_loads: bool,
+    ) -> Result<Given, ServiceError>
+        ensures taken { OnOk result (SeatTakes C.KEEPS input (tally seat.old) (tally seat.new)) }
+        ensures given { IfOk result (Gives C.spaces C.events C.untaken conn wants_loads) }
+        ensures rests { OnErr result (SeatRests (tally seat.old) (tally seat.new)) }
+        ensures refused { IfErr result (λ e. ∥ WasRefused C.spaces C.events input e seat.old.count ∥₁) }
+        ensures late { IfErr result (λ e. e ≡ ServiceError.Moment → IsLate input) }
+        ensures used_up { IfErr result (λ e. e ≡ ServiceError.UsedUp → WasUsedUp C.events seat.old.count) }
+    {
+        let turn = match self
+            .shared
+            .turn(self.rt, seat, conn, input, wants_loads, &mut self.notes)
+        {
+            Ok(turn) => turn,
+            Err(Refusal { error, .. }) => return Err(error),
+        };
+        self.tell_notes(conn.namespace);
+        let Turn { output, owed } = turn;
+        let held = match output {
+            Output::Held => true,
+            _ => false,
+        };
+        Ok(self.give(owed, held, wants_loads))
+    }
+
+    /// What a connection is owed; notes are told.
+    fn take_owed(&mut self, conn: Conn, wants_loads: bool) -> Given
+        ensures { Gives C.spaces C.events C.untaken conn wants_loads result }
+    {
+        let owed = self
+            .shared
+            .take_owed(self.rt, conn, wants_loads, &mut self.notes);
+        self.tell_notes(conn.namespace);
+        self.give(owed, false, wants_loads)
+    }
+
+    /// Gives a load up. Where that is refused for memory it is tried again. None where it is not under way.
+    fn give_up(
+        &mut self,
+        seat: &mut Seat<L>,
+        conn: Conn,
+        load: u64,
+        moment: u64,
+        wants_loads: bool,
+    ) -> Result<Option<Given>, RunError>
+        ensures taken { TakesIfGiven C.KEEPS (give_up_input conn.namespace moment load) result (tally seat.old) (tally seat.new) }
+        ensures given { IfOk result (λ given. IfSome given (Gives C.spaces C.events C.untaken conn wants_loads)) }
+        ensures why { IfErr result (Stops (HasUsedUp C.events seat.old.count seat.new.count) (2 ^ 63 ≤ moment)) }
+    {
+        for _try in self.rt.forever() {
+            let input = Input::GiveUp {
+                load: LoadId {
+                    namespace: conn.namespace,
+                    number: load,
+                },
+                moment: Instant { nanos: moment },
+            };
+            match self.ask(seat, conn, input, wants_loads) {
+                Ok(given) => return Ok(Some(given)),
+                Err(ServiceError::OutOfMemory) => pause(self.rt),
+                Err(ServiceError::UsedUp) => return Err(RunError::UsedUp),
+                Err(ServiceError::Moment) => return Err(RunError::Moment),
+                // It is not under way.
+                Err(_) => return Ok(None),
+            }
+        }
+        unreachable!()
+    }
+
+    /// Settles a load by what the loader said of its key: it is given up where the loader asks it, or where the outcome is refused for its
+    /// bytes or its time. None where it is not under way.
+    fn settle_load(
+        &mut self,
+        seat: &mut Seat<L>,
+        conn: Conn,
+        load: u64,
+        said: Option<Outcome>,
+        moment: u64,
+        wants_loads: bool,
+    ) -> Result<Option<Given>, RunError>
+        ensures settled { Settles C.spaces C.events C.untaken C.KEEPS conn.namespace load said moment seat.old seat.new }
+        ensures rests { OnErr result (SeatRests (tally seat.old) (tally seat.new)) }
+        ensures given { IfOk result (λ given. IfSome given (Gives C.spaces C.events C.untaken conn wants_loads)) }
+        ensures why { IfErr result (Stops (HasUsedUp C.events seat.old.count seat.new.count) (2 ^ 63 ≤ moment)) }
+    {
+        let outcome = match said {
+            Some(outcome) => outcome,
+            None => return self.give_up(seat, conn, load, moment, wants_loads),
+        };
+        let input = Input::Answer {
+            load: LoadId {
+                namespace: conn.namespace,
+                number: load,
+            },
+            outcome,
+            moment: Instant { nanos: moment },
+        };
+        let error = match self.ask(seat, conn, input, wants_loads) {
+            Ok(given) => return Ok(Some(given)),
+            Err(error) => error,
+        };
+        match error {
+            ServiceError::LineEnd | ServiceError::TooLong | ServiceError::Deadline => {
+                self.give_up(seat, conn, load, moment, wants_loads)
+            }
+            ServiceError::OutOfMemory | ServiceError::UsedUp | ServiceError::Moment => {
+                Err(error_of_refusal(error))
+            }
+            // It is not under way.
+            _ => Ok(None),
+        }
+    }
+
+    /// Settles a load of a connection that has closed, at moment 0, which counts as the latest. An answer that is refused is followed by a
+    /// give-up.
+    fn settle_late(&mut self, seat: &mut Seat<L>, conn: Conn, load: u64, said: Option<Outcome>)
+        ensures { SettlesLate C.spaces C.events C.untaken C.KEEPS conn.namespace load said seat.old seat.new }
+    {
+        match self.settle_load(seat, conn, load, said, 0, false) {
+            Ok(_) => return,
+            Err(_) => {}
+        }
+        let _ = self.give_up(seat, conn, load, 0, false);
+    }
+
+    /// Asks the loader for a load of a connection that has closed, and settles it.
+    fn drop_load<D: Loader>(
+        &mut self,
+        seat: &mut Seat<L>,
+        conn: Conn,
+        load: u64,
+        key: &[u8],
+        loader: &mut D,
+    )
+        ensures { DropsOne C.spaces C.events C.untaken C.KEEPS D.loads conn.namespace load key.now seat.old seat.new loader.old loader.new }
+    {
+        let said = loader.load(key);
+        self.settle_late(seat, conn, load, said);
+    }
+
+    /// Asks the loader for loads of a connection that has closed, the last first, and settles them.
+    fn drop_each<D: Loader>(
+        &mut self,
+        seat: &mut Seat<L>,
+        conn: Conn,
+        loads: &[(LoadId, Bytes)],
+        loader: &mut D,
+    )
+        ensures { DropsBy C.spaces C.events C.untaken C.KEEPS D.loads conn loads.now seat.old seat.new loader.old loader.new }
+    {
+        for place in 0..loads.len() {
+            let (load, key) = &loads[loads.len() - 1 - place];
+            self.drop_load(seat, conn, load.number, key.as_slice(), loader);
+        }
+    }
+
+    /// Takes the loads of a connection's namespace that have gone out.
+    fn take_loads(&mut self, conn: Conn) -> Option<Vec<(LoadId, Bytes)>>
+        ensures { IfSome (option_map (λ loads. loads.items) result) (AreOut C.spaces C.events conn.namespace) }
+    {
+        let Given { loads, .. } = self.take_owed(conn, true);
+        loads
+    }
+
+    /// Opens a connection of a namespace.
+    fn open_connection(&mut self, seat: &mut Seat<L>, namespace: u64) -> Result<Conn, RunError>
+        ensures opens { IfOk result (λ conn. Opens C.spaces C.events C.untaken C.KEEPS namespace conn seat.old seat.new) }
+        ensures rests { OnErr result (SeatRests (tally seat.old) (tally seat.new)) }
+        ensures why { IfErr result (Stops (HasUsedUp C.events seat.old.count seat.new.count) ⊥) }
+    {
+        match self.shared.step(self.rt, seat, Input::Open { namespace }) {
+            Ok(Output::Opened { conn }) => Ok(conn),
+            Ok(_) => unreachable!(),
+            Err(Refusal { error, .. }) => Err(error_of_refusal(error)),
+        }
+    }
+
+    /// Feeds a piece. None where the connection had closed.
+    fn feed_piece(
+        &mut self,
+        seat: &mut Seat<L>,
+        conn: Conn,
+        piece: &[u8],
+        moment: u64,
+        wants_loads: bool,
+    ) -> Result<Option<Given>, RunError>
+        ensures taken { TakesIfGiven C.KEEPS (feed_input conn (record { bytes = piece.now; moment = moment })) result (tally seat.old) (tally seat.new) }
+        ensures given { IfOk result (λ given. IfSome given (Gives C.spaces C.events C.untaken conn wants_loads)) }
+        ensures why { IfErr result (Stops (HasUsedUp C.events seat.old.count seat.new.count) (2 ^ 63 ≤ moment)) }
+    {
+        let Ok(copy) = Vec::from_slice(self.alloc, piece) else {
+            return Err(RunError::OutOfMemory);
+        };
+        let input = Input::Feed {
+            conn,
+            piece: Seq::from_vec(copy),
+            moment: Instant { nanos: moment },
+        };
+        match self.ask(seat, conn, input, wants_loads) {
+            Ok(given) => Ok(Some(given)),
+            Err(ServiceError::Closed) => Ok(None),
+            Err(error) => Err(error_of_refusal(error)),
+        }
+    }
+
+    /// Settles a load by what the loader said, and gives what the connection is owed then.
+    fn settle_and_look(
+        &mut self,
+        seat: &mut Seat<L>,
+        conn: Conn,
+        load: u64,
+        said: Option<Outcome>,
+        moment: u64,
+        wants_loads: bool,
+    ) -> Result<Given, RunError>
+        ensures settled { Settles C.spaces C.events C.untaken C.KEEPS conn.namespace load said moment seat.old seat.new }
+        ensures rests { OnErr result (SeatRests (tally seat.old) (tally seat.new)) }
+        ensures given { IfOk result (Gives C.spaces C.events C.untaken conn wants_loads) }
+        ensures why { IfErr result (Stops (HasUsedUp C.events seat.old.count seat.new.count) (2 ^ 63 ≤ moment)) }
+    {
+        match self.settle_load(seat, conn, load, said, moment, wants_loads) {
+            Ok(Some(given)) => Ok(given),
+            Ok(None) => Ok(self.take_owed(conn, wants_loads)),
+            Err(error) => Err(error),
+        }
+    }
+
+    /// Closes a connection, unless it has closed. Where that is refused for memory it is tried again.
+    fn close_if_open(&mut self, seat: &mut Seat<L>, conn: Conn)
+        ensures { Closes C.spaces C.events C.untaken C.KEEPS conn seat.old seat.new }
+    {
+        for _try in 0..u64::MAX {
+            match self.shared.step(self.rt, seat, Input::Close { conn }) {
+                Err(
+                    Refusal {
+                        error: ServiceError::OutOfMemory,
+                        ..
+                    },
+                ) => pause(self.rt),
+                _ => return,
+            }
+        }
+    }
+
+    /// Drops the loads in hand of a connection that has closed, and those that go out meanwhile.
+    fn drop_all<D: Loader>(
+        &mut self,
+        seat: &mut Seat<L>,
+        conn: Conn,
+        hand: &[(LoadId, Bytes)],
+        loader: &mut D,
+    )
+        ensures { DropsBy C.spaces C.events C.untaken C.KEEPS D.loads conn hand.now seat.old seat.new loader.old loader.new }
+    {
+        self.drop_each(seat, conn, hand, loader);
+        for _turn in 0..u64::MAX {
+            let Some(loads) = self.take_loads(conn) else {
+                return;
+            };
+            if loads.is_empty() {
+                return;
+            }
+            self.drop_each(seat, conn, loads.as_slice(), loader);
+        }
+    }
+}
+
+impl<L: Seating, C: Takings, T: Teller, R: Wait> Host for Sitting<'_, L, C, T, R> {
+    type Place = Seat<L>;
+
+    ghost LENT = { false };
+
+    ghost opens = { Opens C.spaces C.events C.untaken C.KEEPS };
+
+    ghost knows = { λ conn seat. Unit {0} };
+
+    ghost fits = { IsShortPiece };
+
+    ghost came = { Comes C.spaces C.events C.untaken C.KEEPS };
+
+    ghost rests = { λ p q. SeatRests (tally p) (tally q) };
+
+    ghost counted = { λ seat. seat.count };
+
+    ghost exhausts = { HasUsedUp C.events };
+
+    ghost closes = { Closes C.spaces C.events C.untaken C.KEEPS };
+
+    ghost drops = { Drops C.spaces C.events C.untaken C.KEEPS };
+
+    fn open(&mut self, place: &mut Seat<L>, namespace: u64) -> Result<Conn, RunError> {
+        self.open_connection(place, namespace)
+    }
+
+    fn cut(&mut self, bytes: &[u8]) -> usize {
+        length_of_cut(bytes, self.pace.next_lines())
+    }
+
+    fn feed(
+        &mut self,
+        place: &mut Seat<L>,
+        conn: Conn,
+        piece: &[u8],
+        moment: u64,
+        wants_loads: bool,
+    ) -> Result<Option<Given>, RunError> {
+        self.feed_piece(place, conn, piece, moment, wants_loads)
+    }
+
+    fn settle(
+        &mut self,
+        place: &mut Seat<L>,
+        conn: Conn,
+        load: u64,
+        said: Option<Outcome>,
+        moment: u64,
+        wants_loads: bool,
+    ) -> Result<Given, RunError> {
+        self.settle_and_look(place, conn, load, said, moment, wants_loads)
+    }
+
+    fn look(&mut self, place: &mut Seat<L>, conn: Conn, wants_loads: bool) -> Given {
+        let _seat = place;
+        self.take_owed(conn, wants_loads)
+    }
+
+    fn await_ready(&mut self, place: &Seat<L>, conn: Conn) {
+        self.shared.await_ready(self.rt, place, conn);
+    }
+
+    fn close(&mut self, place: &mut Seat<L>, conn: Conn) {
+        self.close_if_open(place, conn);
+    }
+
+    fn drop_loads<D: Loader>(
+        &mut self,
+        place: &mut Seat<L>,
+        conn: Conn,
+        hand: &[(LoadId, Bytes)],
+        loader: &mut D,
+    ) {
+        self.drop_all(place, conn, hand, loader);
+    }
+
+    ghost fits_none = { none-short };
+
+    ghost exhausts_within = { used-up-within C.events };
+
+    ghost closes_behind = { λ conn p q r rests closes. closes-behind conn (tally p) (tally q) (tally r) rests closes };
+}
