@@ -2,8 +2,10 @@
 use Rattle.std.proofs.Common.{◌≡◌, ◌≢◌, ℕ, zero, suc, ◌<◌, ◌⊎◌, List, [], ◌∷◌, ◌++◌, map, Some, length, refl, sym, ap, ◌∙◌, arith, get_or, inl, inr}
 use Rattle.std.specs.Prelude.{slice_set}
 use Rattle.std.specs.List.{slice_get}
-use Rattle.std.proofs.lemmas.List.{get_or-set_same, length-set}
-use Rattle.std.proofs.lemmas.Option.{none-some, same_Some, slice_get-get_or}
+use Rattle.std.specs.Option.{option_map}
+use Rattle.std.proofs.Math.Seq.{map-set_same}
+use Rattle.std.proofs.lemmas.List.{get_or-set_same, length-set, set-get_or}
+use Rattle.std.proofs.lemmas.Option.{get_or_from_slice_get, none-some, same_Some, slice_get-get_or, slice_get-map, slice_get_read}
 
 pub ext-get : {X : Type 0} (xs ys : List X) → ((i : ℕ) → slice_get xs i ≡ slice_get ys i) → xs ≡ ys
 ext-get [] [] h = refl
@@ -12,7 +14,13 @@ ext-get (x ∷ xs) [] h = absurd (none-some x (sym (h zero)))
 ext-get (x ∷ xs) (y ∷ ys) h = ap (λ z. z ∷ xs) (same_Some x y (h zero)) ∙ ap (λ zs. y ∷ zs) (ext-get xs ys (λ i. h (suc i)))
 
 pub at-place : {X : Type 0} (xs : List X) (i : ℕ) (x : X) → i < length xs → x ≡ get_or xs i x → slice_get xs i ≡ Some x
-at-place xs i x lt is = slice_get-get_or xs i x lt ∙ ap Some (sym is)
+at-place xs i x lt is = slice_get_read xs (length xs) i x refl lt is
+
+-- what stands at a place within
+pub found-at : {X : Type 0} (xs : List X) (i : ℕ) → i < length xs → (x : X) × (slice_get xs i ≡ Some x)
+found-at [] i lt = absurd (omega (arith, lt))
+found-at (x ∷ xs) zero lt = (x, refl)
+found-at (x ∷ xs) (suc i) lt = found-at xs i (omega (arith, lt))
 
 pub at-replaced : {X : Type 0} (xs : List X) (i : ℕ) (x : X) → i < length xs → slice_get (slice_set xs i x) i ≡ Some x
 at-replaced xs i x lt = slice_get-get_or (slice_set xs i x) i x (let e = length-set xs i x in omega arith) ∙ ap Some (get_or-set_same xs i x x lt)
@@ -39,8 +47,14 @@ front-or-end [] x (suc i) y e = absurd (none-some y e)
 front-or-end (z ∷ zs) x zero y e = inl e
 front-or-end (z ∷ zs) x (suc i) y e = elim (front-or-end zs x i y e) [ inl h ↦ inl h | inr h ↦ inr (ap suc h.0, h.1) ]
 
+-- all the same where it is put back
+pub set-same : {X : Type 0} (xs : List X) (i : ℕ) (x : X) → slice_get xs i ≡ Some x → slice_set xs i x ≡ xs
+set-same xs i x at = ap (slice_set xs i) (sym (get_or_from_slice_get xs i x x at)) ∙ set-get_or xs i x
+
 -- all the same where what is seen of it stays
 pub map-same : {A X : Type 0} (f : X → A) (xs : List X) (i : ℕ) (old new : X) → slice_get xs i ≡ Some old → f new ≡ f old → map f (slice_set xs i new) ≡ map f xs
-map-same f [] i old new at e = refl
-map-same f (x ∷ xs) zero old new at e = ap (λ y. y ∷ map f xs) (e ∙ sym (ap f (same_Some x old at)))
-map-same f (x ∷ xs) (suc i) old new at e = ap (λ ys. f x ∷ ys) (map-same f xs i old new at e)
+map-same f xs i old new at e = map-set_same f xs i new old (e ∙ ap f (sym (get_or_from_slice_get xs i old old at)))
+
+-- seen at its place
+pub at-mapped : {A X : Type 0} (f : X → A) (xs : List X) (i : ℕ) (x : X) → slice_get xs i ≡ Some x → slice_get (map f xs) i ≡ Some (f x)
+at-mapped f xs i x at = slice_get-map f xs i ∙ ap (option_map f) at

@@ -97,8 +97,5 @@ open-same n zero old new (p ∷ ps) at closing shows =
     ∙ sym (ap (λ q. open_from n (q ∷ ps)) (same_Some p (Here old) at))
 open-same n (suc i) old new (p ∷ ps) at closing shows = open-behind n p (slice_set ps i (Here new)) ps (open-same (suc n) i old new ps at closing shows)
 
-pub closings-put : (ps : List Presence) (i : ℕ) (c : Connection) → map closing_of (slice_set ps i (Here c)) ≡ slice_set (map closing_of ps) i c.closing
-closings-put ps i c = map-set closing_of ps i (Here c)
-
 pub texts-put : (ps : List Presence) (i : ℕ) (c : Connection) → map reply_text_of (slice_set ps i (Here c)) ≡ slice_set (map reply_text_of ps) i c.output.text.items
 texts-put ps i c = map-set reply_text_of ps i (Here c)

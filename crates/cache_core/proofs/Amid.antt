@@ -27,7 +27,7 @@ use Rattle.cache_core.specs.Settling.{PartsUnknown, Reruns}
 use Rattle.cache_core.specs.State.{at_number}
 use Rattle.cache_core.specs.Turned.{replies_to}
 use Rattle.cache_core.proofs.Joined.{piece-on, piece-on-steps, still-kept}
-use Rattle.cache_core.proofs.Orders.{there}
+use Rattle.cache_connections.proofs.Getting.{found-at}
 use Rattle.cache_core.proofs.Spots.{seen-was}
 use Rattle.cache_core.proofs.Steps.{none-begins, piece-none}
 
@@ -69,7 +69,7 @@ module _ {S T : Type 0} (view : S → Values) (tape : T → Option Taped) (now :
       clear None e = tt
       clear (Some t) e =
           let h : is_some (tape base.tape) ≡ true = ap is_some e in
-          let c = there cs i lt in
+          let c = found-at cs i lt in
           (ap (λ o. option_map_or reply_text_of o []) c.1 ∙ sym (seen-was reply_text_of [] cs i c.0 c.1) ∙ amid.outputs h (suc i), amid.untaken h)
 
   pub amid-least : (base : Base S T) (cs : List Presence) (a b : ℕ) → b ≤ a → IsAmid view tape now base cs a → IsAmid view tape now base cs b

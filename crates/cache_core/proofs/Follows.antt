@@ -41,7 +41,8 @@ use Rattle.cache_connections.specs.Presence.{Here, Presence, closing_at, text_at
 use Rattle.cache_core.proofs.Orders.{order-turned}
 use Rattle.cache_core.proofs.Own.{all-own, feed-own, own-all}
 use Rattle.cache_core.proofs.Records.{KeptBy, kept-by}
-use Rattle.cache_core.proofs.Spots.{at-replaced, closing-is, replaced-is, text-is}
+use Rattle.cache_connections.proofs.Getting.{at-replaced}
+use Rattle.cache_core.proofs.Spots.{closing-is, replaced-is, text-is}
 use Rattle.cache_core.proofs.Turning.{closings-by, found-open, holding-shown, known-open, leb-above, outputs-by, put-situation, sit, waiting-shown}
 
 module _ {S T : Type 0} (view : S → Values) (tape : T → Option Taped) (base new_base : Base S T) (left : Loads) (latest i moment : ℕ) (cs : List Presence) (old new : Connection) (piece : List ℕ) (is_held : Bool) (at : slice_get cs i ≡ Some (Here old)) (is_open : old.closing ≡ None) (low : moment < 2 ^ 63) (rests : IsAtRest (tape base.tape))

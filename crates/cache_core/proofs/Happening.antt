@@ -172,15 +172,6 @@ settled-kept happened own notices steps n tape begun middle final rests starts a
         ∙ ap (λ k. Some (record { journal = with_entry (entry steps) t.journal; begun = t.begun; steps = t.steps; spare = k; drafted = None })) (sym r.spare)
         ∙ ap (λ d. Some (record { journal = with_entry (entry steps) t.journal; begun = t.begun; steps = t.steps; spare = t.spare; drafted = d })) (sym r.undrafted)
 
--- a record is under way
-pub begun-middle : (steps : List Step) (n : ℕ) (tape begun middle : Option Taped) → begun ≡ option_map (started n) tape → option_map written middle ≡ option_map (adds steps) (option_map written begun) → IsBegun middle
-begun-middle steps n tape begun middle starts adds_to = go tape middle (adds_to ∙ ap (λ b. option_map (adds steps) (option_map written b)) starts)
-  where
-    go : (t m : Option Taped) → option_map written m ≡ option_map (adds steps) (option_map written (option_map (started n) t)) → IsBegun m
-    go t None e = tt
-    go None (Some m) e = let no : Some (written m) ≡ None = e in cc
-    go (Some t) (Some m) e = let is : written m ≡ adds steps (written (started n t)) = same_Some _ _ e in ap (λ (x : Taped). x.begun) is
-
 pub started-some : (n : ℕ) (tape begun : Option Taped) → begun ≡ option_map (started n) tape → is_some begun ≡ is_some tape
 started-some n None begun e = ap is_some e
 started-some n (Some t) begun e = ap is_some e

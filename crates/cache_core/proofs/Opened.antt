@@ -35,7 +35,7 @@ use Rattle.cache_core.specs.Turned.{Turned, Turns, closing_behind, reason_of, wi
 use Rattle.cache_connection.specs.declared.connection.Connection.{Connection}
 use Rattle.cache_connections.specs.Presence.{Here, Presence, closing_of, open_from, reply_text_of}
 use Rattle.cache_core.proofs.Orders.{order-turned}
-use Rattle.cache_core.proofs.Spots.{seen-same}
+use Rattle.cache_connections.proofs.Getting.{map-same}
 use Rattle.cache_core.proofs.Table.{dropped-at, opened-last}
 use Rattle.cache_core.proofs.Turning.{closings-by, known-open, opened-same, sit}
 
@@ -159,7 +159,7 @@ module _ {S T : Type 0} (view : S → Values) (tape : T → Option Taped) (base 
       let within = slice_get_within cs i (Here p.was) p.at in
       let relisted : open_from 1 (slice_set cs i (Here p.is)) ≡ open_from 1 ds = ap (open_from 1) (sym p.set) in
       let count : length (map closing_of cs) ≡ length (map closing_of ds) = sym (ap (λ xs. length (map closing_of xs)) p.set ∙ opened-same cs i (Here p.is)) in
-      let texts = ap (map reply_text_of) p.set ∙ seen-same reply_text_of cs i (Here p.was) (Here p.is) p.at stays in
+      let texts = ap (map reply_text_of) p.set ∙ map-same reply_text_of cs i (Here p.was) (Here p.is) p.at stays in
       record {
         next = next;
         stands = record { held = held; stands = stands; is = refl };

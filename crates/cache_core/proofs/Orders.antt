@@ -1,5 +1,5 @@
 -- A namespace in order, before and behind an event, and how an event is refused.
-use Rattle.std.proofs.Common.{◌≡◌, ℕ, zero, suc, ◌<◌, ◌≤◌, ◌^◌, Bool, true, false, not, List, [], ◌∷◌, ◌++◌, length, map, Option, Some, None, if◌then◌else◌, refl, sym, ap, ◌∙◌, arith, nat_lt, nat_le, subst, inl}
+use Rattle.std.proofs.Common.{◌≡◌, ℕ, suc, ◌<◌, ◌≤◌, ◌^◌, Bool, true, false, not, List, [], ◌∷◌, ◌++◌, length, map, Option, Some, None, if◌then◌else◌, refl, sym, ap, ◌∙◌, arith, nat_lt, nat_le, subst, inl}
 use Rattle.std.specs.Prelude.{is_some, is_none, ◌⊎◌, MatchOption}
 use Rattle.std.specs.List.{slice_get}
 use Rattle.std.specs.Option.{option_map, option_map_or, option_or}
@@ -38,7 +38,8 @@ use Rattle.cache_core.specs.State.{IsInOrder, StandsFor, State, known_of, output
 use Rattle.cache_core.specs.Turned.{RefusesBy, Turned, feeding, notes_in, replies_to, with_record}
 use Rattle.cache_connection.specs.declared.connection.Connection.{Connection}
 use Rattle.cache_connections.specs.Presence.{Gone, Here, Out, Presence, closing_at, closing_of, open_from, reply_text_of, text_at}
-use Rattle.cache_core.proofs.Spots.{here-open, seen-same, seen-was}
+use Rattle.cache_connections.proofs.Getting.{found-at, map-same}
+use Rattle.cache_core.proofs.Spots.{here-open, seen-was}
 use Rattle.cache_core.proofs.Table.{listed_as, listed_of}
 use Rattle.cache_core.proofs.Turning.{found-is, found-open, holding-shown, known-open, leb-above}
 
@@ -94,12 +95,6 @@ order-noticed view tape n store taken takes gives order = record {
   reads = subst (λ (f : Frame). WaitForLoads f.config (situation_with view n [])) (sym gives.frame) order.reads;
 }
 
--- a connection stands there
-pub there : (cs : List Presence) (i : ℕ) → i < length cs → (c : Presence) × (slice_get cs i ≡ Some c)
-there [] i lt = absurd (omega (arith, lt))
-there (c ∷ cs) zero lt = (c, refl)
-there (c ∷ cs) (suc i) lt = there cs i (omega (arith, lt))
-
 -- a turn may begin
 pub can-turn : {S T : Type 0} (view : S → Values) (tape : T → Option Taped) (base : Base S T) (latest now i : ℕ) (cs : List Presence) → IsInOrder view tape (state_of base latest cs) → latest ≤ now → now < 2 ^ 63 → i < length cs
     → CanTurn now (seen_at view tape base cs i)
@@ -116,7 +111,7 @@ can-turn view tape base latest now i cs order later low lt = record {
     clear None e = tt
     clear (Some t) e =
         let h : is_some (tape base.tape) ≡ true = ap is_some e in
-        let c = there cs i lt in
+        let c = found-at cs i lt in
         (ap (λ o. option_map_or reply_text_of o []) c.1 ∙ sym (seen-was reply_text_of [] cs i c.0 c.1) ∙ order.outputs h (suc i), order.untaken h)
 
 -- ---- nothing has changed
@@ -126,8 +121,8 @@ state-same {S} {T} base new_base latest i cs ds b p same =
     let shows : (k : ℕ) → shown k p.is ≡ shown k p.was =
     λ k. ap (λ st. standing_as k st p.is.waited p.is.unread.bytes) same.standing ∙ ap (λ n. standing_as k p.was.standing n p.is.unread.bytes) same.waited ∙ ap (standing_as k p.was.standing p.was.waited) same.bytes in
     let listed : open_from 1 ds ≡ open_from 1 cs = ap (open_from 1) p.set ∙ open-same 1 i p.was p.is cs p.at same.closing shows in
-    let closings : map closing_of ds ≡ map closing_of cs = ap (map closing_of) p.set ∙ seen-same closing_of cs i (Here p.was) (Here p.is) p.at same.closing in
-    let texts : map reply_text_of ds ≡ map reply_text_of cs = ap (map reply_text_of) p.set ∙ seen-same reply_text_of cs i (Here p.was) (Here p.is) p.at same.text in
+    let closings : map closing_of ds ≡ map closing_of cs = ap (map closing_of) p.set ∙ map-same closing_of cs i (Here p.was) (Here p.is) p.at same.closing in
+    let texts : map reply_text_of ds ≡ map reply_text_of cs = ap (map reply_text_of) p.set ∙ map-same reply_text_of cs i (Here p.was) (Here p.is) p.at same.text in
     let l = b.loads_are in
     let made : S → T → List model.Connection → List (Option Closing) → List (List ℕ) → ℕ → List PendingLoad → List (LoadId × List ℕ) → ℕ → State S T = λ store tape ks whys outs sent pending outgoing namespace.
     record { store = store; tape = tape; latest = latest; connections = ks; closings = whys; outputs = outs; sent = sent; pending = pending; outgoing = outgoing; namespace = namespace } in
@@ -151,7 +146,7 @@ closed-listed m (Gone why) gone = refl
 -- a closed connection is refused as such
 pub refused-closed : (m i : ℕ) (cs : List Presence) → m ≡ suc i → i < length cs → is_none (closing_at cs i) ≡ false → refusal_at cs m ≡ Some error.Closed
 refused-closed m i cs e lt closed =
-    let c = there cs i lt in
+    let c = found-at cs i lt in
     let gone : is_none (closing_of c.0) ≡ false = ap (λ o. is_none (option_map_or closing_of o None)) (sym c.1) ∙ closed in
     let count = length-map cs closing_of in
     let opened : (known_of_all cs).was_opened m ≡ true = and_from (nat_lt 0 m) (nat_le m (length (map closing_of cs))) (lt-ltb 0 m (omega (arith, e))) (le-leb m (length (map closing_of cs)) (omega (arith, e, lt, count))) in

@@ -1,22 +1,16 @@
 -- What stands at a place of a list, before and after it is replaced.
-use Rattle.std.proofs.Common.{◌≡◌, ◌≢◌, ℕ, zero, suc, ◌<◌, true, false, List, [], ◌∷◌, map, Option, Some, None, length, refl, sym, ap, ◌∙◌, arith, get_or}
+use Rattle.std.proofs.Common.{◌≡◌, ◌≢◌, ℕ, zero, suc, ◌<◌, true, false, List, [], ◌∷◌, map, Option, Some, None, length, refl, sym, ap, ◌∙◌, arith}
 use Rattle.std.specs.Prelude.{MatchOption, is_some, slice_set}
 use Rattle.std.specs.List.{slice_get}
 use Rattle.std.specs.Option.{option_map_or}
-use Rattle.std.proofs.lemmas.List.{get_or-set_same, length-set}
-use Rattle.std.proofs.lemmas.Option.{slice_get-get_or, slice_get_within, same_Some}
+use Rattle.std.proofs.lemmas.Option.{slice_get_within, same_Some}
 use Rattle.audit_model.specs.declared.command.Closing.TheVariants as by
+use Rattle.cache_connections.proofs.Getting.{at-replaced}
 use Rattle.cache_connections.proofs.Listed.{put-back as put-twice}
 use Rattle.cache_core.specs.Fed.{ReplacedAt}
 use Rattle.cache_core.specs.State.{at_number}
 use Rattle.cache_connection.specs.declared.connection.Connection.{Connection}
 use Rattle.cache_connections.specs.Presence.{Gone, Here, Out, Presence, closing_at, closing_of, is_here, reply_text_of, text_at}
-
-pub at-place : {X : Type 0} (xs : List X) (i : ℕ) (x : X) → i < length xs → x ≡ get_or xs i x → slice_get xs i ≡ Some x
-at-place xs i x lt is = slice_get-get_or xs i x lt ∙ ap Some (sym is)
-
-pub at-replaced : {X : Type 0} (xs : List X) (i : ℕ) (x : X) → i < length xs → slice_get (slice_set xs i x) i ≡ Some x
-at-replaced xs i x lt = slice_get-get_or (slice_set xs i x) i x (let e = length-set xs i x in omega arith) ∙ ap Some (get_or-set_same xs i x x lt)
 
 pub text-is : (cs : List Presence) (i : ℕ) (c : Connection) → slice_get cs i ≡ Some (Here c) → text_at cs i ≡ c.output.text.items
 text-is cs i c at = ap (λ o. option_map_or reply_text_of o []) at
@@ -47,12 +41,6 @@ seen-other f d (c ∷ cs) zero (suc zero) new ne = absurd (ne refl)
 seen-other f d (c ∷ cs) zero (suc (suc n)) new ne = refl
 seen-other f d (c ∷ cs) (suc i) (suc zero) new ne = refl
 seen-other f d (c ∷ cs) (suc i) (suc (suc n)) new ne = seen-other f d cs i (suc n) new (λ e. ne (ap suc e))
-
--- all the same where what is seen stays
-pub seen-same : {A : Type 0} (f : Presence → A) (cs : List Presence) (i : ℕ) (old new : Presence) → slice_get cs i ≡ Some old → f new ≡ f old → map f (slice_set cs i new) ≡ map f cs
-seen-same f [] i old new at e = refl
-seen-same f (c ∷ cs) zero old new at e = ap (λ x. x ∷ map f cs) (e ∙ sym (ap f (same_Some c old at)))
-seen-same f (c ∷ cs) (suc i) old new at e = ap (λ xs. f c ∷ xs) (seen-same f cs i old new at e)
 
 -- ---- a connection that is here
 

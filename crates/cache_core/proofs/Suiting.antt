@@ -9,7 +9,7 @@ use Rattle.cache_connection.specs.Shown.{shown}
 use Rattle.cache_connections.specs.Presence.{Gone, Here, Out, Presence, closing_of, open_from, reply_text_of}
 use Rattle.cache_core.specs.State.{at_number}
 use Rattle.cache_core.proofs.Opened.{count-open}
-use Rattle.cache_core.proofs.Orders.{there}
+use Rattle.cache_connections.proofs.Getting.{found-at}
 use Rattle.cache_core.proofs.Spots.{seen-was}
 use Rattle.cache_core.proofs.Table.{listed_as, listed_of}
 use Rattle.cache_core.proofs.Turning.{found-is}
@@ -34,5 +34,5 @@ listed-open cs zero e = let no : false ≡ true = e in cc
 listed-open cs (suc i) e =
     let few = leb-true (suc i) (length (map closing_of cs)) (and_parts (nat_lt 0 (suc i)) (nat_le (suc i) (length (map closing_of cs))) e).1 in
     let count = count-open cs in
-    let c = there cs i (omega (arith, few, count)) in
+    let c = found-at cs i (omega (arith, few, count)) in
     ap is_some (found-is (suc i) i c.0 cs refl c.1) ∙ listed-one (suc i) c.0 ∙ sym (ap is_none (seen-was closing_of None cs i c.0 c.1))

@@ -2,8 +2,7 @@
 use Rattle.std.proofs.Common.{◌≡◌, ℕ, zero, suc, ◌+◌, ◌-◌, ◌<◌, Bool, true, false, ◌&&◌, List, [], ◌∷◌, length, map, Option, Some, None, refl, sym, ap, ◌∙◌, arith, subst}
 use Rattle.std.specs.Prelude.{is_none, slice_set}
 use Rattle.std.specs.List.{slice_get}
-use Rattle.std.specs.Option.{option_map, option_map_or}
-use Rattle.std.proofs.lemmas.Option.{same_Some}
+use Rattle.std.specs.Option.{option_map_or}
 use Rattle.audit_model.specs.Situation as model
 use Rattle.audit_model.specs.Situation.{is_waiting_now}
 use Rattle.audit_waiting_laws.specs.Tidy.{Tidy}
@@ -20,15 +19,15 @@ use Rattle.cache_connections.proofs.Listed.{closings-retired, open-retired, open
 use Rattle.cache_core.specs.State.{IsInOrder, at_number, situation_with, state_of}
 use Rattle.cache_core.specs.Turned.{is_waiting_in}
 use Rattle.cache_connections.specs.Presence.{Gone, Here, Out, Presence, closing_at, closing_of, is_here, open_from, reply_text_of, retired_at, text_at}
-use Rattle.cache_core.proofs.Orders.{there}
-use Rattle.cache_core.proofs.Spots.{seen-same, seen-was}
+use Rattle.cache_connections.proofs.Getting.{at-mapped, found-at, map-same, set-same}
+use Rattle.cache_core.proofs.Spots.{seen-was}
 use Rattle.cache_core.proofs.Table.{listed_as, listed_of}
 use Rattle.cache_core.proofs.Turning.{found-is, waiting-shown}
 
 -- the reason under a number is the one at its place
 pub closing-number : (cs : List Presence) (i m : ℕ) → m ≡ i + 1 → i < length cs → closing_at cs i ≡ at_number None (map closing_of cs) m
 closing-number cs i m e lt =
-    let c = there cs i lt in
+    let c = found-at cs i lt in
     let is : m ≡ suc i = omega (arith, e) in
     ap (λ o. option_map_or closing_of o None) c.1 ∙ sym (seen-was closing_of None cs i c.0 c.1) ∙ ap (at_number None (map closing_of cs)) (sym is)
 
@@ -44,7 +43,7 @@ waits-one m (Gone why) = refl
 -- so is whether a `LOAD` waits
 pub waits-number : {S T : Type 0} (view : S → Values) (base : Base S T) (latest : ℕ) (cs : List Presence) (i m : ℕ) → m ≡ i + 1 → i < length cs → waits_at cs i ≡ is_waiting_in (situation_with view (state_of base latest cs) []) m
 waits-number view base latest cs i m e lt =
-    let c = there cs i lt in
+    let c = found-at cs i lt in
     let is : m ≡ suc i = omega (arith, e) in
     ap (λ o. option_map_or waits_in o false) c.1
     ∙ waits-one m c.0
@@ -53,21 +52,11 @@ waits-number view base latest cs i m e lt =
 -- and what was written to it
 pub output-number : (cs : List Presence) (i m : ℕ) → m ≡ i + 1 → i < length cs → text_at cs i ≡ at_number [] (map reply_text_of cs) m
 output-number cs i m e lt =
-    let c = there cs i lt in
+    let c = found-at cs i lt in
     let is : m ≡ suc i = omega (arith, e) in
     ap (λ o. option_map_or reply_text_of o []) c.1 ∙ sym (seen-was reply_text_of [] cs i c.0 c.1) ∙ ap (at_number [] (map reply_text_of cs)) (sym is)
 
 -- ---- what an output leaves that was taken
-
-none-set : (xs : List (List ℕ)) (i : ℕ) (text : List ℕ) → slice_get xs i ≡ Some text → text ≡ [] → slice_set xs i [] ≡ xs
-none-set [] i text at none = refl
-none-set (x ∷ xs) zero text at none = ap (λ y. y ∷ xs) (sym (same_Some x text at ∙ none))
-none-set (x ∷ xs) (suc i) text at none = ap (λ ys. x ∷ ys) (none-set xs i text at none)
-
-text-there : (cs : List Presence) (i : ℕ) (p : Presence) → slice_get cs i ≡ Some p → slice_get (map reply_text_of cs) i ≡ Some (reply_text_of p)
-text-there [] i p at = let no : None ≡ Some p = at in cc
-text-there (c ∷ cs) zero p at = ap (λ o. option_map reply_text_of o) at
-text-there (c ∷ cs) (suc i) p at = text-there cs i p at
 
 none-here : (p : Presence) → is_here (Some p) ≡ false → reply_text_of p ≡ []
 none-here (Here c) e = let no : true ≡ false = e in cc
@@ -77,13 +66,13 @@ none-here (Gone why) e = refl
 -- of one that is not here nothing
 pub taken-none : (cs : List Presence) (i : ℕ) → i < length cs → is_here (slice_get cs i) ≡ false → IsTakenAt cs cs i
 taken-none cs i lt away =
-    let c = there cs i lt in
+    let c = found-at cs i lt in
     let none = none-here c.0 (ap is_here (sym c.1) ∙ away) in
-    record { listed = refl; closings = refl; texts = sym (none-set (map reply_text_of cs) i (reply_text_of c.0) (text-there cs i c.0 c.1) none) }
+    record { listed = refl; closings = refl; texts = sym (ap (slice_set (map reply_text_of cs) i) (sym none) ∙ set-same (map reply_text_of cs) i (reply_text_of c.0) (at-mapped reply_text_of cs i c.0 c.1)) }
 
 pub text-none : (cs : List Presence) (i : ℕ) → i < length cs → is_here (slice_get cs i) ≡ false → text_at cs i ≡ []
 text-none cs i lt away =
-    let c = there cs i lt in
+    let c = found-at cs i lt in
     ap (λ o. option_map_or reply_text_of o []) c.1 ∙ none-here c.0 (ap is_here (sym c.1) ∙ away)
 
 -- one that was put back, and then retired
@@ -93,7 +82,7 @@ taken-at cs ds es i p taken retires =
     λ k. ap (λ st. standing_as k st p.is.waited p.is.unread.bytes) taken.standing ∙ ap (λ n. standing_as k p.was.standing n p.is.unread.bytes) taken.waited ∙ ap (standing_as k p.was.standing p.was.waited) taken.bytes in
     record {
       listed = ap (open_from 1) retires ∙ open-retired 1 ds i ∙ ap (open_from 1) p.set ∙ open-same 1 i p.was p.is cs p.at taken.closing shows;
-      closings = ap (map closing_of) retires ∙ closings-retired ds i ∙ ap (map closing_of) p.set ∙ seen-same closing_of cs i (Here p.was) (Here p.is) p.at taken.closing;
+      closings = ap (map closing_of) retires ∙ closings-retired ds i ∙ ap (map closing_of) p.set ∙ map-same closing_of cs i (Here p.was) (Here p.is) p.at taken.closing;
       texts = ap (map reply_text_of) retires ∙ texts-retired ds i ∙ ap (map reply_text_of) p.set ∙ texts-put cs i p.is ∙ ap (λ t. slice_set (map reply_text_of cs) i t) taken.none;
     }
 

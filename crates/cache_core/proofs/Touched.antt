@@ -12,6 +12,7 @@ use Rattle.cache_connection.specs.Parts.{standing_as}
 use Rattle.cache_connection.specs.Shown.{shown}
 use Rattle.cache_connection.specs.declared.connection.Connection.{Connection}
 use Rattle.cache_connections.specs.Presence.{Gone, Here, Out, Presence, closing_of, open_from, reply_text_of}
+use Rattle.cache_connections.proofs.Getting.{at-other}
 use Rattle.cache_connections.proofs.Listed.{open-behind}
 use Rattle.cache_core.specs.Fed.{ReplacedAt}
 use Rattle.cache_core.specs.Settled.{course_in, course_of}
@@ -19,17 +20,10 @@ use Rattle.cache_core.specs.Settling.{AllLookAsBefore, HasReplyRoomAt, HaveReply
 
 -- ---- one was put in the place of another
 
-other-place : (cs : List Presence) (i j : ℕ) (x : Presence) → j ≢ i → slice_get (slice_set cs i x) j ≡ slice_get cs j
-other-place [] i j x ne = refl
-other-place (c ∷ cs) zero zero x ne = absurd (ne refl)
-other-place (c ∷ cs) zero (suc j) x ne = refl
-other-place (c ∷ cs) (suc i) zero x ne = refl
-other-place (c ∷ cs) (suc i) (suc j) x ne = other-place cs i j x (λ e. ne (ap suc e))
-
 pub leaves-others : (old new : List Presence) (i : ℕ) → ReplacedAt old new i → LeavesOthers old new i
 leaves-others old new i p = record {
   count = ap length p.set ∙ length-set old i (Here p.is);
-  others = λ place ne. ap (λ cs. slice_get cs place) p.set ∙ other-place old i place (Here p.is) ne;
+  others = λ place ne. ap (λ cs. slice_get cs place) p.set ∙ at-other old place i (Here p.is) ne;
 }
 
 pub leaves-all : (cs : List Presence) (i : ℕ) → LeavesOthers cs cs i

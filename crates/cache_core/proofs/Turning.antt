@@ -29,7 +29,8 @@ use Rattle.cache_connection.specs.declared.connection.Connection.{Connection}
 use Rattle.cache_connections.specs.Presence.{Gone, Here, Out, Presence, closing_of, open_from, reply_text_of}
 use Rattle.cache_core.proofs.Own.{own-all, own-none}
 use Rattle.cache_connection.proofs.Putting.{not-above}
-use Rattle.cache_core.proofs.Spots.{at-replaced, seen-at, seen-other, seen-was}
+use Rattle.cache_connections.proofs.Getting.{at-replaced}
+use Rattle.cache_core.proofs.Spots.{seen-at, seen-other, seen-was}
 use Rattle.cache_core.proofs.Table.{dropped-at, found-at, listed_as, listed_of, passed-over, swapped-at}
 
 -- ---- one connection

@@ -1,5 +1,4 @@
 pub mod Conversing
-pub mod Looking
 pub mod Pieces
 pub mod Settled
 pub mod Stepping

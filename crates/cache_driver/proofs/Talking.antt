@@ -1,5 +1,5 @@
 -- Exchanges one after another.
-use Rattle.std.proofs.Common.{◌≡◌, ℕ, cond, List, [], ◌∷◌, ◌++◌, Option, refl, sym, ap, ◌∙◌, subst, append_assoc, arith}
+use Rattle.std.proofs.Common.{◌≡◌, ℕ, cond, List, [], ◌∷◌, ◌++◌, Option, sym, ap, ◌∙◌, subst, append_assoc, arith}
 use Rattle.std.specs.Prelude.{is_none, unwrap_or}
 use Rattle.std.specs.Io.KnownBytes.{Consumes}
 use Rattle.std.proofs.lemmas.Grind.{flat_map-append}
@@ -7,8 +7,8 @@ use Rattle.std.proofs.lemmas.List.{append-nil}
 use Rattle.std.proofs.lemmas.List.Sums.{sum_by-append}
 use Rattle.audit_model.specs.declared.event.Outcome.{Outcome}
 use Rattle.cache_devices.specs.Sources.{Askings, Readings}
-use Rattle.cache_devices.proofs.Reading.{askings_more, consumes_more, readings_more, same_consumes}
-use Rattle.cache_devices.proofs.Sending.{appends_more, same_appends}
+use Rattle.cache_devices.proofs.Reading.{askings_more, consumes_more, readings_more}
+use Rattle.cache_devices.proofs.Sending.{appends_more}
 use Rattle.cache_driver.specs.Drives.{Outside, Rest, Talks, asked_of, late_of, lost_of, no_rest}
 use Rattle.cache_driver.specs.Exchanges.{Chain, Exchange, Outs, asks_of, askings_in, bytes_of, moments_in, pieces_in, replies_in, told_of}
 
@@ -23,21 +23,6 @@ pub joined : {A : Type 0} (x y z : List A) → (x ++ []) ++ (y ++ z) ≡ (x ++ y
 joined x y z = ap (λ l. l ++ (y ++ z)) (append-nil x) ∙ sym (append_assoc x y z)
 
 module _ {H C L : Type 0} (Came : H → Exchange → H → Type 0) (reads : C → ℕ → C → Type 0) (loads : L → List ℕ → Option Outcome → L → Type 0) where
-  -- nothing came
-  abbrev pub talks-none : (h : H) (a : Outside C L) (hand : Outs) → Talks Came reads loads h h a a hand hand no_rest
-  talks-none h a hand = record {
-    exchanges = [];
-    chain = (refl, refl);
-    read = same_consumes a.remaining;
-    sent = [];
-    wrote = same_appends a.contents;
-    replies = refl;
-    clock = refl;
-    loader = refl;
-    refused = tt;
-    untaken = refl;
-  }
-
   -- one after another
   abbrev pub talks-more : (h m k : H) (a b c : Outside C L) (before between after : Outs) (rest : Rest) → Talks Came reads loads h m a b before between no_rest → Talks Came reads loads m k b c between after rest → Talks Came reads loads h k a c before after rest
   talks-more h m k a b c before between after rest x y =

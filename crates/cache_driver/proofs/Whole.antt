@@ -90,13 +90,10 @@ module _ {H K D : Type 0} (lent : Bool) (Opens : ℕ → Conn → H → H → Ty
       loaded = closes.4;
     }
 
-    pub underway-partly : Underway lent Came Closes reads loads start a s m b → ClosesAfter Closes Drops loads (Err UsedUp) s m k b.loader loader → DrivesPartly lent Opens Came Closes Drops reads loads namespace h k a (asking_then b loader) UsedUp
-    underway-partly goes closes = stopped-partly UsedUp (underway-stopped start a s m b goes) closes
-
     -- whatever it came to
     pub comes-drives : (result : Result Progress RunError) → ComesTo lent Came Closes reads loads start a result s m b → ClosesAfter Closes Drops loads (outcome_by result) s m k b.loader loader
         → Drives lent Opens Came Closes Drops reads loads namespace h k a (asking_then b loader) (outcome_by result)
-    comes-drives (Ok More) comes closes = underway-partly comes closes
+    comes-drives (Ok More) comes closes = stopped-partly UsedUp (underway-stopped start a s m b comes) closes
     comes-drives (Ok Over) comes closes = finished-whole comes closes
     comes-drives (Err e) comes closes = stopped-partly e comes closes
 

@@ -1,5 +1,5 @@
 -- Why a driver stops.
-use Rattle.std.specs.Prelude.{◌≤◌, ◌^◌, ◌-◌, ◌⊎◌, ℕ, List, length, Option}
+use Rattle.std.specs.Prelude.{◌≤◌, ◌+◌, ◌^◌, ◌-◌, ◌⊎◌, ℕ, List, length, Option}
 use Rattle.std.specs.Io.KnownBytes.{Consumes}
 use Rattle.audit_model.specs.declared.event.Outcome.{Outcome}
 use Rattle.cache_devices.specs.Failures.{HasFailed}
@@ -29,11 +29,12 @@ HasRead before after count = (bytes : List ℕ) × Consumes before after bytes �
 abbrev pub HasAsked : {L : Type 0} → (L → List ℕ → Option Outcome → L → Type 0) → L → ℕ → L → Type 0
 HasAsked loads before count after = (askings : List Asking) × Askings loads before askings after × (count ≤ length askings)
 
--- the reader failed, or at least so many bytes were read, or the loader was asked as often as turns are counted
+-- the reader failed, or at least so many bytes were read and loads asked for
 abbrev pub RunsFor : {R L : Type 0} → ℕ → (R → Option (List ℕ)) → (L → List ℕ → Option Outcome → L → Type 0) → Watched R → Watched R → L → L → Type 0
 RunsFor turns remaining loads reader reader' loader loader' =
-    Fails reader reader' ⊎ (HasRead (remaining (device reader)) (remaining (device reader')) turns ⊎ HasAsked loads loader (2 ^ 64 - 1) loader')
+    Fails reader reader' ⊎ ((bytes : List ℕ) × (askings : List Asking) × Consumes (remaining (device reader)) (remaining (device reader')) bytes × Askings loads loader askings loader' × (turns ≤ length bytes + length askings))
 
 -- the reader failed, or as many bytes were read, or the loader was asked as often, as turns are counted
 abbrev pub RunsOut : {R L : Type 0} → (R → Option (List ℕ)) → (L → List ℕ → Option Outcome → L → Type 0) → Watched R → Watched R → L → L → Type 0
-RunsOut = RunsFor (2 ^ 64 - 1)
+RunsOut remaining loads reader reader' loader loader' =
+    Fails reader reader' ⊎ (HasRead (remaining (device reader)) (remaining (device reader')) (2 ^ 64 - 1) ⊎ HasAsked loads loader (2 ^ 64 - 1) loader')

@@ -1,5 +1,5 @@
 -- How far a driver has come with its connection.
-use Rattle.std.specs.Prelude.{◌≡◌, ◌≢◌, ℕ, ◌≤◌, Bool, true, false, List, [], ◌++◌, Option, None, Some, Result, Ok, Err, MatchOption, MatchResult, ◌⊎◌}
+use Rattle.std.specs.Prelude.{◌≡◌, ◌≢◌, ℕ, ◌≤◌, Bool, true, false, List, [], ◌++◌, Option, None, Some, Result, Ok, Err, MatchResult, ◌⊎◌}
 use Rattle.std.specs.Io.KnownBytes.{IsAtEnd}
 use Rattle.audit_model.specs.declared.event.Outcome.{Outcome}
 use Rattle.audit_model.specs.declared.input.Conn.{Conn}
@@ -48,62 +48,47 @@ IsSettled footing = Unit {0}
 abbrev pub IsClosed : Footing → Type 0
 IsClosed footing = footing ≡ Closed
 
-module _ {H K D : Type 0} (lent : Bool) (Came : Conn → H → Exchange → H → Type 0) (Closes : Conn → H → H → Type 0) (reads : K → ℕ → K → Type 0) (loads : D → List ℕ → Option Outcome → D → Type 0) where
-  -- Exchanges came, and fed what left the inbox.
-  pub record Went (Settled : Footing → Type 0) (s t : Session) (p q : Spot H K D) : Type 0 where
-    pub talks : Talks (Came s.conn) reads loads p.place q.place (beside (Some s.inbox) p) (beside (Some t.inbox) q) s.taken.items t.taken.items no_rest
-    pub stands : (before : List Exchange) → Stands lent IsSettled s before → Stands lent Settled t (before ++ talks.exchanges)
+-- it goes on, and behind whatever came before, the session stands as the last exchange left it
+abbrev pub EndsOn : {H : Type 0} → Bool → (Footing → Type 0) → Session → H → H → List Exchange → Rest → Type 0
+EndsOn lent Settled t k place exchanges rest = (place ≡ k) × (rest ≡ no_rest) × ((before : List Exchange) → Stands lent Settled t (before ++ exchanges))
 
-  -- The same behind what settled only what has closed.
-  pub record Resumes (s t : Session) (p q : Spot H K D) : Type 0 where
-    pub talks : Talks (Came s.conn) reads loads p.place q.place (beside (Some s.inbox) p) (beside (Some t.inbox) q) s.taken.items t.taken.items no_rest
-    pub stands : (before : List Exchange) → Stands lent IsClosed s before → (lent ≡ true → s.footing ≢ Waiting) → Stands lent IsSettled t (before ++ talks.exchanges)
+-- others had closed the connection, so that a piece was refused
+abbrev pub EndsLeft : {H : Type 0} → Bool → Session → H → List Exchange → Rest → Type 0
+EndsLeft lent t place exchanges rest = (lent ≡ false) × (t.taken.items ≡ []) × (rest.refused ≢ None) × (rest.unsent ≡ []) × (rest.untaken ≡ 0)
 
-  -- Exchanges came, and then something was refused or left undone: a closing is one behind the last of them.
-  pub record Stops (s t : Session) (p q : Spot H K D) (rest : Rest) : Type 0 where
+-- an error came
+abbrev pub EndsBroke : {H : Type 0} → RunError → H → List Exchange → Rest → Type 0
+EndsBroke e place exchanges rest = (rest.untaken ≤ 1) × (e ≡ Moment → IsLate rest)
+
+-- it goes on, unless others had closed the connection, or an error came
+abbrev pub Ends : {H : Type 0} → Bool → Session → H → Result Progress RunError → H → List Exchange → Rest → Type 0
+Ends lent t k (Ok More) = EndsOn lent IsSettled t k
+Ends lent t k (Ok Over) = EndsLeft lent t
+Ends lent t k (Err e) = EndsBroke e
+
+-- it goes on, settled only where it has closed, unless an error came
+abbrev pub EndsSettled : {H : Type 0} → Bool → Session → H → Result (Unit {0}) RunError → H → List Exchange → Rest → Type 0
+EndsSettled lent t k (Ok done) = EndsOn lent IsClosed t k
+EndsSettled lent t k (Err e) = EndsBroke e
+
+module _ {H K D : Type 0} (Came : Conn → H → Exchange → H → Type 0) (Closes : Conn → H → H → Type 0) (reads : K → ℕ → K → Type 0) (loads : D → List ℕ → Option Outcome → D → Type 0) where
+  -- Exchanges came, and fed what left the inbox; then something may have been refused or left undone: a closing is one behind the last of them.
+  pub record Moves (End : H → List Exchange → Rest → Type 0) (s t : Session) (p q : Spot H K D) : Type 0 where
     pub place : H
     pub behind : (r : H) → Closes s.conn q.place r → Closes s.conn place r
+    pub rest : Rest
     pub talks : Talks (Came s.conn) reads loads p.place place (beside (Some s.inbox) p) (beside (Some t.inbox) q) s.taken.items t.taken.items rest
+    pub ends : End place talks.exchanges rest
 
-  -- others had closed the connection, so that a piece was refused
-  pub record Left (s t : Session) (p q : Spot H K D) : Type 0 where
-    pub rest : Rest
-    pub shared : lent ≡ false
-    pub none : t.taken.items ≡ []
-    pub stops : Stops s t p q rest
-    pub refused : rest.refused ≢ None
-    pub sent : (rest.unsent ≡ []) × (rest.untaken ≡ 0)
+  abbrev pub Goes : Bool → Result Progress RunError → Session → Session → Spot H K D → Spot H K D → Type 0
+  Goes lent result s t p q = Moves (Ends lent t q.place result) s t p q
 
-  -- an error came
-  pub record Broke (s t : Session) (p q : Spot H K D) (e : RunError) : Type 0 where
-    pub rest : Rest
-    pub stops : Stops s t p q rest
-    pub few : rest.untaken ≤ 1
-    pub late : e ≡ Moment → IsLate rest
+  abbrev pub Settles : Bool → Result (Unit {0}) RunError → Session → Session → Spot H K D → Spot H K D → Type 0
+  Settles lent result s t p q = Moves (EndsSettled lent t q.place result) s t p q
 
-  -- it goes on, settled only where it has closed, or there is an error
-  abbrev pub Goes : {X : Type 0} → Result X RunError → Session → Session → Spot H K D → Spot H K D → Type 0
-  Goes result s t p q = MatchResult result (λ x. Went IsClosed s t p q) (Broke s t p q)
-
-  abbrev pub GoesIf : Bool → Session → Session → Spot H K D → Spot H K D → Type 0
-  GoesIf true s t p q = Went IsSettled s t p q
-  GoesIf false s t p q = Left s t p q
-
-  -- it goes on, unless others had closed the connection, or there is an error
-  abbrev pub GoesOrLeft : Result Bool RunError → Session → Session → Spot H K D → Spot H K D → Type 0
-  GoesOrLeft result s t p q = MatchResult result (λ goes. GoesIf goes s t p q) (Broke s t p q)
-
-  -- the same, where only what has closed was settled before
-  abbrev pub RunsIf : Bool → Session → Session → Spot H K D → Spot H K D → Type 0
-  RunsIf true s t p q = Resumes s t p q
-  RunsIf false s t p q = Left s t p q
-
-  abbrev pub RunsOrLeft : Result Bool RunError → Session → Session → Spot H K D → Spot H K D → Type 0
-  RunsOrLeft result s t p q = MatchResult result (λ goes. RunsIf goes s t p q) (Broke s t p q)
-
-  -- loads are settled, or turns are used up; unless others had closed the connection, or there is an error
-  abbrev pub SettlesAll : Result (Option Progress) RunError → Session → Session → Spot H K D → Spot H K D → Type 0
-  SettlesAll result s t p q = MatchResult result (λ some. MatchOption some (Left s t p q) (λ progress. Went IsSettled s t p q × (progress ≡ Over → (t.taken.items ≡ []) × (t.footing ≢ Waiting)))) (Broke s t p q)
+-- no loader is asked
+abbrev pub asks_nobody : Unit {0} → List ℕ → Option Outcome → Unit {0} → Type 0
+asks_nobody d key answer e = ⊥
 
 -- what was read and not fed
 abbrev pub unfed : Session → Rest
@@ -115,6 +100,11 @@ around remaining contents reader writer clock loader = record { remaining = rema
 
 -- since a connection was opened
 module _ {H K D : Type 0} (lent : Bool) (Came : Conn → H → Exchange → H → Type 0) (Closes : Conn → H → H → Type 0) (reads : K → ℕ → K → Type 0) (loads : D → List ℕ → Option Outcome → D → Type 0) (start : H) (a : Outside K D) where
+  -- Exchanges came, and what was read and not fed is in the inbox.
+  pub record Since (Settled : Footing → Type 0) (s : Session) (h : H) (b : Outside K D) : Type 0 where
+    pub talks : Talks (Came s.conn) reads loads start h a b [] s.taken.items (unfed s)
+    pub stands : Stands lent Settled s talks.exchanges
+
   -- Exchanges came, and what was read and not fed is in the inbox: where the host is lent, nothing.
   pub record Underway (s : Session) (h : H) (b : Outside K D) : Type 0 where
     pub talks : Talks (Came s.conn) reads loads start h a b [] s.taken.items (unfed s)
@@ -145,6 +135,11 @@ module _ {H K D : Type 0} (lent : Bool) (Came : Conn → H → Exchange → H �
   ComesTo (Ok More) s h b = Underway s h b
   ComesTo (Ok Over) s h b = Finished s h b
   ComesTo (Err e) s h b = Stopped s h b e
+
+-- a connection that is under way goes on, and nothing more is read
+abbrev pub Turns : {X H K D : Type 0} → Ways X H → (K → ℕ → K → Type 0) → (D → List ℕ → Option Outcome → D → Type 0) → Result Progress RunError → Session → Session → Spot H K D → Spot H K D → Type 0
+Turns {H = H} {K = K} {D = D} ways reads loads result s t p q =
+    (start : H) (a : Outside K D) (remaining : Option (List ℕ)) → Underway ways.LENT ways.came ways.closes reads loads start a s p.place (beside remaining p) → ComesTo ways.LENT ways.came ways.closes reads loads start a result t q.place (beside remaining q)
 
 -- a connection that is under way goes on: turns are used up, it is over, or an error came
 abbrev pub Converses : {X H R W K D : Type 0} → Ways X H → (R → Option (List ℕ)) → (W → Option (List ℕ)) → (K → ℕ → K → Type 0) → (D → List ℕ → Option Outcome → D → Type 0)

@@ -6,5 +6,4 @@ pub mod Exchanges
 pub mod Footings
 pub mod Handed
 pub mod Hosting
-pub mod Nobody
 pub mod Reading

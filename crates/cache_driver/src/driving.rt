@@ -2,16 +2,15 @@
 ghost use Rattle.std.specs.Prelude.{◌≡◌, ◌≤◌, ◌⊎◌, [], true, IfErr, IfOk, OnErr};
 ghost use Rattle.cache_devices.specs.Sources.{HasToldLate};
 ghost use Rattle.cache_devices.specs.Watched.{failures};
-ghost use Rattle.cache_driver.specs.Causes.{Because, Fails, HasAsked, RunsFor, RunsOut};
+ghost use Rattle.cache_driver.specs.Causes.{Because, Fails, RunsFor, RunsOut};
 ghost use Rattle.cache_driver.specs.Ending.{outcome_by};
-ghost use Rattle.cache_driver.specs.Nobody.{asks_nobody};
-ghost use Rattle.cache_driver.specs.Driven.{ClosesAfter, Converses, GoesOrLeft, Holds, IsFresh, spot};
+ghost use Rattle.cache_driver.specs.Driven.{ClosesAfter, Converses, Holds, IsFresh};
 
 use crate::feeding::feed_piece;
 use crate::host::Host;
 use crate::inbox::Inbox;
 use crate::session::{Footing, Session};
-use crate::settling::settle_loads;
+use crate::settling::settle_next;
 use cache_devices::{Clock, Loader, RunError, Watched};
 use std::alloc::Global;
 use std::io::{Read, Write};
@@ -19,7 +18,7 @@ use std::io::{Read, Write};
 /// Whether a driver goes on.
 #[derive(Clone, Copy, Debug, PartialEq, Eq, Drop)]
 pub enum Progress {
-    /// It goes on: turns were used up.
+    /// It goes on; where `converse` answers so, its turns are used up.
     More,
     /// It is over.
     Over,
@@ -59,31 +58,8 @@ pub fn open<H: Host>(
     }
 }
 
-/// Feeds a beginning of what was read, if something was. Answers whether the connection goes on: not where others had closed it.
-fn feed_cut<H: Host, O: Write, K: Clock>(
-    host: &mut H,
-    place: &mut H::Place,
-    session: &mut Session,
-    writer: &mut Watched<O>,
-    clock: &mut K,
-) -> Result<bool, RunError>
-    requires known { Holds H.LENT H.knows session.old place.old × (session.old.taken.items ≡ []) }
-    ensures same { session.new.conn ≡ session.old.conn }
-    ensures known { Holds H.LENT H.knows session.new place.new }
-    ensures goes { GoesOrLeft H.LENT H.came H.closes K.reads asks_nobody result session.old session.new (spot O.contents place.old writer.old clock.old tt) (spot O.contents place.new writer.new clock.new tt) }
-    ensures whole { H.LENT ≡ true → session.new.inbox ≡ [] }
-    ensures why { IfErr result (Because ⊥ (Fails writer.old writer.new) (H.exhausts (H.counted place.old) (H.counted place.new)) (HasToldLate K.reads clock.new)) }
-    ensures forward { (failures writer.old ≤ failures writer.new) × (H.counted place.old ≤ H.counted place.new) }
-{
-    if session.inbox.is_empty() {
-        return Ok(true);
-    }
-    let count = host.cut(session.inbox.as_slice());
-    feed_piece(host, place, session, count, writer, clock)
-}
-
-/// Settles the loads that went out, reads where all was fed, and feeds a beginning of what was read. Over at the end of the input, or where
-/// the connection has closed.
+/// Settles a load that went out, or waits for others'; where there is none, reads if all was fed, and feeds a beginning of what was read. Over
+/// at the end of the input, or where the connection has closed.
 fn take_turn<H: Host, I: Read, O: Write, K: Clock, D: Loader>(
     host: &mut H,
     place: &mut H::Place,
@@ -98,14 +74,10 @@ fn take_turn<H: Host, I: Read, O: Write, K: Clock, D: Loader>(
     ensures goes { Converses H.Host I.remaining O.contents K.reads D.loads result session.old session.new place.old place.new reader.old reader.new writer.old writer.new clock.old clock.new loader.old loader.new }
     ensures why { IfErr result (Because (Fails reader.old reader.new) (Fails writer.old writer.new) (H.exhausts (H.counted place.old) (H.counted place.new)) (HasToldLate K.reads clock.new)) }
     ensures more { IfOk result (λ progress. progress ≡ Progress.More → H.LENT ≡ true → session.old.inbox ≡ [] → (session.new.inbox ≡ []) × RunsFor 1 I.remaining D.loads reader.old reader.new loader.old loader.new) }
-    ensures asked { HasAsked D.loads loader.old 0 loader.new }
     ensures forward { (failures reader.old ≤ failures reader.new) × (failures writer.old ≤ failures writer.new) × (H.counted place.old ≤ H.counted place.new) }
 {
-    match settle_loads(host, place, session, writer, clock, loader) {
-        Ok(Some(Progress::Over)) => {}
-        Ok(Some(Progress::More)) => return Ok(Progress::More),
-        Ok(None) => return Ok(Progress::Over),
-        Err(error) => return Err(error),
+    if !session.has_no_load() || session.footing == Footing::Waiting {
+        return settle_next(host, place, session, writer, clock, loader);
     }
     if session.footing == Footing::Closed {
         return Ok(Progress::Over);
@@ -115,11 +87,11 @@ fn take_turn<H: Host, I: Read, O: Write, K: Clock, D: Loader>(
         Ok(false) => return Ok(Progress::Over),
         Err(error) => return Err(error),
     }
-    match feed_cut(host, place, session, writer, clock) {
-        Ok(true) => Ok(Progress::More),
-        Ok(false) => Ok(Progress::Over),
-        Err(error) => Err(error),
+    if session.inbox.is_empty() {
+        return Ok(Progress::More);
     }
+    let count = host.cut(session.inbox.as_slice());
+    feed_piece(host, place, session, count, writer, clock)
 }
 
 /// Answers what is read, and settles the loads that go out, to the end of the input or until the connection has closed. Where its turns are
@@ -140,7 +112,7 @@ pub fn converse<H: Host, I: Read, O: Write, K: Clock, D: Loader>(
     ensures more { IfOk result (λ progress. progress ≡ Progress.More → H.LENT ≡ true → session.old.inbox ≡ [] → RunsOut I.remaining D.loads reader.old reader.new loader.old loader.new) }
     ensures forward { (failures reader.old ≤ failures reader.new) × (failures writer.old ≤ failures writer.new) × (H.counted place.old ≤ H.counted place.new) }
 {
-    for _turn in 0..u64::MAX {
+    for _turn in 0..u128::MAX {
         match take_turn(host, place, session, reader, writer, clock, loader) {
             Ok(Progress::More) => {}
             Ok(Progress::Over) => return Ok(Progress::Over),

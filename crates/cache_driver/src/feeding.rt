@@ -3,17 +3,17 @@ ghost use Rattle.std.specs.Prelude.{◌≡◌, ◌≤◌, [], length, take, drop
 ghost use Rattle.cache_devices.specs.Sources.{HasToldLate};
 ghost use Rattle.cache_devices.specs.Watched.{failures};
 ghost use Rattle.cache_driver.specs.Causes.{Because, Fails};
-ghost use Rattle.cache_driver.specs.Driven.{Holds, RunsOrLeft, spot};
-ghost use Rattle.cache_driver.specs.Nobody.{asks_nobody};
+ghost use Rattle.cache_driver.specs.Driven.{Goes, Holds, asks_nobody, spot};
 
+use crate::driving::Progress;
 use crate::handing::hand_out;
 use crate::host::Host;
 use crate::session::Session;
 use cache_devices::{Clock, RunError, Watched};
 use std::io::Write;
 
-/// Feeds so many bytes of the inbox with the clock's reading, and hands out what comes of it. Answers whether they were fed: not where the
-/// connection had closed. Where a command of them is held back for want of memory, that is an error.
+/// Feeds so many bytes of the inbox with the clock's reading, and hands out what comes of it. Over where others had closed the connection.
+/// Where a command of them is held back for want of memory, that is an error.
 pub fn feed_piece<H: Host, O: Write, K: Clock>(
     host: &mut H,
     place: &mut H::Place,
@@ -21,12 +21,12 @@ pub fn feed_piece<H: Host, O: Write, K: Clock>(
     count: usize,
     writer: &mut Watched<O>,
     clock: &mut K,
-) -> Result<bool, RunError>
+) -> Result<Progress, RunError>
     requires known { Holds H.LENT H.knows session.old place.old × (session.old.taken.items ≡ []) }
     requires fits { (count ≤ length session.old.inbox) × H.fits (take count session.old.inbox) }
     ensures same { (session.new.conn ≡ session.old.conn) × (session.new.inbox ≡ drop count session.old.inbox) }
     ensures known { Holds H.LENT H.knows session.new place.new }
-    ensures goes { RunsOrLeft H.LENT H.came H.closes K.reads asks_nobody result session.old session.new (spot O.contents place.old writer.old clock.old tt) (spot O.contents place.new writer.new clock.new tt) }
+    ensures goes { Goes H.came H.closes K.reads asks_nobody H.LENT result session.old session.new (spot O.contents place.old writer.old clock.old tt) (spot O.contents place.new writer.new clock.new tt) }
     ensures why { IfErr result (Because ⊥ (Fails writer.old writer.new) (H.exhausts (H.counted place.old) (H.counted place.new)) (HasToldLate K.reads clock.new)) }
     ensures forward { (failures writer.old ≤ failures writer.new) × (H.counted place.old ≤ H.counted place.new) }
 {
@@ -41,7 +41,7 @@ pub fn feed_piece<H: Host, O: Write, K: Clock>(
     session.inbox.skip(count);
     let given = match fed {
         Ok(Some(given)) => given,
-        Ok(None) => return Ok(false),
+        Ok(None) => return Ok(Progress::Over),
         Err(error) => return Err(error),
     };
     let held = given.held;
@@ -52,5 +52,5 @@ pub fn feed_piece<H: Host, O: Write, K: Clock>(
     if held {
         return Err(RunError::OutOfMemory);
     }
-    Ok(true)
+    Ok(Progress::More)
 }

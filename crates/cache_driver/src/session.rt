@@ -1,5 +1,5 @@
 //! A connection, and what its driver has in hand.
-ghost use Rattle.std.specs.Prelude.{◌≡◌, []};
+ghost use Rattle.std.specs.Prelude.{◌≡◌, ◌≢◌, [], true, false};
 ghost use Rattle.cache_driver.specs.Footings.{footing_by};
 
 use crate::inbox::Inbox;
@@ -44,6 +44,14 @@ impl Session {
             inbox,
             footing: Footing::Ready,
         }
+    }
+
+    /// Whether no load is in hand.
+    pub fn has_no_load(&self) -> bool
+        ensures none { result ≡ true → self.now.taken.items ≡ [] }
+        ensures some { result ≡ false → self.now.taken.items ≢ [] }
+    {
+        self.taken.is_empty()
     }
 }
 

@@ -1,5 +1,5 @@
--- What becomes of the loads of a namespace, call by call.
-use Rattle.std.proofs.Common.{◌≡◌, ℕ, suc, ◌+◌, ◌-◌, ◌<◌, ◌≤◌, ◌==◌, ◌&&◌, ◌||◌, not, nat_lt, nat_le, Bool, true, false, List, [], ◌∷◌, length, Some, is_some, cond, refl, sym, ap, ◌∙◌, subst, arith, inl, inr, ⊎_elim}
+-- What becomes of the loads of a namespace, call by call, and over an exchange.
+use Rattle.std.proofs.Common.{◌≡◌, ℕ, suc, ◌+◌, ◌-◌, ◌<◌, ◌≤◌, ◌==◌, ◌&&◌, ◌||◌, not, nat_lt, nat_le, Bool, true, false, List, [], ◌∷◌, length, Some, is_some, cond, refl, sym, ap, ◌∙◌, subst, arith, inl, inr, ⊎_elim, ◌++◌, Option, None}
 use Rattle.std.specs.Prelude.{◌⊎◌}
 use Rattle.std.specs.List.{find}
 use Rattle.std.specs.Option.{option_map}
@@ -7,7 +7,6 @@ use Rattle.std.proofs.lemmas.Bool.{and_from, and_parts, cases_lt, eq-eqb, eqb-tr
 use Rattle.audit_model.specs.Follows.{Follows, after_event, tasks_in}
 use Rattle.audit_model.specs.Situation.{Situation, PendingLoad}
 use Rattle.audit_model.specs.declared.event.Event.{Event}
-use Rattle.audit_model.specs.declared.event.Event.TheVariants as event
 use Rattle.audit_model.specs.declared.input.LoadId.{LoadId}
 use Rattle.audit_model.specs.declared.transcript.Record.{Record}
 use Rattle.cache_loads.specs.Keys.{are_in_turn}
@@ -15,12 +14,19 @@ use Rattle.cache_spaces.specs.Calls.{ServesEvent, Settled, TakesLoads, TakesOutp
 use Rattle.cache_spaces.specs.Sound.{IsSound}
 use Rattle.cache_spaces.specs.Spaces.{StandsFor, config_of, known_of, outgoing_of, place_of, taken_of}
 use Rattle.audit_waiting_laws.specs.Sending.{IsSettlingOf, are_all, are_others, are_old_or_later, is_under_way}
-use Rattle.audit_waiting_laws.proofs.Sending.{all-from, all-own, all-without, one-of, passes-record, settle}
+use Rattle.audit_waiting_laws.proofs.Sending.{all-from, all-own, one-of, passes-record, settle}
 use Rattle.cache_run.specs.Accounts.{Accounts, AddsNoLoads, KeepsLoads, SendsLater, SettlesLoad, are_accounted, is_left, pending_of, were_taken}
 use Rattle.cache_run.specs.Connected.{HasSituation}
 use Rattle.cache_spaces.specs.Bares.{BareSpace, bare_tape}
-use Rattle.cache_run.proofs.Opening.{IsPlain, quiet-steps}
-use Rattle.cache_run.proofs.Happening.{pending-is, sent-is}
+use Rattle.cache_run.proofs.Happening.{IsPlain, quiet-steps, pending-is, sent-is, happened-so}
+use Rattle.std.proofs.lemmas.List.Folds.{list_all-append, list_any-append}
+use Rattle.audit_waiting_laws.specs.Keys.{IsKnown}
+use Rattle.cache_core.specs.Settling.{answering, giving_up}
+use Rattle.cache_core.specs.Turned.{feeding}
+use Rattle.cache_run.specs.Loading.{AreKnown}
+use Rattle.cache_driver.specs.Exchanges as did
+use Rattle.cache_driver.specs.Exchanges.{Doing, Exchange, Hands, IsLastOf, Keeps, Leaves, Outs}
+use Rattle.cache_run.specs.Lent.{Comes, Does, MayGiveLoads}
 
 -- ---- loads are sent later, or not at all
 
@@ -70,7 +76,7 @@ settles-load number was is happened of begun h = record {
 }
 
 -- no load of that number is under way
-unfound : (number : ℕ) (loads : List PendingLoad) → is_some (option_map (λ (load : PendingLoad). load.key) (find (λ load. load.number == number) loads)) ≡ false → are_others number loads ≡ true
+pub unfound : (number : ℕ) (loads : List PendingLoad) → is_some (option_map (λ (load : PendingLoad). load.key) (find (λ load. load.number == number) loads)) ≡ false → are_others number loads ≡ true
 unfound number [] e = refl
 unfound number (load ∷ loads) e = go (unfound number loads) (load.number == number) refl e
   where
@@ -79,16 +85,10 @@ unfound number (load ∷ loads) e = go (unfound number loads) (load.number == nu
     go next true is h = let no : true ≡ false = h in cc
     go next false is h = and_from (not (load.number == number)) (are_others number loads) (ap not is) (next h)
 
-pub others-unknown : (number : ℕ) (was : BareSpace) → (known_of was).is_under_way number ≡ false → are_others number (pending_of was) ≡ true
-others-unknown number was unknown = unfound number (pending_of was) unknown
-
 pub settles-unknown : (number : ℕ) (x : BareSpace) → (known_of x).is_under_way number ≡ false → SettlesLoad number x x
-settles-unknown number x unknown = record { later = later-same x; settled = λ taken. others-unknown number x unknown }
+settles-unknown number x unknown = record { later = later-same x; settled = λ taken. unfound number (pending_of x) unknown }
 
 -- ---- loads that were taken
-
-abbrev Outs : Type 0
-Outs = List (LoadId × List ℕ)
 
 taken-fewer : (a b : ℕ) (outs : Outs) → a ≤ b → were_taken a outs ≡ true → were_taken b outs ≡ true
 taken-fewer a b [] le e = refl
@@ -243,7 +243,7 @@ adds-more x y z a b =
 -- ---- an opening and a closing
 
 -- they take no load, and each that is under way was so before
-keeps-quiet : (was is : BareSpace) (happened : Event) (held : Bool) → ((s : Situation) (p : ℕ → Bool) → are_all p s.pending ≡ true → are_all p (after_event happened s).pending ≡ true)
+pub keeps-quiet : (was is : BareSpace) (happened : Event) (held : Bool) → ((s : Situation) (p : ℕ → Bool) → are_all p s.pending ≡ true → are_all p (after_event happened s).pending ≡ true)
     → ((s : Situation) → tasks_in s happened ≡ []) → IsPlain happened → HasSituation was → ServesEvent bare_tape was is happened held → KeepsLoads was is
 keeps-quiet was is happened held quiet idle plain begun takes =
     let p : ℕ → Bool = λ n. is_under_way n (pending_of was) in
@@ -256,10 +256,67 @@ keeps-quiet was is happened held quiet idle plain begun takes =
           ∙ quiet begun.some p (ap (are_all p) (pending-is was begun.some begun.stands) ∙ own-loads (pending_of was));
     }
 
--- a connection was opened
-pub keeps-opened : (was is : BareSpace) (number : ℕ) → HasSituation was → ServesEvent bare_tape was is (event.Open number) false → KeepsLoads was is
-keeps-opened was is number begun takes = keeps-quiet was is (event.Open number) false (λ s p all. all) (λ s. refl) tt begun takes
+-- ---- their keys
 
--- it was closed
-pub keeps-closed : (was is : BareSpace) (number : ℕ) → HasSituation was → ServesEvent bare_tape was is (event.Close number) false → KeepsLoads was is
-keeps-closed was is number begun takes = keeps-quiet was is (event.Close number) false (λ s p all. all-without p number s.pending all) (λ s. refl) tt begun takes
+known-last : (rest : Outs) (out : LoadId × List ℕ) (s : Situation) → AreKnown (rest ++ out ∷ []) s → AreKnown rest s × IsKnown out.0.number out.1 s
+known-last [] out s known = (tt, known.0)
+known-last (o ∷ rest) out s known = let more = known-last rest out s known.1 in ((known.0, more.0), more.1)
+
+-- the load that is settled has the key of which the loader was asked, and those of the others are known
+pub known-of : (hand : Outs) (load : ℕ) (key : List ℕ) (rest : Outs) (s : Situation) → IsLastOf hand load key rest → AreKnown hand s → AreKnown rest s × IsKnown load key s
+known-of hand load key rest s last known =
+    let parts = known-last rest (last.0, key) s (subst (λ outs. AreKnown outs s) last.2 known) in (parts.0, subst (λ n. IsKnown n key s) last.1 parts.1)
+
+pub known-rest : (doing : Doing) (hand rest : Outs) (s : Situation) → Leaves doing hand rest → AreKnown hand s → AreKnown rest s
+known-rest (did.Fed piece moment held) hand rest s leaves known = subst (λ outs. AreKnown outs s) (sym leaves) known
+known-rest (did.Answered load key outcome moment) hand rest s leaves known = (known-of hand load key rest s leaves known).0
+known-rest (did.GivenUp load asking moment) hand rest s leaves known = (known-of hand load asking.key rest s leaves known).0
+known-rest (did.Dropped load asking moment) hand rest s leaves known = (known-of hand load asking.key rest s leaves known).0
+known-rest did.Looked hand rest s leaves known = subst (λ outs. AreKnown outs s) (sym leaves) known
+
+-- ---- what becomes of them
+
+last-left : (rest : Outs) (id : LoadId) (key : List ℕ) → is_left id.number (rest ++ (id, key) ∷ []) ≡ true
+last-left rest id key =
+    list_any-append (λ (o : LoadId × List ℕ). o.0.number == id.number) rest ((id, key) ∷ [])
+    ∙ or_right (is_left id.number rest) ((id.number == id.number) || false) (or_left (id.number == id.number) false (eq-eqb id.number id.number refl))
+
+last-fewer : (taken : ℕ) (rest : Outs) (out : LoadId × List ℕ) → were_taken taken (rest ++ out ∷ []) ≡ true → were_taken taken rest ≡ true
+last-fewer taken rest out e =
+    (and_parts (were_taken taken rest) (were_taken taken (out ∷ [])) (sym (list_all-append (λ (o : LoadId × List ℕ). nat_le o.0.number taken) rest (out ∷ [])) ∙ e)).0
+
+last-but : (rest : Outs) (id : LoadId) (key : List ℕ) (n : ℕ) → is_left n (rest ++ (id, key) ∷ []) ≡ true → (is_left n rest ≡ true) ⊎ (n ≡ id.number)
+last-but rest id key n left =
+    ⊎_elim (λ still. inl still) (λ last. ⊎_elim (λ is. inr (sym (eqb-true id.number n is))) (λ no. let h : false ≡ true = no in cc) (or_cases (id.number == n) false last))
+    (or_cases (is_left n rest) ((id.number == n) || false) (sym (list_any-append (λ (o : LoadId × List ℕ). o.0.number == n) rest ((id, key) ∷ [])) ∙ left))
+
+-- the last of them is settled
+accounts-out : (was is : BareSpace) (hand : Outs) (load : ℕ) (key : List ℕ) (rest : Outs) → IsLastOf hand load key rest → SettlesLoad load was is → Accounts was is hand rest
+accounts-out was is hand load key rest last settled =
+    let id = last.0 in
+    subst (λ outs. Accounts was is outs rest) (sym last.2)
+    (accounts-settled was is id.number (rest ++ (id, key) ∷ []) rest (last-left rest id key) (λ taken e. last-fewer taken rest (id, key) e) (λ n left. last-but rest id key n left) (subst (λ n. SettlesLoad n was is) (sym last.1) settled))
+
+accounts-none : (was is : BareSpace) (hand rest : Outs) → is ≡ was → rest ≡ hand → Accounts was is hand rest
+accounts-none was is hand rest same left = subst (λ y. Accounts was y hand rest) (sym same) (subst (λ outs. Accounts was was hand outs) (sym left) (accounts-later was was hand (later-same was)))
+
+pub accounts-done : (number : ℕ) (was is : BareSpace) (doing : Doing) (hand rest : Outs) → HasSituation was → Leaves doing hand rest → Does number doing was is → Accounts was is hand rest
+accounts-done number was is (did.Fed piece moment held) hand rest begun leaves d =
+    subst (λ outs. Accounts was is hand outs) (sym leaves) (accounts-later was is hand (later-happened was is (feeding number piece moment) begun (happened-so was is (feeding number piece moment) held d)))
+accounts-done number was is (did.Answered load key outcome moment) hand rest begun leaves d =
+    accounts-out was is hand load key rest leaves (settles-load load was is (answering load outcome moment) refl begun d)
+accounts-done number was is (did.GivenUp load asking moment) hand rest begun leaves d =
+    accounts-out was is hand load asking.key rest leaves (settles-load load was is (giving_up load moment) refl begun d.0)
+accounts-done number was is (did.Dropped load asking moment) hand rest begun leaves d =
+    accounts-out was is hand load asking.key rest leaves (subst (λ y. SettlesLoad load was y) (sym d.0) (settles-unknown load was d.1))
+accounts-done number was is did.Looked hand rest begun leaves d = accounts-none was is hand rest d leaves
+
+accounts-given : (was is : BareSpace) (loads : Option Outs) (rest after : Outs) → MayGiveLoads loads was is → Keeps loads rest after → Accounts was is rest after
+accounts-given was is None rest after same keeps = accounts-none was is rest after same keeps
+accounts-given was is (Some loads) rest after t keeps = subst (λ outs. Accounts was is rest outs) (sym keeps.1) (accounts-taken was is rest loads keeps.0 t.0 t.1)
+
+-- over an exchange
+pub accounts-behind : (number : ℕ) (was is : BareSpace) (exchange : Exchange) (hand after : Outs) → HasSituation was → Comes number was exchange is → Hands exchange hand after → Accounts was is hand after
+accounts-behind number was is exchange hand after begun c h =
+    accounts-more was c.done is hand h.rest after (accounts-done number was c.done exchange.doing hand h.rest begun h.leaves c.does)
+    (accounts-more c.done c.told is h.rest h.rest after (accounts-later c.done c.told h.rest (later-output c.done c.told number c.text c.replies)) (accounts-given c.told is exchange.loads h.rest after c.gives h.keeps))

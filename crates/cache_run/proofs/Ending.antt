@@ -1,5 +1,5 @@
 -- One connection, from its opening to its closing.
-use Rattle.std.proofs.Common.{◌≡◌, ◌≢◌, ℕ, ◌≤◌, ◌^◌, ◌==◌, ◌||◌, not, nat_lt, nat_le, Bool, true, false, List, [], ◌∷◌, length, Option, Some, None, is_some, if◌then◌else◌, refl, sym, ap, ◌∙◌, subst, arith, inl, inr}
+use Rattle.std.proofs.Common.{◌≡◌, ◌≢◌, ℕ, ◌≤◌, ◌^◌, ◌||◌, not, nat_lt, nat_le, Bool, true, false, List, [], ◌∷◌, length, Option, Some, None, is_some, if◌then◌else◌, refl, sym, ap, ◌∙◌, subst, arith, inl, inr}
 use Rattle.std.specs.Prelude.{◌++◌, ◌⊎◌, is_none}
 use Rattle.std.specs.List.{flat_map}
 use Rattle.std.specs.Option.{option_or}
@@ -21,6 +21,7 @@ use Rattle.audit_model.specs.declared.input.ServiceError.TheVariants as error
 use Rattle.audit_model.specs.declared.transcript.Note.{Note}
 use Rattle.audit_model.specs.declared.transcript.Record.{Record}
 use Rattle.audit_waiting_laws.specs.Alone.{WaitsAlone}
+use Rattle.audit_waiting_laws.proofs.Sending.{all-without}
 use Rattle.audit_waiting_laws.proofs.Steps.{alone-without}
 use Rattle.audit_waiting_laws.proofs.Standing.{found-left}
 use Rattle.cache_core.specs.Turned.{closing_behind, notes_in, reason_of, replies_to}
@@ -40,13 +41,12 @@ use Rattle.cache_run.specs.Lent.{DropsBoth, IsClosedBefore}
 use Rattle.cache_run.specs.Loading.{OnlyGivesUp}
 use Rattle.cache_run.specs.Runs.{Closes, EndsRun, Quiet, ServesPartly, ServesWhole, Unfed}
 use Rattle.cache_run.specs.Worlds.{world}
-use Rattle.cache_run.proofs.Accounting.{accounts-later, accounts-more, adds-more, keeps-closed, keeps-opened, keeps-same, later-kept}
-use Rattle.cache_run.proofs.Carrying.{carried-close, carried-drops, carried-still}
+use Rattle.cache_run.proofs.Accounting.{accounts-later, accounts-more, adds-more, keeps-quiet, keeps-same, later-kept}
+use Rattle.cache_run.proofs.Led.{carried-close, carried-drops, carried-still}
 use Rattle.cache_run.proofs.Going.{goes-more, goes-still}
-use Rattle.cache_run.proofs.Gone.{kept-behind, nobody-behind}
-use Rattle.cache_run.proofs.Happening.{happened-so, listed-is, none-past, opened-is, same-closing, situation-of, stays-opened}
-use Rattle.cache_run.proofs.Opening.{IsPlain, found-behind, found-last, found-none, plain-steps, quiet-steps, unrefused}
-use Rattle.cache_run.proofs.Standing.{Stands}
+use Rattle.cache_run.proofs.Dropping.{kept-behind, nobody-behind}
+use Rattle.cache_run.proofs.Happening.{happened-so, listed-is, none-past, opened-is, same-closing, situation-of, stays-opened, IsPlain, found-behind, found-last, found-none, plain-steps, quiet-steps, unrefused, none-of}
+use Rattle.cache_run.proofs.Leading.{Stands}
 
 -- nobody begins to wait as a connection opens or closes, and no other is touched
 goes-quiet : (number : ℕ) (was is : BareSpace) (happened : Event) (held : Bool) → ((s : Situation) → WaitsAlone number s.pending → WaitsAlone number (after_event happened s).pending) → ((s : Situation) → tasks_in s happened ≡ []) → IsPlain happened
@@ -76,19 +76,16 @@ goes-quiet number was is happened held calm idle plain apart takes = record {
     untold : (h : Event) → IsPlain h → (before : List Note) → before ++ notes_in (record_of h []) ≡ before
     untold h is before = ap (λ steps. before ++ flat_map (λ step. step.notices) steps) (plain-steps h [] is) ∙ append-nil before
 
-found-apart : (number other : ℕ) → other ≢ number → (number == other) ≡ false
-found-apart number other ne = ne_eqb number other (λ e. ne (sym e))
-
 -- ---- the opening
 
 module _ (was is : BareSpace) (number : ℕ) (sound : IsSound bare_tape was) (opens : OpensNext bare_tape was is number) where
   pub opens-quiet : Goes number was is (λ s t. Quiet (config_of was) (event.Open number) s t (notices_of was) (notices_of is))
   opens-quiet =
       goes-quiet number was is (event.Open number) false (λ s alone. alone) (λ s. refl) tt
-      (λ s other ne. found-behind (record { number = number; unread = []; standing = Ready; waited = 0 }) other s.connections (found-apart number other ne)) opens.0
+      (λ s other ne. found-behind (record { number = number; unread = []; standing = Ready; waited = 0 }) other s.connections (ne_eqb number other (λ e. ne (sym e)))) opens.0
 
   pub opens-keeps : KeepsLoads was is
-  opens-keeps = keeps-opened was is number (situation-of was sound) opens.0
+  opens-keeps = keeps-quiet was is (event.Open number) false (λ s p all. all) (λ s. refl) tt (situation-of was sound) opens.0
 
   pub opens-stands : Stands HasTakenReplies number is
   opens-stands =
@@ -137,16 +134,16 @@ module _ (was is : BareSpace) (number : ℕ) (sound : IsSound bare_tape was) (s 
       let x = p.turned sound.some sound.stands in
       let law = quiet-steps (config_of was) sound.some x.2.next x.0 (event.Close number) x.1.event_is (λ s. refl) tt x.2.follows in
       let was_open = open-where ((known_in sound.some).was_opened number) ((known_in sound.some).is_open number) (ap (refusal_of (config_of was) (known_in sound.some)) (sym x.1.event_is) ∙ unrefused (config_of was) sound.some x.2.next x.0 x.2.follows) in
-      let none = none-is (closing_of was number) (sym (listed-is was sound.some number sound sound.stands s.opened) ∙ was_open) in
+      let none = none-of (closing_of was number) (sym (listed-is was sound.some number sound sound.stands s.opened) ∙ was_open) in
       record {
         closes = inl (
           none,
           x.2.closings number ∙ ap (λ o. closing_behind (config_of was) sound.some x.0 x.2.next o number) none
               ∙ closed-now (connection_in number x.2.next) (is_some (connection_in number sound.some)) (reason_of (config_of was) sound.some number x.0.event x.0.steps) (ap (connection_in number) law.1 ∙ found-none number sound.some.connections) was_open
               ∙ ap (λ e. Some (reason_of (config_of was) sound.some number e x.0.steps)) x.1.event_is,
-          goes-quiet number was is (event.Close number) false (λ s alone. alone-without number number s.pending alone) (λ s. refl) tt (λ s other ne. found-left other number s.connections (found-apart number other ne)) p,
+          goes-quiet number was is (event.Close number) false (λ s alone. alone-without number number s.pending alone) (λ s. refl) tt (λ s other ne. found-left other number s.connections (ne_eqb number other (λ e. ne (sym e)))) p,
         );
-        keeps = keeps-closed was is number s.situation p;
+        keeps = keeps-quiet was is (event.Close number) false (λ u f all. all-without f number u.pending all) (λ u. refl) tt s.situation p;
         opened = stays-opened was is (event.Close number) (happened-so was is (event.Close number) false p) number s.situation s.opened;
       }
     where
@@ -154,10 +151,6 @@ module _ (was is : BareSpace) (number : ℕ) (sound : IsSound bare_tape was) (s 
       open-where true true e = refl
       open-where true false e = let no : Some error.Closed ≡ None = e in cc
       open-where false is_open e = let no : Some error.NoConnection ≡ None = e in cc
-
-      none-is : (o : Option Closing) → is_none o ≡ true → o ≡ None
-      none-is None e = refl
-      none-is (Some why) e = let no : false ≡ true = e in cc
 
       closed-now : (o : Option Connection) (b : Bool) (why : Closing) → o ≡ None → b ≡ true → (if is_some o || not b then None else Some why) ≡ Some why
       closed-now None true why e is = refl
@@ -182,7 +175,7 @@ module _ (was is : BareSpace) (number : ℕ) (sound : IsSound bare_tape was) (s 
   closed-so (inr refused) =
       subst (Closed number was) (sym refused.0)
       (record {
-        closes = inr (closed-before refused.1 refused.2, refl, goes-still number was (λ s t. Unfed s t (notices_of was) (notices_of was)) (λ s. record { same = refl; notices = refl }));
+        closes = inr (closed-before refused.1 refused.2, refl, goes-still number was (λ s t. Unfed s t (notices_of was) (notices_of was)) (λ s stands. record { same = refl; notices = refl }));
         keeps = keeps-same was;
         opened = s.opened;
       })
@@ -214,7 +207,7 @@ module _ {C L : Type 0} (reads : C → ℕ → C → Type 0) (loads : L → List
     closes = false;
     goes = goes-more number x z w (λ s t. Carried (config_of x) number reads loads (world x s before) (world z t after) true false [] left) (λ s t. Unfed s t (notices_of z) (notices_of w))
         (λ s t. Carried (config_of x) number reads loads (world x s before) (world w t after) true false [] left) g closes.2
-        (λ s t u f q. carried-still (config_of x) number reads loads (world x s before) (world z t after) w u true false [] left f q.same q.notices);
+        (λ s t u f q. carried-still (config_of x) number reads loads (world x s before) (world z t after) w u true false left f q.same q.notices);
     ends = λ over. subst IsEnded (sym closes.1) closes.0;
     closed = λ none. ended-none (closing_of z number) closes.0 (sym closes.1 ∙ none);
   }

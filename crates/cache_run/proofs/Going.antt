@@ -9,6 +9,7 @@ use Rattle.audit_model.specs.Situation.{Situation}
 use Rattle.audit_model.specs.declared.config.Config.{Config}
 use Rattle.audit_model.specs.declared.transcript.Note.{Note}
 use Rattle.audit_model.specs.declared.transcript.Record.{Record}
+use Rattle.cache_connections.proofs.Getting.{at-other}
 use Rattle.cache_core.specs.State.{at_number}
 use Rattle.cache_core.specs.Turned.{feeding, notes_in}
 use Rattle.cache_lines.specs.Gathered.{reply_in}
@@ -18,9 +19,8 @@ use Rattle.cache_spaces.specs.Bares.{BareSpace}
 use Rattle.cache_run.specs.Goes.{Goes}
 use Rattle.cache_run.specs.Happened.{Fed, record_of}
 use Rattle.cache_run.specs.Loading.{SameButLoads}
-use Rattle.cache_run.proofs.Carrying.{record-one}
-use Rattle.cache_run.proofs.Led.{Led, led-turn}
-use Rattle.cache_run.proofs.Opening.{IsPlain, plain-record}
+use Rattle.cache_run.proofs.Led.{record-one, Led, led-turn}
+use Rattle.cache_run.proofs.Happening.{IsPlain, plain-record}
 
 -- one after another
 pub goes-more : (number : ℕ) (x y z : BareSpace) (F G H : Situation → Situation → Type 0) → Goes number x y F → Goes number y z G → ((s t u : Situation) → F s t → G t u → H s u) → Goes number x z H
@@ -38,13 +38,6 @@ goes-more number x y z F G H a b h = record {
   config = b.config ∙ a.config;
 }
 
-pub goes-map : (number : ℕ) (x y : BareSpace) (F G : Situation → Situation → Type 0) → Goes number x y F → ((s t : Situation) → F s t → G s t) → Goes number x y G
-goes-map number x y F G a h = record {
-  each = λ s stands alone.
-      let first = a.each s stands alone in record { next = first.next; stands = first.stands; alone = first.alone; fact = h s first.next first.fact; others = first.others };
-  config = a.config;
-}
-
 -- ---- what is the same
 
 -- a namespace of which only loads were taken stands for the same situations
@@ -60,14 +53,7 @@ set-other d x xs zero other positive ne = absurd (omega (arith, positive))
 set-other d x xs (suc place) zero positive ne = refl
 set-other {A} d x xs (suc place) (suc index) positive ne =
     let place_is : suc place - 1 ≡ place = omega arith in
-    ap (λ k. at_number d (slice_set xs k x) (suc index)) place_is ∙ ap (λ (o : Option A). unwrap_or o d) (elsewhere xs place index (λ e. ne (ap suc e)))
-  where
-    elsewhere : (ys : List A) (i j : ℕ) → j ≢ i → slice_get (slice_set ys i x) j ≡ slice_get ys j
-    elsewhere [] i j apart = refl
-    elsewhere (y ∷ ys) zero zero apart = absurd (apart refl)
-    elsewhere (y ∷ ys) zero (suc j) apart = refl
-    elsewhere (y ∷ ys) (suc i) zero apart = refl
-    elsewhere (y ∷ ys) (suc i) (suc j) apart = elsewhere ys i j (λ e. apart (ap suc e))
+    ap (λ k. at_number d (slice_set xs k x) (suc index)) place_is ∙ ap (λ (o : Option A). unwrap_or o d) (at-other xs index place x (λ e. ne (ap suc e)))
 
 set-own : (xs : List (List ℕ)) (number : ℕ) → at_number [] (slice_set xs (number - 1) []) number ≡ []
 set-own xs zero = refl
@@ -92,14 +78,14 @@ module _ (was is : BareSpace) (number : ℕ) (text : List ℕ) (t : TakesOutput 
   output-none = ap (λ x. untaken_output x number) t.rest ∙ set-own was.outputs number
 
 -- a namespace of which only loads were taken
-pub goes-same : (number : ℕ) (was is : BareSpace) (F : Situation → Situation → Type 0) → SameButLoads was is → ((s : Situation) → F s s) → Goes number was is F
+pub goes-same : (number : ℕ) (was is : BareSpace) (F : Situation → Situation → Type 0) → SameButLoads was is → ((s : Situation) → StandsFor was s → F s s) → Goes number was is F
 goes-same number was is F same h = record {
-  each = λ s stands alone. record { next = s; stands = still-stands was is s same stands; alone = alone; fact = h s; others = λ other ne. (ap (λ x. untaken_output x other) same, ap (λ x. closing_of x other) same) };
+  each = λ s stands alone. record { next = s; stands = still-stands was is s same stands; alone = alone; fact = h s stands; others = λ other ne. (ap (λ x. untaken_output x other) same, ap (λ x. closing_of x other) same) };
   config = ap config_of same;
 }
 
 -- nothing changed
-pub goes-still : (number : ℕ) (x : BareSpace) (F : Situation → Situation → Type 0) → ((s : Situation) → F s s) → Goes number x x F
+pub goes-still : (number : ℕ) (x : BareSpace) (F : Situation → Situation → Type 0) → ((s : Situation) → StandsFor x s → F s s) → Goes number x x F
 goes-still number x F h = goes-same number x x F refl h
 
 -- replies are taken behind it

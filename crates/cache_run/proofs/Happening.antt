@@ -1,19 +1,33 @@
--- What an event does to a namespace that keeps no journal.
-use Rattle.std.proofs.Common.{◌≡◌, ◌≢◌, ℕ, zero, suc, ◌<◌, ◌==◌, ◌||◌, not, nat_lt, nat_le, Bool, true, false, List, [], ◌∷◌, ◌++◌, length, cond, if◌then◌else◌, Option, None, Some, is_some, refl, sym, ap, ◌∙◌, subst, arith, inl, inr}
+-- What an event and its record do to a namespace that keeps no journal.
+use Rattle.std.proofs.Common.{◌≡◌, ℕ, ◌≤◌, max, Bool, true, false, not, ◌&&◌, ◌==◌, cond, List, [], ◌∷◌, ◌++◌, Option, Some, None, if◌then◌else◌, refl, sym, ap, ◌∙◌, subst, arith, ◌≢◌, zero, suc, ◌<◌, ◌||◌, nat_lt, nat_le, length, is_some, inl, inr}
 use Rattle.std.specs.Prelude.{is_none, unwrap_or}
-use Rattle.std.specs.List.{filter, flat_map, slice_get}
-use Rattle.std.proofs.lemmas.Bool.{and_from, and_parts, eq-eqb, le-leb, leb-true, ne_eqb}
-use Rattle.std.proofs.lemmas.List.{append-nil}
-use Rattle.std.proofs.lemmas.Option.{slice_get_past}
-use Rattle.audit_model.specs.Follows.{Follows}
-use Rattle.audit_model.specs.Situation.{Situation, connection_in}
-use Rattle.audit_model.specs.declared.command.Closing.{Closing}
-use Rattle.audit_model.specs.declared.command.Closing.TheVariants as by
+use Rattle.std.specs.List.{find, filter, flat_map, slice_get}
+use Rattle.std.specs.Option.{option_map_or}
+use Rattle.std.proofs.lemmas.Bool.{and_parts, and_from, eq-eqb, le-leb, leb-true, ne_eqb}
+use Rattle.std.proofs.lemmas.Option.{none-some, same_Some, slice_get_past}
+use Rattle.audit_model.specs.Belongs.{refusal_of}
+use Rattle.audit_model.specs.Bytewise.{is_empty}
+use Rattle.audit_model.specs.Changes.{after_step, connection_after, join_by, join_load}
+use Rattle.audit_model.specs.Commands.{quits}
+use Rattle.audit_model.specs.Follows.{Follows, after_event, after_steps, known_in, placed_step_in, tasks_in}
+use Rattle.audit_model.specs.History.{Effect}
+use Rattle.audit_model.specs.Loads.{key_loaded}
+use Rattle.audit_model.specs.Obeys.{has_right_own_value, is_numbered}
+use Rattle.audit_model.specs.Places.{due, first_due, left_after, steps_of}
+use Rattle.audit_model.specs.Situation.{Situation, Connection, connection_in, may_run_in, with_connection, without_number}
+use Rattle.audit_model.specs.Steps.{Task, Store, is_right}
+use Rattle.audit_model.specs.Stream.{is_waiting}
 use Rattle.audit_model.specs.declared.config.Config.{Config}
 use Rattle.audit_model.specs.declared.event.Event.{Event}
 use Rattle.audit_model.specs.declared.event.Event.TheVariants as event
+use Rattle.audit_model.specs.declared.transcript.Accepted.{Accepted}
+use Rattle.audit_model.specs.declared.transcript.Note.{Note}
 use Rattle.audit_model.specs.declared.transcript.Record.{Record}
 use Rattle.audit_model.specs.declared.transcript.Step.{Step}
+use Rattle.cache_run.specs.Happened.{record_of}
+use Rattle.std.proofs.lemmas.List.{append-nil}
+use Rattle.audit_model.specs.declared.command.Closing.{Closing}
+use Rattle.audit_model.specs.declared.command.Closing.TheVariants as by
 use Rattle.audit_waiting_laws.specs.Alone.{IsTurnOf, StepsOf}
 use Rattle.audit_waiting_laws.proofs.Apart as apart
 use Rattle.audit_waiting_laws.proofs.Events.{records}
@@ -29,7 +43,160 @@ use Rattle.cache_spaces.specs.Stores.{shown_of}
 use Rattle.cache_spaces.specs.Bares.{BareSpace, bare_tape}
 use Rattle.cache_run.specs.Connected.{HasSituation, IsEnded, IsOpenOrEnded}
 use Rattle.cache_run.specs.Goes.{Goes}
-use Rattle.cache_run.proofs.Opening.{record-opened}
+
+-- ---- what a record that follows passes
+
+passed : {A : Type 0} (b : Bool) (o : Option A) (t : A) → (if b then o else None) ≡ Some t → (b ≡ true) × (o ≡ Some t)
+passed true o t e = (refl, e)
+passed false o t e = absurd (none-some t e)
+
+pub none-of : {A : Type 0} (o : Option A) → is_none o ≡ true → o ≡ None
+none-of None e = refl
+none-of (Some x) e = let no : false ≡ true = e in cc
+
+pub none-where : {A : Type 0} (o : Option A) → is_some o ≡ false → o ≡ None
+none-where None e = refl
+none-where (Some x) e = let no : true ≡ false = e in cc
+
+module _ (config : Config) (s t : Situation) (entry : Record) (e : Follows config s entry t) where
+  test : (is_none (refusal_of config (known_in s) entry.event) && is_numbered s.opened entry.event && has_right_own_value entry) ≡ true
+  test = (passed (is_none (refusal_of config (known_in s) entry.event) && is_numbered s.opened entry.event && has_right_own_value entry) (after_steps config (after_event entry.event s) (tasks_in s entry.event) (steps_of entry)) t e).0
+
+  -- its event is not refused
+  pub unrefused : refusal_of config (known_in s) entry.event ≡ None
+  unrefused = none-of (refusal_of config (known_in s) entry.event) (and_parts (is_none (refusal_of config (known_in s) entry.event)) (is_numbered s.opened entry.event) (and_parts (is_none (refusal_of config (known_in s) entry.event) && is_numbered s.opened entry.event) (has_right_own_value entry) test).0).0
+
+  own-value : has_right_own_value entry ≡ true
+  own-value = (and_parts (is_none (refusal_of config (known_in s) entry.event) && is_numbered s.opened entry.event) (has_right_own_value entry) test).1
+
+  pub steps-follow : after_steps config (after_event entry.event s) (tasks_in s entry.event) (steps_of entry) ≡ Some t
+  steps-follow = (passed (is_none (refusal_of config (known_in s) entry.event) && is_numbered s.opened entry.event && has_right_own_value entry) (after_steps config (after_event entry.event s) (tasks_in s entry.event) (steps_of entry)) t e).1
+
+-- ---- the record of an event that is no answer has no value and no notes of its own
+
+abbrev pub IsPlain : Event → Type 0
+IsPlain (event.Open conn) = Unit {0}
+IsPlain (event.Close conn) = Unit {0}
+IsPlain (event.Feed conn piece moment) = Unit {0}
+IsPlain (event.Answer load outcome moment) = ⊥
+IsPlain (event.GiveUp load moment) = Unit {0}
+
+plain-own : (happened : Event) (own : Option Accepted) (notices : List Note) (steps : List Step) → (is_none own && is_empty notices) ≡ true → record { event = happened; own = own; notices = notices; steps = steps } ≡ record_of happened steps
+plain-own happened None [] steps e = refl
+plain-own happened None (x ∷ xs) steps e = let no : false ≡ true = e in cc
+plain-own happened (Some x) notices steps e = let no : false ≡ true = e in cc
+
+plain-by : (happened : Event) (own : Option Accepted) (notices : List Note) (steps : List Step) → IsPlain happened → has_right_own_value (record { event = happened; own = own; notices = notices; steps = steps }) ≡ true
+    → record { event = happened; own = own; notices = notices; steps = steps } ≡ record_of happened steps
+plain-by (event.Open conn) own notices steps plain e = plain-own (event.Open conn) own notices steps e
+plain-by (event.Close conn) own notices steps plain e = plain-own (event.Close conn) own notices steps e
+plain-by (event.Feed conn piece moment) own notices steps plain e = plain-own (event.Feed conn piece moment) own notices steps e
+plain-by (event.Answer load outcome moment) own notices steps plain e = absurd plain
+plain-by (event.GiveUp load moment) own notices steps plain e = plain-own (event.GiveUp load moment) own notices steps e
+
+pub plain-record : (config : Config) (s t : Situation) (entry : Record) (happened : Event) → Follows config s entry t → entry.event ≡ happened → IsPlain entry.event → entry ≡ record_of happened entry.steps
+plain-record config s t entry happened e is plain =
+    plain-by entry.event entry.own entry.notices entry.steps plain (own-value config s t entry e) ∙ ap (λ h. record_of h entry.steps) is
+
+-- ---- an opening or a closing has no steps
+
+pub no-steps : (config : Config) (s t : Situation) (steps : List Step) → after_steps config s [] steps ≡ Some t → (steps ≡ []) × (t ≡ s)
+no-steps config s t [] e = (refl, sym (same_Some s t e))
+no-steps config s t (step ∷ steps) e = absurd (none-some t e)
+
+pub plain-steps : (happened : Event) (steps : List Step) → IsPlain happened → steps_of (record_of happened steps) ≡ steps
+plain-steps (event.Open conn) steps plain = refl
+plain-steps (event.Close conn) steps plain = refl
+plain-steps (event.Feed conn piece moment) steps plain = refl
+plain-steps (event.Answer load outcome moment) steps plain = absurd plain
+plain-steps (event.GiveUp load moment) steps plain = refl
+
+-- such a record leads to where its event does
+pub quiet-steps : (config : Config) (s t : Situation) (entry : Record) (happened : Event) → entry.event ≡ happened → ((u : Situation) → tasks_in u happened ≡ []) → IsPlain happened → Follows config s entry t
+    → (entry ≡ record_of happened []) × (t ≡ after_event happened s)
+quiet-steps config s t entry happened is idle plain follows =
+    let alike = plain-record config s t entry happened follows is (subst IsPlain (sym is) plain) in
+    let same : Follows config s (record_of happened entry.steps) t = subst (λ e. Follows config s e t) alike follows in
+    let steps = subst (λ l. after_steps config (after_event happened s) (tasks_in s happened) l ≡ Some t) (plain-steps happened entry.steps plain) (steps-follow config s t (record_of happened entry.steps) same) in
+    let none = no-steps config (after_event happened s) t entry.steps (subst (λ tasks. after_steps config (after_event happened s) tasks entry.steps ≡ Some t) (idle s) steps) in
+    (alike ∙ ap (record_of happened) none.0, none.1)
+
+-- ---- the connections that were opened
+
+join-opened : (conn : ℕ) (waits : Bool) (of : Option (List ℕ)) (load : Option ℕ) (s : Situation) → (join_by conn waits of load s).opened ≡ s.opened
+join-opened conn waits None load s = refl
+join-opened conn waits (Some of) (Some number) s = refl
+join-opened conn true (Some of) None s = refl
+join-opened conn false (Some of) None s = refl
+
+own-opened : (task : Option Task) (step : Step) (effect : Effect) (s : Situation) (o : Option Connection)
+    → (option_map_or (λ c. with_connection (quits effect) (connection_after task step effect c) (join_load step.conn effect s)) o s).opened ≡ s.opened
+own-opened task step effect s None = refl
+own-opened task step effect s (Some c) = join-opened step.conn (is_waiting effect) (key_loaded effect.action) effect.load s
+
+step-opened : (config : Config) (s : Situation) (task : Option Task) (step : Step) (effect : Effect) → (after_step config s task step effect).opened ≡ s.opened
+step-opened config s (Some (Store of outcome)) step effect = refl
+step-opened config s task step effect = own-opened task step effect _ (connection_in step.conn s)
+
+steps-opened : (config : Config) (s t : Situation) (tasks : List Task) (more : List Step) → after_steps config s tasks more ≡ Some t → t.opened ≡ s.opened
+steps-opened config s t tasks [] e = go (is_empty (due (may_run_in s) tasks)) e
+  where
+    go : (b : Bool) → (if b then Some s else None) ≡ Some t → t.opened ≡ s.opened
+    go false h = absurd (none-some t h)
+    go true h = ap (λ (u : Situation). u.opened) (sym (same_Some s t h))
+steps-opened config s t tasks (step ∷ more) e =
+    by-right (λ u left h. steps-opened config u t left more h) (due (may_run_in s) tasks) (is_right config (placed_step_in config s (first_due (due (may_run_in s) tasks)) step)) e
+  where
+    Next : Type 0
+    Next = (u : Situation) (left : List Task) → after_steps config u left more ≡ Some t → t.opened ≡ u.opened
+
+    by-right : Next → (now_due : List Task) → (b : Bool)
+        → (if b then after_steps config (after_step config s (first_due now_due) step (placed_step_in config s (first_due now_due) step).effect) (left_after now_due) more else None) ≡ Some t → t.opened ≡ s.opened
+    by-right next now_due false h = absurd (none-some t h)
+    by-right next now_due true h =
+        next (after_step config s (first_due now_due) step (placed_step_in config s (first_due now_due) step).effect) (left_after now_due) h
+        ∙ step-opened config s (first_due now_due) step (placed_step_in config s (first_due now_due) step).effect
+
+fed-opened : (piece : List ℕ) (u : Situation) (o : Option Connection) → (option_map_or (λ c. with_connection false (record c { unread = c.unread ++ piece }) u) o u).opened ≡ u.opened
+fed-opened piece u None = refl
+fed-opened piece u (Some c) = refl
+
+event-opened : (s : Situation) (happened : Event) → s.opened ≤ (after_event happened s).opened
+event-opened s (event.Open c) = omega arith
+event-opened s (event.Close c) = omega arith
+event-opened s (event.Feed c piece moment) = let same = fed-opened piece (record s { latest = max moment.nanos s.latest }) (connection_in c s) in omega (arith, same)
+event-opened s (event.Answer load outcome moment) = omega arith
+event-opened s (event.GiveUp load moment) = omega arith
+
+pub record-opened : (config : Config) (s t : Situation) (entry : Record) → Follows config s entry t → s.opened ≤ t.opened
+record-opened config s t entry e =
+    let same = steps-opened config (after_event entry.event s) t (tasks_in s entry.event) (steps_of entry) (steps-follow config s t entry e) in
+    let first = event-opened s entry.event in
+    omega (arith, same, first)
+
+-- ---- one that is listed behind others
+
+pub found-behind : (k : Connection) (c : ℕ) (ks : List Connection) → (k.number == c) ≡ false → find (λ x. x.number == c) (ks ++ k ∷ []) ≡ find (λ x. x.number == c) ks
+found-behind k c [] ne = ap (λ b. cond b (Some k) None) ne
+found-behind k c (x ∷ xs) ne = ap (λ o. cond (x.number == c) (Some x) o) (found-behind k c xs ne)
+
+-- one is found where one of that number is listed last
+pub found-last : (k : Connection) (c : ℕ) (ks : List Connection) → (k.number == c) ≡ true → is_none (find (λ x. x.number == c) (ks ++ k ∷ [])) ≡ false
+found-last k c [] is = ap (λ b. is_none (cond b (Some k) None)) is
+found-last k c (x ∷ xs) is = go (found-last k c xs is) (x.number == c)
+  where
+    go : is_none (find (λ (y : Connection). y.number == c) (xs ++ k ∷ [])) ≡ false → (b : Bool) → is_none (cond b (Some x) (find (λ (y : Connection). y.number == c) (xs ++ k ∷ []))) ≡ false
+    go next true = refl
+    go next false = next
+
+-- none is, where those of that number are left out
+pub found-none : (c : ℕ) (ks : List Connection) → find (λ x. x.number == c) (without_number c ks) ≡ None
+found-none c [] = refl
+found-none c (x ∷ xs) = go (found-none c xs) (x.number == c) refl
+  where
+    go : find (λ (y : Connection). y.number == c) (without_number c xs) ≡ None → (b : Bool) → (x.number == c) ≡ b → find (λ (y : Connection). y.number == c) (cond (not b) (x ∷ without_number c xs) (without_number c xs)) ≡ None
+    go next true e = next
+    go next false e = ap (λ b. cond b (Some x) (find (λ (y : Connection). y.number == c) (without_number c xs))) e ∙ next
 
 -- ---- what a situation says of a namespace
 

@@ -1,44 +1,123 @@
 -- What a chain of exchanges comes to in a namespace.
-use Rattle.std.proofs.Common.{◌≡◌, ◌≢◌, ℕ, List, [], ◌∷◌, ◌++◌, Option, None, Some, refl, sym, ap, ◌∙◌, subst, inl, inr}
+use Rattle.std.proofs.Common.{◌≡◌, ℕ, false, List, [], ◌∷◌, ◌++◌, Option, None, Some, refl, sym, ap, ◌∙◌, subst, inl, inr, ◌≢◌}
+use Rattle.std.proofs.lemmas.List.{append-nil}
+use Rattle.audit_model.specs.Follows.{Follows}
+use Rattle.audit_model.specs.Situation.{Situation, key_in}
+use Rattle.audit_model.specs.declared.config.Config.{Config}
+use Rattle.audit_model.specs.declared.event.Event.{Event}
+use Rattle.audit_model.specs.declared.transcript.Note.{Note}
+use Rattle.audit_model.specs.declared.transcript.Record.{Record}
+use Rattle.audit_waiting_laws.specs.Alone.{IsTurnOf}
+use Rattle.audit_waiting_laws.specs.Keys.{IsKnown}
+use Rattle.cache_core.specs.State.{situation_with}
+use Rattle.cache_core.specs.Turned.{notes_in, replies_to, feeding}
+use Rattle.cache_spaces.specs.Calls as served
+use Rattle.cache_spaces.specs.Calls.{At, TakesOutput, IsOpened}
+use Rattle.cache_spaces.specs.Spaces.{StandsFor, config_of, known_of, notices_of, untaken_output, closing_of, outgoing_of}
+use Rattle.cache_spaces.specs.Stores.{shown_of}
+use Rattle.cache_spaces.specs.Bares.{BareSpace, bare_tape}
+use Rattle.cache_run.specs.Goes.{Goes}
+use Rattle.cache_devices.specs.Sources.{Asking}
+use Rattle.cache_run.specs.Happened.{Dropped, IsKeyOf, IsSettledBy, Settled, record_replies, asking_of}
+use Rattle.cache_run.proofs.Led.{record-one, Led, led-turn, led-known, led-more, led-none}
+use Rattle.cache_run.proofs.Going.{goes-still, output-none, output-stands, still-stands, fed-turn, goes-more, goes-output, goes-same}
+use Rattle.cache_run.proofs.Happening.{goes-by, own-replies, happened-so, situation-behind, stays-fed, stays-opened, none-where}
+use Rattle.cache_core.specs.Settling.{answering, giving_up}
+use Rattle.cache_run.specs.Connected.{HasSituation, HasTakenReplies, IsFed}
+use Rattle.cache_run.proofs.Dropping.{taken-same, known-given}
+use Rattle.cache_driver.specs.Exchanges as did
+use Rattle.cache_driver.specs.Exchanges.{Doing, Exchange, Outs, AreDone, Chain, Hands, HaveClosed, Keeps, Leaves, LeavesNothing, asks_of, askings_in, bytes_of, moments_in, pieces_in, replies_in, told_of}
+use Rattle.cache_run.specs.Lent.{Comes, Does, MayGiveLoads}
 use Rattle.std.specs.Prelude.{MatchOption, unwrap_or}
 use Rattle.std.specs.List.{last_or}
 use Rattle.std.proofs.lemmas.Option.{none-some, same_Some}
-use Rattle.audit_model.specs.declared.transcript.Note.{Note}
-use Rattle.audit_waiting_laws.specs.Keys.{IsKnown}
 use Rattle.audit_waiting_laws.proofs.Keys.{answered-key, given-up-key}
-use Rattle.cache_core.specs.Settling.{answering, giving_up}
-use Rattle.cache_core.specs.Turned.{feeding, replies_to}
-use Rattle.cache_devices.specs.Sources.{Asking}
-use Rattle.cache_spaces.specs.Bares.{BareSpace, bare_tape}
 use Rattle.cache_spaces.specs.Sound.{IsSound}
-use Rattle.cache_spaces.specs.Spaces.{closing_of, config_of, notices_of, outgoing_of, untaken_output}
 use Rattle.cache_run.specs.Accounts.{Accounts, AddsNoLoads, pending_of}
-use Rattle.cache_run.specs.Connected.{HasTakenReplies}
-use Rattle.cache_run.specs.Goes.{Goes}
-use Rattle.cache_run.specs.Happened.{IsKeyOf, asking_of}
-use Rattle.cache_run.specs.Loading.{AreKnown, GivesLoads, SameButLoads}
-use Rattle.cache_run.proofs.Accounting.{accounts-later, accounts-more, adds-none, later-same, own-loads}
-use Rattle.cache_run.proofs.Dropping.{known-given, taken-same}
-use Rattle.cache_run.proofs.Going.{fed-turn, goes-map, goes-more, goes-output, goes-still, still-stands}
-use Rattle.cache_run.proofs.Happening.{goes-by, happened-so, own-replies}
-use Rattle.cache_run.proofs.Settling.{dropped-goes, settled-goes}
-use Rattle.cache_driver.specs.Exchanges as did
-use Rattle.cache_driver.specs.Exchanges.{AreDone, Chain, Doing, Exchange, Hands, HaveClosed, Keeps, Leaves, Outs, LeavesNothing, asks_of, askings_in, bytes_of, moments_in, pieces_in, replies_in, told_of}
-use Rattle.cache_run.specs.Lent.{Comes, Does, MayGiveLoads}
-use Rattle.cache_run.proofs.Handing.{accounts-behind, known-of, known-rest}
-use Rattle.cache_run.proofs.Led.{Led, led-known, led-more, led-none}
-use Rattle.cache_run.proofs.Standing.{Stands, stands-behind}
+use Rattle.cache_run.specs.Loading.{AreKnown, GivesLoads}
+use Rattle.cache_run.proofs.Accounting.{accounts-later, accounts-more, adds-none, later-same, own-loads, accounts-behind, known-of, known-rest}
+
+-- ---- how the namespace goes on
+
+settling : (config : Config) (asking : Asking) (moment : ℕ) (happened : Event) → IsSettledBy config asking.answer moment happened → (number : ℕ) → IsTurnOf number happened
+settling config asking moment happened (inl p) = λ number. subst (IsTurnOf number) (sym p.3) tt
+settling config asking moment happened (inr p) = λ number. subst (IsTurnOf number) (sym p.1) tt
+
+-- the last of the loads in hand was settled by what the loader said, which was asked by its key
+pub settled-goes : (number : ℕ) (was is : BareSpace) (happened : Event) (asking : Asking) (hand rest : Outs) (load moment : ℕ) (after : List Note) (text : List ℕ) → untaken_output was number ≡ [] → text ≡ untaken_output is number → after ≡ notices_of is
+    → did.IsLastOf hand load asking.key rest → IsSettledBy (config_of was) asking.answer moment happened → ((s t : Situation) (entry : Record) → Follows (config_of was) s entry t → entry.event ≡ happened → IsKnown load asking.key s → IsKeyOf s entry.event asking.key) → served.Settled bare_tape was is happened
+    → Goes number was is (λ s t. AreKnown hand s → Led (config_of was) number s t (notices_of was) after [] (moment ∷ []) (asking ∷ []) text)
+settled-goes number was is happened asking hand rest load moment after text none texts notes last said keyed settled =
+    goes-by was is happened settled number (settling (config_of was) asking moment happened said number)
+    (λ s t. AreKnown hand s → Led (config_of was) number s t (notices_of was) after [] (moment ∷ []) (asking ∷ []) text)
+    (λ s t entry event turned follows own stands known.
+    led-turn (config_of was) number s t (notices_of was) after (Settled asking moment entry) text (subst (IsSettledBy (config_of was) asking.answer moment) (sym event) said) (keyed s t entry follows event (known-of hand load asking.key rest s last known).1) (record-one (config_of was) s entry t follows)
+    (notes ∙ turned.notes ∙ ap (λ l. notices_of was ++ l) (sym (append-nil (notes_in entry))))
+    (texts ∙ turned.outputs number ∙ ap (λ o. o ++ replies_to number entry.steps) none ∙ own-replies number entry.steps own ∙ sym (append-nil (record_replies entry))))
+
+-- no load of that number is under way in any situation that the namespace stands for
+unknown-there : (was : BareSpace) (s : Situation) (load : ℕ) → StandsFor was s → (known_of was).is_under_way load ≡ false → key_in load s ≡ None
+unknown-there was s load stands unknown = ap (λ (t : Situation). key_in load t) stands.is ∙ none-where (key_in load (situation_with shown_of was [])) unknown
+
+-- a load was not under way, and what the loader said was dropped
+pub dropped-goes : (number : ℕ) (x : BareSpace) (asking : Asking) (hand : Outs) (load moment : ℕ) (after : List Note) (text : List ℕ) → untaken_output x number ≡ [] → text ≡ untaken_output x number → after ≡ notices_of x → (known_of x).is_under_way load ≡ false
+    → Goes number x x (λ s t. AreKnown hand s → Led (config_of x) number s t (notices_of x) after [] (moment ∷ []) (asking ∷ []) text)
+dropped-goes number x asking hand load moment after text none texts notes unknown =
+    goes-still number x (λ s t. AreKnown hand s → Led (config_of x) number s t (notices_of x) after [] (moment ∷ []) (asking ∷ []) text)
+    (λ s stands known. led-turn (config_of x) number s s (notices_of x) after (Dropped asking moment load) text tt (unknown-there x s load stands unknown) refl (notes ∙ sym (append-nil (notices_of x))) (texts ∙ none))
+
+-- ---- how the connection stands
+
+-- the namespace stands for a situation, it knows the connection, and that is true of it
+pub record Stands (IsLeft : ℕ → BareSpace → Type 0) (number : ℕ) (space : BareSpace) : Type 0 where
+  pub situation : HasSituation space
+  pub opened : IsOpened space number
+  pub left : IsLeft number space
+
+-- behind an event
+stands-by : (number other : ℕ) (was is : BareSpace) (happened : Event) → IsTurnOf other happened → Stands HasTakenReplies number was → served.Settled bare_tape was is happened → Stands IsFed number is
+stands-by number other was is happened turn s h = record {
+  situation = situation-behind was is happened h s.situation;
+  opened = stays-opened was is happened h number s.situation s.opened;
+  left = stays-fed was is happened h number other turn s.situation s.left.0;
+}
+
+stands-still : (number : ℕ) (was is : BareSpace) → is ≡ was → Stands HasTakenReplies number was → Stands IsFed number is
+stands-still number was is same s = subst (Stands IsFed number) (sym same) (record { situation = s.situation; opened = s.opened; left = s.left.0 })
+
+-- behind what was done
+pub stands-done : (number : ℕ) (was is : BareSpace) (doing : Doing) → Does number doing was is → Stands HasTakenReplies number was → Stands IsFed number is
+stands-done number was is (did.Fed piece moment held) d s = stands-by number number was is (feeding number piece moment) refl s (happened-so was is (feeding number piece moment) held d)
+stands-done number was is (did.Answered load key outcome moment) d s = stands-by number number was is (answering load outcome moment) tt s d
+stands-done number was is (did.GivenUp load asking moment) d s = stands-by number number was is (giving_up load moment) tt s d.0
+stands-done number was is (did.Dropped load asking moment) d s = stands-still number was is d.0 s
+stands-done number was is did.Looked d s = stands-still number was is d s
+
+-- where replies were taken
+pub stands-told : (number : ℕ) (was is : BareSpace) (text : List ℕ) → TakesOutput was is number text → Stands IsFed number was → Stands HasTakenReplies number is
+stands-told number was is text t s = record {
+  situation = record { some = s.situation.some; stands = output-stands was is number text s.situation.some t s.situation.stands };
+  opened = subst (λ x. IsOpened x number) (sym t.rest) s.opened;
+  left = (subst (IsFed number) (sym t.rest) s.left, output-none was is number text t);
+}
+
+-- where loads were taken
+pub stands-given : (number : ℕ) (was is : BareSpace) (loads : Option Outs) → MayGiveLoads loads was is → Stands HasTakenReplies number was → Stands HasTakenReplies number is
+stands-given number was is None same s = subst (Stands HasTakenReplies number) (sym same) s
+stands-given number was is (Some loads) t s =
+    let e = taken-same was is loads t.1 in
+    record {
+      situation = record { some = s.situation.some; stands = still-stands was is s.situation.some e s.situation.stands };
+      opened = subst (λ x. IsOpened x number) (sym e) s.opened;
+      left = subst (HasTakenReplies number) (sym e) s.left;
+    }
+
+-- behind an exchange
+pub stands-behind : (number : ℕ) (was is : BareSpace) (exchange : Exchange) → Comes number was exchange is → Stands HasTakenReplies number was → Stands HasTakenReplies number is
+stands-behind number was is exchange c s =
+    stands-given number c.told is exchange.loads c.gives (stands-told number c.done c.told c.text c.replies (stands-done number was c.done exchange.doing c.does s))
 
 -- ---- what was done
-
--- the turn of a load that was settled, or dropped
-load-led : (number : ℕ) (was is : BareSpace) (hand : Outs) (load moment : ℕ) (key : List ℕ) (asking : Asking) (rest : Outs) (after : List Note) (text : List ℕ) → key ≡ asking.key → did.IsLastOf hand load key rest
-    → Goes number was is (λ s t. IsKnown load asking.key s → Led (config_of was) number s t (notices_of was) after [] (moment ∷ []) (asking ∷ []) text)
-    → Goes number was is (λ s t. AreKnown hand s → Led (config_of was) number s t (notices_of was) after [] (moment ∷ []) (asking ∷ []) text)
-load-led number was is hand load moment key asking rest after text keyed last goes =
-    goes-map number was is (λ s t. IsKnown load asking.key s → Led (config_of was) number s t (notices_of was) after [] (moment ∷ []) (asking ∷ []) text)
-    (λ s t. AreKnown hand s → Led (config_of was) number s t (notices_of was) after [] (moment ∷ []) (asking ∷ []) text) goes
-    (λ s t led known. led (known-of hand load asking.key rest s (subst (λ k. did.IsLastOf hand load k rest) keyed last) known).1)
 
 -- in each situation, where the keys of the loads in hand are right
 pub does-led : (number : ℕ) (was is : BareSpace) (doing : Doing) (hand rest : Outs) (after : List Note) (text : List ℕ) → untaken_output was number ≡ [] → text ≡ untaken_output is number → after ≡ notices_of is → Leaves doing hand rest → Does number doing was is
@@ -50,22 +129,19 @@ does-led number was is (did.Fed piece moment held) hand rest after text none tex
     fed-turn (config_of was) number piece moment entry s t (notices_of was) after text follows event (notes ∙ turned.notes)
     (texts ∙ turned.outputs number ∙ ap (λ o. o ++ replies_to number entry.steps) none ∙ own-replies number entry.steps own))
 does-led number was is (did.Answered load key outcome moment) hand rest after text none texts notes leaves d =
-    load-led number was is hand load moment key (asking_of key (Some outcome)) rest after text refl leaves
-    (settled-goes number was is (answering load outcome moment) (asking_of key (Some outcome)) load moment after text none texts notes (inl (load, outcome, refl, refl))
-    (λ s t entry follows event known. subst (λ h. IsKeyOf s h key) (sym event) (answered-key (config_of was) s t entry load outcome _ key follows event known.1)) d)
+    settled-goes number was is (answering load outcome moment) (asking_of key (Some outcome)) hand rest load moment after text none texts notes leaves (inl (load, outcome, refl, refl))
+    (λ s t entry follows event known. subst (λ h. IsKeyOf s h key) (sym event) (answered-key (config_of was) s t entry load outcome _ key follows event known.1)) d
 does-led number was is (did.GivenUp load asking moment) hand rest after text none texts notes leaves d =
-    load-led number was is hand load moment asking.key asking rest after text refl leaves
-    (settled-goes number was is (giving_up load moment) asking load moment after text none texts notes (inr (load, refl, d.1))
-    (λ s t entry follows event known. subst (λ h. IsKeyOf s h asking.key) (sym event) (given-up-key (config_of was) s t entry load _ asking.key follows event known.1)) d.0)
+    settled-goes number was is (giving_up load moment) asking hand rest load moment after text none texts notes leaves (inr (load, refl, d.1))
+    (λ s t entry follows event known. subst (λ h. IsKeyOf s h asking.key) (sym event) (given-up-key (config_of was) s t entry load _ asking.key follows event known.1)) d.0
 does-led number was is (did.Dropped load asking moment) hand rest after text none texts notes leaves d =
     subst (λ y. Goes number was y (λ s t. AreKnown hand s → Led (config_of was) number s t (notices_of was) after [] (moment ∷ []) (asking ∷ []) text)) (sym d.0)
-    (load-led number was was hand load moment asking.key asking rest after text refl leaves
-    (dropped-goes number was asking load moment after text none (texts ∙ ap (λ y. untaken_output y number) d.0) (notes ∙ ap notices_of d.0) d.1))
+    (dropped-goes number was asking hand load moment after text none (texts ∙ ap (λ y. untaken_output y number) d.0) (notes ∙ ap notices_of d.0) d.1)
 does-led number was is did.Looked hand rest after text none texts notes leaves d =
     let unmoved : untaken_output is number ≡ untaken_output was number = ap (λ y. untaken_output y number) d in
     subst (λ y. Goes number was y (λ s t. AreKnown hand s → Led (config_of was) number s t (notices_of was) after [] [] [] text)) (sym d)
     (goes-still number was (λ s t. AreKnown hand s → Led (config_of was) number s t (notices_of was) after [] [] [] text)
-    (λ s known. led-none (config_of was) number s (notices_of was) after text (notes ∙ ap notices_of d) (texts ∙ unmoved ∙ none)))
+    (λ s stands known. led-none (config_of was) number s (notices_of was) after text (notes ∙ ap notices_of d) (texts ∙ unmoved ∙ none)))
 
 -- ---- loads are taken
 
@@ -78,19 +154,10 @@ goes-given : (number : ℕ) (was is : BareSpace) (loads : Option Outs) (rest aft
     → Goes number was is (λ s t. (s ≡ t) × (AreKnown rest s → AreKnown after t))
 goes-given number was is None rest after same keeps =
     subst (λ y. Goes number was y (λ s t. (s ≡ t) × (AreKnown rest s → AreKnown after t))) (sym same)
-    (goes-still number was (λ s t. (s ≡ t) × (AreKnown rest s → AreKnown after t)) (λ s. (refl, λ known. subst (λ outs. AreKnown outs s) (sym keeps) known)))
+    (goes-still number was (λ s t. (s ≡ t) × (AreKnown rest s → AreKnown after t)) (λ s stands. (refl, λ known. subst (λ outs. AreKnown outs s) (sym keeps) known)))
 goes-given number was is (Some loads) rest after t keeps =
-    let e : SameButLoads was is = taken-same was is loads t.1 in
-    record {
-      each = λ s stands alone. record {
-        next = s;
-        stands = still-stands was is s e stands;
-        alone = alone;
-        fact = (refl, λ known. subst (λ outs. AreKnown outs s) (sym keeps.1) (known-given was is loads s t stands));
-        others = λ other ne. (ap (λ z. untaken_output z other) e, ap (λ z. closing_of z other) e);
-      };
-      config = ap config_of e;
-    }
+    goes-same number was is (λ s u. (s ≡ u) × (AreKnown rest s → AreKnown after u)) (taken-same was is loads t.1)
+    (λ s stands. (refl, λ known. subst (λ outs. AreKnown outs s) (sym keeps.1) (known-given was is loads s t stands)))
 
 -- ---- an exchange, and exchanges one after another
 
@@ -105,7 +172,7 @@ pub record Leads (number : ℕ) (was is : BareSpace) (hand after : Outs) (exchan
 pub leads-none : (number : ℕ) (x : BareSpace) (hand : Outs) → Stands HasTakenReplies number x → Leads number x x hand hand []
 leads-none number x hand stands = record {
   goes = goes-still number x (λ s t. AreKnown hand s → Led (config_of x) number s t (notices_of x) (notices_of x) [] [] [] [] × AreKnown hand t)
-      (λ s known. (led-none (config_of x) number s (notices_of x) (notices_of x) [] refl refl, known));
+      (λ s stands known. (led-none (config_of x) number s (notices_of x) (notices_of x) [] refl refl, known));
   accounted = accounts-later x x hand (later-same x);
   stands = stands;
 }

@@ -8,9 +8,6 @@ use Rattle.audit_receipts.specs.declared.receipt.Receipt.{Receipt}
 use Rattle.cache_shared.specs.Seats.{Agree, AgreeBelow, AgreeAll, receipts_at}
 
 module _ {X : Type 0} where
-  pub agree-none : (journals : List Transcript) (lists : X → List (Vec Receipt Global)) (seats : List X) → AgreeBelow 0 journals lists seats
-  agree-none journals lists seats = λ k journal lt at. absurd (omega arith)
-
   pub agree-more : (n : ℕ) (journals : List Transcript) (lists : X → List (Vec Receipt Global)) (seats : List X) (journal : Transcript)
       → AgreeBelow n journals lists seats → slice_get journals n ≡ Some journal → Agree n journal.records (λ seat. receipts_at (lists seat) n) seats
       → AgreeBelow (n + 1) journals lists seats

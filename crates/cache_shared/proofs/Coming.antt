@@ -14,7 +14,7 @@ use Rattle.audit_receipts.specs.Answers.{last_is_held, output_with}
 use Rattle.audit_receipts.specs.declared.output.Output.{Output}
 use Rattle.audit_receipts.specs.declared.output.Output.TheVariants.{All, Held}
 use Rattle.cache_shared.specs.Events.{Performs, IsReached, is_fed, is_output_for}
-use Rattle.cache_spaces.proofs.Journaling.{got}
+use Rattle.cache_connections.proofs.Getting.{found-at}
 use Rattle.cache_spaces.specs.Inputs.{namespace_of}
 use Rattle.cache_spaces.specs.Spaces.{Shown}
 
@@ -47,7 +47,7 @@ came : (i : Input) (output : Output) (old new : List Shown) (events : ℕ) → I
 came i output old new events r a =
     let k = namespace_of i in
     let lt = slice_get_within old k a.was a.at in
-    let j = got r.journals k (let e = r.are.count in omega arith) in
+    let j = found-at r.journals k (let e = r.are.count in omega arith) in
     let l = (r.are.each k a.was j.0 a.at j.1).leads in
     let h = a.fact.from l.last l.stands in
     subst (λ o. IsTrue (is_output_for i o)) (sym h.answers) (comes i _ h.entry.event h.entry.steps h.event)

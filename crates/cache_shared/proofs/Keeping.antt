@@ -1,10 +1,12 @@
 -- Lists of receipts that grow.
-use Rattle.std.proofs.Common.{◌≡◌, ◌≢◌, ℕ, zero, suc, ◌<◌, List, [], ◌∷◌, ◌++◌, length, get_or, Some, None, Vec, Global, refl, sym, ap, subst, ◌∙◌, arith}
+use Rattle.std.proofs.Common.{◌≡◌, ◌≢◌, ℕ, zero, suc, ◌<◌, List, [], ◌∷◌, ◌++◌, length, get_or, map, Some, None, Vec, Global, refl, sym, ap, subst, ◌∙◌}
 use Rattle.std.specs.Prelude.{slice_set, Result, Ok, Err, OnErr, IfOk}
 use Rattle.std.specs.List.{slice_get}
+use Rattle.std.proofs.Math.Seq.{map-set_same}
+use Rattle.std.proofs.lemmas.List.{get_or-map, get_or-set_other, get_or-set_same, length-map, map-set}
+use Rattle.std.proofs.lemmas.Option.{none-some, same_Some}
 use Rattle.audit_model.specs.declared.input.Input.{Input}
 use Rattle.audit_receipts.specs.declared.output.Output.{Output}
-use Rattle.std.proofs.lemmas.Option.{none-some, same_Some}
 use Rattle.audit_receipts.specs.declared.receipt.Receipt.{Receipt}
 use Rattle.cache_shared.specs.Seats.{receipts_at, receipt_for, Gains, SameReceipts}
 
@@ -28,32 +30,21 @@ receipts-none (x ∷ lists) (suc k) at = receipts-none lists k at
 
 -- another list in its place
 pub set-own : (lists : List (Vec Receipt Global)) (k : ℕ) (list : Vec Receipt Global) → k < length lists → receipts_at (slice_set lists k list) k ≡ list.items
-set-own [] k list lt = absurd (omega arith)
-set-own (x ∷ lists) zero list lt = refl
-set-own (x ∷ lists) (suc k) list lt = set-own lists k list (omega arith)
+set-own lists k list lt =
+    ap (λ l. get_or l k []) (map-set (λ v. v.items) lists k list) ∙ get_or-set_same (map (λ v. v.items) lists) k list.items [] (subst (λ n. k < n) (sym (length-map lists (λ (v : Vec Receipt Global). v.items))) lt)
 
 pub set-others : (lists : List (Vec Receipt Global)) (k j : ℕ) (list : Vec Receipt Global) → j ≢ k → receipts_at (slice_set lists k list) j ≡ receipts_at lists j
-set-others [] k j list ne = refl
-set-others (x ∷ lists) zero zero list ne = absurd (ne refl)
-set-others (x ∷ lists) zero (suc j) list ne = refl
-set-others (x ∷ lists) (suc k) zero list ne = refl
-set-others (x ∷ lists) (suc k) (suc j) list ne = set-others lists k j list (λ e. ne (ap suc e))
+set-others lists k j list ne = ap (λ l. get_or l j []) (map-set (λ v. v.items) lists k list) ∙ get_or-set_other (map (λ v. v.items) lists) k j list.items [] ne
 
 pub own-there : (lists : List (Vec Receipt Global)) (k : ℕ) (d : Vec Receipt Global) → k < length lists → (get_or lists k d).items ≡ receipts_at lists k
-own-there [] k d lt = absurd (omega arith)
-own-there (x ∷ lists) zero d lt = refl
-own-there (x ∷ lists) (suc k) d lt = own-there lists k d (omega arith)
+own-there lists k d lt = sym (get_or-map (λ (v : Vec Receipt Global). v.items) lists k d [] lt)
 
 -- the same receipts in its place
-pub set-stays : (lists : List (Vec Receipt Global)) (k : ℕ) (d list : Vec Receipt Global) → k < length lists → list.items ≡ (get_or lists k d).items → (j : ℕ) → receipts_at (slice_set lists k list) j ≡ receipts_at lists j
-set-stays [] k d list lt e j = absurd (omega arith)
-set-stays (x ∷ lists) zero d list lt e zero = e
-set-stays (x ∷ lists) zero d list lt e (suc j) = refl
-set-stays (x ∷ lists) (suc k) d list lt e zero = refl
-set-stays (x ∷ lists) (suc k) d list lt e (suc j) = set-stays lists k d list (omega arith) e j
+pub set-stays : (lists : List (Vec Receipt Global)) (k : ℕ) (d list : Vec Receipt Global) → list.items ≡ (get_or lists k d).items → (j : ℕ) → receipts_at (slice_set lists k list) j ≡ receipts_at lists j
+set-stays lists k d list e j = ap (λ l. get_or l j []) (map-set_same (λ (v : Vec Receipt Global). v.items) lists k list d e)
 
 pub stays : (before mid : List (Vec Receipt Global)) (k : ℕ) (d list : Vec Receipt Global) → SameReceipts before mid → k < length mid → list.items ≡ (get_or mid k d).items → SameReceipts before (slice_set mid k list)
-stays before mid k d list same lt e = λ j. set-stays mid k d list lt e j ∙ same j
+stays before mid k d list same lt e = λ j. set-stays mid k d list e j ∙ same j
 
 pub gains : (before mid : List (Vec Receipt Global)) (k : ℕ) (d list : Vec Receipt Global) (x : Receipt) → SameReceipts before mid → k < length mid → list.items ≡ (get_or mid k d).items ++ x ∷ [] → Gains before (slice_set mid k list) k x
 gains before mid k d list x same lt e = record {

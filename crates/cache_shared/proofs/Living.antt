@@ -2,7 +2,8 @@
 use Rattle.std.proofs.Common.{◌≡◌, ◌≢◌, ◌∙◌, ℕ, zero, suc, ◌+◌, List, [], ◌∷◌, ◌++◌, length, length-append, Option, None, Some, Vec, Global, refl, sym, ap, subst, inl, inr, arith}
 use Rattle.std.specs.Prelude.{◌⊎◌, slice_set, map, Result, Ok, Err, IfOk, OnErr}
 use Rattle.std.specs.List.{slice_get}
-use Rattle.std.proofs.lemmas.List.{length-set}
+use Rattle.std.proofs.lemmas.Bool.{cases_eq}
+use Rattle.std.proofs.lemmas.List.{length-map, length-set}
 use Rattle.std.proofs.lemmas.Option.{slice_get_within, none-some, same_Some}
 use Rattle.audit_laws.proofs.Journals.{leads_by-more, obeys-led}
 use Rattle.audit_laws.specs.Leading.{LeadsBy, LeadsTo}
@@ -16,12 +17,11 @@ use Rattle.audit_model.specs.declared.transcript.Note.{Note}
 use Rattle.audit_model.specs.declared.transcript.Transcript.{Transcript}
 use Rattle.audit_receipts.specs.declared.output.Output.{Output}
 use Rattle.cache_shared.proofs.Counting.{count-empty, count-more}
-use Rattle.cache_shared.proofs.Performing.{set-same}
 use Rattle.cache_shared.specs.Events.{IsJournal, IsReached, record_count}
 use Rattle.cache_shared.specs.Live.{HasLived, Lived}
-use Rattle.cache_spaces.proofs.Journaling.{got, mapped}
-use Rattle.cache_spaces.proofs.Putting.{at-it, at-length, at-others, same-or-not}
-use Rattle.cache_spaces.proofs.Showing.{length-shown}
+use Rattle.cache_connections.proofs.Getting.{found-at, set-same}
+use Rattle.cache_spaces.proofs.Journaling.{mapped}
+use Rattle.cache_spaces.proofs.Putting.{at-it, at-length, at-others}
 use Rattle.cache_spaces.specs.Bares.{BareSpace, bare_tape}
 use Rattle.cache_spaces.specs.Calls.{At, TakesLoads, TakesNotice, TakesOutput}
 use Rattle.cache_spaces.specs.Inputs.{Performs, namespace_of}
@@ -51,7 +51,7 @@ lived-none configs generator moment spaces new = record {
   count = empties-count moment spaces;
   each = λ k space journal s j.
       let lt = slice_get_within spaces k space s in
-      let config = got configs k (let e = new.count in omega arith) in
+      let config = found-at configs k (let e = new.count in omega arith) in
       let n = new.each k config.0 space config.1 s in
       let e = empties-at moment spaces k journal j in
       subst (HasLived space) (sym e)
@@ -73,7 +73,7 @@ lived-set : (F : BareSpace → BareSpace → Type 0) (old new : List BareSpace) 
 lived-set F old new k n m w a t u at lived records = record {
   journals = slice_set w.journals k u;
   count = length-set w.journals k u ∙ w.count ∙ sym (at-length old new k a);
-  each = λ j space journal s c. go j space journal s c (same-or-not j k);
+  each = λ j space journal s c. go j space journal s c (cases_eq j k);
   records = records;
 }
   where
@@ -88,7 +88,7 @@ lived-set F old new k n m w a t u at lived records = record {
 journal-at : (F : BareSpace → BareSpace → Type 0) (old new : List BareSpace) (k n : ℕ) (w : Lived old n) → At old new k F → (t : Transcript) × (slice_get w.journals k ≡ Some t)
 journal-at F old new k n w a =
     let lt = slice_get_within old k a.was a.at in
-    got w.journals k (let e = w.count in omega arith)
+    found-at w.journals k (let e = w.count in omega arith)
 
 -- an input was taken
 pub lived-more : (i : Input) (output : Output) (old new : List BareSpace) (n : ℕ) → Lived old n → At old new (namespace_of i) (Performs bare_tape i output) → Lived new (n + 1)
@@ -168,7 +168,7 @@ pub lived-reached : (spaces : List BareSpace) (n : ℕ) → Lived spaces n → I
 lived-reached spaces n w = record {
   journals = w.journals;
   are = record {
-    count = w.count ∙ sym (length-shown (shown bare_tape) spaces);
+    count = w.count ∙ sym (length-map spaces (shown bare_tape));
     each = λ k space journal s j.
         let x = mapped (shown bare_tape) spaces k space s in
         let h = w.each k x.0 journal x.1 j in

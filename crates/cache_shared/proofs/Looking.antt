@@ -3,33 +3,22 @@ use Rattle.std.proofs.Common.{◌≡◌, ◌≢◌, ◌∙◌, ℕ, zero, suc, �
 use Rattle.std.specs.Prelude.{◌≤◌, ◌⊎◌, IsNone, ◌&&◌, unwrap_or, slice_set, Result, Ok, Err, IfOk, IfErr, OnErr, OnOk, length, map, nat_le, nat_lt}
 use Rattle.std.specs.List.{slice_get}
 use Rattle.std.specs.Option.{option_map_or, option_to_list}
-use Rattle.std.proofs.lemmas.Bool.{false≢true}
-use Rattle.std.proofs.lemmas.Option.{none-some}
+use Rattle.std.proofs.lemmas.Bool.{cases_eq, false≢true}
+use Rattle.std.proofs.lemmas.List.{length-map}
 use Rattle.audit_model.specs.declared.input.Conn.{Conn}
 use Rattle.audit_model.specs.declared.input.ServiceError.{ServiceError}
 use Rattle.audit_model.specs.declared.input.ServiceError.TheVariants as error
 use Rattle.audit_model.specs.declared.transcript.Note.{Note}
+use Rattle.cache_connections.proofs.Getting.{at-other}
 use Rattle.cache_core.specs.State.{at_number}
 use Rattle.cache_shared.specs.Live.{LiveState, seen_in, untaken_of, untold_of}
-use Rattle.cache_spaces.proofs.Putting.{at-others, same-or-not}
+use Rattle.cache_spaces.proofs.Placing.{at-is}
+use Rattle.cache_spaces.proofs.Putting.{at-others}
 use Rattle.cache_spaces.proofs.Reading.{same-conn}
-use Rattle.cache_spaces.proofs.Showing.{in-shown, length-shown, refuses-shown}
+use Rattle.cache_spaces.proofs.Showing.{in-shown, refuses-shown}
 use Rattle.cache_spaces.specs.Bares.{BareSpace, bare_tape}
 use Rattle.cache_spaces.specs.Calls.{At, InSpace, IsOpened, IsUnknown, Refuses, TakesNotice, TakesOutput}
 use Rattle.cache_spaces.specs.Spaces.{notices_of, shown, untaken_output}
-
--- what was put at a place stands there
-put-there : {X : Type 0} (xs : List X) (k : ℕ) (was is : X) → slice_get xs k ≡ Some was → slice_get (slice_set xs k is) k ≡ Some is
-put-there [] k was is at = absurd (none-some was at)
-put-there (x ∷ xs) zero was is at = refl
-put-there (x ∷ xs) (suc k) was is at = put-there xs k was is at
-
-elsewhere : {X : Type 0} (xs : List X) (i j : ℕ) (x : X) → j ≢ i → slice_get (slice_set xs i x) j ≡ slice_get xs j
-elsewhere [] i j x ne = refl
-elsewhere (y ∷ ys) zero zero x ne = absurd (ne refl)
-elsewhere (y ∷ ys) zero (suc j) x ne = refl
-elsewhere (y ∷ ys) (suc i) zero x ne = refl
-elsewhere (y ∷ ys) (suc i) (suc j) x ne = elsewhere ys i j x (λ e. ne (ap suc e))
 
 module _ {X : Type 0} (of : BareSpace → List X) {F : BareSpace → BareSpace → Type 0} (old new : List BareSpace) (k : ℕ) (a : At old new k F) where
   -- what is seen of the namespace of which something was taken
@@ -37,11 +26,11 @@ module _ {X : Type 0} (of : BareSpace → List X) {F : BareSpace → BareSpace �
   seen-before = ap (λ o. option_map_or of o []) a.at
 
   seen-behind : seen_in of new k ≡ of a.is
-  seen-behind = ap (λ o. option_map_or of o []) (ap (λ l. slice_get l k) a.set ∙ put-there old k a.was a.is a.at)
+  seen-behind = ap (λ o. option_map_or of o []) (at-is F old new k a)
 
   -- what is seen of each namespace is as it was, if that is so of the one that was put in the place of another
   seen-still : (n : ℕ) → (n ≡ k → of a.is ≡ of a.was) → seen_in of new n ≡ seen_in of old n
-  seen-still n same = go (same-or-not n k)
+  seen-still n same = go (cases_eq n k)
     where
       go : (n ≡ k) ⊎ (n ≢ k) → seen_in of new n ≡ seen_in of old n
       go (inl e) = ap (seen_in of new) e ∙ seen-behind ∙ same e ∙ sym seen-before ∙ ap (seen_in of old) (sym e)
@@ -60,7 +49,7 @@ other-number d x xs zero m lt ne from = absurd (omega arith)
 other-number d x xs (suc n) zero lt ne from = absurd (omega arith)
 other-number d x xs (suc n) (suc m) lt ne from =
     let e : suc n - 1 ≡ n = omega arith in
-    ap (λ k. at_number d (slice_set xs k x) (suc m)) e ∙ ap (λ o. unwrap_or o d) (elsewhere xs n m x (λ same. ne (ap suc same)))
+    ap (λ k. at_number d (slice_set xs k x) (suc m)) e ∙ ap (λ o. unwrap_or o d) (at-other xs m n x (λ same. ne (ap suc same)))
 
 positive : (n : ℕ) (more : Bool) → (nat_lt 0 n && more) ≡ true → 0 < n
 positive zero more e = absurd (false≢true e)
@@ -152,4 +141,4 @@ module _ (n : ℕ) (old new : List BareSpace) where
 pub untold-refused : (n : ℕ) (old : List BareSpace) (r : Result (Option Note) ServiceError) → IfErr r (λ e. (e ≡ error.NoNamespace) × (length old ≤ n))
     → IfErr r (λ e. (e ≡ error.OutOfMemory) ⊎ ((e ≡ error.NoNamespace) × (length (map (shown bare_tape) old) ≤ n)))
 untold-refused n old (Ok told) refused = refused
-untold-refused n old (Err e) refused = inr (refused.0, subst (λ k. k ≤ n) (sym (length-shown (shown bare_tape) old)) refused.1)
+untold-refused n old (Err e) refused = inr (refused.0, subst (λ k. k ≤ n) (sym (length-map old (shown bare_tape))) refused.1)

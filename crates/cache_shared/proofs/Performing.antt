@@ -1,9 +1,9 @@
 -- What a service does with an input, as its namespaces are seen whatever their tapes are.
-use Rattle.std.proofs.Common.{◌⊎◌, ◌≡◌, ℕ, zero, suc, ◌+◌, ◌≤◌, List, [], ◌∷◌, length, length-append, map, Option, Some, refl, sym, ap, ◌∙◌, subst, arith, inl, inr, Vec, Global}
+use Rattle.std.proofs.Common.{◌⊎◌, ◌≡◌, ℕ, ◌+◌, ◌≤◌, List, [], ◌∷◌, length, length-append, map, Option, Some, refl, sym, ap, ◌∙◌, subst, arith, inl, inr, Vec, Global}
 use Rattle.std.specs.Prelude.{slice_set, Result, Ok, Err, OnOk, OnErr, IfOk, IfErr}
-use Rattle.std.specs.List.{slice_get}
 use Rattle.std.proofs.Math.Logic.{∥∥₁_elim}
 use Rattle.std.proofs.Props.{props}
+use Rattle.std.proofs.lemmas.List.{length-map, map-set}
 use Rattle.std.proofs.lemmas.Option.{same_Some, slice_get_within}
 use Rattle.audit_model.specs.declared.config.Config.{Config}
 use Rattle.audit_model.specs.declared.event.Instant.{Instant}
@@ -13,8 +13,9 @@ use Rattle.audit_model.specs.declared.input.ServiceError.{ServiceError}
 use Rattle.audit_model.specs.declared.input.ServiceError.TheVariants as error
 use Rattle.audit_model.specs.declared.transcript.Transcript.{Transcript}
 use Rattle.audit_receipts.specs.declared.output.Output.{Output}
-use Rattle.cache_spaces.proofs.Journaling.{got, journal-at, mapped, were-journals, were-led}
-use Rattle.cache_spaces.proofs.Showing.{at-shown, in-shown, length-shown, map-set, performs-shown, refused-shown, refuses-shown}
+use Rattle.cache_connections.proofs.Getting.{found-at, set-same}
+use Rattle.cache_spaces.proofs.Journaling.{journal-at, mapped, were-journals, were-led}
+use Rattle.cache_spaces.proofs.Showing.{at-shown, in-shown, performs-shown, refused-shown, refuses-shown}
 use Rattle.cache_spaces.specs.Calls.{At, InSpace, IsOpened, IsUnknown, Refuses, TakesLoads}
 use Rattle.cache_spaces.specs.Inputs.{Performs, RefusedInput, namespace_of}
 use Rattle.cache_spaces.specs.Journals.{journals_of, kept_by}
@@ -53,13 +54,13 @@ module _ {T : Type 0} (tape : T → Option Taped) where
 
   pub none-shown : {A : Type 0} (n : ℕ) (old : List (Space T)) (r : Result A ServiceError) → IfErr r (λ e. (e ≡ error.NoNamespace) × (length old ≤ n)) → IfErr r (λ e. (e ≡ error.NoNamespace) × (length (map (shown tape) old) ≤ n))
   none-shown n old (Ok a) cause = cause
-  none-shown n old (Err e) cause = (cause.0, subst (λ k. k ≤ n) (sym (length-shown (shown tape) old)) cause.1)
+  none-shown n old (Err e) cause = (cause.0, subst (λ k. k ≤ n) (sym (length-map old (shown tape))) cause.1)
 
   pub none-or-full : {A : Type 0} (n : ℕ) (old : List (Space T)) (r : Result A ServiceError) → IfErr r (λ e. (e ≡ error.OutOfMemory) ⊎ ((e ≡ error.NoNamespace) × (length old ≤ n)))
       → IfErr r (λ e. (e ≡ error.OutOfMemory) ⊎ ((e ≡ error.NoNamespace) × (length (map (shown tape) old) ≤ n)))
   none-or-full n old (Ok a) cause = cause
   none-or-full n old (Err e) (inl full) = inl full
-  none-or-full n old (Err e) (inr cause) = inr (cause.0, subst (λ k. k ≤ n) (sym (length-shown (shown tape) old)) cause.1)
+  none-or-full n old (Err e) (inr cause) = inr (cause.0, subst (λ k. k ≤ n) (sym (length-map old (shown tape))) cause.1)
 
   pub look-shown : {A : Type 0} (of : Space T → A) (seen : Shown → A) (n number : ℕ) (spaces : List (Space T)) (r : Result A ServiceError) → ((x : Space T) → seen (shown tape x) ≡ of x)
       → IfOk r (λ a. InSpace spaces n (λ space. IsOpened space number × (a ≡ of space))) → IfOk r (λ a. InSpace (map (shown tape) spaces) n (λ space. a ≡ seen space))
@@ -100,14 +101,8 @@ pub counts-none : (configs : List Config) (generator : List ℕ) (made : Instant
 counts-none configs generator made spaces new = count-empty made (journals_of spaces) (λ k journal at.
     let x = mapped journal_of spaces k journal at in
     let lt = slice_get_within spaces k x.0 x.1 in
-    let config = got configs k (let e = new.count in omega (arith, e, lt)) in
+    let config = found-at configs k (let e = new.count in omega (arith, e, lt)) in
     sym x.2 ∙ ap (λ (t : Taped). t.journal) (same_Some x.0.tape (blank_tape made) (new.each k config.0 x.0 config.1 x.1).taped))
-
--- what is put in its own place
-pub set-same : {X : Type 0} (xs : List X) (n : ℕ) (x : X) → slice_get xs n ≡ Some x → slice_set xs n x ≡ xs
-set-same [] n x at = refl
-set-same (y ∷ ys) zero x at = ap (λ z. z ∷ ys) (sym (same_Some y x at))
-set-same (y ∷ ys) (suc n) x at = ap (λ l. y ∷ l) (set-same ys n x at)
 
 -- loads that are taken leave the journals
 pub loads-leave : (n : ℕ) (old new : List (Space Taped)) (r : Result (Vec (LoadId × List ℕ) Global) ServiceError) → IfOk r (λ loads. At old new n (λ was is. TakesLoads was is loads.items)) → OnErr r (new ≡ old)
@@ -129,18 +124,18 @@ refused-kept i (Err refusal) count old cause = refused-one kept_by i refusal.err
 -- a namespace that the service does not have has no journal
 pub none-there : {A E : Type 0} (P : E → Type 0) (r : Result A E) (spaces : List (Space Taped)) (k : ℕ) → IfErr r (λ e. P e × (length spaces ≤ k)) → IfErr r (λ e. length (journals_of spaces) ≤ k)
 none-there P (Ok x) spaces k cause = cause
-none-there P (Err e) spaces k cause = subst (λ n. n ≤ k) (sym (length-shown journal_of spaces)) cause.1
+none-there P (Err e) spaces k cause = subst (λ n. n ≤ k) (sym (length-map spaces journal_of)) cause.1
 
 pub kept-there : {A E : Type 0} (P : E → Type 0) (r : Result A E) (spaces : List (Space Taped)) (k : ℕ) → IfErr r (λ e. P e × (length spaces ≤ k)) → OnErr r (length (all-shown spaces) ≤ k)
 kept-there P (Ok x) spaces k cause = cause
-kept-there P (Err e) spaces k cause = subst (λ n. n ≤ k) (sym (length-shown (shown kept_by) spaces)) cause.1
+kept-there P (Err e) spaces k cause = subst (λ n. n ≤ k) (sym (length-map spaces (shown kept_by))) cause.1
 
 -- the journals that lead to where the namespaces stand
 pub reached : (spaces : List (Space Taped)) → WerePlayed spaces → IsReached (all-shown spaces) (record_count (journals_of spaces))
 reached spaces w = record {
   journals = journals_of spaces;
   are = record {
-    count = length-shown journal_of spaces ∙ sym (length-shown (shown kept_by) spaces);
+    count = length-map spaces journal_of ∙ sym (length-map spaces (shown kept_by));
     each = λ namespace space journal s j.
         let x = mapped (shown kept_by) spaces namespace space s in
         let same : journal_of x.0 ≡ journal = same_Some (journal_of x.0) journal (sym (journal-at spaces namespace x.0 x.1) ∙ j) in

@@ -5,6 +5,7 @@ use Rattle.std.proofs.Math.Logic.{∥∥₁_elim, ∥∥₁_map}
 use Rattle.std.proofs.Math.Seq.{take-suc}
 use Rattle.std.proofs.Props.{props}
 use Rattle.std.specs.List.{list_all, slice_get}
+use Rattle.std.proofs.lemmas.Bool.{cases_eq}
 use Rattle.std.proofs.lemmas.List.{take_all}
 use Rattle.std.proofs.lemmas.Option.{none-some, same_Some, slice_get_within}
 use Rattle.audit_laws.proofs.Belonging.{belongs_on, belongs_step_by_step}
@@ -24,6 +25,7 @@ use Rattle.audit_model.specs.declared.transcript.Record.{Record}
 use Rattle.audit_model.specs.declared.transcript.Transcript.{Transcript}
 use Rattle.audit_receipts.specs.declared.output.Output.{Output}
 use Rattle.cache_commands.specs.Order.{AgreesWith, Settled}
+use Rattle.cache_connections.proofs.Getting.{at-mapped, found-at}
 use Rattle.cache_lines.specs.Ordered.{OrdersSteps}
 use Rattle.cache_spaces.specs.Calls.{At}
 use Rattle.cache_spaces.specs.Inputs.{Performs, namespace_of}
@@ -34,17 +36,12 @@ use Rattle.cache_spaces.specs.Spaces.{HasItsParts, Space, config_of, part_in, re
 use Rattle.cache_spaces.specs.Throughout.{HasExactKeys, HaveKeysFrom, are_bounded_from, are_timely_from, are_timely_in, is_bounded_throughout, is_timely_throughout, order_at_end}
 use Rattle.cache_spaces.proofs.Chaining.{keys-one-more, order-at-end-more, so-of-one-more}
 use Rattle.cache_spaces.proofs.Listing.{keeps-list}
-use Rattle.cache_spaces.proofs.Putting.{at-it, at-length, at-others, same-or-not}
+use Rattle.cache_spaces.proofs.Putting.{at-it, at-length, at-others}
 use Rattle.cache_store.specs.Recency.{IsPlainLru}
 use Rattle.cache_store.specs.Running.{is_bounded}
 use Rattle.cache_tape.specs.Taped.{Taped, with_entry}
 
 -- ---- places
-
-pub got : {X : Type 0} (xs : List X) (k : ℕ) → k < length xs → (x : X) × (slice_get xs k ≡ Some x)
-got [] k lt = absurd (omega arith)
-got (x ∷ xs) zero lt = (x, refl)
-got (x ∷ xs) (suc k) lt = got xs k (omega arith)
 
 -- a journal stands on the tape of a namespace
 pub mapped : {X Y : Type 0} (f : X → Y) (xs : List X) (k : ℕ) (y : Y) → slice_get (map f xs) k ≡ Some y → (x : X) × (slice_get xs k ≡ Some x) × (f x ≡ y)
@@ -153,7 +150,7 @@ pub played-on : (configs : List Config) (moment : Instant) (inputs : List Input)
     → HavePlayed configs moment inputs old → At old new (namespace_of i) (Performs kept_by i output) → HavePlayed configs moment (inputs ++ i ∷ []) new
 played-on configs moment inputs i output old new played a = record {
   count = at-length old new (namespace_of i) a ∙ played.count;
-  each = λ k config is c at_is. go k config is c at_is (same-or-not k (namespace_of i));
+  each = λ k config is c at_is. go k config is c at_is (cases_eq k (namespace_of i));
 }
   where
     go : (k : ℕ) (config : Config) (is : Space Taped) → slice_get configs k ≡ Some config → slice_get new k ≡ Some is → (k ≡ namespace_of i) ⊎ (k ≢ namespace_of i)
@@ -172,7 +169,7 @@ pub played-loads : (configs : List Config) (moment : Instant) (inputs : List Inp
     → ((was is : Space Taped) → Some-loads was is → is ≡ record was { outgoing = [] }) → HavePlayed configs moment inputs old → At old new n Some-loads → HavePlayed configs moment inputs new
 played-loads configs moment inputs n Some-loads old new rest played a = record {
   count = at-length old new n a ∙ played.count;
-  each = λ k config is c at_is. go k config is c at_is (same-or-not k n);
+  each = λ k config is c at_is. go k config is c at_is (cases_eq k n);
 }
   where
     taken : (config : Config) (k : ℕ) (was : Space Taped) → HasPlayed config k moment inputs was → HasPlayed config k moment inputs (record was { outgoing = [] })
@@ -256,11 +253,6 @@ played-step configs moment inputs n i old new r lt at played taken same = subst 
     go (Ok output) taken same = played-on configs moment (take n inputs) i output old new played taken
     go (Err e) taken same = subst (HavePlayed configs moment (take n inputs ++ i ∷ [])) (sym same) (played-left configs moment (take n inputs) i old played)
 
-pub played-skip : (configs : List Config) (moment : Instant) (inputs : List Input) (n : ℕ) (i : Input) (spaces : List (Space Taped)) → n < length inputs → i ≡ get_or inputs n i
-    → HavePlayed configs moment (take n inputs) spaces → HavePlayed configs moment (take (n + 1) inputs) spaces
-played-skip configs moment inputs n i spaces lt at played =
-    subst (λ is. HavePlayed configs moment is spaces) (sym (one-more inputs n i lt at)) (played-left configs moment (take n inputs) i spaces played)
-
 -- ---- journals
 
 pub were-none : (configs : List Config) (generator : List ℕ) (moment : Instant) (spaces : List (Space Taped)) → AreNew kept_by (Some (blank_tape moment)) spaces configs generator moment.nanos → WerePlayed spaces
@@ -285,7 +277,7 @@ step-length n old new (Err e) Fact taken same = ap length same
 abbrev were-at : (spaces : List (Space Taped)) (k : ℕ) (space : Space Taped) → (w : WerePlayed spaces) → slice_get spaces k ≡ Some space → HasPlayed (config_of space) k w.moment w.inputs space
 were-at spaces k space w s =
     let lt = slice_get_within spaces k space s in
-    let config = got w.configs k (let e = w.played.count in omega arith) in
+    let config = found-at w.configs k (let e = w.played.count in omega arith) in
     let h = w.played.each k config.0 space config.1 s in
     subst (λ c. HasPlayed c k w.moment w.inputs space) (sym h.configured) h
 
@@ -320,6 +312,4 @@ were-journals spaces played k space s = record {
 
 -- the journal of the namespace at a place
 pub journal-at : (spaces : List (Space Taped)) (k : ℕ) (space : Space Taped) → slice_get spaces k ≡ Some space → slice_get (journals_of spaces) k ≡ Some (journal_of space)
-journal-at [] k space e = absurd (none-some _ e)
-journal-at (x ∷ xs) zero space e = ap (λ (y : Space Taped). Some (journal_of y)) (same_Some x space e)
-journal-at (x ∷ xs) (suc k) space e = journal-at xs k space e
+journal-at spaces k space e = at-mapped journal_of spaces k space e

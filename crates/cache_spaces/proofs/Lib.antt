@@ -1,3 +1,4 @@
+pub mod Placing
 pub mod Putting
 mod Beginning
 pub mod Chaining

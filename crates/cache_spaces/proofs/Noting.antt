@@ -43,11 +43,6 @@ module _ {X : Type 0} where
   drop-one (y ∷ ys) zero x e = ap (λ z. z ∷ ys) (same_Some y x e)
   drop-one (y ∷ ys) (suc n) x e = drop-one ys n x e
 
-  -- one stands there
-  pub one-there : (lists : List (List X)) (k n : ℕ) (x : X) → slice_get (get_or lists k []) n ≡ Some x → rest_in lists k n ≡ x ∷ rest_in lists k (n + 1)
-  one-there lists k n x e =
-      ap (λ l. l ++ lists_joined (drop (k + 1) lists)) (drop-one (get_or lists k []) n x e ∙ ap (λ m. x ∷ drop m (get_or lists k [])) (sym (add-one n)))
-
 records-from : (records : List Record) (k : ℕ) → notes_of_records (drop k records) ≡ rest_in (lists_at records k) 0 0 ++ notes_of_records (drop (suc k) records)
 records-from [] zero = refl
 records-from [] (suc k) = refl
@@ -73,41 +68,11 @@ no-record records told h =
     ap (λ (r : List Note). r ++ notes_of_records (drop (told.entry + 1) records)) (ap (λ l. rest_in l told.list told.note) (lists-over records told.entry h) ∙ no-list [] told.list told.note (omega arith))
     ∙ ap notes_of_records (drop_of_length-le records (omega arith))
 
--- one stands in that record
-pub one-in : (records : List Record) (k l n l' n' : ℕ) (x : Note) → rest_in (lists_at records k) l n ≡ x ∷ rest_in (lists_at records k) l' n'
-    → notes_from records (record { entry = k; list = l; note = n }) ≡ x ∷ notes_from records (record { entry = k; list = l'; note = n' })
-one-in records k l n l' n' x e = ap (λ (r : List Note). r ++ notes_of_records (drop (k + 1) records)) e
-
 -- the lists of the record that stands there
 pub lists-there : (records : List Record) (k : ℕ) (entry : Record) → slice_get records k ≡ Some entry → lists_at records k ≡ lists_of entry
 lists-there [] k entry e = absurd (none-some entry e)
 lists-there (x ∷ xs) zero entry e = ap lists_of (same_Some x entry e)
 lists-there (x ∷ xs) (suc k) entry e = lists-there xs k entry e
-
--- the notes of a step
-pub step-there : (entry : Record) (k : ℕ) (step : Step) → slice_get entry.steps k ≡ Some step → step.notices ≡ get_or (lists_of entry) (suc k) []
-step-there entry k step e = go entry.steps k e
-  where
-    go : (steps : List Step) (k : ℕ) → slice_get steps k ≡ Some step → step.notices ≡ get_or (map (λ step. step.notices) steps) k []
-    go [] k e = absurd (none-some step e)
-    go (x ∷ xs) zero e = ap (λ (s : Step). s.notices) (sym (same_Some x step e))
-    go (x ∷ xs) (suc k) e = go xs k e
-
-pub step-none : (entry : Record) (k : ℕ) → slice_get entry.steps k ≡ None → [] ≡ get_or (lists_of entry) (suc k) []
-step-none entry k e = go entry.steps k e
-  where
-    go : (steps : List Step) (k : ℕ) → slice_get steps k ≡ None → [] ≡ get_or (map (λ step. step.notices) steps) k []
-    go [] zero e = refl
-    go [] (suc k) e = refl
-    go (x ∷ xs) zero e = absurd (none-some x (sym e))
-    go (x ∷ xs) (suc k) e = go xs k e
-
-pub lists-count : (entry : Record) → length (lists_of entry) ≡ length entry.steps + 1
-lists-count entry = let e = go entry.steps in omega (arith, e)
-  where
-    go : (steps : List Step) → length (map (λ step. step.notices) steps) ≡ length steps
-    go [] = refl
-    go (x ∷ xs) = let e = go xs in omega (arith, e)
 
 -- ---- what was taken, and what was not
 

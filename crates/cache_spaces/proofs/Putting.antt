@@ -1,26 +1,13 @@
 -- One namespace of a service in the place of another.
-use Rattle.std.proofs.Common.{◌≡◌, ◌≢◌, ℕ, zero, suc, ◌<◌, List, [], ◌∷◌, length, Some, refl, sym, ap, ◌∙◌, subst, get_or, inl, inr, arith}
-use Rattle.std.specs.Prelude.{Result, Ok, Err, IfOk, IfErr, OnOk, slice_set, ◌⊎◌}
+use Rattle.std.proofs.Common.{◌≡◌, ◌≢◌, ℕ, List, length, Some, refl, sym, ap, ◌∙◌, subst, inl, inr}
+use Rattle.std.specs.Prelude.{Result, Ok, Err, IfOk, IfErr, OnOk, slice_set}
 use Rattle.std.specs.List.{slice_get}
 use Rattle.std.proofs.lemmas.List.{length-set}
-use Rattle.std.proofs.lemmas.Option.{same_Some, slice_get_read, slice_get_within}
+use Rattle.std.proofs.lemmas.Option.{same_Some}
 use Rattle.audit_model.specs.declared.input.ServiceError.{ServiceError}
+use Rattle.cache_connections.proofs.Getting.{at-other}
+use Rattle.cache_spaces.proofs.Placing.{at-is}
 use Rattle.cache_spaces.specs.Calls.{At, InSpace, Refuses}
-
--- two numbers are the same or not
-pub same-or-not : (i j : ℕ) → (i ≡ j) ⊎ (i ≢ j)
-same-or-not zero zero = inl refl
-same-or-not zero (suc j) = inr (λ e. omega arith)
-same-or-not (suc i) zero = inr (λ e. omega arith)
-same-or-not (suc i) (suc j) = go (same-or-not i j)
-  where
-    go : (i ≡ j) ⊎ (i ≢ j) → (suc i ≡ suc j) ⊎ (suc i ≢ suc j)
-    go (inl e) = inl (ap suc e)
-    go (inr ne) = inr (λ e. ne (omega arith))
-
--- what a look at a place found
-pub there : {X : Type 0} (xs : List X) (i : ℕ) (x : X) → i < length xs → x ≡ get_or xs i x → slice_get xs i ≡ Some x
-there xs i x lt e = slice_get_read xs (length xs) i x refl lt e
 
 -- a list that is seen so, and what stands at a place of it
 module _ {X : Type 0} (seen xs : List X) (e : xs ≡ seen) (i : ℕ) (was : X) (at : slice_get xs i ≡ Some was) where
@@ -56,32 +43,17 @@ if-err-given Q (Err e) f = f
 
 -- ---- what is known of a place is known of more
 
-pub at-map : {X : Type 0} {Fact More : X → X → Type 0} (old new : List X) (i : ℕ) → ((was is : X) → slice_get old i ≡ Some was → Fact was is → More was is) → At old new i Fact → At old new i More
-at-map old new i f a = record { was = a.was; is = a.is; at = a.at; set = a.set; fact = f a.was a.is a.at a.fact }
-
 pub refuses-map : {X : Type 0} {Cause More : X → Type 0} (xs : List X) (i : ℕ) (e : ServiceError) → ((was : X) → Cause was → More was) → Refuses xs i e Cause → Refuses xs i e More
 refuses-map xs i e f (inl none) = inl none
 refuses-map xs i e f (inr a) = inr (record { space = a.space; at = a.at; fact = f a.space a.fact })
 
 -- ---- what stands at the place afterwards, and what at others
 
-replaced : {X : Type 0} (xs : List X) (i : ℕ) (x : X) → i < length xs → slice_get (slice_set xs i x) i ≡ Some x
-replaced [] i x lt = absurd (omega arith)
-replaced (y ∷ ys) zero x lt = refl
-replaced (y ∷ ys) (suc i) x lt = replaced ys i x (omega arith)
-
-elsewhere : {X : Type 0} (xs : List X) (i j : ℕ) (x : X) → j ≢ i → slice_get (slice_set xs i x) j ≡ slice_get xs j
-elsewhere [] i j x ne = refl
-elsewhere (y ∷ ys) zero zero x ne = absurd (ne refl)
-elsewhere (y ∷ ys) zero (suc j) x ne = refl
-elsewhere (y ∷ ys) (suc i) zero x ne = refl
-elsewhere (y ∷ ys) (suc i) (suc j) x ne = elsewhere ys i j x (λ e. ne (ap suc e))
-
 pub at-it : {X : Type 0} {Fact : X → X → Type 0} (old new : List X) (i : ℕ) (a : At old new i Fact) (x : X) → slice_get new i ≡ Some x → a.is ≡ x
-at-it old new i a x here = same_Some a.is x (sym (replaced old i a.is (slice_get_within old i a.was a.at)) ∙ ap (λ xs. slice_get xs i) (sym a.set) ∙ here)
+at-it {X} {Fact} old new i a x here = same_Some a.is x (sym (at-is Fact old new i a) ∙ here)
 
 pub at-others : {X : Type 0} {Fact : X → X → Type 0} (old new : List X) (i j : ℕ) → At old new i Fact → j ≢ i → slice_get new j ≡ slice_get old j
-at-others old new i j a ne = ap (λ xs. slice_get xs j) a.set ∙ elsewhere old i j a.is ne
+at-others old new i j a ne = ap (λ xs. slice_get xs j) a.set ∙ at-other old j i a.is ne
 
 pub at-length : {X : Type 0} {Fact : X → X → Type 0} (old new : List X) (i : ℕ) → At old new i Fact → length new ≡ length old
 at-length old new i a = ap length a.set ∙ length-set old i a.is

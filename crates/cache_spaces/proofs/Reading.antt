@@ -4,6 +4,9 @@ use Rattle.std.specs.Prelude.{◌⊎◌, IsNone}
 use Rattle.std.specs.List.{slice_get}
 use Rattle.std.specs.Option.{option_map_or, option_to_list}
 use Rattle.std.proofs.Math.ListN.{drop_of_length-le}
+use Rattle.std.proofs.Math.Seq.{map-set_same}
+use Rattle.std.proofs.lemmas.Bool.{cases_eq}
+use Rattle.std.proofs.lemmas.List.{get_or-map, get_or-set_other, get_or-set_same, length-map, map-set}
 use Rattle.std.proofs.lemmas.Option.{none-some}
 use Rattle.audit_model.specs.declared.input.Conn.{Conn}
 use Rattle.audit_model.specs.declared.transcript.Note.{Note}
@@ -16,7 +19,6 @@ use Rattle.cache_spaces.specs.Replies.{replies_for}
 use Rattle.cache_spaces.specs.Spaces.{Space}
 use Rattle.cache_spaces.specs.declared.cursors.Cursors.{Cursors}
 use Rattle.cache_spaces.proofs.Noting.{all-notes, told-grows}
-use Rattle.cache_spaces.proofs.Putting.{same-or-not}
 use Rattle.cache_tape.specs.Taped.{Taped}
 
 -- connections of one namespace and number are one
@@ -26,53 +28,24 @@ same-conn a b e f =
     let second : record { namespace = b.namespace; number = a.number } ≡ record { namespace = b.namespace; number = b.number } = ap (λ n. record { namespace = b.namespace; number = n }) f in
     first ∙ second
 
--- ---- lists in which one was put in the place of another
-
-module _ {A : Type 0} where
-  pub put-there : (l : List A) (k : ℕ) (x d : A) → k < length l → get_or (slice_set l k x) k d ≡ x
-  put-there [] k x d lt = absurd (omega arith)
-  put-there (y ∷ l) zero x d lt = refl
-  put-there (y ∷ l) (suc k) x d lt = put-there l k x d (omega arith)
-
-  pub put-elsewhere : (l : List A) (k n : ℕ) (x d : A) → n ≢ k → get_or (slice_set l k x) n d ≡ get_or l n d
-  put-elsewhere [] k n x d ne = refl
-  put-elsewhere (y ∷ l) zero zero x d ne = absurd (ne refl)
-  put-elsewhere (y ∷ l) zero (suc n) x d ne = refl
-  put-elsewhere (y ∷ l) (suc k) zero x d ne = refl
-  put-elsewhere (y ∷ l) (suc k) (suc n) x d ne = put-elsewhere l k n x d (λ e. ne (ap suc e))
-
-put-seen : (read : List Cursors) (k : ℕ) (c : Cursors) → map cursor_of (slice_set read k c) ≡ slice_set (map cursor_of read) k (cursor_of c)
-put-seen [] k c = refl
-put-seen (y ∷ read) zero c = refl
-put-seen (y ∷ read) (suc k) c = ap (λ l. cursor_of y ∷ l) (put-seen read k c)
-
-seen-there : (read : List Cursors) (k : ℕ) (here : Cursors) → k < length read → here ≡ get_or read k here → get_or (map cursor_of read) k cursor_at_start ≡ cursor_of here
-seen-there [] k here lt e = absurd (omega arith)
-seen-there (y ∷ read) zero here lt e = ap cursor_of (sym e)
-seen-there (y ∷ read) (suc k) here lt e = seen-there read k here (omega arith) e
-
-seen-count : (read : List Cursors) → length (map cursor_of read) ≡ length read
-seen-count [] = refl
-seen-count (y ∷ read) = ap suc (seen-count read)
-
 module _ (spaces : List (Space Taped)) (read : List Cursors) (namespace : ℕ) (here is : Cursors) (lt : namespace < length read) (at : here ≡ get_or read namespace here) where
   was-there : cursor_in (recorded_of spaces read) namespace ≡ cursor_of here
-  was-there = seen-there read namespace here lt at
+  was-there = get_or-map cursor_of read namespace here cursor_at_start lt ∙ ap cursor_of (sym at)
 
   is-there : cursor_in (recorded_of spaces (slice_set read namespace is)) namespace ≡ cursor_of is
   is-there =
-      ap (λ cs. get_or cs namespace cursor_at_start) (put-seen read namespace is)
-      ∙ put-there (map cursor_of read) namespace (cursor_of is) cursor_at_start (subst (λ n. namespace < n) (sym (seen-count read)) lt)
+      ap (λ cs. get_or cs namespace cursor_at_start) (map-set cursor_of read namespace is)
+      ∙ get_or-set_same (map cursor_of read) namespace (cursor_of is) cursor_at_start (subst (λ n. namespace < n) (sym (length-map read cursor_of)) lt)
 
   is-elsewhere : (other : ℕ) → other ≢ namespace → cursor_in (recorded_of spaces (slice_set read namespace is)) other ≡ cursor_in (recorded_of spaces read) other
   is-elsewhere other ne =
-      ap (λ cs. get_or cs other cursor_at_start) (put-seen read namespace is)
-      ∙ put-elsewhere (map cursor_of read) namespace other (cursor_of is) cursor_at_start ne
+      ap (λ cs. get_or cs other cursor_at_start) (map-set cursor_of read namespace is)
+      ∙ get_or-set_other (map cursor_of read) namespace other (cursor_of is) cursor_at_start ne
 
   -- so it is of what is seen of a namespace's cursor, where that is the same of the one that was put in the place of another
   same-seen : {X : Type 0} (f : Cursor → X) → f (cursor_of is) ≡ f (cursor_of here)
       → (other : ℕ) → f (cursor_in (recorded_of spaces (slice_set read namespace is)) other) ≡ f (cursor_in (recorded_of spaces read) other)
-  same-seen {X} f e other = go (same-or-not other namespace)
+  same-seen {X} f e other = go (cases_eq other namespace)
     where
       go : (other ≡ namespace) ⊎ (other ≢ namespace) → f (cursor_in (recorded_of spaces (slice_set read namespace is)) other) ≡ f (cursor_in (recorded_of spaces read) other)
       go (inl here-is) =
@@ -106,7 +79,7 @@ module _ (spaces : List (Space Taped)) (read : List Cursors) (namespace : ℕ) (
           ∙ ap (λ c. replies_for number (drop (get_or c.replies number 0) journal.records)) is-there
           ∙ ap (λ n. replies_for number (drop n journal.records)) cursor
           ∙ ap (replies_for number) (drop_of_length-le journal.records (omega arith));
-      others = λ other ne. other-replies other ne (same-or-not other.namespace namespace);
+      others = λ other ne. other-replies other ne (cases_eq other.namespace namespace);
       notes = λ n. let e = same-seen (λ c. c.notes) notes n in (ap (notes_before (records_in was n)) e, ap (notes_from (records_in was n)) e);
       spaces = refl;
     }
@@ -151,12 +124,7 @@ cursor-same a b e f =
 -- one that is seen as the one before it, in its place
 pub same-read : (spaces : List (Space Taped)) (read : List Cursors) (k : ℕ) (here is : Cursors) → here ≡ get_or read k here → is.replies.items ≡ here.replies.items → is.notes ≡ here.notes
     → recorded_of spaces (slice_set read k is) ≡ recorded_of spaces read
-same-read spaces read k here is at replies notes = ap (λ cs. record { spaces = spaces; cursors = cs }) (go read k at)
-  where
-    go : (rs : List Cursors) (j : ℕ) → here ≡ get_or rs j here → map cursor_of (slice_set rs j is) ≡ map cursor_of rs
-    go [] j e = refl
-    go (r ∷ rs) zero e = ap (λ c. c ∷ map cursor_of rs) (cursor-same is here replies notes ∙ ap cursor_of e)
-    go (r ∷ rs) (suc j) e = ap (λ cs. cursor_of r ∷ cs) (go rs j e)
+same-read spaces read k here is at replies notes = ap (λ cs. record { spaces = spaces; cursors = cs }) (map-set_same cursor_of read k is here (cursor-same is here replies notes ∙ ap cursor_of at))
 
 -- where there is a journal it was read from somewhere
 pub read-there : (spaces : List (Space Taped)) (read : List Cursors) (k : ℕ) (journal : Transcript) → slice_get (journals_of spaces) k ≡ Some journal → length read ≡ length spaces → k < length read

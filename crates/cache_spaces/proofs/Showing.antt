@@ -1,42 +1,27 @@
 -- Namespaces, shown with what their tapes keep.
-use Rattle.std.proofs.Common.{◌≡◌, ℕ, zero, suc, ◌≤◌, List, [], ◌∷◌, length, map, Option, Some, refl, sym, ap, ◌∙◌, subst, inl, inr}
-use Rattle.std.specs.Prelude.{slice_set}
-use Rattle.std.specs.List.{slice_get}
-use Rattle.std.proofs.lemmas.Option.{none-some, same_Some}
+use Rattle.std.proofs.Common.{ℕ, ◌≤◌, List, map, Option, sym, ap, ◌∙◌, subst, inl, inr}
+use Rattle.std.proofs.lemmas.List.{length-map, map-set}
 use Rattle.audit_model.specs.Situation.{Situation}
 use Rattle.audit_model.specs.declared.input.Input.{Input}
 use Rattle.audit_model.specs.declared.input.Input.TheVariants as input
 use Rattle.audit_model.specs.declared.input.ServiceError.{ServiceError}
 use Rattle.audit_receipts.specs.declared.output.Output.{Output}
+use Rattle.cache_connections.proofs.Getting.{at-mapped}
 use Rattle.cache_spaces.specs.Calls.{At, InSpace, RefusedFor, Refuses}
 use Rattle.cache_spaces.specs.Inputs.{Performs, RefusedInput, is_held_for}
 use Rattle.cache_spaces.specs.Spaces.{Space, StandsFor, shown, shown_tape}
 use Rattle.cache_tape.specs.Taped.{Taped}
 
 module _ {X Y : Type 0} (f : X → Y) where
-  pub map-set : (xs : List X) (i : ℕ) (x : X) → map f (slice_set xs i x) ≡ slice_set (map f xs) i (f x)
-  map-set [] i x = refl
-  map-set (y ∷ ys) zero x = refl
-  map-set (y ∷ ys) (suc i) x = ap (λ l. f y ∷ l) (map-set ys i x)
-
-  pub got-map : (xs : List X) (i : ℕ) (x : X) → slice_get xs i ≡ Some x → slice_get (map f xs) i ≡ Some (f x)
-  got-map [] i x e = absurd (none-some _ e)
-  got-map (y ∷ ys) zero x e = ap (λ z. Some (f z)) (same_Some y x e)
-  got-map (y ∷ ys) (suc i) x e = got-map ys i x e
-
-  pub length-shown : (xs : List X) → length (map f xs) ≡ length xs
-  length-shown [] = refl
-  length-shown (x ∷ xs) = ap suc (length-shown xs)
-
   -- what is true of one and another is true of them as they are shown
   pub at-shown : {Fact : X → X → Type 0} {More : Y → Y → Type 0} (old new : List X) (i : ℕ) → ((was is : X) → Fact was is → More (f was) (f is)) → At old new i Fact → At (map f old) (map f new) i More
-  at-shown old new i g a = record { was = f a.was; is = f a.is; at = got-map old i a.was a.at; set = ap (map f) a.set ∙ map-set old i a.is; fact = g a.was a.is a.fact }
+  at-shown old new i g a = record { was = f a.was; is = f a.is; at = at-mapped f old i a.was a.at; set = ap (map f) a.set ∙ map-set f old i a.is; fact = g a.was a.is a.fact }
 
   pub in-shown : {Fact : X → Type 0} {More : Y → Type 0} (xs : List X) (i : ℕ) → ((x : X) → Fact x → More (f x)) → InSpace xs i Fact → InSpace (map f xs) i More
-  in-shown xs i g a = record { space = f a.space; at = got-map xs i a.space a.at; fact = g a.space a.fact }
+  in-shown xs i g a = record { space = f a.space; at = at-mapped f xs i a.space a.at; fact = g a.space a.fact }
 
   pub refuses-shown : {Cause : X → Type 0} {More : Y → Type 0} (xs : List X) (i : ℕ) (e : ServiceError) → ((x : X) → Cause x → More (f x)) → Refuses xs i e Cause → Refuses (map f xs) i e More
-  refuses-shown xs i e g (inl none) = inl (none.0, subst (λ n. n ≤ i) (sym (length-shown xs)) none.1)
+  refuses-shown xs i e g (inl none) = inl (none.0, subst (λ n. n ≤ i) (sym (length-map xs f)) none.1)
   refuses-shown xs i e g (inr a) = inr (in-shown xs i g a)
 
 module _ {T : Type 0} (tape : T → Option Taped) where

@@ -20,7 +20,7 @@ use Rattle.audit_model.specs.declared.event.Outcome.{Outcome}
 use Rattle.cache_run.specs.Runs.{EndsRun, ServesWhole}
 use Rattle.cache_run.specs.Worlds.{outside, world}
 use Rattle.cache_run.proofs.Happening.{IsSoundAt, listed-is}
-use Rattle.cache_run.proofs.Placing.{at-is}
+use Rattle.cache_spaces.proofs.Placing.{at-is}
 use Rattle.cache_spaces.specs.Bares.{BareSpace, bare_tape}
 use Rattle.cache_spaces.specs.Calls.{At}
 use Rattle.cache_spaces.specs.Services.{AreNew}

@@ -7,7 +7,7 @@ use Rattle.cache_lines.specs.Waiting.{under_way, when_left}
 use Rattle.cache_core.specs.Settled.{IsAmid}
 use Rattle.cache_core.specs.Settling.{runs_at}
 use Rattle.cache_core.proofs.Amid.{amid-behind, amid-least, can-run}
-use Rattle.cache_core.proofs.Orders.{there}
+use Rattle.cache_connections.proofs.Getting.{found-at}
 use Rattle.cache_core.proofs.Steps.{piece-idle, piece-lines, runs-is}
 use Rattle.cache_core.proofs.Touched.{leaves-all, leaves-others}
 use Rattle.cache_core.proofs.settling.resume_at.Goals as goal
@@ -19,7 +19,7 @@ pub returns-then-not-runs_there-clause-ran : goal.returns-then-not-runs_there-cl
 returns-then-not-runs_there-clause-ran g c =
     let cs = c.args.connections.now in
     let i = c.args.index in
-    let here = there cs i c.requires.inside in
+    let here = found-at cs i c.requires.inside in
     let idle : runs_at (slice_get cs i) ≡ false = sym c.runs_there.ensures ∙ c.if-not-runs_there.true in
     record {
       ran = λ held stands. piece-idle g.S.Store.view g.T.Tape.view c.args.now c.args.base.now c.args.base.now (i + 1) i cs here.0 (omega arith) here.1 (sym (ap runs_at here.1) ∙ idle) held stands;

@@ -1,8 +1,8 @@
-use Rattle.std.proofs.Common.{◌≡◌, ◌∙◌, ◌^◌, ◌-◌, refl, arith}
+use Rattle.std.proofs.Common.{◌≡◌, ◌∙◌, [], refl, arith}
 use Rattle.cache_devices.proofs.Sending.{failed_after}
 use Rattle.cache_driver.specs.declared.driving.Progress.TheVariants.{More, Over}
-use Rattle.cache_driver.proofs.Conversing.{runs-all, runs-more, runs-none}
-use Rattle.cache_driver.proofs.Settled.{asked-more, asked-none, because-map}
+use Rattle.cache_driver.proofs.Conversing.{asked-runs, runs-all, runs-more}
+use Rattle.cache_driver.proofs.Settled.{because-map}
 use Rattle.cache_driver.proofs.driving.converse.Goals as goal
 
 pub loop-turn-init : goal.loop-turn-init
@@ -10,8 +10,7 @@ loop-turn-init g c = record {
   known = c.requires.known;
   same = refl;
   goes = λ start a goes. goes;
-  more = λ lent empty. (empty, runs-none g.I.Read.remaining g.D.Loader.loads _ _);
-  asked = asked-none g.D.Loader.loads _;
+  more = λ lent empty. (empty, asked-runs g.I.Read.remaining g.D.Loader.loads _ _ _ 0 ([], refl, omega arith));
   reads = omega arith;
   writes = omega arith;
   counts = omega arith;
@@ -29,8 +28,7 @@ loop-turn-preserved g c =
       goes = λ start a goes. (rw c.in-Ok-More.field-0-is at after.goes) start a (before.goes start a goes);
       more = λ lent empty.
           let turns = before.more lent empty in
-          let turn = after.more c.in-Ok-More.field-0-is lent turns.0 in (turn.0, runs-more g.I.Read.remaining g.D.Loader.loads _ _ _ _ _ _ c.loop-turn._turn before.reads after.forward.0 before.asked after.asked turns.1 turn.1);
-      asked = asked-more g.D.Loader.loads _ _ _ 0 0 before.asked after.asked;
+          let turn = after.more c.in-Ok-More.field-0-is lent turns.0 in (turn.0, runs-more g.I.Read.remaining g.D.Loader.loads _ _ _ _ _ _ c.loop-turn._turn before.reads after.forward.0 turns.1 turn.1);
       reads = omega (arith, before.reads, after.forward.0);
       writes = omega (arith, before.writes, after.forward.1);
       counts = omega (arith, before.counts, after.forward.2);
@@ -64,6 +62,6 @@ returns g c =
       known = (before.known, before.same);
       goes = before.goes;
       why = tt;
-      more = λ is lent empty. runs-all g.I.Read.remaining g.D.Loader.loads _ _ _ _ c.loop-turn._turn (2 ^ 64 - 1) (omega (arith, c.loop-turn-test.false)) (before.more lent empty).1;
+      more = λ is lent empty. runs-all g.I.Read.remaining g.D.Loader.loads _ _ _ _ c.loop-turn._turn (omega (arith, c.loop-turn-test.false)) (before.more lent empty).1;
       forward = (before.reads, before.writes, before.counts);
     }

@@ -1,124 +1,81 @@
-use Rattle.std.proofs.Common.{◌≡◌, ◌∙◌, inr, arith, rules}
-use Rattle.cache_devices.proofs.Sending.{failed_after}
+use Rattle.std.proofs.Common.{◌≡◌, ◌∙◌, [], true, length, refl, sym, inl, inr, arith, rules}
+use Rattle.cache_driver.specs.Driven.{unfed}
 use Rattle.cache_driver.specs.declared.driving.Progress.TheVariants.{More, Over}
 use Rattle.cache_driver.specs.declared.session.Footing.TheVariants.{Closed}
-use Rattle.cache_driver.proofs.Conversing.{closed-finished, fed-finished, fed-stopped, fed-underway, read-finished, read-runs, read-stopped, read-why, settled-finished, settled-stopped, settled-underway, talks-asked}
-use Rattle.cache_driver.proofs.Settled.{because-map}
+use Rattle.cache_devices.specs.declared.errors.RunError.TheVariants.{Moment, Read}
+use Rattle.cache_driver.proofs.Conversing.{asked-runs, ended-finished, moves-comes, ok-all, read-runs, read-why, talks-read}
+use Rattle.cache_driver.proofs.Pieces.{cut-whole}
+use Rattle.cache_driver.proofs.Settled.{moves-beside, none-there, why-map}
 use Rattle.cache_driver.proofs.driving.take_turn.Goals as goal
 
-pub returns-in-Err : goal.returns-in-Err
-returns-in-Err g c =
-    let settled = c.settle_loads.ensures in record {
-      known = (settled.known, settled.same.0);
-      goes = λ start a goes. settled-stopped settled.same c.in-Err.ensures.goes goes;
-      why = because-map c.in-Err.error (λ no. absurd no) (λ failed. failed) (λ used. used) (λ late. late) c.in-Err.ensures.why;
-      more = tt;
-      asked = talks-asked c.in-Err.ensures.goes.stops.talks;
-      forward = (omega arith, settled.forward.0, settled.forward.1);
+pub returns-then-not-has_no_load : goal.returns-then-not-has_no_load
+returns-then-not-has_no_load g c =
+    let next = c.settle_next.ensures in record {
+      known = (next.known, next.same.0);
+      goes = λ start a goes. next.goes start a _ goes;
+      why = why-map c.settle_next.result (λ no. absurd no) (λ failed. failed) (λ used. used) (λ late. late) next.why;
+      more = ok-all c.settle_next.result (λ progress is lent empty. (next.same.1 ∙ empty, asked-runs g.I.Read.remaining g.D.Loader.loads _ _ _ 1 (next.asked lent)));
+      forward = (omega arith, next.forward.0, next.forward.1);
     }
 
-pub returns-in-Ok-None : goal.returns-in-Ok-None
-returns-in-Ok-None g c =
-    let settled = c.settle_loads.ensures in
-    let left = rw c.in-Ok-None.field-0-is at c.in-Ok-None.ensures.goes in record {
-      known = (settled.known, settled.same.0);
-      goes = λ start a goes. settled-finished settled.same left goes;
+pub returns-then-eq-2 : goal.returns-then-eq-2
+returns-then-eq-2 g c =
+    let none : c.args.session.now.taken.items ≡ [] = search rules in
+    let closed : c.args.session.now.footing ≡ Closed = search rules in record {
+      known = (c.requires.known, refl);
+      goes = λ start a goes. ended-finished c.args.session.now _ _ none goes.whole goes.talks (λ is. goes.stands.done is none tt) (inr (goes.stands.closed closed));
       why = tt;
       more = λ is. let no : Over ≡ More = is in cc;
-      asked = talks-asked left.stops.talks;
-      forward = (omega arith, settled.forward.0, settled.forward.1);
-    }
-
-pub returns-in-Ok-Some-More : goal.returns-in-Ok-Some-More
-returns-in-Ok-Some-More g c =
-    let settled = c.settle_loads.ensures in
-    let went = rw c.in-Ok-Some-More.field-0-is at c.in-Ok-Some-More.ensures.goes in
-    let asks = rw c.in-Ok-Some-More.field-0-is at c.in-Ok-Some-More.ensures.asked in record {
-      known = (settled.known, settled.same.0);
-      goes = λ start a goes. settled-underway settled.same went.0 goes;
-      why = tt;
-      more = λ is lent empty. (settled.same.1 ∙ empty, inr (inr (asks c.in-Ok-Some-More.field-0-0-is lent)));
-      asked = talks-asked went.0.talks;
-      forward = (omega arith, settled.forward.0, settled.forward.1);
-    }
-
-pub returns-then-eq : goal.returns-then-eq
-returns-then-eq g c =
-    let settled = c.settle_loads.ensures in
-    let went = rw c.in-Ok-Some-Over.field-0-is at c.in-Ok-Some-Over.ensures.goes in
-    let closed : c.settle_loads.new.session.footing ≡ Closed = search rules in record {
-      known = (settled.known, settled.same.0);
-      goes = λ start a goes. closed-finished (went.1 c.in-Ok-Some-Over.field-0-0-is).0 closed (settled-underway settled.same went.0 goes);
-      why = tt;
-      more = λ is. let no : Over ≡ More = is in cc;
-      asked = talks-asked went.0.talks;
-      forward = (omega arith, settled.forward.0, settled.forward.1);
+      forward = (omega arith, omega arith, omega arith);
     }
 
 pub returns-in-Ok-false : goal.returns-in-Ok-false
 returns-in-Ok-false g c =
-    let settled = c.settle_loads.ensures in
-    let went = rw c.in-Ok-Some-Over.field-0-is at c.in-Ok-Some-Over.ensures.goes in
+    let none : c.args.session.now.taken.items ≡ [] = search rules in
     let ends = rw c.in-Ok-false.field-0-test at c.in-Ok-false.ensures in record {
-      known = (record { known = settled.known.known; ready = settled.known.ready }, settled.same.0);
-      goes = λ start a goes. read-finished ends.0 (settled-underway settled.same went.0 goes) ends.1 (went.1 c.in-Ok-Some-Over.field-0-0-is).0;
+      known = (record { known = c.requires.known.known; ready = c.requires.known.ready }, refl);
+      goes = λ start a goes. ended-finished (record c.args.session.now { inbox = c.refill.new.self }) _ _ none (λ is. ends.1.0) (talks-read c.args.session.now ends.0 goes.talks) (λ is. goes.stands.done is none tt) (inl ends.1.1);
       why = tt;
       more = λ is. let no : Over ≡ More = is in cc;
-      asked = talks-asked went.0.talks;
-      forward = (ends.0.later, settled.forward.0, settled.forward.1);
+      forward = (ends.0.later, omega arith, omega arith);
     }
 
-pub returns-in-Err-refill : goal.returns-in-Err-refill
-returns-in-Err-refill g c =
-    let settled = c.settle_loads.ensures in
-    let went = rw c.in-Ok-Some-Over.field-0-is at c.in-Ok-Some-Over.ensures.goes in
-    let failed = c.in-Err-refill.ensures in record {
-      known = (record { known = settled.known.known; ready = settled.known.ready }, settled.same.0);
-      goes = λ start a goes. read-stopped failed.0 (settled-underway settled.same went.0 goes) failed.1.0;
-      why = read-why _ _ _ _ c.in-Err-refill.error failed.1.0 failed.1.1;
+pub returns-in-Err : goal.returns-in-Err
+returns-in-Err g c =
+    let failed = c.in-Err.ensures in record {
+      known = (record { known = c.requires.known.known; ready = c.requires.known.ready }, refl);
+      goes = λ start a goes. record {
+        stopped = c.args.place.now;
+        behind = λ r closes. closes;
+        rest = unfed (record c.args.session.now { inbox = c.refill.new.self });
+        talks = talks-read c.args.session.now failed.0 goes.talks;
+        few = omega arith;
+        late = λ is. let no : Read ≡ Moment = sym failed.1.0 ∙ is in cc;
+      };
+      why = read-why _ _ _ _ c.in-Err.error failed.1.0 failed.1.1;
       more = tt;
-      asked = talks-asked went.0.talks;
-      forward = (failed.0.later, settled.forward.0, settled.forward.1);
+      forward = (failed.0.later, omega arith, omega arith);
     }
 
-pub returns-in-Ok-true-feed_cut : goal.returns-in-Ok-true-feed_cut
-returns-in-Ok-true-feed_cut g c =
-    let settled = c.settle_loads.ensures in
-    let fed = c.feed_cut.ensures in
-    let went = rw c.in-Ok-Some-Over.field-0-is at c.in-Ok-Some-Over.ensures.goes in
-    let filled = rw c.in-Ok-true.field-0-test at c.in-Ok-true.ensures in record {
-      known = (fed.known, fed.same ∙ settled.same.0);
-      goes = λ start a goes. fed-underway filled.0 (settled-underway settled.same went.0 goes) fed.same fed.whole (rw c.in-Ok-true-feed_cut.field-0-test at c.in-Ok-true-feed_cut.ensures.goes);
+pub returns-then-is_empty : goal.returns-then-is_empty
+returns-then-is_empty g c =
+    let filled = rw c.in-Ok-true.field-0-test at c.in-Ok-true.ensures in
+    let none = none-there c.refill.new.self (length c.refill.new.self) _ refl c.is_empty.ensures c.if-is_empty.true in record {
+      known = (record { known = c.requires.known.known; ready = c.requires.known.ready }, refl);
+      goes = λ start a goes. record { talks = talks-read c.args.session.now filled.0 goes.talks; stands = record { closed = goes.stands.closed; done = goes.stands.done }; whole = λ is. none };
       why = tt;
-      more = λ is lent empty. (fed.whole lent, read-runs _ _ _ _ _ _ _ _ filled.0 filled.1 (settled.same.1 ∙ empty));
-      asked = talks-asked went.0.talks;
-      forward = (filled.0.later, omega (arith, settled.forward.0, fed.forward.0), omega (arith, settled.forward.1, fed.forward.1));
+      more = λ is lent empty. (none, read-runs _ _ _ _ _ _ _ filled.0 filled.1 empty);
+      forward = (filled.0.later, omega arith, omega arith);
     }
 
-pub returns-in-Ok-false-feed_cut : goal.returns-in-Ok-false-feed_cut
-returns-in-Ok-false-feed_cut g c =
-    let settled = c.settle_loads.ensures in
-    let fed = c.feed_cut.ensures in
-    let went = rw c.in-Ok-Some-Over.field-0-is at c.in-Ok-Some-Over.ensures.goes in
-    let filled = rw c.in-Ok-true.field-0-test at c.in-Ok-true.ensures in record {
-      known = (fed.known, fed.same ∙ settled.same.0);
-      goes = λ start a goes. fed-finished filled.0 (settled-underway settled.same went.0 goes) fed.same (rw c.in-Ok-false-feed_cut.field-0-test at c.in-Ok-false-feed_cut.ensures.goes);
-      why = tt;
-      more = λ is. let no : Over ≡ More = is in cc;
-      asked = talks-asked went.0.talks;
-      forward = (filled.0.later, omega (arith, settled.forward.0, fed.forward.0), omega (arith, settled.forward.1, fed.forward.1));
-    }
-
-pub returns-in-Err-feed_cut : goal.returns-in-Err-feed_cut
-returns-in-Err-feed_cut g c =
-    let settled = c.settle_loads.ensures in
-    let fed = c.feed_cut.ensures in
-    let went = rw c.in-Ok-Some-Over.field-0-is at c.in-Ok-Some-Over.ensures.goes in
-    let filled = rw c.in-Ok-true.field-0-test at c.in-Ok-true.ensures in record {
-      known = (fed.known, fed.same ∙ settled.same.0);
-      goes = λ start a goes. fed-stopped filled.0 (settled-underway settled.same went.0 goes) fed.same c.in-Err-feed_cut.ensures.goes;
-      why = because-map c.in-Err-feed_cut.error (λ no. absurd no) (failed_after _ _ _ settled.forward.0 fed.forward.0) (g.met.H.Host.exhausts_within _ _ _ _ settled.forward.1 (omega arith)) (λ late. late) c.in-Err-feed_cut.ensures.why;
-      more = tt;
-      asked = talks-asked went.0.talks;
-      forward = (filled.0.later, omega (arith, settled.forward.0, fed.forward.0), omega (arith, settled.forward.1, fed.forward.1));
+pub returns : goal.returns
+returns g c =
+    let fed = c.feed_piece.ensures in
+    let filled = rw c.in-Ok-true.field-0-test at c.in-Ok-true.ensures in
+    let whole = λ (lent : g.H.Host.LENT ≡ true). cut-whole c.refill.new.self c.as_slice.result.now c.feed_piece.new.session.inbox c.cut-count.result c.as_slice.ensures fed.same.1 (c.cut-count.ensures.whole lent) in record {
+      known = (fed.known, fed.same.0);
+      goes = λ start a goes. moves-comes (record c.args.session.now { inbox = c.refill.new.self }) _ _ _ _ fed.same.0 (talks-read c.args.session.now filled.0 goes.talks) whole c.feed_piece.result (moves-beside g.D.Loader.loads c.args.loader.now fed.goes);
+      why = why-map c.feed_piece.result (λ no. absurd no) (λ failed. failed) (λ used. used) (λ late. late) fed.why;
+      more = ok-all c.feed_piece.result (λ progress is lent empty. (whole lent, read-runs _ _ _ _ _ _ _ filled.0 filled.1 empty));
+      forward = (filled.0.later, fed.forward.0, fed.forward.1);
     }

@@ -4,7 +4,7 @@ use Rattle.cache_spaces.specs.Bares.{bare_tape}
 use Rattle.cache_spaces.specs.Calls.{ServesEvent}
 use Rattle.cache_run.specs.Lent.{ClosesIt}
 use Rattle.cache_run.proofs.Keeping.{known-served, known-unmoved}
-use Rattle.cache_run.proofs.Placing.{at-given, at-same, at-unmoved, refused-here}
+use Rattle.cache_spaces.proofs.Placing.{at-given, at-same, at-unmoved, refused-here}
 use Rattle.cache_run.proofs.drops.close_if_open.Goals as goal
 
 pub returns-in-Ok : goal.returns-in-Ok

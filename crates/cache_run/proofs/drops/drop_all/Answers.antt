@@ -4,8 +4,8 @@ use Rattle.audit_model.specs.declared.input.LoadId.{LoadId}
 use Rattle.cache_spaces.specs.Calls.{At}
 use Rattle.cache_run.specs.Accounts.{is_left}
 use Rattle.cache_run.specs.Lent.{Drops}
-use Rattle.cache_run.proofs.Gone.{dropped-next, dropped-none}
-use Rattle.cache_run.proofs.Placing.{at-more, at-same}
+use Rattle.cache_run.proofs.Dropping.{dropped-next, dropped-none}
+use Rattle.cache_spaces.proofs.Placing.{at-more, at-same}
 use Rattle.cache_run.proofs.drops.drop_all.Goals as goal
 
 pub loop-load-init : goal.loop-load-init

@@ -3,10 +3,10 @@ use Rattle.cache_core.specs.Settling.{giving_up}
 use Rattle.cache_spaces.specs.Bares.{bare_tape}
 use Rattle.cache_spaces.specs.Calls.{Settled}
 use Rattle.cache_run.specs.Lent.{Drops}
-use Rattle.cache_run.proofs.Gone.{dropped-settled, dropped-unknown}
+use Rattle.cache_run.proofs.Dropping.{dropped-settled, dropped-unknown}
 use Rattle.cache_run.proofs.Happening.{situation-of}
 use Rattle.cache_run.proofs.Keeping.{known-settled, known-unmoved}
-use Rattle.cache_run.proofs.Placing.{at-given, at-same, at-unmoved, refused-here}
+use Rattle.cache_spaces.proofs.Placing.{at-given, at-same, at-unmoved, refused-here}
 use Rattle.cache_run.proofs.drops.drop_load.Goals as goal
 
 pub returns-in-Ok : goal.returns-in-Ok

@@ -3,8 +3,8 @@ use Rattle.cache_spaces.specs.Calls.{At}
 use Rattle.cache_run.specs.Accounts.{is_left}
 use Rattle.cache_run.specs.Lent.{Drops, DropsBoth}
 use Rattle.cache_run.specs.Loading.{GivesLoads}
-use Rattle.cache_run.proofs.Gone.{dropped-both}
-use Rattle.cache_run.proofs.Placing.{at-more}
+use Rattle.cache_run.proofs.Dropping.{dropped-both}
+use Rattle.cache_spaces.proofs.Placing.{at-more}
 use Rattle.cache_run.proofs.drops.drop_loads.Goals as goal
 
 pub returns : goal.returns

@@ -3,8 +3,7 @@ use Rattle.audit_model.specs.declared.input.ServiceError.TheVariants as error
 use Rattle.cache_core.specs.Settling.{answering}
 use Rattle.cache_spaces.specs.Bares.{bare_tape}
 use Rattle.cache_spaces.specs.Calls.{Settled}
-use Rattle.cache_run.proofs.Placing.{refused-here}
-use Rattle.cache_run.proofs.Placing.{at-map, at-same, at-unmoved}
+use Rattle.cache_spaces.proofs.Placing.{refused-here, at-map, at-same, at-unmoved}
 use Rattle.cache_run.proofs.Refusing.{answer-late, answer-refused, answer-unknown}
 use Rattle.cache_run.specs.Lent.{AnswersOr}
 use Rattle.cache_run.proofs.Keeping.{known-settled, known-unmoved}

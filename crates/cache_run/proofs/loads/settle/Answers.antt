@@ -2,10 +2,8 @@ use Rattle.std.proofs.Common.{◌≡◌, ◌∙◌, true, is_some, subst, sym}
 use Rattle.audit_model.specs.Belongs.{refusal_of_outcome}
 use Rattle.cache_spaces.specs.Spaces.{config_of}
 use Rattle.cache_run.specs.Happened.{IsGivenUpFor}
-use Rattle.cache_run.proofs.Placing.{fact-here}
-use Rattle.cache_run.proofs.Placing.{at-after}
-use Rattle.cache_run.proofs.Exchanging.{on-error, on-ok}
-use Rattle.cache_run.proofs.Exchanging.{by-answer, by-give-up}
+use Rattle.cache_spaces.proofs.Placing.{fact-here, at-after}
+use Rattle.cache_run.proofs.Keeping.{on-error, on-ok, by-answer, by-give-up}
 use Rattle.cache_run.proofs.loads.settle.Goals as goal
 
 pub returns-in-None-clause-ok : goal.returns-in-None-clause-ok

@@ -1,7 +1,6 @@
 use Rattle.std.proofs.Common.{arith}
 use Rattle.cache_driver.specs.Exchanges.{Looked}
-use Rattle.cache_run.proofs.Exchanging.{at-comes}
-use Rattle.cache_run.proofs.Keeping.{none-given}
+use Rattle.cache_run.proofs.Keeping.{at-comes, none-given}
 use Rattle.cache_run.proofs.lent.LentHost.look.Goals as goal
 
 pub returns : goal.returns

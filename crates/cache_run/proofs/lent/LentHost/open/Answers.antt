@@ -3,7 +3,7 @@ use Rattle.cache_spaces.specs.Bares.{bare_tape}
 use Rattle.cache_spaces.specs.Calls.{OpensNext}
 use Rattle.cache_spaces.specs.Sound.{IsSound}
 use Rattle.cache_run.proofs.Keeping.{known-opened}
-use Rattle.cache_run.proofs.Placing.{at-given}
+use Rattle.cache_spaces.proofs.Placing.{at-given}
 use Rattle.cache_run.proofs.lent.LentHost.open.Goals as goal
 
 pub returns-in-Ok : goal.returns-in-Ok

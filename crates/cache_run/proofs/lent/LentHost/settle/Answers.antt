@@ -1,5 +1,5 @@
 use Rattle.std.proofs.Common.{arith}
-use Rattle.cache_run.proofs.Exchanging.{at-comes}
+use Rattle.cache_run.proofs.Keeping.{at-comes}
 use Rattle.cache_run.proofs.lent.LentHost.settle.Goals as goal
 
 pub returns-in-Ok : goal.returns-in-Ok

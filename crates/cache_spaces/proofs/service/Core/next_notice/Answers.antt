@@ -1,9 +1,10 @@
-use Rattle.cache_spaces.proofs.Putting.{put-at, there}
+use Rattle.cache_connections.proofs.Getting.{at-place}
+use Rattle.cache_spaces.proofs.Putting.{put-at}
 use Rattle.cache_spaces.proofs.service.Core.next_notice.Goals as goal
 
 pub returns-clause-taken : goal.returns-clause-taken
 returns-clause-taken g c =
     let item = c.in-Some.ensures.item in
-    let at = there c.self.inside.spaces.items c.args.namespace c.in-Some.space.now item.3.0 item.1 in
+    let at = at-place c.self.inside.spaces.items c.args.namespace c.in-Some.space.now item.3.0 item.1 in
     let e = c.next_notice.ensures in
     put-at c.args.self.now c.self.inside.spaces.items c.self.view_is c.args.namespace c.in-Some.space.now at _ c.next_notice.new.self (record { taken = e.taken; gives = e.gives; rest = e.rest })

@@ -3,13 +3,14 @@ use Rattle.audit_model.specs.declared.input.Input.TheVariants as input
 use Rattle.audit_receipts.specs.declared.output.Output.TheVariants.{Done}
 use Rattle.audit_model.specs.declared.event.Event.TheVariants as event
 use Rattle.cache_spaces.proofs.Performing.{closes, refused-input, serves-performs}
-use Rattle.cache_spaces.proofs.Putting.{at-map, refuses-map}
+use Rattle.cache_spaces.proofs.Placing.{at-map}
+use Rattle.cache_spaces.proofs.Putting.{refuses-map}
 use Rattle.cache_spaces.proofs.service.Core.step_close.Goals as goal
 
 pub returns-in-Ok-clause-performed : goal.returns-in-Ok-clause-performed
 returns-in-Ok-clause-performed g c =
-    at-map c.args.self.now c.close.new.self c.args.conn.namespace
-    (λ was is at f. serves-performs g.T.Tape.view (input.Close c.args.conn) was is (event.Close c.args.conn.number) Done (closes c.args.conn (length was.closings)) false (λ steps held. refl) f) c.in-Ok.ensures.taken
+    at-map _ _ c.args.self.now c.close.new.self c.args.conn.namespace c.in-Ok.ensures.taken
+    (λ was is f. serves-performs g.T.Tape.view (input.Close c.args.conn) was is (event.Close c.args.conn.number) Done (closes c.args.conn (length was.closings)) false (λ steps held. refl) f)
 
 pub returns-in-Err-clause-refused : goal.returns-in-Err-clause-refused
 returns-in-Err-clause-refused g c =

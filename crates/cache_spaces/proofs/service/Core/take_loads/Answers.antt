@@ -1,9 +1,10 @@
-use Rattle.cache_spaces.proofs.Putting.{put-at, there}
+use Rattle.cache_connections.proofs.Getting.{at-place}
+use Rattle.cache_spaces.proofs.Putting.{put-at}
 use Rattle.cache_spaces.proofs.service.Core.take_loads.Goals as goal
 
 pub returns-clause-taken : goal.returns-clause-taken
 returns-clause-taken g c =
     let item = c.in-Some.ensures.item in
-    let at = there c.self.inside.spaces.items c.args.namespace c.in-Some.space.now item.3.0 item.1 in
+    let at = at-place c.self.inside.spaces.items c.args.namespace c.in-Some.space.now item.3.0 item.1 in
     let e = c.take_loads.ensures in
     put-at c.args.self.now c.self.inside.spaces.items c.self.view_is c.args.namespace c.in-Some.space.now at _ c.take_loads.new.self (record { taken = e.taken.0; rest = e.taken.1; in_turn = e.in_turn; keys = e.keys })

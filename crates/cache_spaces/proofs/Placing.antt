@@ -1,25 +1,12 @@
 -- One of many in the place of another, over several calls.
-use Rattle.std.proofs.Common.{◌≡◌, ℕ, zero, suc, ◌<◌, ◌≤◌, List, [], ◌∷◌, length, Some, refl, sym, ap, ◌∙◌, subst, arith, inl, inr}
+use Rattle.std.proofs.Common.{◌≡◌, ℕ, ◌≤◌, List, length, Some, sym, ap, ◌∙◌, subst, arith, inl, inr}
 use Rattle.std.specs.Prelude.{slice_set}
 use Rattle.std.specs.List.{slice_get}
+use Rattle.std.proofs.lemmas.List.{set-set}
 use Rattle.std.proofs.lemmas.Option.{slice_get_within, same_Some}
 use Rattle.audit_model.specs.declared.input.ServiceError.{ServiceError}
+use Rattle.cache_connections.proofs.Getting.{at-replaced, set-same}
 use Rattle.cache_spaces.specs.Calls.{At, InSpace, Refuses}
-
-set-again : {X : Type 0} (xs : List X) (n : ℕ) (a b : X) → slice_set (slice_set xs n a) n b ≡ slice_set xs n b
-set-again [] n a b = refl
-set-again (x ∷ xs) zero a b = refl
-set-again (x ∷ xs) (suc n) a b = ap (λ l. x ∷ l) (set-again xs n a b)
-
-set-same : {X : Type 0} (xs : List X) (n : ℕ) (a : X) → slice_get xs n ≡ Some a → xs ≡ slice_set xs n a
-set-same [] n a at = refl
-set-same (x ∷ xs) zero a at = ap (λ y. y ∷ xs) (same_Some x a at)
-set-same (x ∷ xs) (suc n) a at = ap (λ l. x ∷ l) (set-same xs n a at)
-
-at-replaced : {X : Type 0} (xs : List X) (n : ℕ) (x : X) → n < length xs → slice_get (slice_set xs n x) n ≡ Some x
-at-replaced [] n x lt = absurd (omega (arith, lt))
-at-replaced (y ∷ ys) zero x lt = refl
-at-replaced (y ∷ ys) (suc n) x lt = at-replaced ys n x (omega (arith, lt))
 
 -- what was put stands there
 pub at-is : {X : Type 0} (F : X → X → Type 0) (xs ys : List X) (n : ℕ) (a : At xs ys n F) → slice_get ys n ≡ Some a.is
@@ -37,13 +24,13 @@ at-more F G H xs ys zs n a b h =
       was = a.was;
       is = b.is;
       at = a.at;
-      set = b.set ∙ ap (λ l. slice_set l n b.is) a.set ∙ set-again xs n a.is b.is;
+      set = b.set ∙ ap (λ l. slice_set l n b.is) a.set ∙ set-set xs n a.is b.is;
       fact = h a.was a.is b.is a.fact (subst (λ y. G y b.is) same b.fact);
     }
 
 -- nothing changed
 pub at-same : {X : Type 0} (F : X → X → Type 0) (xs : List X) (n : ℕ) (x : X) → slice_get xs n ≡ Some x → F x x → At xs xs n F
-at-same F xs n x at fact = record { was = x; is = x; at = at; set = set-same xs n x at; fact = fact }
+at-same F xs n x at fact = record { was = x; is = x; at = at; set = sym (set-same xs n x at); fact = fact }
 
 -- another fact of the same two
 pub at-map : {X : Type 0} (F G : X → X → Type 0) (xs ys : List X) (n : ℕ) → At xs ys n F → ((x y : X) → F x y → G x y) → At xs ys n G
@@ -62,12 +49,6 @@ pub at-after : {X : Type 0} {F : X → X → Type 0} {n : ℕ} (old mid new : Li
 at-after {X} {F} {n} old mid new e a = subst (λ l. At l new n F) e a
 
 -- ---- one that is there
-
--- what stands at a place
-pub found-at : {X : Type 0} (xs : List X) (i : ℕ) → i < length xs → (x : X) × (slice_get xs i ≡ Some x)
-found-at [] i lt = absurd (omega (arith, lt))
-found-at (x ∷ xs) zero lt = (x, refl)
-found-at (x ∷ xs) (suc i) lt = found-at xs i (omega (arith, lt))
 
 -- there is a namespace of that number
 pub within-not : {X : Type 0} (xs : List X) (n : ℕ) (x : X) → slice_get xs n ≡ Some x → length xs ≤ n → ⊥
