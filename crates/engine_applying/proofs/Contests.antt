@@ -4,7 +4,7 @@ use Rattle.std.specs.Prelude.{nat_lt, slice_get, fold, IfSome, IfNone}
 use Rattle.std.specs.Option.{option_and_then}
 use Rattle.std.proofs.lemmas.Bool.{eq-eqb, ne_eqb, le-ltb}
 use Rattle.std.proofs.lemmas.Bool.Decides.{nat_tests}
-use Rattle.policy_sketch.specs.Counts.{Sketch, frequency_of}
+use Rattle.policy_base.specs.Counts.{Sketch, frequency_of}
 use Rattle.engine_reference.specs.declared.data.Record.{Record}
 use Rattle.engine_reference.specs.declared.data.Upsert.{Upsert}
 use Rattle.engine_reference.specs.Admission.{displace, refuse, verdict, contest, shortest_front, with_first, frequencies}

@@ -1,7 +1,7 @@
 -- What is decided about a write is what the reference cache says.
 use Rattle.std.proofs.Common.{◌≡◌, refl, ap, sym, ◌∙◌, ◌+◌, Bool, true, false, cond, List, Option, Some, None}
 use Rattle.std.specs.Prelude.{nat_lt, is_some}
-use Rattle.policy_sketch.specs.Counts.{frequency_of}
+use Rattle.policy_base.specs.Counts.{frequency_of}
 use Rattle.engine_rules.specs.declared.causes.RemovalCause.TheVariants as cause
 use Rattle.engine_rules.specs.declared.settings.EvictionPolicy.{EvictionPolicy}
 use Rattle.engine_rules.specs.declared.settings.EvictionPolicy.TheVariants.{TinyLfu, Lru}

@@ -1,6 +1,6 @@
 -- The contest of a newcomer, as a walk along the access list sees it.
 use Rattle.std.specs.Prelude.{◌≡◌, ℕ, nat_lt, Bool, true, false, List, [], ◌∷◌, Option, Some, None, is_some, IfSome}
-use Rattle.policy_sketch.specs.Counts.{Sketch}
+use Rattle.policy_base.specs.Counts.{Sketch}
 use Rattle.engine_reference.specs.declared.data.Record.{Record}
 use Rattle.engine_reference.specs.Admission.{shortest_front, frequencies}
 use Rattle.engine_reference.specs.Records.{settled_in, with_settled}

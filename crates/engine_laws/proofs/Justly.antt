@@ -2,7 +2,7 @@
 use Rattle.std.proofs.Common.{◌≡◌, refl, ap, sym, ◌∙◌, subst, ℕ, ◌+◌, ◌<◌, ◌≤◌, ◌||◌, arith, Bool, true, false, true≢false, not, cond, List, [], ◌∷◌, ◌++◌, Option, Some, None, map, is_some, append_assoc, append-nil, inl, inr, ◌⊎◌}
 use Rattle.std.specs.Prelude.{nat_lt, slice_get}
 use Rattle.std.proofs.lemmas.Bool.{eqb-true, ltb-true, ltb-false, lt-ltb}
-use Rattle.policy_sketch.specs.Counts.{incremented, frequency_of}
+use Rattle.policy_base.specs.Counts.{incremented, frequency_of}
 use Rattle.engine_rules.specs.declared.causes.RemovalCause.{RemovalCause}
 use Rattle.engine_rules.specs.declared.causes.RemovalCause.TheVariants as cause
 use Rattle.engine_rules.specs.declared.settings.EvictionPolicy.{EvictionPolicy}

@@ -1,6 +1,6 @@
 -- A small cache that is played through the definitions: keys, values and hashes are numbers, a key is its own hash, a predicate is the value that it covers.
 use Rattle.std.specs.Prelude.{ℕ, suc, zero, ◌+◌, ◌*◌, ◌==◌, nat_eq, Bool, true, false, not, ◌&&◌, ◌||◌, if◌then◌else◌, List, [], ◌∷◌, Option, Some, None, filter}
-use Rattle.policy_sketch.specs.Counts.{fresh}
+use Rattle.policy_base.specs.Counts.{fresh}
 use Rattle.engine_rules.specs.declared.causes.RemovalCause.{RemovalCause}
 use Rattle.engine_rules.specs.declared.causes.RemovalCause.TheVariants as cause
 use Rattle.engine_rules.specs.declared.settings.EvictionPolicy.{EvictionPolicy}

@@ -2,7 +2,7 @@
 -- `O` is what is kept of a read, and `W` of a write: what the reference cache has of it, and where its record stands.
 use Rattle.std.specs.Prelude.{◌≡◌, ℕ, ◌+◌, ◌-◌, ◌≤◌, ◌==◌, nat_le, nat_lt, min, Bool, false, ◌&&◌, ◌||◌, if◌then◌else◌, List, [], ◌∷◌, ◌++◌, drop, length, Option, Some, None}
 use Rattle.std.specs.List.{list_any}
-use Rattle.policy_sketch.specs.Counts.{Sketch}
+use Rattle.policy_base.specs.Counts.{Sketch}
 use Rattle.engine_rules.specs.declared.causes.RemovalCause.{RemovalCause}
 use Rattle.engine_reference.specs.declared.data.Entry.{Entry}
 use Rattle.engine_reference.specs.declared.data.Notice.{Notice}

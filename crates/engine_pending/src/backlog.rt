@@ -3,7 +3,7 @@ ghost use Rattle.std.specs.Prelude.{◌≡◌, ℕ, ◌+◌, ◌-◌, ◌<◌, �
 ghost use Rattle.std.specs.String.{string_bytes};
 ghost use Rattle.std.specs.Result.{IsErrOf};
 ghost use Rattle.std.specs.Int.{IsNextPowerOfTwo};
-ghost use Rattle.policy_sketch.specs.Counts.{incremented, grown};
+ghost use Rattle.policy_base.specs.Counts.{incremented, grown};
 ghost use Rattle.engine_pending.specs.Pending.{IsUntouched, MakesRoom, is_run_due, notice_taken, stands_over, ticket_sent, ticketed_at, told_if, with_ticketed, without_ticketed};
 ghost use Rattle.engine_pending.specs.declared.tickets.Ticketed.{Ticketed};
 
@@ -12,8 +12,7 @@ use crate::tickets::{Ticketed, place_of_ticket};
 use circular_buffer::HeapCircularBuffer;
 use engine_reference::{Entry, Notice, Registered, Settings};
 use engine_rules::{Refusal, RemovalCause, Rules};
-use policy_base::MAX_NANOS;
-use policy_sketch::FrequencySketch;
+use policy_base::{FrequencySketch, MAX_NANOS};
 use std::alloc::{AllocError, Global};
 use std::marker::Model;
 

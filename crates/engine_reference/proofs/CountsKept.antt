@@ -2,7 +2,7 @@
 use Rattle.std.proofs.Common.{◌≡◌, refl, ap, sym, ◌∙◌, ℕ, Bool, true, false, true≢false, cond, ◌&&◌, List, [], ◌∷◌, Option, Some, None, is_some, ◌==◌}
 use Rattle.std.specs.Prelude.{nat_lt}
 use Rattle.std.proofs.lemmas.Bool.{eqb-true}
-use Rattle.policy_sketch.specs.Counts.{incremented}
+use Rattle.policy_base.specs.Counts.{incremented}
 use Rattle.engine_rules.specs.declared.causes.RemovalCause.{RemovalCause}
 use Rattle.engine_rules.specs.declared.causes.RemovalCause.TheVariants as cause
 use Rattle.engine_reference.specs.declared.data.Record.{Record}
@@ -19,7 +19,7 @@ use Rattle.engine_reference.specs.Runs.{Step, reads, writes, grows, leaves, evic
 use Rattle.engine_reference.specs.State.{State, Answers}
 use Rattle.std.specs.Prelude.{nat_le, ◌/◌}
 use Rattle.std.proofs.lemmas.Bool.{and_parts}
-use Rattle.policy_sketch.specs.Counts.{Sketch}
+use Rattle.policy_base.specs.Counts.{Sketch}
 use Rattle.engine_reference.specs.Records.{without, moved_to_back}
 
 module _ {K V P S R : Type 0} where

@@ -4,7 +4,7 @@ use Rattle.std.specs.List.{list_any}
 use Rattle.std.proofs.lemmas.Bool.{and_parts, not-true}
 use Rattle.engine_reference.specs.declared.data.Registered.{Registered}
 use Rattle.std.specs.Prelude.{slice_get, remove, nat_lt, if◌then◌else◌}
-use Rattle.policy_sketch.specs.Counts.{incremented}
+use Rattle.policy_base.specs.Counts.{incremented}
 use Rattle.std.proofs.Math.Nat.{add-zero}
 use Rattle.std.proofs.lemmas.List.{map-append}
 use Rattle.engine_rules.specs.declared.causes.RemovalCause.{RemovalCause}

@@ -14,7 +14,7 @@ use Rattle.engine_reference.specs.State.{State}
 use Rattle.std.specs.Prelude.{◌-◌}
 use Rattle.engine_reference.specs.Records.{weight_at}
 use Rattle.engine_reference.proofs.HeldRecords.{record_at-number}
-use Rattle.policy_sketch.specs.Counts.{frequency_of}
+use Rattle.policy_base.specs.Counts.{frequency_of}
 use Rattle.engine_rules.specs.declared.settings.EvictionPolicy.{EvictionPolicy}
 use Rattle.engine_rules.specs.declared.settings.EvictionPolicy.TheVariants.{TinyLfu, Lru}
 

@@ -1,6 +1,6 @@
 -- Laws of the reference cache.
 use Rattle.std.specs.Prelude.{◌-◌, ◌<◌, ◌≤◌, [], length, min, slice_get, ◌≡◌, ◌⊎◌, Bool, ℕ, List, ◌∷◌, Option, Some, None, true, false}
-use Rattle.policy_sketch.specs.Counts.{incremented}
+use Rattle.policy_base.specs.Counts.{incremented}
 use Rattle.engine_rules.specs.declared.causes.RemovalCause.{RemovalCause}
 use Rattle.engine_rules.specs.declared.causes.RemovalCause.TheVariants as cause
 use Rattle.engine_reference.specs.declared.data.Entry.{Entry}

@@ -1,7 +1,7 @@
 -- What maintenance does: one run is a chain of steps, each of them just.
 use Rattle.std.specs.Prelude.{◌≡◌, ℕ, ◌+◌, ◌<◌, ◌^◌, nat_lt, nat_le, min, Bool, true, false, not, ◌&&◌, ◌||◌, if◌then◌else◌, List, [], ◌∷◌, Option, Some, None, is_some, remove, slice_get, length}
 use Rattle.std.specs.Int.{IsNextPowerOfTwo}
-use Rattle.policy_sketch.specs.Counts.{incremented, fresh}
+use Rattle.policy_base.specs.Counts.{incremented, fresh}
 use Rattle.engine_rules.specs.declared.causes.RemovalCause.{RemovalCause}
 use Rattle.engine_rules.specs.declared.causes.RemovalCause.TheVariants as cause
 use Rattle.engine_reference.specs.declared.data.Record.{Record}

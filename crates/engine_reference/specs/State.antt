@@ -1,6 +1,6 @@
 -- The reference cache: all that a contract sees of a cache of one part.
 use Rattle.std.specs.Prelude.{ℕ, Bool, Option, List}
-use Rattle.policy_sketch.specs.Counts.{Sketch}
+use Rattle.policy_base.specs.Counts.{Sketch}
 use Rattle.engine_reference.specs.declared.data.Settings.{Settings}
 use Rattle.engine_reference.specs.declared.data.Record.{Record}
 use Rattle.engine_reference.specs.declared.data.Registered.{Registered}

@@ -3,7 +3,7 @@ use Rattle.std.proofs.Common.{◌≡◌, refl, ap, sym, ◌∙◌, subst, ℕ, �
 use Rattle.std.specs.Prelude.{min, nat_lt, nat_le, ◌==◌}
 use Rattle.std.specs.Int.{IsNextPowerOfTwo}
 use Rattle.std.proofs.lemmas.Bool.{lt-ltb, ne_eqb, eqb-true}
-use Rattle.policy_sketch.specs.Counts.{Sketch, fresh, grown}
+use Rattle.policy_base.specs.Counts.{Sketch, fresh, grown}
 use Rattle.engine_reference.specs.Admission.{sketch_room, wants_table}
 use Rattle.engine_reference.specs.Records.{admitted_number, admitted_weight}
 use Rattle.engine_reference.specs.Runs.{grows, IsApplied, lacks_table}

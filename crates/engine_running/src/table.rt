@@ -8,7 +8,7 @@ ghost use Rattle.engine_running.specs.Tables.{LacksTableFor};
 
 use engine_rules::Rules;
 use engine_tables::Tables;
-use policy_sketch::FrequencySketch;
+use policy_base::FrequencySketch;
 use std::alloc::AllocError;
 use std::hash::{BuildHasher, Hash};
 

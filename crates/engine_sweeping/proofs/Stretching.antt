@@ -6,7 +6,7 @@ use Rattle.std.proofs.lemmas.Bool.{lt-ltb, le-leb, leb-true}
 use Rattle.std.proofs.lemmas.List.Sums.{sum_by-cons}
 use Rattle.std.proofs.Math.Logic.{∥∥₁_elim}
 use Rattle.std.proofs.Props.{props}
-use Rattle.policy_sketch.specs.Counts.{Sketch}
+use Rattle.policy_base.specs.Counts.{Sketch}
 use Rattle.engine_rules.specs.declared.causes.RemovalCause.{RemovalCause}
 use Rattle.engine_reference.specs.declared.data.Record.{Record}
 use Rattle.engine_reference.specs.declared.data.Settings.{Settings}

@@ -1,14 +1,9 @@
 //! The structures behind a cache's policy: moments, records, queues, a frequency sketch and timers.
 #![tactic(auto)]
 
-pub use policy_base::{
-    AccessTime, CacheRegion, DeqNode, DeqNodes, EntryInfo, HousekeeperConfig, Instant, KeyHash,
-    KeyHashDate, KvEntry, MAX_NANOS, NodeId, OldEntryInfo, ReadOp, Slot, UsedUp, ValueEntry,
-    WriteOp, duration_to_saturating_nanoseconds, sketch_capacity,
-};
+pub use policy_base::{AccessTime, CacheRegion, DeqNode, DeqNodes, EntryInfo, FrequencySketch, HousekeeperConfig, Instant, KeyHash, KeyHashDate, KvEntry, MAX_NANOS, NodeId, OldEntryInfo, ReadOp, Slot, UsedUp, ValueEntry, WriteOp, duration_to_saturating_nanoseconds, sketch_capacity};
 pub use policy_deques::Deques;
 pub use policy_queue::{Cursor, Deque, Node, PushError, ReserveError, Stale};
-pub use policy_sketch::FrequencySketch;
 pub use policy_timers::{
     Due, ReschedulingResult, ScheduleError, StaleTimer, Timer, TimerEvent, TimerEventsIter,
     TimerNode, TimerWheel,
@@ -18,6 +13,6 @@ pub use policy_timers::{
 pub mod laws {
     pub use policy_deques::Deques;
     pub use policy_queue::{names_stand, stale_names_stay_stale, walks_give_each_once};
-    pub use policy_sketch::own_counts_stand;
+    pub use policy_base::own_counts_stand;
     pub use policy_timers::laws::{advances_give_the_due, next_event};
 }

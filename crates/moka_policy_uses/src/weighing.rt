@@ -1,6 +1,6 @@
 //! Frequencies.
 ghost use Rattle.std.specs.Prelude.{◌≡◌, nat_lt};
-ghost use Rattle.policy_sketch.specs.Counts.{frequency_of};
+ghost use Rattle.policy_base.specs.Counts.{frequency_of};
 
 use moka_policy::FrequencySketch;
 

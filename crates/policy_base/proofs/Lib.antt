@@ -1,2 +1,5 @@
 pub mod Names
 pub mod Sound
+pub mod Nibbles
+pub mod Steps
+pub mod Own

@@ -1,6 +1,6 @@
 use Rattle.std.proofs.Common.{◌≡◌, ap, sym, ◌∙◌, subst, ◌-◌, Some}
 use Rattle.std.proofs.lemmas.Option.{same_Some}
-use Rattle.policy_sketch.specs.Counts.{frequency_of}
+use Rattle.policy_base.specs.Counts.{frequency_of}
 use Rattle.engine_reference.specs.Admission.{shortest_front}
 use Rattle.engine_reference.specs.Records.{with_settled, weight_at}
 use Rattle.engine_applying.specs.Contesting.{is_won}

@@ -1,5 +1,5 @@
 use Rattle.std.proofs.Common.{ap, sym, ◌∙◌}
-use Rattle.policy_sketch.specs.Counts.{frequency_of}
+use Rattle.policy_base.specs.Counts.{frequency_of}
 use Rattle.engine_reference.specs.Admission.{shortest_front}
 use Rattle.engine_reference.specs.Records.{settled_in}
 use Rattle.engine_applying.proofs.Contests.{contest-won, contest-lost}

@@ -1,0 +1,240 @@
+//! How often hashes were counted of late, in words of sixteen counts.
+ghost use Rattle.std.specs.Prelude.{◌≡◌, ℕ, ◌+◌, ◌-◌, ◌*◌, ◌/◌, ◌%◌, ◌^◌, ◌<◌, ◌≤◌, List, [], map, length, slice_index, slice_set, nat_lt, vec_len, replicate, min, max, true, false, IsOk, OnOk, OnErr};
+ghost use Rattle.std.specs.Int.{IsNextPowerOfTwo};
+ghost use Rattle.policy_base.specs.Counts.{nibbles, counts_of, half, multiplier, spread, place, bump, frequency_of, incremented, bumped_in, can_grow_in, sketch_of, fresh, grown, own_count, after};
+use std::alloc::{AllocError, Global};
+use std::marker::Model;
+
+/// The `i`-th count of a word.
+fn count_at(word: u64, i: u32) -> u8
+    requires { i < 16 }
+    ensures count { result ≡ slice_index (nibbles 16 word) i }
+    ensures top { result ≤ 15 }
+{
+    ((word >> (4 * i)) % 16) as u8
+}
+
+/// The word with one more in its `i`-th count, which is below 15.
+fn with_one_more(word: u64, i: u32) -> u64
+    requires index { i < 16 }
+    requires below { slice_index (nibbles 16 word) i < 15 }
+    ensures { nibbles 16 result ≡ slice_set (nibbles 16 word) i (slice_index (nibbles 16 word) i + 1) }
+{
+    word + (1u64 << (4 * i))
+}
+
+/// The word with each of its lowest `n` counts halved.
+fn halved(word: u64, n: u32) -> u64
+    requires { n ≤ 16 }
+    ensures counts { nibbles n result ≡ map half (nibbles n word) }
+    ensures fits { result < 16 ^ n }
+{
+    if n == 0 {
+        0
+    } else {
+        halved(word / 16, n - 1) * 16 + word % 16 / 2
+    }
+}
+
+/// The multiplier of the `i`-th count of a hash.
+fn multiplier_of(i: u64) -> u64
+    ensures { result ≡ multiplier i }
+{
+    match i {
+        0 => 0xc3a5c85c97cb3127,
+        1 => 0xb492b66fbe98f273,
+        2 => 0x9ae16a3b2f90404f,
+        _ => 0xcbf29ce484222325,
+    }
+}
+
+/// The spread hash of the `i`-th count.
+fn spread_of(hash: u64, i: u64) -> u64
+    ensures { result ≡ spread hash i }
+{
+    let m = multiplier_of(i);
+    let x = hash.wrapping_add(m).wrapping_mul(m);
+    x.wrapping_add(x >> 32)
+}
+
+/// The most words of a table.
+const MAX_WORDS: u32 = 1 << 24;
+
+/// Counts of hashes.
+#[derive(Drop)]
+pub struct FrequencySketch {
+    table: Vec<u64>,
+    size: u64,
+    sample: u64,
+}
+
+impl Model for FrequencySketch {
+    ghost use Rattle.std.specs.Prelude.{◌≤◌, ◌<◌, ◌^◌, vec_len};
+    ghost use Rattle.policy_base.specs.Counts.{Sketch, counts_of};
+
+    ghost Value = { Sketch };
+
+    ghost view = { λ s. record { words = vec_len s.table; counts = counts_of s.table.items; size = s.size; sample = s.sample } };
+
+    ghost invariant = { λ s. (s.size < s.sample) × (s.sample < 2 ^ 32) };
+}
+
+/// Halves every count.
+fn halve_all(table: &mut [u64])
+    ensures { counts_of table.new ≡ map half (counts_of table.old) }
+{
+    for word in table.iter_mut() {
+        *word = halved(*word, 16);
+    }
+}
+
+/// Adds one at a place, and says whether it grew.
+fn bump_at(table: &mut [u64], hash: u64, i: u64) -> bool
+    requires index { i < 4 }
+    requires some { 0 < length table.old }
+    ensures counts { counts_of table.new ≡ bump (counts_of table.old) (place (length table.old) hash i) }
+    ensures grew { result ≡ nat_lt (slice_index (counts_of table.old) (place (length table.old) hash i)) 15 }
+{
+    let at = (spread_of(hash, i) % table.len() as u64) as usize;
+    let k = (4 * (hash % 4) + i) as u32;
+    let word = table[at];
+    if count_at(word, k) < 15 {
+        table[at] = with_one_more(word, k);
+        true
+    } else {
+        false
+    }
+}
+
+/// Adds one to each of the four counts of a hash, and says whether one grew.
+fn bump_all(table: &mut [u64], hash: u64) -> bool
+    requires { 0 < length table.old }
+    ensures counts { counts_of table.new ≡ bumped_in (length table.old) (counts_of table.old) hash }
+    ensures grew { result ≡ can_grow_in (length table.old) (counts_of table.old) hash }
+    ensures len { length table.new ≡ length table.old }
+{
+    let first = bump_at(table, hash, 0);
+    let second = bump_at(table, hash, 1);
+    let third = bump_at(table, hash, 2);
+    let fourth = bump_at(table, hash, 3);
+    first || second || third || fourth
+}
+
+/// Counts a hash once more, and answers the new size.
+fn counted(table: &mut [u64], size: u64, sample: u64, hash: u64) -> u64
+    requires some { 0 < length table.old }
+    requires size { size < sample }
+    requires sample { sample < 2 ^ 32 }
+    ensures sketch { sketch_of (length table.new) table.new result sample ≡ incremented (sketch_of (length table.old) table.old size sample) hash }
+    ensures fits { result < sample }
+{
+    let grew = bump_all(table, hash);
+    let more = if grew { size + 1 } else { size };
+    if more < sample {
+        return more;
+    }
+    halve_all(table);
+    more / 2
+}
+
+/// The count at a place.
+fn count_of(table: &[u64], hash: u64, i: u64) -> u8
+    requires index { i < 4 }
+    requires some { 0 < length table.now }
+    ensures count { result ≡ slice_index (counts_of table.now) (place (length table.now) hash i) }
+    ensures top { result ≤ 15 }
+{
+    let at = (spread_of(hash, i) % table.len() as u64) as usize;
+    let k = (4 * (hash % 4) + i) as u32;
+    count_at(table[at], k)
+}
+
+/// Makes a table of so many words, each of them zero.
+fn make_table(table: &mut Vec<u64>, words: usize) -> Result<(), AllocError>
+    requires { vec_len table.old ≤ words }
+    ensures len { OnOk result (vec_len table.new ≡ words) }
+    ensures zeros { OnOk result (table.new.items ≡ replicate words 0) }
+    ensures err { OnErr result ((table.new.items ≡ table.old.items) × (vec_len table.new ≡ vec_len table.old)) }
+{
+    table.resize(words, 0)?;
+    table.as_mut_slice().fill(0);
+    Ok(())
+}
+
+/// A table's words for so many hashes.
+fn wanted_words(capacity: u32) -> usize
+    ensures { IsNextPowerOfTwo (min capacity (2 ^ 24)) result }
+{
+    (capacity.min(MAX_WORDS) as usize).next_power_of_two()
+}
+
+impl FrequencySketch {
+    /// A sketch without a table.
+    pub fn default(alloc: Global) -> Self
+        ensures words { result.words ≡ 0 }
+        ensures counts { result.counts ≡ [] }
+        ensures size { result.size ≡ 0 }
+    {
+        FrequencySketch {
+            table: Vec::new(alloc),
+            size: 0,
+            sample: 10,
+        }
+    }
+
+    /// Makes a table for so many hashes, where there is none so large: as many words as the next power of two, up
+    /// to 2^24. The counts begin again.
+    pub fn ensure_capacity(&mut self, capacity: u32) -> Result<(), AllocError>
+        ensures grown { OnOk result ((words : ℕ) × IsNextPowerOfTwo (min capacity (2 ^ 24)) words × (self.new ≡ grown self.old words capacity)) }
+        ensures err { OnErr result (self.new ≡ self.old) }
+        ensures err_where_larger { OnErr result ((words : ℕ) × IsNextPowerOfTwo (min capacity (2 ^ 24)) words × (self.old.words < words)) }
+    {
+        let words = wanted_words(capacity);
+        if words <= self.table.len() {
+            return Ok(());
+        }
+        make_table(&mut self.table, words)?;
+        self.size = 0;
+        self.sample = (10 * capacity.min(MAX_WORDS) as u64).max(10);
+        Ok(())
+    }
+
+    /// Whether there is a table.
+    pub fn has_table(&self) -> bool
+        ensures { result ≡ nat_lt 0 self.now.words }
+    {
+        self.table.len() > 0
+    }
+
+    /// The least of the hash's four counts, and 0 without a table.
+    pub fn frequency(&self, hash: u64) -> u8
+        ensures least { result ≡ frequency_of self.now hash }
+        ensures top { result ≤ 15 }
+    {
+        let table = self.table.as_slice();
+        if table.is_empty() {
+            return 0;
+        }
+        let low = count_of(table, hash, 0).min(count_of(table, hash, 1));
+        let high = count_of(table, hash, 2).min(count_of(table, hash, 3));
+        low.min(high)
+    }
+
+    /// Counts the hash once more.
+    pub fn increment(&mut self, hash: u64)
+        ensures { self.new ≡ incremented self.old hash }
+    {
+        if self.table.len() == 0 {
+            return;
+        }
+        self.size = counted(self.table.as_mut_slice(), self.size, self.sample, hash);
+    }
+}
+
+/// A hash's frequency is at least its own count, whatever hashes are counted: one more for each time that it is
+/// counted, up to 15, and halved at each aging.
+pub fn own_counts_stand(sketch: &FrequencySketch)
+    ensures { (hash own : ℕ) (hashes : List ℕ) → 0 < sketch.now.words → own ≤ frequency_of sketch.now hash → own_count sketch.now hash own hashes ≤ frequency_of (after sketch.now hashes) hash }
+{
+    let _ = &sketch.table;
+}

@@ -1,7 +1,0 @@
-use Rattle.std.proofs.Common.{sym, ap, ◌∙◌}
-use Rattle.policy_sketch.specs.Counts.{counts_of}
-use Rattle.policy_sketch.proofs.Nibbles.{counts-none}
-use Rattle.policy_sketch.proofs.FrequencySketch.default.Goals as goal
-
-pub returns-clause-counts : goal.returns-clause-counts
-returns-clause-counts c = ap counts_of c.new.ensures.items ∙ sym counts-none

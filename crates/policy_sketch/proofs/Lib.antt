@@ -1,3 +1,0 @@
-pub mod Nibbles
-pub mod Steps
-pub mod Own

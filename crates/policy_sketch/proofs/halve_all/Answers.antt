@@ -1,6 +1,0 @@
-use Rattle.std.proofs.Common.{arith}
-use Rattle.policy_sketch.proofs.Nibbles.{counts-half}
-use Rattle.policy_sketch.proofs.halve_all.Goals as goal
-
-pub returns : goal.returns
-returns c = counts-half c.args.table.now c.loop-word.table (omega arith) (λ k lt. c.loop-word.invariant.0 k (omega arith))
