@@ -7,10 +7,10 @@ use Rattle.std.proofs.lemmas.List.Sorted.{Contains-permutation, IsPermutation-sy
 use Rattle.std.proofs.lemmas.Option.{same_Some}
 use Rattle.slab.proofs.SlabLemmas.{Contains-cons, Contains-cons_cases}
 use Rattle.policy_base.specs.declared.name.NodeId.{NodeId}
-use Rattle.policy_timers.specs.declared.array.Due.{Due}
-use Rattle.policy_timers.specs.declared.array.Timer.{Timer}
-use Rattle.policy_timers.specs.declared.array.TimerNode.{TimerNode}
-use Rattle.policy_timers.specs.Timers.{Timers, Keeps, OnlyGainsRoom, Schedules, Replaces, TimerLeaves, moved}
+use Rattle.policy_queue.specs.declared.timers.array.Due.{Due}
+use Rattle.policy_queue.specs.declared.timers.array.Timer.{Timer}
+use Rattle.policy_queue.specs.declared.timers.array.TimerNode.{TimerNode}
+use Rattle.policy_queue.specs.Timers.Timers.{Timers, Keeps, OnlyGainsRoom, Schedules, Replaces, TimerLeaves, moved}
 use Rattle.engine_timers.specs.Awaited.{Awaited, IsTimed, IsAwaited, IsSet, KeepsOthers, name_at, LacksPlace, IsOwned}
 
 pub longer : (names : List (Option NodeId)) (i : ℕ) → name_at (names ++ None ∷ []) i ≡ name_at names i

@@ -2,8 +2,8 @@
 use Rattle.std.specs.Prelude.{◌≡◌, ℕ, ◌<◌, ◌≤◌, Bool, true, List, Option, Some, None, slice_index_or}
 use Rattle.std.specs.List.{Contains}
 use Rattle.policy_base.specs.declared.name.NodeId.{NodeId}
-use Rattle.policy_timers.specs.declared.array.Timer.{Timer}
-use Rattle.policy_timers.specs.Timers.{Timers}
+use Rattle.policy_queue.specs.declared.timers.array.Timer.{Timer}
+use Rattle.policy_queue.specs.Timers.Timers.{Timers}
 
 pub record Awaited : Type 0 where
   pub timers : List Timer

@@ -4,7 +4,7 @@ ghost use Rattle.engine_timers.specs.Awaited.{IsAwaited, IsSet, KeepsOthers};
 
 use crate::names::set;
 use policy_base::{Instant, MAX_NANOS, NodeId};
-use policy_timers::TimerWheel;
+use policy_queue::TimerWheel;
 use std::alloc::Global;
 use std::marker::Model;
 

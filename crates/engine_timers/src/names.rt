@@ -3,7 +3,7 @@ ghost use Rattle.std.specs.Prelude.{◌≡◌, ◌<◌, ◌≤◌, ℕ, true, So
 ghost use Rattle.engine_timers.specs.Awaited.{IsTimed, KeepsOthers, name_at, LacksPlace, IsOwned};
 
 use policy_base::{Instant, NodeId};
-use policy_timers::{Due, TimerWheel};
+use policy_queue::{Due, TimerWheel};
 
 /// The name that a place knows.
 fn name_at(names: &[Option<NodeId>], place: usize) -> Option<NodeId>

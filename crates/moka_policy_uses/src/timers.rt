@@ -1,7 +1,7 @@
 //! Timers.
 ghost use Rattle.std.specs.Prelude.{◌≡◌, ◌<◌, ◌^◌, true};
 ghost use Rattle.std.specs.List.{All};
-ghost use Rattle.policy_timers.specs.Timers.{tick};
+ghost use Rattle.policy_queue.specs.Timers.Timers.{tick};
 
 use moka_policy::{Instant, Slot, TimerEvent, TimerWheel};
 use slab::Slab;

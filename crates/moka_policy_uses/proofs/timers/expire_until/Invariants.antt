@@ -1,5 +1,5 @@
 use Rattle.std.proofs.Common.{◌≡◌, true}
-use Rattle.policy_timers.specs.Events.{pending}
+use Rattle.policy_queue.specs.Timers.Events.{pending}
 use Rattle.moka_policy_uses.proofs.timers.expire_until.Given as goal
 
 abbrev pub invariant-loop-event : goal.invariant-loop-event

@@ -1,0 +1,38 @@
+//! What a whole advance gives.
+ghost use Rattle.std.specs.Prelude.{◌≡◌, ℕ, ◌<◌, true, nat_lt, Some, None, OnSome, is_some, List, if◌then◌else◌};
+ghost use Rattle.std.specs.Bool.{OnTrue, OnFalse};
+ghost use Rattle.policy_queue.specs.Timers.Timers.{tick, Keeps};
+ghost use Rattle.policy_queue.specs.Timers.Events.{Step, SameTimes, pending};
+ghost use Rattle.policy_queue.specs.Timers.Timers.{TheTimer};
+ghost use Rattle.policy_queue.specs.Timers.Advances.{TheEvent};
+ghost use Rattle.policy_queue.specs.Timers.Advances.{Advances, Drains, nodes_of};
+
+use crate::timers::events::TimerEvent;
+use crate::timers::wheel::TimerWheel;
+use policy_base::{Instant, Slot};
+use slab::Slab;
+
+/// One event of an advance.
+pub fn next_event<K>(
+    wheel: &mut TimerWheel<K>,
+    now: Instant,
+    entries: &mut Slab<Slot<K>>,
+) -> Option<TimerEvent>
+    requires { wheel.old.is_enabled ≡ true }
+    ensures times { SameTimes entries.old entries.new }
+    ensures early { OnFalse (nat_lt (tick wheel.old.origin wheel.old.moment) (tick wheel.old.origin now)) ((result ≡ None) × (wheel.new ≡ wheel.old) × (entries.new ≡ entries.old)) }
+    ensures steps { OnTrue (nat_lt (tick wheel.old.origin wheel.old.moment) (tick wheel.old.origin now)) (Step entries.old entries.new now wheel.old.timers wheel.new.timers result) }
+    ensures keeps { OnTrue (nat_lt (tick wheel.old.origin wheel.old.moment) (tick wheel.old.origin now)) (Keeps (record wheel.old { moment = (if is_some result then wheel.old.moment else now) }) wheel.new) }
+    ensures fewer { OnTrue (nat_lt (tick wheel.old.origin wheel.old.moment) (tick wheel.old.origin now)) (OnSome result (pending now wheel.new.timers < pending now wheel.old.timers)) }
+{
+    let mut events = wheel.advance(now, entries);
+    events.next()
+}
+
+/// An advance that is run to its end gives as expired just the timers that are due, each once, where each was placed
+/// at its entry's time; whatever the premises, it gives none early.
+pub fn advances_give_the_due<K>(entries: &Slab<Slot<K>>)
+    ensures { (now : ℕ) (before after : List TheTimer) (events : List TheEvent) → Advances events entries.now now before after → Drains entries.now now before after (nodes_of events) }
+{
+    let _ = entries;
+}

@@ -1,0 +1,308 @@
+//! Timers of a cache's entries.
+ghost use Rattle.std.specs.Prelude.{◌≡◌, ◌≢◌, ℕ, ◌+◌, ◌-◌, ◌^◌, ◌<◌, ◌≤◌, ◌↔◌, true, false, List, [], ◌∷◌, length, IsTrue, IsOk, IfOk, IfErr, OnOk, OnErr, MatchOption, IfSome, Some, None, slice_index_or};
+ghost use Rattle.std.specs.List.{All};
+ghost use Rattle.std.specs.List.Sorted.{IsPermutation};
+ghost use Rattle.slab.specs.Slab.{get};
+ghost use Rattle.policy_queue.specs.Timers.Entries.{due_of};
+ghost use Rattle.policy_queue.specs.Timers.Timers.{TheTimer, moved, Keeps, OnlyGainsRoom, ScheduledWell, TimerRefusedWell, TimerLeaves, RescheduledWell, Replaces, Schedules};
+
+use crate::timers::array::{Due, Timer, TimerNode, add, find, move_timer, take};
+use crate::timers::entries::due_of;
+use crate::timers::places::Place;
+use crate::timers::row::Row;
+use policy_base::{CacheRegion, Cells, Instant, NodeId, Slot};
+use slab::Slab;
+use std::alloc::{AllocError, Global};
+use std::marker::{Model, PhantomData};
+use thiserror::Error;
+
+/// What became of a timer whose entry's time may have changed.
+#[derive(Clone, Copy, Debug, PartialEq, Eq)]
+pub enum ReschedulingResult {
+    /// It stands at the entry's time.
+    Rescheduled,
+    /// It left, since the entry has no time.
+    Removed(TimerNode),
+}
+
+/// Why a timer, or room for timers, was refused.
+#[derive(Clone, Copy, Debug, PartialEq, Eq, Drop, Error)]
+pub enum ScheduleError {
+    #[error("out of memory")]
+    OutOfMemory,
+    #[error("used up")]
+    UsedUp,
+}
+
+/// A call named a timer that the wheel does not have.
+#[derive(Clone, Copy, Debug, PartialEq, Eq, Drop, Error)]
+#[error("stale timer")]
+pub struct StaleTimer;
+
+/// Timers by rising time.
+#[derive(Drop)]
+pub struct TimerWheel<K> {
+    is_enabled: bool,
+    origin: Instant,
+    moment: Instant,
+    next_serial: u64,
+    row: Row,
+    slots: Cells<Instant, u64>,
+    keys: PhantomData<K>,
+}
+
+impl<K> Model for TimerWheel<K> {
+    ghost use Rattle.std.specs.Prelude.{◌-◌, ◌^◌, min, length};
+    ghost use Rattle.slab.specs.Slab.{slab_len};
+    ghost use Rattle.policy_queue.specs.Timers.Timers.{Timers};
+    ghost use Rattle.policy_queue.specs.Timers.Array.{IsWheel};
+    ghost use Rattle.policy_queue.specs.Timers.Places.{taken};
+
+    ghost Value = { Timers };
+
+    ghost view = { λ w. record {
+      is_enabled = w.is_enabled;
+      origin = w.origin;
+      moment = w.moment;
+      timers = taken w.row.places;
+      next_serial = w.next_serial;
+      room = min (w.row.capacity - length (taken w.row.places)) (min (w.slots.capacity - slab_len w.slots) (2 ^ 64 - 1 - w.next_serial));
+    } };
+
+    ghost invariant = { λ w. IsWheel (taken w.row.places) w.slots w.next_serial };
+}
+
+impl<K> TimerWheel<K> {
+    /// A wheel without timers, not yet enabled. It takes no memory.
+    pub fn new(alloc: Global, moment: Instant) -> Self
+        ensures is_enabled { result.is_enabled ≡ false }
+        ensures origin { result.origin ≡ moment }
+        ensures moment { result.moment ≡ moment }
+        ensures timers { result.timers ≡ [] }
+        ensures next_serial { result.next_serial ≡ 0 }
+    {
+        TimerWheel {
+            is_enabled: false,
+            origin: moment,
+            moment,
+            next_serial: 0,
+            row: Row::new(alloc),
+            slots: Cells::new(alloc),
+            keys: PhantomData,
+        }
+    }
+
+    /// Whether timers may be scheduled.
+    pub fn is_enabled(&self) -> bool
+        ensures { result ≡ self.now.is_enabled }
+    {
+        self.is_enabled
+    }
+
+    /// Lets timers be scheduled.
+    pub fn enable(&mut self)
+        requires { self.old.is_enabled ≡ false }
+        ensures { self.new ≡ record self.old { is_enabled = true } }
+    {
+        self.is_enabled = true;
+    }
+
+    /// How many timers there are.
+    pub fn len(&self) -> usize
+        ensures { result ≡ length self.now.timers }
+    {
+        self.slots.len()
+    }
+
+    /// The moment up to which timers were given.
+    pub fn moment(&self) -> Instant
+        ensures { result ≡ self.now.moment }
+    {
+        self.moment
+    }
+
+    /// The moment of the wheel's making.
+    pub fn origin(&self) -> Instant
+        ensures { result ≡ self.now.origin }
+    {
+        self.origin
+    }
+
+    /// Makes room for `n` more timers, which then need no memory.
+    pub fn reserve(&mut self, n: usize) -> Result<(), ScheduleError>
+        ensures room { OnOk result (n ≤ self.new.room) }
+        ensures had_room { n ≤ self.old.room → IsOk result }
+        ensures stays { OnlyGainsRoom self.old self.new }
+        ensures used_up { (result ≡ Err ScheduleError.UsedUp) ↔ (2 ^ 64 - 1 < self.old.next_serial + n) }
+    {
+        if u64::MAX - self.next_serial < n as u64 {
+            return Err(ScheduleError::UsedUp);
+        }
+        if n == 0 {
+            return Ok(());
+        }
+        if !self.row.reserve(self.slots.len(), n) {
+            return Err(ScheduleError::OutOfMemory);
+        }
+        if self.slots.reserve(n).is_err() {
+            return Err(ScheduleError::OutOfMemory);
+        }
+        Ok(())
+    }
+
+    /// Adds a timer for an entry at its time, if it has one, and answers the timer's name.
+    pub fn schedule(
+        &mut self,
+        entry: usize,
+        entries: &Slab<Slot<K>>,
+    ) -> Result<Option<NodeId>, ScheduleError>
+        requires { self.old.is_enabled ≡ true }
+        ensures scheduled { IfOk result (ScheduledWell entries.now self.old self.new entry) }
+        ensures had_room { 0 < self.old.room → IsOk result }
+        ensures without_time { due_of entries.now entry ≡ None → IsOk result }
+        ensures stays { OnErr result (OnlyGainsRoom self.old self.new) }
+        ensures why { IfErr result (TimerRefusedWell self.old) }
+    {
+        let due = match due_of(entries, entry) {
+            Some(due) => due,
+            None => return Ok(None),
+        };
+        match self.reserve(1) {
+            Ok(()) => Ok(Some(self.place(entry, due))),
+            Err(error) => Err(error),
+        }
+    }
+
+    /// Adds a timer for an entry at a time, and answers its name. It needs no memory: there is room.
+    pub fn place(&mut self, entry: usize, due: Due) -> NodeId
+        requires { 0 < self.old.room }
+        ensures { Schedules self.old self.new entry result due }
+    {
+        let id = NodeId {
+            queue: CacheRegion::Other,
+            serial: self.next_serial,
+            slot: self.slots.vacant_key(),
+        };
+        let place = Place {
+            placed: due.time,
+            serial: id.serial,
+            entry,
+            slot: id.slot,
+            expiry_gen: due.expiry_gen,
+            is_taken: true,
+        };
+        add(&mut self.row, &mut self.slots, place);
+        self.next_serial += 1;
+        id
+    }
+
+    /// Puts a timer at its entry's present time, or takes it out where the entry has none. It keeps its name.
+    pub fn reschedule(
+        &mut self,
+        id: NodeId,
+        entries: &Slab<Slot<K>>,
+    ) -> Result<ReschedulingResult, StaleTimer>
+        requires { self.old.is_enabled ≡ true }
+        ensures rescheduled { IfOk result (RescheduledWell entries.now self.old.timers self.new.timers id) }
+        ensures keeps { OnOk result (Keeps self.old self.new) }
+        ensures stale { OnErr result (All (λ t. t.id ≢ id) self.old.timers) }
+        ensures unchanged { OnErr result (self.new ≡ self.old) }
+    {
+        match find(&self.row, &self.slots, id) {
+            None => Err(StaleTimer),
+            Some(k) => match due_of(entries, self.row.at(k).node.entry_info) {
+                None => {
+                    let timer = take(&mut self.row, &mut self.slots, k);
+                    Ok(ReschedulingResult::Removed(timer.node))
+                }
+                Some(due) => {
+                    move_timer(&mut self.row, &mut self.slots, k, due);
+                    Ok(ReschedulingResult::Rescheduled)
+                }
+            },
+        }
+    }
+
+    /// Puts a timer at another time. It keeps its name, and no memory is needed.
+    pub fn replace(&mut self, id: NodeId, due: Due) -> Result<(), StaleTimer>
+        ensures replaces { OnOk result (Replaces self.old.timers self.new.timers id due) }
+        ensures keeps { OnOk result (Keeps self.old self.new) }
+        ensures stale { OnErr result (All (λ t. t.id ≢ id) self.old.timers) }
+        ensures unchanged { OnErr result (self.new ≡ self.old) }
+    {
+        match find(&self.row, &self.slots, id) {
+            None => Err(StaleTimer),
+            Some(k) => {
+                move_timer(&mut self.row, &mut self.slots, k, due);
+                Ok(())
+            }
+        }
+    }
+
+    /// Takes a timer out.
+    pub fn deschedule(&mut self, id: NodeId) -> Result<TimerNode, StaleTimer>
+        requires { self.old.is_enabled ≡ true }
+        ensures leaves { IfOk result (TimerLeaves self.old.timers self.new.timers id) }
+        ensures keeps { OnOk result (Keeps self.old self.new) }
+        ensures stale { OnErr result (All (λ t. t.id ≢ id) self.old.timers) }
+        ensures unchanged { OnErr result (self.new ≡ self.old) }
+    {
+        match find(&self.row, &self.slots, id) {
+            None => Err(StaleTimer),
+            Some(k) => {
+                let timer = take(&mut self.row, &mut self.slots, k);
+                Ok(timer.node)
+            }
+        }
+    }
+
+    /// The first timer, where it was placed at or before `now`. It stays.
+    pub fn first_due(&self, now: Instant) -> Option<Timer>
+        ensures earliest { IfSome result (λ t. All (λ u. t.placed ≤ u.placed) self.now.timers) }
+        ensures first { MatchOption result (All (λ t. now < t.placed) self.now.timers) (λ t. (0 < length self.now.timers) × (t ≡ slice_index_or self.now.timers 0 t) × (t.placed ≤ now)) }
+    {
+        match self.row.first() {
+            Some(first) => {
+                if first.placed.as_nanos() <= now.as_nanos() {
+                    Some(first)
+                } else {
+                    None
+                }
+            }
+            None => None,
+        }
+    }
+
+    /// Takes the first timer out.
+    pub fn pop_first(&mut self)
+        requires { 0 < length self.old.timers }
+        ensures first { (t : TheTimer) × (self.old.timers ≡ t ∷ self.new.timers) }
+        ensures keeps { Keeps self.old self.new }
+    {
+        match self.row.first() {
+            Some(_) => {
+                let _timer = take(&mut self.row, &mut self.slots, 0);
+            }
+            None => unreachable!(),
+        }
+    }
+
+    /// Puts the first timer at another time.
+    pub(crate) fn move_first(&mut self, due: Due)
+        requires { 0 < length self.old.timers }
+        ensures first { (t : TheTimer) × (rest : List TheTimer) × (self.old.timers ≡ t ∷ rest) × IsPermutation (moved t due.time due.expiry_gen ∷ rest) self.new.timers }
+        ensures keeps { Keeps self.old self.new }
+    {
+        match self.row.first() {
+            Some(_) => move_timer(&mut self.row, &mut self.slots, 0, due),
+            None => unreachable!(),
+        }
+    }
+
+    /// Sets the moment up to which timers were given.
+    pub(crate) fn set_moment(&mut self, now: Instant)
+        ensures { self.new ≡ record self.old { moment = now } }
+    {
+        self.moment = now;
+    }
+}

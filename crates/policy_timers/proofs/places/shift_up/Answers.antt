@@ -1,5 +1,0 @@
-use Rattle.policy_timers.proofs.Shifts.{shifted_up}
-use Rattle.policy_timers.proofs.places.shift_up.Goals as goal
-
-pub returns : goal.returns
-returns c = λ a b d x whole from to. shifted_up c.args.places.now c.rotate_right.new.self c.args.at c.args.spare c.args.place a b d x c.rotate_right.ensures.after whole from to
