@@ -7,7 +7,7 @@ use Rattle.policy_base.specs.declared.records.KeyHashDate.{KeyHashDate}
 use Rattle.policy_base.specs.declared.records.Slot.{Slot}
 use Rattle.policy_base.specs.declared.name.NodeId.{NodeId}
 use Rattle.policy_queue.specs.Queue.{Pushes}
-use Rattle.policy_deques.specs.Queues.{Queues, Changes}
+use Rattle.moka_policy.specs.Deques.Queues.{Queues, Changes}
 
 -- the name of an entry's node in the access-order queues
 abbrev pub access_node : {K : Type 0} → Slab (Slot K) → ℕ → Option NodeId

@@ -1,7 +1,7 @@
 use Rattle.policy_base.specs.declared.name.CacheRegion.{CacheRegion}
 use Rattle.policy_base.specs.declared.name.CacheRegion.TheVariants.{Window, MainProbation, MainProtected, Other}
-use Rattle.policy_deques.specs.Queues.{Entries, queue_of, IsNewQueue}
-use Rattle.policy_deques.proofs.deques.Deques.default.Goals as goal
+use Rattle.moka_policy.specs.Deques.Queues.{Entries, queue_of, IsNewQueue}
+use Rattle.moka_policy.proofs.deques.deques.Deques.default.Goals as goal
 
 all_new : (a b c d : Entries) → IsNewQueue Window a → IsNewQueue MainProbation b → IsNewQueue MainProtected c → IsNewQueue Other d → (region : CacheRegion) → IsNewQueue region (queue_of region (record { window = a; probation = b; protected = c; write_order = d }))
 all_new a b c d ha hb hc hd Window = ha

@@ -3,8 +3,8 @@ use Rattle.std.specs.Borrow.{Lends, Fml, RattleType, MutBor}
 use Rattle.policy_base.specs.declared.name.CacheRegion.{CacheRegion}
 use Rattle.policy_queue.specs.contracts.deque.Deque as deque
 use Rattle.policy_base.specs.contracts.records.KeyHashDate as date
-use Rattle.policy_deques.specs.contracts.deques.Deques as deques
-use Rattle.policy_deques.specs.Queues.{Queues, Entries, with_queue}
+use Rattle.moka_policy.specs.contracts.deques.deques.Deques as deques
+use Rattle.moka_policy.specs.Deques.Queues.{Queues, Entries, with_queue}
 
 -- the queues end with the last value of the one that was lent
 abbrev pub lends_queue : (K : RattleType) → CacheRegion → MutBor Queues → MutBor Entries → Fml

@@ -1,6 +1,4 @@
 //! The queues of a cache's entries: those in order of use, one for each region, and the one in order of writes.
-#![tactic(auto)]
-
 mod deques;
 mod nodes;
 

@@ -1,6 +1,6 @@
 //! The names of an entry's nodes.
 ghost use Rattle.std.specs.Prelude.{◌≡◌, Option, Some, None};
-ghost use Rattle.policy_deques.specs.Nodes.{access_node, write_node, with_access_node, with_write_node};
+ghost use Rattle.moka_policy.specs.Deques.Nodes.{access_node, write_node, with_access_node, with_write_node};
 
 use policy_base::{NodeId, Slot};
 use slab::Slab;

@@ -3,10 +3,10 @@ ghost use Rattle.std.specs.Prelude.{◌≡◌, ◌≢◌, ℕ, ◌+◌, ◌^◌,
 ghost use Rattle.std.specs.Borrow.{sem};
 ghost use Rattle.policy_queue.specs.Queue.{find, head, final, to_give, cursor_past, Leaves, Stays, MovesToBack, refused_element, RefusedWell};
 ghost use Rattle.policy_base.specs.declared.name.CacheRegion.{CacheRegion as TheRegion};
-ghost use Rattle.policy_deques.specs.Queues.{queue_of, with_queue, access_nodes, IsNewQueue, Changes, HasNode, MovesNode, LosesNode, HasAccessNode, MovesAccessNode, LosesAccessNode, AllStay, HaveRoom, LackSerials};
-ghost use Rattle.policy_deques.specs.Nodes.{access_node, write_node, with_access_node, with_write_node, PushesEntry, forgets};
+ghost use Rattle.moka_policy.specs.Deques.Queues.{queue_of, with_queue, access_nodes, IsNewQueue, Changes, HasNode, MovesNode, LosesNode, HasAccessNode, MovesAccessNode, LosesAccessNode, AllStay, HaveRoom, LackSerials};
+ghost use Rattle.moka_policy.specs.Deques.Nodes.{access_node, write_node, with_access_node, with_write_node, PushesEntry, forgets};
 
-use crate::nodes::{access_node, set_access_node, set_write_node, write_node};
+use crate::deques::nodes::{access_node, set_access_node, set_write_node, write_node};
 use policy_base::{CacheRegion, KeyHashDate, NodeId, Slot};
 use policy_queue::{Cursor, Deque, PushError, ReserveError, Stale};
 use slab::Slab;
@@ -25,7 +25,7 @@ pub struct Deques<K> {
 }
 
 impl<K> Model for Deques<K> {
-    ghost use Rattle.policy_deques.specs.Queues.{Queues};
+    ghost use Rattle.moka_policy.specs.Deques.Queues.{Queues};
 
     ghost Value = { Queues };
 
@@ -33,7 +33,7 @@ impl<K> Model for Deques<K> {
 }
 
 impl<K> Deques<K> {
-    ghost use Rattle.policy_deques.specs.Lending.{lends_queue};
+    ghost use Rattle.moka_policy.specs.Deques.Lending.{lends_queue};
 
     /// Empty queues, which take no memory.
     pub fn default(alloc: Global) -> Self
