@@ -1,6 +1,6 @@
 use Rattle.std.proofs.Common.{◌≡◌, true}
 use Rattle.policy_queue.specs.Timers.Events.{pending}
-use Rattle.moka_policy_uses.proofs.timers.expire_until.Given as goal
+use Rattle.policy_tests.proofs.uses.timers.expire_until.Given as goal
 
 abbrev pub invariant-loop-event : goal.invariant-loop-event
 invariant-loop-event g l = record {

@@ -1,4 +1,4 @@
-use crate::{expire_until, is_worth_more, push_both, use_again};
+use crate::uses::{expire_until, is_worth_more, push_both, use_again};
 use moka_policy::{
     CacheRegion, Deque, EntryInfo, FrequencySketch, Instant, KeyHash, Slot, TimerWheel,
 };

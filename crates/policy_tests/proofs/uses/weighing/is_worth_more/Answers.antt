@@ -1,6 +1,6 @@
 use Rattle.std.proofs.Common.{nat_lt, ap, ◌∙◌}
 use Rattle.policy_base.specs.Counts.{frequency_of}
-use Rattle.moka_policy_uses.proofs.weighing.is_worth_more.Goals as goal
+use Rattle.policy_tests.proofs.uses.weighing.is_worth_more.Goals as goal
 
 pub returns : goal.returns
 returns c =

@@ -1,6 +1,4 @@
 //! How `moka_policy` is used.
-#![tactic(auto)]
-
 mod queues;
 mod timers;
 mod weighing;
