@@ -3,7 +3,7 @@ ghost use Rattle.cache_parts.specs.Parts.{service_answers};
 
 use crate::value::StoredValue;
 use audit_model::{Bytes, Key, Weight};
-use engine_rules::{Expiration, Rules};
+use engine_reference::{Expiration, Rules};
 use policy_base::Instant;
 use std::time::Duration;
 

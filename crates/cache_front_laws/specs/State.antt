@@ -4,7 +4,7 @@ use Rattle.rand_core.specs.Stream.{Stream}
 use Rattle.audit_model.specs.declared.config.Config.{Config}
 use Rattle.audit_model.specs.declared.config.Weight.{Weight}
 use Rattle.engine_reference.specs.declared.data.Notice.{Notice}
-use Rattle.engine_rules.specs.Hashing.{hash_of_key}
+use Rattle.engine_reference.specs.Rules.Hashing.{hash_of_key}
 use Rattle.front_reference.specs.Fronts.{Front}
 use Rattle.cache_parts.specs.Parts.{Stored, items_of, note_from}
 use Rattle.cache_parts_store.specs.View.{IsWhole, StoreOfParts, over_front}

@@ -15,12 +15,12 @@ use Rattle.audit_model.specs.Values.{untold, without_key}
 use Rattle.audit_model.specs.View.{Candidate}
 use Rattle.audit_model.specs.declared.config.Config.{Config}
 use Rattle.audit_model.specs.declared.transcript.Note.{Note}
-use Rattle.engine_rules.specs.declared.causes.RemovalCause.TheVariants as cause
+use Rattle.engine_reference.specs.declared.rules.causes.RemovalCause.TheVariants as cause
 use Rattle.engine_reference.specs.Records.{held_at, held_entries}
 use Rattle.engine_reference.specs.Telling.{entry_of}
 use Rattle.engine_reference.specs.Times.{has_come}
 use Rattle.engine_reference.specs.Visible.{is_covered, cause_of_write, notice_of}
-use Rattle.engine_laws.proofs.Shown.{entry-held}
+use Rattle.engine_reference.proofs.run_laws.Shown.{entry-held}
 use Rattle.cache_store.specs.Promises.{Done, accepting}
 use Rattle.cache_values.proofs.Steps.{after_plain, corresponds-as}
 use Rattle.cache_values.specs.Held.{value_at, without, is_absent, are_apart, plain, Corresponds, cause_of_replaced}
@@ -28,7 +28,7 @@ use Rattle.cache_values.proofs.Keys.{same-refl, same_from_equal, equal_from_same
 use Rattle.cache_values.proofs.Held.{key_from_some, absent_from_none, without-absent, absent-without, apart-without, all-without_key}
 use Rattle.cache_values.proofs.Corresponding.{value_at-map, value_at-without, left}
 use Rattle.cache_values.proofs.Truth.{first_of-map, without-map, replaced_truly}
-use Rattle.engine_laws.specs.Just.{IsJust}
+use Rattle.engine_reference.specs.RunLaws.Just.{IsJust}
 use Rattle.cache_parts.specs.Parts.{Part, service_answers, cause_of, note_from, held_of, items_of, with_part, AreMarked, Stands, drained}
 use Rattle.cache_parts.proofs.Items.{value_at-part}
 use Rattle.cache_parts.proofs.Joining.{Knows, IsNewValue, just, PointIs, fills, was, point_is, fits_written, corresponds_written, over_written, parted_t, there_t, value_at-just, stands_for, dead_from, first_of-append}
@@ -36,7 +36,7 @@ use Rattle.cache_parts.proofs.Judging.{Judges, judged}
 use Rattle.cache_parts.proofs.Leaving.{AreOf, of-append, of-removals, left-elsewhere, find-candidates, in_part, owner_part, marks_elsewhere}
 use Rattle.cache_parts.proofs.Marking.{no_point}
 use Rattle.cache_parts.proofs.Running.{Maintained, Ran, ran_from}
-use Rattle.engine_laws.specs.Points.{HasPoint}
+use Rattle.engine_reference.specs.RunLaws.Points.{HasPoint}
 use Rattle.cache_parts.proofs.Swapping.{decides, with_part-there, with_part-other, parted-at, corresponds-run}
 use Rattle.cache_parts.proofs.Telling.{Kept, notes_of, told_truly, key_of}
 use Rattle.cache_parts.proofs.Writing.{Rec, Wrote, replaced_by}

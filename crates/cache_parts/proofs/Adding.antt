@@ -4,7 +4,7 @@ use Rattle.std.specs.Prelude.{if◌then◌else◌}
 use Rattle.std.proofs.lemmas.Bool.{false_from_ne_true, leb-true, le-leb}
 use Rattle.std.proofs.lemmas.Option.{none-some}
 use Rattle.audit_model.specs.Bytewise.{same}
-use Rattle.engine_rules.specs.declared.causes.RemovalCause.TheVariants as cause
+use Rattle.engine_reference.specs.declared.rules.causes.RemovalCause.TheVariants as cause
 use Rattle.engine_reference.specs.declared.data.Settings.{Settings}
 use Rattle.engine_reference.specs.Calls.{with_read, used_entry}
 use Rattle.engine_reference.specs.Records.{record_at, held_at, held_entries}
@@ -13,8 +13,8 @@ use Rattle.engine_reference.specs.Telling.{entry_of, AreApart}
 use Rattle.engine_reference.specs.Times.{has_come, later, end_of, earlier_of, is_reached}
 use Rattle.engine_reference.specs.Visible.{is_covered, is_visible, passing, visible_record, cause_of_write, notice_of}
 use Rattle.engine_reference.proofs.SoundCalls.{held_at-only, held_at-each}
-use Rattle.engine_laws.specs.Points.{IsInOrder}
-use Rattle.engine_laws.proofs.Shown.{held_at-match}
+use Rattle.engine_reference.specs.RunLaws.Points.{IsInOrder}
+use Rattle.engine_reference.proofs.run_laws.Shown.{held_at-match}
 use Rattle.cache_parts.specs.Parts.{Stored, Part, service_answers, put, put_entry}
 use Rattle.cache_parts.proofs.Looking.{sees, used_if, read-found, read-apart}
 use Rattle.cache_parts.proofs.Running.{Ran, ran_from, idle}

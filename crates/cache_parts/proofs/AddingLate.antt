@@ -15,20 +15,20 @@ use Rattle.audit_model.specs.declared.config.Config.{Config}
 use Rattle.audit_model.specs.declared.transcript.Note.{Note}
 use Rattle.audit_model.specs.declared.transcript.RemovalCause.{RemovalCause as Cause}
 use Rattle.audit_model.specs.declared.transcript.RemovalCause.TheVariants as says
-use Rattle.engine_rules.specs.declared.causes.RemovalCause.TheVariants as cause
+use Rattle.engine_reference.specs.declared.rules.causes.RemovalCause.TheVariants as cause
 use Rattle.engine_reference.specs.Records.{held_at, held_entries}
 use Rattle.engine_reference.specs.Telling.{Removal, TakesAway, removed_entries, entry_of, AreApart}
 use Rattle.engine_reference.specs.Visible.{is_covered, notice_of}
 use Rattle.engine_reference.proofs.StayingVisible.{AreApart-remove}
 use Rattle.engine_reference.specs.Times.{has_come}
-use Rattle.engine_laws.specs.Points.{HasPoint, IsInOrder}
+use Rattle.engine_reference.specs.RunLaws.Points.{HasPoint, IsInOrder}
 use Rattle.cache_store.specs.Promises.{Done, accepting}
 use Rattle.cache_values.proofs.Steps.{after_plain, corresponds-as}
 use Rattle.cache_values.specs.Held.{value_at, without, are_apart, Corresponds}
 use Rattle.cache_values.proofs.Keys.{equal_from_same}
 use Rattle.cache_values.proofs.Held.{apart-without}
 use Rattle.cache_values.proofs.Corresponding.{value_at-map, value_at-without, left, left-append}
-use Rattle.engine_laws.specs.Just.{IsJust}
+use Rattle.engine_reference.specs.RunLaws.Just.{IsJust}
 use Rattle.cache_parts.specs.Parts.{Stored, Part, service_answers, note_from, items_of, with_part, AreMarked, Stands, drained}
 use Rattle.cache_parts.proofs.Accepting as Plainly
 use Rattle.cache_parts.proofs.Accepting.{with_part-twice, without_key-append}

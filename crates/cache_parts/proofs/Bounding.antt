@@ -11,9 +11,9 @@ use Rattle.engine_reference.specs.declared.data.Write.TheVariants.{Put, Removed}
 use Rattle.engine_reference.specs.Admission.{is_above}
 use Rattle.engine_reference.specs.Records.{admitted_weight, held_weight, weight_at, changed_at, without_record}
 use Rattle.engine_reference.specs.State.{State}
-use Rattle.engine_laws.specs.Points.{IsInOrder, with_write, pending_of}
-use Rattle.engine_laws.proofs.Fewer.{weight-cons, fewer-refl, fewer-without, fewer-weight}
-use Rattle.engine_laws.proofs.Ordering.{with_writes, applied-weight}
+use Rattle.engine_reference.specs.RunLaws.Points.{IsInOrder, with_write, pending_of}
+use Rattle.engine_reference.proofs.run_laws.Fewer.{weight-cons, fewer-refl, fewer-without, fewer-weight}
+use Rattle.engine_reference.proofs.run_laws.Ordering.{with_writes, applied-weight}
 use Rattle.cache_store.specs.Running.{weight_in, is_bounded}
 use Rattle.cache_values.specs.Held.{value_at, Corresponds}
 use Rattle.cache_values.proofs.Weights.{same_weight}

@@ -13,7 +13,7 @@ use Rattle.engine_reference.specs.declared.data.Registered.{Registered}
 use Rattle.engine_reference.specs.Calls.{cleared_by, with_predicate}
 use Rattle.engine_reference.specs.Records.{record_at, held_entries}
 use Rattle.engine_reference.specs.Telling.{entry_of, AreApart}
-use Rattle.engine_laws.specs.Points.{HasPoint}
+use Rattle.engine_reference.specs.RunLaws.Points.{HasPoint}
 use Rattle.engine_reference.specs.Visible.{is_covered, is_covered_by}
 use Rattle.cache_store.specs.Promises.{Done, covering}
 use Rattle.cache_store.specs.Handing.{TellsNone}

@@ -17,7 +17,7 @@ use Rattle.engine_reference.specs.Records.{record_at, held_entries}
 use Rattle.engine_reference.specs.Telling.{entry_of}
 use Rattle.engine_reference.specs.Times.{has_come}
 use Rattle.engine_reference.specs.Visible.{is_covered}
-use Rattle.engine_laws.specs.Points.{HasPoint, IsPointed, IsInOrder}
+use Rattle.engine_reference.specs.RunLaws.Points.{HasPoint, IsPointed, IsInOrder}
 use Rattle.cache_store.specs.Promises.{accepting}
 use Rattle.cache_store.specs.Running.{weight_in}
 use Rattle.cache_values.specs.Held.{value_at, without, is_absent, plain, Corresponds, exceeds}

@@ -7,13 +7,13 @@ use Rattle.audit_model.specs.Situation.{is_dead_at}
 use Rattle.audit_model.specs.Values.{earlier_of, after_ms, deadline, has_come}
 use Rattle.audit_model.specs.View.{Candidate}
 use Rattle.audit_model.specs.declared.config.Config.{Config}
-use Rattle.engine_rules.specs.declared.causes.RemovalCause.{RemovalCause}
-use Rattle.engine_rules.specs.declared.causes.RemovalCause.TheVariants as cause
+use Rattle.engine_reference.specs.declared.rules.causes.RemovalCause.{RemovalCause}
+use Rattle.engine_reference.specs.declared.rules.causes.RemovalCause.TheVariants as cause
 use Rattle.engine_reference.specs.Times.{end_of, is_reached, has_come as is_past, earlier_of as earliest}
 use Rattle.engine_reference.specs.Visible.{is_covered}
-use Rattle.engine_laws.specs.Points.{IsPointed}
+use Rattle.engine_reference.specs.RunLaws.Points.{IsPointed}
 use Rattle.cache_values.proofs.Keys.{same_from_equal}
-use Rattle.engine_laws.specs.Just.{IsJust}
+use Rattle.engine_reference.specs.RunLaws.Just.{IsJust}
 use Rattle.cache_parts.specs.Parts.{Part, service_answers, settings_of, nanos, note_of, held_of, value_of, IsBrief}
 use Rattle.cache_parts.proofs.Telling.{Kept}
 

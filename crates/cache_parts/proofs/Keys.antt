@@ -15,8 +15,8 @@ use Rattle.engine_reference.specs.Soundness.{IsIn, Each, AreNumbered, AreOnce}
 use Rattle.engine_reference.proofs.Accounts.{each-map, each-both, each-without, none_there, numbered-without}
 use Rattle.engine_reference.proofs.HeldRecords.{held-without}
 use Rattle.engine_reference.proofs.Unapplied.{record_at-without}
-use Rattle.engine_laws.proofs.Fewer.{weight-cons}
-use Rattle.engine_laws.proofs.Fronting.{each-at}
+use Rattle.engine_reference.proofs.run_laws.Fewer.{weight-cons}
+use Rattle.engine_reference.proofs.run_laws.Fronting.{each-at}
 use Rattle.cache_values.proofs.Keys.{same-refl, same-flip_false}
 use Rattle.cache_parts.specs.Recent.{key_at, keys_in}
 use Rattle.cache_parts.proofs.Writing.{Rec, unlike_none}

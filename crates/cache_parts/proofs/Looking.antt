@@ -20,11 +20,11 @@ use Rattle.engine_reference.specs.Times.{has_come}
 use Rattle.engine_reference.specs.Visible.{is_covered, is_visible, passing, visible_record}
 use Rattle.engine_reference.proofs.Accounts.{each-map}
 use Rattle.engine_reference.proofs.SoundCalls.{held_at-only, held_at-each}
-use Rattle.engine_laws.specs.Points.{HasPoint, IsInOrder}
+use Rattle.engine_reference.specs.RunLaws.Points.{HasPoint, IsInOrder}
 use Rattle.engine_reference.proofs.HeldRecords.{record_at-number}
-use Rattle.engine_laws.proofs.Fronting.{each-at}
-use Rattle.engine_laws.specs.Just.{ComesFrom, IsJust}
-use Rattle.engine_laws.proofs.Shown.{entry-held, to-records, from-records, unmatched-changed, held_at-match, read-apart as kept_apart}
+use Rattle.engine_reference.proofs.run_laws.Fronting.{each-at}
+use Rattle.engine_reference.specs.RunLaws.Just.{ComesFrom, IsJust}
+use Rattle.engine_reference.proofs.run_laws.Shown.{entry-held, to-records, from-records, unmatched-changed, held_at-match, read-apart as kept_apart}
 use Rattle.cache_store.specs.Promises.{Done, using}
 use Rattle.cache_values.proofs.Steps.{none_succeeded, after_plain}
 use Rattle.cache_values.specs.Held.{value_at, plain, Corresponds}

@@ -9,7 +9,7 @@ use Rattle.audit_model.specs.Recency as recent
 use Rattle.audit_model.specs.declared.config.Weight.TheVariants.{One}
 use Rattle.audit_model.specs.History.{weight_of}
 use Rattle.cache_store.specs.Recency.{put_first, used_first}
-use Rattle.engine_rules.specs.declared.settings.EvictionPolicy.TheVariants.{Lru}
+use Rattle.engine_reference.specs.declared.rules.settings.EvictionPolicy.TheVariants.{Lru}
 use Rattle.engine_reference.specs.declared.data.Read.TheVariants.{Hit, Miss}
 use Rattle.engine_reference.specs.declared.data.Unsent.{Unsent}
 use Rattle.engine_reference.specs.declared.data.Upsert.{Upsert}
@@ -24,9 +24,9 @@ use Rattle.engine_reference.proofs.HeldRecords.{record_at-number}
 use Rattle.engine_reference.proofs.SoundCalls.{held_at-only}
 use Rattle.engine_reference.proofs.SoundSteps.{IsCounted}
 use Rattle.engine_reference.proofs.Unapplied.{record_at-without}
-use Rattle.engine_laws.proofs.Fronting.{each-at}
-use Rattle.engine_laws.proofs.Shown.{RecordsApart, held_at-match}
-use Rattle.engine_laws.proofs.Swept.{changed-other, push-other, sent-one}
+use Rattle.engine_reference.proofs.run_laws.Fronting.{each-at}
+use Rattle.engine_reference.proofs.run_laws.Shown.{RecordsApart, held_at-match}
+use Rattle.engine_reference.proofs.run_laws.Swept.{changed-other, push-other, sent-one}
 use Rattle.cache_values.proofs.Keys.{equal_from_same, same-flip_false}
 use Rattle.cache_parts.specs.Parts.{Part, Stored, service_answers, put, put_entry, taken_out}
 use Rattle.cache_parts.specs.Recent.{applied, key_at, keys_in, keys_used}

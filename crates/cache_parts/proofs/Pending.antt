@@ -6,8 +6,8 @@ use Rattle.std.proofs.lemmas.Bool.{ltb-true, eq-eqb}
 use Rattle.std.proofs.lemmas.List.{reverse-append, length-reverse, length-append, take-append-le, length-map}
 use Rattle.std.proofs.lemmas.List.Sorted.{length_permutation}
 use Rattle.policy_base.specs.Counts.{incremented}
-use Rattle.engine_rules.specs.declared.causes.RemovalCause.{RemovalCause}
-use Rattle.engine_rules.specs.declared.causes.RemovalCause.TheVariants as cause
+use Rattle.engine_reference.specs.declared.rules.causes.RemovalCause.{RemovalCause}
+use Rattle.engine_reference.specs.declared.rules.causes.RemovalCause.TheVariants as cause
 use Rattle.audit_model.specs.declared.config.Weight.{Weight}
 use Rattle.engine_reference.specs.declared.data.Entry.{Entry}
 use Rattle.engine_reference.specs.declared.data.Record.{Record}
@@ -25,8 +25,8 @@ use Rattle.engine_reference.proofs.Accounts.{each-map, each-both, each-without}
 use Rattle.engine_reference.proofs.Evicting.{settled_in-left, first-there}
 use Rattle.engine_reference.proofs.SoundSteps.{after_write-frame, step-sound, IsCounted, counted}
 use Rattle.engine_reference.proofs.TellingSteps.{steps_tell}
-use Rattle.engine_laws.proofs.Fronting.{each-at}
-use Rattle.engine_laws.proofs.Swept.{each-step}
+use Rattle.engine_reference.proofs.run_laws.Fronting.{each-at}
+use Rattle.engine_reference.proofs.run_laws.Swept.{each-step}
 use Rattle.cache_parts.specs.Parts.{Part, Stored, service_answers}
 use Rattle.cache_parts.specs.Recent.{IsLasting, IsUncovered, with_reads, with_writes, applied, keys_in, keys_used}
 use Rattle.cache_parts.proofs.Keys.{keys-held, weight-ones}

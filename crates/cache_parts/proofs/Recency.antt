@@ -24,11 +24,11 @@ use Rattle.engine_reference.specs.Times.{own_expiration}
 use Rattle.engine_reference.specs.Visible.{is_covered, is_visible, visible_record, passing}
 use Rattle.engine_reference.proofs.Accounts.{each-changed}
 use Rattle.engine_reference.proofs.SoundCalls.{held_at-only, held_at-each, each-push, used-sound}
-use Rattle.engine_laws.specs.Points.{IsInOrder}
-use Rattle.engine_laws.proofs.Fronting.{each-at}
-use Rattle.engine_laws.proofs.Ordering.{runs_stay_in_order, read-order}
-use Rattle.engine_laws.proofs.Shown.{RecordsApart, to-records, calls_keep_apart}
-use Rattle.engine_laws.proofs.Swept.{sent-one}
+use Rattle.engine_reference.specs.RunLaws.Points.{IsInOrder}
+use Rattle.engine_reference.proofs.run_laws.Fronting.{each-at}
+use Rattle.engine_reference.proofs.run_laws.Ordering.{runs_stay_in_order, read-order}
+use Rattle.engine_reference.proofs.run_laws.Shown.{RecordsApart, to-records, calls_keep_apart}
+use Rattle.engine_reference.proofs.run_laws.Swept.{sent-one}
 use Rattle.cache_values.proofs.Keys.{same-refl}
 use Rattle.cache_parts.specs.Parts.{Part, Stored, service_answers, put, put_entry, nanos}
 use Rattle.cache_parts.specs.Recent.{IsLasting, IsUncovered, applied, keys_in, keys_used, IsPlain, IsRecent, IsFresh, RunKeepsRecent, CutRunKeepsRecent, LookUpMovesRecent, PutMovesRecent, AddMovesRecent, RemovalMovesRecent, TakingKeepsRecent, NewIsRecent, RecentAreHeld, RecencyIsKept}

@@ -14,7 +14,7 @@ use Rattle.audit_model.specs.View.{Candidate}
 use Rattle.audit_model.specs.declared.config.Config.{Config}
 use Rattle.audit_model.specs.declared.config.Weight.{Weight}
 use Rattle.audit_model.specs.declared.transcript.Note.{Note}
-use Rattle.engine_rules.specs.declared.causes.RemovalCause.TheVariants as cause
+use Rattle.engine_reference.specs.declared.rules.causes.RemovalCause.TheVariants as cause
 use Rattle.engine_reference.specs.declared.data.Unsent.{Unsent}
 use Rattle.engine_reference.specs.declared.data.Write.TheVariants.{Removed}
 use Rattle.engine_reference.specs.Calls.{sent, with_removed, removal_told}
@@ -25,10 +25,10 @@ use Rattle.engine_reference.specs.Times.{has_come}
 use Rattle.engine_reference.specs.Visible.{is_covered, cause_of_removal, notice_of, told as tell}
 use Rattle.engine_reference.proofs.Accounts.{each-map, only_one}
 use Rattle.engine_reference.proofs.SoundCalls.{held_at-only}
-use Rattle.engine_laws.specs.Points.{HasPoint, IsInOrder, CallsStayInOrder}
-use Rattle.engine_laws.proofs.Ordering.{calls_stay_in_order}
-use Rattle.engine_laws.proofs.Shown.{RecordsApart, entry-held, to-records, from-records, unmatched-changed, held_at-match, removed-apart}
-use Rattle.engine_laws.proofs.Swept.{sent-one}
+use Rattle.engine_reference.specs.RunLaws.Points.{HasPoint, IsInOrder, CallsStayInOrder}
+use Rattle.engine_reference.proofs.run_laws.Ordering.{calls_stay_in_order}
+use Rattle.engine_reference.proofs.run_laws.Shown.{RecordsApart, entry-held, to-records, from-records, unmatched-changed, held_at-match, removed-apart}
+use Rattle.engine_reference.proofs.run_laws.Swept.{sent-one}
 use Rattle.cache_store.specs.Promises.{Done, deleting}
 use Rattle.cache_values.proofs.Steps.{after_plain, corresponds-as}
 use Rattle.cache_values.specs.Held.{value_at, without, is_absent, plain, Corresponds, cause_of_deleted}
@@ -36,7 +36,7 @@ use Rattle.cache_values.proofs.Keys.{equal_from_same, same_from_equal, same-flip
 use Rattle.cache_values.proofs.Held.{key_from_some, absent-without, apart-without}
 use Rattle.cache_values.proofs.Corresponding.{value_at-map, value_at-without, left}
 use Rattle.cache_values.proofs.Truth.{first_of-map, without-map, deleted_truly}
-use Rattle.engine_laws.specs.Just.{IsJust}
+use Rattle.engine_reference.specs.RunLaws.Just.{IsJust}
 use Rattle.cache_parts.specs.Parts.{Stored, Part, service_answers, cause_of, note_from, held_of, items_of, with_part, AreMarked, Stands, drained}
 use Rattle.cache_parts.proofs.Accepting.{with_part-twice, all-untold}
 use Rattle.cache_parts.proofs.Items.{ArePlaced, AreParted, value_at-part, apart-of, corresponds_from}

@@ -17,8 +17,8 @@ use Rattle.engine_reference.specs.Times.{is_reached, end_of, tick_of as ticks}
 use Rattle.engine_reference.specs.Visible.{is_covered, is_covered_by}
 use Rattle.engine_reference.specs.Soundness.{AreNumbered}
 use Rattle.engine_reference.proofs.SoundCalls.{held_at-only}
-use Rattle.engine_laws.specs.Sweeping.{LeavesNoneDue, InOrderBy, IsUsedBefore}
-use Rattle.engine_laws.proofs.Shown.{entry-held}
+use Rattle.engine_reference.specs.RunLaws.Sweeping.{LeavesNoneDue, InOrderBy, IsUsedBefore}
+use Rattle.engine_reference.proofs.run_laws.Shown.{entry-held}
 use Rattle.cache_store.specs.Running.{weight_in, is_timely, is_of_earlier_tick, tick_of}
 use Rattle.cache_values.specs.Held.{value_at, is_absent, are_apart, plain, Corresponds, exceeds}
 use Rattle.cache_values.proofs.Keys.{same-refl, equal_from_same}

@@ -8,14 +8,14 @@ use Rattle.engine_reference.specs.Telling.{Removal, TakesAway, removed_entries, 
 use Rattle.engine_reference.specs.Visible.{is_covered}
 use Rattle.engine_reference.proofs.StayingVisible.{entry_of-there, StaysOrGoes, taken_looks}
 use Rattle.engine_reference.proofs.TellingSteps.{runs_tell}
-use Rattle.engine_laws.specs.Points.{IsInOrder}
-use Rattle.engine_laws.specs.Just.{ComesFrom, EachRemoval, IsJust}
-use Rattle.engine_laws.proofs.Rising.{each-own}
+use Rattle.engine_reference.specs.RunLaws.Points.{IsInOrder}
+use Rattle.engine_reference.specs.RunLaws.Just.{ComesFrom, EachRemoval, IsJust}
+use Rattle.engine_reference.proofs.run_laws.Rising.{each-own}
 use Rattle.engine_reference.proofs.Accounts.{each-map}
 use Rattle.engine_reference.specs.Soundness.{Each}
 use Rattle.cache_parts.proofs.Writing.{Rec, same_laws}
 use Rattle.cache_parts.specs.Parts.{Stored, Part, service_answers, note_from}
-use Rattle.engine_laws.proofs.Justly.{run_tells_justly}
+use Rattle.engine_reference.proofs.run_laws.Justly.{run_tells_justly}
 use Rattle.cache_parts.proofs.Telling.{Kept, notes_of}
 
 pub map_append : {A B : Type 0} (f : A → B) (xs ys : List A) → map f (xs ++ ys) ≡ map f xs ++ map f ys

@@ -14,14 +14,14 @@ use Rattle.audit_model.specs.declared.transcript.Note.{Note}
 use Rattle.engine_reference.specs.Records.{held_entries}
 use Rattle.engine_reference.specs.Runs.{RunsToEnd}
 use Rattle.engine_reference.specs.Telling.{entry_of, AreApart}
-use Rattle.engine_laws.specs.Points.{HasPoint, IsInOrder}
+use Rattle.engine_reference.specs.RunLaws.Points.{HasPoint, IsInOrder}
 use Rattle.cache_store.specs.Promises.{Done, syncing}
 use Rattle.cache_values.proofs.Steps.{after_plain, corresponds-as, none_succeeded}
 use Rattle.cache_values.specs.Held.{value_at, without, are_apart, Corresponds}
 use Rattle.cache_values.proofs.Keys.{equal_from_same}
 use Rattle.cache_values.proofs.Held.{apart-without}
 use Rattle.cache_values.proofs.Corresponding.{corresponds-left, apart-left, value_at-without, left, left-append}
-use Rattle.engine_laws.specs.Just.{IsJust}
+use Rattle.engine_reference.specs.RunLaws.Just.{IsJust}
 use Rattle.cache_parts.specs.Parts.{Part, service_answers, note_from, held_of, items_in, items_of, Stands, drained}
 use Rattle.cache_parts.proofs.Accepting.{all-untold}
 use Rattle.cache_parts.proofs.Items.{ArePlaced, AreParted, value_at-part, value_at-both, not_here, apart-of, corresponds_from}

@@ -9,12 +9,12 @@ use Rattle.audit_model.specs.Values.{without_key, untold}
 use Rattle.audit_model.specs.View.{Candidate}
 use Rattle.audit_model.specs.declared.config.Config.{Config}
 use Rattle.audit_model.specs.declared.transcript.Note.{Note}
-use Rattle.engine_rules.specs.declared.causes.RemovalCause.{RemovalCause}
+use Rattle.engine_reference.specs.declared.rules.causes.RemovalCause.{RemovalCause}
 use Rattle.engine_reference.specs.declared.data.Entry.{Entry}
 use Rattle.engine_reference.specs.Telling.{Removal, TakesAway, removed_entries, entry_of, AreApart}
 use Rattle.engine_reference.proofs.StayingVisible.{AreApart-remove}
 use Rattle.cache_values.proofs.Keys.{same-refl, equal_from_same, same_along}
-use Rattle.engine_laws.specs.Just.{EachRemoval}
+use Rattle.engine_reference.specs.RunLaws.Just.{EachRemoval}
 use Rattle.cache_parts.specs.Parts.{Stored, note_of}
 
 -- ---- entries by their keys

@@ -18,11 +18,11 @@ use Rattle.engine_reference.specs.Telling.{entry_of, AreApart}
 use Rattle.engine_reference.specs.Visible.{told, notice_of, cause_of_write, is_covered}
 use Rattle.engine_reference.proofs.Accounts.{each-map, only_one}
 use Rattle.engine_reference.proofs.SoundCalls.{held_at-only, held_at-each}
-use Rattle.engine_laws.specs.Points.{IsInOrder}
-use Rattle.engine_laws.proofs.Fronting.{each-at}
-use Rattle.engine_laws.proofs.Ordering.{calls_stay_in_order}
-use Rattle.engine_laws.proofs.Shown.{RecordsApart, entry-held, to-records, from-records, unmatched-changed, held-push, held_at-match, written-apart}
-use Rattle.engine_laws.proofs.Swept.{sent-one}
+use Rattle.engine_reference.specs.RunLaws.Points.{IsInOrder}
+use Rattle.engine_reference.proofs.run_laws.Fronting.{each-at}
+use Rattle.engine_reference.proofs.run_laws.Ordering.{calls_stay_in_order}
+use Rattle.engine_reference.proofs.run_laws.Shown.{RecordsApart, entry-held, to-records, from-records, unmatched-changed, held-push, held_at-match, written-apart}
+use Rattle.engine_reference.proofs.run_laws.Swept.{sent-one}
 use Rattle.audit_model.specs.declared.config.Weight.{Weight}
 use Rattle.cache_values.proofs.Keys.{same-refl, equal_from_same, same_from_equal, same-flip_false}
 use Rattle.cache_parts.specs.Parts.{Stored, Part, service_answers, put, put_entry}

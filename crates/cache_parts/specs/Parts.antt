@@ -11,10 +11,10 @@ use Rattle.audit_model.specs.declared.config.EvictionPolicy.TheVariants as polic
 use Rattle.audit_model.specs.declared.transcript.Note.{Note}
 use Rattle.audit_model.specs.declared.transcript.RemovalCause.{RemovalCause as Cause}
 use Rattle.audit_model.specs.declared.transcript.RemovalCause.TheVariants as says
-use Rattle.engine_rules.specs.declared.causes.RemovalCause.{RemovalCause}
-use Rattle.engine_rules.specs.declared.causes.RemovalCause.TheVariants as cause
-use Rattle.engine_rules.specs.declared.settings.EvictionPolicy.{EvictionPolicy}
-use Rattle.engine_rules.specs.declared.settings.EvictionPolicy.TheVariants.{TinyLfu, Lru}
+use Rattle.engine_reference.specs.declared.rules.causes.RemovalCause.{RemovalCause}
+use Rattle.engine_reference.specs.declared.rules.causes.RemovalCause.TheVariants as cause
+use Rattle.engine_reference.specs.declared.rules.settings.EvictionPolicy.{EvictionPolicy}
+use Rattle.engine_reference.specs.declared.rules.settings.EvictionPolicy.TheVariants.{TinyLfu, Lru}
 use Rattle.engine_reference.specs.declared.data.Entry.{Entry}
 use Rattle.engine_reference.specs.declared.data.Record.{Record}
 use Rattle.engine_reference.specs.declared.data.Write.{Write}
@@ -25,7 +25,7 @@ use Rattle.engine_reference.specs.Calls.{first_entry, written, sent, removed_by,
 use Rattle.engine_reference.specs.Records.{record_at, held_at, held_entries}
 use Rattle.engine_reference.specs.State.{State, Answers}
 use Rattle.engine_reference.specs.Visible.{is_covered}
-use Rattle.engine_laws.specs.Points.{HasPoint}
+use Rattle.engine_reference.specs.RunLaws.Points.{HasPoint}
 use Rattle.cache_values.specs.Held.{value_at, Corresponds}
 use Rattle.cache_store.specs.Promises.{Frame}
 

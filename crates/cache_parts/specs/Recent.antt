@@ -9,7 +9,7 @@ use Rattle.audit_model.specs.History.{part_count}
 use Rattle.audit_model.specs.declared.config.Config.{Config}
 use Rattle.cache_store.specs.Promises.{Frame}
 use Rattle.cache_store.specs.Recency.{IsPlainLru, AreKeysOf, put_first, used_first}
-use Rattle.engine_rules.specs.declared.settings.EvictionPolicy.TheVariants.{Lru}
+use Rattle.engine_reference.specs.declared.rules.settings.EvictionPolicy.TheVariants.{Lru}
 use Rattle.engine_reference.specs.declared.data.Record.{Record}
 use Rattle.engine_reference.specs.declared.data.Registered.{Registered}
 use Rattle.engine_reference.specs.declared.data.Read.{Read}
@@ -22,7 +22,7 @@ use Rattle.engine_reference.specs.Soundness.{Each}
 use Rattle.engine_reference.specs.State.{State}
 use Rattle.engine_reference.specs.Telling.{AreApart}
 use Rattle.engine_reference.specs.Visible.{is_covered, visible_record}
-use Rattle.engine_laws.specs.Points.{IsInOrder}
+use Rattle.engine_reference.specs.RunLaws.Points.{IsInOrder}
 use Rattle.cache_parts.specs.Parts.{Part, Stored, IsProper, service_answers, settings_of, items_of, put, taken_out}
 
 module _ {K V P S R : Type 0} where

@@ -11,8 +11,8 @@ use Rattle.rand_core.specs.Stream.{Stream, fill_bytes}
 use Rattle.uuid.specs.Parts.{v4_of_fill}
 use Rattle.audit_model.specs.Bytewise.{same}
 use Rattle.cache_store.specs.Identifiers.{stream_after, identifier_at, drawn, KeepsIdentifiers, Registers, DrawsAlone, AreUsedUp}
-use Rattle.engine_identifiers.specs.Drawing as engine
-use Rattle.engine_identifiers.specs.Drawing.{is_registered}
+use Rattle.engine_reference.specs.Identifiers.Drawing as engine
+use Rattle.engine_reference.specs.Identifiers.Drawing.{is_registered}
 use Rattle.engine_reference.specs.declared.data.Registered.{Registered}
 use Rattle.engine_reference.specs.declared.data.Record.{Record}
 use Rattle.engine_reference.specs.declared.data.Write.{Write}

@@ -20,7 +20,7 @@ use Rattle.engine_reference.specs.Visible.{visible_record}
 use Rattle.engine_reference.proofs.Accounts.{each-map}
 use Rattle.engine_reference.proofs.SoundCalls.{calls_stay_sound}
 use Rattle.engine_reference.proofs.SoundSteps.{runs_stay_sound}
-use Rattle.engine_laws.proofs.Fronting.{or_right}
+use Rattle.engine_reference.proofs.run_laws.Fronting.{or_right}
 use Rattle.front_reference.specs.Keeping.{Common, IsKept}
 use Rattle.front_reference.specs.Parts.{Inserts, TakesOut, inserted, taken_out, takes_nothing}
 use Rattle.front_laws.specs.Laws.{CallsKeep}

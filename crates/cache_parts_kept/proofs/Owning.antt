@@ -19,7 +19,7 @@ use Rattle.engine_reference.specs.Times.{own_expiration}
 use Rattle.engine_reference.proofs.Accounts.{each-map, each-changed}
 use Rattle.engine_reference.proofs.SoundCalls.{each-push}
 use Rattle.engine_reference.proofs.TellingSteps.{run_tells}
-use Rattle.engine_laws.proofs.Swept.{sent-one, each-run}
+use Rattle.engine_reference.proofs.run_laws.Swept.{sent-one, each-run}
 use Rattle.front_reference.specs.Parts.{taken_out}
 use Rattle.cache_parts.specs.Parts.{Part, Stored, IsProper, service_answers, nanos, drained, AreLight}
 use Rattle.cache_parts_kept.specs.Keeping.{at_moment, IsProperRecord, IsOwn, IsStorable}

@@ -3,8 +3,8 @@ use Rattle.std.proofs.Common.{◌≡◌, refl, ap, sym, ◌∙◌, subst, ℕ, z
 use Rattle.std.specs.Prelude.{nat_lt}
 use Rattle.std.proofs.lemmas.Option.{none-some}
 use Rattle.policy_base.specs.Counts.{incremented}
-use Rattle.engine_rules.specs.declared.causes.RemovalCause.{RemovalCause}
-use Rattle.engine_rules.specs.declared.causes.RemovalCause.TheVariants as cause
+use Rattle.engine_reference.specs.declared.rules.causes.RemovalCause.{RemovalCause}
+use Rattle.engine_reference.specs.declared.rules.causes.RemovalCause.TheVariants as cause
 use Rattle.engine_reference.specs.declared.data.Record.{Record}
 use Rattle.engine_reference.specs.declared.data.Registered.{Registered}
 use Rattle.engine_reference.specs.declared.data.Upsert.{Upsert}

@@ -18,9 +18,9 @@ use Rattle.audit_model.specs.declared.config.Weight.{Weight}
 use Rattle.engine_reference.specs.Admission.{is_above}
 use Rattle.engine_reference.specs.Records.{held_entries, held_weight, admitted_weight}
 use Rattle.engine_reference.specs.Runs.{RunsToEnd, is_due}
-use Rattle.engine_laws.specs.Points.{pending_of}
-use Rattle.engine_laws.specs.Sweeping.{LeavesNoneDue, InOrderBy, IsUsedBefore}
-use Rattle.engine_laws.proofs.Rises.{uncut_runs_leave_none_due}
+use Rattle.engine_reference.specs.RunLaws.Points.{pending_of}
+use Rattle.engine_reference.specs.RunLaws.Sweeping.{LeavesNoneDue, InOrderBy, IsUsedBefore}
+use Rattle.engine_reference.proofs.run_laws.Rises.{uncut_runs_leave_none_due}
 use Rattle.front_laws.proofs.Kept.{runs_leave_none_idle}
 use Rattle.cache_values.specs.Held.{Corresponds}
 use Rattle.engine_reference.specs.Soundness.{Each}

@@ -6,7 +6,7 @@ use Rattle.std.specs.Option.{option_map_or}
 use Rattle.rand_core.specs.Stream.{Stream}
 use Rattle.cache_store.specs.Identifiers.{Register, KeepsIdentifiers, Registers, DrawsAlone, AreUsedUp}
 use Rattle.engine_reference.specs.declared.data.Registered.{Registered}
-use Rattle.engine_identifiers.specs.Drawing.{is_registered}
+use Rattle.engine_reference.specs.Identifiers.Drawing.{is_registered}
 use Rattle.front_reference.specs.Wholes.{DrawAll, DrawsInVain, registered_in}
 use Rattle.engine_reference.specs.Runs.{Runs}
 use Rattle.audit_model.specs.Bytewise.{same}

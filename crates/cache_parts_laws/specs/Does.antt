@@ -12,7 +12,7 @@ use Rattle.engine_reference.specs.Records.{held_at, held_entries, held_weight}
 use Rattle.engine_reference.specs.Admission.{is_above}
 use Rattle.engine_reference.specs.Soundness.{IsSound}
 use Rattle.engine_reference.specs.Telling.{AreApart}
-use Rattle.engine_laws.specs.Points.{IsInOrder}
+use Rattle.engine_reference.specs.RunLaws.Points.{IsInOrder}
 use Rattle.cache_store.specs.Promises.{Done, using, accepting, deleting, covering, syncing}
 use Rattle.cache_store.specs.Handing.{TellsNone}
 use Rattle.cache_store.specs.Running.{is_timely, is_bounded}

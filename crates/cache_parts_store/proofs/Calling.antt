@@ -19,7 +19,7 @@ use Rattle.engine_reference.specs.Scanning.{NotesLookUp}
 use Rattle.engine_reference.specs.Soundness.{IsSound}
 use Rattle.engine_reference.specs.Visible.{visible, visible_record}
 use Rattle.engine_reference.proofs.SoundSteps.{runs_stay_sound}
-use Rattle.engine_identifiers.specs.Drawing.{is_registered}
+use Rattle.engine_reference.specs.Identifiers.Drawing.{is_registered}
 use Rattle.front_reference.specs.Parts.{Inserts, TakesOut, taken_out as taken_out_whole, takes_nothing}
 use Rattle.cache_parts.specs.Parts.{drained, Part, Stands, Stored, items_of, note_from, put, service_answers, with_part}
 use Rattle.cache_parts.proofs.Facts.{live_value_is}

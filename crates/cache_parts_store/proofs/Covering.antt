@@ -16,7 +16,7 @@ use Rattle.engine_reference.specs.Calls.{cleared_by, with_predicate}
 use Rattle.engine_reference.specs.Records.{held_entries}
 use Rattle.engine_reference.specs.Telling.{entry_of}
 use Rattle.engine_reference.specs.Visible.{is_covered, is_covered_by}
-use Rattle.engine_identifiers.specs.Drawing.{is_registered}
+use Rattle.engine_reference.specs.Identifiers.Drawing.{is_registered}
 use Rattle.front_reference.specs.Fronts.{CallsEach}
 use Rattle.front_reference.specs.Wholes.{DrawAll, registered_in}
 use Rattle.cache_parts.proofs.Covering.{AllCover, CoversToo, none, next}

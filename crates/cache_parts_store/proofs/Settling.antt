@@ -5,7 +5,7 @@ use Rattle.audit_model.specs.Situation.{HeldValue}
 use Rattle.cache_store.specs.Handing.{AppendsNotes}
 use Rattle.cache_store.specs.Promises.{Done, syncing}
 use Rattle.cache_store.specs.Values.{Does, IsSettled}
-use Rattle.engine_identifiers.specs.Drawing.{is_registered}
+use Rattle.engine_reference.specs.Identifiers.Drawing.{is_registered}
 use Rattle.front_reference.specs.Fronts.{CallsEach}
 use Rattle.front_reference.specs.Wholes.{RunsPart}
 use Rattle.cache_parts.specs.Parts.{drained, Part, Stands, service_answers, settings_of}

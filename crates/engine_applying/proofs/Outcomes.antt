@@ -2,9 +2,9 @@
 use Rattle.std.proofs.Common.{◌≡◌, refl, ap, sym, ◌∙◌, ◌+◌, Bool, true, false, cond, List, Option, Some, None}
 use Rattle.std.specs.Prelude.{nat_lt, is_some}
 use Rattle.policy_base.specs.Counts.{frequency_of}
-use Rattle.engine_rules.specs.declared.causes.RemovalCause.TheVariants as cause
-use Rattle.engine_rules.specs.declared.settings.EvictionPolicy.{EvictionPolicy}
-use Rattle.engine_rules.specs.declared.settings.EvictionPolicy.TheVariants.{TinyLfu, Lru}
+use Rattle.engine_reference.specs.declared.rules.causes.RemovalCause.TheVariants as cause
+use Rattle.engine_reference.specs.declared.rules.settings.EvictionPolicy.{EvictionPolicy}
+use Rattle.engine_reference.specs.declared.rules.settings.EvictionPolicy.TheVariants.{TinyLfu, Lru}
 use Rattle.engine_reference.specs.declared.data.Record.{Record}
 use Rattle.engine_reference.specs.declared.data.Upsert.{Upsert}
 use Rattle.engine_reference.specs.Admission.{Verdict, admit, displace, refuse, verdict, verdict_of_full, is_above, contest, frequencies}

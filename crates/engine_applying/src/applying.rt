@@ -11,8 +11,7 @@ ghost use Rattle.engine_cells.specs.Stretches.{Stretch, StepsFor};
 
 use crate::deciding::{Decision, decide};
 use crate::displacing::displace_for;
-use engine_reference::{Upsert, Write};
-use engine_rules::{RemovalCause, Rules};
+use engine_reference::{RemovalCause, Rules, Upsert, Write};
 use engine_tables::Tables;
 use std::hash::{BuildHasher, Hash};
 

@@ -8,7 +8,7 @@ ghost use Rattle.engine_reference.specs.declared.data.Record.{Record};
 ghost use Rattle.engine_applying.specs.Contesting.{is_won, GoesPast, from_place, IsOnList, outcome, IsDecided};
 
 use crate::deciding::record_in;
-use engine_rules::Rules;
+use engine_reference::Rules;
 use engine_tables::Tables;
 use std::hash::{BuildHasher, Hash};
 

@@ -7,8 +7,7 @@ ghost use Rattle.engine_reference.specs.declared.data.Record.{Record};
 ghost use Rattle.engine_applying.specs.Deciding.{decided, decision, refused_as};
 
 use crate::contesting::is_won;
-use engine_reference::{Record, Upsert};
-use engine_rules::{EvictionPolicy, Rules};
+use engine_reference::{EvictionPolicy, Record, Rules, Upsert};
 use engine_tables::Tables;
 use std::hash::{BuildHasher, Hash};
 

@@ -6,8 +6,7 @@ ghost use Rattle.engine_reference.specs.declared.data.Record.{Record};
 ghost use Rattle.engine_applying.specs.Displacing.{front_of, displaced, GivesWay, KeepsUncounted};
 
 use crate::deciding::record_in;
-use engine_reference::Upsert;
-use engine_rules::{RemovalCause, Rules};
+use engine_reference::{RemovalCause, Rules, Upsert};
 use engine_tables::Tables;
 use std::hash::{BuildHasher, Hash};
 

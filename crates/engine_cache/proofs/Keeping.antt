@@ -17,8 +17,8 @@ use Rattle.engine_reference.proofs.HeldRecords.{record_at-number}
 use Rattle.engine_reference.proofs.RestKept.{run-rest}
 use Rattle.engine_reference.proofs.SoundCalls.{calls_stay_sound, used-sound}
 use Rattle.engine_reference.proofs.SoundSteps.{runs_stay_sound}
-use Rattle.engine_laws.proofs.Fronting.{each-at}
-use Rattle.engine_laws.proofs.Swept.{changed-from}
+use Rattle.engine_reference.proofs.run_laws.Fronting.{each-at}
+use Rattle.engine_reference.proofs.run_laws.Swept.{changed-from}
 use Rattle.engine_cells.specs.Kept.{Kept}
 use Rattle.engine_calls.specs.Bounds.{IsBounded, AreBounded}
 use Rattle.engine_cache.specs.Keeping.{IsWellKept, NotesRead}

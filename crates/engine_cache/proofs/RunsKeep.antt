@@ -2,8 +2,8 @@
 use Rattle.std.proofs.Common.{◌≡◌, refl, ap, sym, ◌∙◌, subst, ℕ, Bool, true, false, cond, List, [], ◌∷◌, Option, Some, None, is_some, ◌⊎◌, inl, inr}
 use Rattle.std.specs.Prelude.{nat_lt}
 use Rattle.policy_base.specs.Counts.{incremented}
-use Rattle.engine_rules.specs.declared.causes.RemovalCause.{RemovalCause}
-use Rattle.engine_rules.specs.declared.causes.RemovalCause.TheVariants as cause
+use Rattle.engine_reference.specs.declared.rules.causes.RemovalCause.{RemovalCause}
+use Rattle.engine_reference.specs.declared.rules.causes.RemovalCause.TheVariants as cause
 use Rattle.engine_reference.specs.declared.data.Record.{Record}
 use Rattle.engine_reference.specs.declared.data.Upsert.{Upsert}
 use Rattle.engine_reference.specs.declared.data.Read.{Read}
@@ -16,8 +16,8 @@ use Rattle.engine_reference.specs.Runs.{Step, Steps, Runs, reads, writes, grows,
 use Rattle.engine_reference.specs.Soundness.{AreNumbered}
 use Rattle.engine_reference.specs.State.{State, Answers}
 use Rattle.engine_reference.proofs.Accounts.{numbered-changed, numbered-without}
-use Rattle.engine_laws.proofs.Fronting.{there-before}
-use Rattle.engine_laws.proofs.Swept.{changed-from}
+use Rattle.engine_reference.proofs.run_laws.Fronting.{there-before}
+use Rattle.engine_reference.proofs.run_laws.Swept.{changed-from}
 
 module _ {K V : Type 0} where
   -- a record as it was, but for what maintenance notes of it

@@ -3,17 +3,16 @@ ghost use Rattle.std.specs.Prelude.{◌≡◌, ℕ, ◌+◌, ◌<◌, ◌≤◌,
 ghost use Rattle.std.specs.Duration.{as_nanos};
 ghost use Rattle.std.specs.Result.{IsErrOf};
 ghost use Rattle.std.specs.String.{string_bytes};
-ghost use Rattle.engine_laws.specs.Sweeping.{IsTimely, LeavesNoneDue};
+ghost use Rattle.engine_reference.specs.RunLaws.Sweeping.{IsTimely, LeavesNoneDue};
 ghost use Rattle.engine_reference.specs.Asking.{answers_of};
 ghost use Rattle.engine_reference.specs.Calls.{IsNew, written, sent, unsent_at, is_full, removal_told, MaintainsIfDue, cleared_by, without_notice, with_room};
 ghost use Rattle.engine_reference.specs.Laws.{CountsExactly};
 ghost use Rattle.engine_reference.specs.Runs.{RunsToEnd};
 ghost use Rattle.engine_reference.specs.Visible.{visible_record, visible_value};
-ghost use Rattle.engine_rules.specs.Hashing.{hash_of_key};
+ghost use Rattle.engine_reference.specs.Rules.Hashing.{hash_of_key};
 
 use engine_calls::{clone_value, look_up, policy_of, tell_removed, write};
-use engine_reference::{Entry, Notice, Settings};
-use engine_rules::{Names, Policy, Refusal, Rules};
+use engine_reference::{Entry, Names, Notice, Policy, Refusal, Rules, Settings};
 use engine_running::{run, run_if_due, try_run};
 use engine_tables::Tables;
 use policy_base::{HousekeeperConfig, Instant};

@@ -5,4 +5,4 @@ mod cache;
 mod noting;
 
 pub use cache::BaseCache;
-pub use engine_rules::Refusal;
+pub use engine_reference::Refusal;

@@ -1,6 +1,6 @@
 -- What a write makes of the tables is what the reference cache says.
 use Rattle.std.proofs.Common.{◌≡◌, refl, ap, sym, ◌∙◌, ℕ, ◌+◌, ◌-◌, ◌≤◌, Bool, true, false, cond, arith, List, [], ◌∷◌, ◌++◌, Option, Some, None}
-use Rattle.engine_rules.specs.declared.causes.RemovalCause.{RemovalCause}
+use Rattle.engine_reference.specs.declared.rules.causes.RemovalCause.{RemovalCause}
 use Rattle.engine_reference.specs.declared.data.Entry.{Entry}
 use Rattle.engine_reference.specs.declared.data.Record.{Record}
 use Rattle.engine_reference.specs.declared.data.Write.TheVariants.{Removed}

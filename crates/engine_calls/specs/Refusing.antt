@@ -1,9 +1,9 @@
 -- Why a predicate is refused.
 use Rattle.std.specs.Prelude.{◌≡◌, ℕ, ◌+◌, ◌≤◌, ◌^◌, false}
 use Rattle.rand_core.specs.Stream.{Stream}
-use Rattle.engine_rules.specs.declared.refusal.Refusal.{Refusal}
-use Rattle.engine_rules.specs.declared.refusal.Refusal.TheVariants as refusal
-use Rattle.engine_identifiers.specs.Drawing.{AreInUse, is_registered}
+use Rattle.engine_reference.specs.declared.rules.refusal.Refusal.{Refusal}
+use Rattle.engine_reference.specs.declared.rules.refusal.Refusal.TheVariants as refusal
+use Rattle.engine_reference.specs.Identifiers.Drawing.{AreInUse, is_registered}
 use Rattle.engine_reference.specs.State.{State}
 
 -- the cause of a refusal, where the generator had one stream and another is left: an identifier was drawn only where all that were are in use

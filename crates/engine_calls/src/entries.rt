@@ -1,7 +1,7 @@
 //! Entries as a write or a look-up leaves them, and what is told of them.
 ghost use Rattle.std.specs.Prelude.{◌≡◌, ℕ, ◌-◌, ◌<◌, ◌^◌, true, is_some, Some, if◌then◌else◌};
-ghost use Rattle.engine_rules.specs.Changes.{change_of};
-ghost use Rattle.engine_rules.specs.declared.causes.RemovalCause.TheVariants as cause;
+ghost use Rattle.engine_reference.specs.Rules.Changes.{change_of};
+ghost use Rattle.engine_reference.specs.declared.rules.causes.RemovalCause.TheVariants as cause;
 ghost use Rattle.engine_cells.specs.Kept.{kept_at};
 ghost use Rattle.engine_reference.specs.Asking.{answers_of};
 ghost use Rattle.engine_reference.specs.Calls.{first_entry, next_entry, used_entry};
@@ -12,8 +12,7 @@ ghost use Rattle.engine_reference.specs.declared.data.Record.{Record};
 use crate::looks::record_in;
 use crate::times::{own_expiration, time_left};
 use engine_pending::is_dead;
-use engine_reference::{Entry, Settings};
-use engine_rules::{Expiration, RemovalCause, Rules};
+use engine_reference::{Entry, Expiration, RemovalCause, Rules, Settings};
 use engine_tables::Tables;
 use policy_base::Instant;
 use std::hash::{BuildHasher, Hash};

@@ -8,11 +8,10 @@ ghost use Rattle.engine_reference.specs.Records.{held_at};
 ghost use Rattle.engine_reference.specs.Scanning.{past};
 ghost use Rattle.engine_reference.specs.Visible.{is_visible, visible_record};
 ghost use Rattle.engine_reference.specs.declared.data.Record.{Record};
-ghost use Rattle.engine_rules.specs.Hashing.{hash_of_key};
+ghost use Rattle.engine_reference.specs.Rules.Hashing.{hash_of_key};
 
 use engine_pending::is_dead;
-use engine_reference::Record;
-use engine_rules::{Names, Rules};
+use engine_reference::{Names, Record, Rules};
 use engine_tables::Tables;
 use std::alloc::AllocError;
 use std::hash::{BuildHasher, Hash, Hasher};

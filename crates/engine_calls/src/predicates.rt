@@ -2,12 +2,10 @@
 ghost use Rattle.std.specs.Prelude.{◌≡◌, ◌+◌, ◌<◌, ◌≤◌, ◌^◌, ◌⊎◌, true, false, IfOk, IfErr, OnOk, OnErr};
 ghost use Rattle.std.specs.Result.{IsErrOf};
 ghost use Rattle.engine_calls.specs.Refusing.{IsCauseToRegister};
-ghost use Rattle.engine_identifiers.specs.Drawing.{Draws, AreInUse, is_registered};
+ghost use Rattle.engine_reference.specs.Identifiers.Drawing.{Draws, AreInUse, is_registered};
 ghost use Rattle.engine_reference.specs.Calls.{with_room, with_predicate, registered};
 
-use engine_identifiers::draw;
-use engine_reference::Registered;
-use engine_rules::{Refusal, Rules};
+use engine_reference::{Refusal, Registered, Rules, draw};
 use engine_tables::Tables;
 use rand_core::Rng;
 use std::hash::{BuildHasher, Hash};

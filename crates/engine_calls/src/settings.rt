@@ -3,8 +3,7 @@ ghost use Rattle.std.specs.Prelude.{◌≡◌, option_map};
 ghost use Rattle.std.specs.Duration.{as_nanos};
 ghost use Rattle.engine_reference.specs.Calls.{removal_rooms};
 
-use engine_reference::Settings;
-use engine_rules::Policy;
+use engine_reference::{Policy, Settings};
 use std::time::Duration;
 
 /// A time of so many nanoseconds, where there is one.

@@ -8,7 +8,7 @@ ghost use Rattle.engine_reference.specs.Records.{record_at};
 ghost use Rattle.engine_reference.specs.declared.data.Record.{Record};
 
 use crate::entries::expires_after_use;
-use engine_rules::Rules;
+use engine_reference::Rules;
 use engine_tables::Tables;
 use policy_base::Instant;
 use std::hash::{BuildHasher, Hash};

@@ -7,13 +7,12 @@ ghost use Rattle.engine_reference.specs.Asking.{answers_of};
 ghost use Rattle.engine_reference.specs.Calls.{removal_rooms, removal_told, with_removal_room, with_reserved_removal, with_written, written};
 ghost use Rattle.engine_reference.specs.Records.{held_at};
 ghost use Rattle.engine_reference.specs.declared.data.Record.{Record};
-ghost use Rattle.engine_rules.specs.Hashing.{hash_of_key};
+ghost use Rattle.engine_reference.specs.Rules.Hashing.{hash_of_key};
 
 use crate::entries::{cause_of_removal, cause_of_write, entry_of, first_entry, next_entry};
 use crate::looks::held;
 use crate::settings::rooms_of_removal;
-use engine_reference::{Entry, Record};
-use engine_rules::{Names, Refusal, Rules};
+use engine_reference::{Entry, Names, Record, Refusal, Rules};
 use engine_tables::Tables;
 use policy_base::Instant;
 use std::alloc::AllocError;

@@ -12,7 +12,7 @@ use Rattle.engine_reference.specs.declared.data.Record.{Record}
 use Rattle.engine_reference.specs.declared.data.Entry.{Entry}
 use Rattle.engine_reference.specs.declared.data.Notice.{Notice}
 use Rattle.engine_reference.specs.Visible.{told}
-use Rattle.engine_rules.specs.declared.causes.RemovalCause.{RemovalCause}
+use Rattle.engine_reference.specs.declared.rules.causes.RemovalCause.{RemovalCause}
 use Rattle.engine_reference.specs.Runs.{after_hit, after_removal}
 use Rattle.engine_reference.specs.State.{State}
 use Rattle.engine_cells.specs.declared.cell.Cell.{Cell}

@@ -2,7 +2,7 @@
 use Rattle.std.proofs.Common.{◌≡◌, refl, ap, sym, ◌∙◌, subst, ℕ, Bool, true, false, ◌≤◌, arith, List, [], Option, Some, None, inl, inr, eqb, true≢false}
 use Rattle.std.specs.Prelude.{option_map}
 use Rattle.std.specs.List.{fold}
-use Rattle.engine_rules.specs.Hashing.{hash_of_key}
+use Rattle.engine_reference.specs.Rules.Hashing.{hash_of_key}
 use Rattle.std.specs.Cmp.{IsEquivalence}
 use Rattle.std.proofs.lemmas.Bool.{eqb-true, eq-eqb, cases_Bool, and_parts, and_from}
 use Rattle.engine_keys.specs.Spots.{Spots, IsUnder, ComesUnder, OnlyGainsSpace}

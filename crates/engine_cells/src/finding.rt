@@ -7,7 +7,7 @@ ghost use Rattle.engine_cells.specs.Spotted.{is_match, is_numbered, AreSpotted, 
 
 use crate::cell::Cell;
 use engine_keys::Keys;
-use engine_rules::Names;
+use engine_reference::Names;
 use slab::Slab;
 
 /// Whether the record in a place is held under a key.

@@ -6,8 +6,7 @@ ghost use Rattle.engine_cells.specs.Tallying.{sum_over};
 
 use crate::cell::{Cell, Noted, PlacedWrite};
 use engine_pending::{Backlog, is_dead};
-use engine_reference::Record;
-use engine_rules::Rules;
+use engine_reference::{Record, Rules};
 use slab::Slab;
 
 /// Whether a record is held, alive, and nothing stands over its entry.

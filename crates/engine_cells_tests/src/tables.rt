@@ -1,6 +1,5 @@
 //! Tables.
-use engine_reference::Settings;
-use engine_rules::{Bundle, EvictionPolicy, NoExpiry, NoPredicate, Refusal, WeighOne};
+use engine_reference::{Bundle, EvictionPolicy, NoExpiry, NoPredicate, Refusal, Settings, WeighOne};
 use engine_tables::Tables;
 use std::alloc::{AllocError, Global};
 use std::hash::{BuildHasherDefault, FoldHasher};

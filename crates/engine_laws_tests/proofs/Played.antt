@@ -1,8 +1,8 @@
 -- The rows, computed.
 use Rattle.std.proofs.Common.{◌≡◌, refl, ap, sym, ◌∙◌, subst, ℕ, zero, suc, ◌<◌, ◌≤◌, arith, Bool, true, false, [], ◌∷◌, Option, Some, None}
 use Rattle.std.specs.Prelude.{option_map, nat_eq, nat_lt}
-use Rattle.engine_rules.specs.declared.causes.RemovalCause.TheVariants as cause
-use Rattle.engine_rules.specs.declared.settings.EvictionPolicy.TheVariants.{Lru}
+use Rattle.engine_reference.specs.declared.rules.causes.RemovalCause.TheVariants as cause
+use Rattle.engine_reference.specs.declared.rules.settings.EvictionPolicy.TheVariants.{Lru}
 use Rattle.engine_reference.specs.declared.data.Record.{Record}
 use Rattle.engine_reference.specs.declared.data.Unsent.{Unsent}
 use Rattle.engine_reference.specs.Calls.{sent}
@@ -11,11 +11,11 @@ use Rattle.engine_reference.specs.Runs.{RunsToEnd, writes, leaves, evicts, first
 use Rattle.engine_reference.specs.Times.{has_come, end_of, is_reached}
 use Rattle.engine_reference.specs.Visible.{is_covered}
 use Rattle.engine_laws_tests.specs.Playing.{Small, small_answers, new_small, put, put_unsent}
-use Rattle.engine_laws.specs.Points.{IsInOrder}
-use Rattle.engine_laws.specs.Sweeping.{IsTimely}
-use Rattle.engine_laws.proofs.Fronting.{each-at}
-use Rattle.engine_laws.proofs.Ordering.{calls_stay_in_order, runs_stay_in_order}
-use Rattle.engine_laws.proofs.Rises.{calls_stay_timely, uncut_runs_leave_none_due}
+use Rattle.engine_reference.specs.RunLaws.Points.{IsInOrder}
+use Rattle.engine_reference.specs.RunLaws.Sweeping.{IsTimely}
+use Rattle.engine_reference.proofs.run_laws.Fronting.{each-at}
+use Rattle.engine_reference.proofs.run_laws.Ordering.{calls_stay_in_order, runs_stay_in_order}
+use Rattle.engine_reference.proofs.run_laws.Rises.{calls_stay_timely, uncut_runs_leave_none_due}
 use Rattle.engine_laws_tests.specs.Runs.{applied_one, ended, full, written_all, evicted, two, both_written, swept, RowsOfPoints, RowsOfFronts, RowsOfSweeping}
 
 of_some : {X : Type 0} (f : X → Bool) (o : Option X) (x : X) → option_map f o ≡ Some false → o ≡ Some x → f x ≡ false

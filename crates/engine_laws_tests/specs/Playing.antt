@@ -1,9 +1,9 @@
 -- A small cache that is played through the definitions: keys, values and hashes are numbers, a key is its own hash, a predicate is the value that it covers.
 use Rattle.std.specs.Prelude.{ℕ, suc, zero, ◌+◌, ◌*◌, ◌==◌, nat_eq, Bool, true, false, not, ◌&&◌, ◌||◌, if◌then◌else◌, List, [], ◌∷◌, Option, Some, None, filter}
 use Rattle.policy_base.specs.Counts.{fresh}
-use Rattle.engine_rules.specs.declared.causes.RemovalCause.{RemovalCause}
-use Rattle.engine_rules.specs.declared.causes.RemovalCause.TheVariants as cause
-use Rattle.engine_rules.specs.declared.settings.EvictionPolicy.{EvictionPolicy}
+use Rattle.engine_reference.specs.declared.rules.causes.RemovalCause.{RemovalCause}
+use Rattle.engine_reference.specs.declared.rules.causes.RemovalCause.TheVariants as cause
+use Rattle.engine_reference.specs.declared.rules.settings.EvictionPolicy.{EvictionPolicy}
 use Rattle.engine_reference.specs.declared.data.Record.{Record}
 use Rattle.engine_reference.specs.declared.data.Read.{Read}
 use Rattle.engine_reference.specs.declared.data.Write.{Write}

@@ -1,6 +1,6 @@
 -- The rows: what the small cache tells, counts and shows.
 use Rattle.std.specs.Prelude.{◌≡◌, ℕ, suc, zero, Some, None, true, false, length}
-use Rattle.engine_rules.specs.declared.settings.EvictionPolicy.TheVariants.{TinyLfu, Lru}
+use Rattle.engine_reference.specs.declared.rules.settings.EvictionPolicy.TheVariants.{TinyLfu, Lru}
 use Rattle.engine_reference.specs.Calls.{is_full, sent, cleared_by, with_predicate}
 use Rattle.engine_reference.specs.Times.{own_expiration}
 use Rattle.engine_laws_tests.specs.Playing.{Small, new_small, put, put_unsent, take_out, look, seen, run, told_by}

@@ -1,7 +1,7 @@
 -- The rows of small runs.
 use Rattle.std.specs.Prelude.{◌≡◌, ◌-◌, ℕ, List, [], ◌∷◌, Some, None, option_map, min, length}
-use Rattle.engine_rules.specs.declared.causes.RemovalCause.TheVariants as cause
-use Rattle.engine_rules.specs.declared.settings.EvictionPolicy.TheVariants.{Lru, TinyLfu}
+use Rattle.engine_reference.specs.declared.rules.causes.RemovalCause.TheVariants as cause
+use Rattle.engine_reference.specs.declared.rules.settings.EvictionPolicy.TheVariants.{Lru, TinyLfu}
 use Rattle.engine_reference.specs.declared.data.Write.{Write}
 use Rattle.engine_reference.specs.declared.data.Write.TheVariants.{Put, Removed}
 use Rattle.engine_reference.specs.Admission.{shortest_front}
@@ -9,9 +9,9 @@ use Rattle.engine_reference.specs.Calls.{sent}
 use Rattle.engine_reference.specs.Records.{admitted_number, admitted_weight, settled_in}
 use Rattle.engine_reference.specs.Runs.{RunsToEnd, IsApplied, after_write, left, lacks_table}
 use Rattle.engine_laws_tests.specs.Playing.{Small, small_answers, new_small, put, put_unsent, run, told_by}
-use Rattle.engine_laws.specs.Fronts.{NothingIsDue}
-use Rattle.engine_laws.specs.Points.{IsInOrder}
-use Rattle.engine_laws.specs.Sweeping.{IsTimely, LeavesNoneDue}
+use Rattle.engine_reference.specs.RunLaws.Fronts.{NothingIsDue}
+use Rattle.engine_reference.specs.RunLaws.Points.{IsInOrder}
+use Rattle.engine_reference.specs.RunLaws.Sweeping.{IsTimely, LeavesNoneDue}
 
 -- the oldest write is applied
 abbrev pub applied_one : Small → Small

@@ -1,5 +1,5 @@
 //! Causes, settings and their texts.
-use engine_rules::{EvictionPolicy, ExpirationPolicy, Policy, PredicateError, RemovalCause};
+use engine_reference::{EvictionPolicy, ExpirationPolicy, Policy, PredicateError, RemovalCause};
 use std::alloc::{AllocError, Global};
 use std::time::Duration;
 

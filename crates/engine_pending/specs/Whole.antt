@@ -1,6 +1,6 @@
 -- The state of the reference cache, put together of its records with their lists and of what waits beside them.
 use Rattle.std.specs.Prelude.{◌≡◌, ℕ, ◌+◌, ◌-◌, nat_le, Bool, List, [], ◌∷◌, ◌++◌, map, drop, length, option_map}
-use Rattle.engine_rules.specs.declared.causes.RemovalCause.{RemovalCause}
+use Rattle.engine_reference.specs.declared.rules.causes.RemovalCause.{RemovalCause}
 use Rattle.engine_reference.specs.declared.data.Entry.{Entry}
 use Rattle.engine_reference.specs.declared.data.Read.{Read}
 use Rattle.engine_reference.specs.declared.data.Record.{Record}

@@ -2,8 +2,7 @@
 ghost use Rattle.std.specs.Prelude.{◌≡◌, nat_lt, ◌&&◌};
 ghost use Rattle.std.specs.List.{list_any};
 
-use engine_reference::{Entry, Registered};
-use engine_rules::Rules;
+use engine_reference::{Entry, Registered, Rules};
 
 /// Whether a predicate that was registered at a later step covers an entry.
 pub fn is_any_over<K, V, R: Rules<K, V>>(

@@ -3,8 +3,8 @@ use Rattle.std.proofs.Common.{zero, suc, ◌≡◌, refl, ap, sym, ◌∙◌, su
 use Rattle.std.specs.Prelude.{fold, nat_lt, min, slice_get}
 use Rattle.std.proofs.lemmas.Bool.{ltb-true, ltb-false, cases_eq, cases_lt, eq-eqb}
 use Rattle.policy_base.specs.Counts.{incremented}
-use Rattle.engine_rules.specs.declared.causes.RemovalCause.{RemovalCause}
-use Rattle.engine_rules.specs.declared.causes.RemovalCause.TheVariants as cause
+use Rattle.engine_reference.specs.declared.rules.causes.RemovalCause.{RemovalCause}
+use Rattle.engine_reference.specs.declared.rules.causes.RemovalCause.TheVariants as cause
 use Rattle.engine_reference.specs.declared.data.Record.{Record}
 use Rattle.engine_reference.specs.declared.data.Unsent.{Unsent}
 use Rattle.engine_reference.specs.declared.data.Upsert.{Upsert}

@@ -2,8 +2,8 @@
 use Rattle.std.proofs.Common.{◌≡◌, refl, ap, sym, ◌∙◌, ℕ, ◌+◌, Bool, true, false, true≢false, cond, List, [], ◌∷◌, Option, Some, None, is_some, inl, inr, ◌⊎◌, eqb, ◌==◌}
 use Rattle.std.specs.Prelude.{nat_lt}
 use Rattle.std.proofs.lemmas.Bool.{eqb-true, ne_eqb}
-use Rattle.engine_rules.specs.declared.causes.RemovalCause.{RemovalCause}
-use Rattle.engine_rules.specs.declared.causes.RemovalCause.TheVariants as cause
+use Rattle.engine_reference.specs.declared.rules.causes.RemovalCause.{RemovalCause}
+use Rattle.engine_reference.specs.declared.rules.causes.RemovalCause.TheVariants as cause
 use Rattle.engine_reference.specs.declared.data.Record.{Record}
 use Rattle.engine_reference.specs.declared.data.Upsert.{Upsert}
 use Rattle.engine_reference.specs.Admission.{Verdict, admit, displace, refuse, verdict, verdict_of_full, is_above, contest, shortest_front, with_first, frequencies}
@@ -15,8 +15,8 @@ use Rattle.std.specs.Prelude.{◌-◌}
 use Rattle.engine_reference.specs.Records.{weight_at}
 use Rattle.engine_reference.proofs.HeldRecords.{record_at-number}
 use Rattle.policy_base.specs.Counts.{frequency_of}
-use Rattle.engine_rules.specs.declared.settings.EvictionPolicy.{EvictionPolicy}
-use Rattle.engine_rules.specs.declared.settings.EvictionPolicy.TheVariants.{TinyLfu, Lru}
+use Rattle.engine_reference.specs.declared.rules.settings.EvictionPolicy.{EvictionPolicy}
+use Rattle.engine_reference.specs.declared.rules.settings.EvictionPolicy.TheVariants.{TinyLfu, Lru}
 
 module _ {K V : Type 0} where
   pub record_at-changed : (m : ℕ) (change : Record K V → Record K V) → ((x : Record K V) → (change x).number ≡ x.number) → (rs : List (Record K V)) (n : ℕ) (r : Record K V) → record_at rs n ≡ Some r

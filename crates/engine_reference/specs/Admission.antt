@@ -1,8 +1,8 @@
 -- Who comes in where the weight would pass the capacity, and who goes for it.
 use Rattle.std.specs.Prelude.{ℕ, ◌+◌, ◌-◌, ◌*◌, ◌/◌, ◌==◌, nat_lt, nat_le, min, max, Bool, false, ◌&&◌, if◌then◌else◌, List, [], ◌∷◌, Option, Some, None, sum_by}
 use Rattle.policy_base.specs.Counts.{Sketch, frequency_of}
-use Rattle.engine_rules.specs.declared.settings.EvictionPolicy.{EvictionPolicy}
-use Rattle.engine_rules.specs.declared.settings.EvictionPolicy.TheVariants.{TinyLfu, Lru}
+use Rattle.engine_reference.specs.declared.rules.settings.EvictionPolicy.{EvictionPolicy}
+use Rattle.engine_reference.specs.declared.rules.settings.EvictionPolicy.TheVariants.{TinyLfu, Lru}
 use Rattle.engine_reference.specs.declared.data.Record.{Record}
 use Rattle.engine_reference.specs.declared.data.Upsert.{Upsert}
 use Rattle.engine_reference.specs.Records.{admitted_weight, settled_in, weight_at}

@@ -1,3 +1,7 @@
+pub mod Rules
+pub mod Housekeeper
+pub mod RunLaws
+pub mod Identifiers
 pub mod State
 pub mod Records
 pub mod Times

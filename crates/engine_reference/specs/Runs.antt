@@ -2,8 +2,8 @@
 use Rattle.std.specs.Prelude.{◌≡◌, ℕ, ◌+◌, ◌<◌, ◌^◌, nat_lt, nat_le, min, Bool, true, false, not, ◌&&◌, ◌||◌, if◌then◌else◌, List, [], ◌∷◌, Option, Some, None, is_some, remove, slice_get, length}
 use Rattle.std.specs.Int.{IsNextPowerOfTwo}
 use Rattle.policy_base.specs.Counts.{incremented, fresh}
-use Rattle.engine_rules.specs.declared.causes.RemovalCause.{RemovalCause}
-use Rattle.engine_rules.specs.declared.causes.RemovalCause.TheVariants as cause
+use Rattle.engine_reference.specs.declared.rules.causes.RemovalCause.{RemovalCause}
+use Rattle.engine_reference.specs.declared.rules.causes.RemovalCause.TheVariants as cause
 use Rattle.engine_reference.specs.declared.data.Record.{Record}
 use Rattle.engine_reference.specs.declared.data.Registered.{Registered}
 use Rattle.engine_reference.specs.declared.data.Upsert.{Upsert}

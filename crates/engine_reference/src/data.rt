@@ -1,6 +1,6 @@
 //! What the reference cache is made of. Moments and times are in nanoseconds.
 
-use engine_rules::{EvictionPolicy, RemovalCause};
+use crate::rules::{EvictionPolicy, RemovalCause};
 
 /// What a cache was made with.
 #[derive(Clone, Copy)]

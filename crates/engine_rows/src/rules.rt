@@ -3,7 +3,7 @@ ghost use Rattle.std.specs.Prelude.{ℕ, ◌==◌, Option, option_map, if◌then
 ghost use Rattle.std.specs.Duration.{as_nanos};
 
 use crate::values::Brittle;
-use engine_rules::{Bundle, Expiry, Predicate, Weigher};
+use engine_reference::{Bundle, Expiry, Predicate, Weigher};
 use policy_base::Instant;
 use std::time::Duration;
 

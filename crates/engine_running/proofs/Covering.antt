@@ -8,7 +8,7 @@ use Rattle.std.proofs.Props.{props}
 use Rattle.std.proofs.lemmas.Bool.{and_parts, cases_eq}
 use Rattle.std.proofs.lemmas.List.Edits.{length-remove}
 use Rattle.std.proofs.lemmas.Option.{slice_get-get_or}
-use Rattle.engine_rules.specs.declared.causes.RemovalCause.TheVariants as cause
+use Rattle.engine_reference.specs.declared.rules.causes.RemovalCause.TheVariants as cause
 use Rattle.engine_reference.specs.declared.data.Record.{Record}
 use Rattle.engine_reference.specs.declared.data.Registered.{Registered}
 use Rattle.engine_reference.specs.Records.{record_at, without_record}
@@ -18,7 +18,7 @@ use Rattle.engine_reference.specs.State.{State, Answers}
 use Rattle.engine_reference.specs.Visible.{is_covered, is_covered_by}
 use Rattle.engine_reference.proofs.Accounts.{each-map}
 use Rattle.engine_reference.proofs.Unapplied.{record_at-without}
-use Rattle.engine_laws.proofs.Rising.{each-own}
+use Rattle.engine_reference.proofs.run_laws.Rising.{each-own}
 use Rattle.engine_cells.specs.Kept.{Kept, kept_at, numbered_at}
 use Rattle.engine_cells.specs.Stretches.{StepsFor}
 use Rattle.engine_sweeping.proofs.Fronting.{kept-number}

@@ -8,7 +8,7 @@ ghost use Rattle.engine_reference.specs.State.{Answers};
 ghost use Rattle.engine_running.specs.Covered.{is_covered_as, IsScanned, NoneIsCovered, CoverNone};
 ghost use Rattle.engine_sweeping.specs.Stretches.{KeepsRest};
 
-use engine_rules::{RemovalCause, Rules};
+use engine_reference::{RemovalCause, Rules};
 use engine_tables::Tables;
 use std::hash::{BuildHasher, Hash};
 

@@ -1,6 +1,6 @@
 //! The whole run.
 ghost use Rattle.std.specs.Prelude.{◌≡◌, ℕ, ◌≤◌, ◌<◌, true, false, [], OnOk, OnErr, length};
-ghost use Rattle.engine_laws.specs.Sweeping.{IsTimely, LeavesNoneDue};
+ghost use Rattle.engine_reference.specs.RunLaws.Sweeping.{IsTimely, LeavesNoneDue};
 ghost use Rattle.engine_reference.specs.Calls.{MaintainsIfDue};
 ghost use Rattle.engine_reference.specs.Laws.{CountsExactly};
 ghost use Rattle.engine_reference.specs.Runs.{RunsToEnd};
@@ -10,7 +10,7 @@ ghost use Rattle.engine_reference.specs.State.{Answers};
 use crate::covered::end_predicates;
 use crate::table::grow;
 use engine_applying::{apply_reads, apply_writes};
-use engine_rules::Rules;
+use engine_reference::Rules;
 use engine_sweeping::settle;
 use engine_tables::Tables;
 use std::alloc::AllocError;

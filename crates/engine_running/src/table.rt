@@ -6,7 +6,7 @@ ghost use Rattle.engine_reference.specs.State.{Answers};
 ghost use Rattle.engine_cells.specs.Stretches.{Stretch};
 ghost use Rattle.engine_running.specs.Tables.{LacksTableFor};
 
-use engine_rules::Rules;
+use engine_reference::Rules;
 use engine_tables::Tables;
 use policy_base::FrequencySketch;
 use std::alloc::AllocError;

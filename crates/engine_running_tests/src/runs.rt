@@ -2,8 +2,7 @@
 ghost use Rattle.std.specs.Prelude.{IfOk};
 ghost use Rattle.engine_reference.specs.Soundness.{IsSound};
 
-use engine_reference::Settings;
-use engine_rules::{Bundle, EvictionPolicy, NoExpiry, NoPredicate, WeighOne};
+use engine_reference::{Bundle, EvictionPolicy, NoExpiry, NoPredicate, Settings, WeighOne};
 use engine_running::try_run;
 use engine_tables::Tables;
 use std::alloc::{AllocError, Global};

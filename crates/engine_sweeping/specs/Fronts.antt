@@ -1,7 +1,7 @@
 -- What a run sees at the fronts of its lists.
 use Rattle.std.specs.Prelude.{◌≡◌, ℕ, Bool, nat_lt, true, false, not, ◌&&◌, if◌then◌else◌, [], Option, Some, None}
-use Rattle.engine_rules.specs.declared.causes.RemovalCause.{RemovalCause}
-use Rattle.engine_rules.specs.declared.causes.RemovalCause.TheVariants as cause
+use Rattle.engine_reference.specs.declared.rules.causes.RemovalCause.{RemovalCause}
+use Rattle.engine_reference.specs.declared.rules.causes.RemovalCause.TheVariants as cause
 use Rattle.engine_reference.specs.declared.data.Record.{Record}
 use Rattle.engine_reference.specs.Admission.{is_above}
 use Rattle.engine_reference.specs.Records.{record_at, admitted_weight, settled_in, admitted_in}

@@ -10,7 +10,7 @@ ghost use Rattle.engine_cells.specs.Stretches.{Stretch, StepsFor};
 ghost use Rattle.engine_sweeping.specs.Stretches.{KeepsRest};
 
 use crate::fronts::next_leaving;
-use engine_rules::{RemovalCause, Rules};
+use engine_reference::{RemovalCause, Rules};
 use engine_tables::Tables;
 use std::hash::{BuildHasher, Hash};
 

@@ -12,7 +12,7 @@ ghost use Rattle.engine_cells.specs.Fitting.{StandsIn, HasPlaceFor, StepsOut, Co
 ghost use Rattle.engine_cells.specs.Noting.{read_of, write_of, number_written, AimsRight, AimsOnlyAt};
 ghost use Rattle.engine_reference.specs.Runs.{after_hit, after_read, after_removal, next_to_evict, is_due};
 ghost use Rattle.engine_reference.specs.Calls.{IsNew, without_room, without_notice, cleared_by, registered, sent, unsent_at, is_full};
-ghost use Rattle.engine_rules.specs.Hashing.{hash_of_key};
+ghost use Rattle.engine_reference.specs.Rules.Hashing.{hash_of_key};
 ghost use Rattle.engine_reference.specs.Soundness.{AreOnce, IsIn};
 ghost use Rattle.engine_cells.specs.Looking.{is_expired, behind};
 ghost use Rattle.engine_reference.specs.declared.data.Read.{Read};
@@ -27,8 +27,7 @@ use engine_cells::{
 };
 use engine_keys::Keys;
 use engine_pending::Backlog;
-use engine_reference::{Entry, Notice, Record, Registered, Settings, Upsert, Write};
-use engine_rules::{Names, Refusal, RemovalCause, Rules};
+use engine_reference::{Entry, Names, Notice, Record, Refusal, Registered, RemovalCause, Rules, Settings, Upsert, Write};
 use engine_timers::Expirations;
 use policy_base::{CacheRegion, FrequencySketch, KeyHashDate, NodeId};
 use policy_queue::{Deque, names_stand};
@@ -64,7 +63,7 @@ impl<K: Eq + Hash, V, S: BuildHasher, R: Rules<K, V>> Model for Tables<K, V, S, 
     ghost use Rattle.engine_cells.specs.Tallying.{IsTallied};
     ghost use Rattle.engine_cells.specs.Spotted.{AreSpotted, AreHashed};
     ghost use Rattle.engine_cells.specs.Awaiting.{AreAwaited};
-    ghost use Rattle.engine_rules.specs.Hashing.{hash_of_key};
+    ghost use Rattle.engine_reference.specs.Rules.Hashing.{hash_of_key};
 
     ghost Value = { Kept K V R.Predicate S R };
 

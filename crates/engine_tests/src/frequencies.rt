@@ -1,8 +1,7 @@
 //! Rows on newcomers: under TinyLFU a newcomer comes in where it was asked for more often than those that would go for it.
 use crate::playing::none_wrong;
-use engine_reference::Settings;
+use engine_reference::{EvictionPolicy, RemovalCause, Settings};
 use engine_rows::{CASE, Case, ITSELF, Look, Row, SECOND, SETTINGS};
-use engine_rules::{EvictionPolicy, RemovalCause};
 
 const TINY_LFU: Settings = Settings {
     policy: EvictionPolicy::TinyLfu,

@@ -1,7 +1,7 @@
 //! The hash of a key, by the hasher that a cache was made with.
 use engine_cache::BaseCache;
 use engine_rows::{Folding, SETTINGS};
-use engine_rules::{Bundle, NoExpiry, NoPredicate, WeighOne};
+use engine_reference::{Bundle, NoExpiry, NoPredicate, WeighOne};
 use policy_base::HousekeeperConfig;
 use std::alloc::{AllocError, Global};
 use std::hash::{BuildHasher, Hash, Hasher};

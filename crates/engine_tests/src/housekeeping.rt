@@ -1,6 +1,6 @@
 //! A housekeeper of an engine.
 use crate::hashes::{Cache, cache_of};
-use engine_housekeeper::Housekeeper;
+use engine_reference::Housekeeper;
 use policy_base::{HousekeeperConfig, Instant};
 use std::alloc::{AllocError, Global};
 

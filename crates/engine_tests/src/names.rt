@@ -3,7 +3,7 @@ ghost use Rattle.std.specs.Prelude.{◌≡◌};
 
 use crate::hashes::{Cache, cache_of};
 use engine_cache::Refusal;
-use engine_rules::Names;
+use engine_reference::Names;
 use policy_base::Instant;
 use std::alloc::{AllocError, Global};
 

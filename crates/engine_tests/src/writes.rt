@@ -2,9 +2,8 @@
 
 use crate::playing::none_wrong;
 use engine_cache::Refusal;
-use engine_reference::Settings;
+use engine_reference::{RemovalCause, Settings};
 use engine_rows::{CASE, Case, Look, Row, SECOND, SETTINGS};
-use engine_rules::RemovalCause;
 
 const CASES: &[Case<'static>] = &[
     // Live 16 s, idle 7 s, and a second of its own from its creation on: the earliest of them ends a value.

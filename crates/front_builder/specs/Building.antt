@@ -6,8 +6,8 @@ use Rattle.std.specs.declared.time.Duration.{Duration}
 use Rattle.engine_reference.specs.declared.data.Settings.{Settings}
 use Rattle.front_reference.specs.Fronts.{Front}
 use Rattle.front_state.specs.Making.{IsMadeWith}
-use Rattle.engine_rules.specs.declared.rules.Bundle.{Bundle}
-use Rattle.engine_rules.specs.declared.settings.EvictionPolicy.TheVariants.{TinyLfu}
+use Rattle.engine_reference.specs.declared.rules.rules.Bundle.{Bundle}
+use Rattle.engine_reference.specs.declared.rules.settings.EvictionPolicy.TheVariants.{TinyLfu}
 use Rattle.front_builder.specs.declared.builder.Plan.{Plan}
 use Rattle.front_builder.specs.declared.errors.BuildError.{BuildError}
 use Rattle.front_builder.specs.declared.errors.BuildError.TheVariants.{TimeToLiveTooLong, TimeToIdleTooLong, NoSegments, TooManySegments}

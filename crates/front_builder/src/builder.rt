@@ -5,11 +5,7 @@ ghost use Rattle.front_builder.specs.declared.errors.BuildError.TheVariants.{Out
 
 use crate::errors::BuildError;
 use crate::settling::{as_limit, bits_for, segments_fault, time_fault};
-use engine_reference::Settings;
-use engine_rules::{
-    Bundle, EvictionPolicy, ExpirationPolicy, Expiry, NoExpiry, NoPredicate, Predicate, WeighOne,
-    Weigher,
-};
+use engine_reference::{Bundle, EvictionPolicy, ExpirationPolicy, Expiry, NoExpiry, NoPredicate, Predicate, Settings, WeighOne, Weigher};
 use front_state::LentState;
 use policy_base::Instant;
 use std::alloc::Global;

@@ -5,7 +5,7 @@ ghost use Rattle.front_builder.specs.declared.errors.BuildError.TheVariants.{Out
 
 use crate::builder::CacheBuilder;
 use crate::errors::BuildError;
-use engine_rules::{Bundle, NoExpiry, NoPredicate, WeighOne};
+use engine_reference::{Bundle, NoExpiry, NoPredicate, WeighOne};
 use front_state::{LentState, Segmented, Single};
 use policy_base::Instant;
 use std::alloc::Global;

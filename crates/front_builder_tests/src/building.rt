@@ -1,4 +1,4 @@
-use engine_rules::{Bundle, NoExpiry, NoPredicate, WeighOne};
+use engine_reference::{Bundle, NoExpiry, NoPredicate, WeighOne};
 use front_builder::{BuildError, CacheBuilder};
 use front_state::LentState;
 use policy_base::Instant;

@@ -1,5 +1,5 @@
 //! How a cache prints, and what a loop over it gives.
-use engine_rules::{Bundle, NoExpiry, NoPredicate, WeighOne};
+use engine_reference::{Bundle, NoExpiry, NoPredicate, WeighOne};
 use front_builder::CacheBuilder;
 use front_iterator::Iter;
 use front_keys::Shared;

@@ -2,7 +2,7 @@
 ghost use Rattle.std.specs.Prelude.{◌≡◌, IfOk};
 
 use crate::shared::Shared;
-use engine_rules::Names;
+use engine_reference::Names;
 use std::alloc::{AllocError, Global};
 
 /// What names a key, and becomes it where one is to be kept. So a look-up that finds its value makes no key.

@@ -2,7 +2,7 @@
 ghost use Rattle.std.specs.Prelude.{◌≡◌};
 
 use crate::shared::Shared;
-use engine_rules::Names;
+use engine_reference::Names;
 
 /// A key that is lent for a look-up: it names the shared key that equals it, so that a look-up by `&K` makes no shared key and takes no memory.
 #[derive(Clone, Copy)]

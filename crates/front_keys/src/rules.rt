@@ -2,7 +2,7 @@
 ghost use Rattle.std.specs.Prelude.{◌≡◌};
 
 use crate::shared::Shared;
-use engine_rules::{Expiration, Rules};
+use engine_reference::{Expiration, Rules};
 use policy_base::Instant;
 use std::time::Duration;
 

@@ -3,8 +3,8 @@ use Rattle.std.proofs.Common.{◌≡◌, refl, ap, sym, ◌∙◌, subst, ℕ, �
 use Rattle.std.specs.Prelude.{nat_lt}
 use Rattle.std.proofs.lemmas.Bool.{eqb-true, eqb-false, eq-eqb, ltb-true}
 use Rattle.policy_base.specs.Counts.{incremented}
-use Rattle.engine_rules.specs.declared.causes.RemovalCause.{RemovalCause}
-use Rattle.engine_rules.specs.declared.causes.RemovalCause.TheVariants as cause
+use Rattle.engine_reference.specs.declared.rules.causes.RemovalCause.{RemovalCause}
+use Rattle.engine_reference.specs.declared.rules.causes.RemovalCause.TheVariants as cause
 use Rattle.engine_reference.specs.declared.data.Record.{Record}
 use Rattle.engine_reference.specs.declared.data.Read.{Read}
 use Rattle.engine_reference.specs.declared.data.Read.TheVariants.{Hit, Miss}
@@ -18,13 +18,13 @@ use Rattle.engine_reference.specs.State.{State, Answers}
 use Rattle.engine_reference.proofs.Accounts.{in_pushed, not_in-without, IsIn-without_from, each-changed, each-without, each-map, each-both, numbered-changed, numbered-without}
 use Rattle.engine_reference.proofs.HeldRecords.{record_at-number}
 use Rattle.engine_reference.proofs.SoundSteps.{left-frame, after_write-frame}
-use Rattle.engine_laws.specs.Sweeping.{InOrderBy, IsUsedBefore}
+use Rattle.engine_reference.specs.RunLaws.Sweeping.{InOrderBy, IsUsedBefore}
 use Rattle.engine_reference.specs.Admission.{Verdict, admit, displace, refuse, verdict}
 use Rattle.engine_reference.specs.Soundness.{IsSound, IsAccounted}
 use Rattle.engine_reference.proofs.SoundSteps.{step-sound, IsCounted}
-use Rattle.engine_laws.proofs.Swept.{run-leaves, changed-from, changed-other}
-use Rattle.engine_laws.proofs.Rising.{each-own}
-use Rattle.engine_laws.proofs.Fronting.{each-at, there-before}
+use Rattle.engine_reference.proofs.run_laws.Swept.{run-leaves, changed-from, changed-other}
+use Rattle.engine_reference.proofs.run_laws.Rising.{each-own}
+use Rattle.engine_reference.proofs.run_laws.Fronting.{each-at, there-before}
 use Rattle.front_reference.specs.Closeness.{hits, IsWaiting, IsCloseTo, IsSince}
 
 -- ---- lists in order

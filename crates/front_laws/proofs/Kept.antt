@@ -22,16 +22,16 @@ use Rattle.engine_reference.proofs.RestKept.{run-rest}
 use Rattle.engine_reference.proofs.SoundCalls.{each-push}
 use Rattle.engine_reference.proofs.SoundSteps.{IsCounted}
 use Rattle.engine_reference.proofs.StayingVisible.{runs_keep_visible}
-use Rattle.engine_laws.specs.Just.{ComesFrom}
-use Rattle.engine_laws.specs.Points.{IsInOrder}
-use Rattle.engine_laws.specs.Sweeping.{IsUsedBefore, IsTimely}
-use Rattle.engine_laws.proofs.Fronting.{each-at, or_right}
-use Rattle.engine_laws.proofs.Ordering.{calls_stay_in_order, runs_stay_in_order}
-use Rattle.engine_laws.proofs.Rises.{calls_stay_timely, uncut_runs_stay_timely}
-use Rattle.engine_laws.proofs.Rising.{each-own}
-use Rattle.engine_laws.proofs.Swept.{run-leaves, first-before, sent-one}
-use Rattle.engine_laws.proofs.Ticking.{end-after}
-use Rattle.engine_laws.proofs.Shown.{calls_keep_apart}
+use Rattle.engine_reference.specs.RunLaws.Just.{ComesFrom}
+use Rattle.engine_reference.specs.RunLaws.Points.{IsInOrder}
+use Rattle.engine_reference.specs.RunLaws.Sweeping.{IsUsedBefore, IsTimely}
+use Rattle.engine_reference.proofs.run_laws.Fronting.{each-at, or_right}
+use Rattle.engine_reference.proofs.run_laws.Ordering.{calls_stay_in_order, runs_stay_in_order}
+use Rattle.engine_reference.proofs.run_laws.Rises.{calls_stay_timely, uncut_runs_stay_timely}
+use Rattle.engine_reference.proofs.run_laws.Rising.{each-own}
+use Rattle.engine_reference.proofs.run_laws.Swept.{run-leaves, first-before, sent-one}
+use Rattle.engine_reference.proofs.run_laws.Ticking.{end-after}
+use Rattle.engine_reference.proofs.run_laws.Shown.{calls_keep_apart}
 use Rattle.front_reference.specs.declared.data.Computed.{Computed}
 use Rattle.front_reference.specs.declared.data.Made.{Made}
 use Rattle.front_reference.specs.declared.data.Made.TheVariants as made

@@ -18,12 +18,12 @@ use Rattle.engine_reference.proofs.Accounts.{in_pushed, each-map, each-both, eac
 use Rattle.engine_reference.proofs.HeldRecords.{record_at-number}
 use Rattle.engine_reference.proofs.SoundCalls.{each-push}
 use Rattle.engine_reference.proofs.SoundSteps.{IsCounted}
-use Rattle.engine_laws.specs.Points.{AreRising, NoneOf, pending_of, IsInOrder}
-use Rattle.engine_laws.specs.Sweeping.{InOrderBy, IsUsedBefore}
-use Rattle.engine_laws.proofs.Fronting.{each-at, or_right}
-use Rattle.engine_laws.specs.Just.{ComesFrom}
-use Rattle.engine_laws.proofs.Rising.{each-own, none_later, rising-own}
-use Rattle.engine_laws.proofs.Swept.{run-leaves, changed-other}
+use Rattle.engine_reference.specs.RunLaws.Points.{AreRising, NoneOf, pending_of, IsInOrder}
+use Rattle.engine_reference.specs.RunLaws.Sweeping.{InOrderBy, IsUsedBefore}
+use Rattle.engine_reference.proofs.run_laws.Fronting.{each-at, or_right}
+use Rattle.engine_reference.specs.RunLaws.Just.{ComesFrom}
+use Rattle.engine_reference.proofs.run_laws.Rising.{each-own, none_later, rising-own}
+use Rattle.engine_reference.proofs.run_laws.Swept.{run-leaves, changed-other}
 use Rattle.front_reference.specs.Closeness.{hits, EndsBy, IsWaiting, IsCloseTo, IsSince, IsNear, IsClose}
 use Rattle.front_laws.specs.Laws.{CallsStayClose}
 use Rattle.front_laws.proofs.Close.{Still, order-map, LateIsLast, IsSettledNear, Closing, run-close}

@@ -12,8 +12,8 @@ use Rattle.engine_reference.specs.Scanning.{NotesLookUp}
 use Rattle.engine_reference.specs.Soundness.{Each, IsSound}
 use Rattle.engine_reference.specs.State.{State, Answers}
 use Rattle.engine_reference.specs.Times.{end_of, is_reached}
-use Rattle.engine_laws.specs.Points.{IsInOrder}
-use Rattle.engine_laws.specs.Sweeping.{InOrderBy, IsUsedBefore}
+use Rattle.engine_reference.specs.RunLaws.Points.{IsInOrder}
+use Rattle.engine_reference.specs.RunLaws.Sweeping.{InOrderBy, IsUsedBefore}
 use Rattle.front_reference.specs.declared.data.Computed.{Computed}
 use Rattle.front_reference.specs.declared.data.Made.{Made}
 use Rattle.front_reference.specs.declared.data.Op.{Op}

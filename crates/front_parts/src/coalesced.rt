@@ -5,14 +5,14 @@ ghost use Rattle.std.specs.Result.{IsErrOf};
 ghost use Rattle.engine_reference.specs.Scanning.{past};
 ghost use Rattle.engine_reference.specs.Visible.{visible_value};
 ghost use Rattle.engine_reference.specs.Asking.{answers_of};
-ghost use Rattle.engine_rules.specs.Hashing.{hash_of_key};
+ghost use Rattle.engine_reference.specs.Rules.Hashing.{hash_of_key};
 ghost use Rattle.front_reference.specs.Parts.{IsCause, IsReady, Acts, op_of_made};
 ghost use Rattle.front_parts.specs.Looking.{AsksPart, CoalescesPart};
 ghost use Rattle.front_reference.specs.declared.data.Op.TheVariants as op;
 ghost use Rattle.front_reference.specs.declared.data.Made.TheVariants as made;
 
 use crate::part::{insert_reserved, reserve_insert};
-use engine_rules::{Names, Rules};
+use engine_reference::{Names, Rules};
 use front_keys::IntoKey;
 use front_reference::{At, CacheError, Made};
 use moka_engine::BaseCache;

@@ -6,14 +6,14 @@ ghost use Rattle.engine_reference.specs.Records.{held_entries};
 ghost use Rattle.engine_reference.specs.Telling.{AreApart};
 ghost use Rattle.engine_reference.specs.Visible.{visible_value};
 ghost use Rattle.engine_reference.specs.Asking.{answers_of};
-ghost use Rattle.engine_rules.specs.Hashing.{hash_of_key};
+ghost use Rattle.engine_reference.specs.Rules.Hashing.{hash_of_key};
 ghost use Rattle.front_reference.specs.Parts.{IsCause, IsReady, Computes, computed_as};
 ghost use Rattle.front_reference.specs.declared.data.Op.TheVariants as op;
 ghost use Rattle.front_parts.specs.Looking.{IsOpen, OperatesAfterLook, RemovesAfterLook};
 
 use crate::coalesced::{note, note_and_insert};
 use crate::removals::{clone_shown, prepare, take_out};
-use engine_rules::{Names, Rules};
+use engine_reference::{Names, Rules};
 use front_keys::IntoKey;
 use front_reference::{At, CacheError, Computed, Op};
 use moka_engine::BaseCache;

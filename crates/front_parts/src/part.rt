@@ -4,11 +4,11 @@ ghost use Rattle.std.specs.Result.{IsErrOf};
 ghost use Rattle.engine_reference.specs.Calls.{LooksUp, written, sent, unsent_at, with_room};
 ghost use Rattle.engine_reference.specs.Visible.{visible_record, visible_value};
 ghost use Rattle.engine_reference.specs.Asking.{answers_of};
-ghost use Rattle.engine_rules.specs.Hashing.{hash_of_key};
+ghost use Rattle.engine_reference.specs.Rules.Hashing.{hash_of_key};
 ghost use Rattle.front_reference.specs.Parts.{IsCause, IsReady, Inserts, InsertsReserved, put_sent, takes_nothing, with_put_room};
 ghost use Rattle.front_reference.specs.Wholes.{RunsPart};
 
-use engine_rules::{Names, Rules};
+use engine_reference::{Names, Rules};
 use front_reference::{At, CacheError};
 use moka_engine::{BaseCache, Refusal};
 use policy_base::Instant;

@@ -5,11 +5,11 @@ ghost use Rattle.engine_reference.specs.Calls.{removal_rooms, removal_told, with
 ghost use Rattle.engine_reference.specs.Records.{held_at};
 ghost use Rattle.engine_reference.specs.declared.data.Record.{Record};
 ghost use Rattle.engine_reference.specs.Asking.{answers_of};
-ghost use Rattle.engine_rules.specs.Hashing.{hash_of_key};
+ghost use Rattle.engine_reference.specs.Rules.Hashing.{hash_of_key};
 ghost use Rattle.front_reference.specs.Parts.{IsCause, IsReady, TakesOut, freed, held_value};
 
 use crate::part::send_now;
-use engine_rules::{Names, Rules};
+use engine_reference::{Names, Rules};
 use front_reference::CacheError;
 use moka_engine::{BaseCache, Entry, Refusal};
 use policy_base::Instant;

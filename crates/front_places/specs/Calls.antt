@@ -2,8 +2,8 @@
 use Rattle.std.specs.Prelude.{◌≡◌, ℕ, ◌+◌, ◌^◌, ◌<◌, ◌≤◌, Bool, false, List, [], Option, Some, None, Result, Ok, Vec, length, slice_get}
 use Rattle.std.specs.declared.hash.Hasher as hashers
 use Rattle.std.specs.declared.hash.BuildHasher as builders
-use Rattle.engine_rules.specs.Hashing.{hash_of_key}
-use Rattle.engine_rules.specs.declared.rules.Rules as rules
+use Rattle.engine_reference.specs.Rules.Hashing.{hash_of_key}
+use Rattle.engine_reference.specs.declared.rules.rules.Rules as rules
 use Rattle.engine_reference.specs.Records.{held_entries}
 use Rattle.engine_reference.specs.Scanning.{NotesLookUp, held_keys, past}
 use Rattle.engine_reference.specs.State.{State, Answers}

@@ -1,6 +1,6 @@
 //! The hash of a key, and the part that it says.
 ghost use Rattle.std.specs.Prelude.{◌≡◌, ◌-◌, ◌/◌, ◌<◌, ◌≤◌, ◌^◌};
-ghost use Rattle.engine_rules.specs.Hashing.{hash_of_key};
+ghost use Rattle.engine_reference.specs.Rules.Hashing.{hash_of_key};
 ghost use Rattle.front_reference.specs.Fronts.{part_of};
 
 use std::hash::{BuildHasher, Hash, Hasher};

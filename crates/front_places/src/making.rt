@@ -4,8 +4,7 @@ ghost use Rattle.engine_reference.specs.Calls.{IsNew};
 ghost use Rattle.front_reference.specs.Fronts.{share_of};
 ghost use Rattle.front_places.specs.Making.{AreNew, with_share};
 
-use engine_reference::Settings;
-use engine_rules::Rules;
+use engine_reference::{Rules, Settings};
 use front_parts::BaseCache;
 use policy_base::HousekeeperConfig;
 use std::alloc::{AllocError, Global};

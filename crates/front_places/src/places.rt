@@ -8,7 +8,7 @@ ghost use Rattle.front_reference.specs.Parts.{Inserts, TakesOut};
 ghost use Rattle.front_reference.specs.Fronts.{CallsAt};
 ghost use Rattle.front_places.specs.Calls.{CoalescesAt, ComputesAt, IsAskedFirst, IsCauseOf, IsOpenAt, seen_of, visible_of, held_of, ways_by};
 
-use engine_rules::{Names, Rules};
+use engine_reference::{Names, Rules};
 use front_keys::IntoKey;
 use front_parts::{
     BaseCache, coalesce, compute, contains_key, get, insert, insert_or_back, invalidate, look,

@@ -2,7 +2,7 @@
 ghost use Rattle.std.specs.Prelude.{◌≡◌, ◌≤◌, IfOk, MatchOption, length, option_map, slice_get};
 ghost use Rattle.front_places.specs.Calls.{IsOpenAt, keys_of, visible_of, ways_by};
 
-use engine_rules::{Names, Rules};
+use engine_reference::{Names, Rules};
 use front_parts::BaseCache;
 use policy_base::Instant;
 use std::alloc::AllocError;

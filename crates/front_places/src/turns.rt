@@ -5,7 +5,7 @@ ghost use Rattle.front_reference.specs.Fronts.{same_kind, turn_at, turn_of, with
 ghost use Rattle.front_reference.specs.declared.data.OpenTurn.{OpenTurn};
 ghost use Rattle.front_places.specs.Turning.{IsTurnCause, IsTurnPlace};
 
-use engine_rules::Names;
+use engine_reference::Names;
 use front_keys::IntoKey;
 use front_reference::{CacheError, OpenTurn, TurnKind};
 

@@ -6,7 +6,7 @@ ghost use Rattle.engine_reference.specs.Asking.{answers_of};
 ghost use Rattle.front_reference.specs.Fronts.{CallsEach};
 ghost use Rattle.front_reference.specs.Wholes.{RunsPart, visible_number};
 
-use engine_rules::Rules;
+use engine_reference::Rules;
 use front_parts::{BaseCache, run_pending_tasks};
 use policy_base::Instant;
 use std::hash::{BuildHasher, Hash};

@@ -5,8 +5,8 @@ use Rattle.engine_reference.specs.Records.{held_entries}
 use Rattle.engine_reference.specs.Soundness.{Each}
 use Rattle.engine_reference.specs.State.{State}
 use Rattle.engine_reference.specs.Telling.{AreApart}
-use Rattle.engine_laws.specs.Points.{IsInOrder}
-use Rattle.engine_laws.specs.Sweeping.{IsTimely}
+use Rattle.engine_reference.specs.RunLaws.Points.{IsInOrder}
+use Rattle.engine_reference.specs.RunLaws.Sweeping.{IsTimely}
 use Rattle.front_reference.specs.Closeness.{IsClose}
 
 -- what all parts were made with

@@ -9,7 +9,7 @@ use Rattle.engine_reference.specs.Runs.{RunsToEnd}
 use Rattle.engine_reference.specs.Scanning.{visible_keys}
 use Rattle.engine_reference.specs.State.{State, Answers}
 use Rattle.engine_reference.specs.Visible.{visible}
-use Rattle.engine_identifiers.specs.Drawing.{Draws, AreInUse, is_registered}
+use Rattle.engine_reference.specs.Identifiers.Drawing.{Draws, AreInUse, is_registered}
 use Rattle.front_reference.specs.Fronts.{Front, part_by_hash, part_of}
 
 -- the first of a list, or what else there is

@@ -5,7 +5,7 @@ ghost use Rattle.front_reference.specs.Fronts.{ComesAfter};
 use crate::closures::perform_closure;
 use crate::hashing::Times;
 use crate::selecting::Select;
-use engine_rules::{Bundle, EvictionPolicy, NoExpiry, NoPredicate, RemovalCause, WeighOne};
+use engine_reference::{Bundle, EvictionPolicy, NoExpiry, NoPredicate, RemovalCause, WeighOne};
 use front_builder::{BuildError, CacheBuilder};
 use front_keys::{ClonedKey, OwnedKey};
 use front_reference::{At, CacheError, Made, TurnKind, TurnStart};

@@ -29,7 +29,7 @@ use Rattle.front_state.specs.Covering.{CoversAll, IsCauseToCover, keys_in}
 use Rattle.front_iterator.specs.Coming.{all_pairs, source_at}
 use Rattle.front_iterator.proofs.Keyed.{Has, first-or}
 use Rattle.front_iterator.proofs.Fronts.{GoesOver, IsSpread, all_given}
-use Rattle.engine_rules.specs.Hashing.{hash_of_key}
+use Rattle.engine_reference.specs.Rules.Hashing.{hash_of_key}
 use Rattle.front_state.proofs.Steady.{Keeps, KeepsEach, apart-untruncated}
 
 module _ {K V P S R : Type 0} where

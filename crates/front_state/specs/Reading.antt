@@ -1,7 +1,7 @@
 -- What a front shows of itself.
 use Rattle.std.specs.Prelude.{◌≡◌, length, option_map}
 use Rattle.std.specs.Duration.{as_nanos}
-use Rattle.engine_rules.specs.declared.settings.Policy.{Policy}
+use Rattle.engine_reference.specs.declared.rules.settings.Policy.{Policy}
 use Rattle.front_reference.specs.Fronts.{Front}
 
 -- the wanted capacity, the number of parts, and the times

@@ -7,8 +7,7 @@ ghost use Rattle.front_reference.specs.Fronts.{CallsAll, ComesAfter};
 ghost use Rattle.front_reference.specs.Wholes.{RunsPart};
 ghost use Rattle.front_places.specs.Calls.{CoalescesBy, ComputesIn, InsertsIn, IsCauseIn, LooksUpIn, TakesOutIn, hash_in, held_value_in, visible_in, ways_by};
 
-use engine_reference::Settings;
-use engine_rules::{Names, Rules};
+use engine_reference::{Names, Rules, Settings};
 use front_keys::{IntoKey, LentKey, OwnedKey, Shared};
 use front_places::{
     BaseCache, clear_all, coalesce_at, compute_at, contains_key_at, get_at, hash_key, insert_at,

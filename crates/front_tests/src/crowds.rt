@@ -1,5 +1,5 @@
 //! More keys than there is room for.
-use engine_rules::RemovalCause;
+use engine_reference::RemovalCause;
 use front_reference::CacheError;
 use front_rows::{BuildError, Form, Numbers, next, numbers};
 use std::alloc::Global;

@@ -1,4 +1,4 @@
-use engine_rules::RemovalCause;
+use engine_reference::RemovalCause;
 use front_rows::{Call, Closure, Done, Form, Select, are_right};
 
 /// A number by which keys spread over parts.

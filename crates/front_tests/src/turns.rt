@@ -1,4 +1,4 @@
-use engine_rules::RemovalCause;
+use engine_reference::RemovalCause;
 use front_reference::{CacheError, TurnKind};
 use front_rows::{Call, Form, Start, are_right};
 

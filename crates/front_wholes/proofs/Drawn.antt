@@ -2,7 +2,7 @@
 use Rattle.std.proofs.Common.{◌≡◌, refl, ap, ◌∙◌, subst, ℕ, zero, suc, ◌+◌, ◌-◌, ◌<◌, inl, inr, arith, List, [], ◌∷◌, ◌++◌, length, Some, append_assoc}
 use Rattle.std.specs.Prelude.{slice_get}
 use Rattle.rand_core.specs.Stream.{Stream}
-use Rattle.engine_identifiers.specs.Drawing.{AreInUse, Draws, is_registered}
+use Rattle.engine_reference.specs.Identifiers.Drawing.{AreInUse, Draws, is_registered}
 use Rattle.engine_reference.specs.Calls.{with_predicate, with_room, without_room}
 use Rattle.engine_reference.specs.State.{State}
 use Rattle.front_reference.specs.Wholes.{DrawAll, DrawsInVain, registered_in}

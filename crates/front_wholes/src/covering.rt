@@ -7,7 +7,7 @@ ghost use Rattle.front_wholes.specs.Firsts.{changed_first};
 ghost use Rattle.front_reference.specs.declared.errors.CacheError.TheVariants as errors;
 
 use crate::rooms::{release_first, reserve_all};
-use engine_rules::Rules;
+use engine_reference::Rules;
 use front_reference::CacheError;
 use moka_engine::BaseCache;
 use rand_core::Rng;

@@ -2,7 +2,7 @@
 ghost use Rattle.std.specs.Prelude.{◌≡◌};
 ghost use Rattle.front_reference.specs.Wholes.{next_told, without_told};
 
-use engine_rules::Rules;
+use engine_reference::Rules;
 use moka_engine::{BaseCache, Notice};
 use std::hash::{BuildHasher, Hash};
 

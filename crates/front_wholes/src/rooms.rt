@@ -6,7 +6,7 @@ ghost use Rattle.front_reference.specs.Parts.{IsCause};
 ghost use Rattle.front_wholes.specs.Covering.{IsRoomCause, TakeAll};
 ghost use Rattle.front_wholes.specs.Firsts.{changed_first};
 
-use engine_rules::Rules;
+use engine_reference::Rules;
 use front_reference::CacheError;
 use moka_engine::{BaseCache, Refusal};
 use std::hash::{BuildHasher, Hash};

@@ -4,7 +4,7 @@ ghost use Rattle.front_reference.specs.Fronts.{ComesAfter};
 
 use crate::rules::{Covered, IsEither, covered, next};
 use crate::turning::Turning;
-use engine_rules::RemovalCause;
+use engine_reference::RemovalCause;
 use front_reference::{At, CacheError};
 use std::alloc::Global;
 

@@ -2,23 +2,12 @@
 #![tactic(auto)]
 
 pub use engine_cache::BaseCache;
-pub use engine_housekeeper::{Housekeeper, InnerSync};
-pub use engine_reference::{
-    Entry, Notice, Read, Record, Registered, Settings, Unsent, Upsert, Write,
-};
-pub use engine_rules::{
-    Bundle, EvictionPolicy, Expiration, ExpirationPolicy, Expiry, Names, NoExpiry, NoPredicate,
-    Policy, Predicate, PredicateError, Refusal, RemovalCause, Rules, WeighOne, Weigher,
-};
+pub use engine_reference::{Bundle, Entry, EvictionPolicy, Expiration, ExpirationPolicy, Expiry, Housekeeper, InnerSync, Names, NoExpiry, NoPredicate, Notice, Policy, Predicate, PredicateError, Read, Record, Refusal, Registered, RemovalCause, Rules, Settings, Unsent, Upsert, WeighOne, Weigher, Write};
 pub use policy_base::{HousekeeperConfig, Instant};
 
 /// Functions whose contracts are laws of what the contracts speak of.
 pub mod laws {
-    pub use engine_laws::laws::{
-        calls_keep_apart, calls_stay_in_order, calls_stay_timely, looking_at_all_sweeps,
-        only_writes_show, run_tells_justly, runs_evict_shortest_front, runs_leave_order,
-        runs_stay_in_order, size_has_point, uncut_runs_leave_none_due, uncut_runs_stay_timely,
-    };
+    pub use engine_reference::run_laws::laws::{calls_keep_apart, calls_stay_in_order, calls_stay_timely, looking_at_all_sweeps, only_writes_show, run_tells_justly, runs_evict_shortest_front, runs_leave_order, runs_stay_in_order, size_has_point, uncut_runs_leave_none_due, uncut_runs_stay_timely};
     pub use engine_reference::laws::{
         calls_stay_sound, counts_are_exact, counts_are_kept, cover_shows_nothing,
         evicts_shortest_front, halves_are_whole, name_is_kept, nothing_taken_for_size,

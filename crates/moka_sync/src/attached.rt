@@ -9,7 +9,7 @@ ghost use Rattle.std.specs.Fn.{FnOnceReturnsAt};
 
 use crate::cache::Cache;
 use crate::iterator::Iter;
-use engine_rules::Rules;
+use engine_reference::Rules;
 use front_access::{Access, OwnedKeyEntrySelector, RefKeyEntrySelector};
 use front_keys::Shared;
 use front_reference::{CacheError, Computed, Made, Op, TurnKind};

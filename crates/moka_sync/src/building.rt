@@ -5,7 +5,7 @@ ghost use Rattle.front_builder.specs.declared.errors.BuildError.{BuildError};
 ghost use Rattle.front_builder.specs.declared.errors.BuildError.TheVariants.{OutOfMemory};
 
 use crate::cache::Cache;
-use engine_rules::{Bundle, Expiry, NoExpiry, NoPredicate, Predicate, Rules, WeighOne, Weigher};
+use engine_reference::{Bundle, Expiry, NoExpiry, NoPredicate, Predicate, Rules, WeighOne, Weigher};
 use front_builder::{BuildError, CacheBuilder};
 use std::alloc::Global;
 use std::hash::{BuildHasher, BuildHasherDefault, FoldHasher, Hash};

@@ -3,7 +3,7 @@ ghost use Rattle.std.specs.Prelude.{◌≡◌, IfErr};
 ghost use Rattle.front_reference.specs.declared.errors.CacheError.TheVariants as errors;
 ghost use Rattle.sync_slots.specs.Refusals.{IsShortage};
 
-use engine_rules::{Policy, Rules};
+use engine_reference::{Policy, Rules};
 use front_reference::CacheError;
 use front_state::LentState;
 use std::alloc::{AllocError, Global};

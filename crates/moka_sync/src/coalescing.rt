@@ -3,7 +3,7 @@ ghost use Rattle.std.specs.Prelude.{◌≡◌, IfErr};
 ghost use Rattle.sync_slots.specs.Refusals.{IsTurnRefusal};
 
 use crate::cache::Cache;
-use engine_rules::Rules;
+use engine_reference::Rules;
 use front_keys::{ClonedKey, OwnedKey};
 use front_reference::CacheError;
 use std::hash::{BuildHasher, Hash};

@@ -5,7 +5,7 @@ ghost use Rattle.front_reference.specs.declared.errors.CacheError.TheVariants as
 ghost use Rattle.std.specs.Sync.Forever.{forever_left};
 
 use crate::cache::Cache;
-use engine_rules::Rules;
+use engine_reference::Rules;
 use front_keys::Shared;
 use front_reference::CacheError;
 use std::hash::{BuildHasher, Hash};

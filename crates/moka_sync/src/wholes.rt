@@ -4,7 +4,7 @@ ghost use Rattle.front_reference.specs.declared.errors.CacheError.TheVariants as
 ghost use Rattle.sync_slots.specs.Refusals.{IsCoverRefusal};
 
 use crate::cache::Cache;
-use engine_rules::Rules;
+use engine_reference::Rules;
 use front_keys::Shared;
 use front_reference::CacheError;
 use front_state::Notice;

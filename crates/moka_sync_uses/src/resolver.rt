@@ -2,7 +2,7 @@
 ghost use Rattle.std.specs.Prelude.{◌≡◌, IfErr};
 ghost use Rattle.sync_slots.specs.Refusals.{IsTurnRefusal};
 
-use engine_rules::{Bundle, NoExpiry, NoPredicate, WeighOne};
+use engine_reference::{Bundle, NoExpiry, NoPredicate, WeighOne};
 use front_builder::{BuildError, CacheBuilder};
 use front_reference::CacheError;
 use moka_sync::{Build, Cache, Env, StdHasher};

@@ -6,7 +6,7 @@ ghost use Rattle.sync_desk.specs.Drawing.{InsertsAsDrawn, LooksUpAsDrawn};
 ghost use Rattle.sync_slots.specs.Refusals.{IsShortage};
 
 use crate::desk::Desk;
-use engine_rules::Rules;
+use engine_reference::Rules;
 use front_reference::CacheError;
 use std::hash::{BuildHasher, Hash};
 use sync_env::Env;

@@ -10,7 +10,7 @@ ghost use Rattle.sync_slots.specs.Refusals.{IsEndRefusal, IsShortage};
 
 use crate::calls::shortage_of;
 use crate::desk::Desk;
-use engine_rules::Rules;
+use engine_reference::Rules;
 use front_keys::{IntoKey, Shared};
 use front_reference::{CacheError, Made, TurnKind, TurnStart};
 use std::alloc::AllocError;

@@ -5,7 +5,7 @@ ghost use Rattle.front_reference.specs.Wholes.{next_told, without_told};
 ghost use Rattle.sync_slots.specs.Refusals.{IsCoverRefusal};
 
 use crate::desk::Desk;
-use engine_rules::Rules;
+use engine_reference::Rules;
 use front_iterator::ScanningGet;
 use front_keys::Shared;
 use front_reference::CacheError;

@@ -1,7 +1,7 @@
 //! What a shared cache names its keys by.
 ghost use Rattle.std.specs.Prelude.{◌≡◌};
 
-use engine_rules::Names;
+use engine_reference::Names;
 use front_keys::{ClonedKey, IntoKey, OwnedKey, Shared};
 use std::alloc::AllocError;
 

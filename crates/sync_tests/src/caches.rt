@@ -1,5 +1,5 @@
 //! The rows' caches, and the gates of their threads.
-use engine_rules::{Bundle, NoExpiry, NoPredicate, WeighOne};
+use engine_reference::{Bundle, NoExpiry, NoPredicate, WeighOne};
 use front_builder::{BuildError, CacheBuilder};
 use moka_sync::{Build, Cache, Dial, DialEnv, StdHasher};
 use rand_core::SeedableRng;

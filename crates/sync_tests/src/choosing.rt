@@ -2,7 +2,7 @@
 ghost use Rattle.std.specs.Prelude.{◌==◌};
 
 use crate::caches::{Dialled, Numbers, generator, make_dialled};
-use engine_rules::{Bundle, NoExpiry, Predicate, WeighOne};
+use engine_reference::{Bundle, NoExpiry, Predicate, WeighOne};
 use front_access::CompResult;
 use front_builder::{BuildError, CacheBuilder};
 use front_reference::{CacheError, Op};

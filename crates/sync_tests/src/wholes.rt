@@ -1,6 +1,6 @@
 //! Whole caches: iterators beside writers, evictions that are told, printed text, what builders make.
 use crate::caches::{Dialled, Numbers, generator, make_dialled};
-use engine_rules::RemovalCause;
+use engine_reference::RemovalCause;
 use front_builder::{BuildError, CacheBuilder};
 use front_keys::Shared;
 use front_reference::CacheError;

@@ -7,7 +7,7 @@ ghost use Rattle.sync_slots.specs.Refusals.{IsEndRefusal, IsShortage};
 
 use crate::shared::SharedDesk;
 use crate::turns::Lead;
-use engine_rules::Rules;
+use engine_reference::Rules;
 use front_keys::Shared;
 use front_reference::{CacheError, Computed, Op, TurnKind};
 use std::hash::{BuildHasher, Hash};

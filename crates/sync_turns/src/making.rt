@@ -6,7 +6,7 @@ ghost use Rattle.sync_slots.specs.Refusals.{IsTurnRefusal};
 
 use crate::shared::SharedDesk;
 use crate::turns::BEGINNINGS;
-use engine_rules::Rules;
+use engine_reference::Rules;
 use front_keys::Shared;
 use front_reference::{CacheError, Made, TurnKind};
 use std::alloc::AllocError;

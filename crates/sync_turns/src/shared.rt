@@ -1,6 +1,6 @@
 //! The lock.
 
-use engine_rules::Rules;
+use engine_reference::Rules;
 use front_state::LentState;
 use std::alloc::Global;
 use std::hash::{BuildHasher, Hash};

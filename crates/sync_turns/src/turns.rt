@@ -7,7 +7,7 @@ ghost use Rattle.sync_slots.specs.Endings.{suits};
 ghost use Rattle.sync_slots.specs.Refusals.{IsShortage, IsEndRefusal, IsTurnRefusal};
 
 use crate::shared::SharedDesk;
-use engine_rules::Rules;
+use engine_reference::Rules;
 use front_keys::Shared;
 use front_reference::{CacheError, Made, TurnKind};
 use std::alloc::AllocError;

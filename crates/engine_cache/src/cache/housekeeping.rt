@@ -3,8 +3,7 @@ ghost use Rattle.engine_reference.specs.Asking.{answers_of};
 ghost use Rattle.engine_reference.specs.Runs.{RunsToEnd};
 
 use crate::cache::BaseCache;
-use engine_housekeeper::InnerSync;
-use engine_rules::Rules;
+use engine_reference::{InnerSync, Rules};
 use policy_base::Instant;
 use std::hash::{BuildHasher, Hash};
 

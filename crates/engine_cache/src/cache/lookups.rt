@@ -1,7 +1,7 @@
 //! Look-ups that are uses, and their second half.
 ghost use Rattle.std.specs.Prelude.{◌≡◌, ◌<◌, ℕ, Option, length, IfOk, OnOk, OnErr, option_map};
 ghost use Rattle.engine_reference.specs.Asking.{answers_of};
-ghost use Rattle.engine_rules.specs.Hashing.{hash_of_key};
+ghost use Rattle.engine_reference.specs.Rules.Hashing.{hash_of_key};
 ghost use Rattle.engine_reference.specs.Calls.{LooksUp, with_read};
 ghost use Rattle.engine_reference.specs.Scanning.{NotesLookUp, past};
 ghost use Rattle.engine_reference.specs.Visible.{visible_record, visible_value};
@@ -10,7 +10,7 @@ ghost use Rattle.engine_reference.specs.declared.data.Record.{Record};
 use crate::cache::BaseCache;
 use crate::noting::note_read;
 use engine_calls::{clone_found, find, find_unless};
-use engine_rules::{Names, Rules};
+use engine_reference::{Names, Rules};
 use policy_base::Instant;
 use std::alloc::AllocError;
 use std::hash::{BuildHasher, Hash, Hasher};

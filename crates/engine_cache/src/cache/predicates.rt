@@ -2,12 +2,12 @@
 ghost use Rattle.std.specs.Prelude.{◌≡◌, ◌+◌, ◌-◌, ◌<◌, ◌≤◌, ◌^◌, ◌⊎◌, true, false, IfOk, IfErr, OnOk, OnErr};
 ghost use Rattle.std.specs.Result.{IsErrOf};
 ghost use Rattle.engine_calls.specs.Refusing.{IsCauseToRegister};
-ghost use Rattle.engine_identifiers.specs.Drawing.{Draws, AreInUse, is_registered};
+ghost use Rattle.engine_reference.specs.Identifiers.Drawing.{Draws, AreInUse, is_registered};
 ghost use Rattle.engine_reference.specs.Calls.{with_room, with_predicate, without_room, registered};
 
 use crate::cache::BaseCache;
 use engine_calls::{commit, draw_id, invalidate, prepare, reserve};
-use engine_rules::{Refusal, Rules};
+use engine_reference::{Refusal, Rules};
 use rand_core::Rng;
 use std::hash::{BuildHasher, Hash};
 

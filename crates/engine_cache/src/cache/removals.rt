@@ -4,12 +4,11 @@ ghost use Rattle.std.specs.Result.{IsErrOf};
 ghost use Rattle.engine_reference.specs.Calls.{removal_rooms, removed_by, with_removal_room, with_reserved_removal};
 ghost use Rattle.engine_reference.specs.Records.{held_at};
 ghost use Rattle.engine_reference.specs.declared.data.Record.{Record};
-ghost use Rattle.engine_rules.specs.Hashing.{hash_of_key};
+ghost use Rattle.engine_reference.specs.Rules.Hashing.{hash_of_key};
 
 use crate::cache::BaseCache;
 use engine_calls::{prepare_removal, remove_reserved};
-use engine_reference::Entry;
-use engine_rules::{Names, Refusal, Rules};
+use engine_reference::{Entry, Names, Refusal, Rules};
 use std::hash::{BuildHasher, Hash, Hasher};
 
 impl<K: Eq + Hash, V, S: BuildHasher, R: Rules<K, V>> BaseCache<K, V, S, R> {

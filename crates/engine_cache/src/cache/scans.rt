@@ -1,7 +1,7 @@
 //! What a cache holds, and a look-up that passes over values.
 ghost use Rattle.std.specs.Prelude.{◌≡◌, ◌<◌, ℕ, length, Some, None, IfOk, OnErr, MatchOption, option_map};
 ghost use Rattle.std.specs.Fn.{FnOnceReturnsAt};
-ghost use Rattle.engine_rules.specs.Hashing.{hash_of_key};
+ghost use Rattle.engine_reference.specs.Rules.Hashing.{hash_of_key};
 ghost use Rattle.engine_reference.specs.Asking.{answers_of};
 ghost use Rattle.engine_reference.specs.Records.{held_at};
 ghost use Rattle.engine_reference.specs.Visible.{visible_value};
@@ -10,7 +10,7 @@ ghost use Rattle.engine_reference.specs.Scanning.{held_keys, visible_keys, Looks
 use crate::cache::BaseCache;
 use crate::noting::note_read;
 use engine_calls::{clone_found, clone_key, clone_value, find, held, look_up, pass_over};
-use engine_rules::{Names, Rules};
+use engine_reference::{Names, Rules};
 use policy_base::Instant;
 use std::alloc::AllocError;
 use std::hash::{BuildHasher, Hash, Hasher};

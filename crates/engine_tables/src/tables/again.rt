@@ -9,7 +9,7 @@ ghost use Rattle.engine_cells.specs.Kept.{kept_at};
 
 use crate::tables::Tables;
 use engine_cells::{Noted, count_shown, find_number, grow, push_held_keys};
-use engine_rules::Rules;
+use engine_reference::Rules;
 use std::alloc::AllocError;
 use std::hash::{BuildHasher, Hash};
 

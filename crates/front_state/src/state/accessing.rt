@@ -9,7 +9,7 @@ ghost use Rattle.front_state.specs.Accessing.{DecidesIn, GivesIn, MayCall};
 ghost use Rattle.front_places.specs.Calls.{IsCauseIn, ways_by};
 
 use crate::state::LentState;
-use engine_rules::Rules;
+use engine_reference::Rules;
 use front_access::{Access, OwnedKeyEntrySelector, RefKeyEntrySelector};
 use front_keys::Shared;
 use front_reference::{At, CacheError, Computed, Made, Op, TurnKind};

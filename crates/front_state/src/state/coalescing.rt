@@ -11,7 +11,7 @@ ghost use Rattle.front_state.specs.Accessing.{GetsIn, GetsOptionIn, GetsResultIn
 ghost use Rattle.front_places.specs.Calls.{IsCauseIn, hash_in, ways_by};
 
 use crate::state::LentState;
-use engine_rules::Rules;
+use engine_reference::Rules;
 use front_keys::{ClonedKey, IntoKey, OwnedKey, Shared};
 use front_reference::{At, CacheError, Made};
 use std::alloc::{AllocError, Global};

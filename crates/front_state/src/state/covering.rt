@@ -9,7 +9,7 @@ ghost use Rattle.front_state.specs.Covering.{CoversAll, GivesVisible, IsCauseToC
 ghost use Rattle.front_wholes.specs.Covering.{id_text};
 
 use crate::state::LentState;
-use engine_rules::Rules;
+use engine_reference::Rules;
 use front_iterator::{Iter, ScanningGet};
 use front_keys::{LentKey, Shared};
 use front_places::{Notice, hash_key, keys_at, place_of, scan_at};

@@ -5,7 +5,7 @@ ghost use Rattle.front_reference.specs.Wholes.{visible_number};
 ghost use Rattle.front_places.specs.Calls.{LooksUpIn, visible_in, ways_by};
 
 use crate::state::LentState;
-use engine_rules::Rules;
+use engine_reference::Rules;
 use front_keys::LentKey;
 use front_places::{count_visible, hash_key, note_at, peek_at, place_of};
 use policy_base::Instant;

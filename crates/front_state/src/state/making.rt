@@ -4,8 +4,7 @@ ghost use Rattle.std.specs.String.{string_bytes};
 ghost use Rattle.front_places.specs.Making.{IsMadeWith};
 
 use super::LentState;
-use engine_reference::Settings;
-use engine_rules::Rules;
+use engine_reference::{Rules, Settings};
 use front_keys::Shared;
 use front_places::{for_part, new_parts};
 use policy_base::Instant;

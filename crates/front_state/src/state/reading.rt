@@ -5,7 +5,7 @@ ghost use Rattle.front_reference.specs.Wholes.{total_number, total_weight};
 ghost use Rattle.front_state.specs.Reading.{ShowsPolicy};
 
 use crate::state::LentState;
-use engine_rules::{Policy, Rules};
+use engine_reference::{Policy, Rules};
 use front_places::{sum_numbers, sum_weights};
 use front_reference::At;
 use std::hash::{BuildHasher, Hash};

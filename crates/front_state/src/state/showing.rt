@@ -2,7 +2,7 @@
 ghost use Rattle.std.specs.Prelude.{◌≡◌};
 
 use crate::state::LentState;
-use engine_rules::Rules;
+use engine_reference::Rules;
 use front_iterator::Iter;
 use front_keys::Shared;
 use front_places::keys_at;

@@ -13,7 +13,7 @@ ghost use Rattle.front_places.specs.Calls.{IsAskedFirst, hash_in, seen_of, ways_
 ghost use Rattle.front_places.specs.Turning.{BeginsIn, EndsTurnAt, FinishesBy, IsCauseAt, IsFinishCause, IsTurnCause, IsTurnPlace, Leads, WaitsOrLeads};
 
 use crate::state::LentState;
-use engine_rules::{Names, Rules};
+use engine_reference::{Names, Rules};
 use front_keys::{IntoKey, LentKey, Shared};
 use front_places::{
     find_turn, insert_or_back_at, look_at, make_turn, note_at, place_of, place_of_turn,

@@ -1,6 +1,6 @@
 use Rattle.std.proofs.Common.{◌≡◌, ap, sym, ◌∙◌, Some}
 use Rattle.std.proofs.lemmas.Option.{same_Some}
-use Rattle.engine_rules.specs.declared.causes.RemovalCause.TheVariants as cause
+use Rattle.engine_reference.specs.declared.rules.causes.RemovalCause.TheVariants as cause
 use Rattle.engine_reference.specs.Runs.{with_left}
 use Rattle.engine_reference.proofs.HeldRecords.{record_at-number}
 use Rattle.engine_applying.specs.declared.deciding.Decision.TheVariants as decide

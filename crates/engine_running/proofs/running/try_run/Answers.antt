@@ -2,7 +2,7 @@ use Rattle.std.proofs.Common.{refl, ap, sym, ◌∙◌}
 use Rattle.std.proofs.Math.Logic.{∥∥₁_map}
 use Rattle.engine_reference.specs.State.{Answers}
 use Rattle.engine_reference.proofs.SoundSteps.{run-sound}
-use Rattle.engine_laws.proofs.Rises.{uncut_runs_leave_none_due}
+use Rattle.engine_reference.proofs.run_laws.Rises.{uncut_runs_leave_none_due}
 use Rattle.engine_running.proofs.Joining.{stretch-join, stretch-same, stretch-sound, run-later, run-counts, made-then, ok-then, err-then}
 use Rattle.engine_running.proofs.running.try_run.Goals as goal
 

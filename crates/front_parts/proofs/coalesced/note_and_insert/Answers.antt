@@ -1,6 +1,6 @@
 use Rattle.std.proofs.Common.{subst, sym, ap, ◌∙◌, arith}
 use Rattle.engine_reference.specs.Scanning.{NotesLookUp}
-use Rattle.engine_rules.specs.Hashing.{hash_of_key}
+use Rattle.engine_reference.specs.Rules.Hashing.{hash_of_key}
 use Rattle.engine_reference.specs.Asking.{answers_of}
 use Rattle.front_parts.proofs.Looked.{as_asked, insert-roomy, inserted-acts, roomy-hasher}
 use Rattle.front_parts.proofs.coalesced.note_and_insert.Goals as goal

@@ -1,5 +1,5 @@
 use Rattle.std.proofs.Common.{ap, sym, ◌∙◌, arith}
-use Rattle.engine_rules.specs.Hashing.{hash_of_key}
+use Rattle.engine_reference.specs.Rules.Hashing.{hash_of_key}
 use Rattle.engine_reference.specs.Asking.{answers_of}
 use Rattle.engine_reference.specs.Records.{held_at}
 use Rattle.front_parts.proofs.HeldAfter.{finds, removes-some, removes-none, removal_room-hasher}

@@ -1,5 +1,5 @@
 use Rattle.std.proofs.Common.{◌≡◌, refl, subst, sym, ℕ, ◌≤◌, []}
-use Rattle.engine_laws.specs.Sweeping.{IsTimely, LeavesNoneDue}
+use Rattle.engine_reference.specs.RunLaws.Sweeping.{IsTimely, LeavesNoneDue}
 use Rattle.engine_reference.specs.Asking.{answers_of}
 use Rattle.engine_reference.specs.Laws.{CountsExactly}
 use Rattle.engine_reference.specs.Runs.{RunsToEnd}

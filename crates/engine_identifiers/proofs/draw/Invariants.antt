@@ -1,5 +1,0 @@
-use Rattle.engine_identifiers.specs.Drawing.{DrawsSome, is_registered}
-use Rattle.engine_identifiers.proofs.draw.Given as goal
-
-abbrev pub invariant-loop-try : goal.invariant-loop-try
-invariant-loop-try g l = DrawsSome l._try (g.G.Rng.stream l.fn.generator) (g.G.Rng.stream l.generator) (is_registered l.registered)

@@ -1,5 +1,0 @@
-use Rattle.engine_laws.proofs.Swept.{looking_at_all_sweeps}
-use Rattle.engine_laws.proofs.laws.looking_at_all_sweeps.Goals as goal
-
-pub returns : goal.returns
-returns g c = looking_at_all_sweeps _ _ _ _ _

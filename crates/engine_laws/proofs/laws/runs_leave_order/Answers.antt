@@ -1,5 +1,0 @@
-use Rattle.engine_laws.proofs.Rises.{runs_leave_order}
-use Rattle.engine_laws.proofs.laws.runs_leave_order.Goals as goal
-
-pub returns : goal.returns
-returns g c = runs_leave_order _ _ _ _ _

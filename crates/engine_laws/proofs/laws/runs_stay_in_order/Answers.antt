@@ -1,5 +1,0 @@
-use Rattle.engine_laws.proofs.Ordering.{runs_stay_in_order}
-use Rattle.engine_laws.proofs.laws.runs_stay_in_order.Goals as goal
-
-pub returns : goal.returns
-returns g c = runs_stay_in_order _ _ _ _ _

@@ -1,0 +1,15 @@
+//! What a cache is told beside its keys and values: how much a value weighs, how long it lives, what a predicate covers,
+//! who is evicted, and why a value left.
+mod causes;
+mod expiry;
+mod names;
+mod refusal;
+mod rules;
+mod settings;
+
+pub use causes::{PredicateError, RemovalCause};
+pub use expiry::{Expiration, Expiry, NoExpiry};
+pub use names::Names;
+pub use refusal::Refusal;
+pub use rules::{Bundle, NoPredicate, Predicate, Rules, WeighOne, Weigher};
+pub use settings::{EvictionPolicy, ExpirationPolicy, Policy};

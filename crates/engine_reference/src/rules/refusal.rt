@@ -1,0 +1,38 @@
+//! Why a call of a cache is refused.
+
+use std::alloc::AllocError;
+use thiserror::Error;
+
+/// Why a call is refused. After a refusal nothing has changed.
+#[derive(Clone, Copy, Debug, PartialEq, Eq, Drop, Error)]
+pub enum Refusal {
+    /// A growth was refused.
+    #[error("out of memory")]
+    OutOfMemory,
+    /// No write waits under this ticket.
+    #[error("unknown ticket")]
+    UnknownTicket,
+    /// The queue of writes is full until a run comes.
+    #[error("queue full")]
+    QueueFull,
+    /// The cache was made without predicates.
+    #[error("invalidation closures are disabled")]
+    InvalidationClosuresDisabled,
+    /// Each identifier that was drawn is registered.
+    #[error("ids in use")]
+    IdsInUse,
+    /// The tickets of 64 bits are used up.
+    #[error("used up")]
+    UsedUp,
+}
+
+impl From<AllocError> for Refusal {
+    ghost use Rattle.std.specs.Prelude.{◌≡◌};
+    ghost use Rattle.engine_reference.specs.declared.rules.refusal.Refusal.TheVariants.{OutOfMemory};
+
+    ghost from_gives = { λ _ e. e ≡ OutOfMemory };
+
+    fn from(_refused: AllocError) -> Self {
+        Refusal::OutOfMemory
+    }
+}

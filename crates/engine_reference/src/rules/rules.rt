@@ -1,0 +1,184 @@
+//! All that a cache asks of its keys and values.
+ghost use Rattle.std.specs.Prelude.{◌≡◌, ℕ, Bool, false, Option, Some, None, option_map};
+ghost use Rattle.std.specs.Duration.{as_nanos};
+ghost use Rattle.engine_reference.specs.Rules.Changes.{change_of, change_from};
+
+use crate::rules::expiry::{Expiration, Expiry};
+use policy_base::Instant;
+use std::marker::PhantomData;
+use std::time::Duration;
+
+/// All that a cache asks of its keys and values: how much a value weighs, when it expires by itself, and what a
+/// predicate covers. Each answer is a function of the arguments, which the ghost members give; times are in nanoseconds.
+pub trait Rules<K, V> {
+    /// What says which values are to be invalidated.
+    type Predicate: Drop;
+
+    /// What the making of a value may fail with.
+    type Fault: Drop;
+
+    ghost weight_of: { Self → K → V → ℕ };
+
+    ghost created: { Self → K → V → ℕ → Option ℕ };
+
+    /// What a read changes of the expiration: nothing, or what it becomes.
+    ghost read: { Self → K → V → ℕ → Option ℕ → ℕ → Option (Option ℕ) };
+
+    /// What an update changes of the expiration: nothing, or what it becomes.
+    ghost updated: { Self → K → V → ℕ → Option ℕ → Option (Option ℕ) };
+
+    ghost covers: { Self → Self.Predicate → K → V → Bool };
+
+    /// The weight of a value.
+    fn weight(&self, key: &K, value: &V) -> u32
+        ensures { result ≡ weight_of self.now key.now value.now };
+
+    /// The expiration of a value that was written under a new key.
+    fn created_expiration(&self, key: &K, value: &V, created_at: Instant) -> Option<Duration>
+        ensures { option_map as_nanos result ≡ created self.now key.now value.now created_at };
+
+    /// What becomes of the expiration of a value that was read.
+    fn read_expiration(
+        &self,
+        key: &K,
+        value: &V,
+        read_at: Instant,
+        remaining: Option<Duration>,
+        last_modified_at: Instant,
+    ) -> Expiration
+        ensures { change_of result ≡ read self.now key.now value.now read_at (option_map as_nanos remaining) last_modified_at };
+
+    /// The expiration of a value that replaced another.
+    fn updated_expiration(
+        &self,
+        key: &K,
+        value: &V,
+        updated_at: Instant,
+        remaining: Option<Duration>,
+    ) -> Expiration
+        ensures { change_of result ≡ updated self.now key.now value.now updated_at (option_map as_nanos remaining) };
+
+    /// Whether a predicate covers a value.
+    fn is_covered(&self, predicate: &Self::Predicate, key: &K, value: &V) -> bool
+        ensures { result ≡ covers self.now predicate.now key.now value.now };
+}
+
+/// How much values weigh.
+pub trait Weigher<K, V> {
+    ghost weight_of: { Self → K → V → ℕ };
+
+    /// The weight of a value.
+    fn weigh(&self, key: &K, value: &V) -> u32
+        ensures { result ≡ weight_of self.now key.now value.now };
+}
+
+/// Which values are to be invalidated.
+pub trait Predicate<K, V>: Drop {
+    ghost covers: { Self → K → V → Bool };
+
+    /// Whether the value is to be invalidated.
+    fn is_match(&self, key: &K, value: &V) -> bool
+        ensures { result ≡ covers self.now key.now value.now };
+}
+
+/// Each value weighs one.
+#[derive(Clone, Copy, Debug, PartialEq, Eq)]
+pub struct WeighOne;
+
+impl<K, V> Weigher<K, V> for WeighOne {
+    ghost weight_of = { λ _ _ _. 1 };
+
+    fn weigh(&self, _key: &K, _value: &V) -> u32 {
+        1
+    }
+}
+
+/// A predicate that covers nothing.
+#[derive(Clone, Copy, Debug, PartialEq, Eq)]
+pub struct NoPredicate;
+
+impl<K, V> Predicate<K, V> for NoPredicate {
+    ghost covers = { λ _ _ _. false };
+
+    fn is_match(&self, _key: &K, _value: &V) -> bool {
+        false
+    }
+}
+
+/// Rules that are put together from their parts: an `Expiry`, a `Weigher`, a type of predicates and a type of faults.
+#[derive(Drop)]
+pub struct Bundle<X, W, P, F> {
+    pub expiry: X,
+    pub weigher: W,
+    pub parts: PhantomData<(P, F)>,
+}
+
+impl<X, W, P, F> Bundle<X, W, P, F> {
+    /// Rules of these parts.
+    pub fn new(expiry: X, weigher: W) -> Self
+        ensures expiry { result.expiry ≡ expiry }
+        ensures weigher { result.weigher ≡ weigher }
+    {
+        Bundle {
+            expiry,
+            weigher,
+            parts: PhantomData,
+        }
+    }
+}
+
+impl<K, V, X: Expiry<K, V>, W: Weigher<K, V>, P: Predicate<K, V>, F: Drop> Rules<K, V>
+    for Bundle<X, W, P, F> {
+    type Predicate = P;
+
+    type Fault = F;
+
+    ghost weight_of = { λ b. W.weight_of b.weigher };
+
+    ghost created = { λ b. X.created b.expiry };
+
+    ghost read = { λ b key value at left written. change_from left (X.read b.expiry key value at left written) };
+
+    ghost updated = { λ b key value at left. change_from left (X.updated b.expiry key value at left) };
+
+    ghost covers = { λ _ predicate. P.covers predicate };
+
+    fn weight(&self, key: &K, value: &V) -> u32 {
+        self.weigher.weigh(key, value)
+    }
+
+    fn created_expiration(&self, key: &K, value: &V, created_at: Instant) -> Option<Duration> {
+        self.expiry.expire_after_create(key, value, created_at)
+    }
+
+    fn read_expiration(
+        &self,
+        key: &K,
+        value: &V,
+        read_at: Instant,
+        remaining: Option<Duration>,
+        last_modified_at: Instant,
+    ) -> Expiration {
+        let answer = self
+            .expiry
+            .expire_after_read(key, value, read_at, remaining, last_modified_at);
+        Expiration::from_answer(answer, remaining)
+    }
+
+    fn updated_expiration(
+        &self,
+        key: &K,
+        value: &V,
+        updated_at: Instant,
+        remaining: Option<Duration>,
+    ) -> Expiration {
+        let answer = self
+            .expiry
+            .expire_after_update(key, value, updated_at, remaining);
+        Expiration::from_answer(answer, remaining)
+    }
+
+    fn is_covered(&self, predicate: &P, key: &K, value: &V) -> bool {
+        predicate.is_match(key, value)
+    }
+}

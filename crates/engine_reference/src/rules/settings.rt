@@ -1,0 +1,145 @@
+//! What a cache is made with, and what it shows of it.
+ghost use Rattle.std.specs.Prelude.{◌≡◌, Some, None};
+
+use std::time::Duration;
+
+/// Which entries a cache lets go where it is too heavy.
+#[derive(Clone, Copy, Debug, PartialEq, Eq)]
+pub enum EvictionPolicy {
+    /// A newcomer comes in where it was asked for more often than all that would have to leave; else it is refused.
+    TinyLfu,
+    /// Those that were used least lately leave.
+    Lru,
+}
+
+impl EvictionPolicy {
+    /// By how often and how lately entries are used. The default.
+    pub fn tiny_lfu() -> Self
+        ensures { result ≡ EvictionPolicy.TinyLfu }
+    {
+        EvictionPolicy::TinyLfu
+    }
+
+    /// By how lately entries are used.
+    pub fn lru() -> Self
+        ensures { result ≡ EvictionPolicy.Lru }
+    {
+        EvictionPolicy::Lru
+    }
+}
+
+impl Default for EvictionPolicy {
+    ghost use Rattle.std.specs.Prelude.{◌≡◌};
+    ghost use Rattle.engine_reference.specs.declared.rules.settings.EvictionPolicy.TheVariants.{TinyLfu};
+
+    ghost is_default = { λ policy. policy ≡ TinyLfu };
+
+    fn default() -> Self {
+        EvictionPolicy::TinyLfu
+    }
+}
+
+/// For how long values live, beside what they say themselves.
+#[derive(Clone, Copy, Debug, PartialEq, Eq)]
+pub struct ExpirationPolicy {
+    time_to_live: Option<Duration>,
+    time_to_idle: Option<Duration>,
+}
+
+impl ExpirationPolicy {
+    /// How long after its write a value lives.
+    pub fn time_to_live(&self) -> Option<Duration>
+        ensures { result ≡ self.now.time_to_live }
+    {
+        self.time_to_live
+    }
+
+    /// How long after its last use a value lives.
+    pub fn time_to_idle(&self) -> Option<Duration>
+        ensures { result ≡ self.now.time_to_idle }
+    {
+        self.time_to_idle
+    }
+
+    /// Sets how long after its write a value lives.
+    pub fn set_time_to_live(&mut self, time: Duration)
+        ensures { self.new ≡ record self.old { time_to_live = Some time } }
+    {
+        self.time_to_live = Some(time);
+    }
+
+    /// Sets how long after its last use a value lives.
+    pub fn set_time_to_idle(&mut self, time: Duration)
+        ensures { self.new ≡ record self.old { time_to_idle = Some time } }
+    {
+        self.time_to_idle = Some(time);
+    }
+}
+
+impl Default for ExpirationPolicy {
+    ghost is_default = { λ policy. policy ≡ record { time_to_live = None; time_to_idle = None } };
+
+    /// Values live until they are removed.
+    fn default() -> Self {
+        ExpirationPolicy {
+            time_to_live: None,
+            time_to_idle: None,
+        }
+    }
+}
+
+/// What a cache shows of its settings.
+#[derive(Clone, Copy, Debug, PartialEq, Eq)]
+pub struct Policy {
+    max_capacity: Option<u64>,
+    num_segments: usize,
+    time_to_live: Option<Duration>,
+    time_to_idle: Option<Duration>,
+}
+
+impl Policy {
+    /// These settings.
+    pub fn new(
+        max_capacity: Option<u64>,
+        num_segments: usize,
+        time_to_live: Option<Duration>,
+        time_to_idle: Option<Duration>,
+    ) -> Self
+        ensures { result ≡ record { max_capacity = max_capacity; num_segments = num_segments; time_to_live = time_to_live; time_to_idle = time_to_idle } }
+    {
+        Policy {
+            max_capacity,
+            num_segments,
+            time_to_live,
+            time_to_idle,
+        }
+    }
+
+    /// The weight that the cache is to hold at most.
+    pub fn max_capacity(&self) -> Option<u64>
+        ensures { result ≡ self.now.max_capacity }
+    {
+        self.max_capacity
+    }
+
+    /// The number of parts.
+    pub fn num_segments(&self) -> usize
+        ensures { result ≡ self.now.num_segments }
+    {
+        self.num_segments
+    }
+
+    /// How long after its write a value lives.
+    pub fn time_to_live(&self) -> Option<Duration>
+        ensures { result ≡ self.now.time_to_live }
+    {
+        self.time_to_live
+    }
+
+    /// How long after its last use a value lives.
+    pub fn time_to_idle(&self) -> Option<Duration>
+        ensures { result ≡ self.now.time_to_idle }
+    {
+        self.time_to_idle
+    }
+}
