@@ -4,7 +4,7 @@ use Rattle.std.specs.Prelude.{slice_set}
 use Rattle.std.proofs.lemmas.Bool.{cases_eq, lt-leb}
 use Rattle.std.proofs.lemmas.Option.{same_Some}
 use Rattle.engine_reference.specs.Times.{is_reached}
-use Rattle.engine_timers.specs.Awaited.{Awaited, IsAwaited, IsSet, KeepsOthers}
+use Rattle.engine_pending.specs.Timers.Awaited.{Awaited, IsAwaited, IsSet, KeepsOthers}
 use Rattle.engine_cells.specs.declared.cell.Cell.{Cell}
 use Rattle.engine_cells.specs.Cells.{cell_at}
 use Rattle.engine_cells.specs.Awaiting.{AreAwaited}

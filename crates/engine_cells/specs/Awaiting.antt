@@ -1,6 +1,6 @@
 -- Own expirations and the timers of their places.
 use Rattle.std.specs.Prelude.{◌≡◌, ℕ, true, List, Option, Some}
-use Rattle.engine_timers.specs.Awaited.{Awaited, IsSet}
+use Rattle.engine_pending.specs.Timers.Awaited.{Awaited, IsSet}
 use Rattle.engine_cells.specs.declared.cell.Cell.{Cell}
 use Rattle.engine_cells.specs.Cells.{cell_at}
 

@@ -1,12 +1,12 @@
 //! Timers of what expires by itself.
 ghost use Rattle.std.specs.Prelude.{◌≡◌, ◌+◌, ◌<◌, ◌≤◌, ℕ, true, Some, length};
-ghost use Rattle.engine_timers.specs.Awaited.{IsSet, KeepsOthers};
+ghost use Rattle.engine_pending.specs.Timers.Awaited.{IsSet, KeepsOthers};
 ghost use Rattle.engine_cells.specs.Awaiting.{AreAwaited};
 ghost use Rattle.engine_cells.specs.Cells.{cell_at};
 ghost use Rattle.engine_cells.specs.declared.cell.Cell.{Cell};
 
 use crate::cell::Cell;
-use engine_timers::Expirations;
+use engine_pending::Expirations;
 use slab::Slab;
 
 /// A place expires at another moment than before, if it does.

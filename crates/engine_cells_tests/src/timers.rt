@@ -1,5 +1,5 @@
 //! Timers of places.
-use engine_timers::Expirations;
+use engine_pending::Expirations;
 use policy_base::Instant;
 use std::alloc::Global;
 

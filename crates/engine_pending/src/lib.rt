@@ -6,7 +6,9 @@ mod covering;
 mod deadlines;
 pub mod laws;
 mod tickets;
+pub mod timers;
 
 pub use backlog::{Backlog, MAX_READS, MAX_WRITES};
 pub use deadlines::is_dead;
 pub use tickets::Ticketed;
+pub use timers::Expirations;

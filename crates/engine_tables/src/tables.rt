@@ -26,9 +26,8 @@ use engine_cells::{
     grow, set_changed, take_if, time_all,
 };
 use engine_keys::Keys;
-use engine_pending::Backlog;
+use engine_pending::{Backlog, Expirations};
 use engine_reference::{Entry, Names, Notice, Record, Refusal, Registered, RemovalCause, Rules, Settings, Upsert, Write};
-use engine_timers::Expirations;
 use policy_base::{CacheRegion, FrequencySketch, KeyHashDate, NodeId};
 use policy_queue::{Deque, names_stand};
 use slab::Slab;

@@ -1,7 +1,7 @@
 use Rattle.std.proofs.Common.{sym, ◌∙◌, subst, ℕ, ◌<◌}
 use Rattle.std.proofs.Math.Logic.{∥∥₁_elim}
 use Rattle.std.proofs.Props.{props}
-use Rattle.engine_timers.specs.Awaited.{IsAwaited}
+use Rattle.engine_pending.specs.Timers.Awaited.{IsAwaited}
 use Rattle.engine_cells.proofs.Awaits.{none-expired}
 use Rattle.engine_cells.proofs.looking.first_expired.Goals as goal
 

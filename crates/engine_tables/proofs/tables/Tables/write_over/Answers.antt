@@ -14,7 +14,7 @@ use Rattle.engine_cells.specs.Writing.{put_for}
 use Rattle.engine_cells.proofs.Spotting.{IsSoughtAs, hash-alike, alike-sought, spotted-gets, hashed-gets}
 use Rattle.engine_cells.proofs.Totals.{held-is, tally-has, tally-fits, fits-less, tally-replaced}
 use Rattle.std.proofs.Math.Logic.{∥∥₁_map}
-use Rattle.engine_timers.specs.Awaited.{IsSet}
+use Rattle.engine_pending.specs.Timers.Awaited.{IsSet}
 use Rattle.engine_cells.proofs.Awaits.{awaited-gets}
 use Rattle.engine_tables.proofs.tables.Tables.write_over.Goals as goal
 

@@ -1,5 +1,5 @@
-use Rattle.engine_timers.proofs.Owning.{owned-moved, others-moved, timed-moved}
-use Rattle.engine_timers.proofs.names.restart.Goals as goal
+use Rattle.engine_pending.proofs.timers.Owning.{owned-moved, others-moved, timed-moved}
+use Rattle.engine_pending.proofs.timers.names.restart.Goals as goal
 
 pub returns-in-Ok-clause-owned : goal.returns-in-Ok-clause-owned
 returns-in-Ok-clause-owned c =

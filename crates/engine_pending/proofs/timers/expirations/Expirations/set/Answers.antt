@@ -1,5 +1,5 @@
-use Rattle.engine_timers.proofs.Owning.{is-set, timed-later}
-use Rattle.engine_timers.proofs.expirations.Expirations.set.Goals as goal
+use Rattle.engine_pending.proofs.timers.Owning.{is-set, timed-later}
+use Rattle.engine_pending.proofs.timers.expirations.Expirations.set.Goals as goal
 
 pub returns-clause-set : goal.returns-clause-set
 returns-clause-set c = is-set _ c.args.place c.args.time (λ t e whole.

@@ -1,6 +1,6 @@
 use Rattle.std.proofs.Common.{sym, ◌∙◌}
-use Rattle.engine_timers.proofs.Owning.{stops}
-use Rattle.engine_timers.proofs.names.stop.Goals as goal
+use Rattle.engine_pending.proofs.timers.Owning.{stops}
+use Rattle.engine_pending.proofs.timers.names.stop.Goals as goal
 
 pub returns-in-Some-clause-owned : goal.returns-in-Some-clause-owned
 returns-in-Some-clause-owned c =

@@ -1,7 +1,7 @@
 use Rattle.std.proofs.Common.{sym, subst}
-use Rattle.engine_timers.specs.Awaited.{KeepsOthers, LacksPlace}
-use Rattle.engine_timers.proofs.Owning.{owned-alike, owned-roomier, timers-roomier, owned-come, others-come, timed-come}
-use Rattle.engine_timers.proofs.names.start.Goals as goal
+use Rattle.engine_pending.specs.Timers.Awaited.{KeepsOthers, LacksPlace}
+use Rattle.engine_pending.proofs.timers.Owning.{owned-alike, owned-roomier, timers-roomier, owned-come, others-come, timed-come}
+use Rattle.engine_pending.proofs.timers.names.start.Goals as goal
 
 pub returns-clause-owned : goal.returns-clause-owned
 returns-clause-owned c =

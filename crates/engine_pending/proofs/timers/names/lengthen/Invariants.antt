@@ -1,6 +1,6 @@
 use Rattle.std.proofs.Common.{◌≡◌, ℕ, ◌+◌, ◌-◌, length}
-use Rattle.engine_timers.specs.Awaited.{name_at}
-use Rattle.engine_timers.proofs.names.lengthen.Given as goal
+use Rattle.engine_pending.specs.Timers.Awaited.{name_at}
+use Rattle.engine_pending.proofs.timers.names.lengthen.Given as goal
 
 abbrev pub invariant-loop-names : goal.invariant-loop-names
 invariant-loop-names l = (i : ℕ) → name_at l.names.items i ≡ name_at l.fn.names.items i

@@ -1,7 +1,7 @@
 use Rattle.std.proofs.Common.{refl, ◌∙◌}
 use Rattle.std.specs.Result.{is_ok}
-use Rattle.engine_timers.proofs.Owning.{lengthened}
-use Rattle.engine_timers.proofs.names.lengthen.Goals as goal
+use Rattle.engine_pending.proofs.timers.Owning.{lengthened}
+use Rattle.engine_pending.proofs.timers.names.lengthen.Goals as goal
 
 pub loop-names-init : goal.loop-names-init
 loop-names-init c = λ i. refl

@@ -11,7 +11,7 @@ use Rattle.policy_queue.specs.declared.timers.array.Due.{Due}
 use Rattle.policy_queue.specs.declared.timers.array.Timer.{Timer}
 use Rattle.policy_queue.specs.declared.timers.array.TimerNode.{TimerNode}
 use Rattle.policy_queue.specs.Timers.Timers.{Timers, Keeps, OnlyGainsRoom, Schedules, Replaces, TimerLeaves, moved}
-use Rattle.engine_timers.specs.Awaited.{Awaited, IsTimed, IsAwaited, IsSet, KeepsOthers, name_at, LacksPlace, IsOwned}
+use Rattle.engine_pending.specs.Timers.Awaited.{Awaited, IsTimed, IsAwaited, IsSet, KeepsOthers, name_at, LacksPlace, IsOwned}
 
 pub longer : (names : List (Option NodeId)) (i : ℕ) → name_at (names ++ None ∷ []) i ≡ name_at names i
 longer [] zero = refl

@@ -1,8 +1,8 @@
 //! Expirations by place.
 ghost use Rattle.std.specs.Prelude.{◌≡◌, ◌<◌, ◌≤◌, ℕ, true, [], IfSome, IfNone, Some};
-ghost use Rattle.engine_timers.specs.Awaited.{IsAwaited, IsSet, KeepsOthers};
+ghost use Rattle.engine_pending.specs.Timers.Awaited.{IsAwaited, IsSet, KeepsOthers};
 
-use crate::names::set;
+use crate::timers::names::set;
 use policy_base::{Instant, MAX_NANOS, NodeId};
 use policy_queue::TimerWheel;
 use std::alloc::Global;
@@ -17,7 +17,7 @@ pub struct Expirations {
 }
 
 impl Model for Expirations {
-    ghost use Rattle.engine_timers.specs.Awaited.{Awaited, IsOwned};
+    ghost use Rattle.engine_pending.specs.Timers.Awaited.{Awaited, IsOwned};
 
     ghost Value = { Awaited };
 

@@ -1,6 +1,6 @@
 //! Timers under the names that places know.
 ghost use Rattle.std.specs.Prelude.{◌≡◌, ◌<◌, ◌≤◌, ℕ, true, Some, None, length};
-ghost use Rattle.engine_timers.specs.Awaited.{IsTimed, KeepsOthers, name_at, LacksPlace, IsOwned};
+ghost use Rattle.engine_pending.specs.Timers.Awaited.{IsTimed, KeepsOthers, name_at, LacksPlace, IsOwned};
 
 use policy_base::{Instant, NodeId};
 use policy_queue::{Due, TimerWheel};

@@ -1,6 +1,4 @@
 //! When places expire: the first of them is found at once.
-#![tactic(auto)]
-
 mod expirations;
 mod names;
 
