@@ -1,6 +1,6 @@
 -- The record of a number, looked for under the hash of its key.
 use Rattle.std.proofs.Common.{◌≡◌, refl, ap, ◌∙◌, sym, subst, ℕ, Bool, true, false, true≢false, eqb, List, Option, Some, None}
-use Rattle.engine_keys.specs.Spots.{Spots, IsUnder}
+use Rattle.engine_cells.specs.Keys.Spots.{Spots, IsUnder}
 use Rattle.engine_cells.specs.declared.cell.Cell.{Cell}
 use Rattle.engine_cells.specs.Cells.{cell_at}
 use Rattle.engine_cells.specs.Spotted.{AreSpotted, IsHeldUnder, is_numbered}

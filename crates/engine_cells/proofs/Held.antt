@@ -2,7 +2,7 @@
 use Rattle.std.proofs.Common.{◌≡◌, refl, ap, subst, ◌∙◌, ℕ, zero, suc, arith, Bool, true, false, cond, ◌&&◌, List, [], ◌∷◌, Option, Some, None}
 use Rattle.std.specs.Prelude.{nat_lt}
 use Rattle.std.proofs.lemmas.Bool.{and_parts}
-use Rattle.engine_keys.specs.Spots.{Spots, IsUnder}
+use Rattle.engine_cells.specs.Keys.Spots.{Spots, IsUnder}
 use Rattle.engine_reference.specs.declared.data.Record.{Record}
 use Rattle.engine_reference.specs.Records.{held_at}
 use Rattle.engine_cells.specs.declared.cell.Cell.{Cell}

@@ -5,7 +5,7 @@ use Rattle.std.specs.List.{fold}
 use Rattle.engine_reference.specs.Rules.Hashing.{hash_of_key}
 use Rattle.std.specs.Cmp.{IsEquivalence}
 use Rattle.std.proofs.lemmas.Bool.{eqb-true, eq-eqb, cases_Bool, and_parts, and_from}
-use Rattle.engine_keys.specs.Spots.{Spots, IsUnder, ComesUnder, OnlyGainsSpace}
+use Rattle.engine_cells.specs.Keys.Spots.{Spots, IsUnder, ComesUnder, OnlyGainsSpace}
 use Rattle.engine_reference.specs.Records.{held_at}
 use Rattle.engine_cells.specs.declared.cell.Cell.{Cell}
 use Rattle.engine_cells.specs.Cells.{cell_at, records_by_number}

@@ -1,3 +1,4 @@
+pub mod Keys
 pub mod Cells
 pub mod Kept
 pub mod Fitting

@@ -3,7 +3,7 @@ use Rattle.std.specs.Prelude.{◌≡◌, ℕ, ◌+◌, ◌≤◌}
 use Rattle.slab.specs.Slab.{Slab, slab_len}
 use Rattle.policy_base.specs.declared.records.KeyHashDate.{KeyHashDate}
 use Rattle.policy_queue.specs.Queue.{Queue}
-use Rattle.engine_keys.specs.Spots.{Spots}
+use Rattle.engine_cells.specs.Keys.Spots.{Spots}
 use Rattle.engine_cells.specs.declared.cell.Cell.{Cell}
 
 -- nothing changed, but that more cells may fit

@@ -1,6 +1,6 @@
 -- Cells and the spots of their keys' hashes.
 use Rattle.std.specs.Prelude.{◌≡◌, ℕ, ◌==◌, Bool, true, false, ◌&&◌, List, Option, Some, None}
-use Rattle.engine_keys.specs.Spots.{Spots, IsUnder, LeavesFrom}
+use Rattle.engine_cells.specs.Keys.Spots.{Spots, IsUnder, LeavesFrom}
 use Rattle.engine_cells.specs.declared.cell.Cell.{Cell}
 use Rattle.engine_cells.specs.Cells.{cell_at}
 

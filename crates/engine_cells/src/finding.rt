@@ -1,12 +1,12 @@
 //! Look-up by key and hash.
 ghost use Rattle.std.specs.Prelude.{◌≡◌, ◌≤◌, ℕ, true, false, Some, None, IfSome, IfNone, is_some};
 ghost use Rattle.engine_reference.specs.Records.{held_at};
-ghost use Rattle.engine_keys.specs.Spots.{IsUnder};
+ghost use Rattle.engine_cells.specs.Keys.Spots.{IsUnder};
 ghost use Rattle.engine_cells.specs.Cells.{cell_at, record_in, records_by_number};
 ghost use Rattle.engine_cells.specs.Spotted.{is_match, is_numbered, AreSpotted, HaveHash, IsHeldUnder, LeavesIf};
 
 use crate::cell::Cell;
-use engine_keys::Keys;
+use crate::keys::Keys;
 use engine_reference::Names;
 use slab::Slab;
 

@@ -3,6 +3,7 @@
 
 mod cell;
 mod finding;
+pub mod keys;
 mod listing;
 mod looking;
 mod rooms;
@@ -12,6 +13,7 @@ mod timing;
 
 pub use cell::{Cell, NodeName, Noted, PlacedWrite, QueueNodes};
 pub use finding::{find_held, find_number, take_if};
+pub use keys::{Keys, MOST_PLACES};
 pub use listing::push_held_keys;
 pub use looking::{first_expired, first_settled};
 pub use rooms::grow;

@@ -1,11 +1,11 @@
 //! Room for writes.
 ghost use Rattle.std.specs.Prelude.{◌≡◌, true};
 ghost use Rattle.policy_queue.specs.Queue.{Stays};
-ghost use Rattle.engine_keys.specs.Spots.{OnlyGainsSpace};
+ghost use Rattle.engine_cells.specs.Keys.Spots.{OnlyGainsSpace};
 ghost use Rattle.engine_cells.specs.Rooms.{OnlyMoreCells, HasRooms};
 
 use crate::cell::Cell;
-use engine_keys::Keys;
+use crate::keys::Keys;
 use policy_base::KeyHashDate;
 use policy_queue::Deque;
 use slab::Slab;

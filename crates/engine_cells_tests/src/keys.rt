@@ -1,8 +1,8 @@
 //! Places by hash.
 ghost use Rattle.std.specs.Prelude.{◌≡◌, ◌≤◌, ◌<◌, ◌-◌, ◌^◌, ℕ, true};
-ghost use Rattle.engine_keys.specs.Spots.{IsUnder, OnlyGainsSpace};
+ghost use Rattle.engine_cells.specs.Keys.Spots.{IsUnder, OnlyGainsSpace};
 
-use engine_keys::{Keys, MOST_PLACES};
+use engine_cells::{Keys, MOST_PLACES};
 use std::alloc::Global;
 
 /// Makes room, at the second try where memory is refused.

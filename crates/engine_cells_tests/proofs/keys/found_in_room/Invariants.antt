@@ -1,5 +1,5 @@
 use Rattle.std.proofs.Common.{ℕ, ◌+◌, ◌<◌, ◌≤◌}
-use Rattle.engine_keys.specs.Spots.{IsUnder}
+use Rattle.engine_cells.specs.Keys.Spots.{IsUnder}
 use Rattle.engine_cells_tests.proofs.keys.found_in_room.Given as goal
 
 abbrev pub invariant-loop-place : goal.invariant-loop-place

@@ -1,0 +1,311 @@
+//! Places by hash: a ready hash leads to the places that stand under it, and the caller says which of them it seeks.
+ghost use Rattle.std.specs.Prelude.{◌≡◌, ◌≢◌, ◌↔◌, IsTrue, true, false, ℕ, ◌+◌, ◌-◌, ◌*◌, ◌/◌, ◌^◌, ◌<◌, ◌≤◌, length, replicate, IsOk, OnOk, OnErr, IfOk, IfSome, IfNone};
+ghost use Rattle.engine_cells.specs.Keys.Spots.{IsUnder, Spots, ComesUnder, LeavesFrom, OnlyGainsSpace};
+ghost use Rattle.engine_cells.specs.Keys.Slots.{nowhere, vacant, slot_at, IsTaken, taken_in, most_in, home_of, steps_on, steps_to, IsOnWay, Has, HasAll, AreFound, IsFirstVacant, Adds, IsHoled, LeavesOut, Loses};
+
+use std::alloc::{AllocError, Global};
+use std::marker::Model;
+
+/// What a vacant slot has in place of a place.
+const NOWHERE: usize = usize::MAX;
+
+/// How many places there may be.
+pub const MOST_PLACES: usize = 1 << 32;
+
+/// What spreads hashes over the slots: an odd number near 2^64 over the golden ratio.
+const SPREAD: u64 = 0x9E37_79B9_7F4A_7C15;
+
+/// A hash with its place, in 16 bytes. A vacant slot has the place `NOWHERE`.
+#[derive(Clone, Copy)]
+struct Slot {
+    hash: u64,
+    place: usize,
+}
+
+/// Places by hash. Several places may stand under one hash, each of them once.
+#[derive(Drop)]
+pub struct Keys {
+    // At most two thirds of the slots are taken.
+    slots: Vec<Slot>,
+    // How many places there are.
+    count: usize,
+}
+
+impl Model for Keys {
+    ghost use Rattle.std.specs.Prelude.{◌-◌, ◌≡◌, ◌≤◌, length};
+    ghost use Rattle.engine_cells.specs.Keys.Spots.{Spots};
+    ghost use Rattle.engine_cells.specs.Keys.Slots.{AreFound, entries_in, most_in, taken_in};
+
+    ghost Value = { Spots };
+
+    ghost view = { λ k. record { entries = entries_in k.slots.items; space = most_in (length k.slots.items) - k.count } };
+
+    // each place is found from its hash's home on, and there are vacant slots
+    ghost invariant = { λ k. record {
+      found : AreFound k.slots.items;
+      counted : taken_in k.slots.items ≡ k.count;
+      loose : k.count ≤ most_in (length k.slots.items);
+    } };
+}
+
+impl Keys {
+    /// No places. It takes no memory.
+    pub fn new(alloc: Global) -> Self
+        ensures { (hash place : ℕ) → IsUnder result hash place → ⊥ }
+    {
+        Keys {
+            slots: Vec::new(alloc),
+            count: 0,
+        }
+    }
+
+    /// Makes room for `additional` more places, which then need no memory. More than `MOST_PLACES` are refused.
+    pub fn reserve(&mut self, additional: usize) -> Result<(), AllocError>
+        ensures room { OnOk result (additional ≤ self.new.space) }
+        ensures had_room { additional ≤ self.old.space → IsOk result }
+        ensures stays { OnlyGainsSpace self.old self.new }
+        ensures refused { OnErr result (self.new ≡ self.old) }
+    {
+        if additional <= most_in(self.slots.len()) - self.count {
+            return Ok(());
+        }
+        let Some(wanted) = self.count.checked_add(additional) else {
+            return Err(AllocError);
+        };
+        if MOST_PLACES < wanted {
+            return Err(AllocError);
+        }
+        let many = slots_for(wanted.max(self.count + self.count / 2));
+        let mut slots = vacant_slots(*self.slots.allocator(), many)?;
+        put_all(&mut slots, &self.slots);
+        self.slots = slots;
+        Ok(())
+    }
+
+    /// The place that is sought, of those that stand under a hash. It takes no memory, and asks about no place that
+    /// stands under another hash, nor about any once one is found.
+    pub fn get<F: Fn(usize) -> bool>(&self, hash: u64, is_sought: F) -> Option<usize>
+        requires { F.IsAlwaysCallable is_sought }
+        ensures found { IfSome result (λ place. IsUnder self.now hash place × F.post is_sought place true) }
+        ensures none { IfNone result ((place : ℕ) → IsUnder self.now hash place → F.post is_sought place false) }
+    {
+        find(&self.slots, hash, is_sought)
+    }
+
+    /// Puts a place, which is not there, under a hash. There is room.
+    pub fn put(&mut self, hash: u64, place: usize)
+        requires room { 0 < self.old.space }
+        requires absent { IsUnder self.old hash place → ⊥ }
+        requires place { place < 2 ^ 64 - 1 }
+        ensures { ComesUnder self.old self.new hash place }
+    {
+        put_in(&mut self.slots, hash, place);
+        self.count += 1;
+    }
+
+    /// Takes a place from under a hash, where it is.
+    pub fn take(&mut self, hash: u64, place: usize)
+        requires { IsUnder self.old hash place }
+        ensures { LeavesFrom self.old self.new hash place }
+    {
+        let at = slot_of(&self.slots, hash, place);
+        take_out(&mut self.slots, at);
+        self.count -= 1;
+    }
+}
+
+/// How many places stand in so many slots at most.
+fn most_in(many: usize) -> usize
+    ensures { result ≡ most_in many }
+{
+    many / 3 * 2
+}
+
+/// How many slots so many places want.
+fn slots_for(places: usize) -> usize
+    requires { places ≤ 2 ^ 33 }
+    ensures { places ≤ most_in result }
+{
+    (places / 2 + 1) * 3
+}
+
+/// The slot in which a hash is looked for first, of so many.
+fn home_of(hash: u64, many: usize) -> usize
+    ensures value { result ≡ home_of hash many }
+    ensures within { 0 < many → result < many }
+{
+    let spread = hash.wrapping_mul(SPREAD);
+    ((spread as u128 * many as u128) >> 64) as usize
+}
+
+/// The slot to which so many steps lead.
+fn steps_on(many: usize, from: usize, steps: usize) -> usize
+    requires from { from < many }
+    requires steps { steps ≤ many }
+    ensures { result ≡ steps_on many from steps }
+{
+    if steps < many - from {
+        from + steps
+    } else {
+        steps - (many - from)
+    }
+}
+
+/// How many steps lead from one slot to another.
+fn steps_to(many: usize, from: usize, to: usize) -> usize
+    requires from { from < many }
+    requires to { to < many }
+    ensures { result ≡ steps_to many from to }
+{
+    if to < from {
+        many - from + to
+    } else {
+        to - from
+    }
+}
+
+/// So many vacant slots.
+fn vacant_slots(alloc: Global, many: usize) -> Result<Vec<Slot>, AllocError>
+    ensures { IfOk result (λ slots. slots.items ≡ replicate many vacant) }
+{
+    let slot = Slot {
+        hash: 0,
+        place: NOWHERE,
+    };
+    Vec::from_elem(alloc, slot, many)
+}
+
+/// The vacant slot that comes first for a hash.
+fn vacant_for(slots: &Vec<Slot>, hash: u64) -> usize
+    requires { taken_in slots.now.items < length slots.now.items }
+    ensures { IsFirstVacant slots.now.items hash result }
+{
+    let many = slots.len();
+    let home = home_of(hash, many);
+    for steps in 0..many {
+        let at = steps_on(many, home, steps);
+        if slots[at].place == NOWHERE {
+            return at;
+        }
+    }
+    unreachable!()
+}
+
+/// Puts a place, which is not there, under a hash. Not all slots are taken.
+fn put_in(slots: &mut Vec<Slot>, hash: u64, place: usize)
+    requires room { taken_in slots.old.items < length slots.old.items }
+    requires found { AreFound slots.old.items }
+    requires absent { Has slots.old.items hash place → ⊥ }
+    requires place { place < nowhere }
+    ensures added { Adds slots.old.items slots.new.items hash place }
+    ensures found { AreFound slots.new.items }
+{
+    let at = vacant_for(slots, hash);
+    slots[at] = Slot { hash, place };
+}
+
+/// Puts the places of other slots under their hashes.
+fn put_all(slots: &mut Vec<Slot>, others: &Vec<Slot>)
+    requires vacant { slots.old.items ≡ replicate (length slots.old.items) vacant }
+    requires room { taken_in others.now.items < length slots.old.items }
+    requires found { AreFound others.now.items }
+    ensures same { HasAll others.now.items slots.new.items }
+    ensures count { taken_in slots.new.items ≡ taken_in others.now.items }
+    ensures length { length slots.new.items ≡ length slots.old.items }
+    ensures found { AreFound slots.new.items }
+{
+    for k in 0..others.len() {
+        let slot = others[k];
+        if slot.place < NOWHERE {
+            put_in(slots, slot.hash, slot.place);
+        }
+    }
+}
+
+/// The place that is sought, of those that stand under a hash.
+fn find<F: Fn(usize) -> bool>(slots: &Vec<Slot>, hash: u64, is_sought: F) -> Option<usize>
+    requires callable { F.IsAlwaysCallable is_sought }
+    requires stand { AreFound slots.now.items }
+    ensures found { IfSome result (λ place. Has slots.now.items hash place × F.post is_sought place true) }
+    ensures none { IfNone result ((place : ℕ) → Has slots.now.items hash place → F.post is_sought place false) }
+{
+    let many = slots.len();
+    let home = home_of(hash, many);
+    for steps in 0..many {
+        let slot = slots[steps_on(many, home, steps)];
+        if slot.place == NOWHERE {
+            return None;
+        }
+        if slot.hash == hash && is_sought(slot.place) {
+            return Some(slot.place);
+        }
+    }
+    None
+}
+
+/// The slot of a place, which stands under the hash.
+fn slot_of(slots: &Vec<Slot>, hash: u64, place: usize) -> usize
+    requires { Has slots.now.items hash place }
+    ensures { slot_at slots.now.items result ≡ record { hash = hash; place = place } }
+{
+    let many = slots.len();
+    let home = home_of(hash, many);
+    for steps in 0..many {
+        let at = steps_on(many, home, steps);
+        let slot = slots[at];
+        if slot.hash == hash && slot.place == place {
+            return at;
+        }
+    }
+    unreachable!()
+}
+
+/// Whether a slot is on the way from a hash's home to another, or is that one.
+fn is_on_way(many: usize, hash: u64, to: usize, at: usize) -> bool
+    requires to { to < many }
+    requires at { at < many }
+    ensures { IsTrue result ↔ IsOnWay many hash to at }
+{
+    let home = home_of(hash, many);
+    steps_to(many, home, at) <= steps_to(many, home, to)
+}
+
+/// Moves up what stands behind a slot whose place goes, up to a vacant slot, where that slot is on its way. The slot
+/// that is free in the end is answered.
+fn move_up(slots: &mut Vec<Slot>, from: usize) -> usize
+    requires there { IsTaken slots.old.items from }
+    requires loose { taken_in slots.old.items < length slots.old.items }
+    requires found { AreFound slots.old.items }
+    ensures holed { IsHoled slots.old.items slots.new.items from result }
+    ensures apart { LeavesOut slots.new.items result }
+{
+    let many = slots.len();
+    let mut hole = from;
+    for steps in 1..many {
+        let at = steps_on(many, from, steps);
+        let slot = slots[at];
+        if slot.place == NOWHERE {
+            return hole;
+        }
+        if is_on_way(many, slot.hash, at, hole) {
+            slots[hole] = slot;
+            hole = at;
+        }
+    }
+    unreachable!()
+}
+
+/// Takes a place out of its slot.
+fn take_out(slots: &mut Vec<Slot>, from: usize)
+    requires there { IsTaken slots.old.items from }
+    requires loose { taken_in slots.old.items < length slots.old.items }
+    requires found { AreFound slots.old.items }
+    ensures taken { Loses slots.old.items slots.new.items from }
+    ensures found { AreFound slots.new.items }
+{
+    let hole = move_up(slots, from);
+    slots[hole] = Slot {
+        hash: 0,
+        place: NOWHERE,
+    };
+}

@@ -1,7 +1,0 @@
-use Rattle.std.proofs.Common.{◌≡◌, ℕ, ◌<◌, false}
-use Rattle.engine_keys.specs.Slots.{IsTaken, slot_at, steps_on}
-use Rattle.engine_keys.proofs.find.Given as goal
-
-abbrev pub invariant-loop-steps : goal.invariant-loop-steps
-invariant-loop-steps g l =
-    (t : ℕ) → t < l.steps → IsTaken l.slots.items (steps_on l.many l.home t) × ((slot_at l.slots.items (steps_on l.many l.home t)).hash ≡ l.hash → goal.F-post g l.is_sought (slot_at l.slots.items (steps_on l.many l.home t)).place false)

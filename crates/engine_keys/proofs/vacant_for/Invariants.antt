@@ -1,6 +1,0 @@
-use Rattle.std.proofs.Common.{ℕ, ◌<◌}
-use Rattle.engine_keys.specs.Slots.{IsTaken, steps_on}
-use Rattle.engine_keys.proofs.vacant_for.Given as goal
-
-abbrev pub invariant-loop-steps : goal.invariant-loop-steps
-invariant-loop-steps l = (t : ℕ) → t < l.steps → IsTaken l.slots.items (steps_on l.many l.home t)
