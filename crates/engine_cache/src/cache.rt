@@ -13,7 +13,7 @@ ghost use Rattle.engine_reference.specs.Rules.Hashing.{hash_of_key};
 
 use engine_calls::{clone_value, look_up, policy_of, tell_removed, write};
 use engine_reference::{Entry, Names, Notice, Policy, Refusal, Rules, Settings};
-use engine_running::{run, run_if_due, try_run};
+use engine_runs::{run, run_if_due, try_run};
 use engine_tables::Tables;
 use policy_base::{HousekeeperConfig, Instant};
 use std::alloc::{AllocError, Global};

@@ -8,7 +8,7 @@ ghost use Rattle.engine_reference.specs.declared.data.Record.{Record};
 
 use engine_calls::{record_in, use_found, use_in};
 use engine_reference::Rules;
-use engine_running::{run, run_if_due};
+use engine_runs::{run, run_if_due};
 use engine_tables::Tables;
 use policy_base::Instant;
 use std::hash::{BuildHasher, Hash};

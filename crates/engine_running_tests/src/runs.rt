@@ -3,7 +3,7 @@ ghost use Rattle.std.specs.Prelude.{IfOk};
 ghost use Rattle.engine_reference.specs.Soundness.{IsSound};
 
 use engine_reference::{Bundle, EvictionPolicy, NoExpiry, NoPredicate, Settings, WeighOne};
-use engine_running::try_run;
+use engine_runs::try_run;
 use engine_tables::Tables;
 use std::alloc::{AllocError, Global};
 use std::hash::{BuildHasherDefault, FoldHasher};

@@ -1,4 +1,0 @@
-pub mod Contests
-pub mod Outcomes
-pub mod Displaced
-pub mod Stretching

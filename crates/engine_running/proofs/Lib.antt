@@ -1,4 +1,0 @@
-pub mod Constant
-pub mod Joining
-pub mod Covering
-pub mod Making

@@ -1,0 +1,10 @@
+pub mod Contests
+pub mod Outcomes
+pub mod Displaced
+pub mod Stretching
+pub mod Fronting
+pub mod SweepingStretching
+pub mod Constant
+pub mod Joining
+pub mod Covering
+pub mod Making

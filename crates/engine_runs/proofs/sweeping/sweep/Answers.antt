@@ -1,0 +1,16 @@
+use Rattle.engine_runs.proofs.SweepingStretching.{stretch-start, stretch-more, rest-start, rest-more}
+use Rattle.engine_runs.proofs.sweeping.sweep.Goals as goal
+
+pub loop-place-init : goal.loop-place-init
+loop-place-init g c = record {
+  stretch = λ answers. stretch-start answers c.args.now c.args.tables.now.state;
+  applied = c.requires;
+  rest = rest-start c.args.tables.now.state;
+}
+
+pub loop-place-preserved : goal.loop-place-preserved
+loop-place-preserved g c = record {
+  stretch = λ answers. stretch-more answers c.args.now c.args.tables.now.state _ _ (c.loop-place.invariant.stretch answers) (c.leave_for.ensures.step answers);
+  applied = c.leave_for.ensures.applied;
+  rest = rest-more c.args.tables.now.state _ _ c.loop-place.invariant.rest c.leave_for.ensures.rest;
+}

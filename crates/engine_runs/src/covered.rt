@@ -1,0 +1,116 @@
+//! Predicates: what they cover leaves, and then they go.
+ghost use Rattle.std.specs.Prelude.{◌≡◌, ◌+◌, ◌<◌, [], false, length};
+ghost use Rattle.engine_cells.specs.Kept.{kept_at};
+ghost use Rattle.engine_cells.specs.Stretches.{Stretch, StepsFor};
+ghost use Rattle.engine_reference.specs.Runs.{IsApplied, lacks_table};
+ghost use Rattle.engine_reference.specs.Soundness.{IsSound};
+ghost use Rattle.engine_reference.specs.State.{Answers};
+ghost use Rattle.engine_runs.specs.Covered.{is_covered_as, IsScanned, NoneIsCovered, CoverNone};
+ghost use Rattle.engine_runs.specs.Stretches.{KeepsRest};
+
+use engine_reference::{RemovalCause, Rules};
+use engine_tables::Tables;
+use std::hash::{BuildHasher, Hash};
+
+/// Whether the record in a place is held, and a clear or a predicate stands over it.
+fn is_covered_at<K: Eq + Hash, V, S: BuildHasher, R: Rules<K, V>>(
+    tables: &Tables<K, V, S, R>,
+    place: usize,
+) -> bool
+    ensures { (answers : Answers K V R.Predicate R) → answers.covers ≡ R.covers → result ≡ is_covered_as answers tables.now.state (kept_at tables.now place) }
+{
+    match tables.record(place) {
+        Some(found) => found.is_held && tables.is_over(&found.entry),
+        None => false,
+    }
+}
+
+/// The record in a place leaves, where it is held and covered.
+fn leave_covered<K: Eq + Hash + Drop, V: Drop, S: BuildHasher, R: Rules<K, V>>(
+    tables: &mut Tables<K, V, S, R>,
+    place: usize,
+    now: u64,
+)
+    requires { IsApplied tables.old.state }
+    ensures stretch { (answers : Answers K V R.Predicate R) → answers.covers ≡ R.covers → Stretch answers now tables.old.state tables.new.state }
+    ensures applied { IsApplied tables.new.state }
+    ensures rest { KeepsRest tables.old.state tables.new.state }
+    ensures scanned { (answers : Answers K V R.Predicate R) → answers.covers ≡ R.covers → IsScanned answers place tables.old → IsScanned answers (place + 1) tables.new }
+    ensures places { length tables.new.numbers ≡ length tables.old.numbers }
+{
+    let _now = now;
+    if is_covered_at(tables, place) {
+        tables.leave(place, RemovalCause::Explicit);
+    }
+}
+
+/// All held records that are covered leave, in one walk over the places.
+fn scan<K: Eq + Hash + Drop, V: Drop, S: BuildHasher, R: Rules<K, V>>(
+    tables: &mut Tables<K, V, S, R>,
+    now: u64,
+)
+    requires { IsApplied tables.old.state }
+    ensures stretch { (answers : Answers K V R.Predicate R) → answers.covers ≡ R.covers → Stretch answers now tables.old.state tables.new.state }
+    ensures applied { IsApplied tables.new.state }
+    ensures rest { KeepsRest tables.old.state tables.new.state }
+    ensures none { (answers : Answers K V R.Predicate R) → answers.covers ≡ R.covers → NoneIsCovered answers tables.new.state }
+{
+    for place in 0..tables.places() {
+        leave_covered(tables, place, now);
+    }
+    let _stand = tables.places();
+}
+
+/// The last predicate goes, as it covers nothing.
+fn end_last<K: Eq + Hash, V, S: BuildHasher, R: Rules<K, V>>(
+    tables: &mut Tables<K, V, S, R>,
+    now: u64,
+)
+    requires applied { IsApplied tables.old.state }
+    requires some { 0 < length tables.old.state.predicates }
+    requires none { (answers : Answers K V R.Predicate R) → answers.covers ≡ R.covers → CoverNone answers tables.old.state }
+    ensures step { (answers : Answers K V R.Predicate R) → answers.covers ≡ R.covers → StepsFor answers now tables.old.state tables.new.state }
+    ensures applied { IsApplied tables.new.state }
+    ensures none { (answers : Answers K V R.Predicate R) → answers.covers ≡ R.covers → CoverNone answers tables.new.state }
+    ensures table { lacks_table tables.new.state ≡ lacks_table tables.old.state }
+    ensures fewer { length tables.new.state.predicates < length tables.old.state.predicates }
+{
+    let _now = now;
+    let last = tables.predicates().len() - 1;
+    tables.end_predicate(last);
+}
+
+/// All predicates go, where none covers anything.
+fn end_all<K: Eq + Hash, V, S: BuildHasher, R: Rules<K, V>>(
+    tables: &mut Tables<K, V, S, R>,
+    now: u64,
+)
+    requires applied { IsApplied tables.old.state }
+    requires none { (answers : Answers K V R.Predicate R) → answers.covers ≡ R.covers → CoverNone answers tables.old.state }
+    ensures stretch { (answers : Answers K V R.Predicate R) → answers.covers ≡ R.covers → Stretch answers now tables.old.state tables.new.state }
+    ensures applied { IsApplied tables.new.state }
+    ensures ended { tables.new.state.predicates ≡ [] }
+    ensures table { lacks_table tables.new.state ≡ lacks_table tables.old.state }
+{
+    while 0 < tables.predicates().len() {
+        end_last(tables, now);
+    }
+}
+
+/// Where there are predicates, all held records that are covered leave, and then the predicates go.
+pub fn end_predicates<K: Eq + Hash + Drop, V: Drop, S: BuildHasher, R: Rules<K, V>>(
+    tables: &mut Tables<K, V, S, R>,
+    now: u64,
+)
+    requires applied { IsApplied tables.old.state }
+    requires sound { ∥ IsSound tables.old.state ∥₁ }
+    ensures stretch { (answers : Answers K V R.Predicate R) → answers.covers ≡ R.covers → Stretch answers now tables.old.state tables.new.state }
+    ensures applied { IsApplied tables.new.state }
+    ensures ended { tables.new.state.predicates ≡ [] }
+    ensures table { lacks_table tables.old.state ≡ false → lacks_table tables.new.state ≡ false }
+{
+    if 0 < tables.predicates().len() {
+        scan(tables, now);
+        end_all(tables, now);
+    }
+}

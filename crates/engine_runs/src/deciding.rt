@@ -1,0 +1,142 @@
+//! What is done about a pending write.
+ghost use Rattle.std.specs.Prelude.{◌≡◌, ◌+◌, true, Some, is_some};
+ghost use Rattle.engine_cells.specs.Kept.{kept_at};
+ghost use Rattle.engine_reference.specs.Admission.{is_above, contest, shortest_front, verdict, verdict_of_full};
+ghost use Rattle.engine_reference.specs.Records.{settled_in};
+ghost use Rattle.engine_reference.specs.declared.data.Record.{Record};
+ghost use Rattle.engine_runs.specs.Deciding.{decided, decision, refused_as};
+
+use crate::contesting::is_won;
+use engine_reference::{EvictionPolicy, Record, Rules, Upsert};
+use engine_tables::Tables;
+use std::hash::{BuildHasher, Hash};
+
+/// What is done about a pending write of a record that is there.
+#[derive(Clone, Copy)]
+pub enum Decision {
+    /// Nothing, as a later one was applied.
+    Skip,
+    /// The record counts.
+    Count,
+    /// The record counts, and others go for it.
+    Displace,
+    /// The record stays as it is, as it was written or removed since.
+    PutOff,
+    /// The record leaves.
+    Refuse,
+}
+
+/// Whether a capacity is set, and a weight is above it.
+fn is_above(capacity: Option<u64>, weight: u128) -> bool
+    ensures { result ≡ is_above capacity weight }
+{
+    match capacity {
+        Some(capacity) => u128::from(capacity) < weight,
+        None => false,
+    }
+}
+
+/// What is done about a refused record.
+fn refused_as<K, V>(found: &Record<K, V>, write: Upsert) -> Decision
+    ensures { result ≡ refused_as write found.now }
+{
+    if !found.is_held || write.write < found.writes {
+        Decision::PutOff
+    } else {
+        Decision::Refuse
+    }
+}
+
+/// What the contest of a newcomer with those that would go for it comes to.
+fn contest<K: Eq + Hash, V, S: BuildHasher, R: Rules<K, V>>(
+    tables: &Tables<K, V, S, R>,
+    write: Upsert,
+    refused: Decision,
+) -> Decision
+    ensures { result ≡ decided refused (contest tables.now.state.sketch write.hash (shortest_front write.weight (settled_in tables.now.state.records tables.now.state.access))) }
+{
+    let wanted = tables.sketch().frequency(write.hash);
+    if is_won(tables, write.weight, wanted) {
+        Decision::Displace
+    } else {
+        refused
+    }
+}
+
+/// What is done about a newcomer for which there is no room, though alone it fits.
+fn decide_full<K: Eq + Hash, V, S: BuildHasher, R: Rules<K, V>>(
+    tables: &Tables<K, V, S, R>,
+    write: Upsert,
+    refused: Decision,
+) -> Decision
+    ensures { result ≡ decided refused (verdict_of_full tables.now.state.settings.policy tables.now.state.sketch write (settled_in tables.now.state.records tables.now.state.access)) }
+{
+    match tables.settings().policy {
+        EvictionPolicy::Lru => Decision::Count,
+        EvictionPolicy::TinyLfu => contest(tables, write, refused),
+    }
+}
+
+/// What is done about a newcomer.
+fn judge<K: Eq + Hash, V, S: BuildHasher, R: Rules<K, V>>(
+    tables: &Tables<K, V, S, R>,
+    write: Upsert,
+    refused: Decision,
+) -> Decision
+    ensures { result ≡ decided refused (verdict tables.now.state write) }
+{
+    let capacity = tables.settings().capacity;
+    let weight = u128::from(write.weight);
+    if !is_above(capacity, tables.admitted_weight() + weight) {
+        return Decision::Count;
+    }
+    if is_above(capacity, weight) {
+        return refused;
+    }
+    decide_full(tables, write, refused)
+}
+
+/// What is done about a pending write of a record.
+fn decide_on<K: Eq + Hash, V, S: BuildHasher, R: Rules<K, V>>(
+    tables: &Tables<K, V, S, R>,
+    found: &Record<K, V>,
+    write: Upsert,
+) -> Decision
+    ensures { result ≡ decision tables.now.state write found.now }
+{
+    if write.write <= found.applied {
+        return Decision::Skip;
+    }
+    if found.counts.is_some() {
+        return Decision::Count;
+    }
+    let refused = refused_as(found, write);
+    judge(tables, write, refused)
+}
+
+/// The record in a place that has one.
+pub(crate) fn record_in<K: Eq + Hash, V, S: BuildHasher, R: Rules<K, V>>(
+    tables: &Tables<K, V, S, R>,
+    place: usize,
+) -> &Record<K, V>
+    requires { is_some (kept_at tables.now place) ≡ true }
+    ensures { kept_at tables.now place ≡ Some result.now }
+{
+    match tables.record(place) {
+        Some(found) => found,
+        None => unreachable!(),
+    }
+}
+
+/// What is done about a pending write of the record in a place.
+pub fn decide<K: Eq + Hash, V, S: BuildHasher, R: Rules<K, V>>(
+    tables: &Tables<K, V, S, R>,
+    place: usize,
+    write: Upsert,
+) -> Decision
+    requires { is_some (kept_at tables.now place) ≡ true }
+    ensures { (r : Record K V) → kept_at tables.now place ≡ Some r → result ≡ decision tables.now.state write r }
+{
+    let found = record_in(tables, place);
+    decide_on(tables, found, write)
+}

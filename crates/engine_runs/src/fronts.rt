@@ -1,0 +1,167 @@
+//! The fronts at which a run looks.
+ghost use Rattle.std.specs.Prelude.{◌≡◌, IfSome, IfNone};
+ghost use Rattle.engine_cells.specs.Kept.{kept_at};
+ghost use Rattle.engine_reference.specs.Times.{end_of, is_reached, tick_of};
+ghost use Rattle.engine_reference.specs.declared.data.Record.{Record};
+ghost use Rattle.engine_runs.specs.Fronts.{is_later_tick, why_written, why_used, MayLeave, IsWrittenClean, IsUsedClean, IsTimerClean, IsLight, IsClean};
+
+use engine_reference::{Record, RemovalCause, Rules, Settings};
+use engine_tables::Tables;
+use std::hash::{BuildHasher, Hash};
+
+/// How many nanoseconds a tick of own expirations has.
+const TICK: u64 = 1 << 30;
+
+/// Whether a time that began at a moment has ended.
+fn has_ended(since: u64, time: Option<u64>, now: u64) -> bool
+    ensures { result ≡ is_reached (end_of since time) now }
+{
+    match time {
+        None => false,
+        Some(time) => since.saturating_add(time).min(18_446_744_073_709_551_614) <= now,
+    }
+}
+
+/// Why a record has to leave, by its last write.
+fn why_written<K, V>(
+    found: &Record<K, V>,
+    settings: Settings,
+    cleared: u64,
+    now: u64,
+) -> Option<RemovalCause>
+    ensures { result ≡ why_written settings.live cleared now found.now }
+{
+    if !found.is_held {
+        return None;
+    }
+    if has_ended(found.entry.written, settings.live, now) {
+        return Some(RemovalCause::Expired);
+    }
+    if found.entry.step < cleared {
+        return Some(RemovalCause::Explicit);
+    }
+    None
+}
+
+/// Why a record has to leave, by its last use.
+fn why_used<K, V>(found: &Record<K, V>, settings: Settings, now: u64) -> Option<RemovalCause>
+    ensures { result ≡ why_used settings.idle now found.now }
+{
+    if found.is_held && has_ended(found.entry.used, settings.idle, now) {
+        Some(RemovalCause::Expired)
+    } else {
+        None
+    }
+}
+
+/// The front of the write list, where it has to leave.
+fn written_leaving<K: Eq + Hash, V, S: BuildHasher, R: Rules<K, V>>(
+    tables: &Tables<K, V, S, R>,
+    now: u64,
+) -> Option<(usize, RemovalCause)>
+    ensures found { IfSome result (λ due. (r : Record K V) × (kept_at tables.now due.0 ≡ Some r) × MayLeave tables.now.state now r due.1) }
+    ensures none { IfNone result (IsWrittenClean now tables.now.state) }
+{
+    let place = tables.first_written()?;
+    match tables.record(place) {
+        Some(found) => match why_written(found, tables.settings(), tables.cleared(), now) {
+            Some(cause) => Some((place, cause)),
+            None => None,
+        },
+        None => None,
+    }
+}
+
+/// The front of the access list, where it has to leave.
+fn used_leaving<K: Eq + Hash, V, S: BuildHasher, R: Rules<K, V>>(
+    tables: &Tables<K, V, S, R>,
+    now: u64,
+) -> Option<(usize, RemovalCause)>
+    ensures found { IfSome result (λ due. (r : Record K V) × (kept_at tables.now due.0 ≡ Some r) × MayLeave tables.now.state now r due.1) }
+    ensures none { IfNone result (IsUsedClean now tables.now.state) }
+{
+    let place = tables.oldest()?;
+    match tables.record(place) {
+        Some(found) => match why_used(found, tables.settings(), now) {
+            Some(cause) => Some((place, cause)),
+            None => None,
+        },
+        None => None,
+    }
+}
+
+/// The tick of a moment: own expirations are noticed by ticks of 2^30 nanoseconds, counted from the making rounded down to a multiple of 4096.
+fn tick_at(settings: &Settings, moment: u64) -> u64
+    ensures { result ≡ tick_of settings.now moment }
+{
+    moment.saturating_sub(settings.made / 4096 * 4096) / TICK
+}
+
+/// Whether a run is in a later tick than the last one was.
+fn is_in_later_tick<K: Eq + Hash, V, S: BuildHasher, R: Rules<K, V>>(
+    tables: &Tables<K, V, S, R>,
+    now: u64,
+) -> bool
+    ensures { result ≡ is_later_tick tables.now.state now }
+{
+    let settings = tables.settings();
+    tick_at(&settings, tables.ran()) < tick_at(&settings, now)
+}
+
+/// A record whose own expiration was reached, which is noticed in a later tick than the last run's.
+fn timer_leaving<K: Eq + Hash, V, S: BuildHasher, R: Rules<K, V>>(
+    tables: &Tables<K, V, S, R>,
+    now: u64,
+) -> Option<(usize, RemovalCause)>
+    ensures found { IfSome result (λ due. (r : Record K V) × (kept_at tables.now due.0 ≡ Some r) × MayLeave tables.now.state now r due.1) }
+    ensures none { IfNone result (IsTimerClean now tables.now.state) }
+{
+    if !is_in_later_tick(tables, now) {
+        return None;
+    }
+    match tables.first_due(now) {
+        Some(place) => Some((place, RemovalCause::Expired)),
+        None => None,
+    }
+}
+
+/// The first settled record of the access list, where the weight is above the capacity.
+fn excess_leaving<K: Eq + Hash, V, S: BuildHasher, R: Rules<K, V>>(
+    tables: &Tables<K, V, S, R>,
+    now: u64,
+) -> Option<(usize, RemovalCause)>
+    ensures found { IfSome result (λ due. (r : Record K V) × (kept_at tables.now due.0 ≡ Some r) × MayLeave tables.now.state now r due.1) }
+    ensures none { IfNone result (IsLight tables.now.state) }
+{
+    let _now = now;
+    if !tables.is_too_heavy() {
+        return None;
+    }
+    match tables.first_settled() {
+        Some(place) => Some((place, RemovalCause::Size)),
+        None => None,
+    }
+}
+
+/// The first record that has to leave, by the fronts, and why.
+pub fn next_leaving<K: Eq + Hash, V, S: BuildHasher, R: Rules<K, V>>(
+    tables: &Tables<K, V, S, R>,
+    now: u64,
+) -> Option<(usize, RemovalCause)>
+    ensures found { IfSome result (λ due. (r : Record K V) × (kept_at tables.now due.0 ≡ Some r) × MayLeave tables.now.state now r due.1) }
+    ensures none { IfNone result (IsClean now tables.now.state) }
+{
+    if let Some(found) = written_leaving(tables, now) {
+        return Some(found);
+    }
+    if let Some(found) = used_leaving(tables, now) {
+        return Some(found);
+    }
+    if let Some(found) = timer_leaving(tables, now) {
+        return Some(found);
+    }
+    if let Some(found) = excess_leaving(tables, now) {
+        return Some(found);
+    }
+    None
+}

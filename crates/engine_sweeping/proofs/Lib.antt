@@ -1,2 +1,0 @@
-pub mod Fronting
-pub mod Stretching
