@@ -3,7 +3,7 @@
 use crate::generators::Repeating;
 use crate::rules::{Lives, RowRules, ValueIs, Weighs};
 use crate::values::Brittle;
-use engine_cache::{BaseCache, Refusal};
+use moka_engine::{BaseCache, Refusal};
 use engine_reference::{Bundle, Notice, Policy, Settings};
 use policy_base::{HousekeeperConfig, Instant};
 use std::alloc::{AllocError, Global};

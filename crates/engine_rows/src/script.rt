@@ -4,7 +4,7 @@
 use crate::engine::Engine;
 use crate::generators::Repeating;
 use crate::rules::{ONE, ValueIs, Weighs};
-use engine_cache::Refusal;
+use moka_engine::Refusal;
 use engine_reference::{EvictionPolicy, RemovalCause, Settings};
 use policy_base::Instant;
 use std::alloc::{AllocError, Global};

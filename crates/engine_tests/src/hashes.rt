@@ -1,5 +1,5 @@
 //! The hash of a key, by the hasher that a cache was made with.
-use engine_cache::BaseCache;
+use moka_engine::BaseCache;
 use engine_rows::{Folding, SETTINGS};
 use engine_reference::{Bundle, NoExpiry, NoPredicate, WeighOne};
 use policy_base::HousekeeperConfig;

@@ -2,7 +2,7 @@
 ghost use Rattle.std.specs.Prelude.{◌≡◌};
 
 use crate::hashes::{Cache, cache_of};
-use engine_cache::Refusal;
+use moka_engine::Refusal;
 use engine_reference::Names;
 use policy_base::Instant;
 use std::alloc::{AllocError, Global};

@@ -1,7 +1,7 @@
 //! Rows on predicates.
 
 use crate::playing::none_wrong;
-use engine_cache::Refusal;
+use moka_engine::Refusal;
 use engine_reference::{RemovalCause, Settings};
 use engine_rows::{CASE, Case, Look, Row, SETTINGS};
 

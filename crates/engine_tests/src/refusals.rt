@@ -1,7 +1,7 @@
 //! A row on a value whose clone is refused: the calls answer so and leave all as it was.
 
 use crate::playing::none_wrong;
-use engine_cache::Refusal;
+use moka_engine::Refusal;
 use engine_reference::Settings;
 use engine_rows::{CASE, Case, Look, NOT_CLONED, Row, SETTINGS};
 

@@ -1,7 +1,10 @@
 //! A cache of one part: expiry, admission, eviction, invalidation, maintenance. Its owner hands in hashes, moments and steps, sends the tickets of its writes, and takes its notices.
 #![tactic(auto)]
 
-pub use engine_cache::BaseCache;
+mod cache;
+mod noting;
+
+pub use cache::BaseCache;
 pub use engine_reference::{Bundle, Entry, EvictionPolicy, Expiration, ExpirationPolicy, Expiry, Housekeeper, InnerSync, Names, NoExpiry, NoPredicate, Notice, Policy, Predicate, PredicateError, Read, Record, Refusal, Registered, RemovalCause, Rules, Settings, Unsent, Upsert, WeighOne, Weigher, Write};
 pub use policy_base::{HousekeeperConfig, Instant};
 

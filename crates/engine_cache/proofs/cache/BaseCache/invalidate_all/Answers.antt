@@ -1,6 +1,0 @@
-use Rattle.std.proofs.Common.{ap}
-use Rattle.engine_cache.proofs.Keeping.{well-as, well-cleared}
-use Rattle.engine_cache.proofs.cache.BaseCache.invalidate_all.Goals as goal
-
-pub invariant_of-self : goal.invariant_of-self
-invariant_of-self g c = let s = c.self.inside.tables.state in well-as _ _ (ap (λ t. t.state) c.clear.ensures) (well-cleared s _ c.self.invariant)

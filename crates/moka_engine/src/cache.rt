@@ -1,0 +1,243 @@
+//! The cache.
+ghost use Rattle.std.specs.Prelude.{◌≡◌, ℕ, ◌+◌, ◌<◌, ◌≤◌, ◌^◌, true, false, [], ◌⊎◌, length, slice_get, is_some, None, IfOk, OnOk, OnErr, option_map};
+ghost use Rattle.std.specs.Duration.{as_nanos};
+ghost use Rattle.std.specs.Result.{IsErrOf};
+ghost use Rattle.std.specs.String.{string_bytes};
+ghost use Rattle.engine_reference.specs.RunLaws.Sweeping.{IsTimely, LeavesNoneDue};
+ghost use Rattle.engine_reference.specs.Asking.{answers_of};
+ghost use Rattle.engine_reference.specs.Calls.{IsNew, written, sent, unsent_at, is_full, removal_told, MaintainsIfDue, cleared_by, without_notice, with_room};
+ghost use Rattle.engine_reference.specs.Laws.{CountsExactly};
+ghost use Rattle.engine_reference.specs.Runs.{RunsToEnd};
+ghost use Rattle.engine_reference.specs.Visible.{visible_record, visible_value};
+ghost use Rattle.engine_reference.specs.Rules.Hashing.{hash_of_key};
+
+use engine_calls::{clone_value, look_up, policy_of, tell_removed, write};
+use engine_reference::{Entry, Names, Notice, Policy, Refusal, Rules, Settings};
+use engine_runs::{run, run_if_due, try_run};
+use engine_tables::Tables;
+use policy_base::{HousekeeperConfig, Instant};
+use std::alloc::{AllocError, Global};
+use std::hash::{BuildHasher, Hash, Hasher};
+use std::marker::Model;
+
+mod housekeeping;
+mod lookups;
+mod predicates;
+mod removals;
+mod scans;
+mod settings;
+
+/// A cache of one part. Steps rise from call to call; moments may be any.
+#[derive(Drop)]
+pub struct BaseCache<K: Eq + Hash, V, S: BuildHasher, R: Rules<K, V>> {
+    tables: Tables<K, V, S, R>,
+}
+
+impl<K: Eq + Hash, V, S: BuildHasher, R: Rules<K, V>> Model for BaseCache<K, V, S, R> {
+    ghost use Rattle.engine_reference.specs.State.{State};
+    ghost use Rattle.moka_engine.specs.Keeping.{IsWellKept};
+
+    ghost Value = { State K V R.Predicate S R };
+
+    ghost view = { λ c. c.tables.state };
+
+    ghost invariant = { λ c. IsWellKept c.tables.state };
+}
+
+impl<K: Eq + Hash, V, S: BuildHasher, R: Rules<K, V>> BaseCache<K, V, S, R> {
+    /// An empty cache of this name, made at the moment of its settings, with space for so many entries, where there is memory for it.
+    /// Nothing comes of the housekeeper's configuration: a run goes to its end, and no contract shows the size of its batches.
+    pub fn new(
+        alloc: Global,
+        name: Option<String>,
+        initial_capacity: usize,
+        settings: Settings,
+        _housekeeper_config: HousekeeperConfig,
+        hasher: S,
+        rules: R,
+    ) -> Result<Self, AllocError>
+    where
+        S: Drop,
+        R: Drop,
+        ensures { IfOk result (λ made. IsNew (option_map string_bytes name) settings hasher rules made) }
+    {
+        let mut tables = Tables::new(alloc, name, settings, hasher, rules)?;
+        let _has_space = tables.make_space(initial_capacity);
+        Ok(BaseCache { tables })
+    }
+
+    /// How many records were admitted at the end of the last run.
+    pub fn entry_count(&self) -> u64
+        ensures { result ≡ self.now.number }
+    {
+        self.tables.number()
+    }
+
+    /// What they weighed.
+    pub fn weighted_size(&self) -> u64
+        ensures { result ≡ self.now.weight }
+    {
+        self.tables.weight()
+    }
+
+    /// Whether removals are told.
+    pub fn is_removal_notifier_enabled(&self) -> bool
+        ensures { result ≡ self.now.settings.tells }
+    {
+        self.tables.settings().tells
+    }
+
+    /// What is shown of the settings.
+    pub fn policy(&self) -> Policy
+        ensures capacity { result.max_capacity ≡ self.now.settings.capacity }
+        ensures parts { result.num_segments ≡ 1 }
+        ensures live { option_map as_nanos result.time_to_live ≡ self.now.settings.live }
+        ensures idle { option_map as_nanos result.time_to_idle ≡ self.now.settings.idle }
+    {
+        policy_of(self.tables.settings())
+    }
+
+    /// Covers every value that was written at an earlier step.
+    pub fn invalidate_all(&mut self, step: u64)
+        ensures { self.new ≡ cleared_by step self.old }
+    {
+        self.tables.clear(step);
+    }
+
+    /// The oldest notice that was not taken.
+    pub fn next_notice(&mut self) -> Option<Notice<K, V>>
+        ensures notice { result ≡ slice_get self.old.notices 0 }
+        ensures taken { self.new ≡ without_notice self.old }
+    {
+        self.tables.next_notice()
+    }
+
+    /// Makes room for one more write.
+    pub fn reserve_write(&mut self) -> Result<(), Refusal>
+        ensures ok { OnOk result (self.new ≡ with_room self.old) }
+        ensures err { OnErr result (self.new ≡ self.old) }
+        ensures used_up { IsErrOf result Refusal.UsedUp → 2 ^ 64 ≤ self.old.next_ticket + self.old.reserved + 1 }
+        ensures only { OnErr result ((IsErrOf result Refusal.OutOfMemory) ⊎ (IsErrOf result Refusal.UsedUp)) }
+    {
+        self.tables.make_room(1)?;
+        Ok(())
+    }
+
+    /// Whether a key has a visible value. It is no use of it.
+    pub fn contains_key_with_hash<Q: Names<K>>(&self, key: &Q, hash: u64, now: Instant) -> bool
+        requires hashed { hash ≡ hash_of_key S.Hasher.finish S.Hasher.write S.build_hasher K.hash_input self.now.hasher (Q.named_key key.now) }
+        ensures { result ≡ is_some (visible_record (answers_of R.weight_of R.created R.read R.updated R.covers) K.eq self.now now (Q.named_key key.now)) }
+    {
+        look_up(&self.tables, key, hash, now.as_nanos()).is_some()
+    }
+
+    /// A clone of the visible value of a key. It is no use of it.
+    pub fn get_with_hash_without_recording<Q: Names<K>>(
+        &self,
+        key: &Q,
+        hash: u64,
+        now: Instant,
+    ) -> Result<Option<V>, AllocError>
+    where
+        V: Clone,
+        requires hashed { hash ≡ hash_of_key S.Hasher.finish S.Hasher.write S.build_hasher K.hash_input self.now.hasher (Q.named_key key.now) }
+        requires exact { (x y : V) → V.is_clone x y → y ≡ x }
+        ensures { IfOk result (λ found. found ≡ visible_value (answers_of R.weight_of R.created R.read R.updated R.covers) K.eq self.now now (Q.named_key key.now)) }
+    {
+        clone_value(look_up(&self.tables, key, hash, now.as_nanos()))
+    }
+
+    // ---- writing
+
+    /// Writes a value under its key, for which room was reserved, and answers the ticket of the write. What it replaces is told.
+    pub fn do_insert_with_hash(
+        &mut self,
+        key: K,
+        hash: u64,
+        value: V,
+        now: Instant,
+        step: u64,
+    ) -> u64
+    where
+        K: Drop,
+        V: Drop,
+        requires hashed { hash ≡ hash_of_key S.Hasher.finish S.Hasher.write S.build_hasher K.hash_input self.old.hasher key }
+        requires room { 0 < self.old.reserved }
+        ensures ticket { result ≡ self.old.next_ticket }
+        ensures written { self.new ≡ written (answers_of R.weight_of R.created R.read R.updated R.covers) K.eq self.old key hash value now step }
+    {
+        let _moment = now.as_nanos();
+        let ticket = self.tables.next_ticket();
+        write(&mut self.tables, key, hash, value, now, step);
+        ticket
+    }
+
+    /// Tells an entry that was removed by its key, which is named beside it.
+    pub fn notify_invalidate<Q: Names<K>>(&mut self, _key: &Q, entry: Entry<K, V>, now: Instant)
+    where
+        K: Drop,
+        V: Drop,
+        requires room { self.old.settings.tells ≡ true → 0 < self.old.reserved }
+        ensures { self.new ≡ removal_told (answers_of R.weight_of R.created R.read R.updated R.covers) entry now self.old }
+    {
+        tell_removed(&mut self.tables, entry, now);
+    }
+
+    /// Moves the write of a ticket into the queue. An unknown ticket is refused before a full queue.
+    pub fn send(&mut self, ticket: u64) -> Result<(), Refusal>
+        ensures ok { OnOk result (self.new ≡ sent ticket self.old) }
+        ensures known { OnOk result (is_some (unsent_at self.old.unsent ticket) ≡ true) }
+        ensures err { OnErr result (self.new ≡ self.old) }
+        ensures unknown { IsErrOf result Refusal.UnknownTicket → unsent_at self.old.unsent ticket ≡ None }
+        ensures full { IsErrOf result Refusal.QueueFull → (is_some (unsent_at self.old.unsent ticket) ≡ true) × (is_full self.old ≡ true) }
+        ensures only { OnErr result ((IsErrOf result Refusal.UnknownTicket) ⊎ (IsErrOf result Refusal.QueueFull)) }
+    {
+        self.tables.send(ticket)
+    }
+
+    /// Runs maintenance to its end: all that is pending is applied, what is due leaves, and then the excess.
+    /// Where all tickets were sent as it began, the counts are exact; where moments never fell and steps rose too, nothing that is kept is due.
+    /// Where half the capacity is held and the sketch has no table, it is made first; an error tells that there was no memory for it, and the run is as whole without.
+    pub fn try_run_pending_tasks(&mut self, now: Instant) -> Result<(), AllocError>
+    where
+        K: Drop,
+        V: Drop,
+        ensures runs { RunsToEnd (answers_of R.weight_of R.created R.read R.updated R.covers) now self.old self.new }
+        ensures counts { self.old.unsent ≡ [] → CountsExactly K V R.Predicate S R (answers_of R.weight_of R.created R.read R.updated R.covers) self.new }
+        ensures due { (moment step : ℕ) → IsTimely moment step self.old → moment ≤ now → now ≤ 9223372036854775807 → LeavesNoneDue now self.new }
+        ensures made { OnOk result (self.new.table_refused ≡ false) }
+        ensures refused { OnErr result (self.new.table_refused ≡ true) }
+    {
+        try_run(&mut self.tables, now.as_nanos())
+    }
+
+    /// Runs maintenance to its end, whether or not there is memory for the sketch's table.
+    pub fn run_pending_tasks(&mut self, now: Instant)
+    where
+        K: Drop,
+        V: Drop,
+        ensures runs { RunsToEnd (answers_of R.weight_of R.created R.read R.updated R.covers) now self.old self.new }
+        ensures counts { self.old.unsent ≡ [] → CountsExactly K V R.Predicate S R (answers_of R.weight_of R.created R.read R.updated R.covers) self.new }
+        ensures due { (moment step : ℕ) → IsTimely moment step self.old → moment ≤ now → now ≤ 9223372036854775807 → LeavesNoneDue now self.new }
+    {
+        run(&mut self.tables, now.as_nanos());
+    }
+
+    /// Whether the last run wanted the sketch's table and there was no memory for it.
+    pub fn is_table_refused(&self) -> bool
+        ensures { result ≡ self.now.table_refused }
+    {
+        self.tables.table_refused()
+    }
+
+    /// Runs maintenance where it is due: where 64 reads or 64 writes are pending, or 300 milliseconds after the last run.
+    pub fn apply_reads_writes_if_needed(&mut self, now: Instant)
+    where
+        K: Drop,
+        V: Drop,
+        ensures due { MaintainsIfDue (answers_of R.weight_of R.created R.read R.updated R.covers) now self.old self.new }
+        ensures room { length self.new.reads < 64 }
+    {
+        run_if_due(&mut self.tables, now.as_nanos());
+    }
+}
