@@ -1,6 +1,6 @@
 //! The hash of a key, by the hasher that a cache was made with.
 use moka_engine::BaseCache;
-use engine_rows::{Folding, SETTINGS};
+use crate::rows::{Folding, SETTINGS};
 use engine_reference::{Bundle, NoExpiry, NoPredicate, WeighOne};
 use policy_base::HousekeeperConfig;
 use std::alloc::{AllocError, Global};

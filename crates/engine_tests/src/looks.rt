@@ -2,7 +2,7 @@
 
 use crate::playing::none_wrong;
 use engine_reference::Settings;
-use engine_rows::{CASE, Case, Look, Row, SECOND, SETTINGS};
+use crate::rows::{CASE, Case, Look, Row, SECOND, SETTINGS};
 
 const CASES: &[Case<'static>] = &[
     // An empty cache shows nothing.

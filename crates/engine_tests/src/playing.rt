@@ -1,5 +1,5 @@
 //! Cases, played on the engine.
-use engine_rows::{Case, Fast, first_wrong};
+use crate::rows::{Case, Fast, first_wrong};
 use std::alloc::Global;
 use std::process::Abort;
 

@@ -3,7 +3,7 @@
 use crate::playing::none_wrong;
 use moka_engine::Refusal;
 use engine_reference::Settings;
-use engine_rows::{CASE, Case, Look, NOT_CLONED, Row, SETTINGS};
+use crate::rows::{CASE, Case, Look, NOT_CLONED, Row, SETTINGS};
 
 const CASES: &[Case<'static>] = &[
     // Look-ups and a removal answer that the clone is refused. The value is still there, was not used, and no ticket was given for it.

@@ -3,7 +3,7 @@
 use crate::playing::none_wrong;
 use moka_engine::Refusal;
 use engine_reference::{RemovalCause, Settings};
-use engine_rows::{CASE, Case, Look, Row, SECOND, SETTINGS};
+use crate::rows::{CASE, Case, Look, Row, SECOND, SETTINGS};
 
 const CASES: &[Case<'static>] = &[
     // Live 16 s, idle 7 s, and a second of its own from its creation on: the earliest of them ends a value.

@@ -1,0 +1,6 @@
+use Rattle.std.proofs.Common.{ℕ, ◌<◌}
+use Rattle.engine_cells.specs.Keys.Spots.{IsUnder}
+use Rattle.engine_tests.proofs.cells.keys.put_many.Given as goal
+
+abbrev pub invariant-loop-place : goal.invariant-loop-place
+invariant-loop-place l = (h p : ℕ) → IsUnder l.keys h p → p < l.place

@@ -1,0 +1,5 @@
+use Rattle.engine_tests.proofs.laws.Played.{rows_of_fronts}
+use Rattle.engine_tests.proofs.laws.runs.rows_of_fronts.Goals as goal
+
+pub returns : goal.returns
+returns c = rows_of_fronts

@@ -1,0 +1,476 @@
+//! What is asked of an engine, row by row, and what has to come of it. A call that is refused for memory is made once more, and has changed nothing; so the rows pass with any one allocation refused. Rows and not
+//! calls one behind the other, since each call of a test is proved on its own.
+
+use crate::rows::engine::Engine;
+use crate::rows::generators::Repeating;
+use crate::rows::rules::{ONE, ValueIs, Weighs};
+use moka_engine::Refusal;
+use engine_reference::{EvictionPolicy, RemovalCause, Settings};
+use policy_base::Instant;
+use std::alloc::{AllocError, Global};
+use std::time::Duration;
+
+/// A second, in nanoseconds.
+pub const SECOND: u64 = 1_000_000_000;
+
+/// How a value is looked up.
+#[derive(Clone, Copy)]
+pub enum Look {
+    /// By `get`, a use.
+    Get,
+    /// By `get_past`, which passes over this value.
+    GetPast(u32),
+    /// By `look`.
+    Peek,
+    /// By `scanning_get`.
+    Scan,
+    /// By `borrow`.
+    Borrow,
+    /// By `get_in_halves`, a use.
+    InHalves,
+    /// By `held`, which shows dead and covered values too.
+    Held,
+}
+
+/// What is asked, and what has to come of it.
+#[derive(Clone, Copy)]
+pub enum Row<'a> {
+    /// From here on it is that moment, in nanoseconds.
+    At(u64),
+    /// A value of a key is written at a step, and its write is sent.
+    Puts(u32, u32, u64),
+    /// The same at each step from 1 up to that, which is not among them.
+    PutsOften(u32, u32, u64),
+    /// A value of a key is written at a step under that ticket, which is not sent.
+    HoldsBack(u32, u32, u64, u64),
+    /// The write of a ticket is sent.
+    Sends(u64, Result<(), Refusal>),
+    /// A key is removed and its entry told: its value, and the ticket of the removal, which is not sent.
+    Removes(u32, Result<Option<(u32, u64)>, Refusal>),
+    /// The same in two halves.
+    RemovesInHalves(u32, Result<Option<(u32, u64)>, Refusal>),
+    /// All is cleared at a step.
+    Clears(u64),
+    /// A predicate of a value is registered at a step under that identifier, by a generator of that word.
+    Invalidates(u32, u64, u32, Result<u128, Refusal>),
+    /// The same in two halves.
+    InvalidatesInHalves(u32, u64, u32, Result<u128, Refusal>),
+    /// The same, with its room made before its identifier is drawn.
+    InvalidatesApart(u32, u64, u32, Result<u128, Refusal>),
+    /// An identifier is drawn by a generator of that word, and its room given up.
+    GivesUp(u32, Result<u128, Refusal>),
+    Runs,
+    /// A run for which there is memory.
+    RunsWhole,
+    /// A run if it is due.
+    RunsIfDue,
+    /// What a look shows of a key.
+    Shows(Look, u32, Option<u32>),
+    /// A look at a key is refused.
+    Refuses(Look, u32),
+    Contains(u32, bool),
+    /// What `get_key` answers.
+    Key(u32, Option<u32>),
+    /// The keys of the first segment, in any order.
+    Keys(&'a [u32]),
+    /// There is no such segment.
+    NoKeys(usize),
+    /// Whether the last run found no memory for the sketch's table.
+    TableRefused(bool),
+    /// How many values are held.
+    Number(u64),
+    /// What they weigh.
+    Weight(u64),
+    /// A value of a key is told next, with its cause.
+    Tells(RemovalCause, u32, u32),
+    /// The keys 0 to 2 are told next, cleared, in any order.
+    TellsThreeCleared,
+    TellsNone,
+    /// Whether removals are told.
+    Notifies(bool),
+    Capacity(Option<u64>),
+    /// How long values live after a write and after a use, in nanoseconds.
+    Times(Option<u64>, Option<u64>),
+    Segments(usize),
+    MapDisabled(bool),
+    Named(Option<&'a str>),
+}
+
+/// A cache, and what is asked of it.
+#[derive(Clone, Copy)]
+pub struct Case<'a> {
+    pub name: Option<&'a str>,
+    pub settings: Settings,
+    /// How long each value lives by its own time, in nanoseconds.
+    pub own: Option<u64>,
+    pub weighs: Weighs,
+    /// What is asked first, where other cases ask it too.
+    pub before: &'a [Row<'a>],
+    pub rows: &'a [Row<'a>],
+}
+
+/// The least recently used leaves above the capacity, if there is one; removals are told, predicates are taken, and there are no times.
+pub const SETTINGS: Settings = Settings {
+    capacity: None,
+    live: None,
+    idle: None,
+    policy: EvictionPolicy::Lru,
+    tells: true,
+    takes_predicates: true,
+    made: 0,
+};
+
+/// A case without a name, with these settings and weights of one, of which nothing is asked.
+pub const CASE: Case<'static> = Case {
+    name: None,
+    settings: SETTINGS,
+    own: None,
+    weighs: ONE,
+    before: &[],
+    rows: &[],
+};
+
+fn at(nanos: u64) -> Instant {
+    Instant::from_nanos(nanos.min(1_000_000_000_000))
+}
+
+fn duration(nanos: Option<u64>) -> Option<Duration> {
+    match nanos {
+        Some(nanos) => Some(Duration::from_nanos(nanos)),
+        None => None,
+    }
+}
+
+/// Writes a value, at the second try where memory is refused, and answers the ticket.
+fn put<E: Engine>(
+    cache: &mut E,
+    key: u32,
+    value: u32,
+    now: Instant,
+    step: u64,
+) -> Result<u64, Refusal> {
+    match cache.put(key, value, now, step) {
+        Err(Refusal::OutOfMemory) => cache.put(key, value, now, step),
+        answer => answer,
+    }
+}
+
+/// Whether a value is written and its write sent.
+fn puts<E: Engine>(cache: &mut E, key: u32, value: u32, now: Instant, step: u64) -> bool {
+    match put(cache, key, value, now, step) {
+        Ok(ticket) => cache.send(ticket) == Ok(()),
+        Err(_) => false,
+    }
+}
+
+/// Whether that is so at each step from 1 up to the end.
+fn puts_often<E: Engine>(cache: &mut E, key: u32, value: u32, now: Instant, end: u64) -> bool {
+    for step in 1..end {
+        if !puts(cache, key, value, now, step) {
+            return false;
+        }
+    }
+    true
+}
+
+/// Removes a key, at the second try where memory is refused, and tells its entry.
+fn remove<E: Engine>(cache: &mut E, key: u32, now: Instant) -> Result<Option<(u32, u64)>, Refusal> {
+    match cache.remove(key, now) {
+        Err(Refusal::OutOfMemory) => cache.remove(key, now),
+        answer => answer,
+    }
+}
+
+/// The same in two halves.
+fn remove_in_halves<E: Engine>(
+    cache: &mut E,
+    key: u32,
+    now: Instant,
+) -> Result<Option<(u32, u64)>, Refusal> {
+    match cache.remove_in_halves(key, now) {
+        Err(Refusal::OutOfMemory) => cache.remove_in_halves(key, now),
+        answer => answer,
+    }
+}
+
+/// Registers a predicate of a value, at the second try where memory is refused.
+fn invalidate<E: Engine>(cache: &mut E, value: u32, step: u64, word: u32) -> Result<u128, Refusal> {
+    let mut generator = Repeating(word);
+    match cache.invalidate_entries_if(ValueIs(value), step, &mut generator) {
+        Err(Refusal::OutOfMemory) => {
+            cache.invalidate_entries_if(ValueIs(value), step, &mut generator)
+        }
+        answer => answer,
+    }
+}
+
+/// The same in two halves.
+fn invalidate_in_halves<E: Engine>(
+    cache: &mut E,
+    value: u32,
+    step: u64,
+    word: u32,
+) -> Result<u128, Refusal> {
+    let mut generator = Repeating(word);
+    match cache.invalidate_in_halves(ValueIs(value), step, &mut generator) {
+        Err(Refusal::OutOfMemory) => {
+            cache.invalidate_in_halves(ValueIs(value), step, &mut generator)
+        }
+        answer => answer,
+    }
+}
+
+/// The same, with its room made before its identifier is drawn.
+fn invalidate_apart<E: Engine>(
+    cache: &mut E,
+    value: u32,
+    step: u64,
+    word: u32,
+) -> Result<u128, Refusal> {
+    let mut generator = Repeating(word);
+    match cache.invalidate_apart(ValueIs(value), step, &mut generator) {
+        Err(Refusal::OutOfMemory) => cache.invalidate_apart(ValueIs(value), step, &mut generator),
+        answer => answer,
+    }
+}
+
+/// Draws an identifier and gives its room up, at the second try where memory is refused.
+fn prepare_and_give_up<E: Engine>(cache: &mut E, word: u32) -> Result<u128, Refusal> {
+    let mut generator = Repeating(word);
+    match cache.prepare_and_give_up(&mut generator) {
+        Err(Refusal::OutOfMemory) => cache.prepare_and_give_up(&mut generator),
+        answer => answer,
+    }
+}
+
+/// A run for which there is memory, at the second try where it is refused: the first has done all the rest.
+fn runs_whole<E: Engine>(cache: &mut E, now: Instant) -> bool {
+    cache.try_run_pending_tasks(now).is_ok() || cache.try_run_pending_tasks(now).is_ok()
+}
+
+fn shown<E: Engine>(
+    cache: &mut E,
+    by: Look,
+    key: u32,
+    now: Instant,
+) -> Result<Option<u32>, AllocError> {
+    match by {
+        Look::Get => cache.get(key, now),
+        Look::GetPast(past) => cache.get_past(key, now, past),
+        Look::Peek => cache.look(key, now),
+        Look::Scan => cache.scanning_get(key, now),
+        Look::Borrow => Ok(cache.borrow(key, now)),
+        Look::InHalves => Ok(cache.get_in_halves(key, now)),
+        Look::Held => cache.held(key),
+    }
+}
+
+/// The keys of a segment, at the second try where memory is refused.
+fn keys<E: Engine>(cache: &E, segment: usize) -> Result<Option<Vec<u32>>, AllocError> {
+    match cache.keys(segment) {
+        Ok(found) => Ok(found),
+        Err(_) => cache.keys(segment),
+    }
+}
+
+/// Whether each wanted key was found, and no other.
+fn are_those(found: &[u32], wanted: &[u32]) -> bool {
+    for key in wanted {
+        if !found.contains(key) {
+            return false;
+        }
+    }
+    found.len() == wanted.len()
+}
+
+fn has_keys<E: Engine>(cache: &E, wanted: &[u32]) -> bool {
+    match keys(cache, 0) {
+        Ok(Some(found)) => are_those(found.as_slice(), wanted),
+        _ => false,
+    }
+}
+
+fn has_no_keys<E: Engine>(cache: &E, segment: usize) -> bool {
+    match keys(cache, segment) {
+        Ok(None) => true,
+        _ => false,
+    }
+}
+
+fn tells<E: Engine>(cache: &mut E, cause: RemovalCause, key: u32, value: u32) -> bool {
+    match cache.next_notice() {
+        Some(notice) => notice.cause == cause && notice.key == key && notice.value == value,
+        None => false,
+    }
+}
+
+/// What is told next is one of the keys 0 to 2, cleared; answers it among those that were told before, each a bit.
+fn told_cleared<E: Engine>(cache: &mut E, told: u32) -> Option<u32> {
+    match cache.next_notice() {
+        Some(notice) => {
+            if notice.cause == RemovalCause::Explicit && notice.key < 3 {
+                Some(told | (1 << notice.key))
+            } else {
+                None
+            }
+        }
+        None => None,
+    }
+}
+
+fn tells_three_cleared<E: Engine>(cache: &mut E) -> bool {
+    let mut told = 0;
+    for _ in 0..3 {
+        match told_cleared(cache, told) {
+            Some(with) => told = with,
+            None => return false,
+        }
+    }
+    told == 7
+}
+
+fn has_times<E: Engine>(cache: &E, live: Option<u64>, idle: Option<u64>) -> bool {
+    let policy = cache.policy();
+    policy.time_to_live() == duration(live) && policy.time_to_idle() == duration(idle)
+}
+
+/// Writes, sends, removes or clears, and answers whether it came out so.
+fn writes_so<E: Engine>(cache: &mut E, now: Instant, row: Row<'_>) -> bool {
+    match row {
+        Row::At(_) => true,
+        Row::Puts(key, value, step) => puts(cache, key, value, now, step),
+        Row::PutsOften(key, value, end) => puts_often(cache, key, value, now, end),
+        Row::HoldsBack(key, value, step, ticket) => {
+            put(cache, key, value, now, step) == Ok(ticket)
+        }
+        Row::Sends(ticket, wanted) => cache.send(ticket) == wanted,
+        Row::Removes(key, wanted) => remove(cache, key, now) == wanted,
+        Row::RemovesInHalves(key, wanted) => remove_in_halves(cache, key, now) == wanted,
+        Row::Clears(step) => {
+            cache.invalidate_all(step);
+            true
+        }
+        row => runs_so(cache, now, row),
+    }
+}
+
+/// Registers a predicate or runs, and answers whether it came out so.
+fn runs_so<E: Engine>(cache: &mut E, now: Instant, row: Row<'_>) -> bool {
+    match row {
+        Row::Invalidates(value, step, word, wanted) => {
+            invalidate(cache, value, step, word) == wanted
+        }
+        Row::InvalidatesInHalves(value, step, word, wanted) => {
+            invalidate_in_halves(cache, value, step, word) == wanted
+        }
+        Row::InvalidatesApart(value, step, word, wanted) => {
+            invalidate_apart(cache, value, step, word) == wanted
+        }
+        Row::GivesUp(word, wanted) => prepare_and_give_up(cache, word) == wanted,
+        Row::Runs => {
+            cache.run_pending_tasks(now);
+            true
+        }
+        Row::RunsWhole => runs_whole(cache, now),
+        Row::RunsIfDue => {
+            cache.apply_reads_writes_if_needed(now);
+            true
+        }
+        row => looks_so(cache, now, row),
+    }
+}
+
+/// Looks for keys or is told of them, and answers whether it came out so.
+fn looks_so<E: Engine>(cache: &mut E, now: Instant, row: Row<'_>) -> bool {
+    match row {
+        Row::Shows(by, key, wanted) => shown(cache, by, key, now) == Ok(wanted),
+        Row::Refuses(by, key) => shown(cache, by, key, now).is_err(),
+        Row::Contains(key, wanted) => cache.contains_key(key, now) == wanted,
+        Row::Key(key, wanted) => cache.get_key(key) == Ok(wanted),
+        Row::Keys(wanted) => has_keys(cache, wanted),
+        Row::NoKeys(segment) => has_no_keys(cache, segment),
+        Row::Tells(cause, key, value) => tells(cache, cause, key, value),
+        Row::TellsThreeCleared => tells_three_cleared(cache),
+        Row::TellsNone => cache.next_notice().is_none(),
+        row => is_so(cache, row),
+    }
+}
+
+/// Whether a cache has these counts or was made so.
+fn is_so<E: Engine>(cache: &E, row: Row<'_>) -> bool {
+    match row {
+        Row::TableRefused(wanted) => cache.is_table_refused() == wanted,
+        Row::Number(wanted) => cache.entry_count() == wanted,
+        Row::Weight(wanted) => cache.weighted_size() == wanted,
+        Row::Notifies(wanted) => cache.is_removal_notifier_enabled() == wanted,
+        Row::Capacity(wanted) => cache.policy().max_capacity() == wanted,
+        Row::Times(live, idle) => has_times(cache, live, idle),
+        Row::Segments(wanted) => {
+            cache.num_cht_segments() == wanted && cache.policy().num_segments() == wanted
+        }
+        Row::MapDisabled(wanted) => cache.is_map_disabled() == wanted,
+        Row::Named(wanted) => cache.name() == wanted,
+        _ => false,
+    }
+}
+
+fn moment_from(row: Row<'_>, now: Instant) -> Instant {
+    match row {
+        Row::At(nanos) => at(nanos),
+        _ => now,
+    }
+}
+
+/// Asks one row after another from moment 0 on, and answers the place of the first that did not come out so, counted from the first of those before.
+fn wrong_row<E: Engine>(cache: &mut E, case: &Case<'_>) -> Option<usize> {
+    let mut now = at(0);
+    for (place, row) in case.before.iter().chain(case.rows.iter()).enumerate() {
+        now = moment_from(*row, now);
+        if !writes_so(cache, now, *row) {
+            return Some(place);
+        }
+    }
+    None
+}
+
+fn text(alloc: Global, of: Option<&str>) -> Result<Option<String>, AllocError> {
+    match of {
+        Some(of) => {
+            let made = String::from_str(alloc, of)?;
+            Ok(Some(made))
+        }
+        None => Ok(None),
+    }
+}
+
+/// The empty cache of a case.
+fn made_once<E: Engine>(alloc: Global, case: &Case<'_>) -> Result<E, AllocError> {
+    let name = text(alloc, case.name)?;
+    E::make(alloc, name, case.settings, duration(case.own), case.weighs)
+}
+
+/// The same, at the second try where memory is refused.
+fn made<E: Engine>(alloc: Global, case: &Case<'_>) -> Result<E, AllocError> {
+    match made_once(alloc, case) {
+        Ok(cache) => Ok(cache),
+        Err(_) => made_once(alloc, case),
+    }
+}
+
+fn wrong_row_of<E: Engine>(alloc: Global, case: &Case<'_>) -> Result<Option<usize>, AllocError> {
+    let mut cache: E = made(alloc, case)?;
+    Ok(wrong_row(&mut cache, case))
+}
+
+/// Plays these cases on an engine, and answers the first that did not come out so, and the place of its first row that did not.
+pub fn first_wrong<E: Engine>(
+    alloc: Global,
+    cases: &[Case<'_>],
+) -> Result<Option<(usize, usize)>, AllocError> {
+    for (number, case) in cases.iter().enumerate() {
+        if let Some(place) = wrong_row_of::<E>(alloc, case)? {
+            return Ok(Some((number, place)));
+        }
+    }
+    Ok(None)
+}

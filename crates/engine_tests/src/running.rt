@@ -1,0 +1,3 @@
+//! Tests of the fast cache's run, as far as memory is asked for.
+#[cfg(test)]
+mod runs;
