@@ -7,7 +7,7 @@ ghost use Rattle.cache_parts_store.specs.View.{all_drained, waiting};
 use crate::{Front, Notices};
 use audit_model::{Key, Note, NoteKey, RemovalCause, Seq};
 use cache_entries::StoredValue;
-use front_keys::Shared;
+use front_reference::Shared;
 use front_state::Notice;
 use std::hash::BuildHasher;
 

@@ -10,7 +10,7 @@ use audit_model::{Key, Weight};
 use cache_entries::StoredValue;
 pub use calling::{clear, cover, insert, invalidate, prepare};
 pub use draining::{drain, note_of};
-use front_keys::Shared;
+use front_reference::Shared;
 pub use front_state::{LentState, Notice};
 pub use listing::write_keys;
 pub use making::{bits_of, settings_of};

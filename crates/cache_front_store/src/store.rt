@@ -11,8 +11,7 @@ use cache_front_data::{
     settings_of, write_keys,
 };
 use cache_store::{Counts, Store, StoreError};
-use front_keys::Shared;
-use front_reference::At;
+use front_reference::{At, Shared};
 use policy_base::Instant;
 use rand_core::Rng;
 use std::alloc::{AllocError, Global};

@@ -23,8 +23,8 @@ use Rattle.engine_reference.proofs.SoundSteps.{runs_stay_sound}
 use Rattle.engine_reference.proofs.run_laws.Fronting.{or_right}
 use Rattle.front_reference.specs.Keeping.{Common, IsKept}
 use Rattle.front_reference.specs.Parts.{Inserts, TakesOut, inserted, taken_out, takes_nothing}
-use Rattle.front_laws.specs.Laws.{CallsKeep}
-use Rattle.front_laws.proofs.Kept.{calls_keep}
+use Rattle.front_reference.specs.Laws.Laws.{CallsKeep}
+use Rattle.front_reference.proofs.laws.Kept.{calls_keep}
 use Rattle.cache_parts.specs.Parts.{Part, Stored, service_answers, settings_of, drained, AreLight}
 use Rattle.cache_parts.proofs.Writing.{same_laws}
 use Rattle.cache_parts_kept.specs.Keeping.{at_moment, common_by, belongs_to, IsProperRecord, IsOwn, IsKeptPart, IsStorable}

@@ -9,8 +9,7 @@ ghost use Rattle.front_reference.specs.declared.data.TurnKind.TheVariants as tur
 ghost use Rattle.front_reference.specs.declared.errors.CacheError.{CacheError};
 ghost use Rattle.front_access.specs.Answering.{IsCoalesced, IsComputed, Suits};
 
-use front_keys::Shared;
-use front_reference::{CacheError, Computed, Made, Op, TurnKind};
+use front_reference::{CacheError, Computed, Made, Op, Shared, TurnKind};
 use std::alloc::AllocError;
 
 /// The two calls of a cache of which selectors are made.

@@ -2,8 +2,7 @@
 ghost use Rattle.std.specs.Prelude.{◌≡◌, Some, is_none, IsSome};
 ghost use Rattle.front_access.specs.Entries.{shown_as, entry_in};
 
-use front_keys::Shared;
-use front_reference::Computed;
+use front_reference::{Computed, Shared};
 
 /// A key with its value, as a cache had them when this was answered, or as it has kept them. The value is a clone of the one in the cache.
 #[derive(Debug, Drop)]

@@ -14,8 +14,7 @@ ghost use Rattle.front_access.specs.Selecting.{Selects, SelectsValue, ComputesEn
 
 use crate::access::Access;
 use crate::entry::{CompResult, Entry};
-use front_keys::Shared;
-use front_reference::{CacheError, Computed, Made, Op, TurnKind};
+use front_reference::{CacheError, Computed, Made, Op, Shared, TurnKind};
 use std::alloc::{AllocError, Global};
 use std::sync::Arc;
 

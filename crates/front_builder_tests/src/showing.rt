@@ -2,8 +2,7 @@
 use engine_reference::{Bundle, NoExpiry, NoPredicate, WeighOne};
 use front_builder::CacheBuilder;
 use front_iterator::Iter;
-use front_keys::Shared;
-use front_reference::At;
+use front_reference::{At, Shared};
 use front_state::LentState;
 use policy_base::Instant;
 use std::alloc::Global;

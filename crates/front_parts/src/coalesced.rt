@@ -13,8 +13,7 @@ ghost use Rattle.front_reference.specs.declared.data.Made.TheVariants as made;
 
 use crate::part::{insert_reserved, reserve_insert};
 use engine_reference::{Names, Rules};
-use front_keys::IntoKey;
-use front_reference::{At, CacheError, Made};
+use front_reference::{At, CacheError, IntoKey, Made};
 use moka_engine::BaseCache;
 use policy_base::Instant;
 use std::alloc::AllocError;

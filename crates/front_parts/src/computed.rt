@@ -14,8 +14,7 @@ ghost use Rattle.front_parts.specs.Looking.{IsOpen, OperatesAfterLook, RemovesAf
 use crate::coalesced::{note, note_and_insert};
 use crate::removals::{clone_shown, prepare, take_out};
 use engine_reference::{Names, Rules};
-use front_keys::IntoKey;
-use front_reference::{At, CacheError, Computed, Op};
+use front_reference::{At, CacheError, Computed, IntoKey, Op};
 use moka_engine::BaseCache;
 use std::hash::{BuildHasher, Hash, Hasher};
 

@@ -6,7 +6,7 @@ use Rattle.engine_reference.specs.State.{State}
 use Rattle.engine_reference.specs.declared.data.Settings.{Settings}
 use Rattle.front_reference.specs.Keeping.{IsKept}
 use Rattle.front_reference.specs.Fronts.{AreTurns, Front, share_of, part_of}
-use Rattle.front_laws.proofs.Kept.{calls_keep}
+use Rattle.front_reference.proofs.laws.Kept.{calls_keep}
 use Rattle.front_places.specs.Calls.{Ways, IsSteadyBy}
 use Rattle.front_places.specs.Making.{AreNew}
 

@@ -9,12 +9,11 @@ ghost use Rattle.front_reference.specs.Fronts.{CallsAt};
 ghost use Rattle.front_places.specs.Calls.{CoalescesAt, ComputesAt, IsAskedFirst, IsCauseOf, IsOpenAt, seen_of, visible_of, held_of, ways_by};
 
 use engine_reference::{Names, Rules};
-use front_keys::IntoKey;
+use front_reference::{At, CacheError, Computed, IntoKey, Made, Op};
 use front_parts::{
     BaseCache, coalesce, compute, contains_key, get, insert, insert_or_back, invalidate, look,
     remove,
 };
-use front_reference::{At, CacheError, Computed, Made, Op};
 use policy_base::Instant;
 use std::alloc::AllocError;
 use std::hash::{BuildHasher, Hash, Hasher};

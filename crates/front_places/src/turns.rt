@@ -6,8 +6,7 @@ ghost use Rattle.front_reference.specs.declared.data.OpenTurn.{OpenTurn};
 ghost use Rattle.front_places.specs.Turning.{IsTurnCause, IsTurnPlace};
 
 use engine_reference::Names;
-use front_keys::IntoKey;
-use front_reference::{CacheError, OpenTurn, TurnKind};
+use front_reference::{CacheError, IntoKey, OpenTurn, TurnKind};
 
 /// Whether two kinds are the same.
 fn is_kind(kind: TurnKind, other: TurnKind) -> bool

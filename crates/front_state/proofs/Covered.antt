@@ -19,7 +19,7 @@ use Rattle.front_reference.specs.Fronts.{CallsEach, Front, part_of, passed, shar
 use Rattle.front_reference.specs.Keeping.{Common, IsKept}
 use Rattle.front_reference.specs.Wholes.{HasGiven, registered_in, taken_or, without_told}
 use Rattle.front_reference.specs.declared.data.At.{At}
-use Rattle.front_laws.proofs.Kept.{calls_keep}
+use Rattle.front_reference.proofs.laws.Kept.{calls_keep}
 use Rattle.front_wholes.proofs.Drawn.{draws-long}
 use Rattle.front_reference.specs.declared.errors.CacheError.{CacheError}
 use Rattle.front_reference.specs.declared.errors.CacheError.TheVariants as errors

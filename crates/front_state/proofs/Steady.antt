@@ -24,7 +24,7 @@ use Rattle.front_reference.specs.declared.data.At.{At}
 use Rattle.front_reference.specs.declared.data.Computed.{Computed}
 use Rattle.front_reference.specs.declared.data.Made.{Made}
 use Rattle.front_reference.specs.declared.data.Op.{Op}
-use Rattle.front_laws.proofs.Kept.{calls_keep, kept-coalesced, kept-computed}
+use Rattle.front_reference.proofs.laws.Kept.{calls_keep, kept-coalesced, kept-computed}
 use Rattle.front_places.proofs.Lists.{length-set_at, one_set}
 use Rattle.front_reference.specs.Turns.{Begins, found_or, wait_or_lead, with_turn, abandoned, begun_compute}
 use Rattle.front_reference.specs.declared.data.TurnKind.{TurnKind}

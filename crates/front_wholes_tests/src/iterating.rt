@@ -1,8 +1,7 @@
 //! Iterators.
 use crate::rules::{Covered, covered, next};
 use front_iterator::Iter;
-use front_keys::Shared;
-use front_reference::CacheError;
+use front_reference::{CacheError, Shared};
 use policy_base::Instant;
 use std::alloc::Global;
 

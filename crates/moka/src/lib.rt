@@ -9,8 +9,7 @@ pub use front_builder::{
     SegmentedState, StdHasher,
 };
 pub use front_iterator::{Iter, ScanningGet};
-pub use front_keys::{ClonedKey, IntoKey, LentKey, OwnedKey, Shared};
-pub use front_reference::{At, CacheError, Computed, Made, Op, OpenTurn, TurnKind, TurnStart};
+pub use front_reference::{At, CacheError, ClonedKey, Computed, IntoKey, LentKey, Made, Op, OpenTurn, OwnedKey, Shared, TurnKind, TurnStart};
 pub use front_state::{LentState, Segmented, Single};
 pub use moka_engine::{
     Bundle, EvictionPolicy, Expiration, ExpirationPolicy, Expiry, Instant, Names, NoExpiry,
@@ -20,8 +19,6 @@ pub use moka_engine::{
 
 /// Functions whose contracts are laws of what the contracts speak of.
 pub mod laws {
-    pub use front_laws::{
-        calls_keep, calls_stay_close, coalesces_keep, computes_keep, runs_leave_none_idle,
-    };
+    pub use front_reference::{calls_keep, calls_stay_close, coalesces_keep, computes_keep, runs_leave_none_idle};
     pub use moka_engine::laws::{only_writes_show, run_tells_justly, size_has_point};
 }

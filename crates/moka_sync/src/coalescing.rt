@@ -4,8 +4,7 @@ ghost use Rattle.sync_slots.specs.Refusals.{IsTurnRefusal};
 
 use crate::cache::Cache;
 use engine_reference::Rules;
-use front_keys::{ClonedKey, OwnedKey};
-use front_reference::CacheError;
+use front_reference::{CacheError, ClonedKey, OwnedKey};
 use std::hash::{BuildHasher, Hash};
 use std::sync::{Arc, Wait};
 use sync_env::Env;

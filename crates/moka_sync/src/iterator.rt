@@ -6,8 +6,7 @@ ghost use Rattle.std.specs.Sync.Forever.{forever_left};
 
 use crate::cache::Cache;
 use engine_reference::Rules;
-use front_keys::Shared;
-use front_reference::CacheError;
+use front_reference::{CacheError, Shared};
 use std::hash::{BuildHasher, Hash};
 use std::sync::{Forever, Wait};
 use sync_env::Env;

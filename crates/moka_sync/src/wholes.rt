@@ -5,8 +5,7 @@ ghost use Rattle.sync_slots.specs.Refusals.{IsCoverRefusal};
 
 use crate::cache::Cache;
 use engine_reference::Rules;
-use front_keys::Shared;
-use front_reference::CacheError;
+use front_reference::{CacheError, Shared};
 use front_state::Notice;
 use std::hash::{BuildHasher, Hash};
 use std::sync::Wait;

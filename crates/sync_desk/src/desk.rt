@@ -5,8 +5,7 @@ ghost use Rattle.front_reference.specs.Wholes.{total_number, total_weight};
 ghost use Rattle.sync_desk.specs.Drawing.{IsDrawn};
 
 use engine_reference::Rules;
-use front_keys::Shared;
-use front_reference::At;
+use front_reference::{At, Shared};
 use front_state::LentState;
 use std::alloc::Global;
 use std::hash::{BuildHasher, Hash};

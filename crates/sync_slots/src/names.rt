@@ -2,7 +2,7 @@
 ghost use Rattle.std.specs.Prelude.{◌≡◌};
 
 use engine_reference::Names;
-use front_keys::{ClonedKey, IntoKey, OwnedKey, Shared};
+use front_reference::{ClonedKey, IntoKey, OwnedKey, Shared};
 use std::alloc::AllocError;
 
 /// What names a key, shows it, and becomes it where a turn begins.

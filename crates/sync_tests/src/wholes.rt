@@ -2,8 +2,7 @@
 use crate::caches::{Dialled, Numbers, generator, make_dialled};
 use engine_reference::RemovalCause;
 use front_builder::{BuildError, CacheBuilder};
-use front_keys::Shared;
-use front_reference::CacheError;
+use front_reference::{CacheError, Shared};
 use moka_sync::{Build, Cache, Dial, DialEnv, PlainRules, SegmentedCache, StdHasher};
 use rand_xoshiro::Xoshiro256PlusPlus;
 use std::alloc::{AllocError, Global};

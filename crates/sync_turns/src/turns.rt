@@ -8,8 +8,7 @@ ghost use Rattle.sync_slots.specs.Refusals.{IsShortage, IsEndRefusal, IsTurnRefu
 
 use crate::shared::SharedDesk;
 use engine_reference::Rules;
-use front_keys::Shared;
-use front_reference::{CacheError, Made, TurnKind};
+use front_reference::{CacheError, Made, Shared, TurnKind};
 use std::alloc::AllocError;
 use std::hash::{BuildHasher, Hash};
 use std::sync::{MutexGuard, Wait};

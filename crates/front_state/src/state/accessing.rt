@@ -11,8 +11,7 @@ ghost use Rattle.front_places.specs.Calls.{IsCauseIn, ways_by};
 use crate::state::LentState;
 use engine_reference::Rules;
 use front_access::{Access, OwnedKeyEntrySelector, RefKeyEntrySelector};
-use front_keys::Shared;
-use front_reference::{At, CacheError, Computed, Made, Op, TurnKind};
+use front_reference::{At, CacheError, Computed, Made, Op, Shared, TurnKind};
 use std::alloc::AllocError;
 use std::hash::{BuildHasher, Hash, Hasher};
 

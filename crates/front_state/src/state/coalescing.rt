@@ -12,8 +12,7 @@ ghost use Rattle.front_places.specs.Calls.{IsCauseIn, hash_in, ways_by};
 
 use crate::state::LentState;
 use engine_reference::Rules;
-use front_keys::{ClonedKey, IntoKey, OwnedKey, Shared};
-use front_reference::{At, CacheError, Made};
+use front_reference::{At, CacheError, ClonedKey, IntoKey, Made, OwnedKey, Shared};
 use std::alloc::{AllocError, Global};
 use std::hash::{BuildHasher, Hash, Hasher};
 use std::sync::Arc;

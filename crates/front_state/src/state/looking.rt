@@ -6,7 +6,7 @@ ghost use Rattle.front_places.specs.Calls.{LooksUpIn, visible_in, ways_by};
 
 use crate::state::LentState;
 use engine_reference::Rules;
-use front_keys::LentKey;
+use front_reference::LentKey;
 use front_places::{count_visible, hash_key, note_at, peek_at, place_of};
 use policy_base::Instant;
 use std::hash::{BuildHasher, Hash, Hasher};

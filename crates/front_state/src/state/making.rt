@@ -5,7 +5,7 @@ ghost use Rattle.front_places.specs.Making.{IsMadeWith};
 
 use super::LentState;
 use engine_reference::{Rules, Settings};
-use front_keys::Shared;
+use front_reference::Shared;
 use front_places::{for_part, new_parts};
 use policy_base::Instant;
 use std::alloc::{AllocError, Global};

@@ -4,9 +4,8 @@ ghost use Rattle.std.specs.Prelude.{◌≡◌};
 use crate::state::LentState;
 use engine_reference::Rules;
 use front_iterator::Iter;
-use front_keys::Shared;
+use front_reference::{CacheError, Shared};
 use front_places::keys_at;
-use front_reference::CacheError;
 use std::fmt;
 use std::hash::{BuildHasher, Hash};
 

@@ -1,6 +1,4 @@
 //! What several owners share: a key, a hasher, rules, a predicate, a value. Contracts see the value that is shared, and nothing of who shares it.
-#![tactic(auto)]
-
 mod into_key;
 mod lent;
 mod rules;

@@ -1,7 +1,7 @@
 //! Keys that are made only where one is to be kept.
 ghost use Rattle.std.specs.Prelude.{◌≡◌, IfOk};
 
-use crate::shared::Shared;
+use crate::keys::shared::Shared;
 use engine_reference::Names;
 use std::alloc::{AllocError, Global};
 

@@ -40,8 +40,8 @@ use Rattle.front_reference.specs.declared.data.Op.TheVariants as op
 use Rattle.front_reference.specs.Closeness.{IsClose}
 use Rattle.front_reference.specs.Keeping.{Common, common_of, IsBare, IsKept}
 use Rattle.front_reference.specs.Parts.{takes_nothing, op_of_made, inserted, Inserts, taken_out, TakesOut, Operates, Acts, Coalesces, Computes}
-use Rattle.front_laws.specs.Laws.{CallsKeep, CoalescesKeep, ComputesKeep, RunsLeaveNoneIdle}
-use Rattle.front_laws.proofs.Staying.{calls_stay_close, close-later, close-any, close-early, close-read, close-run, run-order, close-maintained, not_due-early}
+use Rattle.front_reference.specs.Laws.Laws.{CallsKeep, CoalescesKeep, ComputesKeep, RunsLeaveNoneIdle}
+use Rattle.front_reference.proofs.laws.Staying.{calls_stay_close, close-later, close-any, close-early, close-read, close-run, run-order, close-maintained, not_due-early}
 
 positive : (capacity : Option ℕ) → (capacity ≡ Some 0 → ⊥) → (c : ℕ) → capacity ≡ Some c → 0 < c
 positive capacity h zero e = absurd (h e)

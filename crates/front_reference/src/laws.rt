@@ -1,7 +1,5 @@
 //! Laws of the reference front: what its calls keep of each part. Each function does nothing: its contract is the law.
-#![tactic(auto)]
-
-ghost use Rattle.front_laws.specs.Laws.{CallsKeep, CallsStayClose, CoalescesKeep, ComputesKeep, RunsLeaveNoneIdle};
+ghost use Rattle.front_reference.specs.Laws.Laws.{CallsKeep, CallsStayClose, CoalescesKeep, ComputesKeep, RunsLeaveNoneIdle};
 
 /// Each call of the front keeps of its part what the laws of the reference cache ask for; fewer than 64 writes are unapplied after it.
 pub fn calls_keep<K, V, P, S, R>()

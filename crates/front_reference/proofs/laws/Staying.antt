@@ -25,8 +25,8 @@ use Rattle.engine_reference.specs.RunLaws.Just.{ComesFrom}
 use Rattle.engine_reference.proofs.run_laws.Rising.{each-own, none_later, rising-own}
 use Rattle.engine_reference.proofs.run_laws.Swept.{run-leaves, changed-other}
 use Rattle.front_reference.specs.Closeness.{hits, EndsBy, IsWaiting, IsCloseTo, IsSince, IsNear, IsClose}
-use Rattle.front_laws.specs.Laws.{CallsStayClose}
-use Rattle.front_laws.proofs.Close.{Still, order-map, LateIsLast, IsSettledNear, Closing, run-close}
+use Rattle.front_reference.specs.Laws.Laws.{CallsStayClose}
+use Rattle.front_reference.proofs.laws.Close.{Still, order-map, LateIsLast, IsSettledNear, Closing, run-close}
 
 -- ---- what waits
 

@@ -1,7 +1,7 @@
 //! Rules that the parts of a cache share, over shared keys.
 ghost use Rattle.std.specs.Prelude.{◌≡◌};
 
-use crate::shared::Shared;
+use crate::keys::shared::Shared;
 use engine_reference::{Expiration, Rules};
 use policy_base::Instant;
 use std::time::Duration;

@@ -1,7 +1,7 @@
 //! Shared keys named by what is lent.
 ghost use Rattle.std.specs.Prelude.{◌≡◌};
 
-use crate::shared::Shared;
+use crate::keys::shared::Shared;
 use engine_reference::Names;
 
 /// A key that is lent for a look-up: it names the shared key that equals it, so that a look-up by `&K` makes no shared key and takes no memory.
