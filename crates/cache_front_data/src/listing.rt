@@ -10,7 +10,7 @@ ghost use Rattle.cache_front_data.specs.Listing.{held_by_all, is_seen, seen_by_a
 
 use crate::Front;
 use audit_model::Key;
-use front_iterator::ScanningGet;
+use front_parts::ScanningGet;
 use front_reference::Shared;
 use policy_base::Instant;
 use std::alloc::{AllocError, Global};

@@ -1,7 +1,7 @@
 //! How a cache prints, and what a loop over it gives.
 use engine_reference::{Bundle, NoExpiry, NoPredicate, WeighOne};
 use front_builder::CacheBuilder;
-use front_iterator::Iter;
+use front_parts::Iter;
 use front_reference::{At, Shared};
 use front_state::LentState;
 use policy_base::Instant;

@@ -1,1 +1,5 @@
+pub mod Iterator
+pub mod Access
+pub mod Wholes
+pub mod Places
 pub mod Looking

@@ -3,7 +3,7 @@ ghost use Rattle.front_reference.specs.Fronts.{ComesAfter};
 
 use crate::script::{Closure, Done, Numbers};
 use crate::selecting::perform_select;
-use front_access::{CompResult, Entry};
+use front_parts::{CompResult, Entry};
 use front_reference::{At, CacheError, Op, TurnKind};
 
 /// One call with a closure.

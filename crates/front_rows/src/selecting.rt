@@ -2,7 +2,7 @@
 ghost use Rattle.front_reference.specs.Fronts.{ComesAfter};
 
 use crate::script::Numbers;
-use front_access::Entry;
+use front_parts::Entry;
 use front_reference::{At, CacheError, Op, TurnKind};
 
 /// A value, and whether it was made now.

@@ -20,15 +20,15 @@ use Rattle.front_reference.specs.Keeping.{Common, IsKept}
 use Rattle.front_reference.specs.Wholes.{HasGiven, registered_in, taken_or, without_told}
 use Rattle.front_reference.specs.declared.data.At.{At}
 use Rattle.front_reference.proofs.laws.Kept.{calls_keep}
-use Rattle.front_wholes.proofs.Drawn.{draws-long}
+use Rattle.front_parts.proofs.wholes.Drawn.{draws-long}
 use Rattle.front_reference.specs.declared.errors.CacheError.{CacheError}
 use Rattle.front_reference.specs.declared.errors.CacheError.TheVariants as errors
-use Rattle.front_wholes.specs.Covering.{CoversEach, IsCoverCause, TakeAll}
-use Rattle.front_places.specs.Calls.{IsSteadyBy, Ways, hash_in, keys_of, visible_in, visible_of}
+use Rattle.front_parts.specs.Wholes.Covering.{CoversEach, IsCoverCause, TakeAll}
+use Rattle.front_parts.specs.Places.Calls.{IsSteadyBy, Ways, hash_in, keys_of, visible_in, visible_of}
 use Rattle.front_state.specs.Covering.{CoversAll, IsCauseToCover, keys_in}
-use Rattle.front_iterator.specs.Coming.{all_pairs, source_at}
-use Rattle.front_iterator.proofs.Keyed.{Has, first-or}
-use Rattle.front_iterator.proofs.Fronts.{GoesOver, IsSpread, all_given}
+use Rattle.front_parts.specs.Iterator.Coming.{all_pairs, source_at}
+use Rattle.front_parts.proofs.iterator.Keyed.{Has, first-or}
+use Rattle.front_parts.proofs.iterator.Fronts.{GoesOver, IsSpread, all_given}
 use Rattle.engine_reference.specs.Rules.Hashing.{hash_of_key}
 use Rattle.front_state.proofs.Steady.{Keeps, KeepsEach, apart-untruncated}
 

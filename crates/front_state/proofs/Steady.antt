@@ -25,17 +25,17 @@ use Rattle.front_reference.specs.declared.data.Computed.{Computed}
 use Rattle.front_reference.specs.declared.data.Made.{Made}
 use Rattle.front_reference.specs.declared.data.Op.{Op}
 use Rattle.front_reference.proofs.laws.Kept.{calls_keep, kept-coalesced, kept-computed}
-use Rattle.front_places.proofs.Lists.{length-set_at, one_set}
+use Rattle.front_parts.proofs.places.Lists.{length-set_at, one_set}
 use Rattle.front_reference.specs.Turns.{Begins, found_or, wait_or_lead, with_turn, abandoned, begun_compute}
 use Rattle.front_reference.specs.declared.data.TurnKind.{TurnKind}
 use Rattle.front_reference.specs.declared.data.OpenTurn.{OpenTurn}
 use Rattle.front_reference.specs.declared.data.TurnStart.{TurnStart}
 use Rattle.front_reference.specs.declared.data.TurnStart.TheVariants.{Found, Wait, Lead}
-use Rattle.front_places.specs.Turning.{IsCauseAt, IsFinishCause, IsTurnPlace, Leads, WaitsOrLeads, EndsTurn}
-use Rattle.front_places.proofs.Turned.{turns-append, turns-without, turn-hashed}
+use Rattle.front_parts.specs.Places.Turning.{IsCauseAt, IsFinishCause, IsTurnPlace, Leads, WaitsOrLeads, EndsTurn}
+use Rattle.front_parts.proofs.places.Turned.{turns-append, turns-without, turn-hashed}
 use Rattle.front_reference.specs.declared.data.TurnKind.TheVariants as turns
 use Rattle.front_reference.specs.declared.data.Op.TheVariants as op
-use Rattle.front_places.specs.Calls.{Ways, IsCauseOf, IsOpenAt, IsSteadyBy, hash_in, CoalescesIn, ComputesIn, visible_of}
+use Rattle.front_parts.specs.Places.Calls.{Ways, IsCauseOf, IsOpenAt, IsSteadyBy, hash_in, CoalescesIn, ComputesIn, visible_of}
 
 -- what is there or not is known
 untruncated : {X : Type 0} (o : Option X) → ∥ o ≡ None ∥₁ → o ≡ None

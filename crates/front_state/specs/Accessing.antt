@@ -1,6 +1,6 @@
 -- What a front says of its calls to selectors, and what its calls that make a value answer.
 use Rattle.std.specs.Prelude.{◌≡◌, ⊤, Bool, Option, Some, None, MatchOption, Result, Ok, Err}
-use Rattle.front_access.specs.Answering.{IsCoalesced, IsComputed, IsOptionOf, IsResultOf, IsValueOf, passes_none}
+use Rattle.front_parts.specs.Access.Answering.{IsCoalesced, IsComputed, IsOptionOf, IsResultOf, IsValueOf, passes_none}
 use Rattle.front_reference.specs.Fronts.{ComesAfter, Front, turn_of}
 use Rattle.front_reference.specs.declared.data.At.{At}
 use Rattle.front_reference.specs.declared.data.Computed.{Computed}
@@ -8,7 +8,7 @@ use Rattle.front_reference.specs.declared.data.Made.{Made}
 use Rattle.front_reference.specs.declared.data.Made.TheVariants.{Value, Nothing, Fault}
 use Rattle.front_reference.specs.declared.data.Op.{Op}
 use Rattle.front_reference.specs.declared.data.TurnKind.{TurnKind}
-use Rattle.front_places.specs.Calls.{CoalescesIn, ComputesIn, Ways, visible_in}
+use Rattle.front_parts.specs.Places.Calls.{CoalescesIn, ComputesIn, Ways, visible_in}
 
 -- a call of a kind, or of none, comes for a key: after the last one, and no turn of its kind and key is under way
 pub record MayCall {K V P S R : Type 0} (eq : K → K → Bool) (f : Front K V P S R) (at : At) (kind : Option TurnKind) (key : K) : Type 0 where

@@ -2,13 +2,13 @@
 use Rattle.std.specs.Prelude.{◌≡◌, ℕ, false, List, length, slice_get}
 use Rattle.rand_core.specs.Stream.{Stream}
 use Rattle.engine_reference.specs.State.{State}
-use Rattle.front_places.specs.Calls.{Ways, hash_in, keys_of}
+use Rattle.front_parts.specs.Places.Calls.{Ways, hash_in, keys_of}
 use Rattle.front_reference.specs.Fronts.{Front, passed}
 use Rattle.front_reference.specs.declared.data.At.{At}
 use Rattle.front_reference.specs.declared.errors.CacheError.{CacheError}
 use Rattle.front_reference.specs.declared.errors.CacheError.TheVariants as errors
 use Rattle.front_reference.specs.Wholes.{HasGiven}
-use Rattle.front_wholes.specs.Covering.{CoversEach, IsCoverCause}
+use Rattle.front_parts.specs.Wholes.Covering.{CoversEach, IsCoverCause}
 
 module _ {K V P S R : Type 0} where
   -- all parts draw an identifier each and register the predicate under it, and nothing else changes but the moment and the step; the first identifier is answered

@@ -3,5 +3,5 @@
 
 mod state;
 
-pub use front_places::{EvictionPolicy, Notice, RemovalCause, Settings};
+pub use front_parts::{EvictionPolicy, Notice, RemovalCause, Settings};
 pub use state::{LentState, Segmented, Single};

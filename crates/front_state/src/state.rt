@@ -5,14 +5,11 @@ ghost use Rattle.engine_reference.specs.Calls.{cleared_by, removal_rooms};
 ghost use Rattle.engine_reference.specs.Asking.{answers_of};
 ghost use Rattle.front_reference.specs.Fronts.{CallsAll, ComesAfter};
 ghost use Rattle.front_reference.specs.Wholes.{RunsPart};
-ghost use Rattle.front_places.specs.Calls.{CoalescesBy, ComputesIn, InsertsIn, IsCauseIn, LooksUpIn, TakesOutIn, hash_in, held_value_in, visible_in, ways_by};
+ghost use Rattle.front_parts.specs.Places.Calls.{CoalescesBy, ComputesIn, InsertsIn, IsCauseIn, LooksUpIn, TakesOutIn, hash_in, held_value_in, visible_in, ways_by};
 
 use engine_reference::{Names, Rules, Settings};
 use front_reference::{At, CacheError, Computed, IntoKey, LentKey, Made, Op, OpenTurn, OwnedKey, Shared};
-use front_places::{
-    BaseCache, clear_all, coalesce_at, compute_at, contains_key_at, get_at, hash_key, insert_at,
-    invalidate_at, place_of, remove_at, run_all,
-};
+use front_parts::{BaseCache, clear_all, coalesce_at, compute_at, contains_key_at, get_at, hash_key, insert_at, invalidate_at, place_of, remove_at, run_all};
 use policy_base::Instant;
 use std::alloc::{AllocError, Global};
 use std::hash::{BuildHasher, Hash, Hasher};
@@ -59,7 +56,7 @@ impl<K: Eq + Hash, V, S: BuildHasher, R: Rules<K, V>, C> Model for LentState<K, 
     ghost use Rattle.std.specs.Prelude.{option_map};
     ghost use Rattle.std.specs.String.{string_bytes};
     ghost use Rattle.front_reference.specs.Fronts.{Front};
-    ghost use Rattle.front_places.specs.Calls.{IsSteadyBy, ways_by};
+    ghost use Rattle.front_parts.specs.Places.Calls.{IsSteadyBy, ways_by};
 
     ghost Value = { Front K V R.Predicate S R };
 

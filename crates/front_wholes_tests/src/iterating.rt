@@ -1,6 +1,6 @@
 //! Iterators.
 use crate::rules::{Covered, covered, next};
-use front_iterator::Iter;
+use front_parts::Iter;
 use front_reference::{CacheError, Shared};
 use policy_base::Instant;
 use std::alloc::Global;

@@ -1,14 +1,11 @@
 //! A bounded cache of values by key, on a state that its owner lends: capacity by number or weight, times to live and to idle, own expirations, calls that make a value once for a key, selectors of an entry.
 #![tactic(auto)]
 
-pub use front_access::{
-    Access, CompResult, Entry, EntrySelector, OwnedKeyEntrySelector, RefKeyEntrySelector,
-};
+pub use front_parts::{Access, CompResult, Entry, EntrySelector, Iter, OwnedKeyEntrySelector, RefKeyEntrySelector, ScanningGet};
 pub use front_builder::{
     BuildError, CacheBuilder, CacheState, NewSegmentedState, NewState, PlainBuilder, PlainRules,
     SegmentedState, StdHasher,
 };
-pub use front_iterator::{Iter, ScanningGet};
 pub use front_reference::{At, CacheError, ClonedKey, Computed, IntoKey, LentKey, Made, Op, OpenTurn, OwnedKey, Shared, TurnKind, TurnStart};
 pub use front_state::{LentState, Segmented, Single};
 pub use moka_engine::{

@@ -1,6 +1,6 @@
 -- What a shared cache says of its calls to selectors.
 use Rattle.std.specs.Prelude.{Bool, Option, Some, None, Result, Ok}
-use Rattle.front_access.specs.Answering.{Gives}
+use Rattle.front_parts.specs.Access.Answering.{Gives}
 use Rattle.front_reference.specs.declared.data.Made.{Made}
 use Rattle.front_reference.specs.declared.data.TurnKind.{TurnKind}
 use Rattle.front_reference.specs.declared.errors.CacheError.{CacheError}

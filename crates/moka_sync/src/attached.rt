@@ -1,6 +1,6 @@
 //! A cache with what lets its calls wait.
 ghost use Rattle.std.specs.Prelude.{◌≡◌, Ok, IfOk, IfErr, OnErr};
-ghost use Rattle.front_access.specs.Answering.{Suits};
+ghost use Rattle.front_parts.specs.Access.Answering.{Suits};
 ghost use Rattle.front_reference.specs.declared.data.Made.{Made};
 ghost use Rattle.moka_sync.specs.Accessing.{GivesFresh, IsMakingRefusal};
 ghost use Rattle.sync_slots.specs.Refusals.{IsEndRefusal};
@@ -10,7 +10,7 @@ ghost use Rattle.std.specs.Fn.{FnOnceReturnsAt};
 use crate::cache::Cache;
 use crate::iterator::Iter;
 use engine_reference::Rules;
-use front_access::{Access, OwnedKeyEntrySelector, RefKeyEntrySelector};
+use front_parts::{Access, OwnedKeyEntrySelector, RefKeyEntrySelector};
 use front_reference::{CacheError, Computed, Made, Op, Shared, TurnKind};
 use std::alloc::AllocError;
 use std::fmt::{self, Debug, Formatter, Write};

@@ -6,7 +6,7 @@ ghost use Rattle.sync_slots.specs.Refusals.{IsCoverRefusal};
 
 use crate::desk::Desk;
 use engine_reference::Rules;
-use front_iterator::ScanningGet;
+use front_parts::ScanningGet;
 use front_reference::{CacheError, Shared};
 use moka_engine::Notice;
 use std::hash::{BuildHasher, Hash};

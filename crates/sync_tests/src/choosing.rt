@@ -3,7 +3,7 @@ ghost use Rattle.std.specs.Prelude.{◌==◌};
 
 use crate::caches::{Dialled, Numbers, generator, make_dialled};
 use engine_reference::{Bundle, NoExpiry, Predicate, WeighOne};
-use front_access::CompResult;
+use front_parts::CompResult;
 use front_builder::{BuildError, CacheBuilder};
 use front_reference::{CacheError, Op};
 use moka_sync::{Build, Cache, ConcurrentCacheExt, Dial, DialEnv, StdHasher};

@@ -1,6 +1,6 @@
 //! Calls of four threads and more.
 use crate::caches::{Dialled, Numbers, make_dialled, wait_for_readings};
-use front_access::{CompResult, Entry};
+use front_parts::{CompResult, Entry};
 use front_reference::{CacheError, Op};
 use std::alloc::{AllocError, Global};
 use std::sync::Wait;

@@ -1,7 +1,7 @@
 -- What calls that make a value come to.
 use Rattle.std.specs.Prelude.{◌≡◌, Bool, true, Option, MatchOption, Result, Ok}
 use Rattle.std.specs.declared.alloc.AllocError.{AllocError}
-use Rattle.front_access.specs.Answering.{Decides}
+use Rattle.front_parts.specs.Access.Answering.{Decides}
 use Rattle.front_reference.specs.declared.data.Computed.{Computed}
 use Rattle.front_reference.specs.declared.data.Made.{Made}
 use Rattle.front_reference.specs.declared.data.Op.{Op}

@@ -1,6 +1,6 @@
 //! Calls that decide by the entry of a key what is to be done with it. They come one at a time for a key.
 ghost use Rattle.std.specs.Prelude.{◌≡◌, IfOk, IfErr};
-ghost use Rattle.front_access.specs.Answering.{IsOutcomeOf};
+ghost use Rattle.front_parts.specs.Access.Answering.{IsOutcomeOf};
 ghost use Rattle.front_reference.specs.declared.data.Op.TheVariants as op;
 ghost use Rattle.sync_turns.specs.Turning.{DoesAsDecided};
 ghost use Rattle.sync_slots.specs.Refusals.{IsEndRefusal, IsShortage};

@@ -2,15 +2,15 @@
 ghost use Rattle.std.specs.Prelude.{◌≡◌, Some, Ok, IfOk, IfErr, OnErr};
 ghost use Rattle.std.specs.Fn.{FnOnceReturnsAt};
 ghost use Rattle.engine_reference.specs.Calls.{removal_rooms};
-ghost use Rattle.front_access.specs.Answering.{Suits};
+ghost use Rattle.front_parts.specs.Access.Answering.{Suits};
 ghost use Rattle.front_reference.specs.declared.data.Made.{Made};
 ghost use Rattle.front_reference.specs.declared.data.TurnKind.TheVariants as turns;
 ghost use Rattle.front_state.specs.Accessing.{DecidesIn, GivesIn, MayCall};
-ghost use Rattle.front_places.specs.Calls.{IsCauseIn, ways_by};
+ghost use Rattle.front_parts.specs.Places.Calls.{IsCauseIn, ways_by};
 
 use crate::state::LentState;
 use engine_reference::Rules;
-use front_access::{Access, OwnedKeyEntrySelector, RefKeyEntrySelector};
+use front_parts::{Access, OwnedKeyEntrySelector, RefKeyEntrySelector};
 use front_reference::{At, CacheError, Computed, Made, Op, Shared, TurnKind};
 use std::alloc::AllocError;
 use std::hash::{BuildHasher, Hash, Hasher};
@@ -19,7 +19,7 @@ impl<K: Eq + Hash + Drop, V: Clone + Drop, S: BuildHasher, R: Rules<K, V>, C> Ac
     for LentState<K, V, S, R, C> {
     ghost use Rattle.engine_reference.specs.Calls.{removal_rooms};
     ghost use Rattle.front_state.specs.Accessing.{CoalescedIn, ComputedIn, MayCall, SeesIn};
-    ghost use Rattle.front_places.specs.Calls.{IsCauseIn, ways_by};
+    ghost use Rattle.front_parts.specs.Places.Calls.{IsCauseIn, ways_by};
 
     type When = At;
 

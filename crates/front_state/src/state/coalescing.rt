@@ -2,13 +2,13 @@
 ghost use Rattle.std.specs.Prelude.{◌≡◌, false, Some, None, IfOk, IfErr, OnErr};
 ghost use Rattle.std.specs.Arc.{arc_value};
 ghost use Rattle.std.specs.Fn.{FnOnceReturnsAt};
-ghost use Rattle.front_access.specs.Answering.{IsOptionOf, IsResultOf, IsValueOf, Suits, passes_none};
-ghost use Rattle.front_access.specs.Selecting.{with_fault};
+ghost use Rattle.front_parts.specs.Access.Answering.{IsOptionOf, IsResultOf, IsValueOf, Suits, passes_none};
+ghost use Rattle.front_parts.specs.Access.Selecting.{with_fault};
 ghost use Rattle.front_reference.specs.Fronts.{ComesAfter};
 ghost use Rattle.front_reference.specs.declared.data.Made.TheVariants as outcome;
 ghost use Rattle.front_reference.specs.declared.data.TurnKind.TheVariants as turns;
 ghost use Rattle.front_state.specs.Accessing.{GetsIn, GetsOptionIn, GetsResultIn, MayCall, made_option, made_result};
-ghost use Rattle.front_places.specs.Calls.{IsCauseIn, hash_in, ways_by};
+ghost use Rattle.front_parts.specs.Places.Calls.{IsCauseIn, hash_in, ways_by};
 
 use crate::state::LentState;
 use engine_reference::Rules;

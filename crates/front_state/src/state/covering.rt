@@ -3,17 +3,15 @@ ghost use Rattle.std.specs.Prelude.{◌≡◌, ◌≢◌, ◌<◌, ℕ, true, If
 ghost use Rattle.std.specs.String.{string_bytes};
 ghost use Rattle.front_reference.specs.Fronts.{ComesAfter, part_of};
 ghost use Rattle.front_reference.specs.Wholes.{next_told, without_told};
-ghost use Rattle.front_places.specs.Calls.{IsSteadyBy, hash_in, visible_in, ways_by};
+ghost use Rattle.front_parts.specs.Places.Calls.{IsSteadyBy, hash_in, visible_in, ways_by};
 ghost use Rattle.front_reference.specs.declared.errors.CacheError.TheVariants as errors;
 ghost use Rattle.front_state.specs.Covering.{CoversAll, GivesVisible, IsCauseToCover, keys_in};
-ghost use Rattle.front_wholes.specs.Covering.{id_text};
+ghost use Rattle.front_parts.specs.Wholes.Covering.{id_text};
 
 use crate::state::LentState;
 use engine_reference::Rules;
-use front_iterator::{Iter, ScanningGet};
+use front_parts::{Iter, Notice, ScanningGet, clone_each, cover_all, hash_key, keys_at, next_notice, place_of, scan_at, write_id};
 use front_reference::{At, CacheError, LentKey, Shared};
-use front_places::{Notice, hash_key, keys_at, place_of, scan_at};
-use front_wholes::{clone_each, cover_all, next_notice, write_id};
 use policy_base::Instant;
 use rand_core::Rng;
 use std::alloc::AllocError;

@@ -2,12 +2,12 @@
 ghost use Rattle.std.specs.Prelude.{◌≡◌, ◌≤◌, option_map};
 ghost use Rattle.engine_reference.specs.Asking.{answers_of};
 ghost use Rattle.front_reference.specs.Wholes.{visible_number};
-ghost use Rattle.front_places.specs.Calls.{LooksUpIn, visible_in, ways_by};
+ghost use Rattle.front_parts.specs.Places.Calls.{LooksUpIn, visible_in, ways_by};
 
 use crate::state::LentState;
 use engine_reference::Rules;
 use front_reference::LentKey;
-use front_places::{count_visible, hash_key, note_at, peek_at, place_of};
+use front_parts::{count_visible, hash_key, note_at, peek_at, place_of};
 use policy_base::Instant;
 use std::hash::{BuildHasher, Hash, Hasher};
 

@@ -1,12 +1,12 @@
 //! Making a cache.
 ghost use Rattle.std.specs.Prelude.{◌≤◌, IfOk, option_map};
 ghost use Rattle.std.specs.String.{string_bytes};
-ghost use Rattle.front_places.specs.Making.{IsMadeWith};
+ghost use Rattle.front_parts.specs.Places.Making.{IsMadeWith};
 
 use super::LentState;
 use engine_reference::{Rules, Settings};
 use front_reference::Shared;
-use front_places::{for_part, new_parts};
+use front_parts::{for_part, new_parts};
 use policy_base::Instant;
 use std::alloc::{AllocError, Global};
 use std::hash::{BuildHasher, Hash};

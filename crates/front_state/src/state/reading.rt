@@ -6,7 +6,7 @@ ghost use Rattle.front_state.specs.Reading.{ShowsPolicy};
 
 use crate::state::LentState;
 use engine_reference::{Policy, Rules};
-use front_places::{sum_numbers, sum_weights};
+use front_parts::{sum_numbers, sum_weights};
 use front_reference::At;
 use std::hash::{BuildHasher, Hash};
 use std::time::Duration;

@@ -3,9 +3,8 @@ ghost use Rattle.std.specs.Prelude.{◌≡◌};
 
 use crate::state::LentState;
 use engine_reference::Rules;
-use front_iterator::Iter;
+use front_parts::{Iter, keys_at};
 use front_reference::{CacheError, Shared};
-use front_places::keys_at;
 use std::fmt;
 use std::hash::{BuildHasher, Hash};
 
@@ -50,7 +49,7 @@ impl<K: Eq + Hash + fmt::Debug + Drop, V: fmt::Debug, S: BuildHasher, R: Rules<K
 impl<'a, K: Eq + Hash + Drop, V: Clone + Drop, S: BuildHasher, R: Rules<K, V>, C> IntoIterator
     for &'a LentState<K, V, S, R, C> {
     ghost use Rattle.std.specs.Prelude.{◌≡◌};
-    ghost use Rattle.front_places.specs.Calls.{ways_by};
+    ghost use Rattle.front_parts.specs.Places.Calls.{ways_by};
     ghost use Rattle.front_state.specs.Covering.{GivesVisible};
 
     type Item = Result<(Shared<K>, V), CacheError>;

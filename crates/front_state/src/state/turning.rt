@@ -9,15 +9,13 @@ ghost use Rattle.front_reference.specs.declared.data.Op.TheVariants as op;
 ghost use Rattle.front_reference.specs.declared.data.OpenTurn.{OpenTurn};
 ghost use Rattle.front_reference.specs.declared.data.TurnKind.TheVariants as turns;
 ghost use Rattle.front_reference.specs.declared.errors.CacheError.TheVariants.{UnknownTurn};
-ghost use Rattle.front_places.specs.Calls.{IsAskedFirst, hash_in, seen_of, ways_by};
-ghost use Rattle.front_places.specs.Turning.{BeginsIn, EndsTurnAt, FinishesBy, IsCauseAt, IsFinishCause, IsTurnCause, IsTurnPlace, Leads, WaitsOrLeads};
+ghost use Rattle.front_parts.specs.Places.Calls.{IsAskedFirst, hash_in, seen_of, ways_by};
+ghost use Rattle.front_parts.specs.Places.Turning.{BeginsIn, EndsTurnAt, FinishesBy, IsCauseAt, IsFinishCause, IsTurnCause, IsTurnPlace, Leads, WaitsOrLeads};
 
 use crate::state::LentState;
 use engine_reference::{Names, Rules};
 use front_reference::{At, CacheError, IntoKey, LentKey, Made, Shared, TurnKind, TurnStart};
-use front_places::{
-    find_turn, insert_or_back_at, look_at, make_turn, note_at, place_of, place_of_turn,
-};
+use front_parts::{find_turn, insert_or_back_at, look_at, make_turn, note_at, place_of, place_of_turn};
 use policy_base::Instant;
 use std::alloc::AllocError;
 use std::hash::{BuildHasher, Hash, Hasher};

@@ -1,5 +1,5 @@
 use Rattle.std.proofs.Common.{◌∙◌, sym}
-use Rattle.front_places.specs.Calls.{ways_by}
+use Rattle.front_parts.specs.Places.Calls.{ways_by}
 use Rattle.front_state.proofs.Steady.{begun_else, begun_found, if_ok-map}
 use Rattle.front_state.proofs.state.LentState.begin.Goals as goal
 

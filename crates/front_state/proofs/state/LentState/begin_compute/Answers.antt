@@ -1,4 +1,4 @@
-use Rattle.front_places.specs.Calls.{ways_by}
+use Rattle.front_parts.specs.Places.Calls.{ways_by}
 use Rattle.front_state.proofs.Steady.{begun_leading, begun_waiting, none_under}
 use Rattle.front_state.proofs.state.LentState.begin_compute.Goals as goal
 

@@ -1,5 +1,5 @@
 use Rattle.std.proofs.Common.{◌∙◌, ap, sym}
-use Rattle.front_places.specs.Calls.{ways_by, hash_in}
+use Rattle.front_parts.specs.Places.Calls.{ways_by, hash_in}
 use Rattle.front_state.proofs.Steady.{few_bits, open_at, stays_steady, coalesced_key, coalescing_keeps}
 use Rattle.front_state.proofs.state.LentState.coalesce.Goals as goal
 

@@ -1,4 +1,4 @@
-use Rattle.front_places.specs.Calls.{ways_by}
+use Rattle.front_parts.specs.Places.Calls.{ways_by}
 use Rattle.front_state.proofs.Covered.{cause_as, covering_keeps, registers-each, some_parts, takes_of}
 use Rattle.front_state.proofs.Steady.{all_stay_steady}
 use Rattle.front_state.proofs.state.LentState.cover.Goals as goal

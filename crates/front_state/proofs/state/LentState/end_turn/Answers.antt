@@ -1,4 +1,4 @@
-use Rattle.front_places.specs.Calls.{ways_by}
+use Rattle.front_parts.specs.Places.Calls.{ways_by}
 use Rattle.front_state.proofs.Steady.{ended_turn, ends_steadily, left_turns}
 use Rattle.front_state.proofs.state.LentState.end_turn.Goals as goal
 

@@ -1,6 +1,6 @@
 use Rattle.std.proofs.Common.{◌∙◌, subst, sym}
-use Rattle.front_places.specs.Calls.{ways_by}
-use Rattle.front_places.specs.Turning.{FinishesBy}
+use Rattle.front_parts.specs.Places.Calls.{ways_by}
+use Rattle.front_parts.specs.Places.Turning.{FinishesBy}
 use Rattle.front_state.proofs.Steady.{finish-caused}
 use Rattle.front_state.proofs.state.LentState.finish.Goals as goal
 

@@ -2,8 +2,8 @@ use Rattle.std.proofs.Common.{◌∙◌, ◌<◌, ap, length, subst, sym}
 use Rattle.engine_reference.specs.Asking.{answers_of}
 use Rattle.front_reference.specs.Fronts.{CallsAt, Front}
 use Rattle.front_reference.specs.Parts.{Inserts}
-use Rattle.front_places.specs.Calls.{ways_by}
-use Rattle.front_places.proofs.Lists.{there}
+use Rattle.front_parts.specs.Places.Calls.{ways_by}
+use Rattle.front_parts.proofs.places.Lists.{there}
 use Rattle.front_state.proofs.Steady.{cause_for, few_bits, finished_for, finishes_steadily, left_turns, open_at, turn_hashed}
 use Rattle.front_state.proofs.state.LentState.finish_with_value.Goals as goal
 

@@ -1,6 +1,6 @@
 use Rattle.std.proofs.Common.{rules}
-use Rattle.front_access.specs.Answering.{passes_none}
-use Rattle.front_places.specs.Calls.{ways_by}
+use Rattle.front_parts.specs.Access.Answering.{passes_none}
+use Rattle.front_parts.specs.Places.Calls.{ways_by}
 use Rattle.front_state.proofs.Accessed.{gets-as}
 use Rattle.front_state.proofs.state.LentState.get_with.Goals as goal
 

@@ -1,7 +1,7 @@
 use Rattle.std.proofs.Common.{◌∙◌, ap, subst, sym}
 use Rattle.front_reference.specs.Fronts.{CallsAt}
 use Rattle.front_reference.specs.Parts.{Inserts}
-use Rattle.front_places.specs.Calls.{hash_in, ways_by}
+use Rattle.front_parts.specs.Places.Calls.{hash_in, ways_by}
 use Rattle.front_state.proofs.Steady.{called_key, few_bits, inserting_keeps, open_at, stays_steady}
 use Rattle.front_state.proofs.state.LentState.insert_with_hash.Goals as goal
 

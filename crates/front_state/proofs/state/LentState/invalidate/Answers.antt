@@ -1,4 +1,4 @@
-use Rattle.front_places.specs.Calls.{ways_by}
+use Rattle.front_parts.specs.Places.Calls.{ways_by}
 use Rattle.front_state.proofs.Steady.{few_bits, open_at, stays_steady, taking_out_keeps}
 use Rattle.front_state.proofs.state.LentState.invalidate.Goals as goal
 

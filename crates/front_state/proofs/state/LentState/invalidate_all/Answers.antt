@@ -1,4 +1,4 @@
-use Rattle.front_places.specs.Calls.{ways_by}
+use Rattle.front_parts.specs.Places.Calls.{ways_by}
 use Rattle.front_state.proofs.Steady.{all_stay_steady, called_all, clearing_keeps}
 use Rattle.front_state.proofs.state.LentState.invalidate_all.Goals as goal
 

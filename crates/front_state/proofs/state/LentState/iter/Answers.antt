@@ -1,4 +1,4 @@
-use Rattle.front_places.specs.Calls.{ways_by}
+use Rattle.front_parts.specs.Places.Calls.{ways_by}
 use Rattle.front_state.proofs.Covered.{gives_all, hash-alike}
 use Rattle.front_state.proofs.state.LentState.iter.Goals as goal
 

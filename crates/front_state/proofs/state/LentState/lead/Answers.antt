@@ -1,5 +1,5 @@
 use Rattle.std.proofs.Common.{◌∙◌, ap, sym}
-use Rattle.front_places.specs.Calls.{hash_in, ways_by}
+use Rattle.front_parts.specs.Places.Calls.{hash_in, ways_by}
 use Rattle.front_state.proofs.Steady.{begun_turns, few_bits, leads_steadily, led, noted_key, open_at}
 use Rattle.front_state.proofs.state.LentState.lead.Goals as goal
 

@@ -1,5 +1,5 @@
 use Rattle.std.proofs.Common.{◌∙◌, ap, sym}
-use Rattle.front_places.specs.Calls.{hash_in, ways_by}
+use Rattle.front_parts.specs.Places.Calls.{hash_in, ways_by}
 use Rattle.front_state.proofs.Steady.{begun_turns, computing_leads, led_computing}
 use Rattle.front_reference.specs.declared.data.TurnKind.TheVariants as turns
 use Rattle.front_state.proofs.state.LentState.lead_compute.Goals as goal

@@ -1,6 +1,6 @@
 use Rattle.std.proofs.Common.{◌∙◌, ap, subst, sym}
 use Rattle.std.specs.Prelude.{slice_get}
-use Rattle.front_places.specs.Calls.{IsOpenAt, hash_in, visible_of, ways_by}
+use Rattle.front_parts.specs.Places.Calls.{IsOpenAt, hash_in, visible_of, ways_by}
 use Rattle.front_state.proofs.Steady.{few_bits, open_at, same_part}
 use Rattle.front_state.proofs.state.LentState.look.Goals as goal
 

@@ -1,7 +1,7 @@
 use Rattle.std.specs.Arc.{arc_value}
-use Rattle.front_access.specs.Selecting.{with_fault}
+use Rattle.front_parts.specs.Access.Selecting.{with_fault}
 use Rattle.std.proofs.Common.{rules}
-use Rattle.front_places.specs.Calls.{ways_by}
+use Rattle.front_parts.specs.Places.Calls.{ways_by}
 use Rattle.front_state.proofs.Accessed.{gets-result}
 use Rattle.front_state.proofs.state.LentState.make_result.Goals as goal
 

@@ -1,4 +1,4 @@
-use Rattle.front_places.specs.Calls.{ways_by}
+use Rattle.front_parts.specs.Places.Calls.{ways_by}
 use Rattle.front_state.proofs.Covered.{stays_told}
 use Rattle.front_state.proofs.state.LentState.next_notice.Goals as goal
 

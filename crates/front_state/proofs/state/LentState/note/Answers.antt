@@ -1,5 +1,5 @@
 use Rattle.std.proofs.Common.{◌∙◌, ap, sym}
-use Rattle.front_places.specs.Calls.{hash_in, ways_by}
+use Rattle.front_parts.specs.Places.Calls.{hash_in, ways_by}
 use Rattle.front_state.proofs.Steady.{called_hash, few_bits, looking_keeps, open_at, stays_steady}
 use Rattle.front_state.proofs.state.LentState.note.Goals as goal
 

@@ -1,4 +1,4 @@
-use Rattle.front_places.specs.Calls.{ways_by}
+use Rattle.front_parts.specs.Places.Calls.{ways_by}
 use Rattle.front_state.proofs.Covered.{within_as}
 use Rattle.front_state.proofs.Steady.{few_bits}
 use Rattle.front_state.proofs.state.LentState.part.Goals as goal

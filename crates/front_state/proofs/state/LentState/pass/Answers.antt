@@ -1,4 +1,4 @@
-use Rattle.front_places.specs.Calls.{ways_by}
+use Rattle.front_parts.specs.Places.Calls.{ways_by}
 use Rattle.front_state.proofs.Steady.{passes_steadily}
 use Rattle.front_state.proofs.state.LentState.pass.Goals as goal
 

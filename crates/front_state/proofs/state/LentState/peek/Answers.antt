@@ -1,5 +1,5 @@
 use Rattle.std.proofs.Common.{subst, sym}
-use Rattle.front_places.specs.Calls.{IsOpenAt, ways_by}
+use Rattle.front_parts.specs.Places.Calls.{IsOpenAt, ways_by}
 use Rattle.front_state.proofs.Steady.{few_bits, open_at}
 use Rattle.front_state.proofs.state.LentState.peek.Goals as goal
 

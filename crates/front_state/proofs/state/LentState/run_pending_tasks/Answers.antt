@@ -1,4 +1,4 @@
-use Rattle.front_places.specs.Calls.{ways_by}
+use Rattle.front_parts.specs.Places.Calls.{ways_by}
 use Rattle.front_state.proofs.Steady.{all_stay_steady, running_keeps, all_sent}
 use Rattle.front_state.proofs.state.LentState.run_pending_tasks.Goals as goal
 

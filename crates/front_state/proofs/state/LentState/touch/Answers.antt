@@ -1,5 +1,5 @@
 use Rattle.std.specs.Prelude.{false}
-use Rattle.front_places.specs.Calls.{ways_by}
+use Rattle.front_parts.specs.Places.Calls.{ways_by}
 use Rattle.front_state.proofs.Steady.{comes_still, few_bits, looking_keeps, open_at, stays_steady, touched}
 use Rattle.front_state.proofs.state.LentState.touch.Goals as goal
 

@@ -1,6 +1,6 @@
 use Rattle.std.proofs.Common.{◌∙◌, ap}
 use Rattle.front_reference.specs.Fronts.{Front}
-use Rattle.front_places.proofs.Turned.{found_in}
+use Rattle.front_parts.proofs.places.Turned.{found_in}
 use Rattle.front_state.proofs.state.LentState.turn_place.Goals as goal
 
 pub returns-clause-found : goal.returns-clause-found

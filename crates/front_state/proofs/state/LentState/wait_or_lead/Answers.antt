@@ -1,4 +1,4 @@
-use Rattle.front_places.specs.Calls.{ways_by}
+use Rattle.front_parts.specs.Places.Calls.{ways_by}
 use Rattle.front_state.proofs.Steady.{led_on, none_under, waited}
 use Rattle.front_state.proofs.state.LentState.wait_or_lead.Goals as goal
 

@@ -2,8 +2,8 @@ use Rattle.std.proofs.Common.{◌≡◌, ◌∙◌, ap, sym, refl, length, ◌^�
 use Rattle.std.specs.Prelude.{option_map}
 use Rattle.engine_reference.specs.declared.data.Settings.{Settings}
 use Rattle.front_reference.specs.Fronts.{share_of}
-use Rattle.front_places.specs.Calls.{ways_by}
-use Rattle.front_places.proofs.Newness.{new_steady}
+use Rattle.front_parts.specs.Places.Calls.{ways_by}
+use Rattle.front_parts.proofs.places.Newness.{new_steady}
 use Rattle.front_state.proofs.state.LentState.with_parts.Goals as goal
 
 pub invariant_of-result : goal.invariant_of-result

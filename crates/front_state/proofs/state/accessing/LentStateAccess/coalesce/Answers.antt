@@ -1,6 +1,6 @@
 use Rattle.std.specs.Prelude.{Ok}
 use Rattle.std.specs.Fn.{FnOnceReturnsAt}
-use Rattle.front_places.specs.Calls.{ways_by}
+use Rattle.front_parts.specs.Places.Calls.{ways_by}
 use Rattle.front_state.proofs.Accessed.{gives-if-ok, suits-if-ok}
 use Rattle.front_state.proofs.state.accessing.LentStateAccess.coalesce.Goals as goal
 

@@ -1,5 +1,5 @@
 use Rattle.std.proofs.Common.{◌∙◌, subst}
-use Rattle.front_places.specs.Calls.{ways_by}
+use Rattle.front_parts.specs.Places.Calls.{ways_by}
 use Rattle.front_state.specs.Covering.{GivesVisible}
 use Rattle.front_state.proofs.state.showing.RefLentStateIntoIterator.into_iter.Goals as goal
 

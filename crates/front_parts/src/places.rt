@@ -1,0 +1,18 @@
+//! The front's calls on the part at a place and on all parts, how parts are made, and which turns are under way: what a cache of several parts is put together from.
+mod hashing;
+mod making;
+mod places;
+mod scans;
+mod turns;
+mod wholes;
+
+pub use crate::{BaseCache, EvictionPolicy, Notice, RemovalCause, Settings};
+pub use hashing::{hash_key, place_of};
+pub use making::{for_part, new_parts};
+pub use places::{
+    coalesce_at, compute_at, contains_key_at, get_at, insert_at, insert_or_back_at, invalidate_at,
+    look_at, note_at, remove_at,
+};
+pub use scans::{keys_at, peek_at, scan_at};
+pub use turns::{find_turn, make_turn, place_of_turn};
+pub use wholes::{clear_all, count_visible, run_all, sum_numbers, sum_weights};

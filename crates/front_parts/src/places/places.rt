@@ -1,0 +1,258 @@
+//! Calls on the part at a place.
+ghost use Rattle.std.specs.Prelude.{◌≡◌, false, Ok, Some, IfOk, IfErr, OnOk, OnErr, is_some, slice_get};
+ghost use Rattle.std.specs.Fn.{FnOnceReturnsAt};
+ghost use Rattle.engine_reference.specs.Calls.{removal_rooms};
+ghost use Rattle.engine_reference.specs.Scanning.{NotesLookUp};
+ghost use Rattle.engine_reference.specs.Asking.{answers_of};
+ghost use Rattle.front_reference.specs.Parts.{Inserts, TakesOut};
+ghost use Rattle.front_reference.specs.Fronts.{CallsAt};
+ghost use Rattle.front_parts.specs.Places.Calls.{CoalescesAt, ComputesAt, IsAskedFirst, IsCauseOf, IsOpenAt, seen_of, visible_of, held_of, ways_by};
+
+use engine_reference::{Names, Rules};
+use front_reference::{At, CacheError, Computed, IntoKey, Made, Op};
+use crate::{BaseCache, coalesce, compute, contains_key, get, insert, insert_or_back, invalidate, look, remove};
+use policy_base::Instant;
+use std::alloc::AllocError;
+use std::hash::{BuildHasher, Hash, Hasher};
+
+/// `get` of the part at a place.
+pub fn get_at<K: Eq + Hash + Drop, V: Clone + Drop, S: BuildHasher, R: Rules<K, V>, Q: Names<K>>(
+    parts: &mut Vec<BaseCache<K, V, S, R>>,
+    place: usize,
+    key: &Q,
+    hash: u64,
+    now: Instant,
+) -> Result<Option<V>, AllocError>
+    requires exact { (x y : V) → V.is_clone x y → y ≡ x }
+    requires there { IsOpenAt (ways_by R.Rules K.eq K.hash_input S.BuildHasher S.Hasher.Hasher) place (Q.named_key key.now) hash parts.old.items }
+    ensures found { IfOk result (λ found. found ≡ visible_of (ways_by R.Rules K.eq K.hash_input S.BuildHasher S.Hasher.Hasher) (slice_get parts.old.items place) now (Q.named_key key.now)) }
+    ensures used { OnOk result (CallsAt place (NotesLookUp (answers_of R.weight_of R.created R.read R.updated R.covers) K.eq (Q.named_key key.now) hash now false) parts.old.items parts.new.items) }
+    ensures err { OnErr result (parts.new.items ≡ parts.old.items) }
+{
+    let part = &mut parts[place];
+    let found = get(part, key, hash, now)?;
+    Ok(found)
+}
+
+/// Whether a key has a visible value in the part at a place.
+pub fn contains_key_at<K: Eq + Hash, V, S: BuildHasher, R: Rules<K, V>, Q: Names<K>>(
+    parts: &[BaseCache<K, V, S, R>],
+    place: usize,
+    key: &Q,
+    hash: u64,
+    now: Instant,
+) -> bool
+    requires there { IsOpenAt (ways_by R.Rules K.eq K.hash_input S.BuildHasher S.Hasher.Hasher) place (Q.named_key key.now) hash parts.now }
+    ensures { result ≡ is_some (visible_of (ways_by R.Rules K.eq K.hash_input S.BuildHasher S.Hasher.Hasher) (slice_get parts.now place) now (Q.named_key key.now)) }
+{
+    contains_key(&parts[place], key, hash, now)
+}
+
+/// `insert` into the part at a place.
+pub fn insert_at<K: Eq + Hash + Drop, V: Drop, S: BuildHasher, R: Rules<K, V>>(
+    parts: &mut Vec<BaseCache<K, V, S, R>>,
+    place: usize,
+    key: K,
+    hash: u64,
+    value: V,
+    at: At,
+) -> Result<(), CacheError>
+    requires there { IsOpenAt (ways_by R.Rules K.eq K.hash_input S.BuildHasher S.Hasher.Hasher) place key hash parts.old.items }
+    ensures inserts { OnOk result (CallsAt place (Inserts (answers_of R.weight_of R.created R.read R.updated R.covers) K.eq key hash value at.now at.step) parts.old.items parts.new.items) }
+    ensures err { OnErr result (parts.new.items ≡ parts.old.items) }
+    ensures cause { IfErr result (IsCauseOf (ways_by R.Rules K.eq K.hash_input S.BuildHasher S.Hasher.Hasher) (λ _. 1) (slice_get parts.old.items place)) }
+{
+    let part = &mut parts[place];
+    match insert(part, key, hash, value, at) {
+        Ok(()) => Ok(()),
+        Err(refused) => Err(refused),
+    }
+}
+
+/// `remove` from the part at a place.
+pub fn remove_at<
+    K: Eq + Hash + Clone + Drop,
+    V: Clone + Drop,
+    S: BuildHasher,
+    R: Rules<K, V>,
+    Q: Names<K>,
+>(
+    parts: &mut Vec<BaseCache<K, V, S, R>>,
+    place: usize,
+    key: &Q,
+    hash: u64,
+    now: Instant,
+) -> Result<Option<V>, CacheError>
+    requires exact_key { (x y : K) → K.is_clone x y → y ≡ x }
+    requires exact { (x y : V) → V.is_clone x y → y ≡ x }
+    requires there { IsOpenAt (ways_by R.Rules K.eq K.hash_input S.BuildHasher S.Hasher.Hasher) place (Q.named_key key.now) hash parts.old.items }
+    ensures value { IfOk result (λ value. value ≡ held_of (ways_by R.Rules K.eq K.hash_input S.BuildHasher S.Hasher.Hasher) (slice_get parts.old.items place) (Q.named_key key.now)) }
+    ensures takes_out { OnOk result (CallsAt place (TakesOut (answers_of R.weight_of R.created R.read R.updated R.covers) K.eq (Q.named_key key.now) now) parts.old.items parts.new.items) }
+    ensures err { OnErr result (parts.new.items ≡ parts.old.items) }
+    ensures cause { IfErr result (IsCauseOf (ways_by R.Rules K.eq K.hash_input S.BuildHasher S.Hasher.Hasher) removal_rooms (slice_get parts.old.items place)) }
+{
+    let part = &mut parts[place];
+    match remove(part, key, hash, now) {
+        Ok(value) => Ok(value),
+        Err(refused) => Err(refused),
+    }
+}
+
+/// `invalidate` of the part at a place.
+pub fn invalidate_at<
+    K: Eq + Hash + Clone + Drop,
+    V: Clone + Drop,
+    S: BuildHasher,
+    R: Rules<K, V>,
+    Q: Names<K>,
+>(
+    parts: &mut Vec<BaseCache<K, V, S, R>>,
+    place: usize,
+    key: &Q,
+    hash: u64,
+    now: Instant,
+) -> Result<(), CacheError>
+    requires exact_key { (x y : K) → K.is_clone x y → y ≡ x }
+    requires exact { (x y : V) → V.is_clone x y → y ≡ x }
+    requires there { IsOpenAt (ways_by R.Rules K.eq K.hash_input S.BuildHasher S.Hasher.Hasher) place (Q.named_key key.now) hash parts.old.items }
+    ensures takes_out { OnOk result (CallsAt place (TakesOut (answers_of R.weight_of R.created R.read R.updated R.covers) K.eq (Q.named_key key.now) now) parts.old.items parts.new.items) }
+    ensures err { OnErr result (parts.new.items ≡ parts.old.items) }
+    ensures cause { IfErr result (IsCauseOf (ways_by R.Rules K.eq K.hash_input S.BuildHasher S.Hasher.Hasher) removal_rooms (slice_get parts.old.items place)) }
+{
+    let part = &mut parts[place];
+    match invalidate(part, key, hash, now) {
+        Ok(()) => Ok(()),
+        Err(refused) => Err(refused),
+    }
+}
+
+/// `coalesce` on the part at a place.
+pub fn coalesce_at<
+    K: Eq + Hash + Drop,
+    V: Clone + Drop,
+    S: BuildHasher,
+    R: Rules<K, V>,
+    F: Drop,
+    Q: IntoKey<K>,
+    P: FnOnce(&V) -> bool + Drop,
+    M: FnOnce() -> Result<Made<V, F>, AllocError> + Drop,
+>(
+    parts: &mut Vec<BaseCache<K, V, S, R>>,
+    place: usize,
+    name: Q,
+    hash: u64,
+    at: At,
+    replace_if: P,
+    make: M,
+) -> Result<(Made<V, F>, bool), CacheError>
+    requires there { IsOpenAt (ways_by R.Rules K.eq K.hash_input S.BuildHasher S.Hasher.Hasher) place (Q.named_key name) hash parts.old.items }
+    requires becomes { Q.can_become name }
+    requires exact { (x y : V) → V.is_clone x y → y ≡ x }
+    requires callable { P.IsAlwaysCallable replace_if × M.IsAlwaysCallable make }
+    ensures answer { IfOk result (CoalescesAt (ways_by R.Rules K.eq K.hash_input S.BuildHasher S.Hasher.Hasher) place (Q.named_key name) hash at (FnOnceReturnsAt P.FnOnce replace_if) (M.post make) parts.old parts.new) }
+    ensures err { OnErr result (parts.new.items ≡ parts.old.items) }
+    ensures cause { IfErr result (IsCauseOf (ways_by R.Rules K.eq K.hash_input S.BuildHasher S.Hasher.Hasher) (λ _. 1) (slice_get parts.old.items place)) }
+{
+    let part = &mut parts[place];
+    match coalesce(part, name, hash, at, replace_if, make) {
+        Ok(answer) => Ok(answer),
+        Err(refused) => Err(refused),
+    }
+}
+
+/// `compute` on the part at a place.
+pub fn compute_at<
+    K: Eq + Hash + Clone + Drop,
+    V: Clone + Drop,
+    S: BuildHasher,
+    R: Rules<K, V>,
+    E: Drop,
+    Q: IntoKey<K>,
+    D: FnOnce(Option<V>) -> Result<Op<V>, E> + Drop,
+>(
+    parts: &mut Vec<BaseCache<K, V, S, R>>,
+    place: usize,
+    name: Q,
+    hash: u64,
+    at: At,
+    decide: D,
+) -> Result<Result<Computed<V>, E>, CacheError>
+    requires there { IsOpenAt (ways_by R.Rules K.eq K.hash_input S.BuildHasher S.Hasher.Hasher) place (Q.named_key name) hash parts.old.items }
+    requires becomes { Q.can_become name }
+    requires exact_key { (x y : K) → K.is_clone x y → y ≡ x }
+    requires exact { (x y : V) → V.is_clone x y → y ≡ x }
+    requires decides { D.IsAlwaysCallable decide }
+    ensures computes { IfOk result (ComputesAt (ways_by R.Rules K.eq K.hash_input S.BuildHasher S.Hasher.Hasher) place (Q.named_key name) hash at (D.post decide) parts.old.items parts.new.items) }
+    ensures err { OnErr result (parts.new.items ≡ parts.old.items) }
+    ensures cause { IfErr result (IsCauseOf (ways_by R.Rules K.eq K.hash_input S.BuildHasher S.Hasher.Hasher) removal_rooms (slice_get parts.old.items place)) }
+{
+    let part = &mut parts[place];
+    match compute(part, name, hash, at, decide) {
+        Ok(answer) => Ok(answer),
+        Err(refused) => Err(refused),
+    }
+}
+
+/// `look` at the part at a place: whether what is visible is passed over, and a clone of what is not.
+pub fn look_at<
+    K: Eq + Hash,
+    V: Clone,
+    S: BuildHasher,
+    R: Rules<K, V>,
+    Q: Names<K>,
+    P: FnOnce(&V) -> bool + Drop,
+>(
+    parts: &[BaseCache<K, V, S, R>],
+    place: usize,
+    key: &Q,
+    hash: u64,
+    now: Instant,
+    replace_if: P,
+) -> Result<(bool, Option<V>), AllocError>
+    requires there { IsOpenAt (ways_by R.Rules K.eq K.hash_input S.BuildHasher S.Hasher.Hasher) place (Q.named_key key.now) hash parts.now }
+    requires exact { (x y : V) → V.is_clone x y → y ≡ x }
+    requires callable { P.IsAlwaysCallable replace_if }
+    ensures asked { IfOk result (IsAskedFirst (ways_by R.Rules K.eq K.hash_input S.BuildHasher S.Hasher.Hasher) (slice_get parts.now place) now (Q.named_key key.now) (FnOnceReturnsAt P.FnOnce replace_if)) }
+    ensures found { IfOk result (λ a. a.1 ≡ seen_of (ways_by R.Rules K.eq K.hash_input S.BuildHasher S.Hasher.Hasher) (slice_get parts.now place) now (Q.named_key key.now) a.0) }
+{
+    let looked = look(&parts[place], key, hash, now, replace_if)?;
+    Ok(looked)
+}
+
+/// Notes a look-up in the part at a place.
+pub fn note_at<K: Eq + Hash + Drop, V: Drop, S: BuildHasher, R: Rules<K, V>, Q: Names<K>>(
+    parts: &mut Vec<BaseCache<K, V, S, R>>,
+    place: usize,
+    key: &Q,
+    hash: u64,
+    now: Instant,
+    ignored: bool,
+)
+    requires there { IsOpenAt (ways_by R.Rules K.eq K.hash_input S.BuildHasher S.Hasher.Hasher) place (Q.named_key key.now) hash parts.old.items }
+    ensures { CallsAt place (NotesLookUp (answers_of R.weight_of R.created R.read R.updated R.covers) K.eq (Q.named_key key.now) hash now ignored) parts.old.items parts.new.items }
+{
+    let part = &mut parts[place];
+    part.note_look_up(key, hash, now, ignored);
+}
+
+/// `insert` into the part at a place, of a value that is handed back where it is refused.
+pub fn insert_or_back_at<K: Eq + Hash + Drop, V: Drop, S: BuildHasher, R: Rules<K, V>>(
+    parts: &mut Vec<BaseCache<K, V, S, R>>,
+    place: usize,
+    key: K,
+    hash: u64,
+    value: V,
+    at: At,
+) -> Result<(), (CacheError, V)>
+    requires there { IsOpenAt (ways_by R.Rules K.eq K.hash_input S.BuildHasher S.Hasher.Hasher) place key hash parts.old.items }
+    ensures inserts { OnOk result (CallsAt place (Inserts (answers_of R.weight_of R.created R.read R.updated R.covers) K.eq key hash value at.now at.step) parts.old.items parts.new.items) }
+    ensures err { OnErr result (parts.new.items ≡ parts.old.items) }
+    ensures back { IfErr result (λ refused. refused.1 ≡ value) }
+    ensures cause { IfErr result (λ refused. IsCauseOf (ways_by R.Rules K.eq K.hash_input S.BuildHasher S.Hasher.Hasher) (λ _. 1) (slice_get parts.old.items place) refused.0) }
+{
+    let part = &mut parts[place];
+    match insert_or_back(part, key, hash, value, at) {
+        Ok(()) => Ok(()),
+        Err((refused, value)) => Err((refused, value)),
+    }
+}

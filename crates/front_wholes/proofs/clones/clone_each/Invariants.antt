@@ -1,9 +1,0 @@
-use Rattle.std.proofs.Common.{◌≡◌, length}
-use Rattle.front_wholes.specs.Covering.{AreAll}
-use Rattle.front_wholes.proofs.clones.clone_each.Given as goal
-
-abbrev pub invariant-loop : goal.invariant-loop
-invariant-loop g l = record {
-  count : length l.clones.items ≡ l.counter;
-  alike : AreAll l.predicate l.clones.items;
-}
