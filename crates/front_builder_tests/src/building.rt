@@ -1,5 +1,5 @@
 use engine_reference::{Bundle, NoExpiry, NoPredicate, WeighOne};
-use front_builder::{BuildError, CacheBuilder};
+use moka::{BuildError, CacheBuilder};
 use front_state::LentState;
 use policy_base::Instant;
 use std::alloc::{AllocError, Global};

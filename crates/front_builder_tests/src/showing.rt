@@ -1,6 +1,6 @@
 //! How a cache prints, and what a loop over it gives.
 use engine_reference::{Bundle, NoExpiry, NoPredicate, WeighOne};
-use front_builder::CacheBuilder;
+use moka::CacheBuilder;
 use front_parts::Iter;
 use front_reference::{At, Shared};
 use front_state::LentState;

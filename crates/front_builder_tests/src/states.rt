@@ -1,7 +1,5 @@
 //! Caches that are made by few words.
-use front_builder::{
-    BuildError, CacheState, NewSegmentedState, NewState, SegmentedState, StdHasher,
-};
+use moka::{BuildError, CacheState, NewSegmentedState, NewState, SegmentedState, StdHasher};
 use policy_base::Instant;
 use std::alloc::Global;
 use std::time::Duration;

@@ -6,7 +6,7 @@ mod hashing;
 mod script;
 mod selecting;
 
-pub use front_builder::BuildError;
+pub use moka::BuildError;
 pub use hashing::{Times, TimesHasher};
 pub use script::{Call, Closure, Done, Form, Numbers, Start, are_right, next, numbers};
 pub use selecting::Select;

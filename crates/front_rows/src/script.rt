@@ -6,7 +6,7 @@ use crate::closures::perform_closure;
 use crate::hashing::Times;
 use crate::selecting::Select;
 use engine_reference::{Bundle, EvictionPolicy, NoExpiry, NoPredicate, RemovalCause, WeighOne};
-use front_builder::{BuildError, CacheBuilder};
+use moka::{BuildError, CacheBuilder};
 use front_reference::{At, CacheError, ClonedKey, Made, OwnedKey, TurnKind, TurnStart};
 use front_state::LentState;
 use policy_base::Instant;

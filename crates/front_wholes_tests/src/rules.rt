@@ -3,7 +3,7 @@ ghost use Rattle.std.specs.Prelude.{◌==◌, ◌<◌, ◌||◌, IfSome};
 ghost use Rattle.front_reference.specs.Fronts.{ComesAfter};
 
 use engine_reference::{Bundle, NoExpiry, Predicate, WeighOne};
-use front_builder::{BuildError, CacheBuilder};
+use moka::{BuildError, CacheBuilder};
 use front_reference::At;
 use front_state::LentState;
 use policy_base::Instant;

@@ -1,18 +1,18 @@
 //! A bounded cache of values by key, on a state that its owner lends: capacity by number or weight, times to live and to idle, own expirations, calls that make a value once for a key, selectors of an entry.
 #![tactic(auto)]
 
+mod builder;
+mod errors;
+mod settling;
+mod states;
+
+pub use builder::CacheBuilder;
+pub use errors::BuildError;
 pub use front_parts::{Access, CompResult, Entry, EntrySelector, Iter, OwnedKeyEntrySelector, RefKeyEntrySelector, ScanningGet};
-pub use front_builder::{
-    BuildError, CacheBuilder, CacheState, NewSegmentedState, NewState, PlainBuilder, PlainRules,
-    SegmentedState, StdHasher,
-};
 pub use front_reference::{At, CacheError, ClonedKey, Computed, IntoKey, LentKey, Made, Op, OpenTurn, OwnedKey, Shared, TurnKind, TurnStart};
 pub use front_state::{LentState, Segmented, Single};
-pub use moka_engine::{
-    Bundle, EvictionPolicy, Expiration, ExpirationPolicy, Expiry, Instant, Names, NoExpiry,
-    NoPredicate, Notice, Policy, Predicate, PredicateError, RemovalCause, Rules, Settings,
-    WeighOne, Weigher,
-};
+pub use moka_engine::{Bundle, EvictionPolicy, Expiration, ExpirationPolicy, Expiry, Instant, Names, NoExpiry, NoPredicate, Notice, Policy, Predicate, PredicateError, RemovalCause, Rules, Settings, WeighOne, Weigher};
+pub use states::{CacheState, NewSegmentedState, NewState, PlainBuilder, PlainRules, SegmentedState, StdHasher};
 
 /// Functions whose contracts are laws of what the contracts speak of.
 pub mod laws {

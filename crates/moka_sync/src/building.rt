@@ -1,12 +1,12 @@
 //! Building a cache that threads share.
 ghost use Rattle.std.specs.Prelude.{◌≡◌, ◌⊎◌, Option, Some, None, IfErr, OnOk};
-ghost use Rattle.front_builder.specs.Building.{blank, fault_of, segments_fault};
-ghost use Rattle.front_builder.specs.declared.errors.BuildError.{BuildError};
-ghost use Rattle.front_builder.specs.declared.errors.BuildError.TheVariants.{OutOfMemory};
+ghost use Rattle.moka.specs.Building.{blank, fault_of, segments_fault};
+ghost use Rattle.moka.specs.declared.errors.BuildError.{BuildError};
+ghost use Rattle.moka.specs.declared.errors.BuildError.TheVariants.{OutOfMemory};
 
 use crate::cache::Cache;
 use engine_reference::{Bundle, Expiry, NoExpiry, NoPredicate, Predicate, Rules, WeighOne, Weigher};
-use front_builder::{BuildError, CacheBuilder};
+use moka::{BuildError, CacheBuilder};
 use std::alloc::Global;
 use std::hash::{BuildHasher, BuildHasherDefault, FoldHasher, Hash};
 use sync_env::Env;
@@ -53,7 +53,7 @@ impl<
     P: Predicate<K, V>,
     F: Drop,
 > Build<K, V> for CacheBuilder<X, W, P, F> {
-    ghost use Rattle.front_builder.specs.Building.{fault_of};
+    ghost use Rattle.moka.specs.Building.{fault_of};
 
     type Rules = Bundle<X, W, P, F>;
 

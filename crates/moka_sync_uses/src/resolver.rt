@@ -3,7 +3,7 @@ ghost use Rattle.std.specs.Prelude.{◌≡◌, IfErr};
 ghost use Rattle.sync_slots.specs.Refusals.{IsTurnRefusal};
 
 use engine_reference::{Bundle, NoExpiry, NoPredicate, WeighOne};
-use front_builder::{BuildError, CacheBuilder};
+use moka::{BuildError, CacheBuilder};
 use front_reference::CacheError;
 use moka_sync::{Build, Cache, Env, StdHasher};
 use std::alloc::Global;

@@ -1,6 +1,6 @@
 //! Four threads resolve four names.
 use crate::resolver::{Resolver, Unresolved, Upstream};
-use front_builder::BuildError;
+use moka::BuildError;
 use moka_sync::{Dial, DialEnv};
 use rand_core::SeedableRng;
 use rand_xoshiro::Xoshiro256PlusPlus;

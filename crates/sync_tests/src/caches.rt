@@ -1,6 +1,6 @@
 //! The rows' caches, and the gates of their threads.
 use engine_reference::{Bundle, NoExpiry, NoPredicate, WeighOne};
-use front_builder::{BuildError, CacheBuilder};
+use moka::{BuildError, CacheBuilder};
 use moka_sync::{Build, Cache, Dial, DialEnv, StdHasher};
 use rand_core::SeedableRng;
 use rand_xoshiro::Xoshiro256PlusPlus;

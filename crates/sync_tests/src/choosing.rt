@@ -4,7 +4,7 @@ ghost use Rattle.std.specs.Prelude.{◌==◌};
 use crate::caches::{Dialled, Numbers, generator, make_dialled};
 use engine_reference::{Bundle, NoExpiry, Predicate, WeighOne};
 use front_parts::CompResult;
-use front_builder::{BuildError, CacheBuilder};
+use moka::{BuildError, CacheBuilder};
 use front_reference::{CacheError, Op};
 use moka_sync::{Build, Cache, ConcurrentCacheExt, Dial, DialEnv, StdHasher};
 use rand_xoshiro::Xoshiro256PlusPlus;

@@ -2,7 +2,7 @@
 ghost use Rattle.std.specs.Prelude.{◌≡◌};
 
 use crate::caches::{generator, wait_for_readings};
-use front_builder::{BuildError, CacheBuilder};
+use moka::{BuildError, CacheBuilder};
 use front_reference::CacheError;
 use moka_sync::{Build, Cache, Dial, DialEnv, PlainRules, StdHasher};
 use rand_xoshiro::Xoshiro256PlusPlus;

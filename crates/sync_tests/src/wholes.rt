@@ -1,7 +1,7 @@
 //! Whole caches: iterators beside writers, evictions that are told, printed text, what builders make.
 use crate::caches::{Dialled, Numbers, generator, make_dialled};
 use engine_reference::RemovalCause;
-use front_builder::{BuildError, CacheBuilder};
+use moka::{BuildError, CacheBuilder};
 use front_reference::{CacheError, Shared};
 use moka_sync::{Build, Cache, Dial, DialEnv, PlainRules, SegmentedCache, StdHasher};
 use rand_xoshiro::Xoshiro256PlusPlus;

@@ -1,7 +1,7 @@
 //! What a builder's settings come to.
 ghost use Rattle.std.specs.Prelude.{◌≡◌, ◌+◌, ◌<◌, ◌≤◌, ◌^◌, ℕ, Some, None};
 ghost use Rattle.std.specs.Duration.{as_nanos};
-ghost use Rattle.front_builder.specs.Building.{as_limit, is_too_long, segments_fault, time_fault};
+ghost use Rattle.moka.specs.Building.{as_limit, is_too_long, segments_fault, time_fault};
 
 use crate::errors::BuildError;
 use policy_base::duration_to_saturating_nanoseconds;

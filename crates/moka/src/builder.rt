@@ -1,7 +1,7 @@
 //! The builder.
 ghost use Rattle.std.specs.Prelude.{◌≡◌, ◌⊎◌, Some, None, true, false, IfOk, IfErr, OnOk};
-ghost use Rattle.front_builder.specs.Building.{IsBuilt, blank, fault_of, settings_of};
-ghost use Rattle.front_builder.specs.declared.errors.BuildError.TheVariants.{OutOfMemory};
+ghost use Rattle.moka.specs.Building.{IsBuilt, blank, fault_of, settings_of};
+ghost use Rattle.moka.specs.declared.errors.BuildError.TheVariants.{OutOfMemory};
 
 use crate::errors::BuildError;
 use crate::settling::{as_limit, bits_for, segments_fault, time_fault};
@@ -49,7 +49,7 @@ impl CacheBuilder<NoExpiry, WeighOne, NoPredicate, ()> {
 
 impl Default for CacheBuilder<NoExpiry, WeighOne, NoPredicate, ()> {
     ghost use Rattle.std.specs.Prelude.{◌≡◌};
-    ghost use Rattle.front_builder.specs.Building.{blank};
+    ghost use Rattle.moka.specs.Building.{blank};
 
     ghost is_default = { λ b. b.plan ≡ blank };
 

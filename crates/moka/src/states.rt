@@ -1,7 +1,7 @@
 //! Caches that are made by few words.
 ghost use Rattle.std.specs.Prelude.{◌≡◌, ◌⊎◌, ℕ, Some, None, IfOk, IfErr, OnOk};
-ghost use Rattle.front_builder.specs.Building.{blank, segments_fault};
-ghost use Rattle.front_builder.specs.declared.errors.BuildError.TheVariants.{OutOfMemory};
+ghost use Rattle.moka.specs.Building.{blank, segments_fault};
+ghost use Rattle.moka.specs.declared.errors.BuildError.TheVariants.{OutOfMemory};
 
 use crate::builder::CacheBuilder;
 use crate::errors::BuildError;
@@ -75,7 +75,7 @@ pub trait NewSegmentedState: Sized {
 }
 
 impl<K: Eq + Hash + Drop, V: Drop> NewState for LentState<K, V, StdHasher, PlainRules, Single> {
-    ghost use Rattle.front_builder.specs.Building.{IsBuiltPlainly};
+    ghost use Rattle.moka.specs.Building.{IsBuiltPlainly};
 
     ghost is_new = { λ state max_capacity moment. IsBuiltPlainly max_capacity 1 moment state };
 
@@ -90,7 +90,7 @@ impl<K: Eq + Hash + Drop, V: Drop> NewState for LentState<K, V, StdHasher, Plain
 
 impl<K: Eq + Hash + Drop, V: Drop> NewSegmentedState
     for LentState<K, V, StdHasher, PlainRules, Segmented> {
-    ghost use Rattle.front_builder.specs.Building.{IsBuiltPlainly};
+    ghost use Rattle.moka.specs.Building.{IsBuiltPlainly};
 
     ghost is_new = { λ state max_capacity segments moment. IsBuiltPlainly max_capacity segments moment state };
 

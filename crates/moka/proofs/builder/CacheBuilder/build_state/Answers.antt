@@ -2,7 +2,7 @@ use Rattle.std.proofs.Common.{subst}
 use Rattle.std.specs.Prelude.{option_map}
 use Rattle.std.specs.String.{string_bytes}
 use Rattle.front_state.specs.Making.{IsMadeWith}
-use Rattle.front_builder.proofs.builder.CacheBuilder.build_state.Goals as goal
+use Rattle.moka.proofs.builder.CacheBuilder.build_state.Goals as goal
 
 pub returns-clause-built : goal.returns-clause-built
 returns-clause-built g c = record {

@@ -8,9 +8,9 @@ use Rattle.front_reference.specs.Fronts.{Front}
 use Rattle.front_state.specs.Making.{IsMadeWith}
 use Rattle.engine_reference.specs.declared.rules.rules.Bundle.{Bundle}
 use Rattle.engine_reference.specs.declared.rules.settings.EvictionPolicy.TheVariants.{TinyLfu}
-use Rattle.front_builder.specs.declared.builder.Plan.{Plan}
-use Rattle.front_builder.specs.declared.errors.BuildError.{BuildError}
-use Rattle.front_builder.specs.declared.errors.BuildError.TheVariants.{TimeToLiveTooLong, TimeToIdleTooLong, NoSegments, TooManySegments}
+use Rattle.moka.specs.declared.builder.Plan.{Plan}
+use Rattle.moka.specs.declared.errors.BuildError.{BuildError}
+use Rattle.moka.specs.declared.errors.BuildError.TheVariants.{TimeToLiveTooLong, TimeToIdleTooLong, NoSegments, TooManySegments}
 
 -- longer than 1000 years of 365 days
 abbrev pub is_too_long : Option Duration → Bool

@@ -1,5 +1,5 @@
 use Rattle.std.proofs.Common.{◌≤◌, ◌-◌, ◌^◌, ℕ}
-use Rattle.front_builder.proofs.settling.bits_for.Given as goal
+use Rattle.moka.proofs.settling.bits_for.Given as goal
 
 abbrev pub decreases-loop-bits : goal.decreases-loop-bits
 decreases-loop-bits l = 16 - l.bits

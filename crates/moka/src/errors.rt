@@ -25,7 +25,7 @@ pub enum BuildError {
 
 impl From<AllocError> for BuildError {
     ghost use Rattle.std.specs.Prelude.{◌≡◌};
-    ghost use Rattle.front_builder.specs.declared.errors.BuildError.TheVariants.{OutOfMemory};
+    ghost use Rattle.moka.specs.declared.errors.BuildError.TheVariants.{OutOfMemory};
 
     ghost from_gives = { λ _ e. e ≡ OutOfMemory };
 
