@@ -1,7 +1,7 @@
 //! More keys than there is room for.
 use engine_reference::RemovalCause;
 use front_reference::CacheError;
-use front_rows::{BuildError, Form, Numbers, next, numbers};
+use crate::playing::{BuildError, Form, Numbers, next, numbers};
 use std::alloc::Global;
 
 /// A cache of capacity 500.

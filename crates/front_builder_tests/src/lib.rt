@@ -1,9 +1,0 @@
-//! Rows of what builds a cache that is lent, and of what it shows.
-#![tactic(auto)]
-
-#[cfg(test)]
-mod building;
-#[cfg(test)]
-mod showing;
-#[cfg(test)]
-mod states;

@@ -1,0 +1,374 @@
+//! Calls of a cache, one after another.
+ghost use Rattle.std.specs.Prelude.{◌<◌, IfSome};
+ghost use Rattle.front_reference.specs.Fronts.{ComesAfter};
+
+use crate::playing::closures::perform_closure;
+use crate::playing::hashing::Times;
+use crate::playing::selecting::Select;
+use engine_reference::{Bundle, EvictionPolicy, NoExpiry, NoPredicate, RemovalCause, WeighOne};
+use moka::{BuildError, CacheBuilder};
+use front_reference::{At, CacheError, ClonedKey, Made, OwnedKey, TurnKind, TurnStart};
+use front_state::LentState;
+use policy_base::Instant;
+use rand_core::SeedableRng;
+use rand_xoshiro::SplitMix64;
+use std::alloc::{AllocError, Global};
+use std::time::Duration;
+
+/// A cache of numbers.
+pub type Numbers = LentState<u64, u64, Times, Bundle<NoExpiry, WeighOne, NoPredicate, ()>>;
+
+/// How a row's cache is made: its segments, its capacity, how many milliseconds its values live, and by what its hasher multiplies.
+#[derive(Clone, Copy)]
+pub struct Form {
+    pub segments: usize,
+    pub capacity: Option<u64>,
+    pub live: u64,
+    pub factor: u64,
+}
+
+/// How a turn begins.
+#[derive(Clone, Copy, PartialEq, Eq)]
+pub enum Start {
+    /// This value is visible.
+    Found(u64),
+    /// The turn of this number is under way.
+    Wait(u64),
+    /// The turn of this number began.
+    Lead(u64),
+}
+
+fn start_of(start: TurnStart<u64>) -> Start {
+    match start {
+        TurnStart::Found(value) => Start::Found(value),
+        TurnStart::Wait(number) => Start::Wait(number),
+        TurnStart::Lead(number) => Start::Lead(number),
+    }
+}
+
+/// One call, and what it is to answer.
+#[derive(Clone, Copy)]
+pub enum Call {
+    /// The visible value of a key, of which it is a use.
+    Get(u64, Option<u64>),
+    /// Whether a key has a visible value.
+    Has(u64, bool),
+    /// The visible value of a key, without a use of it.
+    Peek(u64, Option<u64>),
+    /// A use of a key, without its value.
+    Touch(u64),
+    /// How many keys have a visible value.
+    Visible(usize),
+    /// A key gets a value.
+    Insert(u64, u64),
+    /// `insert_with_hash` of what names a key.
+    InsertNamed(u64, u64),
+    /// A key is removed, whose value is this.
+    Remove(u64, Option<u64>),
+    /// A key is removed.
+    Invalidate(u64),
+    /// All keys are removed.
+    Clear,
+    /// Maintenance runs to its end.
+    Run,
+    /// How many entries there are, as of the last run.
+    Count(u64),
+    /// The value of a key or this one, and whether it was made now.
+    OrInsert(u64, u64, (u64, bool)),
+    /// A call that makes a value begins, of a kind, for a key.
+    Begin(TurnKind, u64, Start),
+    /// A compute call begins, for a key.
+    BeginCompute(u64, Start),
+    /// The turn of this number ends with a value.
+    Finish(u64, u64, Result<(), CacheError>),
+    /// The turn of this number is given up.
+    Abandon(u64, Result<(), CacheError>),
+    /// Whether no turn of a kind and a key is under way.
+    IsFree(TurnKind, u64, bool),
+    /// The oldest notice is of this key and cause.
+    Told(u64, RemovalCause),
+    /// No notice is left.
+    NoneTold,
+    /// A predicate is refused, since the cache was not made to take one.
+    RefusesPredicate,
+    /// A call with a closure.
+    With(Closure),
+}
+
+/// One call with a closure, and what it is to answer.
+#[derive(Clone, Copy)]
+pub enum Closure {
+    /// `get_with` of a key with this value.
+    GetWith(u64, u64, u64),
+    /// `get_with_if`, where this value is replaced.
+    GetWithIf(u64, u64, u64, u64),
+    /// `optionally_get_with` of a key with what is made.
+    Optionally(u64, Option<u64>, Option<u64>),
+    /// `get_or_try_insert_with` of a key with what is made.
+    Try(u64, Result<u64, ()>, Result<u64, ()>),
+    /// `or_insert`, and whether the entry is fresh.
+    OrInsert(u64, u64, (u64, bool)),
+    /// `or_insert_with_if`, where this value is replaced: the entry's value, whether it is fresh, and whether a value was replaced.
+    OrInsertIf(u64, u64, u64, (u64, bool, bool)),
+    /// `and_upsert_with` to this value: whether the entry is fresh, and whether a value was replaced.
+    Upsert(u64, u64, (bool, bool)),
+    /// A compute call that counts to 2, and then removes.
+    CountUp(u64, Done),
+    /// A compute call that removes.
+    TakeOut(u64, Done),
+    /// A call for a key.
+    Select(u64, Select),
+}
+
+/// What a compute call did.
+#[derive(Clone, Copy, PartialEq, Eq)]
+pub enum Done {
+    /// There was no value, and there is none.
+    StillNone,
+    /// This value stays.
+    Unchanged(u64),
+    /// This value is the first.
+    Inserted(u64),
+    /// This value came for another.
+    ReplacedWith(u64),
+    /// This value was removed.
+    Removed(u64),
+}
+
+/// When the next call comes: at this moment, or that of the last one where that is later.
+pub fn next(state: &Numbers, nanos: u64) -> Option<At>
+    ensures follows { IfSome result (λ at. ComesAfter at.now at.step state.now) }
+    ensures rises { IfSome result (λ at. state.now.step < at.step) }
+{
+    let last = state.last_call();
+    let step = last.step.checked_add(1)?;
+    let now = last
+        .now
+        .max(Instant::from_nanos(nanos.min(1_000_000_000_000)));
+    Some(At { now, step })
+}
+
+/// An empty cache of a form, which lets go what was used least recently and tells removals.
+pub fn numbers(alloc: Global, form: Form) -> Result<Numbers, BuildError> {
+    let builder = CacheBuilder::default()
+        .segments(form.segments)
+        .eviction_policy(EvictionPolicy::lru())
+        .eviction_listener()
+        .time_to_live(Duration::from_millis(form.live));
+    let hasher = Times {
+        factor: form.factor,
+    };
+    let builder = match form.capacity {
+        Some(capacity) => builder.max_capacity(capacity),
+        None => builder,
+    };
+    builder.build_state(alloc, hasher, Instant::from_nanos(0))
+}
+
+/// Looks a key up without a clone of its value.
+fn perform_lent(state: &mut Numbers, at: At, call: Call) -> bool
+    requires { ComesAfter at.now at.step state.old }
+{
+    match call {
+        Call::Has(key, is_there) => state.contains_key(&key, at.now) == is_there,
+        Call::Peek(key, value) => match state.peek(&key, at.now) {
+            Some(found) => value == Some(*found),
+            None => value.is_none(),
+        },
+        Call::Visible(number) => state.count_visible(at.now) == number,
+        Call::Touch(key) => {
+            state.touch(&key, at.now);
+            true
+        }
+        _ => false,
+    }
+}
+
+/// Looks up, inserts and removes.
+fn perform_simple(state: &mut Numbers, at: At, call: Call) -> Result<bool, CacheError>
+    requires follows { ComesAfter at.now at.step state.old }
+    requires rises { state.old.step < at.step }
+{
+    match call {
+        Call::Get(key, value) => Ok(state.get(&key, at)? == value),
+        Call::Insert(key, value) => {
+            state.insert(key, value, at)?;
+            Ok(true)
+        }
+        Call::Remove(key, value) => Ok(state.remove(&key, at)? == value),
+        Call::Invalidate(key) => {
+            state.invalidate(&key, at)?;
+            Ok(true)
+        }
+        Call::Clear => {
+            state.invalidate_all(at);
+            Ok(true)
+        }
+        Call::Run => {
+            state.run_pending_tasks(at);
+            Ok(true)
+        }
+        Call::Count(number) => Ok(state.entry_count() == number && state.weighted_size() == number),
+        _ => Ok(false),
+    }
+}
+
+/// Turns and coalesced calls.
+fn perform_turn(alloc: Global, state: &mut Numbers, at: At, call: Call) -> Result<bool, CacheError>
+    requires { ComesAfter at.now at.step state.old }
+{
+    match call {
+        Call::InsertNamed(key, value) => insert_named(alloc, state, at, key, value),
+        Call::OrInsert(key, value, answer) => or_insert(alloc, state, at, key, value, answer),
+        Call::Begin(kind, key, start) => begin(alloc, state, at, kind, key, start),
+        Call::BeginCompute(key, start) => begin_compute(alloc, state, at, key, start),
+        Call::Finish(number, value, answer) => {
+            let made: Made<u64, ()> = Made::Value(value);
+            match state.finish(number, made, at) {
+                Ok(()) => Ok(answer == Ok(())),
+                Err((CacheError::OutOfMemory, _)) => Err(CacheError::OutOfMemory),
+                Err((refused, _)) => Ok(answer == Err(refused)),
+            }
+        }
+        Call::Abandon(number, answer) => Ok(state.abandon(number, at) == answer),
+        Call::IsFree(kind, key, is_free) => Ok(state.is_turn_free(kind, &key) == is_free),
+        _ => Ok(false),
+    }
+}
+
+fn or_insert(
+    alloc: Global,
+    state: &mut Numbers,
+    at: At,
+    key: u64,
+    value: u64,
+    answer: (u64, bool),
+) -> Result<bool, CacheError>
+    requires { ComesAfter at.now at.step state.old }
+{
+    let hash = state.hash(&key);
+    let name = OwnedKey { key, alloc };
+    let made: (Made<u64, ()>, bool) = state.coalesce(
+        name,
+        hash,
+        at,
+        |_| false,
+        || -> Result<Made<u64, ()>, AllocError> { Ok(Made::Value(value)) },
+    )?;
+    Ok(made == (Made::Value(answer.0), answer.1))
+}
+
+fn insert_named(
+    alloc: Global,
+    state: &mut Numbers,
+    at: At,
+    key: u64,
+    value: u64,
+) -> Result<bool, CacheError>
+    requires { ComesAfter at.now at.step state.old }
+{
+    let hash = state.hash(&key);
+    let name = ClonedKey { key: &key, alloc };
+    state.insert_with_hash(name, hash, value, at)?;
+    Ok(true)
+}
+
+fn begin(
+    alloc: Global,
+    state: &mut Numbers,
+    at: At,
+    kind: TurnKind,
+    key: u64,
+    start: Start,
+) -> Result<bool, CacheError>
+    requires { ComesAfter at.now at.step state.old }
+{
+    let hash = state.hash(&key);
+    let name = ClonedKey { key: &key, alloc };
+    let answer = state.begin(kind, name, hash, at, |_| false)?;
+    Ok(start_of(answer) == start)
+}
+
+fn begin_compute(
+    alloc: Global,
+    state: &mut Numbers,
+    at: At,
+    key: u64,
+    start: Start,
+) -> Result<bool, CacheError>
+    requires { ComesAfter at.now at.step state.old }
+{
+    let hash = state.hash(&key);
+    let name = OwnedKey { key, alloc };
+    let answer = state.begin_compute(name, hash, at)?;
+    Ok(start_of(answer) == start)
+}
+
+fn is_told(state: &mut Numbers, key: u64, cause: RemovalCause) -> bool {
+    match state.next_notice() {
+        Some(notice) => *notice.key == key && notice.cause == cause,
+        None => false,
+    }
+}
+
+fn refuses_predicate(state: &mut Numbers, at: At) -> bool
+    requires follows { ComesAfter at.now at.step state.old }
+    requires rises { state.old.step < at.step }
+{
+    let mut generator = SplitMix64::seed_from_u64(1);
+    let answer = state.invalidate_entries_if(NoPredicate, &mut generator, at);
+    matches!(answer, Err(CacheError::InvalidationClosuresDisabled))
+}
+
+/// Whether a call answers what it is to. Where it was refused for memory it is made once more.
+fn is_right(alloc: Global, state: &mut Numbers, nanos: u64, call: Call) -> bool {
+    match perform(alloc, state, nanos, call) {
+        Ok(is_right) => is_right,
+        Err(_) => perform(alloc, state, nanos, call) == Ok(true),
+    }
+}
+
+fn perform(alloc: Global, state: &mut Numbers, nanos: u64, call: Call) -> Result<bool, CacheError> {
+    let Some(at) = next(state, nanos) else {
+        return Ok(false);
+    };
+    match call {
+        Call::Has(..) | Call::Peek(..) | Call::Visible(..) | Call::Touch(..) => {
+            Ok(perform_lent(state, at, call))
+        }
+        Call::Get(..)
+        | Call::Insert(..)
+        | Call::Remove(..)
+        | Call::Invalidate(..)
+        | Call::Clear
+        | Call::Run
+        | Call::Count(..) => { perform_simple(state, at, call) }
+        Call::With(closure) => perform_closure(state, at, closure),
+        Call::Told(key, cause) => Ok(is_told(state, key, cause)),
+        Call::NoneTold => Ok(state.next_notice().is_none()),
+        Call::RefusesPredicate => Ok(refuses_predicate(state, at)),
+        _ => perform_turn(alloc, state, at, call),
+    }
+}
+
+/// How many of these calls, each at its moment, answer what they are to before one does not.
+fn right_calls(alloc: Global, state: &mut Numbers, calls: &[(u64, Call)]) -> usize {
+    for place in 0..calls.len() {
+        let (nanos, call) = calls[place];
+        if !is_right(alloc, state, nanos, call) {
+            return place;
+        }
+    }
+    calls.len()
+}
+
+/// Whether all of these calls answer what they are to, on an empty cache of a form.
+pub fn are_right(alloc: Global, form: Form, calls: &[(u64, Call)]) -> bool {
+    match numbers(alloc, form) {
+        Ok(mut state) => right_calls(alloc, &mut state, calls) == calls.len(),
+        Err(_) => match numbers(alloc, form) {
+            Ok(mut state) => right_calls(alloc, &mut state, calls) == calls.len(),
+            Err(_) => false,
+        },
+    }
+}
