@@ -4,7 +4,7 @@ use Rattle.front_parts.specs.Access.Answering.{Gives}
 use Rattle.front_reference.specs.declared.data.Made.{Made}
 use Rattle.front_reference.specs.declared.data.TurnKind.{TurnKind}
 use Rattle.front_reference.specs.declared.errors.CacheError.{CacheError}
-use Rattle.sync_slots.specs.Refusals.{IsShortage, IsTurnRefusal}
+use Rattle.sync_desk.specs.Slots.Refusals.{IsShortage, IsTurnRefusal}
 
 -- a call that makes a value is refused: one of a kind as its turn is; one of none, which waits for nobody, for want of memory or numbers alone
 abbrev pub IsMakingRefusal : Option TurnKind → CacheError → Type 0

@@ -3,7 +3,7 @@ ghost use Rattle.std.specs.Prelude.{◌≡◌, Ok, IfOk, IfErr, OnErr};
 ghost use Rattle.front_parts.specs.Access.Answering.{Suits};
 ghost use Rattle.front_reference.specs.declared.data.Made.{Made};
 ghost use Rattle.moka_sync.specs.Accessing.{GivesFresh, IsMakingRefusal};
-ghost use Rattle.sync_slots.specs.Refusals.{IsEndRefusal};
+ghost use Rattle.sync_desk.specs.Slots.Refusals.{IsEndRefusal};
 ghost use Rattle.sync_turns.specs.Turning.{DoesAsDecided};
 ghost use Rattle.std.specs.Fn.{FnOnceReturnsAt};
 
@@ -16,8 +16,7 @@ use std::alloc::AllocError;
 use std::fmt::{self, Debug, Formatter, Write};
 use std::hash::{BuildHasher, Hash};
 use std::sync::Wait;
-use sync_env::Env;
-use sync_slots::SharedName;
+use sync_desk::{Env, SharedName};
 
 /// A handle of a cache that threads share, with what lets its calls wait for the lock. Selectors are made of it, it is gone over, and printed.
 #[derive(Drop)]
@@ -174,7 +173,7 @@ impl<
     H: Wait,
 > Access<K, V> for Attached<K, V, S, R, E, H> {
     ghost use Rattle.moka_sync.specs.Accessing.{IsMakingRefusal};
-    ghost use Rattle.sync_slots.specs.Refusals.{IsEndRefusal};
+    ghost use Rattle.sync_desk.specs.Slots.Refusals.{IsEndRefusal};
 
     type When = ();
 

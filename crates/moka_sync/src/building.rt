@@ -9,7 +9,7 @@ use engine_reference::{Bundle, Expiry, NoExpiry, NoPredicate, Predicate, Rules, 
 use moka::{BuildError, CacheBuilder};
 use std::alloc::Global;
 use std::hash::{BuildHasher, BuildHasherDefault, FoldHasher, Hash};
-use sync_env::Env;
+use sync_desk::Env;
 
 /// Std's fixed hasher. Where keys come from strangers, a cache is to be built with one that they cannot foresee.
 pub type StdHasher = BuildHasherDefault<FoldHasher>;

@@ -1,7 +1,7 @@
 //! The cache, and its calls that are one hold of the lock.
 ghost use Rattle.std.specs.Prelude.{◌≡◌, IfErr};
 ghost use Rattle.front_reference.specs.declared.errors.CacheError.TheVariants as errors;
-ghost use Rattle.sync_slots.specs.Refusals.{IsShortage};
+ghost use Rattle.sync_desk.specs.Slots.Refusals.{IsShortage};
 
 use engine_reference::{Policy, Rules};
 use front_reference::CacheError;
@@ -9,7 +9,7 @@ use front_state::LentState;
 use std::alloc::{AllocError, Global};
 use std::hash::{BuildHasher, Hash};
 use std::sync::{Arc, Wait};
-use sync_env::Env;
+use sync_desk::Env;
 use sync_turns::SharedDesk;
 
 /// What is under the lock, and what of a cache never changes.

@@ -1,13 +1,13 @@
 //! Calls that make a value where none is visible. Of several callers for a key one makes it, and the others wait for it.
 ghost use Rattle.std.specs.Prelude.{◌≡◌, IfErr};
-ghost use Rattle.sync_slots.specs.Refusals.{IsTurnRefusal};
+ghost use Rattle.sync_desk.specs.Slots.Refusals.{IsTurnRefusal};
 
 use crate::cache::Cache;
 use engine_reference::Rules;
 use front_reference::{CacheError, ClonedKey, OwnedKey};
 use std::hash::{BuildHasher, Hash};
 use std::sync::{Arc, Wait};
-use sync_env::Env;
+use sync_desk::Env;
 
 impl<
     K: Eq + Hash + Drop,

@@ -9,7 +9,7 @@ use engine_reference::Rules;
 use front_reference::{CacheError, Shared};
 use std::hash::{BuildHasher, Hash};
 use std::sync::{Forever, Wait};
-use sync_env::Env;
+use sync_desk::Env;
 
 /// The visible keys of a cache that threads share, each once, with clones of their values. What is removed before its turn is not given.
 /// Each item is a pair of a key and a value, or a refusal for want of memory, after which the next call tries the same place again.

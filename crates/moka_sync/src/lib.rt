@@ -12,8 +12,7 @@ pub use attached::Attached;
 pub use building::{Build, PlainRules, StdHasher};
 pub use cache::Cache;
 pub use iterator::Iter;
-pub use sync_env::{Dial, DialEnv, Env, MachineEnv};
-pub use sync_slots::Ending as WaiterValue;
+pub use sync_desk::{Dial, DialEnv, Ending as WaiterValue, Env, MachineEnv};
 pub use wholes::ConcurrentCacheExt;
 
 /// A cache that threads share, of several segments. It is the same type: how many segments there are is said where it is built.

@@ -1,7 +1,7 @@
 //! Calls on all segments: predicates, notices, maintenance by another name.
 ghost use Rattle.std.specs.Prelude.{◌≡◌, IfErr};
 ghost use Rattle.front_reference.specs.declared.errors.CacheError.TheVariants as errors;
-ghost use Rattle.sync_slots.specs.Refusals.{IsCoverRefusal};
+ghost use Rattle.sync_desk.specs.Slots.Refusals.{IsCoverRefusal};
 
 use crate::cache::Cache;
 use engine_reference::Rules;
@@ -9,7 +9,7 @@ use front_reference::{CacheError, Shared};
 use front_state::Notice;
 use std::hash::{BuildHasher, Hash};
 use std::sync::Wait;
-use sync_env::Env;
+use sync_desk::Env;
 
 /// Maintenance that a caller asks for, by its older name.
 pub trait ConcurrentCacheExt {

@@ -1,6 +1,6 @@
 //! A resolver of names.
 ghost use Rattle.std.specs.Prelude.{◌≡◌, IfErr};
-ghost use Rattle.sync_slots.specs.Refusals.{IsTurnRefusal};
+ghost use Rattle.sync_desk.specs.Slots.Refusals.{IsTurnRefusal};
 
 use engine_reference::{Bundle, NoExpiry, NoPredicate, WeighOne};
 use moka::{BuildError, CacheBuilder};

@@ -3,13 +3,13 @@ ghost use Rattle.std.specs.Prelude.{◌≡◌, IfOk, IfErr, OnOk, OnErr};
 ghost use Rattle.front_reference.specs.declared.errors.CacheError.TheVariants as errors;
 ghost use Rattle.front_state.specs.Calls.{ways_by};
 ghost use Rattle.sync_desk.specs.Drawing.{InsertsAsDrawn, LooksUpAsDrawn};
-ghost use Rattle.sync_slots.specs.Refusals.{IsShortage};
+ghost use Rattle.sync_desk.specs.Slots.Refusals.{IsShortage};
 
 use crate::desk::Desk;
 use engine_reference::Rules;
 use front_reference::CacheError;
 use std::hash::{BuildHasher, Hash};
-use sync_env::Env;
+use crate::env::Env;
 
 /// What a call of the state is refused for: memory, or else numbers.
 pub(crate) fn shortage_of(refused: CacheError) -> CacheError

@@ -9,8 +9,8 @@ use front_reference::{At, Shared};
 use front_state::LentState;
 use std::alloc::Global;
 use std::hash::{BuildHasher, Hash};
-use sync_env::Env;
-use sync_slots::Slots;
+use crate::env::Env;
+use crate::slots::Slots;
 
 /// A cache's state with what its calls' moments come from, and the turns that are led or waited for. Each call draws its moment and its step: the greater of the environment's moment and the state's, and the step after the state's.
 #[derive(Drop)]

@@ -3,8 +3,12 @@
 
 mod calls;
 mod desk;
+pub mod env;
+pub mod slots;
 mod turns;
 mod wholes;
 
 pub use desk::Desk;
+pub use env::{Dial, DialEnv, Env, MachineEnv};
+pub use slots::{Asked, Ending, SharedName, Slots, WaitingName, copy_made};
 pub use turns::{ComputeStart, Start};

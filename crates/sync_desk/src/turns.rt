@@ -5,8 +5,8 @@ ghost use Rattle.front_reference.specs.Fronts.{turn_at, turn_of};
 ghost use Rattle.front_state.specs.Calls.{ways_by};
 ghost use Rattle.sync_desk.specs.Coalescing.{GivesUp, IsMadeOrFound};
 ghost use Rattle.sync_desk.specs.Drawing.{BeginsAsDrawn, FinishesAsDrawn};
-ghost use Rattle.sync_slots.specs.Endings.{fits, suits};
-ghost use Rattle.sync_slots.specs.Refusals.{IsEndRefusal, IsShortage};
+ghost use Rattle.sync_desk.specs.Slots.Endings.{fits, suits};
+ghost use Rattle.sync_desk.specs.Slots.Refusals.{IsEndRefusal, IsShortage};
 
 use crate::calls::shortage_of;
 use crate::desk::Desk;
@@ -14,8 +14,8 @@ use engine_reference::Rules;
 use front_reference::{CacheError, IntoKey, Made, Shared, TurnKind, TurnStart};
 use std::alloc::AllocError;
 use std::hash::{BuildHasher, Hash};
-use sync_env::Env;
-use sync_slots::{Asked, Ending, SharedName, WaitingName, copy_made};
+use crate::env::Env;
+use crate::slots::{Asked, Ending, SharedName, WaitingName, copy_made};
 
 /// How a call that makes a value begins.
 #[derive(Drop)]

@@ -2,7 +2,7 @@
 ghost use Rattle.std.specs.Prelude.{◌≡◌, true, IfErr, OnOk, OnErr};
 ghost use Rattle.front_reference.specs.declared.errors.CacheError.TheVariants as errors;
 ghost use Rattle.front_reference.specs.Wholes.{next_told, without_told};
-ghost use Rattle.sync_slots.specs.Refusals.{IsCoverRefusal};
+ghost use Rattle.sync_desk.specs.Slots.Refusals.{IsCoverRefusal};
 
 use crate::desk::Desk;
 use engine_reference::Rules;
@@ -10,7 +10,7 @@ use front_parts::ScanningGet;
 use front_reference::{CacheError, Shared};
 use moka_engine::Notice;
 use std::hash::{BuildHasher, Hash};
-use sync_env::Env;
+use crate::env::Env;
 
 /// Why a predicate is refused: that none are taken, identifiers, memory, or else numbers.
 fn cover_refusal_of(refused: CacheError) -> CacheError

@@ -9,7 +9,7 @@ use Rattle.front_reference.specs.declared.data.TurnKind.{TurnKind}
 use Rattle.front_reference.specs.declared.errors.CacheError.{CacheError}
 use Rattle.sync_turns.specs.declared.turns.Turn.{Turn}
 use Rattle.sync_turns.specs.declared.turns.Turn.TheVariants.{Answered, Led, GivenUp}
-use Rattle.sync_slots.specs.Endings.{suits}
+use Rattle.sync_desk.specs.Slots.Endings.{suits}
 
 -- a closure decided by something that it was shown, and what it decided was done; or its error is answered
 abbrev pub DoesAsDecided : {V E : Type 0} → (Says : Option V → Result (Op V) E → Type 0) → Result (Computed V) E → Type 0

@@ -3,7 +3,7 @@ ghost use Rattle.std.specs.Prelude.{◌≡◌, IfOk, IfErr};
 ghost use Rattle.front_parts.specs.Access.Answering.{IsOutcomeOf};
 ghost use Rattle.front_reference.specs.declared.data.Op.TheVariants as op;
 ghost use Rattle.sync_turns.specs.Turning.{DoesAsDecided};
-ghost use Rattle.sync_slots.specs.Refusals.{IsEndRefusal, IsShortage};
+ghost use Rattle.sync_desk.specs.Slots.Refusals.{IsEndRefusal, IsShortage};
 
 use crate::shared::SharedDesk;
 use crate::turns::Lead;
@@ -11,8 +11,7 @@ use engine_reference::Rules;
 use front_reference::{CacheError, Computed, Op, Shared, TurnKind};
 use std::hash::{BuildHasher, Hash};
 use std::sync::Wait;
-use sync_desk::ComputeStart;
-use sync_env::Env;
+use sync_desk::{ComputeStart, Env};
 
 /// What was done where a value was put.
 fn put_done<V>(value: V, was_seen: bool) -> Computed<V>

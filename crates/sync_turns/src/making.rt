@@ -1,8 +1,8 @@
 //! Calls that make a value where none is visible. Of several callers for a key one makes it, and the others wait for it.
 ghost use Rattle.std.specs.Prelude.{◌≡◌, true, IfOk, IfErr};
 ghost use Rattle.front_reference.specs.declared.data.TurnKind.TheVariants as turns;
-ghost use Rattle.sync_slots.specs.Endings.{suits};
-ghost use Rattle.sync_slots.specs.Refusals.{IsTurnRefusal};
+ghost use Rattle.sync_desk.specs.Slots.Endings.{suits};
+ghost use Rattle.sync_desk.specs.Slots.Refusals.{IsTurnRefusal};
 
 use crate::shared::SharedDesk;
 use crate::turns::BEGINNINGS;
@@ -11,8 +11,7 @@ use front_reference::{CacheError, Made, Shared, TurnKind};
 use std::alloc::AllocError;
 use std::hash::{BuildHasher, Hash};
 use std::sync::{Arc, Wait};
-use sync_env::Env;
-use sync_slots::Asked;
+use sync_desk::{Asked, Env};
 
 /// The value that was made.
 fn value_made<V, F: Drop>(made: Made<V, F>) -> V

@@ -5,8 +5,7 @@ use front_state::LentState;
 use std::alloc::Global;
 use std::hash::{BuildHasher, Hash};
 use std::sync::{Condvar, Mutex, MutexGuard, Wait};
-use sync_desk::Desk;
-use sync_env::Env;
+use sync_desk::{Desk, Env};
 
 /// What threads share of a cache: a desk under one lock, and what tells those that wait for a turn that one ended. Whenever the lock is taken, what it guards keeps what a cache that is lent keeps between calls.
 #[derive(Drop)]

@@ -3,8 +3,8 @@ ghost use Rattle.std.specs.Prelude.{◌≡◌, true, Ok, IfOk, IfErr};
 ghost use Rattle.front_reference.specs.declared.data.Made.{Made};
 ghost use Rattle.sync_turns.specs.Turning.{HasAnswer, HasReceived, IsAnswer, MayMake};
 ghost use Rattle.sync_desk.specs.Coalescing.{IsMadeOrFound};
-ghost use Rattle.sync_slots.specs.Endings.{suits};
-ghost use Rattle.sync_slots.specs.Refusals.{IsShortage, IsEndRefusal, IsTurnRefusal};
+ghost use Rattle.sync_desk.specs.Slots.Endings.{suits};
+ghost use Rattle.sync_desk.specs.Slots.Refusals.{IsShortage, IsEndRefusal, IsTurnRefusal};
 
 use crate::shared::SharedDesk;
 use engine_reference::Rules;
@@ -12,9 +12,7 @@ use front_reference::{CacheError, Made, Shared, TurnKind};
 use std::alloc::AllocError;
 use std::hash::{BuildHasher, Hash};
 use std::sync::{MutexGuard, Wait};
-use sync_desk::{Desk, Start};
-use sync_env::Env;
-use sync_slots::{Asked, Ending, copy_made};
+use sync_desk::{Asked, Desk, Ending, Env, Start, copy_made};
 
 /// How often a call that makes a value begins: where each turn that it waited for was given up, it is.
 pub(crate) const BEGINNINGS: u32 = 200;

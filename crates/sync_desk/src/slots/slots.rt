@@ -4,11 +4,11 @@ ghost use Rattle.std.specs.List.{list_any};
 ghost use Rattle.front_reference.specs.Fronts.{same_kind};
 ghost use Rattle.front_reference.specs.declared.data.TurnKind.{TurnKind};
 ghost use Rattle.front_reference.specs.declared.errors.CacheError.TheVariants as errors;
-ghost use Rattle.sync_slots.specs.Endings.{fits, suits};
-ghost use Rattle.sync_slots.specs.Waiting.{JoinsAt, OpensAtEnd, is_slot_of};
-ghost use Rattle.sync_slots.specs.declared.slot.Ending.TheVariants.{Underway};
+ghost use Rattle.sync_desk.specs.Slots.Endings.{fits, suits};
+ghost use Rattle.sync_desk.specs.Slots.Waiting.{JoinsAt, OpensAtEnd, is_slot_of};
+ghost use Rattle.sync_desk.specs.declared.slots.slot.Ending.TheVariants.{Underway};
 
-use crate::slot::{Ending, Slot};
+use crate::slots::slot::{Ending, Slot};
 use front_reference::{CacheError, Made, TurnKind};
 use std::alloc::{AllocError, Global};
 

@@ -1,7 +1,7 @@
 //! Moments that are set by hand.
 ghost use Rattle.std.specs.Prelude.{◌≡◌, ◌≤◌};
 
-use crate::env::Env;
+use crate::env::env::Env;
 use policy_base::{Instant, MAX_NANOS};
 use rand_core::Rng;
 use std::sync::Arc;

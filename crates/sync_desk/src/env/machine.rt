@@ -1,7 +1,7 @@
 //! The machine's clock, and a generator.
 ghost use Rattle.std.specs.Prelude.{◌≡◌, ◌≤◌};
 
-use crate::env::Env;
+use crate::env::env::Env;
 use policy_base::Instant;
 use rand_core::Rng;
 use std::time::Clock;

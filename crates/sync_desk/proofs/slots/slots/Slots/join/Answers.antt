@@ -1,7 +1,7 @@
 use Rattle.std.proofs.Common.{sym, ap, subst, ◌∙◌, ◌<◌, length, position}
-use Rattle.sync_slots.specs.Waiting.{is_slot_of}
-use Rattle.sync_slots.proofs.Joining.{joined}
-use Rattle.sync_slots.proofs.slots.Slots.join.Goals as goal
+use Rattle.sync_desk.specs.Slots.Waiting.{is_slot_of}
+use Rattle.sync_desk.proofs.slots.Joining.{joined}
+use Rattle.sync_desk.proofs.slots.slots.Slots.join.Goals as goal
 
 pub returns-in-Some-clause-joins : goal.returns-in-Some-clause-joins
 returns-in-Some-clause-joins g c =

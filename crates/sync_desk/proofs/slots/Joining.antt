@@ -1,8 +1,8 @@
 -- One more waits for a turn.
 use Rattle.std.proofs.Common.{◌≡◌, refl, sym, subst, ap, ℕ, zero, suc, ◌<◌, ◌+◌, arith, List, [], ◌∷◌, length, get_or, Option, Some, OnOk, Result, Ok, Err}
 use Rattle.std.specs.Prelude.{slice_get, slice_set}
-use Rattle.sync_slots.specs.Waiting.{JoinsAt}
-use Rattle.sync_slots.specs.declared.slot.Slot.{Slot}
+use Rattle.sync_desk.specs.Slots.Waiting.{JoinsAt}
+use Rattle.sync_desk.specs.declared.slots.slot.Slot.{Slot}
 
 module _ {X : Type 0} where
   there : (xs : List X) (i : ℕ) (x : X) → i < length xs → x ≡ get_or xs i x → slice_get xs i ≡ Some x

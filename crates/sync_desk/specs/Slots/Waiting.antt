@@ -2,8 +2,8 @@
 use Rattle.std.specs.Prelude.{◌≡◌, ℕ, ◌==◌, Bool, ◌&&◌, List, [], ◌∷◌, ◌++◌, ◌+◌, Option, Some, None}
 use Rattle.front_reference.specs.Fronts.{CallsAt, same_kind}
 use Rattle.front_reference.specs.declared.data.TurnKind.{TurnKind}
-use Rattle.sync_slots.specs.declared.slot.Ending.TheVariants.{Underway}
-use Rattle.sync_slots.specs.declared.slot.Slot.{Slot}
+use Rattle.sync_desk.specs.declared.slots.slot.Ending.TheVariants.{Underway}
+use Rattle.sync_desk.specs.declared.slots.slot.Slot.{Slot}
 
 module _ {V F : Type 0} where
   -- whether a slot is the one of a turn

@@ -1,6 +1,6 @@
 //! How one turn stands.
 ghost use Rattle.std.specs.Prelude.{◌≡◌, true};
-ghost use Rattle.sync_slots.specs.Endings.{fits};
+ghost use Rattle.sync_desk.specs.Slots.Endings.{fits};
 
 use front_reference::{Made, TurnKind};
 use std::fmt::{self, Debug, Formatter, Write};

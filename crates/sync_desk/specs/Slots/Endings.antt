@@ -4,8 +4,8 @@ use Rattle.front_reference.specs.declared.data.Made.{Made}
 use Rattle.front_reference.specs.declared.data.Made.TheVariants.{Value, Nothing, Fault}
 use Rattle.front_reference.specs.declared.data.TurnKind.{TurnKind}
 use Rattle.front_reference.specs.declared.data.TurnKind.TheVariants.{Optionally, Try}
-use Rattle.sync_slots.specs.declared.slot.Ending.{Ending}
-use Rattle.sync_slots.specs.declared.slot.Ending.TheVariants.{Underway, Done, GivenUp}
+use Rattle.sync_desk.specs.declared.slots.slot.Ending.{Ending}
+use Rattle.sync_desk.specs.declared.slots.slot.Ending.TheVariants.{Underway, Done, GivenUp}
 
 module _ {V F : Type 0} where
   -- whether a turn of a kind may end with this: with a value, with none where that may be, with a fault where that may be

@@ -1,6 +1,4 @@
 //! Who waits for which turn of a cache that threads share, how turns end, and what names a key of one.
-#![tactic(auto)]
-
 mod names;
 mod slot;
 mod slots;

@@ -1,6 +1,4 @@
 //! Where a cache that threads share takes its moments and its random words from.
-#![tactic(auto)]
-
 mod dial;
 mod env;
 mod machine;
