@@ -4,7 +4,7 @@ ghost use Rattle.front_parts.specs.Access.Answering.{Suits};
 ghost use Rattle.front_reference.specs.declared.data.Made.{Made};
 ghost use Rattle.moka_sync.specs.Accessing.{GivesFresh, IsMakingRefusal};
 ghost use Rattle.sync_desk.specs.Slots.Refusals.{IsEndRefusal};
-ghost use Rattle.sync_turns.specs.Turning.{DoesAsDecided};
+ghost use Rattle.moka_sync.specs.Turning.{DoesAsDecided};
 ghost use Rattle.std.specs.Fn.{FnOnceReturnsAt};
 
 use crate::cache::Cache;

@@ -10,7 +10,7 @@ use std::alloc::{AllocError, Global};
 use std::hash::{BuildHasher, Hash};
 use std::sync::{Arc, Wait};
 use sync_desk::Env;
-use sync_turns::SharedDesk;
+use crate::shared::SharedDesk;
 
 /// What is under the lock, and what of a cache never changes.
 #[derive(Drop)]

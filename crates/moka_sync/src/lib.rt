@@ -5,13 +5,18 @@ mod attached;
 mod building;
 mod cache;
 mod coalescing;
+mod computing;
 mod iterator;
+mod making;
+mod shared;
+mod turns;
 mod wholes;
 
 pub use attached::Attached;
 pub use building::{Build, PlainRules, StdHasher};
 pub use cache::Cache;
 pub use iterator::Iter;
+pub use shared::SharedDesk;
 pub use sync_desk::{Dial, DialEnv, Ending as WaiterValue, Env, MachineEnv};
 pub use wholes::ConcurrentCacheExt;
 

@@ -7,8 +7,8 @@ use Rattle.front_reference.specs.declared.data.Made.{Made}
 use Rattle.front_reference.specs.declared.data.Op.{Op}
 use Rattle.front_reference.specs.declared.data.TurnKind.{TurnKind}
 use Rattle.front_reference.specs.declared.errors.CacheError.{CacheError}
-use Rattle.sync_turns.specs.declared.turns.Turn.{Turn}
-use Rattle.sync_turns.specs.declared.turns.Turn.TheVariants.{Answered, Led, GivenUp}
+use Rattle.moka_sync.specs.declared.turns.Turn.{Turn}
+use Rattle.moka_sync.specs.declared.turns.Turn.TheVariants.{Answered, Led, GivenUp}
 use Rattle.sync_desk.specs.Slots.Endings.{suits}
 
 -- a closure decided by something that it was shown, and what it decided was done; or its error is answered

@@ -1,7 +1,7 @@
 //! Turns: who leads one ends it, and who waits for one sees how it ended.
 ghost use Rattle.std.specs.Prelude.{◌≡◌, true, Ok, IfOk, IfErr};
 ghost use Rattle.front_reference.specs.declared.data.Made.{Made};
-ghost use Rattle.sync_turns.specs.Turning.{HasAnswer, HasReceived, IsAnswer, MayMake};
+ghost use Rattle.moka_sync.specs.Turning.{HasAnswer, HasReceived, IsAnswer, MayMake};
 ghost use Rattle.sync_desk.specs.Coalescing.{IsMadeOrFound};
 ghost use Rattle.sync_desk.specs.Slots.Endings.{suits};
 ghost use Rattle.sync_desk.specs.Slots.Refusals.{IsShortage, IsEndRefusal, IsTurnRefusal};

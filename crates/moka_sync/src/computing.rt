@@ -2,7 +2,7 @@
 ghost use Rattle.std.specs.Prelude.{◌≡◌, IfOk, IfErr};
 ghost use Rattle.front_parts.specs.Access.Answering.{IsOutcomeOf};
 ghost use Rattle.front_reference.specs.declared.data.Op.TheVariants as op;
-ghost use Rattle.sync_turns.specs.Turning.{DoesAsDecided};
+ghost use Rattle.moka_sync.specs.Turning.{DoesAsDecided};
 ghost use Rattle.sync_desk.specs.Slots.Refusals.{IsEndRefusal, IsShortage};
 
 use crate::shared::SharedDesk;
