@@ -13,5 +13,8 @@ mod crowds;
 mod refusing;
 #[cfg(test)]
 mod turns;
+pub mod uses;
 #[cfg(test)]
 mod wholes;
+
+pub use uses::{Resolver, Unresolved, Upstream};

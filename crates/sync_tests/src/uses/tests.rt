@@ -1,5 +1,5 @@
 //! Four threads resolve four names.
-use crate::resolver::{Resolver, Unresolved, Upstream};
+use crate::uses::resolver::{Resolver, Unresolved, Upstream};
 use moka::BuildError;
 use moka_sync::{Dial, DialEnv};
 use rand_core::SeedableRng;

@@ -1,6 +1,4 @@
 //! A use of a cache that threads share: names are resolved by a slow upstream, and each miss is asked for once.
-#![tactic(auto)]
-
 mod resolver;
 #[cfg(test)]
 mod tests;
