@@ -3,7 +3,7 @@ use Rattle.std.proofs.Common.{◌≡◌, ℕ, ◌+◌, ◌-◌, ◌≤◌, ◌<�
 use Rattle.std.specs.List.{flat_map}
 use Rattle.audit_model.specs.Places.{tasks_to_give_up}
 use Rattle.audit_model.specs.Steps.{RunAgain, RunLines, Task}
-use Rattle.audit_waiting_laws.specs.Tidy.{times_in}
+use Rattle.audit_laws.specs.Waiting.Tidy.{times_in}
 use Rattle.cache_connections.specs.Presence.{Presence}
 use Rattle.cache_lines.specs.declared.base.Base.{Base}
 use Rattle.cache_store.specs.Values.{Values}

@@ -16,8 +16,8 @@ use Rattle.audit_model.specs.declared.input.ServiceError.{ServiceError}
 use Rattle.audit_model.specs.declared.input.ServiceError.TheVariants as error
 use Rattle.audit_model.specs.declared.transcript.Note.{Note}
 use Rattle.audit_model.specs.declared.transcript.Record.{Record}
-use Rattle.audit_waiting_laws.specs.Tidy.{Tidy}
-use Rattle.audit_waiting_laws.proofs.Records.{records as records-tidy}
+use Rattle.audit_laws.specs.Waiting.Tidy.{Tidy}
+use Rattle.audit_laws.proofs.waiting.Records.{records as records-tidy}
 use Rattle.cache_leads.specs.Waiters.{WaitForLoads}
 use Rattle.cache_leads.proofs.Waits.{records-wait}
 use Rattle.cache_lines.specs.Gathered.{gathered, IsFresh, stage}

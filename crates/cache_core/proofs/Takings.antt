@@ -5,7 +5,7 @@ use Rattle.std.specs.List.{slice_get}
 use Rattle.std.specs.Option.{option_map_or}
 use Rattle.audit_model.specs.Situation as model
 use Rattle.audit_model.specs.Situation.{is_waiting_now}
-use Rattle.audit_waiting_laws.specs.Tidy.{Tidy}
+use Rattle.audit_laws.specs.Waiting.Tidy.{Tidy}
 use Rattle.cache_leads.specs.Waiters.{WaitForLoads}
 use Rattle.cache_lines.specs.declared.base.Base.{Base}
 use Rattle.cache_loads.specs.Standings.{waits_for_load}

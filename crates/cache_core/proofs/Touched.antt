@@ -5,8 +5,8 @@ use Rattle.std.specs.List.{slice_get}
 use Rattle.std.proofs.lemmas.Bool.{eqb-true, eq-eqb}
 use Rattle.std.proofs.lemmas.List.{length-set}
 use Rattle.std.proofs.lemmas.Option.{same_Some}
-use Rattle.audit_waiting_laws.specs.Tidy.{times_in}
-use Rattle.audit_waiting_laws.proofs.Counts.{one_if}
+use Rattle.audit_laws.specs.Waiting.Tidy.{times_in}
+use Rattle.audit_laws.proofs.waiting.Counts.{one_if}
 use Rattle.cache_connection.specs.Fed.{LooksAsBefore}
 use Rattle.cache_connection.specs.Parts.{standing_as}
 use Rattle.cache_connection.specs.Shown.{shown}

@@ -11,8 +11,8 @@ use Rattle.audit_model.specs.Situation as model
 use Rattle.audit_model.specs.Situation.{Situation, connection_in, is_waiting_now}
 use Rattle.audit_model.specs.declared.command.Closing.{Closing}
 use Rattle.audit_model.specs.declared.config.Config.{Config}
-use Rattle.audit_waiting_laws.specs.Tidy.{Tidy, times_in}
-use Rattle.audit_waiting_laws.proofs.Counts.{one_if}
+use Rattle.audit_laws.specs.Waiting.Tidy.{Tidy, times_in}
+use Rattle.audit_laws.proofs.waiting.Counts.{one_if}
 use Rattle.cache_connection.specs.Parts.{stands_before}
 use Rattle.cache_connection.specs.Shown.{shown}
 use Rattle.cache_connection.specs.declared.connection.Connection.{Connection}

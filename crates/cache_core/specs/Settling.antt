@@ -16,7 +16,7 @@ use Rattle.audit_model.specs.declared.event.Outcome.{Outcome}
 use Rattle.audit_model.specs.declared.transcript.Accepted.{Accepted}
 use Rattle.audit_model.specs.declared.transcript.Note.{Note}
 use Rattle.audit_model.specs.declared.transcript.Record.{Record}
-use Rattle.audit_waiting_laws.specs.Tidy.{times_in}
+use Rattle.audit_laws.specs.Waiting.Tidy.{times_in}
 use Rattle.cache_commands.specs.Answered.{IsStored}
 use Rattle.cache_commands.specs.Right.{KeepsFrame}
 use Rattle.cache_connection.specs.Fed.{FedRan, LooksAsBefore}

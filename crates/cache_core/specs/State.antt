@@ -7,7 +7,7 @@ use Rattle.audit_model.specs.Situation as model
 use Rattle.audit_model.specs.Situation.{HeldValue, PendingLoad, Situation}
 use Rattle.audit_model.specs.declared.command.Closing.{Closing}
 use Rattle.audit_model.specs.declared.input.LoadId.{LoadId}
-use Rattle.audit_waiting_laws.specs.Tidy.{Tidy}
+use Rattle.audit_laws.specs.Waiting.Tidy.{Tidy}
 use Rattle.cache_leads.specs.Waiters.{WaitForLoads}
 use Rattle.cache_store.specs.Values.{Values}
 use Rattle.cache_tape.specs.Taped.{IsAtRest, Taped}

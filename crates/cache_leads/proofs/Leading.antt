@@ -22,9 +22,9 @@ use Rattle.cache_lines.specs.Lines.{ArePartedIn, are_timely, has_its_part, is_ti
 use Rattle.cache_lines.specs.Making.{Making}
 use Rattle.cache_lines.proofs.Drawn.{draws-first, spends-more}
 use Rattle.cache_leads.proofs.Framing.{frames, same-due, same-due-placed, same-due-timely}
-use Rattle.audit_waiting_laws.specs.Tidy.{SuitsTask, Tidy, told_of_load}
-use Rattle.audit_waiting_laws.proofs.Records.{has_no_held, fit-due, no-held-due, no-held-left, told-due, told-left}
-use Rattle.audit_waiting_laws.proofs.Turns.{steps}
+use Rattle.audit_laws.specs.Waiting.Tidy.{SuitsTask, Tidy, told_of_load}
+use Rattle.audit_laws.proofs.waiting.Records.{has_no_held, fit-due, no-held-due, no-held-left, told-due, told-left}
+use Rattle.audit_laws.proofs.waiting.Turns.{steps}
 use Rattle.cache_leads.specs.Leads.{TasksLead, still_told}
 
 pub nothing : (config : Config) (making : Making) (s : Situation) (tasks : List Task) (drawn : Identifiers) → TasksLead config making s tasks [] s tasks drawn drawn

@@ -33,11 +33,11 @@ use Rattle.cache_lines.specs.Making.{Making}
 use Rattle.cache_lines.specs.Waiting.{holding_load, waiting, with_loads}
 use Rattle.cache_lines.proofs.Drawn.{held-draws}
 use Rattle.cache_lines.proofs.LoadWaits.{joins, placed-is, right-turn, sends}
-use Rattle.audit_waiting_laws.specs.Tidy.{SuitsTask, Tidy}
-use Rattle.audit_waiting_laws.proofs.Counts.{one_if}
-use Rattle.audit_waiting_laws.proofs.Records.{settled-tidy, told-again, told-delivers, told-lines}
-use Rattle.audit_waiting_laws.proofs.Standing.{wait_of}
-use Rattle.audit_waiting_laws.proofs.Turns.{found-number}
+use Rattle.audit_laws.specs.Waiting.Tidy.{SuitsTask, Tidy}
+use Rattle.audit_laws.proofs.waiting.Counts.{one_if}
+use Rattle.audit_laws.proofs.waiting.Records.{settled-tidy, told-again, told-delivers, told-lines}
+use Rattle.audit_laws.proofs.waiting.Standing.{wait_of}
+use Rattle.audit_laws.proofs.waiting.Turns.{found-number}
 use Rattle.cache_leads.specs.Leads.{TasksLead, still_told}
 use Rattle.cache_leads.proofs.Leading.{one}
 

@@ -28,7 +28,7 @@ use Rattle.audit_model.specs.declared.transcript.Record.{Record}
 use Rattle.audit_model.specs.declared.transcript.Step.{Step}
 use Rattle.cache_lines.specs.Waiting.{is_load}
 use Rattle.cache_leads.specs.Waiters.{WaitForLoads}
-use Rattle.audit_waiting_laws.proofs.Standing.{found-left}
+use Rattle.audit_laws.proofs.waiting.Standing.{found-left}
 
 -- ---- a step that leaves its connection waiting runs a `LOAD`
 

@@ -25,7 +25,7 @@ use Rattle.cache_lines.specs.Making.{Making}
 use Rattle.cache_lines.specs.Waiting.{holding_load, waiting, with_loads}
 use Rattle.cache_commands.specs.Loading.{step_silent, step_waiting}
 use Rattle.cache_commands.specs.Right.{DoesRight, held_when_run, step_saying}
-use Rattle.audit_waiting_laws.specs.Tidy.{Tidy}
+use Rattle.audit_laws.specs.Waiting.Tidy.{Tidy}
 use Rattle.cache_leads.specs.Leads.{BeginsUnknown, TasksLead, SettlingLeads, still_told}
 
 -- no step leads nowhere else

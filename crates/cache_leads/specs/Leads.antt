@@ -15,7 +15,7 @@ use Rattle.cache_lines.specs.Lines.{ArePartedIn, are_timely}
 use Rattle.cache_lines.specs.Making.{Making}
 use Rattle.cache_lines.specs.Ordered.{HaveKeys, order_behind_step, order_behind}
 use Rattle.cache_commands.specs.Order.{Order, Unknown}
-use Rattle.audit_waiting_laws.specs.Tidy.{Tidy, told_of_load}
+use Rattle.audit_laws.specs.Waiting.Tidy.{Tidy, told_of_load}
 
 -- those whom the tasks still tell of their load
 abbrev pub still_told : List Task → List ℕ

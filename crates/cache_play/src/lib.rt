@@ -9,7 +9,7 @@ ghost use Rattle.cache_spaces.specs.Played.{ArePlayed};
 ghost use Rattle.cache_spaces.specs.Services.{are_taken};
 
 use audit_model::{Config, Input, Instant, ServiceError, Transcript};
-use audit_receipts::copy_input;
+use audit_laws::copy_input;
 use cache_spaces::{Output, RecordedService};
 use rand_xoshiro::Xoshiro256PlusPlus;
 use std::alloc::Global;

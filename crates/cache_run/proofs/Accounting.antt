@@ -13,14 +13,14 @@ use Rattle.cache_loads.specs.Keys.{are_in_turn}
 use Rattle.cache_spaces.specs.Calls.{ServesEvent, Settled, TakesLoads, TakesOutput}
 use Rattle.cache_spaces.specs.Sound.{IsSound}
 use Rattle.cache_spaces.specs.Spaces.{StandsFor, config_of, known_of, outgoing_of, place_of, taken_of}
-use Rattle.audit_waiting_laws.specs.Sending.{IsSettlingOf, are_all, are_others, are_old_or_later, is_under_way}
-use Rattle.audit_waiting_laws.proofs.Sending.{all-from, all-own, one-of, passes-record, settle}
+use Rattle.audit_laws.specs.Waiting.Sending.{IsSettlingOf, are_all, are_others, are_old_or_later, is_under_way}
+use Rattle.audit_laws.proofs.waiting.Sending.{all-from, all-own, one-of, passes-record, settle}
 use Rattle.cache_run.specs.Accounts.{Accounts, AddsNoLoads, KeepsLoads, SendsLater, SettlesLoad, are_accounted, is_left, pending_of, were_taken}
 use Rattle.cache_run.specs.Connected.{HasSituation}
 use Rattle.cache_spaces.specs.Bares.{BareSpace, bare_tape}
 use Rattle.cache_run.proofs.Happening.{IsPlain, quiet-steps, pending-is, sent-is, happened-so}
 use Rattle.std.proofs.lemmas.List.Folds.{list_all-append, list_any-append}
-use Rattle.audit_waiting_laws.specs.Keys.{IsKnown}
+use Rattle.audit_laws.specs.Waiting.Keys.{IsKnown}
 use Rattle.cache_core.specs.Settling.{answering, giving_up}
 use Rattle.cache_core.specs.Turned.{feeding}
 use Rattle.cache_run.specs.Loading.{AreKnown}

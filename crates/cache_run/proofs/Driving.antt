@@ -7,7 +7,7 @@ use Rattle.std.specs.Option.{option_map_or}
 use Rattle.audit_model.specs.declared.event.Event.TheVariants as event
 use Rattle.audit_model.specs.declared.event.Outcome.{Outcome}
 use Rattle.audit_model.specs.declared.input.Conn.{Conn}
-use Rattle.audit_waiting_laws.specs.Alone.{WaitsAlone}
+use Rattle.audit_laws.specs.Waiting.Alone.{WaitsAlone}
 use Rattle.cache_devices.specs.Sources.{Askings}
 use Rattle.cache_devices.specs.declared.errors.RunError.{RunError}
 use Rattle.cache_driver.specs.Drives.{Drives, DrivesPartly, DrivesWhole, Outside, Rest, Talks, asked_of, late_of, lost_of}

@@ -12,7 +12,7 @@ use Rattle.audit_model.specs.declared.transcript.Note.{Note}
 use Rattle.audit_model.specs.declared.transcript.Record.{Record}
 use Rattle.audit_model.specs.declared.input.LoadId.{LoadId}
 use Rattle.cache_loads.specs.Keys.{agrees_on, are_in_turn, has_its_key, have_their_keys}
-use Rattle.audit_waiting_laws.specs.Keys.{HasKey}
+use Rattle.audit_laws.specs.Waiting.Keys.{HasKey}
 use Rattle.cache_core.specs.Settling.{giving_up}
 use Rattle.cache_core.specs.Turned.{notes_in}
 use Rattle.cache_spaces.specs.Calls as served
@@ -33,12 +33,12 @@ use Rattle.audit_model.specs.declared.input.ServiceError.{ServiceError}
 use Rattle.cache_core.specs.State.{situation_with}
 use Rattle.cache_spaces.specs.Sound.{IsSound}
 use Rattle.cache_spaces.specs.Stores.{shown_of}
-use Rattle.audit_waiting_laws.specs.Alone.{WaitsAlone}
-use Rattle.audit_waiting_laws.specs.Closed.{NobodyWaits}
-use Rattle.audit_waiting_laws.specs.Sending.{are_all, is_under_way}
-use Rattle.audit_waiting_laws.specs.Tidy.{Tidy}
-use Rattle.audit_waiting_laws.proofs.Closed.{closed, given-up}
-use Rattle.audit_waiting_laws.proofs.Sending.{all-but, all-from, all-own, one-of}
+use Rattle.audit_laws.specs.Waiting.Alone.{WaitsAlone}
+use Rattle.audit_laws.specs.Waiting.Closed.{NobodyWaits}
+use Rattle.audit_laws.specs.Waiting.Sending.{are_all, is_under_way}
+use Rattle.audit_laws.specs.Waiting.Tidy.{Tidy}
+use Rattle.audit_laws.proofs.waiting.Closed.{closed, given-up}
+use Rattle.audit_laws.proofs.waiting.Sending.{all-but, all-from, all-own, one-of}
 use Rattle.cache_run.specs.Accounts.{Accounts, AddsNoLoads, DropsAll, DropsUnwaited, is_left, has_no_waiting, pending_of}
 use Rattle.cache_run.specs.Goes.{Goes}
 use Rattle.cache_run.specs.Lent.{Drops, DropsBoth}

@@ -20,10 +20,10 @@ use Rattle.audit_model.specs.declared.input.ServiceError.{ServiceError}
 use Rattle.audit_model.specs.declared.input.ServiceError.TheVariants as error
 use Rattle.audit_model.specs.declared.transcript.Note.{Note}
 use Rattle.audit_model.specs.declared.transcript.Record.{Record}
-use Rattle.audit_waiting_laws.specs.Alone.{WaitsAlone}
-use Rattle.audit_waiting_laws.proofs.Sending.{all-without}
-use Rattle.audit_waiting_laws.proofs.Steps.{alone-without}
-use Rattle.audit_waiting_laws.proofs.Standing.{found-left}
+use Rattle.audit_laws.specs.Waiting.Alone.{WaitsAlone}
+use Rattle.audit_laws.proofs.waiting.Sending.{all-without}
+use Rattle.audit_laws.proofs.waiting.Steps.{alone-without}
+use Rattle.audit_laws.proofs.waiting.Standing.{found-left}
 use Rattle.cache_core.specs.Turned.{closing_behind, notes_in, reason_of, replies_to}
 use Rattle.cache_spaces.specs.Bares.{BareSpace, bare_tape}
 use Rattle.cache_spaces.specs.Calls.{IsOpened, OpensNext, ServesEvent}

@@ -28,9 +28,9 @@ use Rattle.cache_run.specs.Happened.{record_of}
 use Rattle.std.proofs.lemmas.List.{append-nil}
 use Rattle.audit_model.specs.declared.command.Closing.{Closing}
 use Rattle.audit_model.specs.declared.command.Closing.TheVariants as by
-use Rattle.audit_waiting_laws.specs.Alone.{IsTurnOf, StepsOf}
-use Rattle.audit_waiting_laws.proofs.Apart as apart
-use Rattle.audit_waiting_laws.proofs.Events.{records}
+use Rattle.audit_laws.specs.Waiting.Alone.{IsTurnOf, StepsOf}
+use Rattle.audit_laws.proofs.waiting.Apart as apart
+use Rattle.audit_laws.proofs.waiting.Events.{records}
 use Rattle.cache_core.specs.State.{at_number}
 use Rattle.cache_core.specs.Turned.{Turned, closing_behind, is_waiting_in, own_steps, reason_of, replies_to}
 use Rattle.cache_lines.specs.Ended.{ends_silent}

@@ -7,8 +7,8 @@ use Rattle.audit_model.specs.declared.config.Config.{Config}
 use Rattle.audit_model.specs.declared.event.Event.{Event}
 use Rattle.audit_model.specs.declared.transcript.Note.{Note}
 use Rattle.audit_model.specs.declared.transcript.Record.{Record}
-use Rattle.audit_waiting_laws.specs.Alone.{IsTurnOf}
-use Rattle.audit_waiting_laws.specs.Keys.{IsKnown}
+use Rattle.audit_laws.specs.Waiting.Alone.{IsTurnOf}
+use Rattle.audit_laws.specs.Waiting.Keys.{IsKnown}
 use Rattle.cache_core.specs.State.{situation_with}
 use Rattle.cache_core.specs.Turned.{notes_in, replies_to, feeding}
 use Rattle.cache_spaces.specs.Calls as served
@@ -31,7 +31,7 @@ use Rattle.cache_run.specs.Lent.{Comes, Does, MayGiveLoads}
 use Rattle.std.specs.Prelude.{MatchOption, unwrap_or}
 use Rattle.std.specs.List.{last_or}
 use Rattle.std.proofs.lemmas.Option.{none-some, same_Some}
-use Rattle.audit_waiting_laws.proofs.Keys.{answered-key, given-up-key}
+use Rattle.audit_laws.proofs.waiting.Keys.{answered-key, given-up-key}
 use Rattle.cache_spaces.specs.Sound.{IsSound}
 use Rattle.cache_run.specs.Accounts.{Accounts, AddsNoLoads, pending_of}
 use Rattle.cache_run.specs.Loading.{AreKnown, GivesLoads}

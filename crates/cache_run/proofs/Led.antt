@@ -20,8 +20,8 @@ use Rattle.cache_run.specs.Carried.{Carried, Left, close_records, open_records, 
 use Rattle.cache_run.specs.Worlds.{World, world}
 use Rattle.std.specs.Io.KnownBytes.{Appends, Consumes}
 use Rattle.audit_model.specs.declared.input.LoadId.{LoadId}
-use Rattle.audit_waiting_laws.specs.Keys.{IsKnown}
-use Rattle.audit_waiting_laws.proofs.Keys.{keeps}
+use Rattle.audit_laws.specs.Waiting.Keys.{IsKnown}
+use Rattle.audit_laws.proofs.waiting.Keys.{keeps}
 use Rattle.cache_devices.specs.Sources.{Asking, Askings, Readings}
 use Rattle.cache_run.specs.Runs.{Quiet}
 use Rattle.cache_run.specs.Loading.{AreKnown}

@@ -5,7 +5,7 @@ use Rattle.audit_model.specs.Bytewise.{is_empty}
 use Rattle.audit_model.specs.Situation.{PendingLoad}
 use Rattle.audit_model.specs.declared.input.LoadId.{LoadId}
 use Rattle.cache_spaces.specs.Spaces.{taken_of}
-use Rattle.audit_waiting_laws.specs.Sending.{are_all, are_others, are_old_or_later, is_under_way}
+use Rattle.audit_laws.specs.Waiting.Sending.{are_all, are_others, are_old_or_later, is_under_way}
 use Rattle.cache_spaces.specs.Bares.{BareSpace}
 
 -- the loads under way

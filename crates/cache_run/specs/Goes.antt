@@ -3,7 +3,7 @@ use Rattle.std.specs.Prelude.{◌≡◌, ◌≢◌, ℕ}
 use Rattle.audit_model.specs.Situation.{Situation}
 use Rattle.cache_spaces.specs.Spaces.{StandsFor, config_of, untaken_output, closing_of}
 use Rattle.cache_spaces.specs.Bares.{BareSpace}
-use Rattle.audit_waiting_laws.specs.Alone.{WaitsAlone}
+use Rattle.audit_laws.specs.Waiting.Alone.{WaitsAlone}
 
 -- the namespace stands for a situation of which that is true, no other connection waits for a load, and others are as they were
 pub record GoesOn (number : ℕ) (was is : BareSpace) (Fact : Situation → Type 0) : Type 0 where

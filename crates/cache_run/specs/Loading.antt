@@ -7,7 +7,7 @@ use Rattle.audit_model.specs.declared.config.Config.{Config}
 use Rattle.audit_model.specs.declared.transcript.Note.{Note}
 use Rattle.audit_model.specs.declared.transcript.Record.{Record}
 use Rattle.audit_model.specs.declared.input.LoadId.{LoadId}
-use Rattle.audit_waiting_laws.specs.Keys.{IsKnown}
+use Rattle.audit_laws.specs.Waiting.Keys.{IsKnown}
 use Rattle.cache_core.specs.Turned.{notes_in}
 use Rattle.cache_spaces.specs.Bares.{BareSpace, bare_tape}
 use Rattle.cache_spaces.specs.Calls.{TakesLoads}

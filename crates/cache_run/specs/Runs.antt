@@ -15,7 +15,7 @@ use Rattle.cache_devices.specs.declared.watched.Watched.{Watched}
 use Rattle.cache_spaces.specs.Calls.{At}
 use Rattle.cache_spaces.specs.Spaces.{closing_of, config_of, notices_of}
 use Rattle.audit_model.specs.declared.event.Outcome.{Outcome}
-use Rattle.audit_waiting_laws.specs.Alone.{WaitsAlone}
+use Rattle.audit_laws.specs.Waiting.Alone.{WaitsAlone}
 use Rattle.cache_run.specs.Accounts.{AddsNoLoads, pending_of}
 use Rattle.cache_spaces.specs.Bares.{BareSpace}
 use Rattle.cache_run.specs.Carried.{Broken, Carried, nothing_left}

@@ -2,8 +2,8 @@
 use Rattle.std.proofs.Common.{◌≡◌, ℕ, Bool, true, List, [], ◌∷◌, ◌++◌, map, Vec, Global, refl, sym, ap, ◌∙◌, append_assoc}
 use Rattle.std.proofs.lemmas.List.{append-nil, map-append}
 use Rattle.audit_model.specs.declared.input.Input.{Input}
-use Rattle.audit_receipts.specs.declared.output.Output.{Output}
-use Rattle.audit_receipts.specs.declared.receipt.Receipt.{Receipt}
+use Rattle.audit_laws.specs.declared.receipts.output.Output.{Output}
+use Rattle.audit_laws.specs.declared.receipts.receipt.Receipt.{Receipt}
 use Rattle.cache_serve.specs.Asked.{Asks, Grows}
 use Rattle.cache_shared.specs.Seats.{Counts, SameReceipts, receipt_for, receipts_at}
 use Rattle.cache_spaces.specs.Inputs.{namespace_of}

@@ -12,7 +12,7 @@ use Rattle.audit_model.specs.declared.event.Outcome.{Outcome}
 use Rattle.audit_model.specs.declared.input.Conn.{Conn}
 use Rattle.audit_model.specs.declared.input.Input.TheVariants as input
 use Rattle.audit_model.specs.declared.input.LoadId.{LoadId}
-use Rattle.audit_receipts.specs.declared.receipt.Receipt.{Receipt}
+use Rattle.audit_laws.specs.declared.receipts.receipt.Receipt.{Receipt}
 use Rattle.cache_devices.specs.Sources.{Asking, Askings, Readings}
 use Rattle.cache_devices.specs.declared.errors.RunError.{RunError}
 use Rattle.cache_devices.specs.declared.watched.Watched.{Watched}

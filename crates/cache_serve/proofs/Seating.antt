@@ -10,7 +10,7 @@ use Rattle.audit_model.specs.declared.input.Conn.{Conn}
 use Rattle.audit_model.specs.declared.input.Input.{Input}
 use Rattle.audit_model.specs.declared.input.Input.TheVariants as input
 use Rattle.audit_model.specs.declared.input.LoadId.{LoadId}
-use Rattle.audit_receipts.specs.declared.output.Output.{Output}
+use Rattle.audit_laws.specs.declared.receipts.output.Output.{Output}
 use Rattle.cache_devices.proofs.Reading.{askings_more}
 use Rattle.cache_devices.specs.Sources.{Asking, Askings}
 use Rattle.cache_driver.specs.Exchanges as did

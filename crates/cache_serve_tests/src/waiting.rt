@@ -4,7 +4,7 @@ ghost use Rattle.std.specs.Prelude.{◌≡◌};
 use crate::devices::make_core;
 use crate::loaders::value_of;
 use audit_model::{Conn, Input, Instant, LoadId, Seq};
-use audit_receipts::Output;
+use audit_laws::Output;
 use cache_shared::{LiveService, Seat, Seating, SharedService};
 use std::alloc::Global;
 use std::marker::Brand;

@@ -10,9 +10,9 @@ use Rattle.audit_model.specs.declared.event.Event.TheVariants as event
 use Rattle.audit_model.specs.declared.input.Input.{Input}
 use Rattle.audit_model.specs.declared.input.Input.TheVariants as input
 use Rattle.audit_model.specs.declared.transcript.Step.{Step}
-use Rattle.audit_receipts.specs.Answers.{last_is_held, output_with}
-use Rattle.audit_receipts.specs.declared.output.Output.{Output}
-use Rattle.audit_receipts.specs.declared.output.Output.TheVariants.{All, Held}
+use Rattle.audit_laws.specs.Receipts.Answers.{last_is_held, output_with}
+use Rattle.audit_laws.specs.declared.receipts.output.Output.{Output}
+use Rattle.audit_laws.specs.declared.receipts.output.Output.TheVariants.{All, Held}
 use Rattle.cache_shared.specs.Events.{Performs, IsReached, is_fed, is_output_for}
 use Rattle.cache_connections.proofs.Getting.{found-at}
 use Rattle.cache_spaces.specs.Inputs.{namespace_of}

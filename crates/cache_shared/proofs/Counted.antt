@@ -3,8 +3,8 @@ use Rattle.std.proofs.Common.{◌≡◌, ℕ, ◌+◌, Bool, true, false, List, 
 use Rattle.std.specs.Prelude.{Result, Ok, Err, OnOk, IfOk, IsTrue}
 use Rattle.audit_model.specs.declared.input.Input.{Input}
 use Rattle.audit_model.specs.declared.transcript.Transcript.{Transcript}
-use Rattle.audit_receipts.specs.declared.output.Output.{Output}
-use Rattle.audit_receipts.specs.declared.receipt.Receipt.{Receipt}
+use Rattle.audit_laws.specs.declared.receipts.output.Output.{Output}
+use Rattle.audit_laws.specs.declared.receipts.receipt.Receipt.{Receipt}
 use Rattle.cache_shared.specs.Events.{is_output_for}
 use Rattle.cache_shared.specs.Seats.{Counts, GainsReceipt, SameReceipts}
 

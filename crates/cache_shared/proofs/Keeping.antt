@@ -6,8 +6,8 @@ use Rattle.std.proofs.Math.Seq.{map-set_same}
 use Rattle.std.proofs.lemmas.List.{get_or-map, get_or-set_other, get_or-set_same, length-map, map-set}
 use Rattle.std.proofs.lemmas.Option.{none-some, same_Some}
 use Rattle.audit_model.specs.declared.input.Input.{Input}
-use Rattle.audit_receipts.specs.declared.output.Output.{Output}
-use Rattle.audit_receipts.specs.declared.receipt.Receipt.{Receipt}
+use Rattle.audit_laws.specs.declared.receipts.output.Output.{Output}
+use Rattle.audit_laws.specs.declared.receipts.receipt.Receipt.{Receipt}
 use Rattle.cache_shared.specs.Seats.{receipts_at, receipt_for, Gains, SameReceipts}
 
 -- an empty list more

@@ -15,7 +15,7 @@ use Rattle.audit_model.specs.declared.input.LoadId.{LoadId}
 use Rattle.audit_model.specs.declared.input.ServiceError.{ServiceError}
 use Rattle.audit_model.specs.declared.transcript.Note.{Note}
 use Rattle.audit_model.specs.declared.transcript.Transcript.{Transcript}
-use Rattle.audit_receipts.specs.declared.output.Output.{Output}
+use Rattle.audit_laws.specs.declared.receipts.output.Output.{Output}
 use Rattle.cache_shared.proofs.Counting.{count-empty, count-more}
 use Rattle.cache_shared.specs.Events.{IsJournal, IsReached, record_count}
 use Rattle.cache_shared.specs.Live.{HasLived, Lived}

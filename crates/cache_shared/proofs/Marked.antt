@@ -1,6 +1,6 @@
 -- Marks that count.
 use Rattle.std.proofs.Common.{◌≡◌, ℕ, ◌+◌, ◌<◌, List, Bool, arith, ap, cond, subst}
-use Rattle.audit_receipts.specs.declared.receipt.Receipt.{Receipt}
+use Rattle.audit_laws.specs.declared.receipts.receipt.Receipt.{Receipt}
 use Rattle.cache_shared.specs.Marks.{marks, AllMarked}
 use Rattle.cache_shared.specs.Seats.{holders, EachOnce}
 

@@ -12,7 +12,7 @@ use Rattle.audit_model.specs.declared.input.LoadId.{LoadId}
 use Rattle.audit_model.specs.declared.input.ServiceError.{ServiceError}
 use Rattle.audit_model.specs.declared.input.ServiceError.TheVariants as error
 use Rattle.audit_model.specs.declared.transcript.Transcript.{Transcript}
-use Rattle.audit_receipts.specs.declared.output.Output.{Output}
+use Rattle.audit_laws.specs.declared.receipts.output.Output.{Output}
 use Rattle.cache_connections.proofs.Getting.{found-at, set-same}
 use Rattle.cache_spaces.proofs.Journaling.{journal-at, mapped, were-journals, were-led}
 use Rattle.cache_spaces.proofs.Showing.{at-shown, in-shown, performs-shown, refused-shown, refuses-shown}

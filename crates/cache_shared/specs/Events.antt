@@ -9,8 +9,8 @@ use Rattle.audit_model.specs.declared.input.Input.TheVariants as input
 use Rattle.audit_model.specs.declared.input.ServiceError.{ServiceError}
 use Rattle.audit_model.specs.declared.input.ServiceError.TheVariants as error
 use Rattle.audit_model.specs.declared.transcript.Transcript.{Transcript}
-use Rattle.audit_receipts.specs.declared.output.Output.{Output}
-use Rattle.audit_receipts.specs.declared.output.Output.TheVariants.{Opened, All, Held, Done}
+use Rattle.audit_laws.specs.declared.receipts.output.Output.{Output}
+use Rattle.audit_laws.specs.declared.receipts.output.Output.TheVariants.{Opened, All, Held, Done}
 use Rattle.cache_spaces.specs.Calls.{At, Refuses}
 use Rattle.cache_spaces.specs.Inputs as inputs
 use Rattle.cache_spaces.specs.Inputs.{RefusedInput, namespace_of}

@@ -5,9 +5,9 @@ use Rattle.std.specs.declared.alloc.Global.{Global}
 use Rattle.audit_model.specs.declared.input.Input.{Input}
 use Rattle.audit_model.specs.declared.transcript.Record.{Record}
 use Rattle.audit_model.specs.declared.transcript.Transcript.{Transcript}
-use Rattle.audit_receipts.specs.Receipts.{AreOf, StandFrom}
-use Rattle.audit_receipts.specs.declared.output.Output.{Output}
-use Rattle.audit_receipts.specs.declared.receipt.Receipt.{Receipt}
+use Rattle.audit_laws.specs.Receipts.Receipts.{AreOf, StandFrom}
+use Rattle.audit_laws.specs.declared.receipts.output.Output.{Output}
+use Rattle.audit_laws.specs.declared.receipts.receipt.Receipt.{Receipt}
 use Rattle.cache_shared.specs.Events.{IsLastNumber, is_output_for}
 use Rattle.cache_spaces.specs.Inputs.{namespace_of}
 

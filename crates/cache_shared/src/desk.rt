@@ -13,7 +13,7 @@ use crate::replies::{Replies, take_replies};
 use crate::seat::{Seat, Seating, make_lists, namespace_of};
 use crate::service_core::{Stepping, Takings};
 use audit_model::{Closing, Conn, Input, Note, ServiceError};
-use audit_receipts::{Receipt, copy_input};
+use audit_laws::{Receipt, copy_input};
 use cache_spaces::{Output, Refusal};
 use std::alloc::Global;
 use std::sync::ledger::{Blank, Book, Share};

@@ -5,7 +5,7 @@ ghost use Rattle.cache_shared.specs.Seats.{Agree, EachOnce, ArePartsOf, holders,
 
 use crate::seat::{Seat, Seating};
 use audit_model::Transcript;
-use audit_receipts::{Receipt, are_of, receipts_stand};
+use audit_laws::{Receipt, are_of, receipts_stand};
 use std::alloc::Global;
 
 /// Whether the receipts of these seats stand in a namespace's journal, each of whose records has one. Without memory `false`.

@@ -4,7 +4,7 @@ ghost use Rattle.cache_shared.specs.Seats.{SameReceipts, receipts_at};
 ghost use Rattle.cache_spaces.specs.Inputs.{namespace_of};
 
 use audit_model::Input;
-use audit_receipts::Receipt;
+use audit_laws::Receipt;
 use std::alloc::{AllocError, Global};
 use std::marker::Brand;
 use std::sync::ledger::{Ledger, Share};

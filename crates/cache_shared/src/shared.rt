@@ -15,7 +15,7 @@ use crate::seat::{Seat, Seating};
 use crate::service_core::{Stepping, Takings};
 use crate::turning::Turn;
 use audit_model::{Closing, Conn, Input, Note, ServiceError};
-use audit_receipts::Receipt;
+use audit_laws::Receipt;
 use cache_spaces::{Output, RecordedService, Refusal};
 use std::alloc::{AllocError, Global};
 use std::sync::ledger::Blank;

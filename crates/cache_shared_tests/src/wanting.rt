@@ -5,7 +5,7 @@ ghost use Rattle.cache_shared.specs.Recordings.{journals_in};
 
 use crate::inputs::{feed, make_core};
 use audit_model::{Conn, Input};
-use audit_receipts::Output;
+use audit_laws::Output;
 use cache_shared::{Seat, Seating, SharedService};
 use cache_spaces::{RecordedService, Refusal};
 use std::alloc::{AllocError, Global};

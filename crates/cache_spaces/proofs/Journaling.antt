@@ -23,7 +23,7 @@ use Rattle.audit_model.specs.declared.event.Instant.{Instant}
 use Rattle.audit_model.specs.declared.input.Input.{Input}
 use Rattle.audit_model.specs.declared.transcript.Record.{Record}
 use Rattle.audit_model.specs.declared.transcript.Transcript.{Transcript}
-use Rattle.audit_receipts.specs.declared.output.Output.{Output}
+use Rattle.audit_laws.specs.declared.receipts.output.Output.{Output}
 use Rattle.cache_commands.specs.Order.{AgreesWith, Settled}
 use Rattle.cache_connections.proofs.Getting.{at-mapped, found-at}
 use Rattle.cache_lines.specs.Ordered.{OrdersSteps}

@@ -5,7 +5,7 @@ use Rattle.audit_model.specs.Situation.{Situation}
 use Rattle.audit_model.specs.declared.input.Input.{Input}
 use Rattle.audit_model.specs.declared.input.Input.TheVariants as input
 use Rattle.audit_model.specs.declared.input.ServiceError.{ServiceError}
-use Rattle.audit_receipts.specs.declared.output.Output.{Output}
+use Rattle.audit_laws.specs.declared.receipts.output.Output.{Output}
 use Rattle.cache_connections.proofs.Getting.{at-mapped}
 use Rattle.cache_spaces.specs.Calls.{At, InSpace, RefusedFor, Refuses}
 use Rattle.cache_spaces.specs.Inputs.{Performs, RefusedInput, is_held_for}

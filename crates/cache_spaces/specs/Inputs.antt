@@ -7,8 +7,8 @@ use Rattle.audit_model.specs.declared.input.Input.{Input}
 use Rattle.audit_model.specs.declared.input.Input.TheVariants as input
 use Rattle.audit_model.specs.declared.input.ServiceError.{ServiceError}
 use Rattle.audit_model.specs.declared.transcript.Record.{Record}
-use Rattle.audit_receipts.specs.Answers.{output_of}
-use Rattle.audit_receipts.specs.declared.output.Output.{Output}
+use Rattle.audit_laws.specs.Receipts.Answers.{output_of}
+use Rattle.audit_laws.specs.declared.receipts.output.Output.{Output}
 use Rattle.cache_core.specs.Turned.{Stays, Turned}
 use Rattle.cache_spaces.specs.Calls.{RefusedFor, is_held_in}
 use Rattle.cache_spaces.specs.Spaces.{Space, StandsFor}

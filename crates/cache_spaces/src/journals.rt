@@ -12,7 +12,7 @@ use crate::cursors::Cursors;
 use crate::service::Core;
 use crate::stepping::Refusal;
 use audit_model::{Bytes, Config, Conn, Input, Instant, LoadId, Note, ServiceError, Transcript};
-use audit_receipts::Output;
+use audit_laws::Output;
 use cache_tape::Kept;
 use rand_xoshiro::Xoshiro256PlusPlus;
 use std::alloc::{AllocError, Global};

@@ -11,7 +11,7 @@ mod stepping;
 mod tapes;
 mod told;
 
-pub use audit_receipts::Output;
+pub use audit_laws::Output;
 pub use journals::RecordedService;
 pub use service::{AnswerError, Core, Fed, Service, SpaceStore};
 pub use stepping::Refusal;

@@ -6,7 +6,7 @@ ghost use Rattle.cache_spaces.specs.Inputs.{Performs, RefusedInput, namespace_of
 
 use crate::service::{AnswerError, Core, Fed};
 use audit_model::{Bytes, Conn, Input, Instant, LoadId, Outcome, ServiceError};
-use audit_receipts::Output;
+use audit_laws::Output;
 use cache_tape::Tape;
 use thiserror::Error;
 

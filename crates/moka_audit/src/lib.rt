@@ -11,6 +11,6 @@ pub use audit_model::{
     LineError, LoadId, Note, Outcome, Record, RemovalCause, Seq, ServiceError, Step, Transcript,
     Weight,
 };
-pub use audit_receipts::{Output, Receipt, receipts_stand};
+pub use audit_laws::{Output, Receipt, receipts_stand};
 pub use audit_records::Verdict;
 pub use auditing::audit;

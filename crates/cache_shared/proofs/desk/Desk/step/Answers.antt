@@ -1,5 +1,5 @@
 use Rattle.std.proofs.Common.{ap, sym, ◌∙◌, Vec, Global}
-use Rattle.audit_receipts.specs.declared.receipt.Receipt.{Receipt}
+use Rattle.audit_laws.specs.declared.receipts.receipt.Receipt.{Receipt}
 use Rattle.cache_shared.proofs.Coming.{came-result}
 use Rattle.cache_shared.proofs.Counted.{counts-bare, counts-kept}
 use Rattle.cache_shared.specs.Seats.{receipts_at}

@@ -1,6 +1,6 @@
 use Rattle.std.proofs.Common.{false, length, true}
 use Rattle.audit_model.specs.declared.input.Input.TheVariants as input
-use Rattle.audit_receipts.specs.declared.output.Output.TheVariants.{All, Held}
+use Rattle.audit_laws.specs.declared.receipts.output.Output.TheVariants.{All, Held}
 use Rattle.cache_core.specs.Turned.{feeding}
 use Rattle.cache_spaces.proofs.Performing.{comes-all, comes-held, feeds, refused-input, serves-performs}
 use Rattle.cache_spaces.proofs.Placing.{at-map}

@@ -1,6 +1,6 @@
 use Rattle.std.proofs.Common.{length, refl}
 use Rattle.audit_model.specs.declared.input.Input.TheVariants as input
-use Rattle.audit_receipts.specs.declared.output.Output.TheVariants.{Done}
+use Rattle.audit_laws.specs.declared.receipts.output.Output.TheVariants.{Done}
 use Rattle.cache_core.specs.Settling.{giving_up}
 use Rattle.cache_spaces.proofs.Performing.{gives-up, refused-input, settled-performs}
 use Rattle.cache_spaces.proofs.Placing.{at-map}

@@ -1,7 +1,7 @@
 use Rattle.std.proofs.Common.{ap, arith, false, inl, length, suc}
 use Rattle.audit_model.specs.declared.event.Event.TheVariants as event
 use Rattle.audit_model.specs.declared.input.Input.TheVariants as input
-use Rattle.audit_receipts.specs.declared.output.Output.TheVariants.{Opened}
+use Rattle.audit_laws.specs.declared.receipts.output.Output.TheVariants.{Opened}
 use Rattle.cache_spaces.proofs.Performing.{opens, refused-input, serves-performs}
 use Rattle.cache_spaces.proofs.Placing.{at-map}
 use Rattle.cache_spaces.proofs.Putting.{refuses-map}

@@ -1,0 +1,173 @@
+-- The keys of loads under way.
+use Rattle.std.proofs.Common.{◌≡◌, ℕ, suc, Bool, true, false, not, ◌&&◌, ◌||◌, ◌==◌, cond, List, [], ◌∷◌, ◌++◌, map, Option, Some, None, if◌then◌else◌, is_some, refl, ap, ◌∙◌, subst, arith}
+use Rattle.std.specs.Prelude.{is_none, nat_eq}
+use Rattle.std.specs.List.{filter, find}
+use Rattle.std.specs.Option.{option_eq, option_map, option_map_or, option_or}
+use Rattle.std.proofs.lemmas.Bool.{and_parts, eqb-true}
+use Rattle.std.proofs.lemmas.Option.{same_Some}
+use Rattle.audit_model.specs.Belongs.{refusal_of, refusal_where}
+use Rattle.audit_model.specs.Bytewise.{same, is_empty}
+use Rattle.audit_model.specs.Changes.{after_step, connection_after, join_by, join_load}
+use Rattle.audit_model.specs.Commands.{quits}
+use Rattle.audit_model.specs.Follows.{Follows, after_event, after_steps, known_in, placed_step_in, tasks_in}
+use Rattle.audit_model.specs.History.{Action, Effect, Running}
+use Rattle.audit_model.specs.Loads.{key_loaded}
+use Rattle.audit_model.specs.Obeys.{has_right_own_value, is_numbered}
+use Rattle.audit_model.specs.Places.{due, first_due, left_after, steps_of}
+use Rattle.audit_model.specs.Replies.{load_sent_by}
+use Rattle.audit_model.specs.Situation.{Situation, Connection, PendingLoad, connection_in, is_overlong, key_in, may_run_in, view_in, with_connection, with_waiting, without_waiting}
+use Rattle.audit_model.specs.Steps.{Task, Store, is_right}
+use Rattle.audit_model.specs.Stream.{is_waiting}
+use Rattle.audit_model.specs.View.{View}
+use Rattle.audit_model.specs.declared.command.Command.TheVariants as says
+use Rattle.audit_model.specs.declared.config.Config.{Config}
+use Rattle.audit_model.specs.declared.event.Event.{Event}
+use Rattle.audit_model.specs.declared.event.Event.TheVariants as event
+use Rattle.audit_model.specs.declared.event.Instant.{Instant}
+use Rattle.audit_model.specs.declared.event.Outcome.{Outcome}
+use Rattle.audit_model.specs.declared.input.ServiceError.{ServiceError}
+use Rattle.audit_model.specs.declared.input.ServiceError.TheVariants as error
+use Rattle.audit_model.specs.declared.transcript.Record.{Record}
+use Rattle.audit_model.specs.declared.transcript.Step.{Step}
+use Rattle.audit_laws.specs.Waiting.Keys.{HasKey, IsKnown}
+
+-- ---- loads
+
+keys-filter : (n : ℕ) (key : List ℕ) (p : PendingLoad → Bool) (loads : List PendingLoad) → HasKey n key loads → HasKey n key (filter p loads)
+keys-filter n key p [] has = tt
+keys-filter n key p (load ∷ loads) has = go (keys-filter n key p loads has.1) (p load)
+  where
+    go : HasKey n key (filter p loads) → (b : Bool) → HasKey n key (cond b (load ∷ filter p loads) (filter p loads))
+    go next true = (has.0, next)
+    go next false = next
+
+keys-without : (n : ℕ) (key : List ℕ) (conn : ℕ) (loads : List PendingLoad) → HasKey n key loads → HasKey n key (map (without_waiting conn) loads)
+keys-without n key conn [] has = tt
+keys-without n key conn (load ∷ loads) has = (has.0, keys-without n key conn loads has.1)
+
+keys-joined : (n : ℕ) (key : List ℕ) (conn : ℕ) (of : List ℕ) (loads : List PendingLoad) → HasKey n key loads → HasKey n key (map (with_waiting conn of) loads)
+keys-joined n key conn of [] has = tt
+keys-joined n key conn of (load ∷ loads) has = (go (same load.key of), keys-joined n key conn of loads has.1)
+  where
+    go : (b : Bool) → (if b then record load { waiting = load.waiting ++ conn ∷ [] } else load).number ≡ n → (if b then record load { waiting = load.waiting ++ conn ∷ [] } else load).key ≡ key
+    go true is = has.0 is
+    go false is = has.0 is
+
+-- ---- a step
+
+-- a load that is sent has the next number
+abbrev pub Sends : Option (List ℕ) → Option ℕ → ℕ → Type 0
+Sends (Some key) (Some number) sent = number ≡ suc sent
+Sends key load sent = Unit {0}
+
+sends-by : (seen : View) (sent : ℕ) (action : Action) (load : Option ℕ) → seen.next_load ≡ suc sent → option_eq nat_eq load (load_sent_by seen action) ≡ true → Sends (key_loaded action) load sent
+sends-by seen sent (Running (says.Load key)) (Some m) next e = go (is_some (seen.live key) || is_some (seen.load_of_key key)) e
+  where
+    go : (b : Bool) → option_eq nat_eq (Some m) (if b then None else Some seen.next_load) ≡ true → m ≡ suc sent
+    go true h = let no : false ≡ true = h in cc
+    go false h = eqb-true m seen.next_load h ∙ next
+sends-by seen sent (Running (says.Load key)) None next e = tt
+sends-by seen sent (Running command) load next e = tt
+sends-by seen sent action load next e = tt
+
+pub sends-right : (config : Config) (s : Situation) (task : Option Task) (step : Step) → is_right config (placed_step_in config s task step) ≡ true → Sends (key_loaded (placed_step_in config s task step).effect.action) step.load s.sent
+sends-right config s task step right =
+    let parts = and_parts _ _ (and_parts _ _ (and_parts _ _ (and_parts _ _ right).0).0).0 in
+    sends-by (view_in config s) s.sent (placed_step_in config s task step).effect.action step.load refl (and_parts _ _ parts.0).1
+
+known-join : (n : ℕ) (key : List ℕ) (conn : ℕ) (waits : Bool) (of : Option (List ℕ)) (load : Option ℕ) (s : Situation) → Sends of load s.sent → IsKnown n key s → IsKnown n key (join_by conn waits of load s)
+known-join n key conn waits None load s sends known = known
+known-join n key conn waits (Some of) (Some number) s sends known = let few = known.0 in (omega arith, ((λ is. absurd (omega (arith, sends, is, few))), known.1))
+known-join n key conn true (Some of) None s sends known = (known.0, keys-joined n key conn of s.pending known.1)
+known-join n key conn false (Some of) None s sends known = known
+
+known-put : (n : ℕ) (key : List ℕ) (quits : Bool) (k : Connection) (s : Situation) → IsKnown n key s → IsKnown n key (with_connection quits k s)
+known-put n key quits k s known = (known.0, go (quits || is_overlong k))
+  where
+    go : (b : Bool) → HasKey n key (if b then map (without_waiting k.number) s.pending else s.pending)
+    go true = keys-without n key k.number s.pending known.1
+    go false = known.1
+
+known-own : (n : ℕ) (key : List ℕ) (task : Option Task) (step : Step) (effect : Effect) (s : Situation) → Sends (key_loaded effect.action) effect.load s.sent → IsKnown n key s → (o : Option Connection)
+    → IsKnown n key (option_map_or (λ c. with_connection (quits effect) (connection_after task step effect c) (join_load step.conn effect s)) o s)
+known-own n key task step effect s sends known None = known
+known-own n key task step effect s sends known (Some c) =
+    known-put n key (quits effect) (connection_after task step effect c) (join_load step.conn effect s) (known-join n key step.conn (is_waiting effect) (key_loaded effect.action) effect.load s sends known)
+
+known-step : (config : Config) (n : ℕ) (key : List ℕ) (s : Situation) (task : Option Task) (step : Step) (effect : Effect) → Sends (key_loaded effect.action) effect.load s.sent → IsKnown n key s → IsKnown n key (after_step config s task step effect)
+known-step config n key s (Some (Store of outcome)) step effect sends known = known
+known-step config n key s task step effect sends known = known-own n key task step effect _ sends known (connection_in step.conn s)
+
+-- ---- the steps of a record
+
+known-steps : (config : Config) (n : ℕ) (key : List ℕ) (s t : Situation) (tasks : List Task) (more : List Step) → IsKnown n key s → after_steps config s tasks more ≡ Some t → IsKnown n key t
+known-steps config n key s t tasks [] known e = go (is_empty (due (may_run_in s) tasks)) e
+  where
+    go : (b : Bool) → (if b then Some s else None) ≡ Some t → IsKnown n key t
+    go false h = let no : None ≡ Some t = h in cc
+    go true h = subst (λ (u : Situation). IsKnown n key u) (same_Some s t h) known
+known-steps config n key s t tasks (step ∷ more) known e =
+    by-right (λ u left knows h. known-steps config n key u t left more knows h) (due (may_run_in s) tasks) (is_right config (placed_step_in config s (first_due (due (may_run_in s) tasks)) step)) refl e
+  where
+    Next : Type 0
+    Next = (u : Situation) (left : List Task) → IsKnown n key u → after_steps config u left more ≡ Some t → IsKnown n key t
+
+    by-right : Next → (now_due : List Task) → (b : Bool) → is_right config (placed_step_in config s (first_due now_due) step) ≡ b
+        → (if b then after_steps config (after_step config s (first_due now_due) step (placed_step_in config s (first_due now_due) step).effect) (left_after now_due) more else None) ≡ Some t → IsKnown n key t
+    by-right next now_due false is h = let no : None ≡ Some t = h in cc
+    by-right next now_due true is h =
+        next (after_step config s (first_due now_due) step (placed_step_in config s (first_due now_due) step).effect) (left_after now_due)
+        (known-step config n key s (first_due now_due) step (placed_step_in config s (first_due now_due) step).effect (sends-right config s (first_due now_due) step is) known) h
+
+-- ---- a record
+
+fed-known : (n : ℕ) (key piece : List ℕ) (u : Situation) → IsKnown n key u → (o : Option Connection) → IsKnown n key (option_map_or (λ c. with_connection false (record c { unread = c.unread ++ piece }) u) o u)
+fed-known n key piece u known None = known
+fed-known n key piece u known (Some c) = known-put n key false (record c { unread = c.unread ++ piece }) u known
+
+known-event : (n : ℕ) (key : List ℕ) (s : Situation) (happened : Event) → IsKnown n key s → IsKnown n key (after_event happened s)
+known-event n key s (event.Open c) known = known
+known-event n key s (event.Close c) known = (known.0, keys-without n key c s.pending known.1)
+known-event n key s (event.Feed c piece moment) known = fed-known n key piece _ known (connection_in c s)
+known-event n key s (event.Answer load outcome moment) known = (known.0, keys-filter n key (λ l. not (l.number == load)) s.pending known.1)
+known-event n key s (event.GiveUp load moment) known = (known.0, keys-filter n key (λ l. not (l.number == load)) s.pending known.1)
+
+pub keeps : (config : Config) (s t : Situation) (entry : Record) (n : ℕ) (key : List ℕ) → Follows config s entry t → IsKnown n key s → IsKnown n key t
+keeps config s t entry n key e known = go (is_none (refusal_of config (known_in s) entry.event) && is_numbered s.opened entry.event && has_right_own_value entry) e
+  where
+    go : (b : Bool) → (if b then after_steps config (after_event entry.event s) (tasks_in s entry.event) (steps_of entry) else None) ≡ Some t → IsKnown n key t
+    go false h = let no : None ≡ Some t = h in cc
+    go true h = known-steps config n key (after_event entry.event s) t (tasks_in s entry.event) (steps_of entry) (known-event n key s entry.event known) h
+
+-- ---- a load that is settled
+
+unrefused : (config : Config) (s t : Situation) (entry : Record) → Follows config s entry t → is_none (refusal_of config (known_in s) entry.event) ≡ true
+unrefused config s t entry e = go (is_none (refusal_of config (known_in s) entry.event) && is_numbered s.opened entry.event && has_right_own_value entry) refl e
+  where
+    go : (b : Bool) → (is_none (refusal_of config (known_in s) entry.event) && is_numbered s.opened entry.event && has_right_own_value entry) ≡ b
+        → (if b then after_steps config (after_event entry.event s) (tasks_in s entry.event) (steps_of entry) else None) ≡ Some t → is_none (refusal_of config (known_in s) entry.event) ≡ true
+    go false is h = let no : None ≡ Some t = h in cc
+    go true is h = (and_parts _ _ (and_parts _ _ is).0).0
+
+under-way : (b : Bool) (rest : Option ServiceError) → is_none (option_or (refusal_where (not b) error.NoLoad) rest) ≡ true → b ≡ true
+under-way true rest e = refl
+under-way false rest e = let no : false ≡ true = e in cc
+
+own-key : (n : ℕ) (key : List ℕ) (loads : List PendingLoad) → HasKey n key loads → is_some (option_map (λ (load : PendingLoad). load.key) (find (λ load. load.number == n) loads)) ≡ true
+    → option_map (λ (load : PendingLoad). load.key) (find (λ load. load.number == n) loads) ≡ Some key
+own-key n key [] has e = let no : false ≡ true = e in cc
+own-key n key (load ∷ loads) has e = go (own-key n key loads has.1) (load.number == n) refl e
+  where
+    go : (is_some (option_map (λ (l : PendingLoad). l.key) (find (λ l. l.number == n) loads)) ≡ true → option_map (λ (l : PendingLoad). l.key) (find (λ l. l.number == n) loads) ≡ Some key)
+        → (b : Bool) → (load.number == n) ≡ b → is_some (option_map (λ (l : PendingLoad). l.key) (cond b (Some load) (find (λ l. l.number == n) loads))) ≡ true
+        → option_map (λ (l : PendingLoad). l.key) (cond b (Some load) (find (λ l. l.number == n) loads)) ≡ Some key
+    go next true is h = ap (λ k. Some k) (has.0 (eqb-true load.number n is))
+    go next false is h = next h
+
+pub answered-key : (config : Config) (s t : Situation) (entry : Record) (load : ℕ) (outcome : Outcome) (moment : Instant) (key : List ℕ) → Follows config s entry t → entry.event ≡ event.Answer load outcome moment → HasKey load key s.pending → key_in load s ≡ Some key
+answered-key config s t entry load outcome moment key e is has =
+    own-key load key s.pending has (under-way (is_some (key_in load s)) _ (subst (λ h. is_none (refusal_of config (known_in s) h) ≡ true) is (unrefused config s t entry e)))
+
+pub given-up-key : (config : Config) (s t : Situation) (entry : Record) (load : ℕ) (moment : Instant) (key : List ℕ) → Follows config s entry t → entry.event ≡ event.GiveUp load moment → HasKey load key s.pending → key_in load s ≡ Some key
+given-up-key config s t entry load moment key e is has =
+    own-key load key s.pending has (under-way (is_some (key_in load s)) _ (subst (λ h. is_none (refusal_of config (known_in s) h) ≡ true) is (unrefused config s t entry e)))

@@ -1,6 +1,0 @@
-use Rattle.std.proofs.Common.{rules}
-use Rattle.audit_receipts.proofs.Lasts.{held-last}
-use Rattle.audit_receipts.proofs.output.last_is_held.Goals as goal
-
-pub returns-in-Some : goal.returns-in-Some
-returns-in-Some c = held-last c.args.steps.now c.in-Some.step.now (search rules)
