@@ -4,7 +4,7 @@ use Rattle.std.specs.Option.{option_map_or}
 use Rattle.audit_model.specs.Situation.{Situation}
 use Rattle.audit_model.specs.declared.config.Config.{Config}
 use Rattle.audit_model.specs.declared.transcript.Record.{Record}
-use Rattle.audit_held.specs.Known.{KeyPart}
+use Rattle.audit_situation.specs.Held.Known.{KeyPart}
 use Rattle.audit_records.specs.Auditing.{Reached, Reaches, audited_record, audited_from}
 
 -- one record more

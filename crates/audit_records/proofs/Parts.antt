@@ -22,7 +22,7 @@ use Rattle.std.specs.Option.{option_map}
 use Rattle.std.specs.Prelude.{is_some}
 use Rattle.std.proofs.lemmas.Bool.{eqb-true, eq-eqb, false_from_ne_true, both_ways}
 use Rattle.std.proofs.lemmas.Slice.Eq.{bytes_eq-Decides}
-use Rattle.audit_held.specs.Known.{KeyPart, part_of_key, agrees, agrees_with, with_part, with_value}
+use Rattle.audit_situation.specs.Held.Known.{KeyPart, part_of_key, agrees, agrees_with, with_part, with_value}
 use Rattle.audit_records.specs.Auditing.{Reached, audited_steps, audited_record, audited_from, is_taken, reached_by, with_values}
 
 abbrev goes : Value → Value → Bool

@@ -13,7 +13,7 @@ use Rattle.audit_model.specs.Situation.{Situation, may_run_in}
 use Rattle.audit_model.specs.Steps.{Task, Store, Deliver, RunAgain, RunHeld, RunLines, is_right}
 use Rattle.audit_model.specs.declared.config.Config.{Config}
 use Rattle.audit_model.specs.declared.transcript.Step.{Step}
-use Rattle.audit_held.specs.Known.{KeyPart, agrees_with, with_value}
+use Rattle.audit_situation.specs.Held.Known.{KeyPart, agrees_with, with_value}
 use Rattle.audit_steps.specs.Judging.{IsJudged}
 use Rattle.audit_steps.specs.Showing.{runs_lines}
 use Rattle.audit_records.specs.Auditing.{Reached, Reaches, audited_steps}

@@ -14,7 +14,7 @@ use Rattle.audit_model.specs.declared.config.Config.{Config}
 use Rattle.audit_model.specs.declared.transcript.Record.{Record}
 use Rattle.audit_model.specs.declared.transcript.Step.{Step}
 use Rattle.audit_model.specs.declared.event.Event.{Event}
-use Rattle.audit_held.specs.Known.{KeyPart, agrees_with, with_value}
+use Rattle.audit_situation.specs.Held.Known.{KeyPart, agrees_with, with_value}
 use Rattle.audit_situation.specs.States.{shown_situation}
 use Rattle.audit_situation.specs.declared.state.State.{State}
 

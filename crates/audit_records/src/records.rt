@@ -16,10 +16,9 @@ use crate::admitting::is_taken;
 use crate::duties::{
     due_from, duties_to_deliver, duties_to_feed, duties_to_give_up, duty_at, left_from,
 };
-use audit_held::Parts;
+use audit_situation::{Parts, State, begin, close, feed, find_pending, is_holding, open, settle};
 use audit_laws::breaks_agree;
 use audit_model::{Bytes, Config, Event, Instant, Outcome, Record, Step, Transcript};
-use audit_situation::{State, begin, close, feed, find_pending, is_holding, open, settle};
 use audit_steps::{Duty, Shown, judge, show};
 use std::alloc::{AllocError, Global};
 

@@ -13,7 +13,7 @@ use crate::link::{Link, Moving, first_line};
 use crate::links::Links;
 use crate::loads::LoadTable;
 use crate::pending::Pending;
-use audit_held::Holding;
+use crate::held::Holding;
 use std::alloc::{AllocError, Global};
 
 /// What later steps depend on: the latest moment in nanoseconds, how many connections were opened and loads sent, the open connections, the

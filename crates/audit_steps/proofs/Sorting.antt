@@ -15,8 +15,8 @@ use Rattle.audit_model.specs.Bytewise.{same, is_before, text_line}
 use Rattle.audit_model.specs.Situation.{HeldValue, is_live_at, live_keys_at}
 use Rattle.audit_model.specs.Values.{put_sorted, sorted, without_key}
 use Rattle.audit_model.specs.declared.config.Config.{Config}
-use Rattle.audit_held.specs.Seeing.{held_of}
-use Rattle.audit_held.specs.declared.held.Seen.{Seen}
+use Rattle.audit_situation.specs.Held.Seeing.{held_of}
+use Rattle.audit_situation.specs.declared.held.held.Seen.{Seen}
 
 -- ---- a map of keys
 

@@ -8,8 +8,8 @@ use Rattle.audit_model.specs.History.{Value, share}
 use Rattle.audit_model.specs.Notes.{is_over}
 use Rattle.audit_model.specs.Situation.{HeldValue}
 use Rattle.audit_model.specs.declared.config.Config.{Config}
-use Rattle.audit_held.specs.Weights.{weight_of_part, values_of}
-use Rattle.audit_held.proofs.Weighing.{weight-cons}
+use Rattle.audit_situation.specs.Held.Weights.{weight_of_part, values_of}
+use Rattle.audit_situation.proofs.held.Weighing.{weight-cons}
 
 -- a part without values weighs nothing
 none-weighs : (part : ℕ) (vs : List Value) → list_any (λ v. v.part == part) vs ≡ false → weight_of_part part vs ≡ 0

@@ -13,15 +13,15 @@ use Rattle.audit_model.specs.Steps.{Task, PlacedStep, effect_in, has_right_notes
 use Rattle.audit_model.specs.View.{View}
 use Rattle.audit_model.specs.declared.config.Config.{Config}
 use Rattle.audit_model.specs.declared.transcript.Step.{Step}
-use Rattle.audit_notes.specs.After.{IsJustAccepted}
-use Rattle.audit_actions.specs.Doings.{action_of}
-use Rattle.audit_actions.specs.declared.doing.Doing.{Doing}
+use Rattle.audit_situation.specs.Notes.After.{IsJustAccepted}
+use Rattle.audit_situation.specs.Actions.Doings.{action_of}
+use Rattle.audit_situation.specs.declared.actions.doing.Doing.{Doing}
 use Rattle.audit_situation.specs.States.{shown_situation}
 use Rattle.audit_situation.specs.declared.state.State.{State}
 use Rattle.audit_steps.specs.Showing.{shown_step}
 use Rattle.audit_steps.specs.declared.accepting.Proposal.{Proposal}
 use Rattle.audit_steps.specs.declared.shown.Shown.{Shown}
-use Rattle.audit_held.specs.Known.{KeyPart, agrees_with, with_value}
+use Rattle.audit_situation.specs.Held.Known.{KeyPart, agrees_with, with_value}
 
 -- the step in its place, doing that and accepting that value
 abbrev pub placed_with : Config → Situation → Option Task → Action → Step → Option Value → PlacedStep

@@ -6,19 +6,16 @@ ghost use Rattle.audit_model.specs.Replies.{offered, offer_of, value_with};
 ghost use Rattle.audit_model.specs.Situation.{view_in};
 ghost use Rattle.audit_model.specs.Values.{own_deadline_from, after_ms};
 ghost use Rattle.audit_model.specs.declared.command.Command.TheVariants as says;
-ghost use Rattle.audit_notes.specs.After.{IsJustAccepted};
+ghost use Rattle.audit_situation.specs.Notes.After.{IsJustAccepted};
 ghost use Rattle.audit_situation.specs.States.{shown_situation};
 ghost use Rattle.audit_model.specs.declared.config.Config.{Config};
-ghost use Rattle.audit_actions.specs.Doings.{action_of};
-ghost use Rattle.audit_held.specs.Known.{agrees, agrees_with, with_part, with_value};
+ghost use Rattle.audit_situation.specs.Actions.Doings.{action_of};
+ghost use Rattle.audit_situation.specs.Held.Known.{agrees, agrees_with, with_part, with_value};
 ghost use Rattle.audit_steps.specs.Judging.{offer_from, AcceptsOffer, Accepts};
 
 use crate::replies::{accepts, digits_of, sum_with};
-use audit_actions::{Doing, found};
-use audit_held::{Held, Parts};
+use audit_situation::{Doing, Held, Parts, State, found, part_count};
 use audit_model::{Accepted, Bytes, Config, Outcome, Seq, Weight};
-use audit_notes::part_count;
-use audit_situation::State;
 use std::alloc::{AllocError, Global};
 
 /// A key with what it is to hold, and its milliseconds to live.

@@ -10,14 +10,13 @@ ghost use Rattle.audit_model.specs.Loads.{key_loaded};
 ghost use Rattle.audit_model.specs.Notes.{is_silent};
 ghost use Rattle.audit_model.specs.Steps.{action_by, may_hold, RunAgain, RunLines};
 ghost use Rattle.audit_model.specs.Stream.{is_held};
-ghost use Rattle.audit_notes.specs.Deeds.{covering_by, deed_with};
-ghost use Rattle.audit_actions.specs.Doings.{action_of};
+ghost use Rattle.audit_situation.specs.Notes.Deeds.{covering_by, deed_with};
+ghost use Rattle.audit_situation.specs.Actions.Doings.{action_of};
 ghost use Rattle.audit_steps.specs.Doings.{acting};
 
-use audit_actions::Doing;
+use audit_situation::{Covering, Deed, Doing};
 use audit_lines::{Request, read_line};
 use audit_model::Config;
-use audit_notes::{Covering, Deed};
 
 /// What a line does.
 pub fn do_line<'a>(config: &Config, line: &'a [u8]) -> Doing<'a>

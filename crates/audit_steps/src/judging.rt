@@ -8,11 +8,11 @@ ghost use Rattle.audit_model.specs.Notes.{is_silent, is_within};
 ghost use Rattle.audit_model.specs.Situation.{connection_in};
 ghost use Rattle.audit_model.specs.Steps.{Task, RunHeld};
 ghost use Rattle.audit_model.specs.View.{View};
-ghost use Rattle.audit_notes.specs.After.{IsJustAccepted};
-ghost use Rattle.audit_held.specs.Weights.{values_of};
-ghost use Rattle.audit_held.specs.Known.{with_value};
+ghost use Rattle.audit_situation.specs.Notes.After.{IsJustAccepted};
+ghost use Rattle.audit_situation.specs.Held.Weights.{values_of};
+ghost use Rattle.audit_situation.specs.Held.Known.{with_value};
 ghost use Rattle.audit_situation.specs.States.{shown_situation, have_numbers_apart};
-ghost use Rattle.audit_actions.specs.Doings.{action_of};
+ghost use Rattle.audit_situation.specs.Actions.Doings.{action_of};
 ghost use Rattle.audit_steps.specs.Doings.{passed_on};
 ghost use Rattle.audit_steps.specs.Judging.{placed_by, placed_in, is_fit, ends_rightly, agrees_and_ends, with_values_after, after_placed, syncs_so, Judges, JudgesStep};
 ghost use Rattle.audit_steps.specs.Showing.{shown_step, task_of};
@@ -22,11 +22,8 @@ use crate::doing::{deed_of, is_drop, is_hold, is_silent, is_sync, key_loaded, qu
 use crate::owing::replies_rightly;
 use crate::replies::{counts_of, is_said};
 use crate::shown::{Duty, Shown, do_due, is_duty_of, is_held_rightly, is_run_lines, is_store};
-use audit_actions::{Doing, loads_rightly};
-use audit_held::{Held, Holding, Parts};
+use audit_situation::{Doing, Held, Holding, Link, Moved, Moving, PARTS, Parts, State, do_deed, find_link, first_line, is_over, limit_of, loads_rightly, pass, waited};
 use audit_model::{Config, Note};
-use audit_notes::{PARTS, do_deed, is_over, limit_of};
-use audit_situation::{Link, Moved, Moving, State, find_link, first_line, pass, waited};
 use std::alloc::{AllocError, Global};
 
 /// The line that is due of a connection.

@@ -1,15 +1,14 @@
 //! The live keys in byte order.
 ghost use Rattle.std.specs.Prelude.{◌≡◌, ◌<◌, ◌++◌, ℕ, List, None, IfOk, OnOk, map, reverse, length, get_or};
 ghost use Rattle.std.specs.List.{concat, find};
-ghost use Rattle.audit_held.specs.Seeing.{held_of};
+ghost use Rattle.audit_situation.specs.Held.Seeing.{held_of};
 ghost use Rattle.audit_model.specs.Bytewise.{same, text_line};
 ghost use Rattle.audit_model.specs.Replies.{keys_listed};
 ghost use Rattle.audit_model.specs.Situation.{live_keys_at};
 ghost use Rattle.audit_model.specs.Values.{without_key};
 
-use audit_held::{Holding, Seen};
+use audit_situation::{Holding, Seen, is_live};
 use audit_model::Config;
-use audit_notes::is_live;
 use itoa::Buffer;
 use std::alloc::{AllocError, Global};
 use std::collections::BTreeMap;

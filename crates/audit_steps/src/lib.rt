@@ -9,6 +9,6 @@ mod owing;
 mod replies;
 mod shown;
 
-pub use audit_actions::Doing;
+pub use audit_situation::Doing;
 pub use judging::judge;
 pub use shown::{Duty, Shown, show};

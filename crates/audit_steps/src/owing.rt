@@ -6,7 +6,7 @@ ghost use Rattle.audit_model.specs.declared.command.Command.TheVariants as says;
 ghost use Rattle.audit_model.specs.Replies.{reply_of};
 ghost use Rattle.audit_model.specs.Situation.{view_in};
 ghost use Rattle.audit_situation.specs.States.{shown_situation};
-ghost use Rattle.audit_actions.specs.Doings.{action_of};
+ghost use Rattle.audit_situation.specs.Actions.Doings.{action_of};
 ghost use Rattle.audit_steps.specs.Judging.{reply_owed, is_owed_or_refusal, replies_so};
 
 use crate::doing::is_sync;
@@ -15,9 +15,8 @@ use crate::replies::{
     accepts, fault_text, is_said, ok_or_off, outcome_text, sum_or_error, sum_with, value_or_none,
     value_reply, yes_or_no,
 };
-use audit_actions::{Doing, found, may_refuse};
+use audit_situation::{Doing, State, found, may_refuse};
 use audit_model::Config;
-use audit_situation::State;
 use std::alloc::{AllocError, Global};
 
 /// The reply to an `ADD`.

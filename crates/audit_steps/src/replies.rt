@@ -4,10 +4,10 @@ ghost use Rattle.std.specs.Option.{option_eq};
 ghost use Rattle.audit_model.specs.Bytewise.{same, text_line};
 ghost use Rattle.audit_model.specs.History.{accepts_values};
 ghost use Rattle.audit_model.specs.Replies.{value_reply, value_or_none, yes_or_no, ok_or_off, sum_with, sum_or_error, fault_text, outcome_text, count_and_weight};
-ghost use Rattle.audit_held.specs.Seeing.{held_of};
-ghost use Rattle.audit_held.specs.Weights.{values_of};
+ghost use Rattle.audit_situation.specs.Held.Seeing.{held_of};
+ghost use Rattle.audit_situation.specs.Held.Weights.{values_of};
 
-use audit_held::{Holding, Seen};
+use audit_situation::{Holding, Seen};
 use audit_lines::number;
 use audit_model::{Config, LineError, Outcome};
 use itoa::Buffer;

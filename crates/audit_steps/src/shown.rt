@@ -2,11 +2,11 @@
 ghost use Rattle.std.specs.Prelude.{◌≡◌, ◌||◌, not, option_map, nat_le, if◌then◌else◌};
 ghost use Rattle.audit_model.specs.History.{Abandoning};
 ghost use Rattle.audit_model.specs.Steps.{action_in, action_of_line, is_task_of, may_hold};
-ghost use Rattle.audit_actions.specs.Doings.{action_of};
+ghost use Rattle.audit_situation.specs.Actions.Doings.{action_of};
 ghost use Rattle.audit_steps.specs.Showing.{shown_step, task_of, runs_lines, stores};
 
 use crate::doing::{do_line, is_hold};
-use audit_actions::Doing;
+use audit_situation::Doing;
 use audit_model::{Accepted, Config, Note, Outcome, Step};
 
 /// What a record shows of a step.

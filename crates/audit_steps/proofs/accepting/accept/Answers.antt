@@ -1,6 +1,6 @@
 use Rattle.std.proofs.Common.{sym, subst, None}
 use Rattle.std.specs.Option.{option_map}
-use Rattle.audit_actions.specs.Doings.{action_of}
+use Rattle.audit_situation.specs.Actions.Doings.{action_of}
 use Rattle.audit_steps.specs.Judging.{AcceptsOffer, Accepts}
 use Rattle.audit_situation.specs.States.{shown_situation}
 use Rattle.audit_steps.proofs.accepting.accept.Goals as goal

@@ -1,6 +1,6 @@
 use Rattle.std.proofs.Common.{◌≡◌, ◌∙◌, sym, subst, ◌<◌, ℕ, false, arith}
 use Rattle.audit_model.specs.Notes.{is_over}
-use Rattle.audit_held.specs.Weights.{values_of}
+use Rattle.audit_situation.specs.Held.Weights.{values_of}
 use Rattle.audit_steps.proofs.Within.{one-over, none-over}
 use Rattle.audit_steps.proofs.judging.are_within.Goals as goal
 

@@ -1,6 +1,6 @@
 use Rattle.std.proofs.Common.{◌≡◌, ◌<◌, ℕ, false}
 use Rattle.audit_model.specs.Notes.{is_over}
-use Rattle.audit_held.specs.Weights.{values_of}
+use Rattle.audit_situation.specs.Held.Weights.{values_of}
 use Rattle.audit_steps.proofs.judging.are_within.Given as goal
 
 abbrev pub invariant-loop-part : goal.invariant-loop-part

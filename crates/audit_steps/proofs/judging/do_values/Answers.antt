@@ -5,10 +5,10 @@ use Rattle.audit_model.specs.Commands.{deed_of, is_sync}
 use Rattle.audit_model.specs.Notes.{is_within}
 use Rattle.audit_model.specs.Situation.{view_in}
 use Rattle.audit_model.specs.Steps.{has_right_notes}
-use Rattle.audit_notes.specs.After.{has_true_notes}
-use Rattle.audit_held.specs.Weights.{values_of}
+use Rattle.audit_situation.specs.Notes.After.{has_true_notes}
+use Rattle.audit_situation.specs.Held.Weights.{values_of}
 use Rattle.audit_situation.specs.States.{shown_situation}
-use Rattle.audit_actions.specs.Doings.{action_of}
+use Rattle.audit_situation.specs.Actions.Doings.{action_of}
 use Rattle.audit_steps.specs.Judging.{placed_with, is_synced, reply_fits}
 use Rattle.audit_steps.specs.Showing.{shown_step}
 use Rattle.audit_steps.proofs.Judged.{first-wrong, second-wrong, both-right, values-after}

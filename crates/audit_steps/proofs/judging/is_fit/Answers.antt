@@ -1,7 +1,7 @@
 use Rattle.std.proofs.Common.{◌∙◌}
 use Rattle.std.specs.Option.{option_map}
 use Rattle.audit_situation.specs.States.{shown_situation}
-use Rattle.audit_actions.specs.Doings.{action_of}
+use Rattle.audit_situation.specs.Actions.Doings.{action_of}
 use Rattle.audit_steps.specs.Judging.{placed_by}
 use Rattle.audit_steps.specs.Showing.{shown_step, task_of}
 use Rattle.audit_steps.proofs.Judged.{all-same}

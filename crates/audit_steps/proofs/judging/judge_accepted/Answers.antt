@@ -2,10 +2,10 @@ use Rattle.std.proofs.Common.{◌≡◌, ◌∙◌, ◌&&◌, ap, sym, subst, tr
 use Rattle.std.specs.Prelude.{IfOk}
 use Rattle.std.specs.Option.{option_map}
 use Rattle.audit_model.specs.Steps.{has_right_notes}
-use Rattle.audit_notes.proofs.Passing.{copied}
+use Rattle.audit_situation.proofs.notes.Passing.{copied}
 use Rattle.audit_situation.specs.States.{shown_situation}
-use Rattle.audit_actions.specs.Doings.{action_of}
-use Rattle.audit_held.specs.Known.{agrees_with, with_value}
+use Rattle.audit_situation.specs.Actions.Doings.{action_of}
+use Rattle.audit_situation.specs.Held.Known.{agrees_with, with_value}
 use Rattle.audit_steps.specs.Judging.{placed_with, is_synced}
 use Rattle.audit_steps.specs.Showing.{shown_step, task_of}
 use Rattle.audit_steps.proofs.Judged.{first-wrong, if-ok-always}

@@ -5,8 +5,8 @@ use Rattle.audit_model.specs.Replies.{offer_of}
 use Rattle.audit_model.specs.Situation.{view_in}
 use Rattle.audit_model.specs.Steps.{has_right_notes}
 use Rattle.audit_situation.specs.States.{shown_situation}
-use Rattle.audit_actions.specs.Doings.{action_of}
-use Rattle.audit_held.specs.Known.{agrees_with, with_value}
+use Rattle.audit_situation.specs.Actions.Doings.{action_of}
+use Rattle.audit_situation.specs.Held.Known.{agrees_with, with_value}
 use Rattle.audit_steps.specs.Judging.{placed_by, placed_with, is_synced, AcceptsOffer}
 use Rattle.audit_steps.specs.Showing.{shown_step, task_of}
 use Rattle.audit_steps.proofs.Judged.{wrong-fit, wrong-acceptance, right-of, if-ok-three}

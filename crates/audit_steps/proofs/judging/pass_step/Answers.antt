@@ -3,7 +3,7 @@ use Rattle.std.specs.Option.{option_map}
 use Rattle.audit_model.specs.Commands.{quits}
 use Rattle.audit_model.specs.Stream.{is_held}
 use Rattle.audit_situation.specs.States.{shown_situation, moved_in}
-use Rattle.audit_actions.specs.Doings.{action_of}
+use Rattle.audit_situation.specs.Actions.Doings.{action_of}
 use Rattle.audit_steps.specs.Doings.{acting}
 use Rattle.audit_steps.specs.Showing.{shown_step, task_of, runs_lines}
 use Rattle.std.specs.Prelude.{is_some, OnOk}

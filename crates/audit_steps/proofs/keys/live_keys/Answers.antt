@@ -1,6 +1,6 @@
 use Rattle.std.proofs.Common.{ap, ◌∙◌, sym, take, map, reverse}
 use Rattle.audit_model.specs.Situation.{live_keys_at}
-use Rattle.audit_held.specs.Seeing.{held_of}
+use Rattle.audit_situation.specs.Held.Seeing.{held_of}
 use Rattle.audit_steps.proofs.Sorting.{texts, live-more, live-put, put_if}
 use Rattle.audit_steps.proofs.keys.live_keys.Goals as goal
 use Rattle.audit_steps.proofs.keys.live_keys.Goals.{then-is_live+in_ok-insert, else-is_live}

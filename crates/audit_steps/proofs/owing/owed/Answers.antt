@@ -2,7 +2,7 @@ use Rattle.std.proofs.Common.{ap, ◌∙◌, sym}
 use Rattle.audit_model.specs.Replies.{reply_of}
 use Rattle.audit_model.specs.Situation.{view_in}
 use Rattle.audit_situation.specs.States.{shown_situation}
-use Rattle.audit_actions.specs.Doings.{action_of}
+use Rattle.audit_situation.specs.Actions.Doings.{action_of}
 use Rattle.audit_steps.proofs.Judged.{if-ok}
 use Rattle.audit_steps.proofs.owing.owed.Goals as goal
 

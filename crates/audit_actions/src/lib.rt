@@ -1,8 +1,0 @@
-//! What a step of a transcript does, and the load that it owes.
-#![tactic(auto)]
-
-mod doing;
-mod owing;
-
-pub use doing::Doing;
-pub use owing::{found, loads_rightly, may_refuse};

@@ -1,7 +1,0 @@
-use Rattle.std.proofs.Common.{ap, ◌∙◌}
-use Rattle.audit_held.specs.Known.{part_of_key}
-use Rattle.audit_held.proofs.Keyed.{lookup_is}
-use Rattle.audit_held.proofs.parts.Parts.get.Goals as goal
-
-pub returns : goal.returns
-returns c = c.copied.ensures ∙ c.peek.ensures ∙ lookup_is c.args.key.now c.self.inside.cache.entries ∙ ap (λ xs. part_of_key xs c.args.key.now) c.self.view_is

@@ -1,7 +1,0 @@
-use Rattle.std.proofs.Common.{ap, ◌∙◌}
-use Rattle.audit_held.specs.Slots.{slot_at}
-use Rattle.audit_held.proofs.Listing.{lent_is}
-use Rattle.audit_held.proofs.table.Table.get.Goals as goal
-
-pub returns : goal.returns
-returns c = lent_is c.args.key.now c.self.inside.cache.entries c.peek.result c.self.inside.apart c.peek.ensures ∙ ap (slot_at c.args.key.now) c.self.view_is

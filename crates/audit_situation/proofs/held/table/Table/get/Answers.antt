@@ -1,0 +1,7 @@
+use Rattle.std.proofs.Common.{ap, ◌∙◌}
+use Rattle.audit_situation.specs.Held.Slots.{slot_at}
+use Rattle.audit_situation.proofs.held.Listing.{lent_is}
+use Rattle.audit_situation.proofs.held.table.Table.get.Goals as goal
+
+pub returns : goal.returns
+returns c = lent_is c.args.key.now c.self.inside.cache.entries c.peek.result c.self.inside.apart c.peek.ensures ∙ ap (slot_at c.args.key.now) c.self.view_is

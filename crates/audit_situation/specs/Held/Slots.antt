@@ -1,0 +1,49 @@
+-- What a table has.
+use Rattle.std.specs.Prelude.{ℕ, Bool, true, not, ◌&&◌, List, [], ◌∷◌, ◌++◌, Option, if◌then◌else◌}
+use Rattle.std.specs.List.{find, list_all}
+use Rattle.std.specs.declared.vec.Vec.{Vec}
+use Rattle.std.specs.declared.alloc.Global.{Global}
+use Rattle.audit_model.specs.Bytewise.{same}
+use Rattle.audit_model.specs.History.{Value}
+use Rattle.audit_model.specs.Values.{without_key}
+use Rattle.audit_situation.specs.declared.held.kept.StoredValue.{StoredValue}
+
+-- a value with its last use, and the number by which it is told from values accepted later
+pub record Slot : Type 0 where
+  pub value : Value
+  pub last_use : ℕ
+  pub stamp : ℕ
+
+-- a key with what is kept beside it
+abbrev pub slot_of : List ℕ → StoredValue → Slot
+slot_of key kept =
+    record { value = record { key = key; bytes = kept.bytes; part = kept.part; weight = kept.weight; accepted_at = kept.accepted_at; own_deadline = kept.own_deadline }; last_use = kept.last_use; stamp = kept.stamp }
+
+abbrev pub Entry : Type 0
+Entry = Vec ℕ Global × StoredValue
+
+-- the entries, of which the newest comes first, as slots, oldest first
+abbrev pub slots_of : List Entry → List Slot
+slots_of [] = []
+slots_of (e ∷ es) = slots_of es ++ slot_of e.0.items e.1 ∷ []
+
+-- the key's slot
+abbrev pub slot_at : List ℕ → List Slot → Option Slot
+slot_at key slots = find (λ s. same key s.value.key) slots
+
+-- the slots but the key's
+abbrev pub slots_without : List ℕ → List Slot → List Slot
+slots_without key slots = without_key (λ s. s.value.key) key slots
+
+-- the key's slot is used at that moment
+abbrev pub slot_used_at : List ℕ → ℕ → Slot → Slot
+slot_used_at key now s = if same key s.value.key then record s { last_use = now } else s
+
+-- none of the entries has the key
+abbrev pub is_new_key : List ℕ → List Entry → Bool
+is_new_key key es = list_all (λ e. not (same key e.0.items)) es
+
+-- no key twice
+abbrev pub have_keys_apart : List Entry → Bool
+have_keys_apart [] = true
+have_keys_apart (e ∷ es) = is_new_key e.0.items es && have_keys_apart es

@@ -1,0 +1,73 @@
+-- What a step's notes are judged by.
+use Rattle.std.specs.Prelude.{◌≡◌, ℕ, Bool, true, List, [], ◌++◌, map, Option, if◌then◌else◌}
+use Rattle.std.specs.Option.{option_map, option_to_list}
+use Rattle.audit_model.specs.Commands.{Deed}
+use Rattle.audit_model.specs.History.{Value}
+use Rattle.audit_model.specs.Situation.{HeldValue, candidate_at}
+use Rattle.audit_model.specs.Notes.{are_true_notes, is_true_note}
+use Rattle.audit_model.specs.Values.{untold, without_key}
+use Rattle.audit_model.specs.View.{Candidate}
+use Rattle.audit_model.specs.declared.config.Config.{Config}
+use Rattle.audit_model.specs.declared.transcript.Note.{Note}
+use Rattle.audit_situation.specs.Held.Seeing.{held_of}
+use Rattle.audit_situation.specs.Notes.Deeds.{deed_with}
+use Rattle.audit_situation.specs.Notes.Weights.{AreOverfilled}
+use Rattle.audit_situation.specs.declared.notes.deed.Deed.{Deed as Done}
+use Rattle.audit_situation.specs.declared.notes.notes.Scene.{Scene}
+use Rattle.audit_situation.specs.declared.notes.notes.Candidate.{Candidate as Told}
+
+-- what is true of a value that may be told
+abbrev pub told_candidate : Config → ℕ → Told → Candidate
+told_candidate config now c = record (candidate_at config now (held_of c.seen)) { new = c.new }
+
+-- what is true of a value that the step accepts
+abbrev pub new_candidate_at : Config → ℕ → HeldValue → Candidate
+new_candidate_at config now h = record (candidate_at config now h) { new = true }
+
+-- the value that the step accepts
+abbrev pub newcomer_in : Scene → Option HeldValue
+newcomer_in scene = option_map (λ h. h.now) scene.newcomer
+
+abbrev pub deed_in : Scene → Deed
+deed_in scene = deed_with scene.deed (option_map (λ h. h.value) (newcomer_in scene))
+
+abbrev pub candidate_in : Scene → Told → Candidate
+candidate_in scene c = told_candidate scene.config.now scene.moment c
+
+-- the value that the step accepts, while no note has told it
+abbrev pub rest_of : Bool → Option HeldValue → List HeldValue
+rest_of left newcomer = if left then option_to_list newcomer else []
+
+-- the values that may still be told
+abbrev pub may_be_told : Config → ℕ → List HeldValue → List HeldValue → List Candidate
+may_be_told config now held rest = map (candidate_at config now) held ++ map (new_candidate_at config now) rest
+
+-- the same in a scene
+abbrev pub candidates_in : Scene → List HeldValue → Bool → List Candidate
+candidates_in scene held left = may_be_told scene.config.now scene.moment held (rest_of left (newcomer_in scene))
+
+-- these were the values held before the step
+abbrev pub IsBefore : Scene → List Candidate → Type 0
+IsBefore scene before = AreOverfilled scene.config.now before (deed_in scene) scene.overfilled.now
+
+-- the value that the step accepts, while no note has told it, as it may be told
+abbrev pub new_candidates_in : Scene → Bool → List Candidate
+new_candidates_in scene left = map (new_candidate_at scene.config.now scene.moment) (rest_of left (newcomer_in scene))
+
+-- whether the note is true, if that is the value of which it is, is the answer
+abbrev pub IsTrueNoteOf : Scene → Note → Option Candidate → Bool → Type 0
+IsTrueNoteOf scene note told answer = (before : List Candidate) → IsBefore scene before → answer ≡ is_true_note scene.config.now before (deed_in scene) note told
+
+-- the notes of a step are true that does that and accepts that value
+abbrev pub are_told_rightly : Config → ℕ → List HeldValue → Done → Option HeldValue → List Note → Bool
+are_told_rightly config now held done newcomer notes =
+    are_true_notes config (map (candidate_at config now) held) (deed_with done (option_map (λ h. h.value) newcomer)) (may_be_told config now held (option_to_list newcomer)) notes
+
+-- the values are left that no note tells
+abbrev pub LeavesUntold : List Note → Option HeldValue → List HeldValue → List HeldValue → Bool → Type 0
+LeavesUntold notes newcomer old new left = new ++ rest_of left newcomer ≡ untold (λ h. h.value.key) notes (old ++ option_to_list newcomer)
+
+-- the key's first value was taken
+pub record TakesFirstValue (scene : Scene) (key : List ℕ) (held : List HeldValue) (left : Bool) (others : List HeldValue) (leaves : Bool) : Type 0 where
+  pub told : candidates_in scene others leaves ≡ without_key (λ c. c.value.key) key (candidates_in scene held left)
+  pub all : others ++ rest_of leaves (newcomer_in scene) ≡ without_key (λ h. h.value.key) key (held ++ rest_of left (newcomer_in scene))

@@ -1,0 +1,79 @@
+//! The map from keys to parts.
+ghost use Rattle.std.specs.Prelude.{◌≡◌, ◌∷◌, ◌^◌, ◌-◌, [], true, None, IfOk, OnOk};
+ghost use Rattle.audit_situation.specs.Held.Known.{parts_of, part_of_key, agrees, with_part};
+
+use lru::LruCache;
+use std::alloc::{AllocError, Global};
+use std::marker::Model;
+
+/// More keys than any memory has.
+const MANY: usize = 1 << 50;
+
+/// Keys with their parts, seen as the list of them, the last one first.
+#[derive(Drop)]
+pub struct Parts {
+    alloc: Global,
+    cache: LruCache<Vec<u8>, u64>,
+    ghost unbounded: { cache.cap ≡ 2 ^ 64 - 1 },
+}
+
+impl Model for Parts {
+    ghost use Rattle.std.specs.Prelude.{List};
+    ghost use Rattle.audit_situation.specs.Held.Known.{KeyPart, parts_of};
+
+    ghost Value = { List KeyPart };
+
+    ghost view = { λ p. parts_of p.cache.entries };
+}
+
+impl Parts {
+    /// No keys.
+    pub fn new(alloc: Global) -> Result<Parts, AllocError>
+        ensures { IfOk result (λ p. p ≡ []) }
+    {
+        Ok(Parts {
+            alloc,
+            cache: LruCache::unbounded(alloc)?,
+        })
+    }
+
+    /// The part of a key.
+    pub fn get(&self, key: &[u8]) -> Option<u64>
+        ensures { result ≡ part_of_key self.now key.now }
+    {
+        self.cache.peek(key).copied()
+    }
+
+    /// Whether a key has that part, or none yet.
+    pub fn agrees(&self, key: &[u8], part: u64) -> bool
+        ensures { result ≡ agrees self.now key.now part }
+    {
+        match self.get(key) {
+            Some(known) => known == part,
+            None => true,
+        }
+    }
+
+    /// Adds a key that has no part.
+    fn insert(&mut self, key: Vec<u8>, part: u64) -> Result<(), AllocError>
+        requires { part_of_key self.old key.items ≡ None }
+        ensures { OnOk result (self.new ≡ record { key = key.items; part = part } ∷ self.old) }
+    {
+        if self.cache.len() >= MANY {
+            return Err(AllocError);
+        }
+        self.cache.put(key, part)?;
+        Ok(())
+    }
+
+    /// Keeps the part of a key, if it had none.
+    pub fn keep(&mut self, key: &[u8], part: u64) -> Result<(), AllocError>
+        ensures { OnOk result (self.new ≡ with_part self.old key.now part) }
+    {
+        if self.get(key).is_none() {
+            let key = Vec::from_slice(self.alloc, key)?;
+            self.insert(key, part)?;
+        }
+        Ok(())
+    }
+}
