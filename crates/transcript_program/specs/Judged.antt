@@ -2,8 +2,8 @@
 use Rattle.std.specs.Prelude.{◌≡◌, ℕ, List}
 use Rattle.audit_model.specs.declared.config.Config.{Config}
 use Rattle.audit_model.specs.declared.transcript.Transcript.{Transcript}
-use Rattle.audit_records.specs.Verdicts.{IsJust}
-use Rattle.audit_records.specs.declared.auditing.Verdict.{Verdict}
+use Rattle.moka_audit.specs.Records.Verdicts.{IsJust}
+use Rattle.moka_audit.specs.declared.records.auditing.Verdict.{Verdict}
 use Rattle.audit_text_reader.specs.Lines.{kept}
 use Rattle.audit_text.specs.Text.{transcript_text}
 

@@ -1,0 +1,223 @@
+//! Which value a step accepts, and into which part.
+ghost use Rattle.std.specs.Prelude.{◌≡◌, ◌<◌, ◌++◌, ◌∷◌, [], IfOk, IfSome, ℕ, None, true, option_map, Some};
+ghost use Rattle.audit_model.specs.Changes.{newly_held};
+ghost use Rattle.audit_model.specs.History.{Running, weight_of};
+ghost use Rattle.audit_model.specs.Replies.{offered, offer_of, value_with};
+ghost use Rattle.audit_model.specs.Situation.{view_in};
+ghost use Rattle.audit_model.specs.Values.{own_deadline_from, after_ms};
+ghost use Rattle.audit_model.specs.declared.command.Command.TheVariants as says;
+ghost use Rattle.audit_situation.specs.Notes.After.{IsJustAccepted};
+ghost use Rattle.audit_situation.specs.States.{shown_situation};
+ghost use Rattle.audit_model.specs.declared.config.Config.{Config};
+ghost use Rattle.audit_situation.specs.Actions.Doings.{action_of};
+ghost use Rattle.audit_situation.specs.Held.Known.{agrees, agrees_with, with_part, with_value};
+ghost use Rattle.moka_audit.specs.Steps.Judging.{offer_from, AcceptsOffer, Accepts};
+
+use crate::steps::replies::{accepts, digits_of, sum_with};
+use audit_situation::{Doing, Held, Parts, State, found, part_count};
+use audit_model::{Accepted, Bytes, Config, Outcome, Seq, Weight};
+use std::alloc::{AllocError, Global};
+
+/// A key with what it is to hold, and its milliseconds to live.
+#[derive(Drop)]
+pub struct Proposal {
+    pub key: Bytes,
+    pub bytes: Bytes,
+    pub ms: Option<u64>,
+}
+
+/// What a step would have accepted, if values are.
+fn offered(
+    alloc: Global,
+    config: &Config,
+    s: &State,
+    doing: Doing<'_>,
+) -> Result<Option<Proposal>, AllocError>
+    ensures { IfOk result (λ o. option_map offer_from o ≡ offered (view_in config.now (shown_situation s.now)) (action_of doing.entry)) }
+{
+    match doing {
+        Doing::Set { key, ms, value } => offer_some(alloc, key, value, ms),
+        Doing::Add { key, ms, number } => offered_sum(alloc, config, s, key, ms, number),
+        Doing::Store(Some(key), Outcome::Value(bytes, ms)) => {
+            offer_some(alloc, key, bytes.as_slice(), *ms)
+        }
+        Doing::Store(Some(_), Outcome::None) => Ok(None),
+        Doing::Store(Some(_), Outcome::Fault(_)) => Ok(None),
+        Doing::Store(None, _) => Ok(None),
+        Doing::Get { .. } | Doing::Has { .. } | Doing::Load { .. } | Doing::Del { .. } => Ok(None),
+        Doing::Clear | Doing::DropIf { .. } | Doing::Keys | Doing::Sync => Ok(None),
+        Doing::Quit | Doing::Fault(_) | Doing::Hold | Doing::Deliver(_) => Ok(None),
+        Doing::Abandon => Ok(None),
+    }
+}
+
+/// An offer of those bytes.
+fn offer(alloc: Global, key: &[u8], bytes: &[u8], ms: Option<u64>) -> Result<Proposal, AllocError>
+    ensures { IfOk result (λ o. o ≡ record { key = key.now; bytes = bytes.now; ms = ms }) }
+{
+    let key = Seq::from_vec(Vec::from_slice(alloc, key)?);
+    let bytes = Seq::from_vec(Vec::from_slice(alloc, bytes)?);
+    Ok(Proposal { key, bytes, ms })
+}
+
+/// The same, where one may be missing.
+fn offer_some(
+    alloc: Global,
+    key: &[u8],
+    bytes: &[u8],
+    ms: Option<u64>,
+) -> Result<Option<Proposal>, AllocError>
+    ensures { IfOk result (λ o. option_map offer_from o ≡ Some (record { key = key.now; bytes = bytes.now; ms = ms })) }
+{
+    Ok(Some(offer(alloc, key, bytes, ms)?))
+}
+
+/// What an `ADD` would have accepted.
+fn offered_sum(
+    alloc: Global,
+    config: &Config,
+    s: &State,
+    key: &[u8],
+    ms: Option<u64>,
+    number: u64,
+) -> Result<Option<Proposal>, AllocError>
+    ensures { IfOk result (λ o. option_map offer_from o ≡ offered (view_in config.now (shown_situation s.now)) (Running (says.Add key.now ms number))) }
+{
+    match sum_with(found(config, s, key), number) {
+        Some(sum) => {
+            let digits = digits_of(alloc, sum)?;
+            offer_some(alloc, key, digits.as_slice(), ms)
+        }
+        None => Ok(None),
+    }
+}
+
+/// What a step offers.
+fn offer_of(
+    alloc: Global,
+    config: &Config,
+    s: &State,
+    doing: Doing<'_>,
+) -> Result<Option<Proposal>, AllocError>
+    ensures { IfOk result (λ o. option_map offer_from o ≡ offer_of config.now (view_in config.now (shown_situation s.now)) (action_of doing.entry)) }
+{
+    if accepts(config) {
+        offered(alloc, config, s, doing)
+    } else {
+        Ok(None)
+    }
+}
+
+/// What a value of those bytes weighs.
+fn weight_of(weight: Weight, bytes: &[u8]) -> u64
+    ensures { result ≡ weight_of weight bytes.now }
+{
+    match weight {
+        Weight::One => 1,
+        Weight::Bytes => bytes.len() as u64,
+    }
+}
+
+/// The own deadline of a value that is accepted at a moment with so many milliseconds to live, in nanoseconds.
+fn own_deadline(now: u64, ms: Option<u64>) -> Result<Option<u64>, AllocError>
+    ensures { IfOk result (λ o. o ≡ own_deadline_from now ms) }
+{
+    match ms {
+        Some(ms) => match deadline_after(now, ms) {
+            Some(end) => Ok(Some(end - end % 4096)),
+            None => Err(AllocError),
+        },
+        None => Ok(None),
+    }
+}
+
+/// The moment so many milliseconds later, in nanoseconds, where it is a number of 64 bits.
+fn deadline_after(now: u64, ms: u64) -> Option<u64>
+    ensures { IfSome result (λ end. end ≡ after_ms now ms) }
+{
+    let nanos = ms.checked_mul(1_000_000)?;
+    now.checked_add(nanos)
+}
+
+/// The value that an offer becomes in a part.
+fn held_from(config: &Config, now: u64, part: u64, offer: Proposal) -> Result<Held, AllocError>
+    ensures { IfOk result (λ h. h ≡ newly_held (value_with config.now now part (offer_from offer))) }
+{
+    let own = own_deadline(now, offer.ms)?;
+    let weight = weight_of(config.weight, offer.bytes.as_slice());
+    Ok(Held::accepted(offer.key, offer.bytes, part, weight, now, own))
+}
+
+/// The value that a step accepts, if any; none of these where it accepts wrongly.
+pub fn accept(
+    alloc: Global,
+    config: &Config,
+    s: &State,
+    doing: Doing<'_>,
+    accepted: Option<Accepted>,
+) -> Result<Option<Option<Held>>, AllocError>
+    ensures accepts { IfOk result (Accepts config.now (shown_situation s.now) (action_of doing.entry) (option_map (λ a. a.part) accepted)) }
+    ensures small { IfOk result (λ taken. IfSome taken (λ newcomer. IfSome newcomer (λ h. h.value.part < 256))) }
+{
+    let offer = offer_of(alloc, config, s, doing)?;
+    match accepted {
+        None => Ok(none_for(offer)),
+        Some(accepted) => take(config, s.latest, accepted.part, offer),
+    }
+}
+
+/// What a step accepts that shows no part.
+fn none_for(offer: Option<Proposal>) -> Option<Option<Held>>
+    ensures takes { (config : Config) (now : ℕ) → AcceptsOffer config now None (option_map offer_from offer) result }
+    ensures none { IfSome result (λ newcomer. newcomer ≡ None) }
+{
+    match offer {
+        Some(_) => None,
+        None => Some(None),
+    }
+}
+
+/// What a step accepts that shows that part.
+fn take(
+    config: &Config,
+    now: u64,
+    part: u64,
+    offer: Option<Proposal>,
+) -> Result<Option<Option<Held>>, AllocError>
+    ensures takes { IfOk result (AcceptsOffer config.now now (Some part) (option_map offer_from offer)) }
+    ensures small { IfOk result (λ taken. IfSome taken (λ newcomer. IfSome newcomer (λ h. h.value.part < 256))) }
+{
+    match offer {
+        Some(offer) => {
+            if part < part_count(config) {
+                Ok(Some(Some(held_from(config, now, part, offer)?)))
+            } else {
+                Ok(None)
+            }
+        }
+        None => Ok(None),
+    }
+}
+
+/// Keeps the part of a value that is accepted, and answers whether its key has no other.
+pub fn admit(parts: &mut Parts, newcomer: Option<&Held>) -> Result<bool, AllocError>
+    ensures agrees { IfOk result (λ b. b ≡ agrees_with parts.old (option_map (λ h. h.now.value) newcomer.entry)) }
+    ensures kept { IfOk result (λ b. b ≡ true → parts.new ≡ with_value parts.old (option_map (λ h. h.now.value) newcomer.entry)) }
+{
+    match newcomer {
+        Some(held) => admit_value(parts, held),
+        None => Ok(true),
+    }
+}
+
+/// The same of one value.
+fn admit_value(parts: &mut Parts, held: &Held) -> Result<bool, AllocError>
+    ensures agrees { IfOk result (λ b. b ≡ agrees parts.old held.now.value.key held.now.value.part) }
+    ensures kept { IfOk result (λ b. b ≡ true → parts.new ≡ with_part parts.old held.now.value.key held.now.value.part) }
+{
+    if !parts.agrees(held.key(), held.part()) {
+        return Ok(false);
+    }
+    parts.keep(held.key(), held.part())?;
+    Ok(true)
+}

@@ -1,0 +1,212 @@
+//! What a step does.
+ghost use Rattle.std.specs.Prelude.{◌≡◌, Option, Some, ℕ, List, option_map, false, codes, if◌then◌else◌};
+ghost use Rattle.std.specs.Option.{option_map_or};
+ghost use Rattle.audit_model.specs.Bytewise.{same, text_line};
+ghost use Rattle.audit_model.specs.Commands.{is_sync, key_used, key_deleted, drops, quits, deed_of, Nothing, Prefixed};
+ghost use Rattle.audit_model.specs.Commands.{covering_of as covers_by};
+ghost use Rattle.audit_model.specs.Grammar.{reading};
+ghost use Rattle.audit_model.specs.History.{Value};
+ghost use Rattle.audit_model.specs.Loads.{key_loaded};
+ghost use Rattle.audit_model.specs.Notes.{is_silent};
+ghost use Rattle.audit_model.specs.Steps.{action_by, may_hold, RunAgain, RunLines};
+ghost use Rattle.audit_model.specs.Stream.{is_held};
+ghost use Rattle.audit_situation.specs.Notes.Deeds.{covering_by, deed_with};
+ghost use Rattle.audit_situation.specs.Actions.Doings.{action_of};
+ghost use Rattle.moka_audit.specs.Steps.Doings.{acting};
+
+use audit_situation::{Covering, Deed, Doing};
+use audit_lines::{Request, read_line};
+use audit_model::Config;
+
+/// What a line does.
+pub fn do_line<'a>(config: &Config, line: &'a [u8]) -> Doing<'a>
+    ensures { action_of result ≡ action_by (reading config.now line.now) }
+{
+    match read_line(config, line) {
+        Request::Set {
+            key,
+            deadline,
+            value,
+        } => Doing::Set {
+            key,
+            ms: deadline,
+            value,
+        },
+        Request::Get { key } => Doing::Get { key },
+        Request::Has { key } => Doing::Has { key },
+        Request::Load { key } => Doing::Load { key },
+        Request::Del { key } => Doing::Del { key },
+        Request::Add {
+            key,
+            deadline,
+            number,
+        } => Doing::Add {
+            key,
+            ms: deadline,
+            number,
+        },
+        Request::Clear => Doing::Clear,
+        Request::DropIf { prefix } => Doing::DropIf { prefix },
+        Request::Keys => Doing::Keys,
+        Request::Sync => Doing::Sync,
+        Request::Quit => Doing::Quit,
+        Request::Fault(error) => Doing::Fault(error),
+    }
+}
+
+/// The key that a step looks up.
+fn key_used<'a>(doing: Doing<'a>) -> Option<&'a [u8]>
+    ensures { option_map (λ k. k.now) result ≡ key_used (action_of doing.entry) }
+{
+    match doing {
+        Doing::Get { key } => Some(key),
+        Doing::Load { key } => Some(key),
+        Doing::Add { key, .. } => Some(key),
+        Doing::Set { .. } | Doing::Has { .. } | Doing::Del { .. } | Doing::Clear => None,
+        Doing::DropIf { .. } | Doing::Keys | Doing::Sync | Doing::Quit => None,
+        Doing::Fault(_) | Doing::Hold | Doing::Deliver(_) | Doing::Abandon => None,
+        Doing::Store(_, _) => None,
+    }
+}
+
+/// The key whose value a step deletes.
+fn key_deleted<'a>(doing: Doing<'a>) -> Option<&'a [u8]>
+    ensures { option_map (λ k. k.now) result ≡ key_deleted (action_of doing.entry) }
+{
+    match doing {
+        Doing::Del { key } => Some(key),
+        Doing::Set { .. } | Doing::Get { .. } | Doing::Has { .. } | Doing::Load { .. } => None,
+        Doing::Add { .. } | Doing::Clear | Doing::DropIf { .. } | Doing::Keys => None,
+        Doing::Sync | Doing::Quit | Doing::Fault(_) | Doing::Hold => None,
+        Doing::Deliver(_) | Doing::Abandon | Doing::Store(_, _) => None,
+    }
+}
+
+/// The key of a `LOAD`.
+pub fn key_loaded<'a>(doing: Doing<'a>) -> Option<&'a [u8]>
+    ensures { option_map (λ k. k.now) result ≡ key_loaded (action_of doing.entry) }
+{
+    match doing {
+        Doing::Load { key } => Some(key),
+        Doing::Set { .. } | Doing::Get { .. } | Doing::Has { .. } | Doing::Del { .. } => None,
+        Doing::Add { .. } | Doing::Clear | Doing::DropIf { .. } | Doing::Keys => None,
+        Doing::Sync | Doing::Quit | Doing::Fault(_) | Doing::Hold => None,
+        Doing::Deliver(_) | Doing::Abandon | Doing::Store(_, _) => None,
+    }
+}
+
+/// Whether a reply is `OK`.
+fn is_ok(reply: Option<&[u8]>) -> bool
+    ensures { result ≡ option_map_or (λ r. same r (text_line (codes "OK"))) (option_map (λ r. r.now) reply.entry) false }
+{
+    match reply {
+        Some(reply) => reply == b"OK\n".as_slice(),
+        None => false,
+    }
+}
+
+/// Which keys a step with that reply covers.
+fn covering<'a>(doing: Doing<'a>, reply: Option<&[u8]>) -> Covering<'a>
+    ensures { (load : Option ℕ) → covering_by result ≡ covers_by (acting (action_of doing.entry) (option_map (λ r. r.now) reply.entry) load) }
+{
+    match doing {
+        Doing::Clear => Covering::Everything,
+        Doing::DropIf { prefix } => covering_prefix(prefix, is_ok(reply)),
+        Doing::Set { .. } | Doing::Get { .. } | Doing::Has { .. } | Doing::Load { .. } => {
+            Covering::Nothing
+        }
+        Doing::Del { .. } | Doing::Add { .. } | Doing::Keys | Doing::Sync => Covering::Nothing,
+        Doing::Quit | Doing::Fault(_) | Doing::Hold | Doing::Deliver(_) => Covering::Nothing,
+        Doing::Abandon | Doing::Store(_, _) => Covering::Nothing,
+    }
+}
+
+/// What a `DROPIF` covers, that was accepted or not.
+fn covering_prefix<'a>(prefix: &'a [u8], accepted: bool) -> Covering<'a>
+    ensures { covering_by result ≡ (if accepted then Prefixed prefix.now else Nothing) }
+{
+    if accepted {
+        Covering::Prefixed(prefix)
+    } else {
+        Covering::Nothing
+    }
+}
+
+/// Whether a step is a `SYNC`.
+pub fn is_sync(doing: Doing<'_>) -> bool
+    ensures { result ≡ is_sync (action_of doing.entry) }
+{
+    match doing {
+        Doing::Sync => true,
+        Doing::Set { .. } | Doing::Get { .. } | Doing::Has { .. } | Doing::Load { .. } => false,
+        Doing::Del { .. } | Doing::Add { .. } | Doing::Clear | Doing::DropIf { .. } => false,
+        Doing::Keys | Doing::Quit | Doing::Fault(_) | Doing::Hold => false,
+        Doing::Deliver(_) | Doing::Abandon | Doing::Store(_, _) => false,
+    }
+}
+
+/// Whether a step is a `QUIT`.
+pub fn quits(doing: Doing<'_>) -> bool
+    ensures { (reply : Option (List ℕ)) (load : Option ℕ) → result ≡ quits (acting (action_of doing.entry) reply load) }
+{
+    match doing {
+        Doing::Quit => true,
+        Doing::Set { .. } | Doing::Get { .. } | Doing::Has { .. } | Doing::Load { .. } => false,
+        Doing::Del { .. } | Doing::Add { .. } | Doing::Clear | Doing::DropIf { .. } => false,
+        Doing::Keys | Doing::Sync | Doing::Fault(_) | Doing::Hold => false,
+        Doing::Deliver(_) | Doing::Abandon | Doing::Store(_, _) => false,
+    }
+}
+
+/// Whether a step is held back.
+pub fn is_hold(doing: Doing<'_>) -> bool
+    ensures held { (reply : Option (List ℕ)) (load : Option ℕ) → result ≡ is_held (acting (action_of doing.entry) reply load) }
+    ensures again { (conn : ℕ) → result ≡ may_hold (Some (RunAgain conn)) (action_of doing.entry) }
+    ensures lines { (conn : ℕ) → result ≡ may_hold (Some (RunLines conn)) (action_of doing.entry) }
+{
+    match doing {
+        Doing::Hold => true,
+        Doing::Set { .. } | Doing::Get { .. } | Doing::Has { .. } | Doing::Load { .. } => false,
+        Doing::Del { .. } | Doing::Add { .. } | Doing::Clear | Doing::DropIf { .. } => false,
+        Doing::Keys | Doing::Sync | Doing::Fault(_) | Doing::Quit => false,
+        Doing::Deliver(_) | Doing::Abandon | Doing::Store(_, _) => false,
+    }
+}
+
+/// Whether a step tells nothing.
+pub fn is_silent(doing: Doing<'_>) -> bool
+    ensures { result ≡ is_silent (action_of doing.entry) }
+{
+    match doing {
+        Doing::Has { .. } | Doing::Keys | Doing::Clear | Doing::DropIf { .. } => true,
+        Doing::Quit | Doing::Hold | Doing::Abandon => true,
+        Doing::Set { .. } | Doing::Get { .. } | Doing::Load { .. } | Doing::Del { .. } => false,
+        Doing::Add { .. } | Doing::Sync | Doing::Fault(_) | Doing::Deliver(_) => false,
+        Doing::Store(_, _) => false,
+    }
+}
+
+/// Whether a step with that reply is a `DROPIF` that was accepted.
+pub fn is_drop(doing: Doing<'_>, reply: Option<&[u8]>) -> bool
+    ensures { (load : Option ℕ) → result ≡ drops (acting (action_of doing.entry) (option_map (λ r. r.now) reply.entry) load) }
+{
+    match doing {
+        Doing::DropIf { .. } => is_ok(reply),
+        Doing::Set { .. } | Doing::Get { .. } | Doing::Has { .. } | Doing::Load { .. } => false,
+        Doing::Del { .. } | Doing::Add { .. } | Doing::Clear | Doing::Keys => false,
+        Doing::Sync | Doing::Quit | Doing::Fault(_) | Doing::Hold => false,
+        Doing::Deliver(_) | Doing::Abandon | Doing::Store(_, _) => false,
+    }
+}
+
+/// What a step with that reply does to values.
+pub fn deed_of<'a>(doing: Doing<'a>, reply: Option<&[u8]>) -> Deed<'a>
+    ensures { (load : Option ℕ) (value : Option Value) → deed_with result value ≡ record (deed_of (acting (action_of doing.entry) (option_map (λ r. r.now) reply.entry) load)) { value = value } }
+{
+    Deed {
+        uses: key_used(doing),
+        deletes: key_deleted(doing),
+        covers: covering(doing, reply),
+        syncs: is_sync(doing),
+    }
+}

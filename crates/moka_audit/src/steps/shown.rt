@@ -1,0 +1,156 @@
+//! What a record shows of a step, and what is due.
+ghost use Rattle.std.specs.Prelude.{◌≡◌, ◌||◌, not, option_map, nat_le, if◌then◌else◌};
+ghost use Rattle.audit_model.specs.History.{Abandoning};
+ghost use Rattle.audit_model.specs.Steps.{action_in, action_of_line, is_task_of, may_hold};
+ghost use Rattle.audit_situation.specs.Actions.Doings.{action_of};
+ghost use Rattle.moka_audit.specs.Steps.Showing.{shown_step, task_of, runs_lines, stores};
+
+use crate::steps::doing::{do_line, is_hold};
+use audit_situation::Doing;
+use audit_model::{Accepted, Config, Note, Outcome, Step};
+
+/// What a record shows of a step.
+#[derive(Clone, Copy)]
+pub struct Shown<'a> {
+    pub conn: u64,
+    pub line: &'a [u8],
+    pub held: bool,
+    pub reply: Option<&'a [u8]>,
+    pub load: Option<u64>,
+    pub accepted: Option<Accepted>,
+    pub notices: &'a [Note],
+}
+
+/// What is due: to store an answer under its load's key, to hand it to a connection, to run a connection's given-up `LOAD` again, to run its held
+/// command, or to run its lines.
+#[derive(Clone, Copy)]
+pub enum Duty<'a> {
+    Store(Option<&'a [u8]>, &'a Outcome),
+    Deliver(u64, &'a Outcome),
+    RunAgain(u64),
+    RunHeld(u64),
+    RunLines(u64),
+}
+
+/// What a record shows of a step of a connection.
+pub fn show(step: &Step) -> Shown<'_>
+    ensures { shown_step result ≡ step.now }
+{
+    let reply = match &step.reply {
+        Some(reply) => Some(reply.as_slice()),
+        None => None,
+    };
+    Shown {
+        conn: step.conn,
+        line: step.line.as_slice(),
+        held: step.held,
+        reply,
+        load: step.load,
+        accepted: step.accepted,
+        notices: step.notices.as_slice(),
+    }
+}
+
+/// What a line does that is held back or not.
+fn do_shown<'a>(config: &Config, shown: Shown<'a>) -> Doing<'a>
+    ensures { action_of result ≡ action_of_line config.now (shown_step shown.entry) }
+{
+    if shown.held {
+        Doing::Hold
+    } else {
+        do_line(config, shown.line)
+    }
+}
+
+/// What a step does for what is due, where its connection's `LOAD` began to wait so often.
+pub fn do_due<'a>(
+    config: &Config,
+    waited: u64,
+    duty: Option<Duty<'a>>,
+    shown: Shown<'a>,
+) -> Doing<'a>
+    ensures { action_of result ≡ action_in config.now waited (option_map task_of duty.entry) (shown_step shown.entry) }
+{
+    match duty {
+        Some(Duty::Store(key, outcome)) => Doing::Store(key, outcome),
+        Some(Duty::Deliver(_, outcome)) => Doing::Deliver(outcome),
+        Some(Duty::RunAgain(_)) => do_again(config, waited, shown),
+        Some(Duty::RunHeld(_)) => do_shown(config, shown),
+        Some(Duty::RunLines(_)) => do_shown(config, shown),
+        None => do_shown(config, shown),
+    }
+}
+
+/// What a given-up `LOAD` does that began to wait so often.
+fn do_again<'a>(config: &Config, waited: u64, shown: Shown<'a>) -> Doing<'a>
+    ensures { action_of result ≡ (if nat_le 200 waited then Abandoning else action_of_line config.now (shown_step shown.entry)) }
+{
+    if 200 <= waited {
+        Doing::Abandon
+    } else {
+        do_shown(config, shown)
+    }
+}
+
+/// Whether what is due is due for that connection.
+pub fn is_duty_of(conn: u64, duty: Option<Duty<'_>>) -> bool
+    ensures { result ≡ is_task_of conn (option_map task_of duty.entry) }
+{
+    match duty {
+        None => false,
+        Some(Duty::Store(_, _)) => true,
+        Some(Duty::Deliver(c, _)) => c == conn,
+        Some(Duty::RunAgain(c)) => c == conn,
+        Some(Duty::RunHeld(c)) => c == conn,
+        Some(Duty::RunLines(c)) => c == conn,
+    }
+}
+
+/// Whether what is due may be held back, where it is a step that does that.
+fn may_hold(duty: Option<Duty<'_>>, doing: Doing<'_>) -> bool
+    ensures { result ≡ may_hold (option_map task_of duty.entry) (action_of doing.entry) }
+{
+    match duty {
+        None => false,
+        Some(Duty::Store(_, _)) => false,
+        Some(Duty::Deliver(_, _)) => false,
+        Some(Duty::RunAgain(_)) => is_hold(doing),
+        Some(Duty::RunHeld(_)) => false,
+        Some(Duty::RunLines(_)) => is_hold(doing),
+    }
+}
+
+/// Whether a step is held only where it may be.
+pub fn is_held_rightly(duty: Option<Duty<'_>>, held: bool, doing: Doing<'_>) -> bool
+    ensures { result ≡ (not held || may_hold (option_map task_of duty.entry) (action_of doing.entry)) }
+{
+    !held || may_hold(duty, doing)
+}
+
+/// Whether what is due is to run lines.
+pub fn is_run_lines(duty: Option<Duty<'_>>) -> bool
+    ensures { result ≡ runs_lines (option_map task_of duty.entry) }
+{
+    match duty {
+        None => false,
+        Some(Duty::Store(_, _)) => false,
+        Some(Duty::Deliver(_, _)) => false,
+        Some(Duty::RunAgain(_)) => false,
+        Some(Duty::RunHeld(_)) => false,
+        Some(Duty::RunLines(_)) => true,
+    }
+}
+
+/// Whether what is due is to store an answer.
+pub fn is_store(duty: Option<Duty<'_>>) -> bool
+    ensures { result ≡ stores (option_map task_of duty.entry) }
+{
+    match duty {
+        None => false,
+        Some(Duty::Store(_, _)) => true,
+        Some(Duty::Deliver(_, _)) => false,
+        Some(Duty::RunAgain(_)) => false,
+        Some(Duty::RunHeld(_)) => false,
+        Some(Duty::RunLines(_)) => false,
+    }
+}
