@@ -1,9 +1,0 @@
-//! Tests of lines and requests.
-#![tactic(auto)]
-
-#[cfg(test)]
-mod buffers;
-#[cfg(test)]
-mod outcome;
-#[cfg(test)]
-mod requests;
