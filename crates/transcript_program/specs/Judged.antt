@@ -4,7 +4,7 @@ use Rattle.audit_model.specs.declared.config.Config.{Config}
 use Rattle.audit_model.specs.declared.transcript.Transcript.{Transcript}
 use Rattle.moka_audit.specs.Records.Verdicts.{IsJust}
 use Rattle.moka_audit.specs.declared.records.auditing.Verdict.{Verdict}
-use Rattle.audit_text_reader.specs.Lines.{kept}
+use Rattle.audit_text.specs.Reader.Lines.{kept}
 use Rattle.audit_text.specs.Text.{transcript_text}
 
 -- the lines of the text that are kept are a transcript's, and the verdict on that transcript is just

@@ -4,9 +4,9 @@ use Rattle.audit_model.specs.declared.config.Config.{Config}
 use Rattle.audit_model.specs.declared.transcript.Transcript.{Transcript}
 use Rattle.audit_text.specs.Text.{transcript_text}
 use Rattle.cache_spaces.specs.Played.{ArePlayed}
-use Rattle.audit_text_reader.specs.Inputs.{replay_text}
-use Rattle.audit_text_reader.specs.Lines.{kept}
-use Rattle.audit_text_reader.specs.declared.inputs.Replay.{Replay}
+use Rattle.audit_text.specs.Reader.Inputs.{replay_text}
+use Rattle.audit_text.specs.Reader.Lines.{kept}
+use Rattle.audit_text.specs.declared.reader.inputs.Replay.{Replay}
 
 -- a namespace: its number, and its transcript
 abbrev pub namespace_text : ℕ → Config → Transcript → List ℕ

@@ -2,7 +2,7 @@
 ghost use Rattle.std.specs.Prelude.{IfOk};
 ghost use Rattle.transcript_program.specs.Judged.{IsJustOf};
 
-use audit_text_reader::{TextError, read_transcript};
+use audit_text::{TextError, read_transcript};
 use moka_audit::{Verdict, audit};
 use std::alloc::Global;
 

@@ -3,7 +3,7 @@ ghost use Rattle.std.specs.Prelude.{◌≡◌, ◌≢◌, ◌≤◌, ◌⊎◌};
 
 use crate::auditing::judge;
 use crate::replaying::{ReplayError, replay};
-use audit_text_reader::TextError;
+use audit_text::TextError;
 use itoa::Buffer;
 use moka_audit::Verdict;
 use std::alloc::Global;

@@ -3,8 +3,7 @@ ghost use Rattle.std.specs.Prelude.{◌≡◌, ◌++◌, IfOk, OnOk};
 ghost use Rattle.transcript_program.specs.Printed.{IsPrintedOf, namespace_text, namespaces_text};
 
 use audit_model::{Config, ServiceError, Transcript};
-use audit_text::write_transcript;
-use audit_text_reader::{TextError, read_inputs};
+use audit_text::{TextError, read_inputs, write_transcript};
 use cache_play::play;
 use itoa::Buffer;
 use rand_core::SeedableRng;

@@ -1,6 +1,5 @@
 //! Texts that are read and written.
-use audit_text::write_transcript;
-use audit_text_reader::{TextError, read_inputs, read_transcript};
+use audit_text::{TextError, read_inputs, read_transcript, write_transcript};
 use std::alloc::Global;
 use std::test::Fail;
 

@@ -2,7 +2,7 @@
 ghost use Rattle.std.specs.Prelude.{◌<◌};
 
 use audit_model::{Config, Transcript};
-use audit_text_reader::read_transcript;
+use audit_text::read_transcript;
 use moka_audit::{Verdict, audit};
 use std::alloc::{AllocError, Global};
 use std::test::Fail;

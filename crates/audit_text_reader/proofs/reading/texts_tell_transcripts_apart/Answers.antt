@@ -1,5 +1,0 @@
-use Rattle.audit_text_reader.proofs.Law.{one-text}
-use Rattle.audit_text_reader.proofs.reading.texts_tell_transcripts_apart.Goals as goal
-
-pub returns : goal.returns
-returns c = λ config transcript fits_config fits_transcript other_config other fits_other_config fits_other e. one-text config transcript fits_config fits_transcript other_config other fits_other_config fits_other e
