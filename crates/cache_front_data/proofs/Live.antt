@@ -10,9 +10,9 @@ use Rattle.std.proofs.lemmas.Option.{none-some}
 use Rattle.audit_model.specs.Bytewise.{same}
 use Rattle.audit_model.specs.Values.{sorted}
 use Rattle.cache_store.specs.Values.{AreLive}
-use Rattle.cache_values.specs.Among.{are_distinct, is_among}
-use Rattle.cache_values.proofs.Keys.{equal_from_same, same-refl}
-use Rattle.cache_values.proofs.Sorting.{length-sorted}
+use Rattle.cache_store.specs.Among.{are_distinct, is_among}
+use Rattle.cache_store.proofs.Keys.{equal_from_same, same-refl}
+use Rattle.cache_store.proofs.Sorting.{length-sorted}
 use Rattle.engine_reference.specs.Records.{held_entries}
 use Rattle.engine_reference.specs.Scanning.{held_keys, visible_keys}
 use Rattle.engine_reference.specs.Telling.{AreApart, entry_of}

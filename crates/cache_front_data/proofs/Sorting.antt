@@ -13,9 +13,9 @@ use Rattle.std.proofs.lemmas.List.Folds.{list_any-append}
 use Rattle.std.proofs.lemmas.Map.Text.{is_eq-slice_cmp}
 use Rattle.audit_model.specs.Bytewise.{same, is_before, text_line}
 use Rattle.audit_model.specs.Values.{put_sorted, sorted}
-use Rattle.cache_values.specs.Among.{are_distinct, is_among}
-use Rattle.cache_values.proofs.Keys.{same-flip_false}
-use Rattle.cache_values.proofs.Sorting.{order, put_before, put_behind, sorted-push}
+use Rattle.cache_store.specs.Among.{are_distinct, is_among}
+use Rattle.cache_store.proofs.Keys.{same-flip_false}
+use Rattle.cache_store.proofs.Sorting.{order, put_before, put_behind, sorted-push}
 use Rattle.cache_front_data.proofs.Live.{among-filter}
 
 -- ---- a map of keys

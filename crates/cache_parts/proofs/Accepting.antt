@@ -22,12 +22,12 @@ use Rattle.engine_reference.specs.Times.{has_come}
 use Rattle.engine_reference.specs.Visible.{is_covered, cause_of_write, notice_of}
 use Rattle.engine_reference.proofs.run_laws.Shown.{entry-held}
 use Rattle.cache_store.specs.Promises.{Done, accepting}
-use Rattle.cache_values.proofs.Steps.{after_plain, corresponds-as}
-use Rattle.cache_values.specs.Held.{value_at, without, is_absent, are_apart, plain, Corresponds, cause_of_replaced}
-use Rattle.cache_values.proofs.Keys.{same-refl, same_from_equal, equal_from_same, same-flip_false}
-use Rattle.cache_values.proofs.Held.{key_from_some, absent_from_none, without-absent, absent-without, apart-without, all-without_key}
-use Rattle.cache_values.proofs.Corresponding.{value_at-map, value_at-without, left}
-use Rattle.cache_values.proofs.Truth.{first_of-map, without-map, replaced_truly}
+use Rattle.cache_store.proofs.Steps.{after_plain, corresponds-as}
+use Rattle.cache_store.specs.Held.{value_at, without, is_absent, are_apart, plain, Corresponds, cause_of_replaced}
+use Rattle.cache_store.proofs.Keys.{same-refl, same_from_equal, equal_from_same, same-flip_false}
+use Rattle.cache_store.proofs.Held.{key_from_some, absent_from_none, without-absent, absent-without, apart-without, all-without_key}
+use Rattle.cache_store.proofs.Corresponding.{value_at-map, value_at-without, left}
+use Rattle.cache_store.proofs.Truth.{first_of-map, without-map, replaced_truly}
 use Rattle.engine_reference.specs.RunLaws.Just.{IsJust}
 use Rattle.cache_parts.specs.Parts.{Part, service_answers, cause_of, note_from, held_of, items_of, with_part, AreMarked, Stands, drained}
 use Rattle.cache_parts.proofs.Items.{value_at-part}

@@ -23,11 +23,11 @@ use Rattle.engine_reference.proofs.StayingVisible.{AreApart-remove}
 use Rattle.engine_reference.specs.Times.{has_come}
 use Rattle.engine_reference.specs.RunLaws.Points.{HasPoint, IsInOrder}
 use Rattle.cache_store.specs.Promises.{Done, accepting}
-use Rattle.cache_values.proofs.Steps.{after_plain, corresponds-as}
-use Rattle.cache_values.specs.Held.{value_at, without, are_apart, Corresponds}
-use Rattle.cache_values.proofs.Keys.{equal_from_same}
-use Rattle.cache_values.proofs.Held.{apart-without}
-use Rattle.cache_values.proofs.Corresponding.{value_at-map, value_at-without, left, left-append}
+use Rattle.cache_store.proofs.Steps.{after_plain, corresponds-as}
+use Rattle.cache_store.specs.Held.{value_at, without, are_apart, Corresponds}
+use Rattle.cache_store.proofs.Keys.{equal_from_same}
+use Rattle.cache_store.proofs.Held.{apart-without}
+use Rattle.cache_store.proofs.Corresponding.{value_at-map, value_at-without, left, left-append}
 use Rattle.engine_reference.specs.RunLaws.Just.{IsJust}
 use Rattle.cache_parts.specs.Parts.{Stored, Part, service_answers, note_from, items_of, with_part, AreMarked, Stands, drained}
 use Rattle.cache_parts.proofs.Accepting as Plainly

@@ -15,8 +15,8 @@ use Rattle.engine_reference.specs.RunLaws.Points.{IsInOrder, with_write, pending
 use Rattle.engine_reference.proofs.run_laws.Fewer.{weight-cons, fewer-refl, fewer-without, fewer-weight}
 use Rattle.engine_reference.proofs.run_laws.Ordering.{with_writes, applied-weight}
 use Rattle.cache_store.specs.Running.{weight_in, is_bounded}
-use Rattle.cache_values.specs.Held.{value_at, Corresponds}
-use Rattle.cache_values.proofs.Weights.{same_weight}
+use Rattle.cache_store.specs.Held.{value_at, Corresponds}
+use Rattle.cache_store.proofs.Weights.{same_weight}
 use Rattle.cache_parts.specs.Parts.{Part, settings_of, items_of, AreLight, write_weight}
 use Rattle.cache_parts.proofs.Items.{AreParted, apart-of, weight-part}
 use Rattle.cache_parts.proofs.Resting.{all_by_key, lies}

@@ -10,8 +10,8 @@ use Rattle.audit_model.specs.declared.transcript.Note.{Note}
 use Rattle.engine_reference.specs.Records.{held_entries, held_weight}
 use Rattle.engine_reference.specs.Soundness.{IsSound}
 use Rattle.engine_reference.proofs.SoundSteps.{counts_are_exact}
-use Rattle.cache_values.specs.Held.{plain}
-use Rattle.cache_values.proofs.Corresponding.{permutation}
+use Rattle.cache_store.specs.Held.{plain}
+use Rattle.cache_store.proofs.Corresponding.{permutation}
 use Rattle.cache_parts.specs.Parts.{Stored, Part, service_answers, held_of, items_in, items_of, Stands}
 use Rattle.cache_parts.proofs.Items.{AreParted, apart-of}
 use Rattle.cache_parts.proofs.Syncing.{AllRan, none, next, EachPart}

@@ -17,9 +17,9 @@ use Rattle.engine_reference.specs.RunLaws.Points.{HasPoint}
 use Rattle.engine_reference.specs.Visible.{is_covered, is_covered_by}
 use Rattle.cache_store.specs.Promises.{Done, covering}
 use Rattle.cache_store.specs.Handing.{TellsNone}
-use Rattle.cache_values.proofs.Steps.{right_to_tell_none}
-use Rattle.cache_values.specs.Held.{value_at, plain, Corresponds}
-use Rattle.cache_values.proofs.Corresponding.{value_at-map, apart-map}
+use Rattle.cache_store.proofs.Steps.{right_to_tell_none}
+use Rattle.cache_store.specs.Held.{value_at, plain, Corresponds}
+use Rattle.cache_store.proofs.Corresponding.{value_at-map, apart-map}
 use Rattle.cache_parts.specs.Parts.{Part, service_answers, held_of, items_of, AreMarked, Stands}
 use Rattle.cache_parts.proofs.Items.{ArePlaced, AreParted, value_at-part, apart-of, corresponds_from}
 use Rattle.cache_parts.proofs.Leaving.{find-candidates, in_part, marks_elsewhere}

@@ -14,8 +14,8 @@ use Rattle.engine_reference.specs.Telling.{entry_of}
 use Rattle.engine_reference.specs.Times.{later, own_expiration, has_come}
 use Rattle.engine_reference.specs.Visible.{is_covered, is_covered_by, is_visible, visible, passing}
 use Rattle.engine_reference.proofs.StayingVisible.{visible_by_entries}
-use Rattle.cache_values.proofs.Live.{live_is}
-use Rattle.cache_values.specs.Held.{if_live, plain, Corresponds}
+use Rattle.cache_store.proofs.Live.{live_is}
+use Rattle.cache_store.specs.Held.{if_live, plain, Corresponds}
 use Rattle.cache_parts.specs.Parts.{Part, service_answers, nanos, held_of, items_of}
 use Rattle.cache_parts.proofs.Items.{value_at-part}
 use Rattle.cache_parts.proofs.Joining.{Knows}

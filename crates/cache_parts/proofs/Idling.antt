@@ -6,8 +6,8 @@ use Rattle.audit_model.specs.Situation.{HeldValue, candidate_at}
 use Rattle.audit_model.specs.declared.config.Config.{Config}
 use Rattle.engine_reference.specs.Telling.{Removal, TakesAway, removed_entries}
 use Rattle.cache_store.specs.Promises.{no_deed}
-use Rattle.cache_values.proofs.Steps.{after_plain, corresponds-as}
-use Rattle.cache_values.specs.Held.{Corresponds}
+use Rattle.cache_store.proofs.Steps.{after_plain, corresponds-as}
+use Rattle.cache_store.specs.Held.{Corresponds}
 use Rattle.cache_parts.specs.Parts.{Stored, Part, items_of, AreMarked, Stands}
 use Rattle.cache_parts.proofs.Items.{AreParted}
 use Rattle.cache_parts.proofs.Leaving.{find-candidates, in_part, marks_elsewhere}

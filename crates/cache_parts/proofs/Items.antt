@@ -12,11 +12,11 @@ use Rattle.audit_model.specs.Situation.{HeldValue}
 use Rattle.engine_reference.specs.Records.{held_entries, held_weight}
 use Rattle.engine_reference.specs.Telling.{entry_of, AreApart}
 use Rattle.cache_store.specs.Running.{weight_in}
-use Rattle.cache_values.specs.Held.{value_at, without, is_absent, are_apart, plain, Corresponds}
-use Rattle.cache_values.proofs.Keys.{same-refl, equal_from_same}
-use Rattle.cache_values.proofs.Held.{absent_from_none, none_from_absent, length-without, apart-without}
-use Rattle.cache_values.proofs.Corresponding.{value_at-map, apart-map, value_at-without}
-use Rattle.cache_values.proofs.Weights.{adds, weight_in-sum}
+use Rattle.cache_store.specs.Held.{value_at, without, is_absent, are_apart, plain, Corresponds}
+use Rattle.cache_store.proofs.Keys.{same-refl, equal_from_same}
+use Rattle.cache_store.proofs.Held.{absent_from_none, none_from_absent, length-without, apart-without}
+use Rattle.cache_store.proofs.Corresponding.{value_at-map, apart-map, value_at-without}
+use Rattle.cache_store.proofs.Weights.{adds, weight_in-sum}
 use Rattle.cache_parts.specs.Parts.{Part, held_of, items_in, items_of}
 use Rattle.cache_parts.proofs.Telling.{Kept}
 

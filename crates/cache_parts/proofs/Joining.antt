@@ -20,12 +20,12 @@ use Rattle.engine_reference.specs.Visible.{is_covered}
 use Rattle.engine_reference.specs.RunLaws.Points.{HasPoint, IsPointed, IsInOrder}
 use Rattle.cache_store.specs.Promises.{accepting}
 use Rattle.cache_store.specs.Running.{weight_in}
-use Rattle.cache_values.specs.Held.{value_at, without, is_absent, plain, Corresponds, exceeds}
-use Rattle.cache_values.proofs.Keys.{equal_from_same, same_from_equal}
-use Rattle.cache_values.proofs.Held.{key_from_some, absent-without, apart-without}
-use Rattle.cache_values.proofs.Corresponding.{value_at-without, value_at-append, apart-append}
-use Rattle.cache_values.proofs.Truth.{first_of-map, Stood, stood}
-use Rattle.cache_values.proofs.Weights.{over_is}
+use Rattle.cache_store.specs.Held.{value_at, without, is_absent, plain, Corresponds, exceeds}
+use Rattle.cache_store.proofs.Keys.{equal_from_same, same_from_equal}
+use Rattle.cache_store.proofs.Held.{key_from_some, absent-without, apart-without}
+use Rattle.cache_store.proofs.Corresponding.{value_at-without, value_at-append, apart-append}
+use Rattle.cache_store.proofs.Truth.{first_of-map, Stood, stood}
+use Rattle.cache_store.proofs.Weights.{over_is}
 use Rattle.cache_parts.specs.Parts.{Part, service_answers, settings_of, held_of, value_of, items_of, with_part, AreMarked, IsBrief}
 use Rattle.cache_parts.proofs.Items.{ArePlaced, AreParted, value_at-part, apart-of, weight-part, corresponds_from}
 use Rattle.cache_parts.proofs.Judging.{Judges, dead_is}

@@ -12,7 +12,7 @@ use Rattle.engine_reference.specs.declared.rules.causes.RemovalCause.TheVariants
 use Rattle.engine_reference.specs.Times.{end_of, is_reached, has_come as is_past, earlier_of as earliest}
 use Rattle.engine_reference.specs.Visible.{is_covered}
 use Rattle.engine_reference.specs.RunLaws.Points.{IsPointed}
-use Rattle.cache_values.proofs.Keys.{same_from_equal}
+use Rattle.cache_store.proofs.Keys.{same_from_equal}
 use Rattle.engine_reference.specs.RunLaws.Just.{IsJust}
 use Rattle.cache_parts.specs.Parts.{Part, service_answers, settings_of, nanos, note_of, held_of, value_of, IsBrief}
 use Rattle.cache_parts.proofs.Telling.{Kept}

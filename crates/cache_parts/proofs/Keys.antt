@@ -17,7 +17,7 @@ use Rattle.engine_reference.proofs.HeldRecords.{held-without}
 use Rattle.engine_reference.proofs.Unapplied.{record_at-without}
 use Rattle.engine_reference.proofs.run_laws.Fewer.{weight-cons}
 use Rattle.engine_reference.proofs.run_laws.Fronting.{each-at}
-use Rattle.cache_values.proofs.Keys.{same-refl, same-flip_false}
+use Rattle.cache_store.proofs.Keys.{same-refl, same-flip_false}
 use Rattle.cache_parts.specs.Recent.{key_at, keys_in}
 use Rattle.cache_parts.proofs.Writing.{Rec, unlike_none}
 

@@ -19,10 +19,10 @@ use Rattle.engine_reference.specs.Records.{record_at, held_entries}
 use Rattle.engine_reference.specs.Telling.{Removal, TakesAway, removed_entries, entry_of, AreApart}
 use Rattle.engine_reference.proofs.HeldRecords.{held-without}
 use Rattle.engine_reference.proofs.StayingVisible.{AreApart-remove}
-use Rattle.cache_values.specs.Held.{value_at, without, are_apart, plain, Corresponds}
-use Rattle.cache_values.proofs.Keys.{equal_from_same}
-use Rattle.cache_values.proofs.Held.{apart-without}
-use Rattle.cache_values.proofs.Corresponding.{value_at-without, value_at-map, left}
+use Rattle.cache_store.specs.Held.{value_at, without, are_apart, plain, Corresponds}
+use Rattle.cache_store.proofs.Keys.{equal_from_same}
+use Rattle.cache_store.proofs.Held.{apart-without}
+use Rattle.cache_store.proofs.Corresponding.{value_at-without, value_at-map, left}
 use Rattle.cache_parts.specs.Parts.{Stored, Part, held_of, items_of, AreMarked}
 use Rattle.cache_parts.proofs.Items.{ArePlaced, AreParted, value_at-part}
 use Rattle.cache_parts.proofs.Swapping.{parted-at, placed-away}

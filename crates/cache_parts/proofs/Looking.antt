@@ -26,11 +26,11 @@ use Rattle.engine_reference.proofs.run_laws.Fronting.{each-at}
 use Rattle.engine_reference.specs.RunLaws.Just.{ComesFrom, IsJust}
 use Rattle.engine_reference.proofs.run_laws.Shown.{entry-held, to-records, from-records, unmatched-changed, held_at-match, read-apart as kept_apart}
 use Rattle.cache_store.specs.Promises.{Done, using}
-use Rattle.cache_values.proofs.Steps.{none_succeeded, after_plain}
-use Rattle.cache_values.specs.Held.{value_at, plain, Corresponds}
-use Rattle.cache_values.proofs.Keys.{equal_from_same}
-use Rattle.cache_values.proofs.Held.{key_from_some}
-use Rattle.cache_values.proofs.Corresponding.{value_at-map, apart-map, left}
+use Rattle.cache_store.proofs.Steps.{none_succeeded, after_plain}
+use Rattle.cache_store.specs.Held.{value_at, plain, Corresponds}
+use Rattle.cache_store.proofs.Keys.{equal_from_same}
+use Rattle.cache_store.proofs.Held.{key_from_some}
+use Rattle.cache_store.proofs.Corresponding.{value_at-map, apart-map, left}
 use Rattle.cache_parts.specs.Parts.{Part, service_answers, note_from, held_of, value_of, items_of, with_part, AreMarked, Stands, drained}
 use Rattle.cache_parts.proofs.Accepting.{all-untold}
 use Rattle.cache_parts.proofs.Items.{AreParted, value_at-part, apart-of, corresponds_from}

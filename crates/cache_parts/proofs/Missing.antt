@@ -16,10 +16,10 @@ use Rattle.engine_reference.specs.Telling.{entry_of, AreApart}
 use Rattle.engine_reference.specs.RunLaws.Points.{HasPoint}
 use Rattle.engine_reference.proofs.run_laws.Shown.{entry-held}
 use Rattle.cache_store.specs.Promises.{Done, deleting}
-use Rattle.cache_values.proofs.Steps.{after_plain, corresponds-as}
-use Rattle.cache_values.specs.Held.{value_at, is_absent, plain, Corresponds}
-use Rattle.cache_values.proofs.Held.{absent_from_none}
-use Rattle.cache_values.proofs.Corresponding.{left}
+use Rattle.cache_store.proofs.Steps.{after_plain, corresponds-as}
+use Rattle.cache_store.specs.Held.{value_at, is_absent, plain, Corresponds}
+use Rattle.cache_store.proofs.Held.{absent_from_none}
+use Rattle.cache_store.proofs.Corresponding.{left}
 use Rattle.engine_reference.specs.RunLaws.Just.{IsJust}
 use Rattle.cache_parts.specs.Parts.{Part, service_answers, note_from, held_of, items_of, with_part, AreMarked, Stands, drained}
 use Rattle.cache_parts.proofs.Accepting.{all-untold}

@@ -27,7 +27,7 @@ use Rattle.engine_reference.proofs.Unapplied.{record_at-without}
 use Rattle.engine_reference.proofs.run_laws.Fronting.{each-at}
 use Rattle.engine_reference.proofs.run_laws.Shown.{RecordsApart, held_at-match}
 use Rattle.engine_reference.proofs.run_laws.Swept.{changed-other, push-other, sent-one}
-use Rattle.cache_values.proofs.Keys.{equal_from_same, same-flip_false}
+use Rattle.cache_store.proofs.Keys.{equal_from_same, same-flip_false}
 use Rattle.cache_parts.specs.Parts.{Part, Stored, service_answers, put, put_entry, taken_out}
 use Rattle.cache_parts.specs.Recent.{applied, key_at, keys_in, keys_used}
 use Rattle.cache_parts.proofs.Keys.{keys-alike, keys-back, keys-passed, keys-without, keys-none, keys-some, without-absent, filter-reverse}

@@ -29,7 +29,7 @@ use Rattle.engine_reference.proofs.run_laws.Fronting.{each-at}
 use Rattle.engine_reference.proofs.run_laws.Ordering.{runs_stay_in_order, read-order}
 use Rattle.engine_reference.proofs.run_laws.Shown.{RecordsApart, to-records, calls_keep_apart}
 use Rattle.engine_reference.proofs.run_laws.Swept.{sent-one}
-use Rattle.cache_values.proofs.Keys.{same-refl}
+use Rattle.cache_store.proofs.Keys.{same-refl}
 use Rattle.cache_parts.specs.Parts.{Part, Stored, service_answers, put, put_entry, nanos}
 use Rattle.cache_parts.specs.Recent.{IsLasting, IsUncovered, applied, keys_in, keys_used, IsPlain, IsRecent, IsFresh, RunKeepsRecent, CutRunKeepsRecent, LookUpMovesRecent, PutMovesRecent, AddMovesRecent, RemovalMovesRecent, TakingKeepsRecent, NewIsRecent, RecentAreHeld, RecencyIsKept}
 use Rattle.cache_parts.proofs.Draining.{keys-quiet}

@@ -30,12 +30,12 @@ use Rattle.engine_reference.proofs.run_laws.Ordering.{calls_stay_in_order}
 use Rattle.engine_reference.proofs.run_laws.Shown.{RecordsApart, entry-held, to-records, from-records, unmatched-changed, held_at-match, removed-apart}
 use Rattle.engine_reference.proofs.run_laws.Swept.{sent-one}
 use Rattle.cache_store.specs.Promises.{Done, deleting}
-use Rattle.cache_values.proofs.Steps.{after_plain, corresponds-as}
-use Rattle.cache_values.specs.Held.{value_at, without, is_absent, plain, Corresponds, cause_of_deleted}
-use Rattle.cache_values.proofs.Keys.{equal_from_same, same_from_equal, same-flip_false}
-use Rattle.cache_values.proofs.Held.{key_from_some, absent-without, apart-without}
-use Rattle.cache_values.proofs.Corresponding.{value_at-map, value_at-without, left}
-use Rattle.cache_values.proofs.Truth.{first_of-map, without-map, deleted_truly}
+use Rattle.cache_store.proofs.Steps.{after_plain, corresponds-as}
+use Rattle.cache_store.specs.Held.{value_at, without, is_absent, plain, Corresponds, cause_of_deleted}
+use Rattle.cache_store.proofs.Keys.{equal_from_same, same_from_equal, same-flip_false}
+use Rattle.cache_store.proofs.Held.{key_from_some, absent-without, apart-without}
+use Rattle.cache_store.proofs.Corresponding.{value_at-map, value_at-without, left}
+use Rattle.cache_store.proofs.Truth.{first_of-map, without-map, deleted_truly}
 use Rattle.engine_reference.specs.RunLaws.Just.{IsJust}
 use Rattle.cache_parts.specs.Parts.{Stored, Part, service_answers, cause_of, note_from, held_of, items_of, with_part, AreMarked, Stands, drained}
 use Rattle.cache_parts.proofs.Accepting.{with_part-twice, all-untold}

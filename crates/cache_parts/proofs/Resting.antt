@@ -20,10 +20,10 @@ use Rattle.engine_reference.proofs.SoundCalls.{held_at-only}
 use Rattle.engine_reference.specs.RunLaws.Sweeping.{LeavesNoneDue, InOrderBy, IsUsedBefore}
 use Rattle.engine_reference.proofs.run_laws.Shown.{entry-held}
 use Rattle.cache_store.specs.Running.{weight_in, is_timely, is_of_earlier_tick, tick_of}
-use Rattle.cache_values.specs.Held.{value_at, is_absent, are_apart, plain, Corresponds, exceeds}
-use Rattle.cache_values.proofs.Keys.{same-refl, equal_from_same}
-use Rattle.cache_values.proofs.Held.{none_from_absent}
-use Rattle.cache_values.proofs.Weights.{over_is}
+use Rattle.cache_store.specs.Held.{value_at, is_absent, are_apart, plain, Corresponds, exceeds}
+use Rattle.cache_store.proofs.Keys.{same-refl, equal_from_same}
+use Rattle.cache_store.proofs.Held.{none_from_absent}
+use Rattle.cache_store.proofs.Weights.{over_is}
 use Rattle.cache_parts.specs.Parts.{Part, service_answers, settings_of, nanos, held_of, items_of, IsBrief}
 use Rattle.cache_parts.proofs.Items.{AreParted, value_at-part, apart-of, weight-part}
 use Rattle.cache_parts.proofs.Judging.{end_is, reached_is}

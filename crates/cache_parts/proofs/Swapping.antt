@@ -9,10 +9,10 @@ use Rattle.engine_reference.specs.Records.{held_entries}
 use Rattle.engine_reference.specs.Telling.{Removal, TakesAway, removed_entries, entry_of, AreApart}
 use Rattle.engine_reference.specs.Visible.{is_covered}
 use Rattle.engine_reference.proofs.StayingVisible.{AreApart-remove}
-use Rattle.cache_values.specs.Held.{value_at, without, are_apart, Corresponds}
-use Rattle.cache_values.proofs.Keys.{equal_from_same}
-use Rattle.cache_values.proofs.Held.{apart-without}
-use Rattle.cache_values.proofs.Corresponding.{corresponds-left, apart-left, value_at-without, left}
+use Rattle.cache_store.specs.Held.{value_at, without, are_apart, Corresponds}
+use Rattle.cache_store.proofs.Keys.{equal_from_same}
+use Rattle.cache_store.proofs.Held.{apart-without}
+use Rattle.cache_store.proofs.Corresponding.{corresponds-left, apart-left, value_at-without, left}
 use Rattle.cache_parts.specs.Parts.{Stored, Part, service_answers, held_of, items_in, items_of, with_part}
 use Rattle.cache_parts.proofs.Items.{ArePlaced, AreParted, value_at-part, apart-of, not_here, corresponds_from}
 use Rattle.cache_parts.proofs.Telling.{Kept, notes_of, entry_of-other, entry_of-gone, entry_of-at}

@@ -16,11 +16,11 @@ use Rattle.engine_reference.specs.Runs.{RunsToEnd}
 use Rattle.engine_reference.specs.Telling.{entry_of, AreApart}
 use Rattle.engine_reference.specs.RunLaws.Points.{HasPoint, IsInOrder}
 use Rattle.cache_store.specs.Promises.{Done, syncing}
-use Rattle.cache_values.proofs.Steps.{after_plain, corresponds-as, none_succeeded}
-use Rattle.cache_values.specs.Held.{value_at, without, are_apart, Corresponds}
-use Rattle.cache_values.proofs.Keys.{equal_from_same}
-use Rattle.cache_values.proofs.Held.{apart-without}
-use Rattle.cache_values.proofs.Corresponding.{corresponds-left, apart-left, value_at-without, left, left-append}
+use Rattle.cache_store.proofs.Steps.{after_plain, corresponds-as, none_succeeded}
+use Rattle.cache_store.specs.Held.{value_at, without, are_apart, Corresponds}
+use Rattle.cache_store.proofs.Keys.{equal_from_same}
+use Rattle.cache_store.proofs.Held.{apart-without}
+use Rattle.cache_store.proofs.Corresponding.{corresponds-left, apart-left, value_at-without, left, left-append}
 use Rattle.engine_reference.specs.RunLaws.Just.{IsJust}
 use Rattle.cache_parts.specs.Parts.{Part, service_answers, note_from, held_of, items_in, items_of, Stands, drained}
 use Rattle.cache_parts.proofs.Accepting.{all-untold}

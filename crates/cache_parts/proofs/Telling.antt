@@ -13,7 +13,7 @@ use Rattle.engine_reference.specs.declared.rules.causes.RemovalCause.{RemovalCau
 use Rattle.engine_reference.specs.declared.data.Entry.{Entry}
 use Rattle.engine_reference.specs.Telling.{Removal, TakesAway, removed_entries, entry_of, AreApart}
 use Rattle.engine_reference.proofs.StayingVisible.{AreApart-remove}
-use Rattle.cache_values.proofs.Keys.{same-refl, equal_from_same, same_along}
+use Rattle.cache_store.proofs.Keys.{same-refl, equal_from_same, same_along}
 use Rattle.engine_reference.specs.RunLaws.Just.{EachRemoval}
 use Rattle.cache_parts.specs.Parts.{Stored, note_of}
 

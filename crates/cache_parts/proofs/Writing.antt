@@ -24,7 +24,7 @@ use Rattle.engine_reference.proofs.run_laws.Ordering.{calls_stay_in_order}
 use Rattle.engine_reference.proofs.run_laws.Shown.{RecordsApart, entry-held, to-records, from-records, unmatched-changed, held-push, held_at-match, written-apart}
 use Rattle.engine_reference.proofs.run_laws.Swept.{sent-one}
 use Rattle.audit_model.specs.declared.config.Weight.{Weight}
-use Rattle.cache_values.proofs.Keys.{same-refl, equal_from_same, same_from_equal, same-flip_false}
+use Rattle.cache_store.proofs.Keys.{same-refl, equal_from_same, same_from_equal, same-flip_false}
 use Rattle.cache_parts.specs.Parts.{Stored, Part, service_answers, put, put_entry}
 
 abbrev pub Rec : Type 0

@@ -23,7 +23,7 @@ use Rattle.engine_reference.specs.Visible.{visible_record}
 use Rattle.engine_reference.specs.Scanning.{NotesLookUp}
 use Rattle.front_reference.specs.Parts.{Inserts, TakesOut, inserted, taken_out, takes_nothing}
 use Rattle.front_reference.specs.Wholes.{DrawAll, DrawsInVain, registered_in}
-use Rattle.cache_values.proofs.Keys.{same-refl}
+use Rattle.cache_store.proofs.Keys.{same-refl}
 use Rattle.cache_parts.specs.Parts.{Part, Stored, service_answers}
 use Rattle.cache_parts_kept.specs.Registering.{is_identifier, is_registered_in, register_of, HasNoMore, IdentifierClauses}
 use Rattle.cache_parts_kept.proofs.Bytes.{same_bytes}

@@ -22,7 +22,7 @@ use Rattle.engine_reference.specs.RunLaws.Points.{pending_of}
 use Rattle.engine_reference.specs.RunLaws.Sweeping.{LeavesNoneDue, InOrderBy, IsUsedBefore}
 use Rattle.engine_reference.proofs.run_laws.Rises.{uncut_runs_leave_none_due}
 use Rattle.front_reference.proofs.laws.Kept.{runs_leave_none_idle}
-use Rattle.cache_values.specs.Held.{Corresponds}
+use Rattle.cache_store.specs.Held.{Corresponds}
 use Rattle.engine_reference.specs.Soundness.{Each}
 use Rattle.engine_reference.specs.Telling.{entry_of, AreApart}
 use Rattle.front_reference.specs.Fronts.{CallsEach}

@@ -14,7 +14,7 @@ use Rattle.engine_reference.specs.Runs.{RunsToEnd}
 use Rattle.engine_reference.specs.Scanning.{NotesLookUp}
 use Rattle.front_reference.specs.Fronts.{CallsEach}
 use Rattle.front_reference.specs.Parts.{Inserts, TakesOut}
-use Rattle.cache_values.specs.Held.{Corresponds}
+use Rattle.cache_store.specs.Held.{Corresponds}
 use Rattle.cache_parts.specs.Parts.{Part, Stored, service_answers, settings_of, with_part, items_of, AreMarked, Stands, put, put_entry, drained, IsBrief}
 use Rattle.cache_parts.specs.Recent.{ArePartsOf}
 use Rattle.cache_parts.proofs.Bounding.{IsLean}

@@ -18,8 +18,8 @@ use Rattle.engine_reference.specs.Telling.{AreApart}
 use Rattle.engine_reference.specs.Visible.{visible_record}
 use Rattle.engine_reference.proofs.Accounts.{each-map}
 use Rattle.engine_reference.proofs.StayingVisible.{entry_of-there}
-use Rattle.cache_values.specs.Held.{plain}
-use Rattle.cache_values.proofs.Corresponding.{permutation}
+use Rattle.cache_store.specs.Held.{plain}
+use Rattle.cache_store.proofs.Corresponding.{permutation}
 use Rattle.cache_parts.specs.Parts.{Part, IsProper, service_answers, policy_of, items_of, items_in, held_of, with_part, put, taken_out, nanos, drained}
 use Rattle.cache_parts.specs.Recent.{IsLasting, IsPlain, IsRecent, IsFresh, IsPartOf, MovesRecency}
 use Rattle.cache_parts.proofs.Items.{ArePlaced, AreParted, apart-of}

@@ -8,9 +8,9 @@ use Rattle.engine_reference.specs.Telling.{entry_of}
 use Rattle.engine_reference.specs.Times.{has_come}
 use Rattle.engine_reference.specs.Visible.{is_covered, is_visible, passing, visible}
 use Rattle.engine_reference.proofs.StayingVisible.{visible_by_entries}
-use Rattle.cache_values.specs.Among.{has_live}
-use Rattle.cache_values.proofs.LiveKeys.{live_keys_from}
-use Rattle.cache_values.proofs.Sorting.{live_keys_are}
+use Rattle.cache_store.specs.Among.{has_live}
+use Rattle.cache_store.proofs.LiveKeys.{live_keys_from}
+use Rattle.cache_store.proofs.Sorting.{live_keys_are}
 use Rattle.cache_parts.proofs.Items.{apart-of, value_at-part}
 use Rattle.cache_parts.proofs.Judging.{dead_is}
 use Rattle.cache_parts.proofs.Telling.{Kept}

@@ -16,9 +16,9 @@ use Rattle.engine_reference.specs.Telling.{entry_of}
 use Rattle.cache_parts.proofs.Items.{AreParted, apart-of, corresponds_from, value_at-part}
 use Rattle.cache_parts.proofs.Telling.{Kept}
 use Rattle.cache_parts.specs.Parts.{Part, Stands, held_of, items_of}
-use Rattle.cache_values.proofs.Corresponding.{apart-map, left, value_at-map}
-use Rattle.cache_values.proofs.Held.{length-without_at_most}
-use Rattle.cache_values.specs.Held.{plain, are_apart, value_at, without}
+use Rattle.cache_store.proofs.Corresponding.{apart-map, left, value_at-map}
+use Rattle.cache_store.proofs.Held.{length-without_at_most}
+use Rattle.cache_store.specs.Held.{plain, are_apart, value_at, without}
 use Rattle.cache_parts_kept.proofs.Storing.{kept_is_enough}
 use Rattle.cache_parts_store.specs.View.{IsWhole, StoreOfParts, view}
 

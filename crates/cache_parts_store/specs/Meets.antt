@@ -20,7 +20,7 @@ use Rattle.engine_reference.specs.Visible.{visible, visible_value}
 use Rattle.front_reference.specs.Fronts.{CallsAt, CallsEach, Front, passed as front_passed}
 use Rattle.front_reference.specs.Parts.{Inserts, TakesOut}
 use Rattle.front_reference.specs.Wholes.{DrawAll, DrawsInVain, RunsPart, next_told, registered_in, without_told}
-use Rattle.cache_values.specs.Among.{are_distinct, is_among}
+use Rattle.cache_store.specs.Among.{are_distinct, is_among}
 use Rattle.cache_parts.specs.Parts.{Part, Stored, items_of, note_from, service_answers, settings_of, IsBrief}
 use Rattle.cache_parts.specs.Recent.{IsRecentOver}
 use Rattle.cache_parts_store.specs.View.{ComesTo, IsWhole, StoreOfParts, after, all_drained, over_front, passed, view, waiting}

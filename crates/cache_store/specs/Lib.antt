@@ -4,3 +4,5 @@ pub mod Running
 pub mod Recency
 pub mod Identifiers
 pub mod Values
+pub mod Held
+pub mod Among

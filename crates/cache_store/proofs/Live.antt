@@ -2,8 +2,8 @@
 use Rattle.audit_model.specs.Bytewise.{same}
 use Rattle.audit_model.specs.Situation.{HeldValue, is_live_at}
 use Rattle.audit_model.specs.declared.config.Config.{Config}
-use Rattle.cache_values.specs.Held.{if_live, live_in, plain, Corresponds, value_at, is_absent, are_apart}
-use Rattle.cache_values.proofs.Keys.{equal_from_same}
+use Rattle.cache_store.specs.Held.{if_live, live_in, plain, Corresponds, value_at, is_absent, are_apart}
+use Rattle.cache_store.proofs.Keys.{equal_from_same}
 use Rattle.std.proofs.Common.{◌≡◌, ℕ, Bool, cond, true, false, not, ◌&&◌, List, [], ◌∷◌, Option, option_map, Some, None, if◌then◌else◌, refl, sym, ap, ◌∙◌, subst}
 use Rattle.std.proofs.lemmas.Bool.{and_parts, not-true}
 use Rattle.std.specs.List.{find}

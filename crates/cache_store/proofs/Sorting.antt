@@ -13,9 +13,9 @@ use Rattle.audit_model.specs.Bytewise.{same, is_before}
 use Rattle.audit_model.specs.Situation.{HeldValue, is_live_at, live_keys_at}
 use Rattle.audit_model.specs.Values.{put_sorted, sorted}
 use Rattle.audit_model.specs.declared.config.Config.{Config}
-use Rattle.cache_values.specs.Held.{value_at, without, is_absent, are_apart, plain, Corresponds}
-use Rattle.cache_values.proofs.Keys.{equal_from_same, same-refl}
-use Rattle.cache_values.proofs.Corresponding.{corresponds-without}
+use Rattle.cache_store.specs.Held.{value_at, without, is_absent, are_apart, plain, Corresponds}
+use Rattle.cache_store.proofs.Keys.{equal_from_same, same-refl}
+use Rattle.cache_store.proofs.Corresponding.{corresponds-without}
 
 abbrev pub order : List ℕ → List ℕ → Ordering
 order a b = slice_cmp nat_cmp a b

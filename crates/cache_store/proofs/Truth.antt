@@ -8,8 +8,8 @@ use Rattle.audit_model.specs.View.{Candidate}
 use Rattle.audit_model.specs.declared.config.Config.{Config}
 use Rattle.audit_model.specs.declared.transcript.RemovalCause.TheVariants.{Expired, Explicit, Replaced}
 use Rattle.cache_store.specs.Promises.{accepting, deleting}
-use Rattle.cache_values.specs.Held.{plain, Corresponds, cause_of_replaced, cause_of_deleted, value_at, without}
-use Rattle.cache_values.proofs.Keys.{same-refl, same_from_equal, equal_from_same}
+use Rattle.cache_store.specs.Held.{plain, Corresponds, cause_of_replaced, cause_of_deleted, value_at, without}
+use Rattle.cache_store.proofs.Keys.{same-refl, same_from_equal, equal_from_same}
 use Rattle.std.proofs.Common.{◌≡◌, ℕ, Bool, cond, true, false, not, ◌&&◌, ◌||◌, List, [], ◌∷◌, map, Option, option_map, Some, None, is_none, if◌then◌else◌, refl, sym, ap, ◌∙◌}
 use Rattle.std.proofs.lemmas.Bool.{and_from}
 use Rattle.std.proofs.lemmas.Option.{none-some}

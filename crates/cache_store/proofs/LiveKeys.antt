@@ -8,11 +8,11 @@ use Rattle.audit_model.specs.Recency.{keys_without}
 use Rattle.audit_model.specs.Situation.{HeldValue, is_live_at, live_keys_at}
 use Rattle.audit_model.specs.Values.{put_sorted, sorted}
 use Rattle.audit_model.specs.declared.config.Config.{Config}
-use Rattle.cache_values.specs.Among.{are_distinct, has_live, is_among}
-use Rattle.cache_values.specs.Held.{are_apart, is_absent, value_at}
-use Rattle.cache_values.proofs.Held.{none_from_absent}
-use Rattle.cache_values.proofs.Keys.{equal_from_same, same-flip_false, same-refl, same_from_equal}
-use Rattle.cache_values.proofs.Sorting.{live-cons, put_either, put_if}
+use Rattle.cache_store.specs.Among.{are_distinct, has_live, is_among}
+use Rattle.cache_store.specs.Held.{are_apart, is_absent, value_at}
+use Rattle.cache_store.proofs.Held.{none_from_absent}
+use Rattle.cache_store.proofs.Keys.{equal_from_same, same-flip_false, same-refl, same_from_equal}
+use Rattle.cache_store.proofs.Sorting.{live-cons, put_either, put_if}
 
 -- ---- keys without one
 

@@ -5,7 +5,7 @@ use Rattle.std.specs.Option.{option_map_or}
 use Rattle.audit_model.specs.Bytewise.{same}
 use Rattle.audit_model.specs.Situation.{HeldValue, is_live_at}
 use Rattle.audit_model.specs.declared.config.Config.{Config}
-use Rattle.cache_values.specs.Held.{value_at}
+use Rattle.cache_store.specs.Held.{value_at}
 
 -- the key is among these
 abbrev pub is_among : List ℕ → List (List ℕ) → Bool

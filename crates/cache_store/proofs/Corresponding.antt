@@ -3,9 +3,9 @@ use Rattle.audit_model.specs.Bytewise.{same}
 use Rattle.audit_model.specs.Situation.{HeldValue}
 use Rattle.audit_model.specs.Values.{untold}
 use Rattle.audit_model.specs.declared.transcript.Note.{Note}
-use Rattle.cache_values.specs.Held.{plain, Corresponds, value_at, without, is_absent, are_apart}
-use Rattle.cache_values.proofs.Held.{absent_from_none, none_from_absent, absent-without, apart-without, length-without, without-absent, key_of}
-use Rattle.cache_values.proofs.Keys.{same-refl, same-flip_false, equal_from_same, same_along}
+use Rattle.cache_store.specs.Held.{plain, Corresponds, value_at, without, is_absent, are_apart}
+use Rattle.cache_store.proofs.Held.{absent_from_none, none_from_absent, absent-without, apart-without, length-without, without-absent, key_of}
+use Rattle.cache_store.proofs.Keys.{same-refl, same-flip_false, equal_from_same, same_along}
 use Rattle.std.proofs.Common.{◌≡◌, ℕ, suc, Bool, cond, true, false, not, ◌&&◌, List, [], ◌∷◌, ◌++◌, map, length, Option, option_map, Some, None, IsPermutation, refl, sym, ap, ◌∙◌, subst, arith}
 use Rattle.std.proofs.lemmas.Bool.{not-true, and_parts, and_from, not_from_false}
 use Rattle.std.proofs.lemmas.List.Folds.{list_all-append}

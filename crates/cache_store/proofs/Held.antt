@@ -2,8 +2,8 @@
 use Rattle.audit_model.specs.Bytewise.{same}
 use Rattle.audit_model.specs.Situation.{HeldValue}
 use Rattle.audit_model.specs.Values.{without_key}
-use Rattle.cache_values.proofs.Keys.{equal_from_same}
-use Rattle.cache_values.specs.Held.{value_at, without, is_absent, are_apart}
+use Rattle.cache_store.proofs.Keys.{equal_from_same}
+use Rattle.cache_store.specs.Held.{value_at, without, is_absent, are_apart}
 use Rattle.std.proofs.Common.{◌≡◌, ℕ, suc, ◌≤◌, Bool, cond, true, false, not, ◌&&◌, List, [], ◌∷◌, length, Some, None, refl, sym, ap, ◌∙◌, subst, arith}
 use Rattle.std.proofs.lemmas.Bool.{not-true, not_from_false, and_parts, and_from}
 use Rattle.std.proofs.lemmas.Option.{none-some}

@@ -1,9 +1,0 @@
-pub mod Keys
-pub mod Held
-pub mod Corresponding
-pub mod Weights
-pub mod Truth
-pub mod Steps
-pub mod Live
-pub mod Sorting
-pub mod LiveKeys

@@ -1,2 +1,0 @@
-//! Lists of values held, and that two of them correspond.
-#![tactic(auto)]
