@@ -30,13 +30,13 @@ use Rattle.cache_parts.proofs.Swapping.{decides, with_part-other, with_part-ther
 use Rattle.cache_parts.proofs.Telling.{Kept}
 use Rattle.cache_parts.proofs.Writing.{Rec}
 use Rattle.cache_parts.specs.Recent.{IsRecentOver}
-use Rattle.cache_parts_laws.proofs.Lawful.{accepts, looks, misses, removes}
-use Rattle.cache_parts_laws.proofs.Ordered.{recency_clauses}
-use Rattle.cache_parts_kept.specs.Calling.{Comes}
-use Rattle.cache_parts_kept.specs.Keeping.{IsKeptPart, at_moment, IsStorable}
-use Rattle.cache_parts_kept.specs.Registering.{HasNoMore, register_of}
-use Rattle.cache_parts_kept.proofs.Identifying.{identifier_clauses}
-use Rattle.cache_parts_kept.proofs.Storing.{calls_keep_parts, kept_is_enough, takes_values}
+use Rattle.cache_parts_store.proofs.parts_laws.Lawful.{accepts, looks, misses, removes}
+use Rattle.cache_parts_store.proofs.parts_laws.Ordered.{recency_clauses}
+use Rattle.cache_parts_store.specs.PartsKept.Calling.{Comes}
+use Rattle.cache_parts_store.specs.PartsKept.Keeping.{IsKeptPart, at_moment, IsStorable}
+use Rattle.cache_parts_store.specs.PartsKept.Registering.{HasNoMore, register_of}
+use Rattle.cache_parts_store.proofs.parts_kept.Identifying.{identifier_clauses}
+use Rattle.cache_parts_store.proofs.parts_kept.Storing.{calls_keep_parts, kept_is_enough, takes_values}
 use Rattle.cache_parts_store.proofs.Changing.{AreTaken, DrawsTicket, all_drained-set, greatest-with, maintained-room, maintained-ticket, put-room, put-ticket, read-room, read-ticket, removal-is, removed-room, removed-ticket, unreserved-with, waiting-set}
 use Rattle.cache_parts_store.proofs.Standing.{no_more-after, one_more-after}
 use Rattle.cache_parts_store.specs.Meets.{AcceptMeets, PeekMeets, RemoveMeets, TouchMeets, stored}

@@ -22,10 +22,10 @@ use Rattle.front_reference.specs.Wholes.{DrawAll, registered_in}
 use Rattle.cache_parts.proofs.Covering.{AllCover, CoversToo, none, next}
 use Rattle.cache_parts.proofs.Telling.{Kept}
 use Rattle.cache_parts.specs.Parts.{IsProper, Part, Stored, service_answers}
-use Rattle.cache_parts_laws.proofs.Lawful.{covers as covers_all}
-use Rattle.cache_parts_kept.specs.Registering.{HasNoMore, register_of}
-use Rattle.cache_parts_kept.proofs.Identifying.{identifier_clauses}
-use Rattle.cache_parts_kept.proofs.Storing.{calls_keep_parts, held-each, kept_is_enough, there-too}
+use Rattle.cache_parts_store.proofs.parts_laws.Lawful.{covers as covers_all}
+use Rattle.cache_parts_store.specs.PartsKept.Registering.{HasNoMore, register_of}
+use Rattle.cache_parts_store.proofs.parts_kept.Identifying.{identifier_clauses}
+use Rattle.cache_parts_store.proofs.parts_kept.Storing.{calls_keep_parts, held-each, kept_is_enough, there-too}
 use Rattle.cache_parts_store.proofs.Calling.{comes, or-no}
 use Rattle.cache_parts_store.proofs.Changing.{greatest-same}
 use Rattle.cache_parts_store.proofs.Standing.{no_more-after, parted, parts_are}

@@ -15,7 +15,7 @@ use Rattle.cache_parts.proofs.Items.{apart-of, value_at-part}
 use Rattle.cache_parts.proofs.Judging.{dead_is}
 use Rattle.cache_parts.proofs.Telling.{Kept}
 use Rattle.cache_parts.specs.Parts.{Part, held_of, items_of, service_answers}
-use Rattle.cache_parts_kept.proofs.Storing.{kept_is_enough}
+use Rattle.cache_parts_store.proofs.parts_kept.Storing.{kept_is_enough}
 use Rattle.cache_parts_store.proofs.Standing.{parted, parts_are}
 use Rattle.cache_parts_store.specs.Meets.{LiveKeysMeet}
 

@@ -12,12 +12,12 @@ use Rattle.cache_parts.specs.Parts.{drained, Part, Stands, service_answers, sett
 use Rattle.cache_parts.proofs.Counting.{CountsAreTold}
 use Rattle.cache_parts.proofs.Idling.{idle_does}
 use Rattle.cache_parts.proofs.Syncing.{AllRan}
-use Rattle.cache_parts_laws.proofs.Lawful.{runs_all, sums, within}
-use Rattle.cache_parts_laws.proofs.Ordered.{none-yet, recency_clauses}
-use Rattle.cache_parts_kept.specs.Calling.{Comes, RunsDrained}
-use Rattle.cache_parts_kept.specs.Keeping.{AreKeptParts, at_moment}
-use Rattle.cache_parts_kept.proofs.Identifying.{identifier_clauses}
-use Rattle.cache_parts_kept.proofs.Storing.{calls_keep_parts, kept_is_enough, there-too}
+use Rattle.cache_parts_store.proofs.parts_laws.Lawful.{runs_all, sums, within}
+use Rattle.cache_parts_store.proofs.parts_laws.Ordered.{none-yet, recency_clauses}
+use Rattle.cache_parts_store.specs.PartsKept.Calling.{Comes, RunsDrained}
+use Rattle.cache_parts_store.specs.PartsKept.Keeping.{AreKeptParts, at_moment}
+use Rattle.cache_parts_store.proofs.parts_kept.Identifying.{identifier_clauses}
+use Rattle.cache_parts_store.proofs.parts_kept.Storing.{calls_keep_parts, kept_is_enough, there-too}
 use Rattle.cache_parts_store.proofs.Calling.{comes, handed, or-no}
 use Rattle.cache_parts_store.proofs.Changing.{all-ran, drained-at, drained-length, drained-sum, greatest-same, ran-room, ran-ticket, taken-all, taken-one, ticket_within}
 use Rattle.cache_parts_store.proofs.Covering.{keeps-each}

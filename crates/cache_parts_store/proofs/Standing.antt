@@ -19,7 +19,7 @@ use Rattle.cache_parts.specs.Parts.{Part, Stands, held_of, items_of}
 use Rattle.cache_store.proofs.Corresponding.{apart-map, left, value_at-map}
 use Rattle.cache_store.proofs.Held.{length-without_at_most}
 use Rattle.cache_store.specs.Held.{plain, are_apart, value_at, without}
-use Rattle.cache_parts_kept.proofs.Storing.{kept_is_enough}
+use Rattle.cache_parts_store.proofs.parts_kept.Storing.{kept_is_enough}
 use Rattle.cache_parts_store.specs.View.{IsWhole, StoreOfParts, view}
 
 abbrev evictable : HeldValue → HeldValue

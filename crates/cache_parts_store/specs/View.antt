@@ -9,8 +9,8 @@ use Rattle.cache_store.specs.Values.{Values, IsMoment}
 use Rattle.front_reference.specs.Fronts.{Front, part_of}
 use Rattle.cache_parts.specs.Parts.{Stored, Part, Stands, items_of, note_from, drained}
 use Rattle.cache_parts.specs.Recent.{IsRecentOver}
-use Rattle.cache_parts_kept.specs.Keeping.{AreKeptParts, at_moment}
-use Rattle.cache_parts_kept.specs.Registering.{register_of}
+use Rattle.cache_parts_store.specs.PartsKept.Keeping.{AreKeptParts, at_moment}
+use Rattle.cache_parts_store.specs.PartsKept.Registering.{register_of}
 
 -- What it was made with, its parts, the notes that were taken from them and not from it, the generator of identifiers, and the step of the
 -- last call. `S` is the hasher of the parts.

@@ -2,3 +2,6 @@
 #![tactic(auto)]
 
 pub mod laws;
+pub mod parts_kept;
+pub mod parts_laws;
+

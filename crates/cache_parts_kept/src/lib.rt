@@ -1,4 +1,0 @@
-//! What a store keeps of each part of its cache between calls, and that each call keeps it.
-#![tactic(auto)]
-
-pub mod laws;

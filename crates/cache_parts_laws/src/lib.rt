@@ -1,4 +1,0 @@
-//! What the calls of a store of parts do to the values held, as laws.
-#![tactic(auto)]
-
-pub mod laws;

@@ -1,0 +1,241 @@
+-- The clauses of a store on recency, from those of its part.
+use Rattle.std.proofs.Common.{◌≡◌, refl, ap, sym, ◌∙◌, subst, ℕ, zero, suc, ◌+◌, ◌-◌, ◌/◌, ◌≤◌, arith, Bool, true, false, true≢false, cond, ◌||◌, List, [], ◌∷◌, ◌++◌, Option, option_map, Some, None, is_none, map, length, take, inl, inr, ◌⊎◌, slice_get, IsTrue, append-nil}
+use Rattle.std.specs.Prelude.{IsPermutation, IsSome}
+use Rattle.std.proofs.lemmas.Option.{none-some}
+use Rattle.std.proofs.lemmas.List.Sorted.{IsPermutation-map, IsPermutation-trans, IsPermutation-refl}
+use Rattle.audit_model.specs.Bytewise.{same}
+use Rattle.audit_model.specs.History.{part_count, share, weight_of}
+use Rattle.audit_model.specs.Recency.{keys_without}
+use Rattle.audit_model.specs.Situation.{HeldValue}
+use Rattle.audit_model.specs.declared.config.Config.{Config}
+use Rattle.cache_store.specs.Promises.{Frame}
+use Rattle.cache_store.specs.Recency.{IsPlainLru, put_first, used_first}
+use Rattle.engine_reference.specs.Calls.{with_read}
+use Rattle.engine_reference.specs.Records.{held_entries}
+use Rattle.engine_reference.specs.Runs.{Runs}
+use Rattle.engine_reference.specs.Soundness.{Each}
+use Rattle.engine_reference.specs.Telling.{AreApart}
+use Rattle.engine_reference.specs.Visible.{visible_record}
+use Rattle.engine_reference.proofs.Accounts.{each-map}
+use Rattle.engine_reference.proofs.StayingVisible.{entry_of-there}
+use Rattle.cache_store.specs.Held.{plain}
+use Rattle.cache_store.proofs.Corresponding.{permutation}
+use Rattle.cache_parts.specs.Parts.{Part, IsProper, service_answers, policy_of, items_of, items_in, held_of, with_part, put, taken_out, nanos, drained}
+use Rattle.cache_parts.specs.Recent.{IsLasting, IsPlain, IsRecent, IsFresh, IsPartOf, MovesRecency}
+use Rattle.cache_parts.proofs.Items.{ArePlaced, AreParted, apart-of}
+use Rattle.cache_parts.proofs.Joining.{entry_of-key}
+use Rattle.cache_parts.proofs.Pending.{run-front}
+use Rattle.cache_parts.proofs.Recency.{steady, run_keeps, cut_run_keeps, look-recent, put_moves, add_moves, removal_moves, taking_keeps, new_is, still-recent, held-steady}
+use Rattle.cache_parts.proofs.Running.{Maintained, idle, ran}
+use Rattle.cache_parts.proofs.Syncing.{none, next}
+use Rattle.cache_parts.proofs.Telling.{Kept}
+use Rattle.cache_parts.proofs.Writing.{Rec}
+use Rattle.cache_parts_store.specs.PartsLaws.Recency.{LookUpMoves, AcceptMoves, AddMoves, RemoveMoves, RunAllKeeps, KeysAreHeld, NewMoves, RecencyClauses}
+
+-- what is none
+none_from : (o : Option ℕ) → is_none o ≡ true → o ≡ None
+none_from None e = refl
+none_from (Some x) e = absurd (cc)
+
+-- the capacity says how many
+same_number : (m n : ℕ) → Some (suc m) ≡ Some (suc n) → m ≡ n
+same_number m n e = let same_capacity : suc m ≡ suc n = cc in omega (arith, same_capacity)
+
+-- a value has no deadline of its own where none may
+brief_from : (o : Option ℕ) (own : Bool) → own ≡ false → (IsSome o → IsTrue own) → o ≡ None
+brief_from None own e h = refl
+brief_from (Some m) own e h = absurd (true≢false (sym (h refl) ∙ e))
+
+-- the keys of values held, leaving aside which may be evicted
+keys-plain : (held : List HeldValue) → map (λ (h : HeldValue). h.value.key) (map plain held) ≡ map (λ (h : HeldValue). h.value.key) held
+keys-plain [] = refl
+keys-plain (h ∷ held) = ap (λ ks. h.value.key ∷ ks) (keys-plain held)
+
+-- what is so of each record that is held is so of each entry
+each-entry : (Q : Kept → Type 0) (rs : List Rec) (place : ℕ) (e : Kept) → Each (λ r. r.is_held ≡ true → Q r.entry) rs → slice_get (held_entries rs) place ≡ Some e → Q e
+each-entry Q [] place e all there = absurd (none-some e there)
+each-entry Q (r ∷ rs) place e all there = go r.is_held refl place there (λ i k. each-entry Q rs i e all.1 k)
+  where
+    go : (b : Bool) → r.is_held ≡ b → (i : ℕ) → slice_get (cond b (r.entry ∷ held_entries rs) (held_entries rs)) i ≡ Some e → ((i : ℕ) → slice_get (held_entries rs) i ≡ Some e → Q e) → Q e
+    go true t zero at later = let is : r.entry ≡ e = cc in subst Q is (all.0 t)
+    go true t (suc i) at later = later i at
+    go false t i at later = later i at
+
+module _ {S : Type 0} where
+  -- ---- a part
+
+  -- a part under plain LRU
+  pub plain_kept : (frame : Frame) (n part step : ℕ) (s : Part S) → IsPlainLru frame.config n → IsPartOf frame part step s → IsPlain n s
+  plain_kept frame n part step s p k = record {
+    capacity = ap (λ c. c.capacity) k.settings ∙ ap (option_map (share frame.config)) p.capacity ∙ ap Some (whole (part_count frame.config) p.parts);
+    policy = ap (λ c. c.policy) k.settings ∙ ap policy_of p.policy;
+    tells = ap (λ c. c.tells) k.settings;
+    live = ap (λ c. c.live) k.settings ∙ ap (option_map nanos) p.live;
+    idle = ap (λ c. c.idle) k.settings ∙ ap (option_map nanos) p.idle;
+    rules = k.rules ∙ p.weight;
+    in_order = k.in_order;
+    sent = k.sent;
+    apart = k.apart;
+    lasting = each-map (λ r. r.is_held ≡ true → IsProper frame part step r.entry) IsLasting lasts s.records k.proper;
+  }
+    where
+      whole : (c : ℕ) → c ≡ 1 → (suc n + (c - 1)) / c ≡ suc n
+      whole c e = subst (λ d. (suc n + (d - 1)) / d ≡ suc n) (sym e) (omega arith)
+
+      lasts : (r : Rec) → (r.is_held ≡ true → IsProper frame part step r.entry) → r.is_held ≡ true → (r.entry.weight ≡ 1) × (r.entry.expires ≡ None)
+      lasts r proper held =
+          let q = proper held in
+          (q.weighs ∙ ap (λ w. weight_of w r.entry.value.bytes) p.weight, none_from r.entry.expires (sym (ap (λ b. b || is_none r.entry.expires) p.own) ∙ q.timed))
+
+  -- what is written at a step not before its own is not covered
+  fresh_kept : (frame : Frame) (part step next_step : ℕ) (s : Part S) → IsPartOf frame part step s → step ≤ next_step → IsFresh next_step s
+  fresh_kept frame part step next_step s k later =
+      let c = k.fresh.cleared in
+      record { cleared = omega (arith, c, later); predicates = λ place p there. (let q = k.fresh.predicates place p there in omega (arith, q, later)) }
+
+  -- ---- there is one part
+
+  -- the part that changed is all of them
+  only : (part k : ℕ) (parts : List (Part S)) (s x y : Part S) → length parts ≡ 1 → slice_get parts part ≡ Some s → slice_get (with_part part x parts) k ≡ Some y → y ≡ x
+  only part k [] s x y one there at = absurd (none-some s there)
+  only zero zero (p ∷ []) s x y one there at = cc
+  only zero (suc k) (p ∷ []) s x y one there at = absurd (none-some y at)
+  only (suc part) k (p ∷ []) s x y one there at = absurd (none-some s there)
+  only part k (p ∷ q ∷ parts) s x y one there at = absurd (omega (arith, one))
+
+  -- a call of that part: its notices are taken
+  moves : (config : Config) (parts : List (Part S)) (part : ℕ) (s x : Part S) (moved : List (List ℕ) → List (List ℕ)) → length parts ≡ part_count config → slice_get parts part ≡ Some s
+      → ((n : ℕ) (keys : List (List ℕ)) → IsPlainLru config n → IsRecent n s true keys → IsRecent n x false (moved keys)) → MovesRecency config parts (with_part part (drained x) parts) moved
+  moves config parts part s x moved number there call n keys p r = record {
+    held = λ e. absurd (true≢false (sym e));
+    recent = λ m k y q at. subst (λ z. IsRecent m z false (moved keys)) (sym (only part k parts s (drained x) y (number ∙ q.parts) there at)) (taking_keeps m x false (moved keys) (call m keys q (r.recent m part s q there)));
+  }
+
+  -- maintenance came, or it did not
+  may_run : (now : ℕ) (s mid : Part S) → Maintained now s mid → (mid ≡ s) ⊎ Runs service_answers now s mid
+  may_run now s mid (idle e) = inl e
+  may_run now s mid (ran run) = inr run.runs
+
+  -- what a call left, a run keeps
+  after-run : (n now : ℕ) (s new : Part S) (keys : List (List ℕ)) → IsPlain n s → IsRecent n s false keys → (new ≡ s) ⊎ Runs service_answers now s new → IsRecent n new false keys
+  after-run n now s new keys p r (inl e) = subst (λ x. IsRecent n x false keys) (sym e) r
+  after-run n now s new keys p r (inr run) = cut_run_keeps n now s new false keys p r run
+
+  -- a settled part stays so
+  before-run : (n now : ℕ) (s mid : Part S) (keys : List (List ℕ)) → IsPlain n s → IsRecent n s true keys → (mid ≡ s) ⊎ Runs service_answers now s mid → IsRecent n mid true keys
+  before-run n now s mid keys p r (inl e) = subst (λ x. IsRecent n x true keys) (sym e) r
+  before-run n now s mid keys p r (inr run) = still-recent n now s mid keys p r run
+
+  -- ---- the clauses
+
+  -- `look_up`
+  look_ups : LookUpMoves S
+  look_ups frame step parts part s mid key hash now kept there maintained =
+      moves frame.config parts part s (with_read service_answers (visible_record service_answers same s now key) hash now mid) (used_first key) kept.number there
+      (λ n keys p r. look-recent n now hash s mid key keys (plain_kept frame n part step s p (kept.each part s there)) r (may_run now s mid maintained))
+
+  -- `accept`
+  accepts : AcceptMoves S
+  accepts frame step next_step parts part s new key value hash now kept there later timed maintained =
+      moves frame.config parts part s new (put_first key) kept.number there
+      (λ n keys p r.
+      let k = kept.each part s there in
+      let t = put key hash value now next_step s in
+      let m = put_moves n now hash next_step s key value keys (plain_kept frame n part step s p k) (fresh_kept frame part step next_step s k later) (brief_from value.milliseconds frame.config.own_deadlines p.own timed) r in
+      after-run n now t new (put_first key keys) m.0 m.1 (may_run now t new maintained))
+
+  -- `ADD`
+  adds : AddMoves S
+  adds frame step next_step parts part s mid new key value hash now kept there later timed first kept_mid maintained =
+      moves frame.config parts part s new (put_first key) kept.number there
+      (λ n keys p r.
+      let k = kept.each part s there in
+      let md = drained mid in
+      let t = put key hash value now next_step (with_read service_answers (visible_record service_answers same md now key) hash now md) in
+      let before = taking_keeps n mid true keys (before-run n now s mid keys (plain_kept frame n part step s p k) r (may_run now s mid first)) in
+      let m = add_moves n now hash next_step md key value keys (plain_kept frame n part step md p kept_mid) (fresh_kept frame part step next_step md kept_mid later) (brief_from value.milliseconds frame.config.own_deadlines p.own timed) before in
+      after-run n now t new (put_first key keys) m.0 m.1 (may_run now t new maintained))
+
+  -- `remove`
+  removes : RemoveMoves S
+  removes frame step parts part s new key now kept there maintained =
+      moves frame.config parts part s new (keys_without key) kept.number there
+      (λ n keys p r.
+      let t = taken_out key now s in
+      let m = removal_moves n now s key keys (plain_kept frame n part step s p (kept.each part s there)) r in
+      after-run n now t new (keys_without key keys) m.0 m.1 (may_run now t new maintained))
+
+  -- ---- keys as values held
+
+  -- the keys of the entries of a part
+  keys-items : (part : ℕ) (s : Part S) (es : List Kept) → map (λ (h : HeldValue). h.value.key) (map (held_of part s) es) ≡ map (λ (e : Kept). e.key) es
+  keys-items part s [] = refl
+  keys-items part s (e ∷ es) = ap (λ ks. e.key ∷ ks) (keys-items part s es)
+
+  -- a run of the one part
+  runs_all : RunAllKeeps S
+  runs_all frame step now [] news notes kept all n settled keys p r = absurd (let one : 0 ≡ 1 = kept.number ∙ p.parts in omega (arith, one))
+  runs_all frame step now (x ∷ y ∷ parts) news notes kept all n settled keys p r = absurd (let one : suc (suc (length parts)) ≡ 1 = kept.number ∙ p.parts in omega (arith, one))
+  runs_all frame step now (x ∷ []) news notes kept (next s new run none) n settled keys p r = record {
+    held = λ e.
+        subst (λ ks. IsPermutation ks (take (suc n) keys)) (sym (ap (map (λ (h : HeldValue). h.value.key)) (append-nil (items_in 0 (drained new))) ∙ keys-items 0 (drained new) (held_entries new.records)))
+        (held-steady n new (take (suc n) keys) (run-front n now x new (steady n x settled keys before recent) run.runs).1 after);
+    recent = λ m k y q at.
+        let number : m ≡ n = same_number m n (sym q.capacity ∙ p.capacity) in
+        subst (λ i. IsRecent i y true (take (suc n) keys)) (sym number)
+        (subst (λ z. IsRecent n z true (take (suc n) keys)) (sym (only 0 k (x ∷ []) x (drained new) y refl refl at)) (taking_keeps n new true (take (suc n) keys) after));
+  }
+    where
+      before : IsPlain n x
+      before = plain_kept frame n 0 step x p (kept.each 0 x refl)
+
+      recent : IsRecent n x settled keys
+      recent = r.recent n 0 x p refl
+
+      after : IsRecent n new true (take (suc n) keys)
+      after = run_keeps n now x new settled keys before recent run
+
+  -- ---- the keys in their order of use are those held
+
+  -- a key is in its part
+  placed_kept : (frame : Frame) (part step : ℕ) (s : Part S) → IsPartOf frame part step s → ArePlaced frame.part_of part (held_entries s.records)
+  placed_kept frame part step s k q e found =
+      let at = entry_of-there same (held_entries s.records) q e found in
+      ap frame.part_of (entry_of-key (held_entries s.records) q e found) ∙ (each-entry (λ x. IsProper frame part step x) s.records at.0 e k.proper at.1).placed
+
+  -- the parts have their own keys
+  parted_kept : (part_of : List ℕ → ℕ) (first : ℕ) (parts : List (Part S)) → ((k : ℕ) (s : Part S) → slice_get parts k ≡ Some s → AreApart same (held_entries s.records) × ArePlaced part_of (first + k) (held_entries s.records)) → AreParted part_of first parts
+  parted_kept part_of first [] each = tt
+  parted_kept part_of first (s ∷ parts) each =
+      let here = each 0 s refl in (
+        here.0,
+        (λ q e f. here.1 q e f ∙ omega arith),
+        parted_kept part_of (suc first) parts (λ k x there. (let behind = each (suc k) x there in (behind.0, λ q e f. behind.1 q e f ∙ omega arith))),
+      )
+
+  -- `ordered`
+  keys_held : KeysAreHeld S
+  keys_held frame step parts held keys kept stands r =
+      let items = items_of 0 parts in
+      let apart = apart-of frame.part_of 0 parts (parted_kept frame.part_of 0 parts (λ k s there. (let x = kept.each k s there in (x.apart, λ q e f. placed_kept frame k step s x q e f ∙ omega arith)))) in
+      IsPermutation-trans (map (λ (h : HeldValue). h.value.key) held) (map (λ (h : HeldValue). h.value.key) items) keys
+      (subst (λ ks. IsPermutation ks (map (λ (h : HeldValue). h.value.key) items)) (keys-plain held) (IsPermutation-map (λ (h : HeldValue). h.value.key) (map plain held) items (permutation items held apart stands.same))) (r.held refl)
+
+  -- ---- a store that was just made
+
+  -- where no part has a record no value is held
+  pub none-yet : (first : ℕ) (parts : List (Part S)) → ((k : ℕ) (s : Part S) → slice_get parts k ≡ Some s → s.records ≡ []) → items_of first parts ≡ []
+  none-yet first [] each = refl
+  none-yet first (s ∷ parts) each = ap (λ rs. map (held_of first s) (held_entries rs) ++ items_of (suc first) parts) (each 0 s refl) ∙ none-yet (suc first) parts (λ k x there. each (suc k) x there)
+
+  -- it has no keys
+  made : NewMoves S
+  made config name settings hasher rules parts new = record {
+    held = λ e. subst (λ xs. IsPermutation (map (λ (h : HeldValue). h.value.key) xs) []) (sym (none-yet 0 parts (λ k s there. (new k s there).records))) (IsPermutation-refl []);
+    recent = λ n k s p there. new_is n name settings hasher rules s (new k s there);
+  }
+
+module _ (S : Type 0) where
+  -- all clauses
+  pub recency_clauses : RecencyClauses S
+  recency_clauses = record { look_up = look_ups; accept = accepts; add = adds; remove = removes; run_all = runs_all; ordered = keys_held; new = made }
