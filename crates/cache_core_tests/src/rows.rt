@@ -8,8 +8,7 @@ use audit_model::{
     Bytes, Closing, Config, EvictionPolicy, Instant, LoadId, Outcome, Seq, ServiceError, Weight,
 };
 use cache_core::Namespace;
-use cache_entries::KeyedHasher;
-use cache_front_store::FrontStore;
+use cache_front::{FrontStore, KeyedHasher};
 use cache_store::Store;
 use cache_tape::{Bare, Kept, Tape};
 use rand_core::SeedableRng;

@@ -5,7 +5,7 @@ ghost use Rattle.audit_model.specs.History.{accepts_values};
 ghost use Rattle.cache_parts.specs.Parts.{IsBrief};
 
 use audit_model::{Config, Key, Note, RemovalCause};
-use cache_front_store::FrontStore;
+use cache_front::FrontStore;
 use cache_store::Store;
 use rand_core::Rng;
 use std::alloc::{AllocError, Global};

@@ -2,7 +2,7 @@
 use crate::repeating::Repeating;
 use crate::script::{Row, first_wrong, none_wrong, refusals_change_nothing};
 use audit_model::{Config, EvictionPolicy, RemovalCause, Weight};
-use cache_entries::KeyedHasher;
+use cache_front::KeyedHasher;
 use rand_core::SeedableRng;
 use rand_xoshiro::SplitMix64;
 use std::alloc::{AllocError, Global};

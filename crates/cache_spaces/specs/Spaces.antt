@@ -10,9 +10,9 @@ use Rattle.audit_model.specs.declared.transcript.Note.{Note}
 use Rattle.cache_core.specs.State as state
 use Rattle.cache_core.specs.State.{State}
 use Rattle.cache_core.specs.Turned as turned
-use Rattle.cache_entries.specs.declared.hasher.KeyedHasher.{KeyedHasher}
-use Rattle.cache_entries.specs.declared.hasher.WordBuilder.{WordBuilder}
-use Rattle.cache_front_store.specs.Data.{StoreData}
+use Rattle.cache_front.specs.declared.entries.hasher.KeyedHasher.{KeyedHasher}
+use Rattle.cache_front.specs.declared.entries.hasher.WordBuilder.{WordBuilder}
+use Rattle.cache_front.specs.Store.Data.{StoreData}
 use Rattle.cache_spaces.specs.Stores.{shown_of}
 use Rattle.cache_tape.specs.Taped.{Taped}
 

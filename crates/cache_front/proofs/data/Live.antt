@@ -1,0 +1,280 @@
+-- The keys that have a visible value, part by part, are the live keys.
+use Rattle.std.proofs.Common.{◌≡◌, refl, ap, ◌∙◌, sym, ℕ, zero, suc, ◌+◌, ◌≤◌, ◌<◌, arith, Bool, cond, true, false, true≢false, not, ◌&&◌, ◌||◌, List, [], ◌∷◌, ◌++◌, length, map, Option, option_map, Some, None, is_some, slice_get}
+use Rattle.std.specs.List.{filter, sum_by}
+use Rattle.std.proofs.lemmas.Bool.{and_from, and_parts, not-true, not_from_false}
+use Rattle.std.proofs.lemmas.List.{length-append, length-map}
+use Rattle.std.proofs.lemmas.List.Elements.{filter-append}
+use Rattle.std.proofs.lemmas.List.Folds.{list_any-append}
+use Rattle.std.proofs.lemmas.List.Sums.{sum_by-cons}
+use Rattle.std.proofs.lemmas.Option.{none-some}
+use Rattle.audit_model.specs.Bytewise.{same}
+use Rattle.audit_model.specs.Values.{sorted}
+use Rattle.cache_store.specs.Values.{AreLive}
+use Rattle.cache_store.specs.Among.{are_distinct, is_among}
+use Rattle.cache_store.proofs.Keys.{equal_from_same, same-refl}
+use Rattle.cache_store.proofs.Sorting.{length-sorted}
+use Rattle.engine_reference.specs.Records.{held_entries}
+use Rattle.engine_reference.specs.Scanning.{held_keys, visible_keys}
+use Rattle.engine_reference.specs.Telling.{AreApart, entry_of}
+use Rattle.engine_reference.specs.Visible.{is_visible, passing, visible, visible_value}
+use Rattle.engine_reference.proofs.StayingVisible.{visible_by_entries}
+use Rattle.front_reference.specs.Wholes.{visible_number}
+use Rattle.cache_parts.proofs.Items.{AreParted, ArePlaced}
+use Rattle.cache_parts.proofs.Telling.{Kept}
+use Rattle.cache_parts.specs.Parts.{Part, held_of, items_in, items_of, service_answers}
+use Rattle.cache_parts_store.specs.View.{IsWhole, StoreOfParts, view}
+use Rattle.cache_parts_store.proofs.Listing.{live_keys}
+use Rattle.cache_parts_store.proofs.Standing.{parted}
+use Rattle.front_state.specs.Calls.{visible_of}
+use Rattle.cache_front.specs.Data.Data.{FrontData, parted_by}
+use Rattle.cache_front.specs.Data.Listing.{held_by_all, is_seen, seen_by_all}
+
+-- ---- keys that pass a test
+
+pub among-filter : (p : List ℕ → Bool) (q : List ℕ) (ks : List (List ℕ)) → is_among q (filter p ks) ≡ (p q && is_among q ks)
+among-filter p q [] = go (p q)
+  where
+    go : (b : Bool) → false ≡ (b && false)
+    go true = refl
+    go false = refl
+among-filter p q (k ∷ ks) = go (p k) refl (same q k) refl (among-filter p q ks)
+  where
+    go : (b : Bool) → p k ≡ b → (c : Bool) → same q k ≡ c → is_among q (filter p ks) ≡ (p q && is_among q ks) → is_among q (cond b (k ∷ filter p ks) (filter p ks)) ≡ (p q && (same q k || is_among q ks))
+    go true e true f later =
+        let here : p q ≡ true = ap p (equal_from_same q k f) ∙ e in
+        ap (λ c. c || is_among q (filter p ks)) f ∙ sym (ap (λ c. p q && (c || is_among q ks)) f ∙ ap (λ b. b && true) here)
+    go true e false f later = ap (λ c. c || is_among q (filter p ks)) f ∙ later ∙ sym (ap (λ c. p q && (c || is_among q ks)) f)
+    go false e true f later =
+        let here : p q ≡ false = ap p (equal_from_same q k f) ∙ e in
+        later ∙ ap (λ b. b && is_among q ks) here ∙ sym (ap (λ b. b && (same q k || is_among q ks)) here)
+    go false e false f later = later ∙ sym (ap (λ c. p q && (c || is_among q ks)) f)
+
+distinct-filter : (p : List ℕ → Bool) (ks : List (List ℕ)) → are_distinct ks ≡ true → are_distinct (filter p ks) ≡ true
+distinct-filter p [] d = refl
+distinct-filter p (k ∷ ks) d = let parts = and_parts (not (is_among k ks)) (are_distinct ks) d in go (p k) parts.0 (distinct-filter p ks parts.1)
+  where
+    no : (b : Bool) → (b && false) ≡ false
+    no true = refl
+    no false = refl
+
+    go : (b : Bool) → not (is_among k ks) ≡ true → are_distinct (filter p ks) ≡ true → are_distinct (cond b (k ∷ filter p ks) (filter p ks)) ≡ true
+    go true new later = and_from _ _ (not_from_false _ (among-filter p k ks ∙ ap (λ c. p k && c) (not-true _ new) ∙ no (p k))) later
+    go false new later = later
+
+distinct-append : (xs ys : List (List ℕ)) → are_distinct xs ≡ true → are_distinct ys ≡ true → ((q : List ℕ) → is_among q xs ≡ true → is_among q ys ≡ false) → are_distinct (xs ++ ys) ≡ true
+distinct-append [] ys d e apart = e
+distinct-append (x ∷ xs) ys d e apart =
+    let parts = and_parts (not (is_among x xs)) (are_distinct xs) d in
+    and_from _ _
+    (not_from_false _ (list_any-append (λ k. same x k) xs ys ∙ ap (λ b. b || is_among x ys) (not-true _ parts.0) ∙ apart x (ap (λ b. b || is_among x xs) (same-refl x))))
+    (distinct-append xs ys parts.1 e (λ q h. apart q (or-right (same q x) h)))
+  where
+    or-right : (b : Bool) {c : Bool} → c ≡ true → (b || c) ≡ true
+    or-right true h = refl
+    or-right false h = h
+
+-- no more pass
+filter-few : {X : Type 0} (p : X → Bool) (xs : List X) → length (filter p xs) ≤ length xs
+filter-few p [] = omega arith
+filter-few p (x ∷ xs) = go (p x) (filter-few p xs)
+  where
+    go : (b : Bool) → length (filter p xs) ≤ length xs → length (cond b (x ∷ filter p xs) (filter p xs)) ≤ suc (length xs)
+    go true later = omega (arith, later)
+    go false later = omega (arith, later)
+
+-- ---- one part
+
+among-entry : (q : List ℕ) (es : List Kept) → is_among q (map (λ (e : Kept). e.key) es) ≡ is_some (entry_of same es q)
+among-entry q [] = refl
+among-entry q (e ∷ es) = go (same q e.key) (among-entry q es)
+  where
+    go : (b : Bool) → is_among q (map (λ (e : Kept). e.key) es) ≡ is_some (entry_of same es q) → (b || is_among q (map (λ (e : Kept). e.key) es)) ≡ is_some (cond b (Some e) (entry_of same es q))
+    go true later = refl
+    go false later = later
+
+distinct-held : (es : List Kept) → AreApart same es → are_distinct (map (λ (e : Kept). e.key) es) ≡ true
+distinct-held [] a = refl
+distinct-held (e ∷ es) a = and_from _ _ (not_from_false _ (among-entry e.key es ∙ ap (λ (o : Option Kept). is_some o) a.0)) (distinct-held es a.1)
+
+module _ {S : Type 0} (now : ℕ) where
+  -- something is visible of the key
+  abbrev pub sees : Part S → List ℕ → Bool
+  sees s q = is_some (visible_value service_answers same s now q)
+
+  abbrev keys_seen : Part S → List (List ℕ)
+  keys_seen s = visible_keys service_answers same s now
+
+  -- what is visible is held
+  sees-held : (s : Part S) (q : List ℕ) → (sees s q && is_among q (held_keys s.records)) ≡ sees s q
+  sees-held s q =
+      ap (λ b. sees s q && b) (among-entry q (held_entries s.records))
+      ∙ ap (λ (o : Option Kept). is_some (option_map (λ (e : Kept). e.value) o) && is_some (entry_of same (held_entries s.records) q)) (visible_by_entries same service_answers s now q)
+      ∙ go (entry_of same (held_entries s.records) q)
+      ∙ sym (ap (λ (o : Option Kept). is_some (option_map (λ (e : Kept). e.value) o)) (visible_by_entries same service_answers s now q))
+    where
+      all : (b : Bool) → (b && true) ≡ b
+      all true = refl
+      all false = refl
+
+      go : (o : Option Kept) → (is_some (option_map (λ (e : Kept). e.value) (passing (is_visible service_answers s now) o)) && is_some o) ≡ is_some (option_map (λ (e : Kept). e.value) (passing (is_visible service_answers s now) o))
+      go None = refl
+      go (Some e) = all _
+
+  among-seen : (s : Part S) (q : List ℕ) → is_among q (keys_seen s) ≡ sees s q
+  among-seen s q = among-filter (sees s) q (held_keys s.records) ∙ sees-held s q
+
+  distinct-seen : (s : Part S) → AreApart same (held_entries s.records) → are_distinct (keys_seen s) ≡ true
+  distinct-seen s apart = distinct-filter (sees s) (held_keys s.records) (distinct-held (held_entries s.records) apart)
+
+  -- another part's keys are not there
+  sees-none : (part_of : List ℕ → ℕ) (part : ℕ) (s : Part S) (q : List ℕ) → ArePlaced part_of part (held_entries s.records) → (part_of q ≡ part → ⊥) → sees s q ≡ false
+  sees-none part_of part s q placed other =
+      ap (λ (o : Option Kept). is_some (option_map (λ (e : Kept). e.value) o)) (visible_by_entries same service_answers s now q) ∙ go (entry_of same (held_entries s.records) q) refl
+    where
+      go : (o : Option Kept) → entry_of same (held_entries s.records) q ≡ o → is_some (option_map (λ (e : Kept). e.value) (passing (is_visible service_answers s now) o)) ≡ false
+      go None e = refl
+      go (Some x) e = absurd (other (placed q x e))
+
+  -- ---- all parts
+
+  -- the keys of all parts that have a visible value
+  abbrev pub all_seen : List (Part S) → List (List ℕ)
+  all_seen [] = []
+  all_seen (s ∷ parts) = visible_keys service_answers same s now ++ all_seen parts
+
+  none-before : (part_of : List ℕ → ℕ) (first : ℕ) (parts : List (Part S)) (q : List ℕ) → AreParted part_of first parts → part_of q < first → is_among q (all_seen parts) ≡ false
+  none-before part_of first [] q p lt = refl
+  none-before part_of first (s ∷ parts) q p lt =
+      list_any-append (λ k. same q k) (keys_seen s) (all_seen parts)
+      ∙ ap (λ b. b || is_among q (all_seen parts)) (among-seen s q ∙ sees-none part_of first s q p.1 (λ e. omega (arith, e, lt)))
+      ∙ none-before part_of (suc first) parts q p.2 (omega (arith, lt))
+
+  among-all : (part_of : List ℕ → ℕ) (first k : ℕ) (parts : List (Part S)) (s : Part S) (q : List ℕ) → AreParted part_of first parts → slice_get parts k ≡ Some s → part_of q ≡ first + k → is_among q (all_seen parts) ≡ sees s q
+  among-all part_of first k [] s q p there at = absurd (none-some s there)
+  among-all part_of first zero (x ∷ parts) s q p there at =
+      let is : x ≡ s = cc in
+      list_any-append (λ k. same q k) (keys_seen x) (all_seen parts)
+      ∙ ap (λ b. is_among q (keys_seen x) || b) (none-before part_of (suc first) parts q p.2 (omega (arith, at)))
+      ∙ no (is_among q (keys_seen x)) ∙ among-seen x q ∙ ap (λ (y : Part S). sees y q) is
+    where
+      no : (b : Bool) → (b || false) ≡ b
+      no true = refl
+      no false = refl
+  among-all part_of first (suc k) (x ∷ parts) s q p there at =
+      list_any-append (λ k. same q k) (keys_seen x) (all_seen parts)
+      ∙ ap (λ b. b || is_among q (all_seen parts)) (among-seen x q ∙ sees-none part_of first x q p.1 (λ e. omega (arith, e, at)))
+      ∙ among-all part_of (suc first) k parts s q p.2 there (omega (arith, at))
+
+  distinct-all : (part_of : List ℕ → ℕ) (first : ℕ) (parts : List (Part S)) → AreParted part_of first parts → are_distinct (all_seen parts) ≡ true
+  distinct-all part_of first [] p = refl
+  distinct-all part_of first (s ∷ parts) p = distinct-append (keys_seen s) (all_seen parts) (distinct-seen s p.0) (distinct-all part_of (suc first) parts p.2) apart
+    where
+      apart : (q : List ℕ) → is_among q (keys_seen s) ≡ true → is_among q (all_seen parts) ≡ false
+      apart q h = go (entry_of same (held_entries s.records) q) refl
+        where
+          held : is_some (entry_of same (held_entries s.records) q) ≡ true
+          held = sym (among-entry q (held_entries s.records)) ∙ (and_parts (sees s q) (is_among q (held_keys s.records)) (sees-held s q ∙ sym (among-seen s q) ∙ h)).1
+
+          go : (o : Option Kept) → entry_of same (held_entries s.records) q ≡ o → is_among q (all_seen parts) ≡ false
+          go None e = absurd (true≢false (sym held ∙ ap (λ (o : Option Kept). is_some o) e))
+          go (Some x) e = let at = p.1 q x e in none-before part_of (suc first) parts q p.2 (omega (arith, at))
+
+  -- ---- how many they are
+
+  seen-few : (first : ℕ) (parts : List (Part S)) → length (all_seen parts) ≤ length (items_of first parts)
+  seen-few first [] = omega arith
+  seen-few first (s ∷ parts) =
+      let a = length-append (keys_seen s) (all_seen parts) in
+      let b = length-append (items_in first s) (items_of (suc first) parts) in
+      let f = filter-few (sees s) (held_keys s.records) in
+      let k = length-map (held_entries s.records) (λ (e : Kept). e.key) in
+      let m = length-map (held_entries s.records) (held_of first s) in
+      let later = seen-few (suc first) parts in
+      omega (arith, a, b, f, k, m, later)
+
+  seen-sum : (parts : List (Part S)) → sum_by (λ (s : Part S). length (visible_keys service_answers same s now)) parts ≡ length (all_seen parts)
+  seen-sum [] = refl
+  seen-sum (s ∷ parts) =
+      sum_by-cons (λ (s : Part S). length (visible_keys service_answers same s now)) s parts ∙ ap (λ n. length (keys_seen s) + n) (seen-sum parts) ∙ sym (length-append (keys_seen s) (all_seen parts))
+
+  -- they are the live keys, once in byte order
+  pub live_over : (a : StoreOfParts S) → IsWhole a → AreLive (view a) now (λ live. live ≡ sorted (all_seen a.parts))
+  live_over a w = live_keys a now (all_seen a.parts) w (distinct-all a.frame.part_of 0 a.parts (parted a w))
+      (λ q s there. among-all a.frame.part_of 0 (a.frame.part_of q) a.parts s q (parted a w) there (omega arith) ∙ some-visible s q)
+    where
+      some-visible : (s : Part S) (q : List ℕ) → sees s q ≡ is_some (visible service_answers same s now q)
+      some-visible s q = go (visible service_answers same s now q)
+        where
+          go : (o : Option Kept) → is_some (option_map (λ (e : Kept). e.value) o) ≡ is_some o
+          go None = refl
+          go (Some e) = refl
+
+  -- and so many
+  pub number_over : (a : StoreOfParts S) (number : ℕ) → IsWhole a → number ≡ visible_number service_answers same now a.parts → AreLive (view a) now (λ live. number ≡ length live)
+  number_over a number w is = λ held stands.
+      let l = ap length (live_over a w held stands) ∙ length-sorted (all_seen a.parts) in
+      let s = seen-sum a.parts in
+      let f = seen-few 0 a.parts in
+      let small = w.small in
+      omega (arith, is, l, s, f, small)
+
+-- ---- the same from the keys of all parts, by the hash of each
+
+filter-same : (p r : List ℕ → Bool) (ks : List (List ℕ)) → ((q : List ℕ) → is_among q ks ≡ true → p q ≡ r q) → filter p ks ≡ filter r ks
+filter-same p r [] each = refl
+filter-same p r (k ∷ ks) each =
+    ap (λ b. cond b (k ∷ filter p ks) (filter p ks)) (each k (ap (λ b. b || is_among k ks) (same-refl k)))
+    ∙ ap (λ xs. cond (r k) (k ∷ xs) xs) (filter-same p r ks (λ q h. each q (or-right (same q k) h)))
+  where
+    or-right : (b : Bool) {c : Bool} → c ≡ true → (b || c) ≡ true
+    or-right true h = refl
+    or-right false h = h
+
+module _ {S : Type 0} where
+  held-in : (part_of : List ℕ → ℕ) (part : ℕ) (s : Part S) (q : List ℕ) → ArePlaced part_of part (held_entries s.records) → is_among q (held_keys s.records) ≡ true → part_of q ≡ part
+  held-in part_of part s q placed h = go (entry_of same (held_entries s.records) q) refl (sym (among-entry q (held_entries s.records)) ∙ h)
+    where
+      go : (o : Option Kept) → entry_of same (held_entries s.records) q ≡ o → is_some (entry_of same (held_entries s.records) q) ≡ true → part_of q ≡ part
+      go None e some = absurd (true≢false (sym some ∙ ap (λ (x : Option Kept). is_some x) e))
+      go (Some x) e some = placed q x e
+
+  held-none : (part_of : List ℕ → ℕ) (part : ℕ) (s : Part S) (q : List ℕ) → ArePlaced part_of part (held_entries s.records) → (part_of q ≡ part → ⊥) → is_among q (held_keys s.records) ≡ false
+  held-none part_of part s q placed other = go (is_among q (held_keys s.records)) refl
+    where
+      go : (b : Bool) → is_among q (held_keys s.records) ≡ b → is_among q (held_keys s.records) ≡ false
+      go true e = absurd (other (held-in part_of part s q placed e))
+      go false e = e
+
+  none-held : (part_of : List ℕ → ℕ) (first : ℕ) (parts : List (Part S)) (q : List ℕ) → AreParted part_of first parts → part_of q < first → is_among q (held_by_all parts) ≡ false
+  none-held part_of first [] q p lt = refl
+  none-held part_of first (s ∷ parts) q p lt =
+      list_any-append (λ k. same q k) (held_keys s.records) (held_by_all parts)
+      ∙ ap (λ b. b || is_among q (held_by_all parts)) (held-none part_of first s q p.1 (λ e. omega (arith, e, lt)))
+      ∙ none-held part_of (suc first) parts q p.2 (omega (arith, lt))
+
+  distinct-all-held : (part_of : List ℕ → ℕ) (first : ℕ) (parts : List (Part S)) → AreParted part_of first parts → are_distinct (held_by_all parts) ≡ true
+  distinct-all-held part_of first [] p = refl
+  distinct-all-held part_of first (s ∷ parts) p = distinct-append (held_keys s.records) (held_by_all parts) (distinct-held (held_entries s.records) p.0) (distinct-all-held part_of (suc first) parts p.2)
+      (λ q h. (let at = held-in part_of first s q p.1 h in none-held part_of (suc first) parts q p.2 (omega (arith, at))))
+
+  seen-same : (now : ℕ) (test : List ℕ → Bool) (part_of : List ℕ → ℕ) (first : ℕ) (parts : List (Part S)) → AreParted part_of first parts → ((k : ℕ) (s : Part S) → slice_get parts k ≡ Some s → (q : List ℕ) → part_of q ≡ first + k → test q ≡ sees now s q)
+      → filter test (held_by_all parts) ≡ all_seen now parts
+  seen-same now test part_of first [] p each = refl
+  seen-same now test part_of first (s ∷ parts) p each =
+      filter-append test (held_keys s.records) (held_by_all parts)
+      ∙ ap (λ ks. ks ++ filter test (held_by_all parts)) (filter-same test (sees now s) (held_keys s.records) (λ q h. each zero s refl q (let at = held-in part_of first s q p.1 h in omega (arith, at))))
+      ∙ ap (λ ks. visible_keys service_answers same s now ++ ks) (seen-same now test part_of (suc first) parts p.2 (λ k t there q at. each (suc k) t there q (omega (arith, at))))
+
+  module _ (hash : S → List ℕ → ℕ) (d : FrontData S) (w : IsWhole (parted_by hash d)) where
+    pub distinct_over : are_distinct (held_by_all d.front.parts) ≡ true
+    distinct_over = distinct-all-held (parted_by hash d).frame.part_of 0 d.front.parts (parted (parted_by hash d) w)
+
+    pub seen_over : (now : ℕ) → AreLive (view (parted_by hash d)) now (λ live. live ≡ sorted (seen_by_all hash now d.front))
+    seen_over now = λ held stands.
+        live_over now (parted_by hash d) w held stands
+        ∙ ap sorted (sym (seen-same now (is_seen hash now d.front) (parted_by hash d).frame.part_of 0 d.front.parts (parted (parted_by hash d) w) each))
+      where
+        each : (k : ℕ) (s : Part S) → slice_get d.front.parts k ≡ Some s → (q : List ℕ) → (parted_by hash d).frame.part_of q ≡ 0 + k → is_seen hash now d.front q ≡ sees now s q
+        each k s there q at =
+            let is : (parted_by hash d).frame.part_of q ≡ k = omega (arith, at) in
+            ap (λ (o : Option (Part S)). is_some (visible_of (record { answers = service_answers; eq = same; hash = hash }) o now q)) (ap (λ n. slice_get d.front.parts n) is ∙ there)

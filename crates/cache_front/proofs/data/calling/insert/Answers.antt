@@ -1,0 +1,13 @@
+use Rattle.std.proofs.Common.{arith}
+use Rattle.audit_model.specs.Bytewise.{same}
+use Rattle.front_reference.specs.Fronts.{part_of}
+use Rattle.cache_parts.specs.Parts.{service_answers}
+use Rattle.cache_front.specs.Data.Data.{hash_with}
+use Rattle.cache_front.proofs.data.Calls.{tickets_from}
+use Rattle.cache_front.proofs.data.calling.insert.Goals as goal
+
+pub returns-in-Err-clause-used_up : goal.returns-in-Err-clause-used_up
+returns-in-Err-clause-used_up g c = λ used.
+    let f = c.args.front.now in
+    let hash = hash_with g.S.BuildHasher g.S.Hasher.Hasher in
+    tickets_from (record { answers = service_answers; eq = same; hash = hash }) (λ _. 1) (λ s. omega arith) f.parts (part_of f.bits (hash f.common.hasher c.args.key.now)) c.in-Err.error c.in-Err.ensures.cause (c.refusal_of.ensures cc)

@@ -1,0 +1,21 @@
+//! What a store over a front has, and what it does with it: calls of the front, notices on their way out, live keys, and how it is made.
+mod calling;
+mod draining;
+mod listing;
+mod making;
+
+use audit_model::{Key, Weight};
+use crate::entries::StoredValue;
+pub use calling::{clear, cover, insert, invalidate, prepare};
+pub use draining::{drain, note_of};
+use front_reference::Shared;
+pub use front_state::{LentState, Notice};
+pub use listing::write_keys;
+pub use making::{bits_of, settings_of};
+use std::collections::VecDeque;
+
+/// The front, whose keys this hashes.
+pub type Front<S> = LentState<Key, StoredValue, S, Weight>;
+
+/// Notices that a front told.
+pub type Notices = VecDeque<Notice<Shared<Key>, StoredValue>>;

@@ -1,0 +1,179 @@
+//! Calls of a front: at the step of the last call, or, where they cover what was written before, at the next one.
+ghost use Rattle.std.specs.Prelude.{◌≡◌, suc, ◌+◌, ◌<◌, ◌≤◌, ◌^◌, ◌⊎◌, true, false, IfOk, OnOk, OnErr, length};
+ghost use Rattle.std.specs.Result.{IsErrOf};
+ghost use Rattle.std.specs.VecDeque.{deque_capacity};
+ghost use Rattle.engine_reference.specs.Calls.{cleared_by};
+ghost use Rattle.front_reference.specs.Fronts.{CallsAll};
+ghost use Rattle.front_reference.specs.Wholes.{DrawsInVain};
+ghost use Rattle.cache_parts_store.specs.Meets.{stored};
+ghost use Rattle.cache_front.specs.Data.Data.{hash_with, CoversBy, InsertsBy, IsAnswerTo, LackTickets, TakesOutBy};
+
+use crate::data::{Front, Notices};
+use audit_model::{Bytes, Key, Seq};
+use crate::entries::StoredValue;
+use cache_store::StoreError;
+use front_reference::{At, CacheError, ClonedKey};
+use policy_base::Instant;
+use rand_core::Rng;
+use std::alloc::{AllocError, Global};
+use std::hash::BuildHasher;
+
+/// A store holds at most so many values, so that what they weigh is a number of 64 bits.
+const MOST_VALUES: usize = 1 << 50;
+
+/// What is kept of a value, where there may be one more beside so many, with room in the queue for a notice of each.
+pub fn prepare(
+    alloc: Global,
+    notices: &mut Notices,
+    count: usize,
+    bytes: &[u8],
+    milliseconds: Option<u64>,
+) -> Result<StoredValue, AllocError>
+    requires short { length bytes.now ≤ 8192 }
+    ensures value { IfOk result (λ value. value ≡ stored bytes.now milliseconds) }
+    ensures few { OnOk result (count < 2 ^ 50) }
+    ensures room { OnOk result (length notices.new.items + suc count ≤ deque_capacity notices.new) }
+    ensures same { notices.new.items ≡ notices.old.items }
+    ensures grows { deque_capacity notices.old ≤ deque_capacity notices.new }
+{
+    if count >= MOST_VALUES {
+        return Err(AllocError);
+    }
+    let bytes = Vec::from_slice(alloc, bytes)?;
+    notices.reserve(count + 1)?;
+    Ok(StoredValue::new(bytes, milliseconds))
+}
+
+/// Why a store refuses what its front refuses.
+fn refusal_of(error: CacheError) -> StoreError
+    ensures { result ≡ StoreError.UsedUp → error ≡ CacheError.UsedUp }
+{
+    match error {
+        CacheError::UsedUp => StoreError::UsedUp,
+        _ => StoreError::OutOfMemory,
+    }
+}
+
+/// Inserts a value.
+pub fn insert<S: BuildHasher>(
+    alloc: Global,
+    front: &mut Front<S>,
+    key: &Key,
+    value: StoredValue,
+    now: u64,
+) -> Result<(), StoreError>
+    requires later { front.old.moment ≤ now }
+    requires moment { now < 2 ^ 63 }
+    ensures inserts { OnOk result (InsertsBy (hash_with S.BuildHasher S.Hasher.Hasher) key.now value now front.old front.new) }
+    ensures used_up { IsErrOf result StoreError.UsedUp → LackTickets front.old.parts }
+    ensures err { OnErr result (front.new ≡ front.old) }
+{
+    let At { step, .. } = front.last_call();
+    let hash = front.hash(key);
+    let at = At {
+        now: Instant::from_nanos(now),
+        step,
+    };
+    match front.insert_with_hash(ClonedKey { key, alloc }, hash, value, at) {
+        Ok(()) => Ok(()),
+        Err(error) => Err(refusal_of(error)),
+    }
+}
+
+/// Takes a key out.
+pub fn invalidate<S: BuildHasher>(
+    front: &mut Front<S>,
+    key: &Key,
+    now: u64,
+) -> Result<(), StoreError>
+    requires later { front.old.moment ≤ now }
+    requires moment { now < 2 ^ 63 }
+    ensures takes_out { OnOk result (TakesOutBy (hash_with S.BuildHasher S.Hasher.Hasher) key.now now front.old front.new) }
+    ensures used_up { IsErrOf result StoreError.UsedUp → LackTickets front.old.parts }
+    ensures err { OnErr result (front.new ≡ front.old) }
+{
+    let At { step, .. } = front.last_call();
+    let at = At {
+        now: Instant::from_nanos(now),
+        step,
+    };
+    match front.invalidate(key, at) {
+        Ok(()) => Ok(()),
+        Err(error) => Err(refusal_of(error)),
+    }
+}
+
+/// The next step, if there is one.
+fn next_step(step: u64) -> Result<u64, StoreError>
+    ensures next { IfOk result (λ next. next ≡ suc step) }
+    ensures used_up { IsErrOf result StoreError.UsedUp → 2 ^ 64 ≤ suc step }
+    ensures err { OnErr result (IsErrOf result StoreError.UsedUp) }
+{
+    match step.checked_add(1) {
+        Some(next) => Ok(next),
+        None => Err(StoreError::UsedUp),
+    }
+}
+
+/// Covers all that was written before.
+pub fn clear<S: BuildHasher>(front: &mut Front<S>, now: u64) -> Result<(), StoreError>
+    requires later { front.old.moment ≤ now }
+    requires moment { now < 2 ^ 63 }
+    ensures clears { OnOk result (CallsAll now (suc front.old.step) (λ s t. t ≡ cleared_by (suc front.old.step) s) front.old front.new) }
+    ensures used_up { OnErr result (IsErrOf result StoreError.UsedUp × (2 ^ 64 ≤ suc front.old.step)) }
+    ensures err { OnErr result (front.new ≡ front.old) }
+{
+    let At { step, .. } = front.last_call();
+    let step = next_step(step)?;
+    front.invalidate_all(At {
+        now: Instant::from_nanos(now),
+        step,
+    });
+    Ok(())
+}
+
+/// Covers the keys of a prefix in all parts, and answers true; or, where a part drew in vain, in none, and answers false.
+pub fn cover<S: BuildHasher, R: Rng>(
+    alloc: Global,
+    front: &mut Front<S>,
+    generator: &mut R,
+    prefix: &[u8],
+    now: u64,
+) -> Result<bool, StoreError>
+    requires later { front.old.moment ≤ now }
+    requires moment { now < 2 ^ 63 }
+    ensures covers { IfOk result (λ covers. covers ≡ true → CoversBy prefix.now now (R.stream generator.old) (R.stream generator.new) front.old front.new) }
+    ensures lacks { IfOk result (λ covers. covers ≡ false → DrawsInVain front.old.parts (R.stream generator.old) (R.stream generator.new) × (front.new ≡ front.old)) }
+    ensures used_up { IsErrOf result StoreError.UsedUp → LackTickets front.old.parts ⊎ (2 ^ 64 ≤ suc front.old.step) }
+    ensures err { OnErr result ((front.new ≡ front.old) × (generator.new ≡ generator.old)) }
+{
+    let At { step, .. } = front.last_call();
+    let step = next_step(step)?;
+    let predicate = bytes_of(alloc, prefix)?;
+    let at = At {
+        now: Instant::from_nanos(now),
+        step,
+    };
+    match front.invalidate_segments_if(predicate, generator, at) {
+        Ok(()) => Ok(true),
+        Err(error) => lacks_or_refused(error),
+    }
+}
+
+/// What comes of a predicate that a front does not take: it lacks identifiers, or the store refuses too.
+fn lacks_or_refused(error: CacheError) -> Result<bool, StoreError>
+    ensures { IsAnswerTo error result }
+{
+    match error {
+        CacheError::IdsInUse => Ok(false),
+        _ => Err(refusal_of(error)),
+    }
+}
+
+/// These bytes, in memory of their own.
+fn bytes_of(alloc: Global, bytes: &[u8]) -> Result<Bytes, AllocError>
+    ensures { IfOk result (λ made. made ≡ bytes.now) }
+{
+    let items = Vec::from_slice(alloc, bytes)?;
+    Ok(Seq::from_vec(items))
+}

@@ -1,0 +1,77 @@
+//! What the front of a store is made with.
+ghost use Rattle.std.specs.Prelude.{◌≡◌, ◌≤◌, ◌^◌, ℕ, Some, option_map};
+ghost use Rattle.audit_model.specs.History.{part_count};
+ghost use Rattle.cache_parts.specs.Parts.{IsBrief, nanos, policy_of};
+ghost use Rattle.cache_front.specs.Data.Making.{whole_settings};
+
+use audit_model::Config;
+use front_state::{EvictionPolicy, Settings};
+
+/// How many bits say a key's part: there are 2^bits parts, the next power of two.
+pub fn bits_of(config: &Config) -> u32
+    ensures parts { 2 ^ result ≡ part_count config.now }
+    ensures few { result ≤ 8 }
+{
+    if config.parts <= 1 {
+        return 0;
+    }
+    if config.parts <= 2 {
+        return 1;
+    }
+    if config.parts <= 4 {
+        return 2;
+    }
+    if config.parts <= 8 {
+        return 3;
+    }
+    if config.parts <= 16 {
+        return 4;
+    }
+    if config.parts <= 32 {
+        return 5;
+    }
+    if config.parts <= 64 {
+        return 6;
+    }
+    if config.parts <= 128 {
+        return 7;
+    }
+    8
+}
+
+/// What all parts together are made with.
+pub fn settings_of(config: &Config, made: u64) -> Settings
+    requires { IsBrief config.now }
+    ensures { result ≡ whole_settings config.now made }
+{
+    Settings {
+        capacity: config.capacity,
+        live: as_nanos(config.live_ms),
+        idle: as_nanos(config.idle_ms),
+        policy: policy_of(config.policy),
+        tells: true,
+        takes_predicates: true,
+        made,
+    }
+}
+
+/// A time in nanoseconds.
+fn as_nanos(milliseconds: Option<u64>) -> Option<u64>
+    requires { (ms : ℕ) → milliseconds ≡ Some ms → ms ≤ 999999999999 }
+    ensures { result ≡ option_map nanos milliseconds }
+{
+    match milliseconds {
+        Some(milliseconds) => Some(milliseconds * 1_000_000),
+        None => None,
+    }
+}
+
+/// The policy, as the engine names it.
+fn policy_of(policy: audit_model::EvictionPolicy) -> EvictionPolicy
+    ensures { result ≡ policy_of policy }
+{
+    match policy {
+        audit_model::EvictionPolicy::TinyLfu => EvictionPolicy::TinyLfu,
+        audit_model::EvictionPolicy::Lru => EvictionPolicy::Lru,
+    }
+}

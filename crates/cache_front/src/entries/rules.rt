@@ -1,0 +1,63 @@
+//! The rules of the service.
+ghost use Rattle.cache_parts.specs.Parts.{service_answers};
+
+use crate::entries::value::StoredValue;
+use audit_model::{Bytes, Key, Weight};
+use engine_reference::{Expiration, Rules};
+use policy_base::Instant;
+use std::time::Duration;
+
+/// A value weighs what its namespace says. Each write sets its own expiration, and each read keeps it. A predicate is a prefix of keys.
+impl Rules<Key, StoredValue> for Weight {
+    type Predicate = Bytes;
+
+    type Fault = ();
+
+    ghost weight_of = { service_answers.weight_of };
+
+    ghost created = { service_answers.created };
+
+    ghost read = { service_answers.found };
+
+    ghost updated = { service_answers.updated };
+
+    ghost covers = { service_answers.covers };
+
+    fn weight(&self, _key: &Key, value: &StoredValue) -> u32 {
+        value.weigh(*self)
+    }
+
+    fn created_expiration(
+        &self,
+        _key: &Key,
+        value: &StoredValue,
+        _created_at: Instant,
+    ) -> Option<Duration> {
+        value.lifetime()
+    }
+
+    fn read_expiration(
+        &self,
+        _key: &Key,
+        _value: &StoredValue,
+        _read_at: Instant,
+        _remaining: Option<Duration>,
+        _last_modified_at: Instant,
+    ) -> Expiration {
+        Expiration::Keep
+    }
+
+    fn updated_expiration(
+        &self,
+        _key: &Key,
+        value: &StoredValue,
+        _updated_at: Instant,
+        _remaining: Option<Duration>,
+    ) -> Expiration {
+        Expiration::Set(value.lifetime())
+    }
+
+    fn is_covered(&self, predicate: &Bytes, key: &Key, _value: &StoredValue) -> bool {
+        key.as_bytes().starts_with(predicate.as_slice())
+    }
+}

@@ -1,0 +1,2 @@
+//! Laws of a store over a front: what the front's calls make of it.
+pub mod laws;

@@ -1,0 +1,193 @@
+//! The store over a front.
+ghost use Rattle.std.specs.Prelude.{◌≡◌, ◌<◌, ◌^◌, ◌||◌, IfOk};
+ghost use Rattle.cache_parts.specs.Parts.{IsBrief};
+ghost use Rattle.cache_front.specs.Data.Data.{shown_by, word_of};
+ghost use Rattle.cache_front.specs.Data.Making.{IsJustMade};
+
+use audit_model::{Config, Key, Note, Weight};
+use crate::entries::{StoredValue, WordBuilder};
+use crate::data::{LentState, Notice, bits_of, clear, cover, drain, insert, invalidate, note_of, prepare, settings_of, write_keys};
+use cache_store::{Counts, Store, StoreError};
+use front_reference::{At, Shared};
+use policy_base::Instant;
+use rand_core::Rng;
+use std::alloc::{AllocError, Global};
+use std::collections::VecDeque;
+use std::hash::BuildHasher;
+use std::marker::Model;
+
+/// The values of a namespace, in the parts of a front.
+///
+/// Calls come at the step of the last one, but for those that cover, which come at the next. What the front tells is taken after each call
+/// that tells and waits in one queue, in which a place is kept for each value, so that only an acceptance takes memory for it.
+#[derive(Drop)]
+pub struct FrontStore<R: Rng + Drop, S: BuildHasher + Drop> {
+    alloc: Global,
+    config: Config,
+    made: u64,
+    // whether a `DROPIF` was accepted
+    dropped: bool,
+    front: LentState<Key, StoredValue, WordBuilder<S>, Weight>,
+    notices: VecDeque<Notice<Shared<Key>, StoredValue>>,
+    // how many values are held
+    count: usize,
+    generator: R,
+}
+
+impl<R: Rng + Drop, S: BuildHasher + Drop> Model for FrontStore<R, S> {
+    ghost use Rattle.std.specs.Prelude.{◌≡◌};
+    ghost use Rattle.std.specs.VecDeque.{deque_capacity};
+    ghost use Rattle.cache_front.specs.declared.entries.hasher.WordBuilder.{WordBuilder};
+    ghost use Rattle.cache_front.specs.Data.Data.{StoreData, word_of};
+    ghost use Rattle.cache_front.specs.Data.State.{IsFit, store_of};
+
+    ghost Value = { StoreData R (WordBuilder S) };
+
+    ghost view = { λ s. record { config = s.config; made = s.made; dropped = s.dropped; queue = s.notices.items; generator = s.generator; front = s.front } };
+
+    ghost invariant = { λ s. IsFit (store_of (word_of S.BuildHasher S.Hasher.Hasher) s.config s.made s.dropped s.notices.items (R.stream s.generator) s.front) s.count (deque_capacity s.notices) };
+}
+
+impl<R: Rng + Drop, S: BuildHasher + Drop> FrontStore<R, S> {
+    /// Nothing is held, and nothing was told. The hasher says in which part a key is; where keys come from strangers it is to be one that they
+    /// cannot foresee.
+    pub fn new(
+        alloc: Global,
+        config: Config,
+        made: u64,
+        generator: R,
+        hasher: S,
+    ) -> Result<FrontStore<R, S>, AllocError>
+        requires brief { IsBrief config }
+        requires moment { made < 2 ^ 63 }
+        ensures made { IfOk result (λ s. IsJustMade config (word_of S.BuildHasher S.Hasher.Hasher (record { inner = hasher })) made (R.stream generator) (shown_by S.BuildHasher S.Hasher.Hasher R.stream s)) }
+        ensures generator { IfOk result (λ s. s.generator ≡ generator) }
+    {
+        let bits = bits_of(&config);
+        let settings = settings_of(&config, made);
+        let hasher = WordBuilder::new(hasher);
+        let front = LentState::with_parts(alloc, None, bits, 0, settings, hasher, config.weight)?;
+        Ok(FrontStore {
+            alloc,
+            config,
+            made,
+            dropped: false,
+            front,
+            notices: VecDeque::new(alloc),
+            count: 0,
+            generator,
+        })
+    }
+}
+
+impl<R: Rng + Drop, S: BuildHasher + Drop> Store for FrontStore<R, S> {
+    ghost use Rattle.cache_front.specs.Data.Data.{shown_by};
+
+    ghost view = { λ s. shown_by S.BuildHasher S.Hasher.Hasher R.stream s };
+
+    fn config(&self) -> &Config {
+        &self.config
+    }
+
+    fn sound(&self) {
+        let _count = self.count;
+    }
+
+    fn len(&self) -> usize {
+        self.count
+    }
+
+    fn peek(&self, key: &Key, now: u64) -> Option<&[u8]> {
+        match self.front.peek(key, Instant::from_nanos(now)) {
+            Some(value) => Some(value.as_bytes()),
+            None => None,
+        }
+    }
+
+    fn count_live(&self, now: u64) -> usize {
+        self.front.count_visible(Instant::from_nanos(now))
+    }
+
+    fn write_live_keys(&self, now: u64, output: &mut Vec<u8>) -> Result<(), AllocError> {
+        write_keys(self.alloc, &self.front, now, output)
+    }
+
+    fn touch(&mut self, key: &Key, now: u64) {
+        self.front.touch(key, Instant::from_nanos(now));
+        let told = drain(&mut self.front, &mut self.notices);
+        self.count -= told;
+    }
+
+    fn accept(
+        &mut self,
+        key: &Key,
+        bytes: &[u8],
+        milliseconds: Option<u64>,
+        looked_up: bool,
+        now: u64,
+    ) -> Result<u64, StoreError> {
+        let value = prepare(
+            self.alloc,
+            &mut self.notices,
+            self.count,
+            bytes,
+            milliseconds,
+        )?;
+        let part = self.front.part(key);
+        insert(self.alloc, &mut self.front, key, value, now)?;
+        let told = drain(&mut self.front, &mut self.notices);
+        self.count = self.count + 1 - told;
+        Ok(part as u64)
+    }
+
+    fn remove(&mut self, key: &Key, now: u64) -> Result<(), StoreError> {
+        invalidate(&mut self.front, key, now)?;
+        let told = drain(&mut self.front, &mut self.notices);
+        self.count -= told;
+        Ok(())
+    }
+
+    fn clear(&mut self, now: u64) -> Result<(), StoreError> {
+        clear(&mut self.front, now)
+    }
+
+    fn drop_prefix(&mut self, prefix: &[u8], now: u64) -> Result<bool, StoreError> {
+        let covers = cover(
+            self.alloc,
+            &mut self.front,
+            &mut self.generator,
+            prefix,
+            now,
+        )?;
+        self.dropped = is_either(self.dropped, covers);
+        Ok(covers)
+    }
+
+    fn run_all(&mut self, now: u64) -> Counts {
+        let At { step, .. } = self.front.last_call();
+        self.front.run_pending_tasks(At {
+            now: Instant::from_nanos(now),
+            step,
+        });
+        let counts = Counts {
+            number: self.front.entry_count(),
+            weight: self.front.weighted_size(),
+        };
+        let told = drain(&mut self.front, &mut self.notices);
+        self.count -= told;
+        counts
+    }
+
+    fn next_notice(&mut self) -> Option<Note> {
+        match self.notices.pop_front() {
+            Some(notice) => Some(note_of(notice)),
+            None => None,
+        }
+    }
+}
+
+fn is_either(one: bool, other: bool) -> bool
+    ensures { result ≡ (one || other) }
+{
+    one || other
+}

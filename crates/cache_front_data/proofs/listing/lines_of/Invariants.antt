@@ -1,5 +1,0 @@
-use Rattle.cache_front_data.proofs.Sorting.{Lined}
-use Rattle.cache_front_data.proofs.listing.lines_of.Given as goal
-
-abbrev pub invariant-loop-key : goal.invariant-loop-key
-invariant-loop-key l = Lined l.keys.entries l.key-iterator l.lines.items

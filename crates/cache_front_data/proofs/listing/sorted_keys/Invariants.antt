@@ -1,8 +1,0 @@
-use Rattle.std.proofs.Common.{drop}
-use Rattle.cache_front_data.specs.Data.{hash_with}
-use Rattle.cache_front_data.specs.Listing.{is_seen}
-use Rattle.cache_front_data.proofs.Sorting.{Sorts}
-use Rattle.cache_front_data.proofs.listing.sorted_keys.Given as goal
-
-abbrev pub invariant-loop-key : goal.invariant-loop-key
-invariant-loop-key g l = Sorts (is_seen (hash_with g.S.BuildHasher g.S.Hasher.Hasher) l.now l.front) l.keys (drop l.key-index l.keys) l.found.entries

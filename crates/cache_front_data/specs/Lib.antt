@@ -1,8 +1,0 @@
-pub mod Data
-pub mod Making
-pub mod Listing
--- of crates below, for the store above
-pub use Rattle.cache_front_laws.specs.Laws
-pub use Rattle.cache_front_laws.specs.State
-pub use Rattle.cache_parts_store.specs.View
-pub use Rattle.front_state.specs.Covering

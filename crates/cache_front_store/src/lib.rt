@@ -1,6 +1,0 @@
-//! The values of a namespace over the cache: a `Store` on a front of one or several parts.
-#![tactic(auto)]
-
-mod store;
-
-pub use store::FrontStore;
