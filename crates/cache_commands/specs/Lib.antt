@@ -1,3 +1,4 @@
+pub mod Loads
 pub mod Drawing
 pub mod Loading
 pub mod Order

@@ -21,9 +21,9 @@ use Rattle.cache_lines.proofs.Drawn.{spends-same}
 use Rattle.cache_lines.proofs.LineRuns.{gather-none}
 use Rattle.cache_lines.proofs.LoadWaits.{stops-waiting}
 use Rattle.cache_lines.proofs.WholeLines.{behind-more, held-more}
-use Rattle.cache_loads.specs.Standings.{holds_line, keeps_line, waits_for_load}
-use Rattle.cache_loads.specs.declared.standing.Standing.{Standing}
-use Rattle.cache_loads.specs.declared.standing.Standing.TheVariants as now
+use Rattle.cache_commands.specs.Loads.Standings.{holds_line, keeps_line, waits_for_load}
+use Rattle.cache_commands.specs.declared.loads.standing.Standing.{Standing}
+use Rattle.cache_commands.specs.declared.loads.standing.Standing.TheVariants as now
 use Rattle.cache_connection.specs.Fed.{FedRan, LooksAsBefore, TakesWaiting, closing_by}
 use Rattle.cache_connection.specs.Fits.{ClosesFor, Fits, RunsOn}
 use Rattle.cache_connection.specs.Parts.{standing_as}

@@ -7,7 +7,7 @@ use Rattle.audit_model.specs.Stream.{behind_lines}
 use Rattle.audit_model.specs.declared.command.Closing.{Closing}
 use Rattle.cache_lines.specs.Lines.{set_in}
 use Rattle.cache_lines.specs.Waiting.{waiting}
-use Rattle.cache_loads.specs.declared.standing.Standing.{Standing}
+use Rattle.cache_commands.specs.declared.loads.standing.Standing.{Standing}
 use Rattle.cache_connection.specs.Parts.{put_parts}
 
 -- a connection that is closed for too many bytes

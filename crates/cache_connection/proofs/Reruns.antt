@@ -40,11 +40,11 @@ use Rattle.cache_lines.specs.Waiting.{UnderWay, holding_load, is_load, load_sent
 use Rattle.cache_lines.specs.Whole.{has_line, held_line, is_few, is_long_line, is_near}
 use Rattle.cache_lines.proofs.Drawn.{draws-first}
 use Rattle.cache_lines.proofs.LineRuns.{fresh-gather}
-use Rattle.cache_loads.specs.Pending.{SameLoads, number_to_send}
-use Rattle.cache_loads.specs.declared.loads.Loads.{Loads}
-use Rattle.cache_loads.specs.Standings.{keeps_line, waits_for_load}
-use Rattle.cache_loads.specs.declared.standing.Standing.{Standing}
-use Rattle.cache_loads.specs.declared.standing.Standing.TheVariants as now
+use Rattle.cache_commands.specs.Loads.Pending.{SameLoads, number_to_send}
+use Rattle.cache_commands.specs.declared.loads.loads.Loads.{Loads}
+use Rattle.cache_commands.specs.Loads.Standings.{keeps_line, waits_for_load}
+use Rattle.cache_commands.specs.declared.loads.standing.Standing.{Standing}
+use Rattle.cache_commands.specs.declared.loads.standing.Standing.TheVariants as now
 use Rattle.cache_store.specs.Promises.{no_deed}
 use Rattle.cache_store.specs.Values.{IsSoundStore, Values}
 use Rattle.cache_tape.specs.Taped.{Taped, drafts, ends, spends, step_held, text_left}

@@ -19,7 +19,7 @@ use Rattle.cache_lines.specs.Making.{Making, making_of}
 use Rattle.cache_lines.specs.Ordered.{order_behind_step}
 use Rattle.cache_lines.specs.Waiting.{loads_in, with_under_way}
 use Rattle.cache_lines.specs.Whole.{held_line}
-use Rattle.cache_loads.specs.declared.standing.Standing.TheVariants as now_is
+use Rattle.cache_commands.specs.declared.loads.standing.Standing.TheVariants as now_is
 use Rattle.cache_tape.specs.Taped.{Taped, spends, text_left}
 use Rattle.cache_connection.specs.Shown.{put_in, shown}
 use Rattle.cache_connection.specs.declared.connection.Connection.{Connection}

@@ -13,7 +13,7 @@ use Rattle.cache_lines.specs.Lines.{IsThere, set_in, with_drops}
 use Rattle.cache_lines.specs.Making.{making_of}
 use Rattle.cache_lines.specs.Waiting.{loads_in, with_under_way}
 use Rattle.cache_lines.specs.declared.base.Base.{Base}
-use Rattle.cache_loads.specs.Standings.{holds_line, waits_for_load}
+use Rattle.cache_commands.specs.Loads.Standings.{holds_line, waits_for_load}
 use Rattle.cache_store.specs.Values.{Values}
 use Rattle.cache_tape.specs.Taped.{Taped}
 use Rattle.cache_connection.specs.Fits.{ClosesFor, RunsOn}

@@ -6,9 +6,9 @@ use Rattle.cache_lines.specs.Ended.{ends_by_quit, left_by}
 use Rattle.cache_lines.specs.Lines.{situation_behind}
 use Rattle.cache_lines.specs.Whole.{has_line, is_few, is_long_line, is_near}
 use Rattle.cache_lines.specs.declared.ending.End.{End}
-use Rattle.cache_loads.specs.Standings.{keeps_line, waits_for_load}
-use Rattle.cache_loads.specs.declared.standing.Standing.{Standing}
-use Rattle.cache_loads.specs.declared.standing.Standing.TheVariants as now
+use Rattle.cache_commands.specs.Loads.Standings.{keeps_line, waits_for_load}
+use Rattle.cache_commands.specs.declared.loads.standing.Standing.{Standing}
+use Rattle.cache_commands.specs.declared.loads.standing.Standing.TheVariants as now
 use Rattle.cache_connection.specs.Parts.{put_parts}
 use Rattle.cache_connection.specs.declared.standing.Stance.{Stance}
 

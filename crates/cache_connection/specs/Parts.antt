@@ -6,9 +6,9 @@ use Rattle.audit_model.specs.Stream.{behind_lines}
 use Rattle.audit_model.specs.declared.command.Closing.{Closing}
 use Rattle.cache_lines.specs.Lines.{set_in}
 use Rattle.cache_lines.specs.Whole.{held_line}
-use Rattle.cache_loads.specs.Standings.{keeps_line}
-use Rattle.cache_loads.specs.declared.standing.Standing.{Standing}
-use Rattle.cache_loads.specs.declared.standing.Standing.TheVariants as now
+use Rattle.cache_commands.specs.Loads.Standings.{keeps_line}
+use Rattle.cache_commands.specs.declared.loads.standing.Standing.{Standing}
+use Rattle.cache_commands.specs.declared.loads.standing.Standing.TheVariants as now
 
 -- it runs lines, or waits before that line
 abbrev pub stands_before : Standing → List ℕ → model.Standing

@@ -9,15 +9,14 @@ ghost use Rattle.cache_lines.specs.Bases.{CanRun};
 ghost use Rattle.cache_lines.specs.Ended.{spare_of};
 ghost use Rattle.cache_lines.specs.Waiting.{is_load};
 ghost use Rattle.cache_lines.specs.Whole.{has_line, held_line};
-ghost use Rattle.cache_loads.specs.Pending.{SameTaken};
-ghost use Rattle.cache_loads.specs.declared.standing.Standing.TheVariants as stands;
+ghost use Rattle.cache_commands.specs.Loads.Pending.{SameTaken};
+ghost use Rattle.cache_commands.specs.declared.loads.standing.Standing.TheVariants as stands;
 ghost use Rattle.cache_tape.specs.Taped.{HasSpare};
 
 use crate::connection::Connection;
 use audit_lines::{Buffer, Next};
-use cache_commands::write_abandoned;
+use cache_commands::{Standing, write_abandoned};
 use cache_lines::{Base, Done, join_load, run_line};
-use cache_loads::Standing;
 use cache_store::Store;
 use cache_tape::Tape;
 

@@ -2,13 +2,13 @@
 ghost use Rattle.std.specs.Prelude.{◌≡◌, [], None, true};
 ghost use Rattle.cache_connection.specs.Fits.{Fits};
 ghost use Rattle.cache_lines.specs.Outputs.{IsRoomy};
-ghost use Rattle.cache_loads.specs.Standings.{waits_for_load};
-ghost use Rattle.cache_loads.specs.declared.standing.Standing.TheVariants as now;
+ghost use Rattle.cache_commands.specs.Loads.Standings.{waits_for_load};
+ghost use Rattle.cache_commands.specs.declared.loads.standing.Standing.TheVariants as now;
 
 use audit_lines::Buffer;
 use audit_model::Closing;
 use cache_lines::Output;
-use cache_loads::Standing;
+use cache_commands::Standing;
 use std::alloc::Global;
 
 /// A connection: what came and was not used, the replies that were not taken, and why it closed.

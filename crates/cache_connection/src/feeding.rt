@@ -3,14 +3,14 @@ ghost use Rattle.std.specs.Prelude.{◌≡◌, ◌+◌, ◌≤◌, None, true, l
 ghost use Rattle.cache_connection.specs.Fed.{FedOver, LooksAsBefore, TakesWaiting};
 ghost use Rattle.cache_lines.specs.Bases.{CanRun, LooksSame, seen};
 ghost use Rattle.cache_lines.specs.Ended.{spare_of};
-ghost use Rattle.cache_loads.specs.Pending.{SameTaken};
-ghost use Rattle.cache_loads.specs.Standings.{holds_line};
-ghost use Rattle.cache_loads.specs.declared.standing.Standing.TheVariants as now_is;
+ghost use Rattle.cache_commands.specs.Loads.Pending.{SameTaken};
+ghost use Rattle.cache_commands.specs.Loads.Standings.{holds_line};
+ghost use Rattle.cache_commands.specs.declared.loads.standing.Standing.TheVariants as now_is;
 
 use crate::connection::Connection;
 use crate::standing::{Stance, stand, wait_or_close};
 use cache_lines::{Base, Fed, take_held, take_piece};
-use cache_loads::{Standing, is_holding};
+use cache_commands::{Standing, is_holding};
 use cache_store::Store;
 use cache_tape::Tape;
 use std::alloc::AllocError;

@@ -5,13 +5,13 @@ ghost use Rattle.cache_connection.specs.Fed.{closing_by};
 ghost use Rattle.cache_connection.specs.Fits.{ClosesFor, Fits, PutsEnd, RunsOn};
 ghost use Rattle.cache_lines.specs.Ended.{EndsFor, ends_by_quit, holds_back, waits_now};
 ghost use Rattle.cache_lines.specs.Whole.{has_line};
-ghost use Rattle.cache_loads.specs.Standings.{holds_line, waits_for_load};
-ghost use Rattle.cache_loads.specs.declared.standing.Standing.TheVariants as now;
+ghost use Rattle.cache_commands.specs.Loads.Standings.{holds_line, waits_for_load};
+ghost use Rattle.cache_commands.specs.declared.loads.standing.Standing.TheVariants as now;
 
 use audit_lines::{Buffer, Next};
 use audit_model::Closing;
 use cache_lines::End;
-use cache_loads::Standing;
+use cache_commands::Standing;
 
 /// At most this many bytes may stand behind a `LOAD` that waits.
 const MAX_BEHIND: usize = 8192;

@@ -19,7 +19,7 @@ use Rattle.audit_laws.proofs.waiting.Records.{settled-tidy}
 use Rattle.cache_connections.specs.Presence.{Presence}
 use Rattle.cache_lines.specs.Waiting.{under_way}
 use Rattle.cache_lines.specs.declared.base.Base.{Base}
-use Rattle.cache_loads.specs.Pending.{load_numbered}
+use Rattle.cache_commands.specs.Loads.Pending.{load_numbered}
 use Rattle.cache_store.specs.Promises.{Frame}
 use Rattle.cache_store.specs.Values.{Values}
 use Rattle.cache_tape.specs.Taped.{IsAtRest, Taped, forgets, started}

@@ -38,7 +38,7 @@ use Rattle.cache_lines.specs.Making.{Making, making_of}
 use Rattle.cache_lines.specs.Waiting.{UnderWay, under_way}
 use Rattle.cache_lines.specs.declared.base.Base.{Base}
 use Rattle.cache_lines.proofs.Drawn.{keeps-more}
-use Rattle.cache_loads.specs.Pending.{SameTaken, loads_pending, namespace_of_loads, outgoing_loads, sent_of}
+use Rattle.cache_commands.specs.Loads.Pending.{SameTaken, loads_pending, namespace_of_loads, outgoing_loads, sent_of}
 use Rattle.cache_store.specs.Identifiers.{KeepsIdentifiers}
 use Rattle.cache_store.specs.Promises.{Frame}
 use Rattle.cache_store.specs.Running.{is_bounded}

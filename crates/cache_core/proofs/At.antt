@@ -15,9 +15,9 @@ use Rattle.cache_lines.specs.Making.{making_of}
 use Rattle.cache_lines.specs.Waiting.{is_load, under_way}
 use Rattle.cache_lines.specs.Whole.{held_line}
 use Rattle.cache_lines.specs.declared.base.Base.{Base}
-use Rattle.cache_loads.specs.Pending.{SameTaken}
-use Rattle.cache_loads.specs.declared.loads.Loads.{Loads}
-use Rattle.cache_loads.specs.declared.standing.Standing.TheVariants as now_is
+use Rattle.cache_commands.specs.Loads.Pending.{SameTaken}
+use Rattle.cache_commands.specs.declared.loads.loads.Loads.{Loads}
+use Rattle.cache_commands.specs.declared.loads.standing.Standing.TheVariants as now_is
 use Rattle.cache_store.specs.Values.{IsSoundStore, Values}
 use Rattle.cache_tape.specs.Taped.{Taped}
 use Rattle.cache_core.specs.Fed.{ReplacedAt, seen_at}

@@ -23,9 +23,9 @@ use Rattle.cache_lines.specs.Making.{making_of}
 use Rattle.cache_lines.specs.Ordered.{HaveKeys}
 use Rattle.cache_lines.specs.Waiting.{under_way, when_left}
 use Rattle.cache_lines.specs.declared.base.Base.{Base}
-use Rattle.cache_loads.specs.Pending.{SameTaken}
-use Rattle.cache_loads.specs.Standings.{holds_line, waits_for_load}
-use Rattle.cache_loads.specs.declared.loads.Loads.{Loads}
+use Rattle.cache_commands.specs.Loads.Pending.{SameTaken}
+use Rattle.cache_commands.specs.Loads.Standings.{holds_line, waits_for_load}
+use Rattle.cache_commands.specs.declared.loads.loads.Loads.{Loads}
 use Rattle.cache_store.specs.Promises.{Frame}
 use Rattle.cache_store.specs.Running.{is_bounded}
 use Rattle.cache_store.specs.Values.{IsSoundStore, Values}

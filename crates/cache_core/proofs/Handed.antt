@@ -10,8 +10,8 @@ use Rattle.audit_model.specs.declared.transcript.Note.{Note}
 use Rattle.cache_connections.specs.Presence.{Presence}
 use Rattle.cache_lines.specs.Waiting.{UnderWay, under_way}
 use Rattle.cache_lines.specs.declared.base.Base.{Base}
-use Rattle.cache_loads.specs.Pending.{load_numbered, loads_pending, sent_of}
-use Rattle.cache_loads.specs.declared.loads.Loads.{Loads}
+use Rattle.cache_commands.specs.Loads.Pending.{load_numbered, loads_pending, sent_of}
+use Rattle.cache_commands.specs.declared.loads.loads.Loads.{Loads}
 use Rattle.cache_store.specs.Values.{GivesNote, Values}
 use Rattle.cache_tape.specs.Taped.{Taped, started}
 use Rattle.cache_core.specs.Settled.{IsAmid}

@@ -22,9 +22,9 @@ use Rattle.cache_lines.specs.Lines.{ready}
 use Rattle.cache_lines.specs.Waiting.{under_way, when_left}
 use Rattle.cache_lines.specs.declared.base.Base.{Base}
 use Rattle.cache_lines.proofs.Drawn.{spends-same}
-use Rattle.cache_loads.specs.Pending.{SameTaken, loads_pending, sent_of}
-use Rattle.cache_loads.specs.declared.loads.Loads.{Loads}
-use Rattle.cache_loads.specs.declared.standing.Standing.TheVariants as now
+use Rattle.cache_commands.specs.Loads.Pending.{SameTaken, loads_pending, sent_of}
+use Rattle.cache_commands.specs.declared.loads.loads.Loads.{Loads}
+use Rattle.cache_commands.specs.declared.loads.standing.Standing.TheVariants as now
 use Rattle.cache_store.specs.Values.{IsSoundStore, Values}
 use Rattle.cache_tape.specs.Taped.{IsAtRest, Taped, finishes, started, with_entry}
 use Rattle.cache_core.specs.Fed.{ReplacedAt}

@@ -22,8 +22,8 @@ use Rattle.cache_leads.specs.Waiters.{WaitForLoads}
 use Rattle.cache_leads.proofs.Waits.{records-wait}
 use Rattle.cache_lines.specs.Gathered.{gathered, IsFresh, stage}
 use Rattle.cache_lines.specs.declared.base.Base.{Base}
-use Rattle.cache_loads.specs.Pending.{loads_pending, namespace_of_loads, outgoing_loads, sent_of}
-use Rattle.cache_loads.specs.Standings.{holds_line}
+use Rattle.cache_commands.specs.Loads.Pending.{loads_pending, namespace_of_loads, outgoing_loads, sent_of}
+use Rattle.cache_commands.specs.Loads.Standings.{holds_line}
 use Rattle.cache_store.specs.Handing.{TakesFirstNote}
 use Rattle.cache_store.specs.Promises.{Frame}
 use Rattle.cache_store.specs.Values.{GivesNote, Values}

@@ -31,10 +31,10 @@ use Rattle.cache_lines.specs.Lines.{ends_quit, set_in, with_drops}
 use Rattle.cache_lines.specs.Making.{Making, making_of}
 use Rattle.cache_lines.specs.Waiting.{UnderWay, under_way, when_left, with_under_way}
 use Rattle.cache_lines.specs.declared.base.Base.{Base}
-use Rattle.cache_loads.specs.Standings.{holds_line, waits_for_load}
-use Rattle.cache_loads.specs.declared.loads.Loads.{Loads}
-use Rattle.cache_loads.specs.declared.standing.Standing.{Standing}
-use Rattle.cache_loads.specs.declared.standing.Standing.TheVariants as now_is
+use Rattle.cache_commands.specs.Loads.Standings.{holds_line, waits_for_load}
+use Rattle.cache_commands.specs.declared.loads.loads.Loads.{Loads}
+use Rattle.cache_commands.specs.declared.loads.standing.Standing.{Standing}
+use Rattle.cache_commands.specs.declared.loads.standing.Standing.TheVariants as now_is
 use Rattle.cache_store.specs.Values.{Values}
 use Rattle.cache_tape.specs.Taped.{Taped}
 use Rattle.cache_core.specs.Fed.{ReplacedAt, seen_at}

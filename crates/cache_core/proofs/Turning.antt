@@ -17,9 +17,9 @@ use Rattle.cache_lines.specs.Gathered.{reply_in}
 use Rattle.cache_lines.specs.Lines.{set_in}
 use Rattle.cache_lines.specs.Waiting.{UnderWay, when_left}
 use Rattle.cache_lines.specs.Whole.{is_long_line}
-use Rattle.cache_loads.specs.Standings.{holds_line, waits_for_load}
-use Rattle.cache_loads.specs.declared.standing.Standing.{Standing}
-use Rattle.cache_loads.specs.declared.standing.Standing.TheVariants as now
+use Rattle.cache_commands.specs.Loads.Standings.{holds_line, waits_for_load}
+use Rattle.cache_commands.specs.declared.loads.standing.Standing.{Standing}
+use Rattle.cache_commands.specs.declared.loads.standing.Standing.TheVariants as now
 use Rattle.cache_connection.specs.Fits.{ClosesFor, Fits}
 use Rattle.cache_connection.specs.Parts.{standing_as}
 use Rattle.cache_connection.specs.Shown.{put_in, shown}

@@ -21,8 +21,8 @@ use Rattle.cache_leads.specs.Waiters.{WaitForLoads}
 use Rattle.cache_leads.proofs.Turns.{counted}
 use Rattle.cache_lines.specs.Waiting.{is_load}
 use Rattle.cache_lines.specs.Whole.{held_line}
-use Rattle.cache_loads.specs.declared.standing.Standing.{Standing}
-use Rattle.cache_loads.specs.declared.standing.Standing.TheVariants as now
+use Rattle.cache_commands.specs.declared.loads.standing.Standing.{Standing}
+use Rattle.cache_commands.specs.declared.loads.standing.Standing.TheVariants as now
 use Rattle.cache_core.specs.Settling.{AllLookAsBefore, AreThere, AreWaiting, HaveReplyRoom, IsWaitingAt, LeavesOthers}
 use Rattle.cache_core.proofs.Touched.{all-at}
 

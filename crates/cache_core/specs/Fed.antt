@@ -9,7 +9,7 @@ use Rattle.cache_lines.specs.Bases.{Seen}
 use Rattle.cache_lines.specs.Gathered.{IsFresh, gathered, stage}
 use Rattle.cache_lines.specs.Waiting.{under_way}
 use Rattle.cache_lines.specs.declared.base.Base.{Base}
-use Rattle.cache_loads.specs.Pending.{SameLoads}
+use Rattle.cache_commands.specs.Loads.Pending.{SameLoads}
 use Rattle.cache_store.specs.Values.{IsMoment, Values}
 use Rattle.cache_tape.specs.Taped.{IsAtRest, Taped, finishes, started}
 use Rattle.cache_connection.specs.declared.connection.Connection.{Connection}

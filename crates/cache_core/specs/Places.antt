@@ -5,7 +5,7 @@ use Rattle.std.specs.Option.{option_map_or}
 use Rattle.audit_model.specs.Belongs.{Known, refusal_of_conn}
 use Rattle.audit_model.specs.Follows.{known_in}
 use Rattle.audit_model.specs.declared.input.ServiceError.{ServiceError}
-use Rattle.cache_loads.specs.Standings.{waits_for_load}
+use Rattle.cache_commands.specs.Loads.Standings.{waits_for_load}
 use Rattle.cache_connection.specs.declared.connection.Connection.{Connection}
 use Rattle.cache_connections.specs.Presence.{Gone, Here, Out, Presence, closing_of, open_from, reply_text_of}
 

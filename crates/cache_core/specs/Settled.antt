@@ -18,8 +18,8 @@ use Rattle.cache_lines.specs.Lines.{ends_quit}
 use Rattle.cache_lines.specs.Making.{Making, making_of}
 use Rattle.cache_lines.specs.Waiting.{UnderWay, under_way}
 use Rattle.cache_lines.specs.declared.base.Base.{Base}
-use Rattle.cache_loads.specs.declared.standing.Standing.{Standing}
-use Rattle.cache_loads.specs.declared.standing.Standing.TheVariants as now_is
+use Rattle.cache_commands.specs.declared.loads.standing.Standing.{Standing}
+use Rattle.cache_commands.specs.declared.loads.standing.Standing.TheVariants as now_is
 use Rattle.cache_store.specs.Values.{IsMoment, Values}
 use Rattle.cache_tape.specs.Taped.{Taped}
 use Rattle.cache_connection.specs.Again.{EndsCalm}

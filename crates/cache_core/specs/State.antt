@@ -12,8 +12,8 @@ use Rattle.cache_leads.specs.Waiters.{WaitForLoads}
 use Rattle.cache_store.specs.Values.{Values}
 use Rattle.cache_tape.specs.Taped.{IsAtRest, Taped}
 use Rattle.cache_lines.specs.declared.base.Base.{Base}
-use Rattle.cache_loads.specs.Keys.{were_sent}
-use Rattle.cache_loads.specs.Pending.{loads_pending, namespace_of_loads, outgoing_loads, sent_of}
+use Rattle.cache_commands.specs.Loads.Keys.{were_sent}
+use Rattle.cache_commands.specs.Loads.Pending.{loads_pending, namespace_of_loads, outgoing_loads, sent_of}
 use Rattle.cache_connections.specs.Presence.{Presence, closing_of, open_from, reply_text_of}
 
 -- A namespace: its store, and the tape of its records; the latest moment; the open connections; of each connection that was opened why it

@@ -6,7 +6,7 @@ ghost use Rattle.cache_core.specs.Rooms.{lines_for};
 ghost use Rattle.cache_core.specs.Settled.{IsAmid};
 ghost use Rattle.cache_core.specs.Settling.{AreWaiting, RunsAgain, waiting_on};
 ghost use Rattle.cache_lines.specs.Waiting.{under_way};
-ghost use Rattle.cache_loads.specs.Pending.{SameTaken, load_numbered, loads_pending};
+ghost use Rattle.cache_commands.specs.Loads.Pending.{SameTaken, load_numbered, loads_pending};
 ghost use Rattle.cache_tape.specs.Taped.{IsAtRest, started};
 
 use crate::recording::begin_kept;

@@ -5,13 +5,13 @@ ghost use Rattle.cache_core.specs.Fed.{ReplacedAt};
 ghost use Rattle.cache_core.specs.Places.{IsTakenAt, IsTakenFrom, refusal_at, waits_at};
 ghost use Rattle.cache_lines.specs.Outputs.{IsRoomy};
 ghost use Rattle.cache_lines.specs.Waiting.{under_way, when_left};
-ghost use Rattle.cache_loads.specs.Pending.{SameTaken};
+ghost use Rattle.cache_commands.specs.Loads.Pending.{SameTaken};
 
 use audit_model::{Closing, ServiceError};
 use cache_connection::Connection;
 use cache_connections::Connections;
 use cache_lines::Output;
-use cache_loads::{Loads, Standing, is_waiting};
+use cache_commands::{Loads, Standing, is_waiting};
 use std::alloc::Global;
 use std::mem;
 

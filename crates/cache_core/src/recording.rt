@@ -6,8 +6,8 @@ ghost use Rattle.cache_connection.specs.Fed.{LooksAsBefore, seen_of};
 ghost use Rattle.cache_core.specs.Fed.{BaseStays, CanTurn, FedTurnOver, FeedsAt, ReplacedAt, WantsMemory, seen_at};
 ghost use Rattle.cache_connections.specs.Presence.{Here, closing_at};
 ghost use Rattle.cache_connection.specs.declared.connection.Connection.{Connection as Open};
-ghost use Rattle.cache_loads.specs.Pending.{SameTaken};
-ghost use Rattle.cache_loads.specs.Standings.{holds_line};
+ghost use Rattle.cache_commands.specs.Loads.Pending.{SameTaken};
+ghost use Rattle.cache_commands.specs.Loads.Standings.{holds_line};
 ghost use Rattle.cache_tape.specs.Taped.{IsAtRest, started};
 
 use crate::places::number_at;

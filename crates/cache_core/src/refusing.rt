@@ -3,10 +3,10 @@ ghost use Rattle.std.specs.Prelude.{◌≡◌};
 ghost use Rattle.audit_model.specs.Belongs.{refusal_of, refusal_of_bytes, refusal_of_ms, refusal_of_outcome};
 ghost use Rattle.audit_model.specs.Grammar.{is_value};
 ghost use Rattle.cache_core.specs.Settling.{answering, giving_up, known_of_loads};
-ghost use Rattle.cache_loads.specs.Pending.{loads_pending};
+ghost use Rattle.cache_commands.specs.Loads.Pending.{loads_pending};
 
 use audit_model::{Config, Outcome, ServiceError};
-use cache_loads::Loads;
+use cache_commands::Loads;
 
 /// The latest moment that may be handed in, in nanoseconds.
 const MAX_MOMENT: u64 = (1 << 63) - 1;

@@ -9,14 +9,14 @@ ghost use Rattle.cache_core.specs.Settled.{IsAmid, Parts};
 ghost use Rattle.cache_core.specs.Settling.{AreThere, AreWaiting, HasReplyRoomAt, HaveReplyRoom, IsWaitingAt, LeavesOthers, PartsUnknown, Reruns, ResumesAt, runs_at, runs_with};
 ghost use Rattle.cache_lines.specs.Bases.{CanRun};
 ghost use Rattle.cache_lines.specs.Ended.{spare_of};
-ghost use Rattle.cache_loads.specs.Pending.{SameTaken};
+ghost use Rattle.cache_commands.specs.Loads.Pending.{SameTaken};
 
 use crate::places::{leave_closed, number_at};
 use audit_model::Outcome;
 use cache_connection::{Connection, deliver, feed_ready, run_again};
 use cache_connections::Connections;
 use cache_lines::Base;
-use cache_loads::Standing;
+use cache_commands::Standing;
 use cache_store::Store;
 use cache_tape::Tape;
 

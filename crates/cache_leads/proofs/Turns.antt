@@ -20,7 +20,7 @@ use Rattle.audit_model.specs.declared.event.Outcome.{Outcome}
 use Rattle.audit_model.specs.declared.event.Outcome.TheVariants as came
 use Rattle.audit_model.specs.declared.transcript.Note.{Note}
 use Rattle.audit_model.specs.declared.transcript.Step.{Step}
-use Rattle.cache_loads.specs.Pending.{number_to_send, when_joined, when_sent}
+use Rattle.cache_commands.specs.Loads.Pending.{number_to_send, when_joined, when_sent}
 use Rattle.cache_commands.proofs.Drawn.{draws-none}
 use Rattle.cache_commands.proofs.Answering.{none_succeeded, same-refl}
 use Rattle.cache_commands.specs.Loading.{step_silent, step_waiting}

@@ -17,7 +17,7 @@ use Rattle.audit_model.specs.declared.transcript.Accepted.{Accepted}
 use Rattle.audit_model.specs.declared.transcript.Note.{Note}
 use Rattle.audit_model.specs.declared.transcript.Record.{Record}
 use Rattle.audit_model.specs.declared.transcript.Step.{Step}
-use Rattle.cache_loads.specs.Pending.{number_to_send, when_joined, when_sent}
+use Rattle.cache_commands.specs.Loads.Pending.{number_to_send, when_joined, when_sent}
 use Rattle.cache_lines.specs.Drawing.{Identifiers, StepsDraw}
 use Rattle.cache_lines.specs.Lines.{ArePartedIn, are_timely, has_its_part, ready, set_in}
 use Rattle.cache_tape.specs.Taped.{step_held}

@@ -17,7 +17,7 @@ use Rattle.audit_model.specs.Stream.{first_line}
 use Rattle.audit_model.specs.declared.command.Command.TheVariants as says
 use Rattle.audit_model.specs.declared.config.Config.{Config}
 use Rattle.audit_model.specs.declared.transcript.Step.{Step}
-use Rattle.cache_loads.specs.Pending.{number_to_send, when_joined, when_sent}
+use Rattle.cache_commands.specs.Loads.Pending.{number_to_send, when_joined, when_sent}
 use Rattle.cache_commands.proofs.Answering.{same-refl}
 use Rattle.cache_commands.specs.Loading.{step_silent}
 use Rattle.cache_commands.specs.Right.{DoesRight, placed_doing}

@@ -1,6 +1,6 @@
 -- What a connection's lines run over, as contracts see it.
 use Rattle.std.specs.Prelude.{◌≡◌, ℕ, List, Option}
-use Rattle.cache_loads.specs.Pending.{SameLoads}
+use Rattle.cache_commands.specs.Loads.Pending.{SameLoads}
 use Rattle.cache_store.specs.Values.{IsMoment, Values}
 use Rattle.cache_tape.specs.Taped.{HasSpare, Taped}
 use Rattle.cache_lines.specs.Ended.{RunsHeld, RunsReady}

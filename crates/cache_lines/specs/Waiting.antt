@@ -3,8 +3,8 @@ use Rattle.std.specs.Prelude.{ℕ, Bool, true, false, List, [], map, Option, Ok}
 use Rattle.audit_model.specs.Grammar.{Reading}
 use Rattle.audit_model.specs.declared.command.Command.TheVariants as says
 use Rattle.audit_model.specs.Situation.{Situation, Connection, PendingLoad, Held, Waiting, without_waiting}
-use Rattle.cache_loads.specs.Pending.{number_to_send, loads_pending, sent_of, when_joined, when_sent}
-use Rattle.cache_loads.specs.declared.loads.Loads.{Loads}
+use Rattle.cache_commands.specs.Loads.Pending.{number_to_send, loads_pending, sent_of, when_joined, when_sent}
+use Rattle.cache_commands.specs.declared.loads.loads.Loads.{Loads}
 
 -- a connection whose `LOAD` waits, with those bytes unread behind it; how often it began to wait
 abbrev pub waiting : ℕ → List ℕ → List ℕ → ℕ → Connection

@@ -2,8 +2,8 @@
 use Rattle.std.specs.Prelude.{ℕ, ◌+◌, Bool, ◌&&◌, ◌||◌, nat_lt, nat_le, nat_eq, List, [], length, if◌then◌else◌, is_some, unwrap_or}
 use Rattle.audit_model.specs.Bytewise.{cut_at}
 use Rattle.audit_model.specs.Stream.{behind_lines, first_line}
-use Rattle.cache_loads.specs.Standings.{waits_for_load}
-use Rattle.cache_loads.specs.declared.standing.Standing.{Standing}
+use Rattle.cache_commands.specs.Loads.Standings.{waits_for_load}
+use Rattle.cache_commands.specs.declared.loads.standing.Standing.{Standing}
 
 -- a whole line has come, which is no longer than a line may be
 abbrev pub has_line : List ℕ → Bool

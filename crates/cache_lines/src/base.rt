@@ -1,7 +1,6 @@
 //! What a connection's lines run over.
 
-use cache_commands::Keyed;
-use cache_loads::Loads;
+use cache_commands::{Keyed, Loads};
 use cache_store::Store;
 use cache_tape::Tape;
 

@@ -1,6 +1,6 @@
 //! What ends a connection's lines.
 ghost use Rattle.std.specs.Prelude.{◌≡◌, ◌+◌, ◌≤◌, true, length};
-ghost use Rattle.cache_loads.specs.Pending.{SameTaken};
+ghost use Rattle.cache_commands.specs.Loads.Pending.{SameTaken};
 ghost use Rattle.cache_tape.specs.Taped.{HasSpare};
 ghost use Rattle.cache_lines.specs.Ended.{CanEnd, EndsBy, spare_of, waits_now};
 ghost use Rattle.cache_lines.specs.Outputs.{IsRoomy};
@@ -11,7 +11,7 @@ use crate::looping::Stop;
 use crate::output::Output;
 use audit_lines::trim;
 use audit_model::Config;
-use cache_loads::Loads;
+use cache_commands::Loads;
 use cache_tape::Tape;
 
 /// How a connection's lines end.

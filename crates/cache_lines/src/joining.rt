@@ -4,7 +4,7 @@ ghost use Rattle.std.specs.Option.{option_map};
 ghost use Rattle.audit_model.specs.Grammar.{reading};
 ghost use Rattle.audit_model.specs.declared.command.Command.TheVariants as says;
 ghost use Rattle.cache_commands.specs.Loading.{step_silent};
-ghost use Rattle.cache_loads.specs.Pending.{SameLoads, SameTaken};
+ghost use Rattle.cache_commands.specs.Loads.Pending.{SameLoads, SameTaken};
 ghost use Rattle.cache_tape.specs.Taped.{IsDrafted, ends};
 ghost use Rattle.cache_lines.specs.Ended.{BeginsToWait, spare_of};
 ghost use Rattle.cache_lines.specs.Outputs.{IsRoomy};
@@ -14,7 +14,7 @@ ghost use Rattle.cache_lines.specs.Whole.{has_room};
 use crate::output::Output;
 use audit_lines::{Request, read_line};
 use audit_model::Config;
-use cache_loads::Loads;
+use cache_commands::Loads;
 use cache_tape::Tape;
 use std::alloc::AllocError;
 

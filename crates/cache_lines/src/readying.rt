@@ -1,6 +1,6 @@
 //! The lines of a connection that is ready.
 ghost use Rattle.std.specs.Prelude.{◌≡◌, ◌+◌, ◌≤◌, ◌++◌, [], drop, true, length};
-ghost use Rattle.cache_loads.specs.Pending.{SameTaken};
+ghost use Rattle.cache_commands.specs.Loads.Pending.{SameTaken};
 ghost use Rattle.cache_store.specs.Values.{IsMoment};
 ghost use Rattle.cache_tape.specs.Taped.{HasSpare};
 ghost use Rattle.cache_lines.specs.Bases.{IsClear, ReadyRan, seen};

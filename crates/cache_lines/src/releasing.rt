@@ -1,6 +1,6 @@
 //! A piece for a connection that holds a line back.
 ghost use Rattle.std.specs.Prelude.{◌≡◌, ◌<◌, ◌≤◌, true, length, IfOk, OnErr, IsTrue};
-ghost use Rattle.cache_loads.specs.Pending.{SameTaken};
+ghost use Rattle.cache_commands.specs.Loads.Pending.{SameTaken};
 ghost use Rattle.cache_lines.specs.Bases.{CanRun, HeldRan, LooksSame, seen};
 ghost use Rattle.cache_lines.specs.Ended.{waits_now};
 ghost use Rattle.cache_lines.specs.Outputs.{IsRoomy};

@@ -1,6 +1,6 @@
 //! The table of loads under way.
 use audit_model::{Bytes, LoadId};
-use cache_loads::Loads;
+use cache_commands::Loads;
 use std::alloc::{AllocError, Global};
 
 /// Whether those wait for the load of that number, in that order.

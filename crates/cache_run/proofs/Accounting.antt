@@ -9,7 +9,7 @@ use Rattle.audit_model.specs.Situation.{Situation, PendingLoad}
 use Rattle.audit_model.specs.declared.event.Event.{Event}
 use Rattle.audit_model.specs.declared.input.LoadId.{LoadId}
 use Rattle.audit_model.specs.declared.transcript.Record.{Record}
-use Rattle.cache_loads.specs.Keys.{are_in_turn}
+use Rattle.cache_commands.specs.Loads.Keys.{are_in_turn}
 use Rattle.cache_spaces.specs.Calls.{ServesEvent, Settled, TakesLoads, TakesOutput}
 use Rattle.cache_spaces.specs.Sound.{IsSound}
 use Rattle.cache_spaces.specs.Spaces.{StandsFor, config_of, known_of, outgoing_of, place_of, taken_of}

@@ -11,7 +11,7 @@ use Rattle.audit_model.specs.declared.config.Config.{Config}
 use Rattle.audit_model.specs.declared.transcript.Note.{Note}
 use Rattle.audit_model.specs.declared.transcript.Record.{Record}
 use Rattle.audit_model.specs.declared.input.LoadId.{LoadId}
-use Rattle.cache_loads.specs.Keys.{agrees_on, are_in_turn, has_its_key, have_their_keys}
+use Rattle.cache_commands.specs.Loads.Keys.{agrees_on, are_in_turn, has_its_key, have_their_keys}
 use Rattle.audit_laws.specs.Waiting.Keys.{HasKey}
 use Rattle.cache_core.specs.Settling.{giving_up}
 use Rattle.cache_core.specs.Turned.{notes_in}

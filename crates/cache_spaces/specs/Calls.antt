@@ -11,7 +11,7 @@ use Rattle.audit_model.specs.declared.transcript.Note.{Note}
 use Rattle.cache_core.specs.Settling.{Happens}
 use Rattle.cache_core.specs.State.{situation_with}
 use Rattle.cache_core.specs.Turned.{RefusesBy, Turns}
-use Rattle.cache_loads.specs.Keys.{are_in_turn, have_their_keys}
+use Rattle.cache_commands.specs.Loads.Keys.{are_in_turn, have_their_keys}
 use Rattle.cache_spaces.specs.Spaces.{Space, notices_of, outgoing_of, place_of, taken_of, untaken_output, was_opened}
 use Rattle.cache_spaces.specs.Stores.{shown_of}
 use Rattle.cache_store.specs.Handing.{TakesFirstNote}

@@ -1,6 +1,6 @@
 use Rattle.std.proofs.Common.{subst}
 use Rattle.std.proofs.lemmas.Result.{IfErr-weaker, IfOk-weaker, on_err_weaker}
-use Rattle.cache_loads.specs.Standings.{holds_line}
+use Rattle.cache_commands.specs.Loads.Standings.{holds_line}
 use Rattle.cache_connection.specs.declared.connection.Connection.{Connection}
 use Rattle.cache_core.specs.Fed.{FedTurn, ReplacedAt, WantsMemory}
 use Rattle.cache_core.proofs.At.{moved-there}

@@ -1,6 +1,6 @@
 use Rattle.std.proofs.Common.{◌≡◌, ◌+◌, ℕ, length, take, drop}
 use Rattle.audit_model.specs.Places.{tasks_to_give_up}
-use Rattle.cache_loads.specs.Pending.{SameTaken}
+use Rattle.cache_commands.specs.Loads.Pending.{SameTaken}
 use Rattle.cache_core.specs.Settled.{IsAmid}
 use Rattle.cache_core.specs.Settling.{AreWaiting, PartsUnknown}
 use Rattle.cache_core.proofs.settling.give_up_all.Given as goal

@@ -1,6 +1,6 @@
 use Rattle.std.proofs.Common.{◌≡◌, ◌+◌, ℕ, length, map, take, drop}
 use Rattle.audit_model.specs.Steps.{RunLines}
-use Rattle.cache_loads.specs.Pending.{SameTaken}
+use Rattle.cache_commands.specs.Loads.Pending.{SameTaken}
 use Rattle.cache_core.specs.Settled.{IsAmid, Parts}
 use Rattle.cache_core.specs.Settling.{AreThere}
 use Rattle.cache_core.proofs.settling.resume_all.Given as goal

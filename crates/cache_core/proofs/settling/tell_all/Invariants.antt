@@ -1,7 +1,7 @@
 use Rattle.std.proofs.Common.{◌≡◌, ◌+◌, ℕ, length, map, take, drop}
 use Rattle.audit_model.specs.Replies.{outcome_text}
 use Rattle.audit_model.specs.Steps.{Deliver}
-use Rattle.cache_loads.specs.Pending.{SameTaken}
+use Rattle.cache_commands.specs.Loads.Pending.{SameTaken}
 use Rattle.cache_core.specs.Settled.{IsAmid, Parts}
 use Rattle.cache_core.specs.Settling.{AreWaiting, HaveReplyRoom}
 use Rattle.cache_core.proofs.settling.tell_all.Given as goal

@@ -7,7 +7,7 @@ use Rattle.audit_model.specs.declared.config.Config.{Config}
 use Rattle.audit_model.specs.declared.input.ServiceError.TheVariants as error
 use Rattle.cache_lines.specs.Waiting.{under_way}
 use Rattle.cache_lines.specs.declared.base.Base.{Base}
-use Rattle.cache_loads.specs.Pending.{SameTaken, load_numbered, loads_pending}
+use Rattle.cache_commands.specs.Loads.Pending.{SameTaken, load_numbered, loads_pending}
 use Rattle.cache_store.specs.Values.{IsSoundStore}
 use Rattle.cache_tape.specs.Taped.{finishes}
 use Rattle.cache_core.specs.Settled.{IsAmid}

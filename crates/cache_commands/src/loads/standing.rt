@@ -1,0 +1,36 @@
+//! What a connection does with its first unread line.
+ghost use Rattle.std.specs.Prelude.{◌≡◌};
+ghost use Rattle.cache_commands.specs.Loads.Standings.{holds_line, waits_for_load};
+
+/// A connection runs lines, or waits before its first unread line.
+#[derive(Clone, Copy, Debug, PartialEq, Eq, Drop)]
+pub enum Standing {
+    /// It runs lines.
+    Ready,
+    /// Its first unread line is a command that was refused for memory.
+    Held,
+    /// Its first unread line is a `LOAD`, whose load is under way.
+    Waiting,
+}
+
+/// Whether a line is held back.
+pub fn is_holding(standing: Standing) -> bool
+    ensures { result ≡ holds_line standing }
+{
+    match standing {
+        Standing::Ready => false,
+        Standing::Held => true,
+        Standing::Waiting => false,
+    }
+}
+
+/// Whether a `LOAD` waits.
+pub fn is_waiting(standing: Standing) -> bool
+    ensures { result ≡ waits_for_load standing }
+{
+    match standing {
+        Standing::Ready => false,
+        Standing::Held => false,
+        Standing::Waiting => true,
+    }
+}
