@@ -27,8 +27,8 @@ use Rattle.cache_commands.proofs.LoadSteps.{abandons, delivers, waits}
 use Rattle.cache_commands.specs.Loading.{step_silent, step_waiting}
 use Rattle.cache_commands.specs.Order.{Order, Unknown, order_by}
 use Rattle.cache_commands.specs.Right.{DoesRight, dropped_when_run, held_when_run, step_saying}
-use Rattle.cache_leads.specs.Leads.{TasksLead}
-use Rattle.cache_leads.proofs.Turns.{abandoned, answered, delivered, held_back, waits_again}
+use Rattle.cache_lines.specs.Leads.Leads.{TasksLead}
+use Rattle.cache_lines.proofs.leads.Turns.{abandoned, answered, delivered, held_back, waits_again}
 use Rattle.cache_lines.specs.Bases.{Seen}
 use Rattle.cache_lines.specs.Drawing.{Identifiers, StepDraws, identifiers_in}
 use Rattle.cache_lines.specs.Gathered.{Gathered, IsFresh, gather, gathered, stage}
@@ -47,7 +47,7 @@ use Rattle.cache_commands.specs.declared.loads.standing.Standing.{Standing}
 use Rattle.cache_commands.specs.declared.loads.standing.Standing.TheVariants as now
 use Rattle.cache_store.specs.Promises.{no_deed}
 use Rattle.cache_store.specs.Values.{IsSoundStore, Values}
-use Rattle.cache_tape.specs.Taped.{Taped, drafts, ends, spends, step_held, text_left}
+use Rattle.cache_lines.specs.Tape.Taped.{Taped, drafts, ends, spends, step_held, text_left}
 use Rattle.cache_connection.specs.Again.{EndsCalm, StepRan}
 use Rattle.cache_connection.specs.Fits.{Fits}
 use Rattle.cache_connection.specs.Parts.{standing_as}

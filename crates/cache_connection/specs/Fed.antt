@@ -15,7 +15,7 @@ use Rattle.cache_lines.specs.Waiting.{loads_in, with_under_way}
 use Rattle.cache_lines.specs.declared.base.Base.{Base}
 use Rattle.cache_commands.specs.Loads.Standings.{holds_line, waits_for_load}
 use Rattle.cache_store.specs.Values.{Values}
-use Rattle.cache_tape.specs.Taped.{Taped}
+use Rattle.cache_lines.specs.Tape.Taped.{Taped}
 use Rattle.cache_connection.specs.Fits.{ClosesFor, RunsOn}
 use Rattle.cache_connection.specs.Shown.{put_in, shown, with_piece}
 use Rattle.cache_connection.specs.declared.connection.Connection.{Connection}

@@ -11,14 +11,13 @@ ghost use Rattle.cache_lines.specs.Waiting.{is_load};
 ghost use Rattle.cache_lines.specs.Whole.{has_line, held_line};
 ghost use Rattle.cache_commands.specs.Loads.Pending.{SameTaken};
 ghost use Rattle.cache_commands.specs.declared.loads.standing.Standing.TheVariants as stands;
-ghost use Rattle.cache_tape.specs.Taped.{HasSpare};
+ghost use Rattle.cache_lines.specs.Tape.Taped.{HasSpare};
 
 use crate::connection::Connection;
 use audit_lines::{Buffer, Next};
 use cache_commands::{Standing, write_abandoned};
-use cache_lines::{Base, Done, join_load, run_line};
+use cache_lines::{Base, Done, Tape, join_load, run_line};
 use cache_store::Store;
-use cache_tape::Tape;
 
 /// How often a `LOAD` may wait.
 const MAX_WAITS: u64 = 200;

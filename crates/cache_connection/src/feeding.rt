@@ -9,10 +9,9 @@ ghost use Rattle.cache_commands.specs.declared.loads.standing.Standing.TheVarian
 
 use crate::connection::Connection;
 use crate::standing::{Stance, stand, wait_or_close};
-use cache_lines::{Base, Fed, take_held, take_piece};
+use cache_lines::{Base, Fed, Tape, take_held, take_piece};
 use cache_commands::{Standing, is_holding};
 use cache_store::Store;
-use cache_tape::Tape;
 use std::alloc::AllocError;
 
 /// Takes a piece for a connection that runs lines, and answers whether one is held back.

@@ -10,15 +10,14 @@ ghost use Rattle.cache_lines.specs.Ended.{spare_of};
 ghost use Rattle.cache_lines.specs.Waiting.{is_load};
 ghost use Rattle.cache_lines.specs.Whole.{held_line};
 ghost use Rattle.cache_commands.specs.declared.loads.standing.Standing.TheVariants as stands;
-ghost use Rattle.cache_tape.specs.Taped.{HasSpare};
+ghost use Rattle.cache_lines.specs.Tape.Taped.{HasSpare};
 
 use crate::again::{first_line, pass_line};
 use crate::connection::Connection;
 use audit_model::Outcome;
 use cache_commands::{Standing, write_outcome};
-use cache_lines::Base;
+use cache_lines::{Base, Tape};
 use cache_store::Store;
-use cache_tape::Tape;
 
 /// Answers the waiting `LOAD` of a connection with the outcome, in reserved room.
 fn reply_with<T: Tape>(tape: &mut T, number: u64, connection: &mut Connection, outcome: &Outcome)

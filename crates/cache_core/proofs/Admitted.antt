@@ -22,7 +22,7 @@ use Rattle.cache_lines.specs.declared.base.Base.{Base}
 use Rattle.cache_commands.specs.Loads.Pending.{load_numbered}
 use Rattle.cache_store.specs.Promises.{Frame}
 use Rattle.cache_store.specs.Values.{Values}
-use Rattle.cache_tape.specs.Taped.{IsAtRest, Taped, forgets, started}
+use Rattle.cache_lines.specs.Tape.Taped.{IsAtRest, Taped, forgets, started}
 use Rattle.cache_core.specs.Settled.{IsAmid}
 use Rattle.cache_core.specs.Settling.{AllLookAsBefore, AreWaiting, BeginsAnswer, CanSettle, answering, giving_up, known_of_loads, waiting_on}
 use Rattle.cache_core.specs.State.{IsInOrder, at_number, situation_with, state_of}

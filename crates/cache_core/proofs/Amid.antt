@@ -12,7 +12,7 @@ use Rattle.audit_model.specs.declared.config.Config.{Config}
 use Rattle.audit_model.specs.declared.transcript.Step.{Step}
 use Rattle.cache_commands.specs.Right.{KeepsFrame}
 use Rattle.cache_connections.specs.Presence.{Presence, reply_text_of, text_at}
-use Rattle.cache_leads.specs.Leads.{BeginsUnknown}
+use Rattle.cache_lines.specs.Leads.Leads.{BeginsUnknown}
 use Rattle.cache_lines.specs.Bases.{CanRun}
 use Rattle.cache_lines.specs.Ended.{spare_of}
 use Rattle.cache_lines.specs.Gathered.{IsFresh, adds, gathered, stage, written}
@@ -20,7 +20,7 @@ use Rattle.cache_lines.specs.Making.{Making, making_of}
 use Rattle.cache_lines.specs.declared.base.Base.{Base}
 use Rattle.cache_store.specs.Promises.{Frame}
 use Rattle.cache_store.specs.Values.{Values}
-use Rattle.cache_tape.specs.Taped.{HasSpare, IsBegun, Taped, started}
+use Rattle.cache_lines.specs.Tape.Taped.{HasSpare, IsBegun, Taped, started}
 use Rattle.cache_core.specs.Fed.{seen_at}
 use Rattle.cache_core.specs.Settled.{IsAmid, Parts, Piece}
 use Rattle.cache_core.specs.Settling.{PartsUnknown, Reruns}

@@ -28,10 +28,10 @@ use Rattle.cache_commands.proofs.Drawn.{spends-kept}
 use Rattle.cache_commands.specs.Loading.{step_silent}
 use Rattle.cache_commands.specs.Right.{held_when_run}
 use Rattle.cache_connections.specs.Presence.{Presence, closing_of, open_from, reply_text_of}
-use Rattle.cache_leads.specs.Laws.{record_answered, when_stored}
-use Rattle.cache_leads.specs.Leads.{TasksLead}
-use Rattle.cache_leads.proofs.Leading.{draws-on}
-use Rattle.cache_leads.proofs.Settling.{answer}
+use Rattle.cache_lines.specs.Leads.Laws.{record_answered, when_stored}
+use Rattle.cache_lines.specs.Leads.Leads.{TasksLead}
+use Rattle.cache_lines.proofs.leads.Leading.{draws-on}
+use Rattle.cache_lines.proofs.leads.Settling.{answer}
 use Rattle.cache_lines.specs.Drawing.{Identifiers, identifiers_in}
 use Rattle.cache_lines.specs.Lines.{has_its_part}
 use Rattle.cache_lines.specs.Making.{Making, making_of}
@@ -43,7 +43,7 @@ use Rattle.cache_store.specs.Identifiers.{KeepsIdentifiers}
 use Rattle.cache_store.specs.Promises.{Frame}
 use Rattle.cache_store.specs.Running.{is_bounded}
 use Rattle.cache_store.specs.Values.{IsSoundStore, Values}
-use Rattle.cache_tape.specs.Taped.{IsAtRest, Taped, finishes}
+use Rattle.cache_lines.specs.Tape.Taped.{IsAtRest, Taped, finishes}
 use Rattle.cache_core.specs.Fed.{BaseStays}
 use Rattle.cache_core.specs.Settled.{Absent, Moves, Piece, course_at, middle_of}
 use Rattle.cache_core.specs.Settling.{AllLookAsBefore, BeginsAnswer, Happens, HandsOut, answering, but_for, known_of_loads, waiting_on}

@@ -19,7 +19,7 @@ use Rattle.cache_commands.specs.Loads.Pending.{SameTaken}
 use Rattle.cache_commands.specs.declared.loads.loads.Loads.{Loads}
 use Rattle.cache_commands.specs.declared.loads.standing.Standing.TheVariants as now_is
 use Rattle.cache_store.specs.Values.{IsSoundStore, Values}
-use Rattle.cache_tape.specs.Taped.{Taped}
+use Rattle.cache_lines.specs.Tape.Taped.{Taped}
 use Rattle.cache_core.specs.Fed.{ReplacedAt, seen_at}
 use Rattle.cache_core.specs.Settled.{IsAmid, Parts}
 use Rattle.cache_core.specs.Settling.{IsWaitingAt, LeavesOthers, Reruns}

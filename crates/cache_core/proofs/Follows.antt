@@ -29,7 +29,7 @@ use Rattle.cache_commands.specs.declared.loads.loads.Loads.{Loads}
 use Rattle.cache_store.specs.Promises.{Frame}
 use Rattle.cache_store.specs.Running.{is_bounded}
 use Rattle.cache_store.specs.Values.{IsSoundStore, Values}
-use Rattle.cache_tape.specs.Taped.{IsAtRest, Taped, started}
+use Rattle.cache_lines.specs.Tape.Taped.{IsAtRest, Taped, started}
 use Rattle.cache_connection.specs.Fed.{closing_by}
 use Rattle.cache_core.specs.Fed.{FedTurn, ReplacedAt, seen_at}
 use Rattle.cache_connection.specs.Fits.{ClosesFor}

@@ -13,7 +13,7 @@ use Rattle.cache_lines.specs.declared.base.Base.{Base}
 use Rattle.cache_commands.specs.Loads.Pending.{load_numbered, loads_pending, sent_of}
 use Rattle.cache_commands.specs.declared.loads.loads.Loads.{Loads}
 use Rattle.cache_store.specs.Values.{GivesNote, Values}
-use Rattle.cache_tape.specs.Taped.{Taped, started}
+use Rattle.cache_lines.specs.Tape.Taped.{Taped, started}
 use Rattle.cache_core.specs.Settled.{IsAmid}
 use Rattle.cache_core.specs.Settling.{BeginsAnswer, StoresNoted, but_for, waiting_on}
 use Rattle.cache_core.proofs.Amid.{room-least}

@@ -24,9 +24,9 @@ use Rattle.audit_model.specs.declared.transcript.Step.{Step}
 use Rattle.cache_commands.specs.Order.{AgreesWith}
 use Rattle.cache_connection.specs.Shown.{shown}
 use Rattle.cache_connections.specs.Presence.{Gone, Here, Out, Presence, closing_of, open_from, reply_text_of}
-use Rattle.cache_leads.specs.Laws.{record_given_up}
-use Rattle.cache_leads.specs.Leads.{LeavesUnknown, TasksLead}
-use Rattle.cache_leads.proofs.Settling.{give-up}
+use Rattle.cache_lines.specs.Leads.Laws.{record_given_up}
+use Rattle.cache_lines.specs.Leads.Leads.{LeavesUnknown, TasksLead}
+use Rattle.cache_lines.proofs.leads.Settling.{give-up}
 use Rattle.cache_lines.specs.Drawing.{identifiers_in}
 use Rattle.cache_lines.specs.Gathered.{adds, written}
 use Rattle.cache_lines.specs.Making.{making_of}
@@ -40,7 +40,7 @@ use Rattle.cache_commands.specs.declared.loads.standing.Standing.TheVariants as 
 use Rattle.cache_store.specs.Promises.{Frame}
 use Rattle.cache_store.specs.Running.{is_bounded}
 use Rattle.cache_store.specs.Values.{IsSoundStore, Values}
-use Rattle.cache_tape.specs.Taped.{IsAtRest, IsBegun, Taped, finishes, started, with_entry}
+use Rattle.cache_lines.specs.Tape.Taped.{IsAtRest, IsBegun, Taped, finishes, started, with_entry}
 use Rattle.cache_core.specs.Fed.{WantsMemory}
 use Rattle.cache_core.specs.Settled.{Absent, Closed, Course, Moves, Resting, Running, course_at, course_in, course_of, closing_of_steps, middle_of}
 use Rattle.cache_core.specs.Settling.{Happens, PartsUnknown, but_for, giving_up, known_of_loads, waiting_on}

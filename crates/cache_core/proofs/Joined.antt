@@ -11,15 +11,15 @@ use Rattle.audit_model.specs.Steps.{Task}
 use Rattle.audit_model.specs.declared.config.Config.{Config}
 use Rattle.audit_model.specs.declared.transcript.Note.{Note}
 use Rattle.audit_model.specs.declared.transcript.Step.{Step}
-use Rattle.cache_leads.specs.Leads.{TasksLead}
-use Rattle.cache_leads.proofs.Leading.{on}
+use Rattle.cache_lines.specs.Leads.Leads.{TasksLead}
+use Rattle.cache_lines.proofs.leads.Leading.{on}
 use Rattle.cache_lines.specs.Drawing.{identifiers_in}
 use Rattle.cache_lines.specs.Gathered.{Gathered, adds, gather, gathered, reply_in, stage, written}
 use Rattle.cache_lines.specs.Making.{Making}
 use Rattle.cache_lines.specs.Waiting.{under_way}
 use Rattle.cache_lines.specs.declared.base.Base.{Base}
 use Rattle.cache_store.specs.Values.{Values}
-use Rattle.cache_tape.specs.Taped.{Taped}
+use Rattle.cache_lines.specs.Tape.Taped.{Taped}
 use Rattle.cache_core.specs.Settled.{Absent, Moves, Piece, course_at, course_in, course_of, middle_of}
 use Rattle.cache_core.specs.State.{at_number}
 use Rattle.cache_core.specs.Turned.{own_steps, replies_to}

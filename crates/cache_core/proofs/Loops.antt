@@ -7,7 +7,7 @@ use Rattle.audit_laws.specs.Waiting.Tidy.{times_in}
 use Rattle.cache_connections.specs.Presence.{Presence}
 use Rattle.cache_lines.specs.declared.base.Base.{Base}
 use Rattle.cache_store.specs.Values.{Values}
-use Rattle.cache_tape.specs.Taped.{Taped}
+use Rattle.cache_lines.specs.Tape.Taped.{Taped}
 use Rattle.cache_core.specs.Settled.{IsAmid}
 use Rattle.cache_core.specs.Settling.{AreThere}
 use Rattle.cache_core.proofs.Amid.{amid-least}

@@ -26,7 +26,7 @@ use Rattle.cache_commands.specs.Loads.Pending.{SameTaken, loads_pending, sent_of
 use Rattle.cache_commands.specs.declared.loads.loads.Loads.{Loads}
 use Rattle.cache_commands.specs.declared.loads.standing.Standing.TheVariants as now
 use Rattle.cache_store.specs.Values.{IsSoundStore, Values}
-use Rattle.cache_tape.specs.Taped.{IsAtRest, Taped, finishes, started, with_entry}
+use Rattle.cache_lines.specs.Tape.Taped.{IsAtRest, Taped, finishes, started, with_entry}
 use Rattle.cache_core.specs.Fed.{ReplacedAt}
 use Rattle.cache_connection.specs.Parts.{standing_as}
 use Rattle.cache_connection.specs.Shown.{shown}

@@ -18,8 +18,8 @@ use Rattle.audit_model.specs.declared.transcript.Note.{Note}
 use Rattle.audit_model.specs.declared.transcript.Record.{Record}
 use Rattle.audit_laws.specs.Waiting.Tidy.{Tidy}
 use Rattle.audit_laws.proofs.waiting.Records.{records as records-tidy}
-use Rattle.cache_leads.specs.Waiters.{WaitForLoads}
-use Rattle.cache_leads.proofs.Waits.{records-wait}
+use Rattle.cache_lines.specs.Leads.Waiters.{WaitForLoads}
+use Rattle.cache_lines.proofs.leads.Waits.{records-wait}
 use Rattle.cache_lines.specs.Gathered.{gathered, IsFresh, stage}
 use Rattle.cache_lines.specs.declared.base.Base.{Base}
 use Rattle.cache_commands.specs.Loads.Pending.{loads_pending, namespace_of_loads, outgoing_loads, sent_of}
@@ -27,7 +27,7 @@ use Rattle.cache_commands.specs.Loads.Standings.{holds_line}
 use Rattle.cache_store.specs.Handing.{TakesFirstNote}
 use Rattle.cache_store.specs.Promises.{Frame}
 use Rattle.cache_store.specs.Values.{GivesNote, Values}
-use Rattle.cache_tape.specs.Taped.{IsAtRest, Taped}
+use Rattle.cache_lines.specs.Tape.Taped.{IsAtRest, Taped}
 use Rattle.cache_connection.specs.Fed.{LooksAsBefore}
 use Rattle.cache_core.specs.Fed.{BaseStays, CanTurn, ReplacedAt, WantsMemory, seen_at}
 use Rattle.cache_connection.specs.Parts.{standing_as}

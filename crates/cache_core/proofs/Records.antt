@@ -17,7 +17,7 @@ use Rattle.cache_lines.specs.Lines.{IsThere, ready}
 use Rattle.cache_lines.specs.Waiting.{under_way}
 use Rattle.cache_lines.specs.declared.base.Base.{Base}
 use Rattle.cache_store.specs.Values.{IsSoundStore, Values}
-use Rattle.cache_tape.specs.Taped.{IsAtRest, IsBegun, Taped, finishes, forgets, started, with_entry}
+use Rattle.cache_lines.specs.Tape.Taped.{IsAtRest, IsBegun, Taped, finishes, forgets, started, with_entry}
 use Rattle.cache_connection.specs.Fed.{FedRan, LooksAsBefore}
 use Rattle.cache_core.specs.Fed.{with_tape}
 use Rattle.cache_core.specs.Turned.{with_record}

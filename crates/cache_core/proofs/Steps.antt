@@ -22,8 +22,8 @@ use Rattle.cache_connection.specs.Parts.{standing_as}
 use Rattle.cache_connection.specs.Shown.{put_in, shown, with_piece}
 use Rattle.cache_connection.specs.declared.connection.Connection.{Connection}
 use Rattle.cache_connections.specs.Presence.{Gone, Here, Out, Presence, closing_at, is_here, reply_text_of, text_at}
-use Rattle.cache_leads.specs.Leads.{BeginsUnknown, TasksLead}
-use Rattle.cache_leads.proofs.Leading.{lines, no-lines, nothing}
+use Rattle.cache_lines.specs.Leads.Leads.{BeginsUnknown, TasksLead}
+use Rattle.cache_lines.proofs.leads.Leading.{lines, no-lines, nothing}
 use Rattle.cache_lines.specs.Drawing.{identifiers_in}
 use Rattle.cache_lines.specs.Ended.{RanTasks, ends_silent}
 use Rattle.cache_lines.specs.Gathered.{adds, reply_in, stage, written}
@@ -36,7 +36,7 @@ use Rattle.cache_commands.specs.declared.loads.loads.Loads.{Loads}
 use Rattle.cache_commands.specs.declared.loads.standing.Standing.{Standing}
 use Rattle.cache_commands.specs.declared.loads.standing.Standing.TheVariants as now_is
 use Rattle.cache_store.specs.Values.{Values}
-use Rattle.cache_tape.specs.Taped.{Taped}
+use Rattle.cache_lines.specs.Tape.Taped.{Taped}
 use Rattle.cache_core.specs.Fed.{ReplacedAt, seen_at}
 use Rattle.cache_core.specs.Settled.{Moves, Piece, Running, course_at, course_of, closing_of_steps, middle_of}
 use Rattle.cache_core.specs.Settling.{runs_at, runs_with}

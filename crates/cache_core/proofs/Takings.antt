@@ -6,11 +6,11 @@ use Rattle.std.specs.Option.{option_map_or}
 use Rattle.audit_model.specs.Situation as model
 use Rattle.audit_model.specs.Situation.{is_waiting_now}
 use Rattle.audit_laws.specs.Waiting.Tidy.{Tidy}
-use Rattle.cache_leads.specs.Waiters.{WaitForLoads}
+use Rattle.cache_lines.specs.Leads.Waiters.{WaitForLoads}
 use Rattle.cache_lines.specs.declared.base.Base.{Base}
 use Rattle.cache_commands.specs.Loads.Standings.{waits_for_load}
 use Rattle.cache_store.specs.Values.{Values}
-use Rattle.cache_tape.specs.Taped.{Taped}
+use Rattle.cache_lines.specs.Tape.Taped.{Taped}
 use Rattle.cache_core.specs.Fed.{ReplacedAt}
 use Rattle.cache_connection.specs.Parts.{standing_as}
 use Rattle.cache_core.specs.Places.{IsTakenAt, IsTakenFrom, waits_at, waits_in}

@@ -17,8 +17,8 @@ use Rattle.cache_connection.specs.Parts.{stands_before}
 use Rattle.cache_connection.specs.Shown.{shown}
 use Rattle.cache_connection.specs.declared.connection.Connection.{Connection}
 use Rattle.cache_connections.specs.Presence.{Gone, Here, Out, Presence, open_from}
-use Rattle.cache_leads.specs.Waiters.{WaitForLoads}
-use Rattle.cache_leads.proofs.Turns.{counted}
+use Rattle.cache_lines.specs.Leads.Waiters.{WaitForLoads}
+use Rattle.cache_lines.proofs.leads.Turns.{counted}
 use Rattle.cache_lines.specs.Waiting.{is_load}
 use Rattle.cache_lines.specs.Whole.{held_line}
 use Rattle.cache_commands.specs.declared.loads.standing.Standing.{Standing}

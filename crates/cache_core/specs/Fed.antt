@@ -11,7 +11,7 @@ use Rattle.cache_lines.specs.Waiting.{under_way}
 use Rattle.cache_lines.specs.declared.base.Base.{Base}
 use Rattle.cache_commands.specs.Loads.Pending.{SameLoads}
 use Rattle.cache_store.specs.Values.{IsMoment, Values}
-use Rattle.cache_tape.specs.Taped.{IsAtRest, Taped, finishes, started}
+use Rattle.cache_lines.specs.Tape.Taped.{IsAtRest, Taped, finishes, started}
 use Rattle.cache_connection.specs.declared.connection.Connection.{Connection}
 use Rattle.cache_connection.specs.Fed.{FedRan, seen_of}
 use Rattle.cache_connections.specs.Presence.{Here, Presence, text_at}

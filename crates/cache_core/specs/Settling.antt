@@ -22,7 +22,7 @@ use Rattle.cache_commands.specs.Right.{KeepsFrame}
 use Rattle.cache_connection.specs.Fed.{FedRan, LooksAsBefore}
 use Rattle.cache_connection.specs.declared.connection.Connection.{Connection}
 use Rattle.cache_connections.specs.Presence.{Gone, Here, Out, Presence}
-use Rattle.cache_leads.specs.Leads.{BeginsUnknown}
+use Rattle.cache_lines.specs.Leads.Leads.{BeginsUnknown}
 use Rattle.cache_lines.specs.Making.{making_of}
 use Rattle.cache_lines.specs.Waiting.{UnderWay, is_load, under_way}
 use Rattle.cache_lines.specs.Whole.{held_line}
@@ -32,7 +32,7 @@ use Rattle.cache_commands.specs.declared.loads.loads.Loads.{Loads}
 use Rattle.cache_commands.specs.declared.loads.standing.Standing.{Standing}
 use Rattle.cache_commands.specs.declared.loads.standing.Standing.TheVariants as now_is
 use Rattle.cache_store.specs.Values.{GivesNote, IsMoment, Values}
-use Rattle.cache_tape.specs.Taped.{IsAtRest, Taped, started}
+use Rattle.cache_lines.specs.Tape.Taped.{IsAtRest, Taped, started}
 use Rattle.cache_core.specs.Fed.{ReplacedAt, seen_at}
 use Rattle.cache_core.specs.Settled.{Parts, Piece}
 use Rattle.cache_core.specs.State.{State, StandsFor}

@@ -8,9 +8,9 @@ use Rattle.audit_model.specs.Situation.{HeldValue, PendingLoad, Situation}
 use Rattle.audit_model.specs.declared.command.Closing.{Closing}
 use Rattle.audit_model.specs.declared.input.LoadId.{LoadId}
 use Rattle.audit_laws.specs.Waiting.Tidy.{Tidy}
-use Rattle.cache_leads.specs.Waiters.{WaitForLoads}
+use Rattle.cache_lines.specs.Leads.Waiters.{WaitForLoads}
 use Rattle.cache_store.specs.Values.{Values}
-use Rattle.cache_tape.specs.Taped.{IsAtRest, Taped}
+use Rattle.cache_lines.specs.Tape.Taped.{IsAtRest, Taped}
 use Rattle.cache_lines.specs.declared.base.Base.{Base}
 use Rattle.cache_commands.specs.Loads.Keys.{were_sent}
 use Rattle.cache_commands.specs.Loads.Pending.{loads_pending, namespace_of_loads, outgoing_loads, sent_of}

@@ -20,7 +20,7 @@ use Rattle.audit_model.specs.declared.transcript.Record.{Record}
 use Rattle.audit_model.specs.declared.transcript.Step.{Step}
 use Rattle.cache_store.specs.Running.{is_bounded}
 use Rattle.cache_store.specs.Values.{Values}
-use Rattle.cache_tape.specs.Taped.{Taped, with_entry}
+use Rattle.cache_lines.specs.Tape.Taped.{Taped, with_entry}
 use Rattle.cache_lines.specs.Drawing.{StepsDraw, identifiers_in}
 use Rattle.cache_lines.specs.Ended.{ends_held, ends_silent}
 use Rattle.cache_lines.specs.Gathered.{reply_in}

@@ -17,9 +17,8 @@ use crate::settling::{resume_all, tell_all};
 use audit_model::{Accepted, Note, Outcome};
 use cache_commands::Keyed;
 use cache_connections::Connections;
-use cache_lines::{Base, drain, most_notes};
+use cache_lines::{Base, Tape, drain, most_notes};
 use cache_store::Store;
-use cache_tape::Tape;
 use std::alloc::{AllocError, Global};
 
 /// What an answer's own step did.

@@ -7,14 +7,13 @@ ghost use Rattle.cache_core.specs.Settled.{IsAmid};
 ghost use Rattle.cache_core.specs.Settling.{AreWaiting, RunsAgain, waiting_on};
 ghost use Rattle.cache_lines.specs.Waiting.{under_way};
 ghost use Rattle.cache_commands.specs.Loads.Pending.{SameTaken, load_numbered, loads_pending};
-ghost use Rattle.cache_tape.specs.Taped.{IsAtRest, started};
+ghost use Rattle.cache_lines.specs.Tape.Taped.{IsAtRest, started};
 
 use crate::recording::begin_kept;
 use crate::settling::give_up_all;
 use cache_connections::Connections;
-use cache_lines::Base;
+use cache_lines::{Base, Tape};
 use cache_store::Store;
-use cache_tape::Tape;
 use std::alloc::AllocError;
 
 /// Begins the record of a give-up, with room to answer each `LOAD` that waits for good, and to hold back a line behind it.

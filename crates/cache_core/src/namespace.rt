@@ -9,7 +9,7 @@ ghost use Rattle.cache_core.specs.Turned.{RefusesBy, Turns, feeding, is_waiting_
 ghost use Rattle.cache_commands.specs.Loads.Keys.{are_in_turn, have_their_keys};
 ghost use Rattle.cache_store.specs.Handing.{TakesFirstNote};
 ghost use Rattle.cache_store.specs.Values.{GivesNote};
-ghost use Rattle.cache_tape.specs.Taped.{IsAtRest};
+ghost use Rattle.cache_lines.specs.Tape.Taped.{IsAtRest};
 
 use crate::answering::{Stored, begin_answer, hand_out};
 use crate::giving_up::{begin_give_up, settle_give_up};
@@ -20,9 +20,8 @@ use audit_model::{Bytes, Closing, Event, Instant, LoadId, Note, Outcome, Seq, Se
 use cache_commands::{Keyed, Loads};
 use cache_connection::new_connection;
 use cache_connections::Connections;
-use cache_lines::Base;
+use cache_lines::{Base, Tape};
 use cache_store::Store;
-use cache_tape::Tape;
 use std::alloc::{AllocError, Global};
 use std::marker::Model;
 

@@ -8,15 +8,14 @@ ghost use Rattle.cache_connections.specs.Presence.{Here, closing_at};
 ghost use Rattle.cache_connection.specs.declared.connection.Connection.{Connection as Open};
 ghost use Rattle.cache_commands.specs.Loads.Pending.{SameTaken};
 ghost use Rattle.cache_commands.specs.Loads.Standings.{holds_line};
-ghost use Rattle.cache_tape.specs.Taped.{IsAtRest, started};
+ghost use Rattle.cache_lines.specs.Tape.Taped.{IsAtRest, started};
 
 use crate::places::number_at;
 use audit_model::{Bytes, Event, Instant, Seq, ServiceError};
 use cache_connection::{Connection, feed_connection};
 use cache_connections::Connections;
-use cache_lines::Base;
+use cache_lines::{Base, Tape};
 use cache_store::Store;
-use cache_tape::Tape;
 use std::alloc::{AllocError, Global};
 
 /// A copy of a piece, where records are kept.

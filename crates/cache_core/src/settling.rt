@@ -15,10 +15,9 @@ use crate::places::{leave_closed, number_at};
 use audit_model::Outcome;
 use cache_connection::{Connection, deliver, feed_ready, run_again};
 use cache_connections::Connections;
-use cache_lines::Base;
+use cache_lines::{Base, Tape};
 use cache_commands::Standing;
 use cache_store::Store;
-use cache_tape::Tape;
 
 /// Whether the connection is open and runs lines.
 fn runs(connection: &Connection) -> bool

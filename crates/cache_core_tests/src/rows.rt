@@ -2,7 +2,7 @@
 //! once more.
 ghost use Rattle.std.specs.Prelude.{◌≡◌, ◌≤◌, ◌<◌, ◌^◌, ℕ, [], true, Some};
 ghost use Rattle.cache_parts.specs.Parts.{IsBrief};
-ghost use Rattle.cache_tape.specs.Taped.{IsAtRest};
+ghost use Rattle.cache_lines.specs.Tape.Taped.{IsAtRest};
 
 use audit_model::{
     Bytes, Closing, Config, EvictionPolicy, Instant, LoadId, Outcome, Seq, ServiceError, Weight,
@@ -10,7 +10,7 @@ use audit_model::{
 use cache_core::Namespace;
 use cache_front::{FrontStore, KeyedHasher};
 use cache_store::Store;
-use cache_tape::{Bare, Kept, Tape};
+use cache_lines::{Bare, Kept, Tape};
 use rand_core::SeedableRng;
 use rand_xoshiro::SplitMix64;
 use std::alloc::{AllocError, Global};

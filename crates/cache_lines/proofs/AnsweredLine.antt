@@ -18,7 +18,7 @@ use Rattle.cache_commands.specs.Answered.{IsAnswered}
 use Rattle.cache_commands.specs.Order.{order_by}
 use Rattle.cache_commands.specs.Right.{KeepsFrame, held_when_run, step_saying}
 use Rattle.cache_commands.proofs.Ordering.{agrees-kept}
-use Rattle.cache_tape.specs.Taped.{Taped, drafts, ends, text_left}
+use Rattle.cache_lines.specs.Tape.Taped.{Taped, drafts, ends, text_left}
 use Rattle.cache_lines.specs.Drawing.{identifiers_in}
 use Rattle.cache_lines.specs.Gathered.{IsFresh, gather, gathered, stage}
 use Rattle.cache_lines.specs.Lines.{IsPlain, says_quit}

@@ -17,7 +17,7 @@ use Rattle.cache_commands.specs.Right.{step_saying}
 use Rattle.cache_commands.proofs.Drawn.{draws-none, spends-none}
 use Rattle.cache_lines.specs.Drawing.{Identifiers, Spends, StepDraws, StepsDraw}
 use Rattle.cache_commands.specs.Answered.{says_drop}
-use Rattle.cache_tape.specs.Taped.{step_held}
+use Rattle.cache_lines.specs.Tape.Taped.{step_held}
 
 pub keeps-more : (a b c : Stream) (x y z : Register) → KeepsIdentifiers a b x y → KeepsIdentifiers b c y z → KeepsIdentifiers a c x z
 keeps-more a b c x y z k l = record { stream = l.stream ∙ k.stream; registered = λ part id h. k.registered part id (l.registered part id h) }

@@ -24,7 +24,7 @@ use Rattle.cache_commands.specs.Order.{AgreesWith, order_by}
 use Rattle.cache_commands.specs.Right.{held_when_run, placed_doing, step_saying}
 use Rattle.cache_commands.specs.Loads.Pending.{number_to_send, when_joined, when_sent}
 use Rattle.cache_store.specs.Promises.{no_deed}
-use Rattle.cache_tape.specs.Taped.{Taped}
+use Rattle.cache_lines.specs.Tape.Taped.{Taped}
 use Rattle.cache_lines.specs.Drawing.{identifiers_in}
 use Rattle.cache_lines.specs.Ended.{RanReady, RanTasks, ends_held, ends_silent, held_with}
 use Rattle.cache_lines.specs.Gathered.{Stage, gather, gathered, stage}

@@ -10,7 +10,7 @@ use Rattle.cache_commands.specs.Loading.{step_silent}
 use Rattle.cache_commands.specs.Right.{KeepsFrame, held_when_run, step_saying}
 use Rattle.cache_commands.specs.Loads.Pending.{when_joined, when_sent}
 use Rattle.cache_store.specs.Values.{IsSoundStore}
-use Rattle.cache_tape.specs.Taped.{Taped, drafts}
+use Rattle.cache_lines.specs.Tape.Taped.{Taped, drafts}
 use Rattle.cache_lines.specs.Ended.{BeginsToWait, RanReady, RanTasks, RunsHeld, RunsReady, ends_by_quit, held_with, holds_back, left_by, waits_now}
 use Rattle.cache_lines.specs.Gathered.{IsFresh, Stage, gather, gathered, stage}
 use Rattle.cache_lines.specs.Lines.{ready, set_in, situation_behind, with_drops}

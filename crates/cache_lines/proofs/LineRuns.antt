@@ -26,7 +26,7 @@ use Rattle.cache_lines.specs.Drawing.{identifiers_in}
 use Rattle.cache_lines.specs.Making.{Making}
 use Rattle.cache_lines.specs.Gathered.{Gathered, IsFresh, Stage, gather, gathered, reply_in, stage}
 use Rattle.cache_store.specs.Values.{Values}
-use Rattle.cache_tape.specs.Taped.{Taped}
+use Rattle.cache_lines.specs.Tape.Taped.{Taped}
 use Rattle.cache_lines.specs.Ended.{ends_silent}
 use Rattle.cache_lines.specs.Lines.{Runs, IsThere, situation_behind, ends_quit, has_its_part, is_timely_after, effect_of_step, ready, says_quit, set_in, with_drops}
 use Rattle.cache_lines.specs.Ran.{RanOne, RanLines}

@@ -37,7 +37,7 @@ use Rattle.cache_commands.specs.Order.{AgreesWith, order_by}
 use Rattle.cache_commands.proofs.Drawn.{draws-none}
 use Rattle.cache_commands.proofs.LoadSteps as loading
 use Rattle.cache_store.specs.Promises.{no_deed}
-use Rattle.cache_tape.specs.Taped.{Taped}
+use Rattle.cache_lines.specs.Tape.Taped.{Taped}
 use Rattle.cache_lines.specs.Drawing.{Identifiers, StepDraws, identifiers_in}
 use Rattle.cache_lines.specs.Ended.{RanReady, ends_held}
 use Rattle.cache_lines.specs.Gathered.{Stage, gather, gathered, stage}

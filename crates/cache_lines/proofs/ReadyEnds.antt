@@ -14,7 +14,7 @@ use Rattle.audit_lines.proofs.Lines.{IsLine-first_line, long_from}
 use Rattle.cache_commands.specs.Loading.{step_silent}
 use Rattle.cache_store.specs.Promises.{Frame, no_deed}
 use Rattle.cache_store.specs.Values.{IsSoundStore, Values}
-use Rattle.cache_tape.specs.Taped.{Taped, ends, spends, step_held}
+use Rattle.cache_lines.specs.Tape.Taped.{Taped, ends, spends, step_held}
 use Rattle.cache_commands.specs.Loads.Pending.{when_joined, when_sent}
 use Rattle.cache_lines.specs.Ended.{BeginsToWait, EndsBy, EndsFor, IsHeldBack, RanReady, RunsReady, ends_by_quit, holds_back, left_by, waits_now}
 use Rattle.cache_lines.specs.Gathered.{IsFresh, Stage, gather, gathered, stage}

@@ -24,7 +24,7 @@ use Rattle.cache_commands.specs.Order.{AgreesWith}
 use Rattle.cache_commands.specs.Right.{placed_doing}
 use Rattle.cache_commands.proofs.Answering.{same-refl, none_succeeded}
 use Rattle.cache_store.specs.Promises.{no_deed}
-use Rattle.cache_tape.specs.Taped.{Taped, step_held}
+use Rattle.cache_lines.specs.Tape.Taped.{Taped, step_held}
 use Rattle.cache_lines.specs.Drawing.{identifiers_in}
 use Rattle.cache_lines.specs.Ended.{RanReady, ends_held}
 use Rattle.cache_lines.specs.Gathered.{Stage, gather, gathered, stage}

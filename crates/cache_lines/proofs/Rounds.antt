@@ -7,7 +7,7 @@ use Rattle.cache_store.specs.Promises.{Frame}
 use Rattle.cache_store.specs.Values.{Values}
 use Rattle.cache_commands.specs.Answered.{Agrees}
 use Rattle.cache_commands.specs.Right.{KeepsFrame}
-use Rattle.cache_tape.specs.Taped.{Taped, drafts}
+use Rattle.cache_lines.specs.Tape.Taped.{Taped, drafts}
 use Rattle.cache_lines.specs.Gathered.{IsFresh, Stage, gathered, stage}
 use Rattle.cache_lines.specs.Lines.{IsThere, ready, set_in, with_drops}
 use Rattle.cache_lines.specs.Making.{Making, making_of}

@@ -2,7 +2,7 @@
 use Rattle.std.specs.Prelude.{◌≡◌, ℕ, List, Option}
 use Rattle.cache_commands.specs.Loads.Pending.{SameLoads}
 use Rattle.cache_store.specs.Values.{IsMoment, Values}
-use Rattle.cache_tape.specs.Taped.{HasSpare, Taped}
+use Rattle.cache_lines.specs.Tape.Taped.{HasSpare, Taped}
 use Rattle.cache_lines.specs.Ended.{RunsHeld, RunsReady}
 use Rattle.cache_lines.specs.Gathered.{IsFresh, Stage, gathered, stage}
 use Rattle.cache_lines.specs.Waiting.{UnderWay, under_way}

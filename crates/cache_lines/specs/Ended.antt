@@ -15,7 +15,7 @@ use Rattle.audit_lines.specs.Next.{IsLine, IsPartial}
 use Rattle.cache_commands.specs.Answered.{Agrees}
 use Rattle.cache_commands.specs.Loading.{step_silent}
 use Rattle.cache_commands.specs.Right.{KeepsFrame}
-use Rattle.cache_tape.specs.Taped.{Taped, ends, spends, step_held}
+use Rattle.cache_lines.specs.Tape.Taped.{Taped, ends, spends, step_held}
 use Rattle.cache_lines.specs.Drawing.{StepsDraw, identifiers_in}
 use Rattle.cache_lines.specs.Gathered.{IsFresh, Stage, gather, gathered, spare_in}
 use Rattle.cache_lines.specs.Lines.{ArePartedIn, IsThere, are_timely, ends_quit, holding, ready, set_in, situation_behind, with_drops}

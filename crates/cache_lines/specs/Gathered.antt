@@ -5,7 +5,7 @@ use Rattle.std.specs.Option.{option_map}
 use Rattle.audit_model.specs.declared.transcript.Note.{Note}
 use Rattle.audit_model.specs.declared.transcript.Step.{Step}
 use Rattle.cache_store.specs.Values.{Values}
-use Rattle.cache_tape.specs.Taped.{Taped}
+use Rattle.cache_lines.specs.Tape.Taped.{Taped}
 
 -- what a line changes: the values, the replies written and not taken, and the tape
 pub record Stage : Type 1 where

@@ -1,3 +1,5 @@
+pub mod Tape
+pub mod Leads
 pub mod Bases
 pub mod Drawing
 pub mod Ended

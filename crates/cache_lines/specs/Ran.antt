@@ -16,7 +16,7 @@ use Rattle.cache_store.specs.Running.{is_timely}
 use Rattle.cache_commands.specs.Answered.{Agrees}
 use Rattle.cache_commands.specs.Order.{Order, AgreesWith, order_by}
 use Rattle.cache_commands.specs.Right.{DoesRight, KeepsFrame, step_saying, held_when_run, dropped_when_run}
-use Rattle.cache_tape.specs.Taped.{drafts}
+use Rattle.cache_lines.specs.Tape.Taped.{drafts}
 use Rattle.cache_lines.specs.Drawing.{StepDraws, StepsDraw, identifiers_in}
 use Rattle.cache_lines.specs.Gathered.{IsFresh, Stage, gather, gathered}
 use Rattle.cache_lines.specs.Lines.{IsPlain, Runs, ends_quit, has_its_part, ready, says_quit, set_in, situation_behind, with_drops}

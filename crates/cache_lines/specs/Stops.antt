@@ -6,7 +6,7 @@ use Rattle.audit_model.specs.Stream.{without_return}
 use Rattle.audit_lines.specs.Next.{IsLine, IsPartial}
 use Rattle.cache_commands.specs.Answered.{Agrees}
 use Rattle.cache_commands.specs.Right.{KeepsFrame}
-use Rattle.cache_tape.specs.Taped.{Taped}
+use Rattle.cache_lines.specs.Tape.Taped.{Taped}
 use Rattle.cache_lines.specs.Gathered.{IsFresh, Stage, gathered}
 use Rattle.cache_lines.specs.Lines.{IsThere}
 use Rattle.cache_lines.specs.Making.{making_of}

@@ -2,7 +2,7 @@
 
 use cache_commands::{Keyed, Loads};
 use cache_store::Store;
-use cache_tape::Tape;
+use crate::tape::Tape;
 
 /// What a connection's lines run over: the store, the loads under way, and the tape of the record under way.
 #[derive(Drop)]

@@ -1,7 +1,7 @@
 //! What ends a connection's lines.
 ghost use Rattle.std.specs.Prelude.{◌≡◌, ◌+◌, ◌≤◌, true, length};
 ghost use Rattle.cache_commands.specs.Loads.Pending.{SameTaken};
-ghost use Rattle.cache_tape.specs.Taped.{HasSpare};
+ghost use Rattle.cache_lines.specs.Tape.Taped.{HasSpare};
 ghost use Rattle.cache_lines.specs.Ended.{CanEnd, EndsBy, spare_of, waits_now};
 ghost use Rattle.cache_lines.specs.Outputs.{IsRoomy};
 ghost use Rattle.cache_lines.specs.Waiting.{under_way};
@@ -12,7 +12,7 @@ use crate::output::Output;
 use audit_lines::trim;
 use audit_model::Config;
 use cache_commands::Loads;
-use cache_tape::Tape;
+use crate::tape::Tape;
 
 /// How a connection's lines end.
 #[derive(Clone, Copy, PartialEq, Eq, Drop)]

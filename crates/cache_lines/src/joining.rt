@@ -5,7 +5,7 @@ ghost use Rattle.audit_model.specs.Grammar.{reading};
 ghost use Rattle.audit_model.specs.declared.command.Command.TheVariants as says;
 ghost use Rattle.cache_commands.specs.Loading.{step_silent};
 ghost use Rattle.cache_commands.specs.Loads.Pending.{SameLoads, SameTaken};
-ghost use Rattle.cache_tape.specs.Taped.{IsDrafted, ends};
+ghost use Rattle.cache_lines.specs.Tape.Taped.{IsDrafted, ends};
 ghost use Rattle.cache_lines.specs.Ended.{BeginsToWait, spare_of};
 ghost use Rattle.cache_lines.specs.Outputs.{IsRoomy};
 ghost use Rattle.cache_lines.specs.Waiting.{is_load, load_sent_for, under_way, when_waiting};
@@ -15,7 +15,7 @@ use crate::output::Output;
 use audit_lines::{Request, read_line};
 use audit_model::Config;
 use cache_commands::Loads;
-use cache_tape::Tape;
+use crate::tape::Tape;
 use std::alloc::AllocError;
 
 /// How many bytes `ERR abandoned` and a line feed are.

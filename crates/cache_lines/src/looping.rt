@@ -8,7 +8,7 @@ use crate::running::{Done, run_line};
 use audit_lines::{Next, next_in, trim};
 use cache_commands::Keyed;
 use cache_store::Store;
-use cache_tape::Tape;
+use crate::tape::Tape;
 
 /// Why no further line runs now.
 #[derive(Clone, Copy, PartialEq, Eq, Drop)]

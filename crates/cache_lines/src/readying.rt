@@ -2,7 +2,7 @@
 ghost use Rattle.std.specs.Prelude.{◌≡◌, ◌+◌, ◌≤◌, ◌++◌, [], drop, true, length};
 ghost use Rattle.cache_commands.specs.Loads.Pending.{SameTaken};
 ghost use Rattle.cache_store.specs.Values.{IsMoment};
-ghost use Rattle.cache_tape.specs.Taped.{HasSpare};
+ghost use Rattle.cache_lines.specs.Tape.Taped.{HasSpare};
 ghost use Rattle.cache_lines.specs.Bases.{IsClear, ReadyRan, seen};
 ghost use Rattle.cache_lines.specs.Ended.{spare_of, waits_now};
 ghost use Rattle.cache_lines.specs.Outputs.{IsRoomy};
@@ -13,7 +13,7 @@ use crate::looping::{Stopped, behind, run_lines};
 use crate::output::Output;
 use audit_lines::Buffer;
 use cache_store::Store;
-use cache_tape::Tape;
+use crate::tape::Tape;
 
 /// How a connection's lines ended, and how many bytes those had that ran, a `QUIT` aside.
 #[derive(Clone, Copy, PartialEq, Eq, Drop)]

@@ -14,7 +14,7 @@ use crate::readying::take_piece;
 use crate::running::{Done, run_line};
 use audit_lines::{Buffer, Next};
 use cache_store::Store;
-use cache_tape::Tape;
+use crate::tape::Tape;
 use std::alloc::AllocError;
 
 /// How the lines of a connection ended.

@@ -10,7 +10,7 @@ use crate::draining::{end_step, most_notes};
 use audit_lines::{Request, read_line};
 use cache_commands::{Keyed, Ran};
 use cache_store::Store;
-use cache_tape::Tape;
+use crate::tape::Tape;
 use std::alloc::AllocError;
 
 /// What a line did.

@@ -26,7 +26,7 @@ use Rattle.cache_spaces.specs.declared.stepping.Refusal.{Refusal}
 use Rattle.cache_shared.specs.Events as events
 use Rattle.cache_shared.specs.Events.{IsReached, RefusesEvent, TakesNothing, record_count}
 use Rattle.cache_shared.proofs.Counting.{count-empty, count-more}
-use Rattle.cache_tape.specs.Taped.{Taped, with_entry}
+use Rattle.cache_lines.specs.Tape.Taped.{Taped, with_entry}
 
 -- namespaces, as they are seen whatever their tapes are
 abbrev pub all-shown : List (Space Taped) → List Shown

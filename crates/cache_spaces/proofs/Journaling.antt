@@ -39,7 +39,7 @@ use Rattle.cache_spaces.proofs.Listing.{keeps-list}
 use Rattle.cache_spaces.proofs.Putting.{at-it, at-length, at-others}
 use Rattle.cache_store.specs.Recency.{IsPlainLru}
 use Rattle.cache_store.specs.Running.{is_bounded}
-use Rattle.cache_tape.specs.Taped.{Taped, with_entry}
+use Rattle.cache_lines.specs.Tape.Taped.{Taped, with_entry}
 
 -- ---- places
 

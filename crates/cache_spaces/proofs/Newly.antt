@@ -11,7 +11,7 @@ use Rattle.rand_xoshiro.specs.Xoshiro256.{plus_plus}
 use Rattle.audit_model.specs.declared.config.Config.{Config}
 use Rattle.cache_spaces.specs.Services.{IsNewNamespace, AreNew, fork_after, stream_after_forks}
 use Rattle.cache_spaces.specs.Spaces.{Space}
-use Rattle.cache_tape.specs.Taped.{Taped}
+use Rattle.cache_lines.specs.Tape.Taped.{Taped}
 
 absent : {X A : Type 0} {x : X} → None ≡ Some x → A
 absent e = absurd (none-some _ e)

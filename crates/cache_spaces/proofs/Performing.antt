@@ -22,7 +22,7 @@ use Rattle.cache_lines.specs.Ended.{ends_held}
 use Rattle.cache_spaces.specs.Calls.{RefusedFor, ServesEvent, Settled}
 use Rattle.cache_spaces.specs.Inputs.{Performs, RefusedInput, is_held_for, namespace_of}
 use Rattle.cache_spaces.specs.Spaces.{Space}
-use Rattle.cache_tape.specs.Taped.{Taped}
+use Rattle.cache_lines.specs.Tape.Taped.{Taped}
 
 -- a namespace's number is its own
 own-number : (n : ℕ) (o : Option Event) → (if n == n then o else None) ≡ o

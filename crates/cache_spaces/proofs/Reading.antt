@@ -19,7 +19,7 @@ use Rattle.cache_spaces.specs.Replies.{replies_for}
 use Rattle.cache_spaces.specs.Spaces.{Space}
 use Rattle.cache_spaces.specs.declared.cursors.Cursors.{Cursors}
 use Rattle.cache_spaces.proofs.Noting.{all-notes, told-grows}
-use Rattle.cache_tape.specs.Taped.{Taped}
+use Rattle.cache_lines.specs.Tape.Taped.{Taped}
 
 -- connections of one namespace and number are one
 pub same-conn : (a b : Conn) → a.namespace ≡ b.namespace → a.number ≡ b.number → a ≡ b

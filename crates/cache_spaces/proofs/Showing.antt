@@ -10,7 +10,7 @@ use Rattle.cache_connections.proofs.Getting.{at-mapped}
 use Rattle.cache_spaces.specs.Calls.{At, InSpace, RefusedFor, Refuses}
 use Rattle.cache_spaces.specs.Inputs.{Performs, RefusedInput, is_held_for}
 use Rattle.cache_spaces.specs.Spaces.{Space, StandsFor, shown, shown_tape}
-use Rattle.cache_tape.specs.Taped.{Taped}
+use Rattle.cache_lines.specs.Tape.Taped.{Taped}
 
 module _ {X Y : Type 0} (f : X → Y) where
   -- what is true of one and another is true of them as they are shown

@@ -1,8 +1,8 @@
 -- A service that keeps no journal.
 use Rattle.std.specs.Prelude.{Option, None}
 use Rattle.cache_spaces.specs.Spaces.{Space}
-use Rattle.cache_tape.specs.Taped.{Taped}
-use Rattle.cache_tape.specs.declared.bare.Bare.{Bare}
+use Rattle.cache_lines.specs.Tape.Taped.{Taped}
+use Rattle.cache_lines.specs.declared.tape.bare.Bare.{Bare}
 
 -- what such a tape keeps
 abbrev pub bare_tape : Bare → Option Taped

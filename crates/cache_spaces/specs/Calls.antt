@@ -16,7 +16,7 @@ use Rattle.cache_spaces.specs.Spaces.{Space, notices_of, outgoing_of, place_of, 
 use Rattle.cache_spaces.specs.Stores.{shown_of}
 use Rattle.cache_store.specs.Handing.{TakesFirstNote}
 use Rattle.cache_store.specs.Values.{GivesNote}
-use Rattle.cache_tape.specs.Taped.{Taped}
+use Rattle.cache_lines.specs.Tape.Taped.{Taped}
 
 -- ---- which namespace
 

@@ -13,7 +13,7 @@ use Rattle.cache_core.specs.Turned.{Stays, Turned}
 use Rattle.cache_spaces.specs.Calls.{RefusedFor, is_held_in}
 use Rattle.cache_spaces.specs.Spaces.{Space, StandsFor}
 use Rattle.cache_spaces.specs.Stores.{shown_of}
-use Rattle.cache_tape.specs.Taped.{Taped}
+use Rattle.cache_lines.specs.Tape.Taped.{Taped}
 
 -- the namespace that an input names
 abbrev pub namespace_of : Input → ℕ

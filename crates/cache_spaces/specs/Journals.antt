@@ -11,7 +11,7 @@ use Rattle.cache_spaces.specs.Recent.{KeepsList}
 use Rattle.cache_spaces.specs.Spaces.{Space, StandsFor, config_of}
 use Rattle.cache_spaces.specs.Throughout.{HasExactKeys, is_bounded_throughout, is_timely_throughout}
 use Rattle.cache_store.specs.Recency.{IsPlainLru}
-use Rattle.cache_tape.specs.Taped.{Taped}
+use Rattle.cache_lines.specs.Tape.Taped.{Taped}
 
 -- what such a tape keeps
 abbrev pub kept_by : Taped → Option Taped

@@ -16,7 +16,7 @@ use Rattle.cache_spaces.specs.Served.{is_served}
 use Rattle.cache_spaces.specs.Recent.{KeepsList}
 use Rattle.cache_spaces.specs.Spaces.{HasItsParts, Space, StandsFor, config_of, made_of, part_in, recency_of}
 use Rattle.cache_spaces.specs.Throughout.{HasExactKeys, HaveKeysFrom, are_bounded_from, are_timely_from, is_bounded_throughout, is_timely_throughout, order_at_end}
-use Rattle.cache_tape.specs.Taped.{Taped}
+use Rattle.cache_lines.specs.Tape.Taped.{Taped}
 
 -- the journal of a namespace, which its tape keeps
 abbrev pub journal_of : Space Taped → Transcript

@@ -11,7 +11,7 @@ use Rattle.cache_spaces.specs.Replies.{records_at, replies_for}
 use Rattle.cache_spaces.specs.Spaces.{Space}
 use Rattle.cache_spaces.specs.declared.cursors.Cursors.{Cursors}
 use Rattle.cache_spaces.specs.declared.told.Told.{Told}
-use Rattle.cache_tape.specs.Taped.{Taped}
+use Rattle.cache_lines.specs.Tape.Taped.{Taped}
 
 -- of a namespace: how many records the takings of a connection's replies went through, by its number, and where the first note stands that was
 -- not taken

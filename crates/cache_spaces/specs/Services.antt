@@ -11,7 +11,7 @@ use Rattle.cache_spaces.specs.Served.{is_served}
 use Rattle.cache_spaces.specs.Spaces.{HasItsParts, Space, StandsFor, config_of, generator_of, made_of, notices_of, part_in, recency_of}
 use Rattle.cache_spaces.specs.declared.service.Fed.{Fed}
 use Rattle.cache_spaces.specs.declared.service.Fed.TheVariants.{All, Held}
-use Rattle.cache_tape.specs.Taped.{Taped}
+use Rattle.cache_lines.specs.Tape.Taped.{Taped}
 
 -- the configurations that a service is made with: 1 to 16, each of which is served
 abbrev pub are_taken : List Config → Bool

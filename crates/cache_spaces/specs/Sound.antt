@@ -3,7 +3,7 @@ use Rattle.audit_model.specs.Situation.{Situation}
 use Rattle.cache_core.specs.State.{IsInOrder, SuitsItself}
 use Rattle.cache_spaces.specs.Spaces.{Space, StandsFor}
 use Rattle.cache_spaces.specs.Stores.{shown_of}
-use Rattle.cache_tape.specs.Taped.{Taped}
+use Rattle.cache_lines.specs.Tape.Taped.{Taped}
 use Rattle.std.specs.Prelude.{Option}
 
 -- it stands for a situation, it is in order, and its parts suit one another

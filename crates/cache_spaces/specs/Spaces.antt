@@ -14,7 +14,7 @@ use Rattle.cache_front.specs.declared.entries.hasher.KeyedHasher.{KeyedHasher}
 use Rattle.cache_front.specs.declared.entries.hasher.WordBuilder.{WordBuilder}
 use Rattle.cache_front.specs.Store.Data.{StoreData}
 use Rattle.cache_spaces.specs.Stores.{shown_of}
-use Rattle.cache_tape.specs.Taped.{Taped}
+use Rattle.cache_lines.specs.Tape.Taped.{Taped}
 
 -- a namespace of a service, over such a tape
 abbrev pub Space : Type 0 → Type 0

@@ -13,7 +13,7 @@ use crate::service::Core;
 use crate::stepping::Refusal;
 use audit_model::{Bytes, Config, Conn, Input, Instant, LoadId, Note, ServiceError, Transcript};
 use audit_laws::Output;
-use cache_tape::Kept;
+use cache_lines::Kept;
 use rand_xoshiro::Xoshiro256PlusPlus;
 use std::alloc::{AllocError, Global};
 use std::marker::Model;

@@ -13,7 +13,7 @@ use crate::tapes::NewTape;
 use audit_model::{Bytes, Closing, Config, Conn, Instant, LoadId, Note, Outcome, ServiceError};
 use cache_core::Namespace;
 use cache_front::{FrontStore, KeyedHasher};
-use cache_tape::{Bare, Tape};
+use cache_lines::{Bare, Tape};
 use rand_xoshiro::Xoshiro256PlusPlus;
 use std::alloc::Global;
 use std::marker::Model;

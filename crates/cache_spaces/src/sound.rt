@@ -5,7 +5,7 @@ ghost use Rattle.cache_spaces.specs.Sound.{IsSound};
 ghost use Rattle.cache_spaces.specs.Spaces.{Space};
 
 use crate::service::Core;
-use cache_tape::Tape;
+use cache_lines::Tape;
 
 impl<T: Tape> Core<T> {
     /// What is true of a namespace, if it is there: it stands for a situation, it is in order, and its parts suit one another. It does

@@ -7,7 +7,7 @@ ghost use Rattle.cache_spaces.specs.Inputs.{Performs, RefusedInput, namespace_of
 use crate::service::{AnswerError, Core, Fed};
 use audit_model::{Bytes, Conn, Input, Instant, LoadId, Outcome, ServiceError};
 use audit_laws::Output;
-use cache_tape::Tape;
+use cache_lines::Tape;
 use thiserror::Error;
 
 /// An input that was refused, handed back with the reason. By `?` it turns into its `ServiceError`.

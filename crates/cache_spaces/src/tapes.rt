@@ -1,10 +1,10 @@
 //! The tapes of new namespaces.
 ghost use Rattle.std.specs.Prelude.{◌≡◌, Option};
 ghost use Rattle.audit_model.specs.declared.event.Instant.{Instant as Moment};
-ghost use Rattle.cache_tape.specs.Taped.{IsAtRest, Taped};
+ghost use Rattle.cache_lines.specs.Tape.Taped.{IsAtRest, Taped};
 
 use audit_model::Instant;
-use cache_tape::{Bare, Kept, Tape};
+use cache_lines::{Bare, Kept, Tape};
 use std::alloc::Global;
 
 /// A tape that a new namespace can begin with.

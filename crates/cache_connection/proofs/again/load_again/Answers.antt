@@ -10,7 +10,7 @@ use Rattle.cache_lines.specs.Gathered.{gathered, stage}
 use Rattle.cache_lines.specs.Ran.{MissedLine, RanLine, RunsAs, misses}
 use Rattle.cache_lines.specs.Waiting.{load_sent_for, under_way}
 use Rattle.cache_lines.specs.Whole.{held_line}
-use Rattle.cache_tape.specs.Taped.{ends, spends, step_held}
+use Rattle.cache_lines.specs.Tape.Taped.{ends, spends, step_held}
 use Rattle.cache_connection.proofs.again.load_again.Goals as goal
 
 pub invariant_of-connection-in-Ok-Stays-clause-fits : goal.invariant_of-connection-in-Ok-Stays-clause-fits

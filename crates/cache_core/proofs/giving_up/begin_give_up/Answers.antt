@@ -2,7 +2,7 @@ use Rattle.std.proofs.Common.{◌≡◌, ◌+◌, ℕ, length, ap, subst, arith}
 use Rattle.std.specs.Prelude.{OnOk}
 use Rattle.std.specs.Option.{option_map}
 use Rattle.cache_lines.specs.Waiting.{under_way}
-use Rattle.cache_tape.specs.Taped.{started}
+use Rattle.cache_lines.specs.Tape.Taped.{started}
 use Rattle.cache_core.specs.Settling.{waiting_on}
 use Rattle.cache_core.proofs.Handed.{waiting-is}
 use Rattle.cache_core.proofs.giving_up.begin_give_up.Goals as goal

@@ -4,7 +4,7 @@ use Rattle.audit_model.specs.declared.event.Event.TheVariants as event
 use Rattle.cache_lines.specs.Bases.{seen}
 use Rattle.cache_lines.specs.declared.base.Base.{Base}
 use Rattle.cache_store.specs.Values.{IsSoundStore}
-use Rattle.cache_tape.specs.Taped.{finishes}
+use Rattle.cache_lines.specs.Tape.Taped.{finishes}
 use Rattle.cache_core.proofs.Records.{fed-begun, fed-started, finish-same}
 use Rattle.cache_core.proofs.recording.feed_recorded.Goals as goal
 

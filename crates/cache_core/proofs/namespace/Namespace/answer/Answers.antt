@@ -7,7 +7,7 @@ use Rattle.audit_model.specs.declared.config.Config.{Config}
 use Rattle.audit_model.specs.declared.input.ServiceError.TheVariants as error
 use Rattle.cache_lines.specs.Waiting.{under_way}
 use Rattle.cache_commands.specs.Loads.Pending.{load_numbered, loads_pending}
-use Rattle.cache_tape.specs.Taped.{finishes}
+use Rattle.cache_lines.specs.Tape.Taped.{finishes}
 use Rattle.cache_core.specs.Settled.{IsAmid}
 use Rattle.cache_core.specs.Settling.{Happens, HaveReplyRoom, answering, known_of_loads, waiting_on}
 use Rattle.cache_core.specs.State.{IsInOrder, State, state_of}

@@ -3,7 +3,7 @@ use Rattle.std.specs.Option.{option_map}
 use Rattle.audit_model.specs.declared.event.Event.TheVariants as event
 use Rattle.audit_model.specs.declared.input.ServiceError.TheVariants as error
 use Rattle.cache_lines.specs.declared.base.Base.{Base}
-use Rattle.cache_tape.specs.Taped.{finishes}
+use Rattle.cache_lines.specs.Tape.Taped.{finishes}
 use Rattle.cache_core.specs.State.{IsInOrder, state_of}
 use Rattle.cache_core.specs.Turned.{RefusesBy, Turns}
 use Rattle.cache_core.proofs.Opened.{kept-bare, left-is, order-close, turns-close}

@@ -9,7 +9,7 @@ use Rattle.cache_lines.specs.Waiting.{under_way}
 use Rattle.cache_lines.specs.declared.base.Base.{Base}
 use Rattle.cache_commands.specs.Loads.Pending.{SameTaken, load_numbered, loads_pending}
 use Rattle.cache_store.specs.Values.{IsSoundStore}
-use Rattle.cache_tape.specs.Taped.{finishes}
+use Rattle.cache_lines.specs.Tape.Taped.{finishes}
 use Rattle.cache_core.specs.Settled.{IsAmid}
 use Rattle.cache_core.specs.Settling.{AreWaiting, Happens, RunsAgain, giving_up, known_of_loads, waiting_on}
 use Rattle.cache_core.specs.State.{State, known_of, state_of}

@@ -1,7 +1,7 @@
 use Rattle.std.proofs.Common.{◌≡◌, ◌∙◌, ◌∷◌, [], None, false, suc, length, length-append, ap, sym, subst, arith}
 use Rattle.std.specs.Option.{option_map}
 use Rattle.audit_model.specs.declared.event.Event.TheVariants as event
-use Rattle.cache_tape.specs.Taped.{finishes}
+use Rattle.cache_lines.specs.Tape.Taped.{finishes}
 use Rattle.cache_connections.specs.Presence.{Here}
 use Rattle.cache_core.specs.State.{IsInOrder, State, state_of}
 use Rattle.cache_core.specs.Turned.{Turns}

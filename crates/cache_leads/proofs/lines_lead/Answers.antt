@@ -1,8 +1,0 @@
-use Rattle.cache_leads.proofs.Leading.{lines, no-lines}
-use Rattle.cache_leads.proofs.lines_lead.Goals as goal
-
-pub returns-clause-some : goal.returns-clause-some
-returns-clause-some c = lines
-
-pub returns-clause-none : goal.returns-clause-none
-returns-clause-none c = no-lines

@@ -1,0 +1,5 @@
+use Rattle.cache_lines.proofs.leads.Turns.{delivered}
+use Rattle.cache_lines.proofs.leads.delivered_leads.Goals as goal
+
+pub returns : goal.returns
+returns c = delivered

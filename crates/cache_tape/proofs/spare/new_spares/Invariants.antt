@@ -1,7 +1,0 @@
-use Rattle.std.proofs.Common.{◌≡◌, vec_len}
-use Rattle.cache_tape.proofs.spare.new_spares.Given as goal
-
-abbrev pub invariant-loop : goal.invariant-loop
-invariant-loop l = record {
-  len : vec_len l.spares ≡ l.counter;
-}
