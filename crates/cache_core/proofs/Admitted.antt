@@ -16,7 +16,7 @@ use Rattle.audit_model.specs.declared.input.ServiceError.TheVariants as error
 use Rattle.audit_model.specs.declared.transcript.Accepted.{Accepted}
 use Rattle.audit_model.specs.declared.transcript.Note.{Note}
 use Rattle.audit_laws.proofs.waiting.Records.{settled-tidy}
-use Rattle.cache_connections.specs.Presence.{Presence}
+use Rattle.cache_core.specs.Connections.Presence.{Presence}
 use Rattle.cache_lines.specs.Waiting.{under_way}
 use Rattle.cache_lines.specs.declared.base.Base.{Base}
 use Rattle.cache_commands.specs.Loads.Pending.{load_numbered}

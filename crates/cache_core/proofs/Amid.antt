@@ -11,7 +11,7 @@ use Rattle.audit_model.specs.Steps.{Task}
 use Rattle.audit_model.specs.declared.config.Config.{Config}
 use Rattle.audit_model.specs.declared.transcript.Step.{Step}
 use Rattle.cache_commands.specs.Right.{KeepsFrame}
-use Rattle.cache_connections.specs.Presence.{Presence, reply_text_of, text_at}
+use Rattle.cache_core.specs.Connections.Presence.{Presence, reply_text_of, text_at}
 use Rattle.cache_lines.specs.Leads.Leads.{BeginsUnknown}
 use Rattle.cache_lines.specs.Bases.{CanRun}
 use Rattle.cache_lines.specs.Ended.{spare_of}
@@ -27,7 +27,7 @@ use Rattle.cache_core.specs.Settling.{PartsUnknown, Reruns}
 use Rattle.cache_core.specs.State.{at_number}
 use Rattle.cache_core.specs.Turned.{replies_to}
 use Rattle.cache_core.proofs.Joined.{piece-on, piece-on-steps, still-kept}
-use Rattle.cache_connections.proofs.Getting.{found-at}
+use Rattle.cache_core.proofs.connections.Getting.{found-at}
 use Rattle.cache_core.proofs.Spots.{seen-was}
 use Rattle.cache_core.proofs.Steps.{none-begins, piece-none}
 

@@ -27,7 +27,7 @@ use Rattle.audit_model.specs.declared.transcript.Step.{Step}
 use Rattle.cache_commands.proofs.Drawn.{spends-kept}
 use Rattle.cache_commands.specs.Loading.{step_silent}
 use Rattle.cache_commands.specs.Right.{held_when_run}
-use Rattle.cache_connections.specs.Presence.{Presence, closing_of, open_from, reply_text_of}
+use Rattle.cache_core.specs.Connections.Presence.{Presence, closing_of, open_from, reply_text_of}
 use Rattle.cache_lines.specs.Leads.Laws.{record_answered, when_stored}
 use Rattle.cache_lines.specs.Leads.Leads.{TasksLead}
 use Rattle.cache_lines.proofs.leads.Leading.{draws-on}

@@ -4,10 +4,10 @@ use Rattle.std.specs.List.{slice_get}
 use Rattle.audit_model.specs.Grammar.{reading}
 use Rattle.audit_model.specs.Steps.{Task}
 use Rattle.audit_model.specs.declared.config.Config.{Config}
-use Rattle.cache_connection.specs.Again.{StepRan}
-use Rattle.cache_connection.specs.Fed.{seen_of}
-use Rattle.cache_connection.specs.declared.connection.Connection.{Connection}
-use Rattle.cache_connections.specs.Presence.{Here, Presence, is_here}
+use Rattle.cache_core.specs.Connection.Again.{StepRan}
+use Rattle.cache_core.specs.Connection.Fed.{seen_of}
+use Rattle.cache_core.specs.declared.connection.connection.Connection.{Connection}
+use Rattle.cache_core.specs.Connections.Presence.{Here, Presence, is_here}
 use Rattle.cache_lines.specs.Bases.{CanRun, Seen}
 use Rattle.cache_lines.specs.Ended.{spare_of}
 use Rattle.cache_lines.specs.Gathered.{stage}

@@ -7,8 +7,8 @@ use Rattle.audit_model.specs.declared.config.Config.{Config}
 use Rattle.audit_model.specs.declared.transcript.Step.{Step}
 use Rattle.cache_lines.specs.Ended.{ends_silent}
 use Rattle.cache_lines.specs.Lines.{ends_quit}
-use Rattle.cache_connection.specs.Again.{EndsCalm}
-use Rattle.cache_connection.specs.Fed.{closing_by}
+use Rattle.cache_core.specs.Connection.Again.{EndsCalm}
+use Rattle.cache_core.specs.Connection.Fed.{closing_by}
 use Rattle.cache_core.specs.Settled.{Absent, Closed, Course, Moves, Resting, Running, closing_of_steps}
 use Rattle.cache_core.specs.Turned.{own_steps}
 

@@ -30,18 +30,18 @@ use Rattle.cache_store.specs.Promises.{Frame}
 use Rattle.cache_store.specs.Running.{is_bounded}
 use Rattle.cache_store.specs.Values.{IsSoundStore, Values}
 use Rattle.cache_lines.specs.Tape.Taped.{IsAtRest, Taped, started}
-use Rattle.cache_connection.specs.Fed.{closing_by}
+use Rattle.cache_core.specs.Connection.Fed.{closing_by}
 use Rattle.cache_core.specs.Fed.{FedTurn, ReplacedAt, seen_at}
-use Rattle.cache_connection.specs.Fits.{ClosesFor}
-use Rattle.cache_connection.specs.Shown.{put_in, shown, with_piece}
+use Rattle.cache_core.specs.Connection.Fits.{ClosesFor}
+use Rattle.cache_core.specs.Connection.Shown.{put_in, shown, with_piece}
 use Rattle.cache_core.specs.State.{IsInOrder, State, situation_with, state_of}
 use Rattle.cache_core.specs.Turned.{IsRecordOf, Turned, Turns, feeding, own_steps, reason_of}
-use Rattle.cache_connection.specs.declared.connection.Connection.{Connection}
-use Rattle.cache_connections.specs.Presence.{Here, Presence, closing_at, text_at}
+use Rattle.cache_core.specs.declared.connection.connection.Connection.{Connection}
+use Rattle.cache_core.specs.Connections.Presence.{Here, Presence, closing_at, text_at}
 use Rattle.cache_core.proofs.Orders.{order-turned}
 use Rattle.cache_core.proofs.Own.{all-own, feed-own, own-all}
 use Rattle.cache_core.proofs.Records.{KeptBy, kept-by}
-use Rattle.cache_connections.proofs.Getting.{at-replaced}
+use Rattle.cache_core.proofs.connections.Getting.{at-replaced}
 use Rattle.cache_core.proofs.Spots.{closing-is, replaced-is, text-is}
 use Rattle.cache_core.proofs.Turning.{closings-by, found-open, holding-shown, known-open, leb-above, outputs-by, put-situation, sit, waiting-shown}
 

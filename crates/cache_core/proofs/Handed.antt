@@ -7,7 +7,7 @@ use Rattle.audit_model.specs.Situation.{PendingLoad}
 use Rattle.audit_model.specs.declared.event.Outcome.{Outcome}
 use Rattle.audit_model.specs.declared.transcript.Accepted.{Accepted}
 use Rattle.audit_model.specs.declared.transcript.Note.{Note}
-use Rattle.cache_connections.specs.Presence.{Presence}
+use Rattle.cache_core.specs.Connections.Presence.{Presence}
 use Rattle.cache_lines.specs.Waiting.{UnderWay, under_way}
 use Rattle.cache_lines.specs.declared.base.Base.{Base}
 use Rattle.cache_commands.specs.Loads.Pending.{load_numbered, loads_pending, sent_of}

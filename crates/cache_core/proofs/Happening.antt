@@ -22,8 +22,8 @@ use Rattle.audit_model.specs.declared.transcript.Note.{Note}
 use Rattle.audit_model.specs.declared.transcript.Record.{Record}
 use Rattle.audit_model.specs.declared.transcript.Step.{Step}
 use Rattle.cache_commands.specs.Order.{AgreesWith}
-use Rattle.cache_connection.specs.Shown.{shown}
-use Rattle.cache_connections.specs.Presence.{Gone, Here, Out, Presence, closing_of, open_from, reply_text_of}
+use Rattle.cache_core.specs.Connection.Shown.{shown}
+use Rattle.cache_core.specs.Connections.Presence.{Gone, Here, Out, Presence, closing_of, open_from, reply_text_of}
 use Rattle.cache_lines.specs.Leads.Laws.{record_given_up}
 use Rattle.cache_lines.specs.Leads.Leads.{LeavesUnknown, TasksLead}
 use Rattle.cache_lines.proofs.leads.Settling.{give-up}

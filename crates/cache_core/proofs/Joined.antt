@@ -23,8 +23,8 @@ use Rattle.cache_lines.specs.Tape.Taped.{Taped}
 use Rattle.cache_core.specs.Settled.{Absent, Moves, Piece, course_at, course_in, course_of, middle_of}
 use Rattle.cache_core.specs.State.{at_number}
 use Rattle.cache_core.specs.Turned.{own_steps, replies_to}
-use Rattle.cache_connection.specs.declared.connection.Connection.{Connection}
-use Rattle.cache_connections.specs.Presence.{Here, Presence, reply_text_of}
+use Rattle.cache_core.specs.declared.connection.connection.Connection.{Connection}
+use Rattle.cache_core.specs.Connections.Presence.{Here, Presence, reply_text_of}
 use Rattle.cache_core.proofs.Courses.{moves-none, moves-on, own-both}
 use Rattle.cache_core.proofs.Own.{own-all, own-none}
 use Rattle.cache_core.proofs.Spots.{seen-at, seen-other, seen-was}

@@ -4,7 +4,7 @@ use Rattle.std.specs.List.{flat_map}
 use Rattle.audit_model.specs.Places.{tasks_to_give_up}
 use Rattle.audit_model.specs.Steps.{RunAgain, RunLines, Task}
 use Rattle.audit_laws.specs.Waiting.Tidy.{times_in}
-use Rattle.cache_connections.specs.Presence.{Presence}
+use Rattle.cache_core.specs.Connections.Presence.{Presence}
 use Rattle.cache_lines.specs.declared.base.Base.{Base}
 use Rattle.cache_store.specs.Values.{Values}
 use Rattle.cache_lines.specs.Tape.Taped.{Taped}

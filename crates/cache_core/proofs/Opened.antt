@@ -28,14 +28,14 @@ use Rattle.cache_commands.specs.declared.loads.standing.Standing.TheVariants as 
 use Rattle.cache_store.specs.Values.{IsSoundStore, Values}
 use Rattle.cache_lines.specs.Tape.Taped.{IsAtRest, Taped, finishes, started, with_entry}
 use Rattle.cache_core.specs.Fed.{ReplacedAt}
-use Rattle.cache_connection.specs.Parts.{standing_as}
-use Rattle.cache_connection.specs.Shown.{shown}
+use Rattle.cache_core.specs.Connection.Parts.{standing_as}
+use Rattle.cache_core.specs.Connection.Shown.{shown}
 use Rattle.cache_core.specs.State.{IsInOrder, State, at_number, situation_with, state_of}
 use Rattle.cache_core.specs.Turned.{Turned, Turns, closing_behind, reason_of, with_record}
-use Rattle.cache_connection.specs.declared.connection.Connection.{Connection}
-use Rattle.cache_connections.specs.Presence.{Here, Presence, closing_of, open_from, reply_text_of}
+use Rattle.cache_core.specs.declared.connection.connection.Connection.{Connection}
+use Rattle.cache_core.specs.Connections.Presence.{Here, Presence, closing_of, open_from, reply_text_of}
 use Rattle.cache_core.proofs.Orders.{order-turned}
-use Rattle.cache_connections.proofs.Getting.{map-same}
+use Rattle.cache_core.proofs.connections.Getting.{map-same}
 use Rattle.cache_core.proofs.Table.{dropped-at, opened-last}
 use Rattle.cache_core.proofs.Turning.{closings-by, known-open, opened-same, sit}
 

@@ -28,17 +28,17 @@ use Rattle.cache_store.specs.Handing.{TakesFirstNote}
 use Rattle.cache_store.specs.Promises.{Frame}
 use Rattle.cache_store.specs.Values.{GivesNote, Values}
 use Rattle.cache_lines.specs.Tape.Taped.{IsAtRest, Taped}
-use Rattle.cache_connection.specs.Fed.{LooksAsBefore}
+use Rattle.cache_core.specs.Connection.Fed.{LooksAsBefore}
 use Rattle.cache_core.specs.Fed.{BaseStays, CanTurn, ReplacedAt, WantsMemory, seen_at}
-use Rattle.cache_connection.specs.Parts.{standing_as}
+use Rattle.cache_core.specs.Connection.Parts.{standing_as}
 use Rattle.cache_core.specs.Places.{known_of_all, refusal_at}
-use Rattle.cache_connection.specs.Shown.{shown}
-use Rattle.cache_connections.proofs.Listed.{open-same}
+use Rattle.cache_core.specs.Connection.Shown.{shown}
+use Rattle.cache_core.proofs.connections.Listed.{open-same}
 use Rattle.cache_core.specs.State.{IsInOrder, StandsFor, State, known_of, output_in, situation_with, state_of}
 use Rattle.cache_core.specs.Turned.{RefusesBy, Turned, feeding, notes_in, replies_to, with_record}
-use Rattle.cache_connection.specs.declared.connection.Connection.{Connection}
-use Rattle.cache_connections.specs.Presence.{Gone, Here, Out, Presence, closing_at, closing_of, open_from, reply_text_of, text_at}
-use Rattle.cache_connections.proofs.Getting.{found-at, map-same}
+use Rattle.cache_core.specs.declared.connection.connection.Connection.{Connection}
+use Rattle.cache_core.specs.Connections.Presence.{Gone, Here, Out, Presence, closing_at, closing_of, open_from, reply_text_of, text_at}
+use Rattle.cache_core.proofs.connections.Getting.{found-at, map-same}
 use Rattle.cache_core.proofs.Spots.{here-open, seen-was}
 use Rattle.cache_core.proofs.Table.{listed_as, listed_of}
 use Rattle.cache_core.proofs.Turning.{found-is, found-open, holding-shown, known-open, leb-above}

@@ -18,11 +18,11 @@ use Rattle.cache_lines.specs.Waiting.{under_way}
 use Rattle.cache_lines.specs.declared.base.Base.{Base}
 use Rattle.cache_store.specs.Values.{IsSoundStore, Values}
 use Rattle.cache_lines.specs.Tape.Taped.{IsAtRest, IsBegun, Taped, finishes, forgets, started, with_entry}
-use Rattle.cache_connection.specs.Fed.{FedRan, LooksAsBefore}
+use Rattle.cache_core.specs.Connection.Fed.{FedRan, LooksAsBefore}
 use Rattle.cache_core.specs.Fed.{with_tape}
 use Rattle.cache_core.specs.Turned.{with_record}
-use Rattle.cache_connection.proofs.Pieces.{fed-from}
-use Rattle.cache_connection.specs.declared.connection.Connection.{Connection}
+use Rattle.cache_core.proofs.connection.Pieces.{fed-from}
+use Rattle.cache_core.specs.declared.connection.connection.Connection.{Connection}
 
 -- ---- a tape whose record was begun
 

@@ -5,12 +5,12 @@ use Rattle.std.specs.List.{slice_get}
 use Rattle.std.specs.Option.{option_map_or}
 use Rattle.std.proofs.lemmas.Option.{slice_get_within, same_Some}
 use Rattle.audit_model.specs.declared.command.Closing.TheVariants as by
-use Rattle.cache_connections.proofs.Getting.{at-replaced}
-use Rattle.cache_connections.proofs.Listed.{put-back as put-twice}
+use Rattle.cache_core.proofs.connections.Getting.{at-replaced}
+use Rattle.cache_core.proofs.connections.Listed.{put-back as put-twice}
 use Rattle.cache_core.specs.Fed.{ReplacedAt}
 use Rattle.cache_core.specs.State.{at_number}
-use Rattle.cache_connection.specs.declared.connection.Connection.{Connection}
-use Rattle.cache_connections.specs.Presence.{Gone, Here, Out, Presence, closing_at, closing_of, is_here, reply_text_of, text_at}
+use Rattle.cache_core.specs.declared.connection.connection.Connection.{Connection}
+use Rattle.cache_core.specs.Connections.Presence.{Gone, Here, Out, Presence, closing_at, closing_of, is_here, reply_text_of, text_at}
 
 pub text-is : (cs : List Presence) (i : ℕ) (c : Connection) → slice_get cs i ≡ Some (Here c) → text_at cs i ≡ c.output.text.items
 text-is cs i c at = ap (λ o. option_map_or reply_text_of o []) at

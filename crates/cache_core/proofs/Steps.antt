@@ -15,13 +15,13 @@ use Rattle.audit_model.specs.Stream.{first_line}
 use Rattle.audit_model.specs.declared.command.Closing.{Closing}
 use Rattle.audit_model.specs.declared.config.Config.{Config}
 use Rattle.audit_model.specs.declared.transcript.Step.{Step}
-use Rattle.cache_connection.specs.Again.{EndsCalm, StepRan}
-use Rattle.cache_connection.specs.Fed.{FedRan, closing_by}
-use Rattle.cache_connection.specs.Fits.{ClosesFor, RunsOn}
-use Rattle.cache_connection.specs.Parts.{standing_as}
-use Rattle.cache_connection.specs.Shown.{put_in, shown, with_piece}
-use Rattle.cache_connection.specs.declared.connection.Connection.{Connection}
-use Rattle.cache_connections.specs.Presence.{Gone, Here, Out, Presence, closing_at, is_here, reply_text_of, text_at}
+use Rattle.cache_core.specs.Connection.Again.{EndsCalm, StepRan}
+use Rattle.cache_core.specs.Connection.Fed.{FedRan, closing_by}
+use Rattle.cache_core.specs.Connection.Fits.{ClosesFor, RunsOn}
+use Rattle.cache_core.specs.Connection.Parts.{standing_as}
+use Rattle.cache_core.specs.Connection.Shown.{put_in, shown, with_piece}
+use Rattle.cache_core.specs.declared.connection.connection.Connection.{Connection}
+use Rattle.cache_core.specs.Connections.Presence.{Gone, Here, Out, Presence, closing_at, is_here, reply_text_of, text_at}
 use Rattle.cache_lines.specs.Leads.Leads.{BeginsUnknown, TasksLead}
 use Rattle.cache_lines.proofs.leads.Leading.{lines, no-lines, nothing}
 use Rattle.cache_lines.specs.Drawing.{identifiers_in}

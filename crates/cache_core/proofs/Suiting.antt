@@ -5,11 +5,11 @@ use Rattle.std.specs.List.{find}
 use Rattle.std.proofs.lemmas.Bool.{and_parts, leb-true}
 use Rattle.std.proofs.lemmas.List.{length-map}
 use Rattle.audit_model.specs.Situation as model
-use Rattle.cache_connection.specs.Shown.{shown}
-use Rattle.cache_connections.specs.Presence.{Gone, Here, Out, Presence, closing_of, open_from, reply_text_of}
+use Rattle.cache_core.specs.Connection.Shown.{shown}
+use Rattle.cache_core.specs.Connections.Presence.{Gone, Here, Out, Presence, closing_of, open_from, reply_text_of}
 use Rattle.cache_core.specs.State.{at_number}
 use Rattle.cache_core.proofs.Opened.{count-open}
-use Rattle.cache_connections.proofs.Getting.{found-at}
+use Rattle.cache_core.proofs.connections.Getting.{found-at}
 use Rattle.cache_core.proofs.Spots.{seen-was}
 use Rattle.cache_core.proofs.Table.{listed_as, listed_of}
 use Rattle.cache_core.proofs.Turning.{found-is}

@@ -5,9 +5,9 @@ use Rattle.std.specs.List.{find}
 use Rattle.std.proofs.lemmas.Bool.{eq-eqb, eqb-true}
 use Rattle.audit_model.specs.Situation as model
 use Rattle.audit_model.specs.Situation.{without_number}
-use Rattle.cache_connection.specs.Shown.{shown}
-use Rattle.cache_connection.specs.declared.connection.Connection.{Connection}
-use Rattle.cache_connections.specs.Presence.{Gone, Here, Out, Presence, open_from}
+use Rattle.cache_core.specs.Connection.Shown.{shown}
+use Rattle.cache_core.specs.declared.connection.connection.Connection.{Connection}
+use Rattle.cache_core.specs.Connections.Presence.{Gone, Here, Out, Presence, open_from}
 
 -- numbers that differ
 pub apart : (a b : ℕ) → a < b → (a == b) ≡ false

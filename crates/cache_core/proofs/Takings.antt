@@ -12,14 +12,14 @@ use Rattle.cache_commands.specs.Loads.Standings.{waits_for_load}
 use Rattle.cache_store.specs.Values.{Values}
 use Rattle.cache_lines.specs.Tape.Taped.{Taped}
 use Rattle.cache_core.specs.Fed.{ReplacedAt}
-use Rattle.cache_connection.specs.Parts.{standing_as}
+use Rattle.cache_core.specs.Connection.Parts.{standing_as}
 use Rattle.cache_core.specs.Places.{IsTakenAt, IsTakenFrom, waits_at, waits_in}
-use Rattle.cache_connection.specs.Shown.{shown}
-use Rattle.cache_connections.proofs.Listed.{closings-retired, open-retired, open-same, texts-put, texts-retired}
+use Rattle.cache_core.specs.Connection.Shown.{shown}
+use Rattle.cache_core.proofs.connections.Listed.{closings-retired, open-retired, open-same, texts-put, texts-retired}
 use Rattle.cache_core.specs.State.{IsInOrder, at_number, situation_with, state_of}
 use Rattle.cache_core.specs.Turned.{is_waiting_in}
-use Rattle.cache_connections.specs.Presence.{Gone, Here, Out, Presence, closing_at, closing_of, is_here, open_from, reply_text_of, retired_at, text_at}
-use Rattle.cache_connections.proofs.Getting.{at-mapped, found-at, map-same, set-same}
+use Rattle.cache_core.specs.Connections.Presence.{Gone, Here, Out, Presence, closing_at, closing_of, is_here, open_from, reply_text_of, retired_at, text_at}
+use Rattle.cache_core.proofs.connections.Getting.{at-mapped, found-at, map-same, set-same}
 use Rattle.cache_core.proofs.Spots.{seen-was}
 use Rattle.cache_core.proofs.Table.{listed_as, listed_of}
 use Rattle.cache_core.proofs.Turning.{found-is, waiting-shown}

@@ -7,13 +7,13 @@ use Rattle.std.proofs.lemmas.List.{length-set}
 use Rattle.std.proofs.lemmas.Option.{same_Some}
 use Rattle.audit_laws.specs.Waiting.Tidy.{times_in}
 use Rattle.audit_laws.proofs.waiting.Counts.{one_if}
-use Rattle.cache_connection.specs.Fed.{LooksAsBefore}
-use Rattle.cache_connection.specs.Parts.{standing_as}
-use Rattle.cache_connection.specs.Shown.{shown}
-use Rattle.cache_connection.specs.declared.connection.Connection.{Connection}
-use Rattle.cache_connections.specs.Presence.{Gone, Here, Out, Presence, closing_of, open_from, reply_text_of}
-use Rattle.cache_connections.proofs.Getting.{at-other}
-use Rattle.cache_connections.proofs.Listed.{open-behind}
+use Rattle.cache_core.specs.Connection.Fed.{LooksAsBefore}
+use Rattle.cache_core.specs.Connection.Parts.{standing_as}
+use Rattle.cache_core.specs.Connection.Shown.{shown}
+use Rattle.cache_core.specs.declared.connection.connection.Connection.{Connection}
+use Rattle.cache_core.specs.Connections.Presence.{Gone, Here, Out, Presence, closing_of, open_from, reply_text_of}
+use Rattle.cache_core.proofs.connections.Getting.{at-other}
+use Rattle.cache_core.proofs.connections.Listed.{open-behind}
 use Rattle.cache_core.specs.Fed.{ReplacedAt}
 use Rattle.cache_core.specs.Settled.{course_in, course_of}
 use Rattle.cache_core.specs.Settling.{AllLookAsBefore, HasReplyRoomAt, HaveReplyRoom, LeavesOthers, LooksLike}

@@ -20,16 +20,16 @@ use Rattle.cache_lines.specs.Whole.{is_long_line}
 use Rattle.cache_commands.specs.Loads.Standings.{holds_line, waits_for_load}
 use Rattle.cache_commands.specs.declared.loads.standing.Standing.{Standing}
 use Rattle.cache_commands.specs.declared.loads.standing.Standing.TheVariants as now
-use Rattle.cache_connection.specs.Fits.{ClosesFor, Fits}
-use Rattle.cache_connection.specs.Parts.{standing_as}
-use Rattle.cache_connection.specs.Shown.{put_in, shown}
+use Rattle.cache_core.specs.Connection.Fits.{ClosesFor, Fits}
+use Rattle.cache_core.specs.Connection.Parts.{standing_as}
+use Rattle.cache_core.specs.Connection.Shown.{put_in, shown}
 use Rattle.cache_core.specs.State.{at_number}
 use Rattle.cache_core.specs.Turned.{closing_behind, reason_of, replies_to}
-use Rattle.cache_connection.specs.declared.connection.Connection.{Connection}
-use Rattle.cache_connections.specs.Presence.{Gone, Here, Out, Presence, closing_of, open_from, reply_text_of}
+use Rattle.cache_core.specs.declared.connection.connection.Connection.{Connection}
+use Rattle.cache_core.specs.Connections.Presence.{Gone, Here, Out, Presence, closing_of, open_from, reply_text_of}
 use Rattle.cache_core.proofs.Own.{own-all, own-none}
-use Rattle.cache_connection.proofs.Putting.{not-above}
-use Rattle.cache_connections.proofs.Getting.{at-replaced}
+use Rattle.cache_core.proofs.connection.Putting.{not-above}
+use Rattle.cache_core.proofs.connections.Getting.{at-replaced}
 use Rattle.cache_core.proofs.Spots.{seen-at, seen-other, seen-was}
 use Rattle.cache_core.proofs.Table.{dropped-at, found-at, listed_as, listed_of, passed-over, swapped-at}
 

@@ -13,10 +13,10 @@ use Rattle.audit_model.specs.declared.command.Closing.{Closing}
 use Rattle.audit_model.specs.declared.config.Config.{Config}
 use Rattle.audit_laws.specs.Waiting.Tidy.{Tidy, times_in}
 use Rattle.audit_laws.proofs.waiting.Counts.{one_if}
-use Rattle.cache_connection.specs.Parts.{stands_before}
-use Rattle.cache_connection.specs.Shown.{shown}
-use Rattle.cache_connection.specs.declared.connection.Connection.{Connection}
-use Rattle.cache_connections.specs.Presence.{Gone, Here, Out, Presence, open_from}
+use Rattle.cache_core.specs.Connection.Parts.{stands_before}
+use Rattle.cache_core.specs.Connection.Shown.{shown}
+use Rattle.cache_core.specs.declared.connection.connection.Connection.{Connection}
+use Rattle.cache_core.specs.Connections.Presence.{Gone, Here, Out, Presence, open_from}
 use Rattle.cache_lines.specs.Leads.Waiters.{WaitForLoads}
 use Rattle.cache_lines.proofs.leads.Turns.{counted}
 use Rattle.cache_lines.specs.Waiting.{is_load}

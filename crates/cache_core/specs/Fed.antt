@@ -12,9 +12,9 @@ use Rattle.cache_lines.specs.declared.base.Base.{Base}
 use Rattle.cache_commands.specs.Loads.Pending.{SameLoads}
 use Rattle.cache_store.specs.Values.{IsMoment, Values}
 use Rattle.cache_lines.specs.Tape.Taped.{IsAtRest, Taped, finishes, started}
-use Rattle.cache_connection.specs.declared.connection.Connection.{Connection}
-use Rattle.cache_connection.specs.Fed.{FedRan, seen_of}
-use Rattle.cache_connections.specs.Presence.{Here, Presence, text_at}
+use Rattle.cache_core.specs.declared.connection.connection.Connection.{Connection}
+use Rattle.cache_core.specs.Connection.Fed.{FedRan, seen_of}
+use Rattle.cache_core.specs.Connections.Presence.{Here, Presence, text_at}
 
 -- such lines, but where the tape shows that
 abbrev pub with_tape : Option Taped → Seen → Seen

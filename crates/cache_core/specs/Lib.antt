@@ -1,3 +1,5 @@
+pub mod Connection
+pub mod Connections
 pub mod Fed
 pub mod Places
 pub mod Rooms

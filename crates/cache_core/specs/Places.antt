@@ -6,8 +6,8 @@ use Rattle.audit_model.specs.Belongs.{Known, refusal_of_conn}
 use Rattle.audit_model.specs.Follows.{known_in}
 use Rattle.audit_model.specs.declared.input.ServiceError.{ServiceError}
 use Rattle.cache_commands.specs.Loads.Standings.{waits_for_load}
-use Rattle.cache_connection.specs.declared.connection.Connection.{Connection}
-use Rattle.cache_connections.specs.Presence.{Gone, Here, Out, Presence, closing_of, open_from, reply_text_of}
+use Rattle.cache_core.specs.declared.connection.connection.Connection.{Connection}
+use Rattle.cache_core.specs.Connections.Presence.{Gone, Here, Out, Presence, closing_of, open_from, reply_text_of}
 
 -- what is known of connections
 abbrev pub known_of_all : List Presence → Known

@@ -22,11 +22,11 @@ use Rattle.cache_commands.specs.declared.loads.standing.Standing.{Standing}
 use Rattle.cache_commands.specs.declared.loads.standing.Standing.TheVariants as now_is
 use Rattle.cache_store.specs.Values.{IsMoment, Values}
 use Rattle.cache_lines.specs.Tape.Taped.{Taped}
-use Rattle.cache_connection.specs.Again.{EndsCalm}
-use Rattle.cache_connection.specs.Fed.{closing_by}
+use Rattle.cache_core.specs.Connection.Again.{EndsCalm}
+use Rattle.cache_core.specs.Connection.Fed.{closing_by}
 use Rattle.cache_core.specs.State.{at_number}
 use Rattle.cache_core.specs.Turned.{own_steps, replies_to}
-use Rattle.cache_connections.specs.Presence.{Gone, Here, Out, Presence, closing_of, open_from, reply_text_of}
+use Rattle.cache_core.specs.Connections.Presence.{Gone, Here, Out, Presence, closing_of, open_from, reply_text_of}
 
 -- ---- what a connection is at
 

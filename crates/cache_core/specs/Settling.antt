@@ -19,9 +19,9 @@ use Rattle.audit_model.specs.declared.transcript.Record.{Record}
 use Rattle.audit_laws.specs.Waiting.Tidy.{times_in}
 use Rattle.cache_commands.specs.Answered.{IsStored}
 use Rattle.cache_commands.specs.Right.{KeepsFrame}
-use Rattle.cache_connection.specs.Fed.{FedRan, LooksAsBefore}
-use Rattle.cache_connection.specs.declared.connection.Connection.{Connection}
-use Rattle.cache_connections.specs.Presence.{Gone, Here, Out, Presence}
+use Rattle.cache_core.specs.Connection.Fed.{FedRan, LooksAsBefore}
+use Rattle.cache_core.specs.declared.connection.connection.Connection.{Connection}
+use Rattle.cache_core.specs.Connections.Presence.{Gone, Here, Out, Presence}
 use Rattle.cache_lines.specs.Leads.Leads.{BeginsUnknown}
 use Rattle.cache_lines.specs.Making.{making_of}
 use Rattle.cache_lines.specs.Waiting.{UnderWay, is_load, under_way}

@@ -14,7 +14,7 @@ use Rattle.cache_lines.specs.Tape.Taped.{IsAtRest, Taped}
 use Rattle.cache_lines.specs.declared.base.Base.{Base}
 use Rattle.cache_commands.specs.Loads.Keys.{were_sent}
 use Rattle.cache_commands.specs.Loads.Pending.{loads_pending, namespace_of_loads, outgoing_loads, sent_of}
-use Rattle.cache_connections.specs.Presence.{Presence, closing_of, open_from, reply_text_of}
+use Rattle.cache_core.specs.Connections.Presence.{Presence, closing_of, open_from, reply_text_of}
 
 -- A namespace: its store, and the tape of its records; the latest moment; the open connections; of each connection that was opened why it
 -- closed, if it did, and its replies that were not taken; how many loads were sent, and those under way; those that went out and were not

@@ -26,7 +26,7 @@ use Rattle.cache_lines.specs.Ended.{ends_held, ends_silent}
 use Rattle.cache_lines.specs.Gathered.{reply_in}
 use Rattle.cache_lines.specs.Lines.{are_timely, ends_quit}
 use Rattle.cache_lines.specs.Ordered.{OrdersSteps}
-use Rattle.cache_connection.specs.Fed.{closing_by}
+use Rattle.cache_core.specs.Connection.Fed.{closing_by}
 use Rattle.cache_core.specs.State.{State, StandsFor, closing_in, known_of, loads_taken_of, output_in}
 
 -- ---- what a record says of one connection

@@ -16,7 +16,7 @@ use crate::reserving::reserve_all;
 use crate::settling::{resume_all, tell_all};
 use audit_model::{Accepted, Note, Outcome};
 use cache_commands::Keyed;
-use cache_connections::Connections;
+use crate::connections::Connections;
 use cache_lines::{Base, Tape, drain, most_notes};
 use cache_store::Store;
 use std::alloc::{AllocError, Global};

@@ -11,7 +11,7 @@ ghost use Rattle.cache_lines.specs.Tape.Taped.{IsAtRest, started};
 
 use crate::recording::begin_kept;
 use crate::settling::give_up_all;
-use cache_connections::Connections;
+use crate::connections::Connections;
 use cache_lines::{Base, Tape};
 use cache_store::Store;
 use std::alloc::AllocError;

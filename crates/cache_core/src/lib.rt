@@ -2,6 +2,8 @@
 #![tactic(auto)]
 
 mod answering;
+pub mod connection;
+pub mod connections;
 mod giving_up;
 mod namespace;
 mod places;
@@ -10,4 +12,6 @@ mod refusing;
 mod reserving;
 mod settling;
 
+pub use connection::{Connection, Stance, deliver, feed_connection, feed_ready, new_connection, run_again};
+pub use connections::Connections;
 pub use namespace::Namespace;

@@ -1,6 +1,6 @@
 //! The connections of a namespace, each at the place below its number.
 ghost use Rattle.std.specs.Prelude.{◌≡◌, ◌+◌, ◌<◌, ◌&&◌, ◌↔◌, [], None, Some, false, IfOk, IfErr, IsErr, is_none, length, nat_le, nat_lt};
-ghost use Rattle.cache_connections.specs.Presence.{closing_at, text_at};
+ghost use Rattle.cache_core.specs.Connections.Presence.{closing_at, text_at};
 ghost use Rattle.cache_core.specs.Fed.{ReplacedAt};
 ghost use Rattle.cache_core.specs.Places.{IsTakenAt, IsTakenFrom, refusal_at, waits_at};
 ghost use Rattle.cache_lines.specs.Outputs.{IsRoomy};
@@ -8,8 +8,8 @@ ghost use Rattle.cache_lines.specs.Waiting.{under_way, when_left};
 ghost use Rattle.cache_commands.specs.Loads.Pending.{SameTaken};
 
 use audit_model::{Closing, ServiceError};
-use cache_connection::Connection;
-use cache_connections::Connections;
+use crate::connection::Connection;
+use crate::connections::Connections;
 use cache_lines::Output;
 use cache_commands::{Loads, Standing, is_waiting};
 use std::alloc::Global;

@@ -2,18 +2,18 @@
 ghost use Rattle.std.specs.Prelude.{◌≡◌, ◌<◌, ◌≤◌, None, Some, true, is_some, length, IfOk, IfErr, OnOk, OnErr};
 ghost use Rattle.std.specs.List.{slice_get};
 ghost use Rattle.std.specs.Option.{option_map};
-ghost use Rattle.cache_connection.specs.Fed.{LooksAsBefore, seen_of};
+ghost use Rattle.cache_core.specs.Connection.Fed.{LooksAsBefore, seen_of};
 ghost use Rattle.cache_core.specs.Fed.{BaseStays, CanTurn, FedTurnOver, FeedsAt, ReplacedAt, WantsMemory, seen_at};
-ghost use Rattle.cache_connections.specs.Presence.{Here, closing_at};
-ghost use Rattle.cache_connection.specs.declared.connection.Connection.{Connection as Open};
+ghost use Rattle.cache_core.specs.Connections.Presence.{Here, closing_at};
+ghost use Rattle.cache_core.specs.declared.connection.connection.Connection.{Connection as Open};
 ghost use Rattle.cache_commands.specs.Loads.Pending.{SameTaken};
 ghost use Rattle.cache_commands.specs.Loads.Standings.{holds_line};
 ghost use Rattle.cache_lines.specs.Tape.Taped.{IsAtRest, started};
 
 use crate::places::number_at;
 use audit_model::{Bytes, Event, Instant, Seq, ServiceError};
-use cache_connection::{Connection, feed_connection};
-use cache_connections::Connections;
+use crate::connection::{Connection, feed_connection};
+use crate::connections::Connections;
 use cache_lines::{Base, Tape};
 use cache_store::Store;
 use std::alloc::{AllocError, Global};

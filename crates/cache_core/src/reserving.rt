@@ -1,13 +1,13 @@
 //! Room for the replies to the connections that wait for a load.
 ghost use Rattle.std.specs.Prelude.{◌≡◌, ◌≢◌, ◌≤◌, ◌+◌, ◌-◌, ℕ, true, OnOk, vec_len, vec_capacity};
 ghost use Rattle.std.specs.List.{slice_get};
-ghost use Rattle.cache_connection.specs.Fed.{LooksAsBefore};
+ghost use Rattle.cache_core.specs.Connection.Fed.{LooksAsBefore};
 ghost use Rattle.cache_core.specs.Fed.{ReplacedAt};
-ghost use Rattle.cache_connections.specs.Presence.{is_here};
+ghost use Rattle.cache_core.specs.Connections.Presence.{is_here};
 ghost use Rattle.cache_core.specs.Settling.{AllLookAsBefore, HasReplyRoomAt, HaveReplyRoom};
 
-use cache_connection::Connection;
-use cache_connections::Connections;
+use crate::connection::Connection;
+use crate::connections::Connections;
 use std::alloc::AllocError;
 
 /// Makes room for so many more bytes of replies. An `Err` changes nothing that is seen.

@@ -13,8 +13,8 @@ ghost use Rattle.cache_commands.specs.Loads.Pending.{SameTaken};
 
 use crate::places::{leave_closed, number_at};
 use audit_model::Outcome;
-use cache_connection::{Connection, deliver, feed_ready, run_again};
-use cache_connections::Connections;
+use crate::connection::{Connection, deliver, feed_ready, run_again};
+use crate::connections::Connections;
 use cache_lines::{Base, Tape};
 use cache_commands::Standing;
 use cache_store::Store;

@@ -14,7 +14,7 @@ use Rattle.audit_laws.specs.Receipts.Answers.{last_is_held, output_with}
 use Rattle.audit_laws.specs.declared.receipts.output.Output.{Output}
 use Rattle.audit_laws.specs.declared.receipts.output.Output.TheVariants.{All, Held}
 use Rattle.cache_shared.specs.Events.{Performs, IsReached, is_fed, is_output_for}
-use Rattle.cache_connections.proofs.Getting.{found-at}
+use Rattle.cache_core.proofs.connections.Getting.{found-at}
 use Rattle.cache_spaces.specs.Inputs.{namespace_of}
 use Rattle.cache_spaces.specs.Spaces.{Shown}
 

@@ -19,7 +19,7 @@ use Rattle.audit_laws.specs.declared.receipts.output.Output.{Output}
 use Rattle.cache_shared.proofs.Counting.{count-empty, count-more}
 use Rattle.cache_shared.specs.Events.{IsJournal, IsReached, record_count}
 use Rattle.cache_shared.specs.Live.{HasLived, Lived}
-use Rattle.cache_connections.proofs.Getting.{found-at, set-same}
+use Rattle.cache_core.proofs.connections.Getting.{found-at, set-same}
 use Rattle.cache_spaces.proofs.Journaling.{mapped}
 use Rattle.cache_spaces.proofs.Putting.{at-it, at-length, at-others}
 use Rattle.cache_spaces.specs.Bares.{BareSpace, bare_tape}

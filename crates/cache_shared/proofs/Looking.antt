@@ -9,7 +9,7 @@ use Rattle.audit_model.specs.declared.input.Conn.{Conn}
 use Rattle.audit_model.specs.declared.input.ServiceError.{ServiceError}
 use Rattle.audit_model.specs.declared.input.ServiceError.TheVariants as error
 use Rattle.audit_model.specs.declared.transcript.Note.{Note}
-use Rattle.cache_connections.proofs.Getting.{at-other}
+use Rattle.cache_core.proofs.connections.Getting.{at-other}
 use Rattle.cache_core.specs.State.{at_number}
 use Rattle.cache_shared.specs.Live.{LiveState, seen_in, untaken_of, untold_of}
 use Rattle.cache_spaces.proofs.Placing.{at-is}

@@ -25,7 +25,7 @@ use Rattle.audit_model.specs.declared.transcript.Record.{Record}
 use Rattle.audit_model.specs.declared.transcript.Transcript.{Transcript}
 use Rattle.audit_laws.specs.declared.receipts.output.Output.{Output}
 use Rattle.cache_commands.specs.Order.{AgreesWith, Settled}
-use Rattle.cache_connections.proofs.Getting.{at-mapped, found-at}
+use Rattle.cache_core.proofs.connections.Getting.{at-mapped, found-at}
 use Rattle.cache_lines.specs.Ordered.{OrdersSteps}
 use Rattle.cache_spaces.specs.Calls.{At}
 use Rattle.cache_spaces.specs.Inputs.{Performs, namespace_of}

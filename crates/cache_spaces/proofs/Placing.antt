@@ -5,7 +5,7 @@ use Rattle.std.specs.List.{slice_get}
 use Rattle.std.proofs.lemmas.List.{set-set}
 use Rattle.std.proofs.lemmas.Option.{slice_get_within, same_Some}
 use Rattle.audit_model.specs.declared.input.ServiceError.{ServiceError}
-use Rattle.cache_connections.proofs.Getting.{at-replaced, set-same}
+use Rattle.cache_core.proofs.connections.Getting.{at-replaced, set-same}
 use Rattle.cache_spaces.specs.Calls.{At, InSpace, Refuses}
 
 -- what was put stands there

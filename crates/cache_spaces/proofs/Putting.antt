@@ -5,7 +5,7 @@ use Rattle.std.specs.List.{slice_get}
 use Rattle.std.proofs.lemmas.List.{length-set}
 use Rattle.std.proofs.lemmas.Option.{same_Some}
 use Rattle.audit_model.specs.declared.input.ServiceError.{ServiceError}
-use Rattle.cache_connections.proofs.Getting.{at-other}
+use Rattle.cache_core.proofs.connections.Getting.{at-other}
 use Rattle.cache_spaces.proofs.Placing.{at-is}
 use Rattle.cache_spaces.specs.Calls.{At, InSpace, Refuses}
 

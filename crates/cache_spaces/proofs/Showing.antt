@@ -6,7 +6,7 @@ use Rattle.audit_model.specs.declared.input.Input.{Input}
 use Rattle.audit_model.specs.declared.input.Input.TheVariants as input
 use Rattle.audit_model.specs.declared.input.ServiceError.{ServiceError}
 use Rattle.audit_laws.specs.declared.receipts.output.Output.{Output}
-use Rattle.cache_connections.proofs.Getting.{at-mapped}
+use Rattle.cache_core.proofs.connections.Getting.{at-mapped}
 use Rattle.cache_spaces.specs.Calls.{At, InSpace, RefusedFor, Refuses}
 use Rattle.cache_spaces.specs.Inputs.{Performs, RefusedInput, is_held_for}
 use Rattle.cache_spaces.specs.Spaces.{Space, StandsFor, shown, shown_tape}

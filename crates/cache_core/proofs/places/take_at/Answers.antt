@@ -1,5 +1,5 @@
 use Rattle.std.proofs.Common.{◌∙◌, sym, ap}
-use Rattle.cache_connections.specs.Presence.{is_here}
+use Rattle.cache_core.specs.Connections.Presence.{is_here}
 use Rattle.cache_core.proofs.Spots.{out-at, put-back, text-is, was-none, was-some}
 use Rattle.cache_core.proofs.Takings.{taken-at, taken-none, text-none}
 use Rattle.cache_core.proofs.places.take_at.Goals as goal

@@ -1,7 +1,7 @@
 use Rattle.std.proofs.Common.{◌≡◌, ◌∙◌, false, true, ap, sym, arith}
 use Rattle.std.specs.List.{slice_get}
 use Rattle.std.proofs.lemmas.Option.{slice_get_within}
-use Rattle.cache_connections.specs.Presence.{Here, is_here}
+use Rattle.cache_core.specs.Connections.Presence.{Here, is_here}
 use Rattle.cache_core.proofs.Spots.{was-none, was-some}
 use Rattle.cache_core.proofs.Touched.{all-itself, all-replaced, leaves-others}
 use Rattle.cache_core.proofs.reserving.reserve_at.Goals as goal

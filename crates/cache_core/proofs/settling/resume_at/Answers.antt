@@ -1,13 +1,13 @@
 use Rattle.std.proofs.Common.{◌≡◌, ◌+◌, true, false, suc, refl, sym, ap, ◌∙◌, subst, arith}
 use Rattle.std.specs.Prelude.{is_none}
 use Rattle.std.specs.List.{slice_get}
-use Rattle.cache_connections.specs.Presence.{closing_at}
+use Rattle.cache_core.specs.Connections.Presence.{closing_at}
 use Rattle.cache_lines.specs.Making.{making_of}
 use Rattle.cache_lines.specs.Waiting.{under_way, when_left}
 use Rattle.cache_core.specs.Settled.{IsAmid}
 use Rattle.cache_core.specs.Settling.{runs_at}
 use Rattle.cache_core.proofs.Amid.{amid-behind, amid-least, can-run}
-use Rattle.cache_connections.proofs.Getting.{found-at}
+use Rattle.cache_core.proofs.connections.Getting.{found-at}
 use Rattle.cache_core.proofs.Steps.{piece-idle, piece-lines, runs-is}
 use Rattle.cache_core.proofs.Touched.{leaves-all, leaves-others}
 use Rattle.cache_core.proofs.settling.resume_at.Goals as goal

@@ -1,5 +1,5 @@
 use Rattle.std.proofs.Common.{[]}
-use Rattle.cache_connection.specs.Fed.{FedRan}
+use Rattle.cache_core.specs.Connection.Fed.{FedRan}
 use Rattle.cache_core.specs.Fed.{ReplacedAt}
 use Rattle.cache_core.proofs.At.{moved-there}
 use Rattle.cache_core.proofs.Spots.{out-at, put-back}

@@ -9,7 +9,7 @@ use Rattle.cache_driver.proofs.Whole.{converses-drives}
 use Rattle.cache_run.specs.Accounts.{pending_of}
 use Rattle.cache_run.specs.Lent.{ClosesAt, ComesAt, DropsAt, OpensAt}
 use Rattle.cache_run.proofs.Driving.{lent-none, cause-of, memory-only, runs-partly, runs-whole, stops-for, unasked}
-use Rattle.cache_connections.proofs.Getting.{found-at}
+use Rattle.cache_core.proofs.connections.Getting.{found-at}
 use Rattle.cache_spaces.proofs.Placing.{at-same, at-unmoved}
 use Rattle.cache_run.proofs.serving.run.Goals as goal
 

@@ -2,7 +2,7 @@ use Rattle.std.proofs.Common.{◌≡◌, ◌∙◌, ◌∷◌, [], None, false, 
 use Rattle.std.specs.Option.{option_map}
 use Rattle.audit_model.specs.declared.event.Event.TheVariants as event
 use Rattle.cache_lines.specs.Tape.Taped.{finishes}
-use Rattle.cache_connections.specs.Presence.{Here}
+use Rattle.cache_core.specs.Connections.Presence.{Here}
 use Rattle.cache_core.specs.State.{IsInOrder, State, state_of}
 use Rattle.cache_core.specs.Turned.{Turns}
 use Rattle.cache_core.proofs.Opened.{count-open, kept-bare, order-open, turns-open}

@@ -1,4 +1,4 @@
-use Rattle.cache_connections.proofs.Getting.{at-place}
+use Rattle.cache_core.proofs.connections.Getting.{at-place}
 use Rattle.cache_spaces.proofs.Putting.{put-at, refused-at}
 use Rattle.cache_spaces.proofs.service.Core.feed.Goals.{in-Ok-true, in-Ok-false, in-Err}
 use Rattle.cache_spaces.proofs.service.Core.feed.Goals as goal

@@ -1,4 +1,4 @@
-use Rattle.cache_connections.proofs.Getting.{at-place}
+use Rattle.cache_core.proofs.connections.Getting.{at-place}
 use Rattle.cache_spaces.proofs.Putting.{if-err-given, put-done, refused-there}
 use Rattle.cache_spaces.proofs.service.Core.give_up.Goals as goal
 

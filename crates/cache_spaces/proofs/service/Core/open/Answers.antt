@@ -1,5 +1,5 @@
 use Rattle.std.proofs.Common.{refl}
-use Rattle.cache_connections.proofs.Getting.{at-place}
+use Rattle.cache_core.proofs.connections.Getting.{at-place}
 use Rattle.cache_spaces.proofs.Putting.{put-at, refused-at}
 use Rattle.cache_spaces.proofs.service.Core.open.Goals.{in-Ok, in-Err}
 use Rattle.cache_spaces.proofs.service.Core.open.Goals as goal

@@ -1,4 +1,4 @@
-use Rattle.cache_connections.proofs.Getting.{at-place}
+use Rattle.cache_core.proofs.connections.Getting.{at-place}
 use Rattle.cache_spaces.proofs.Putting.{put-at}
 use Rattle.cache_spaces.proofs.service.Core.take_loads.Goals as goal
 

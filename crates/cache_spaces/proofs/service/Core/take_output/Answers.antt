@@ -1,4 +1,4 @@
-use Rattle.cache_connections.proofs.Getting.{at-place}
+use Rattle.cache_core.proofs.connections.Getting.{at-place}
 use Rattle.cache_spaces.proofs.Putting.{put-ok, refused-there}
 use Rattle.cache_spaces.proofs.Taking.{first-of, takes-output, unknown}
 use Rattle.cache_spaces.proofs.service.Core.take_output.Goals as goal

@@ -1,5 +1,5 @@
 use Rattle.std.proofs.Common.{◌∙◌}
-use Rattle.cache_connections.proofs.Getting.{at-place}
+use Rattle.cache_core.proofs.connections.Getting.{at-place}
 use Rattle.cache_spaces.proofs.Putting.{found-ok, refused-there}
 use Rattle.cache_spaces.proofs.Taking.{looked, unknown}
 use Rattle.cache_spaces.proofs.service.Core.waiting.Goals as goal

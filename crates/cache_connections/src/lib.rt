@@ -1,7 +1,0 @@
-//! The connections of a namespace, of which little stays once they have closed.
-#![tactic(auto)]
-
-mod connections;
-mod residents;
-
-pub use connections::Connections;

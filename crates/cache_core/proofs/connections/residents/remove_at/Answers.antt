@@ -1,0 +1,94 @@
+use Rattle.std.proofs.Common.{◌<◌, sym, ap, ◌∙◌, subst, arith}
+use Rattle.std.specs.Prelude.{IfSome, length, slice_set}
+use Rattle.cache_core.specs.Connections.Presence.{Gone}
+use Rattle.cache_core.specs.Connections.Residents.{AreSettled, first_reason, presences_of}
+use Rattle.cache_core.proofs.connections.Getting.{at-place}
+use Rattle.cache_core.proofs.connections.Saying.{last-within, moved, moved-settled, resident-there, shorter, shorter-settled}
+use Rattle.cache_core.proofs.connections.residents.remove_at.Goals as goal
+
+pub unreachable-requires : goal.unreachable-requires
+unreachable-requires c =
+    let rs = c.args.residents.now.items in
+    let ws = c.args.words.now.items in
+    let i = c.args.index in
+    let w = c.index.result.now in
+    let at = at-place ws i w c.requires.within c.index.ensures in
+    let small : w < first_reason = subst (λ o. IfSome o (λ word. word < first_reason)) at c.requires.here in
+    let inside = resident-there rs ws i w c.requires.settled at small in
+    let count = c.args.residents.now.ok.0 in
+    let none = c.in_default.ensures.cases.0 in
+    omega (arith, inside, count, none)
+
+pub index_mut-requires-then-gap-len : goal.index_mut-requires-then-gap-len
+index_mut-requires-then-gap-len c =
+    let ws = c.args.words.now.items in
+    let i = c.args.index in
+    let w = c.index.result.now in
+    let at = at-place ws i w c.requires.within c.index.ensures in
+    let small : w < first_reason = subst (λ o. IfSome o (λ word. word < first_reason)) at c.requires.here in
+    let m = subst (λ rs. AreSettled rs ws) c.in-Some.ensures.items c.requires.settled in
+    let there = last-within c.pop.new.self.items c.in-Some.last ws i w c.args.why m at small in
+    let count = c.args.words.now.ok.0 in
+    omega (arith, there, count)
+
+pub returns-then-gap-len-clause-settled : goal.returns-then-gap-len-clause-settled
+returns-then-gap-len-clause-settled c =
+    let rs = c.pop.new.self.items in
+    let last = c.in-Some.last in
+    let ws = c.args.words.now.items in
+    let i = c.args.index in
+    let w = c.index.result.now in
+    let at = at-place ws i w c.requires.within c.index.ensures in
+    let small : w < first_reason = subst (λ o. IfSome o (λ word. word < first_reason)) at c.requires.here in
+    let m = subst (λ rs. AreSettled rs ws) c.in-Some.ensures.items c.requires.settled in
+    let count = c.pop.new.self.ok.0 in
+    let below = c.if-gap-len.true in
+    let inside : w < length rs = omega (arith, count, below) in
+    subst (λ k. AreSettled (slice_set rs w last) (slice_set (slice_set ws i k) last.place w)) (sym c.word_of.ensures) (moved-settled rs last ws i w c.args.why m at small inside)
+
+pub returns-then-gap-len-clause-gone : goal.returns-then-gap-len-clause-gone
+returns-then-gap-len-clause-gone c =
+    let rs = c.pop.new.self.items in
+    let last = c.in-Some.last in
+    let ws = c.args.words.now.items in
+    let i = c.args.index in
+    let w = c.index.result.now in
+    let at = at-place ws i w c.requires.within c.index.ensures in
+    let small : w < first_reason = subst (λ o. IfSome o (λ word. word < first_reason)) at c.requires.here in
+    let m = subst (λ rs. AreSettled rs ws) c.in-Some.ensures.items c.requires.settled in
+    let count = c.pop.new.self.ok.0 in
+    let below = c.if-gap-len.true in
+    let inside : w < length rs = omega (arith, count, below) in
+    ap (λ k. presences_of (slice_set rs w last) (slice_set (slice_set ws i k) last.place w)) c.word_of.ensures
+    ∙ moved rs last ws i w c.args.why m at small inside
+    ∙ ap (λ xs. slice_set (presences_of xs ws) i (Gone c.args.why)) (sym c.in-Some.ensures.items)
+
+pub returns-else-gap-len-clause-settled : goal.returns-else-gap-len-clause-settled
+returns-else-gap-len-clause-settled c =
+    let rs = c.pop.new.self.items in
+    let last = c.in-Some.last in
+    let ws = c.args.words.now.items in
+    let i = c.args.index in
+    let w = c.index.result.now in
+    let at = at-place ws i w c.requires.within c.index.ensures in
+    let small : w < first_reason = subst (λ o. IfSome o (λ word. word < first_reason)) at c.requires.here in
+    let m = subst (λ rs. AreSettled rs ws) c.in-Some.ensures.items c.requires.settled in
+    let count = c.pop.new.self.ok.0 in
+    let above = c.if-gap-len.false in
+    subst (λ k. AreSettled rs (slice_set ws i k)) (sym c.word_of.ensures) (shorter-settled rs last ws i w c.args.why m at small (omega (arith, count, above)))
+
+pub returns-else-gap-len-clause-gone : goal.returns-else-gap-len-clause-gone
+returns-else-gap-len-clause-gone c =
+    let rs = c.pop.new.self.items in
+    let last = c.in-Some.last in
+    let ws = c.args.words.now.items in
+    let i = c.args.index in
+    let w = c.index.result.now in
+    let at = at-place ws i w c.requires.within c.index.ensures in
+    let small : w < first_reason = subst (λ o. IfSome o (λ word. word < first_reason)) at c.requires.here in
+    let m = subst (λ rs. AreSettled rs ws) c.in-Some.ensures.items c.requires.settled in
+    let count = c.pop.new.self.ok.0 in
+    let above = c.if-gap-len.false in
+    ap (λ k. presences_of rs (slice_set ws i k)) c.word_of.ensures
+    ∙ shorter rs last ws i w c.args.why m at small (omega (arith, count, above))
+    ∙ ap (λ xs. slice_set (presences_of xs ws) i (Gone c.args.why)) (sym c.in-Some.ensures.items)

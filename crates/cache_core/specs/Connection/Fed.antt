@@ -1,0 +1,58 @@
+-- What a feed does to a connection.
+use Rattle.std.specs.Prelude.{◌≡◌, ℕ, Bool, ◌||◌, List, Option, if◌then◌else◌}
+use Rattle.audit_model.specs.Places.{tasks_to_feed}
+use Rattle.audit_model.specs.Situation.{HeldValue, Situation}
+use Rattle.audit_model.specs.declared.command.Closing.{Closing}
+use Rattle.audit_model.specs.declared.command.Closing.TheVariants as by
+use Rattle.cache_commands.specs.Answered.{Agrees}
+use Rattle.cache_commands.specs.Right.{KeepsFrame}
+use Rattle.cache_lines.specs.Bases.{Seen, seen}
+use Rattle.cache_lines.specs.Ended.{RanTasks}
+use Rattle.cache_lines.specs.Gathered.{IsFresh, gathered}
+use Rattle.cache_lines.specs.Lines.{IsThere, set_in, with_drops}
+use Rattle.cache_lines.specs.Making.{making_of}
+use Rattle.cache_lines.specs.Waiting.{loads_in, with_under_way}
+use Rattle.cache_lines.specs.declared.base.Base.{Base}
+use Rattle.cache_commands.specs.Loads.Standings.{holds_line, waits_for_load}
+use Rattle.cache_store.specs.Values.{Values}
+use Rattle.cache_lines.specs.Tape.Taped.{Taped}
+use Rattle.cache_core.specs.Connection.Fits.{ClosesFor, RunsOn}
+use Rattle.cache_core.specs.Connection.Shown.{put_in, shown, with_piece}
+use Rattle.cache_core.specs.declared.connection.connection.Connection.{Connection}
+
+-- why a connection closes for what it was fed: a `QUIT` ran last; or its `LOAD` waited, or waits; or a line is too long
+abbrev pub closing_by : (waited quit silent : Bool) → Closing
+closing_by waited quit silent = if quit then by.Quit else (if waited || silent then by.Behind else by.Long)
+
+-- Steps of an open connection's feed ran, all that were due; the connection stands as they left it, and may be closed.
+pub record FedRan (now number : ℕ) (old : Connection) (piece : List ℕ) (new : Connection) (is_held : Bool) (was is : Seen) : Type 0 where
+  pub quit : Bool
+  pub silent : Bool
+  pub ran : (s : Situation) → Agrees was.stage.values now s → IsThere number s → loads_in s ≡ was.loads
+      → RanTasks (making_of was.stage.values.frame) (set_in s s.held (with_piece piece (shown number old))) (tasks_to_feed number (holds_line old.standing)) quit is_held silent
+      (λ left. put_in (with_under_way is.loads (with_drops is.stage.values.frame.dropped s)) left number new) was.stage is.stage
+  pub closing : ClosesFor (closing_by (waits_for_load old.standing) quit silent) new.closing
+  pub runs : RunsOn new.closing new.standing quit silent
+  pub frame : KeepsFrame was.stage.values.frame is.stage.values.frame now
+  pub fresh : IsFresh (gathered is.stage)
+
+-- the connection is the same to whoever looks at it
+pub record LooksAsBefore (old new : Connection) : Type 0 where
+  pub bytes : new.unread.bytes ≡ old.unread.bytes
+  pub standing : new.standing ≡ old.standing
+  pub waited : new.waited ≡ old.waited
+  pub closing : new.closing ≡ old.closing
+  pub text : new.output.text.items ≡ old.output.text.items
+
+-- a piece came behind a `LOAD` that waits, and the connection closes where too many bytes stand there
+pub record TakesWaiting (old : Connection) (piece : List ℕ) (new : Connection) : Type 0 where
+  pub put : (base : Situation) (values : List HeldValue) (number : ℕ) → set_in base values (with_piece piece (shown number old)) ≡ put_in base values number new
+  pub closing : ClosesFor by.Behind new.closing
+
+-- what the lines of a connection run over
+abbrev pub seen_of : {S T : Type 0} → (S → Values) → (T → Option Taped) → Base S T → Connection → Seen
+seen_of view tape base connection = seen view tape base connection.output
+
+-- the same over a base as it was and as it is
+abbrev pub FedOver : {S T : Type 0} → (S → Values) → (T → Option Taped) → (now number : ℕ) → (base left : Base S T) → (old : Connection) → (piece : List ℕ) → (new : Connection) → (is_held : Bool) → Type 0
+FedOver view tape now number base left old piece new is_held = FedRan now number old piece new is_held (seen_of view tape base old) (seen_of view tape left new)

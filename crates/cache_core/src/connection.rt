@@ -1,0 +1,12 @@
+//! One connection of a namespace, over any store and any tape.
+mod again;
+mod connection;
+mod feeding;
+mod standing;
+mod telling;
+
+pub use again::run_again;
+pub use connection::{Connection, new_connection};
+pub use feeding::{feed_connection, feed_ready};
+pub use standing::Stance;
+pub use telling::deliver;

@@ -1,0 +1,41 @@
+//! One connection.
+ghost use Rattle.std.specs.Prelude.{◌≡◌, [], None, true};
+ghost use Rattle.cache_core.specs.Connection.Fits.{Fits};
+ghost use Rattle.cache_lines.specs.Outputs.{IsRoomy};
+ghost use Rattle.cache_commands.specs.Loads.Standings.{waits_for_load};
+ghost use Rattle.cache_commands.specs.declared.loads.standing.Standing.TheVariants as now;
+
+use audit_lines::Buffer;
+use audit_model::Closing;
+use cache_lines::Output;
+use cache_commands::Standing;
+use std::alloc::Global;
+
+/// A connection: what came and was not used, the replies that were not taken, and why it closed.
+#[derive(Drop)]
+pub struct Connection {
+    pub unread: Buffer,
+    pub standing: Standing,
+    /// How often the `LOAD` that is its first unread line began to wait, at most 200.
+    pub waited: u64,
+    pub output: Output,
+    pub closing: Option<Closing>,
+    ghost fits: { Fits standing waited closing unread.bytes },
+    ghost roomy: { waits_for_load standing ≡ true → IsRoomy output },
+}
+
+/// A connection that nothing has come to.
+pub fn new_connection(alloc: Global) -> Connection
+    ensures unread { result.unread.bytes ≡ [] }
+    ensures standing { result.standing ≡ now.Ready }
+    ensures output { result.output.text.items ≡ [] }
+    ensures closing { result.closing ≡ None }
+{
+    Connection {
+        unread: Buffer::new(alloc),
+        standing: Standing::Ready,
+        waited: 0,
+        output: Output::new(alloc),
+        closing: None,
+    }
+}

@@ -1,0 +1,98 @@
+//! The connections of a namespace, each at the place below its number.
+ghost use Rattle.std.specs.Prelude.{◌≡◌, ◌<◌, ◌++◌, ◌∷◌, [], Some, true, false, length, slice_set, OnOk, OnErr, MatchOption};
+ghost use Rattle.std.specs.List.{slice_get};
+ghost use Rattle.cache_core.specs.Connections.Presence.{Here, Out, closing_at, is_here, retired_at};
+
+use crate::connections::residents::{Resident, add, look_up, put_back, reason_at, retire_at, take_out};
+use audit_model::Closing;
+use crate::connection::Connection;
+use std::alloc::{AllocError, Global};
+use std::marker::Model;
+
+/// The connections that were opened, in that order.
+#[derive(Drop)]
+pub struct Connections {
+    residents: Vec<Resident>,
+    // For each place the index of its resident, or why its connection closed.
+    words: Vec<u32>,
+}
+
+impl Model for Connections {
+    ghost use Rattle.std.specs.Prelude.{List};
+    ghost use Rattle.cache_core.specs.Connections.Presence.{Presence};
+    ghost use Rattle.cache_core.specs.Connections.Residents.{AreSettled, presences_of};
+
+    ghost Value = { List Presence };
+
+    ghost view = { λ s. presences_of s.residents.items s.words.items };
+
+    ghost invariant = { λ s. AreSettled s.residents.items s.words.items };
+}
+
+impl Connections {
+    /// None. Takes no memory.
+    pub fn new(alloc: Global) -> Connections
+        ensures { result ≡ [] }
+    {
+        Connections {
+            residents: Vec::new(alloc),
+            words: Vec::new(alloc),
+        }
+    }
+
+    /// How many were opened.
+    pub fn len(&self) -> usize
+        ensures { result ≡ length self.now }
+    {
+        self.words.len()
+    }
+
+    /// Adds a connection at the end. An `Err` changes nothing.
+    pub fn push(&mut self, connection: Connection) -> Result<(), AllocError>
+        ensures pushed { OnOk result (self.new ≡ self.old ++ Here connection ∷ []) }
+        ensures unchanged { OnErr result (self.new ≡ self.old) }
+    {
+        add(&mut self.residents, &mut self.words, connection)
+    }
+
+    /// The connection at a place, to be looked at, if it is here.
+    pub fn get(&self, index: usize) -> Option<&Connection>
+        requires { index < length self.now }
+        ensures { MatchOption result (is_here (slice_get self.now index) ≡ false) (λ c. slice_get self.now index ≡ Some (Here c.now)) }
+    {
+        look_up(&self.residents, &self.words, index)
+    }
+
+    /// Why the connection at a place has closed, if it has.
+    pub fn closing(&self, index: usize) -> Option<Closing>
+        requires { index < length self.now }
+        ensures { result ≡ closing_at self.now index }
+    {
+        reason_at(&self.residents, &self.words, index)
+    }
+
+    /// Moves the connection at a place out; it is to be put back. Takes no memory.
+    pub fn take(&mut self, index: usize) -> Connection
+        requires { is_here (slice_get self.old index) ≡ true }
+        ensures taken { slice_get self.old index ≡ Some (Here result) }
+        ensures rest { self.new ≡ slice_set self.old index Out }
+    {
+        take_out(&mut self.residents, &self.words, index)
+    }
+
+    /// Puts a connection back in the place of one that is out. Takes no memory.
+    pub fn put(&mut self, index: usize, connection: Connection)
+        requires { slice_get self.old index ≡ Some Out }
+        ensures { self.new ≡ slice_set self.old index (Here connection) }
+    {
+        put_back(&mut self.residents, &self.words, index, connection);
+    }
+
+    /// Drops the connection at a place where it has closed and its replies were taken; why it closed is kept. Takes no memory.
+    pub fn retire(&mut self, index: usize)
+        requires { index < length self.old }
+        ensures { self.new ≡ retired_at self.old index }
+    {
+        retire_at(&mut self.residents, &mut self.words, index);
+    }
+}
