@@ -1,7 +1,7 @@
 //! What is played.
 use crate::asking::{Asked, Done, PLAIN, are_done, inputs_of};
 use audit_model::{Config, Conn, Input, Instant, LoadId, Record, ServiceError, Transcript};
-use cache_play::play;
+use cache_spaces::play;
 use rand_core::SeedableRng;
 use rand_xoshiro::Xoshiro256PlusPlus;
 use std::alloc::Global;

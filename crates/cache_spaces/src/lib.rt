@@ -4,6 +4,7 @@
 mod cursors;
 mod journals;
 mod making;
+mod playing;
 mod replies;
 mod service;
 mod sound;
@@ -13,6 +14,7 @@ mod told;
 
 pub use audit_laws::Output;
 pub use journals::RecordedService;
+pub use playing::play;
 pub use service::{AnswerError, Core, Fed, Service, SpaceStore};
 pub use stepping::Refusal;
 pub use tapes::NewTape;

@@ -3,7 +3,7 @@ use crate::rows::{Came, NOTHING, Row, rows_of_limits, rows_of_lines, rows_of_loa
 use audit_model::{
     Bytes, Config, Conn, Input, Instant, LoadId, Outcome, Seq, ServiceError, Transcript,
 };
-use cache_play::play;
+use cache_spaces::play;
 use moka_audit::{Verdict, audit};
 use rand_core::SeedableRng;
 use rand_xoshiro::Xoshiro256PlusPlus;

@@ -4,7 +4,7 @@ ghost use Rattle.transcript_program.specs.Printed.{IsPrintedOf, namespace_text, 
 
 use audit_model::{Config, ServiceError, Transcript};
 use audit_text::{TextError, read_inputs, write_transcript};
-use cache_play::play;
+use cache_spaces::play;
 use itoa::Buffer;
 use rand_core::SeedableRng;
 use rand_xoshiro::Xoshiro256PlusPlus;

@@ -1,16 +1,14 @@
 //! Inputs, played from a service just made.
-#![tactic(auto)]
-
 ghost use Rattle.std.specs.Prelude.{◌≡◌, ◌≤◌, ◌<◌, ◌^◌, ◌↔◌, ◌⊎◌, false, IfOk, IfErr, IsErrOf, OnErr};
 ghost use Rattle.cache_spaces.specs.Calls.{At};
 ghost use Rattle.cache_spaces.specs.Inputs.{Performs, namespace_of};
 ghost use Rattle.cache_spaces.specs.Journals.{kept_by};
 ghost use Rattle.cache_spaces.specs.Played.{ArePlayed};
 ghost use Rattle.cache_spaces.specs.Services.{are_taken};
-
 use audit_model::{Config, Input, Instant, ServiceError, Transcript};
 use audit_laws::copy_input;
-use cache_spaces::{Output, RecordedService};
+use audit_laws::Output;
+use crate::journals::RecordedService;
 use rand_xoshiro::Xoshiro256PlusPlus;
 use std::alloc::Global;
 

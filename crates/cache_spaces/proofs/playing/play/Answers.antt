@@ -3,7 +3,7 @@ use Rattle.std.proofs.lemmas.Result.{on_err_weaker}
 use Rattle.cache_spaces.specs.Played.{ArePlayed}
 use Rattle.cache_spaces.specs.Recorded.{Recorded}
 use Rattle.cache_spaces.proofs.Journaling.{played-none, played-step, played-to-end}
-use Rattle.cache_play.proofs.play.Goals as goal
+use Rattle.cache_spaces.proofs.playing.play.Goals as goal
 
 pub loop-input-init : goal.loop-input-init
 loop-input-init c = record { played = played-none c.args.configs.now c.args.generator c.args.moment c.in-Ok.recorded.spaces c.in-Ok.ensures.made }
