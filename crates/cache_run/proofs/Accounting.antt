@@ -24,8 +24,8 @@ use Rattle.audit_laws.specs.Waiting.Keys.{IsKnown}
 use Rattle.cache_core.specs.Settling.{answering, giving_up}
 use Rattle.cache_core.specs.Turned.{feeding}
 use Rattle.cache_run.specs.Loading.{AreKnown}
-use Rattle.cache_driver.specs.Exchanges as did
-use Rattle.cache_driver.specs.Exchanges.{Doing, Exchange, Hands, IsLastOf, Keeps, Leaves, Outs}
+use Rattle.cache_run.specs.Driver.Exchanges as did
+use Rattle.cache_run.specs.Driver.Exchanges.{Doing, Exchange, Hands, IsLastOf, Keeps, Leaves, Outs}
 use Rattle.cache_run.specs.Lent.{Comes, Does, MayGiveLoads}
 
 -- ---- loads are sent later, or not at all

@@ -8,10 +8,10 @@ use Rattle.audit_model.specs.declared.event.Event.TheVariants as event
 use Rattle.audit_model.specs.declared.event.Outcome.{Outcome}
 use Rattle.audit_model.specs.declared.input.Conn.{Conn}
 use Rattle.audit_laws.specs.Waiting.Alone.{WaitsAlone}
-use Rattle.cache_devices.specs.Sources.{Askings}
-use Rattle.cache_devices.specs.declared.errors.RunError.{RunError}
-use Rattle.cache_driver.specs.Drives.{Drives, DrivesPartly, DrivesWhole, Outside, Rest, Talks, asked_of, late_of, lost_of}
-use Rattle.cache_driver.specs.Exchanges.{Chain, Doing, Exchange, HaveClosed, Outs, askings_in, moments_in, pieces_in, replies_in, told_of}
+use Rattle.cache_run.specs.Devices.Sources.{Askings}
+use Rattle.cache_run.specs.declared.devices.errors.RunError.{RunError}
+use Rattle.cache_run.specs.Driver.Drives.{Drives, DrivesPartly, DrivesWhole, Outside, Rest, Talks, asked_of, late_of, lost_of}
+use Rattle.cache_run.specs.Driver.Exchanges.{Chain, Doing, Exchange, HaveClosed, Outs, askings_in, moments_in, pieces_in, replies_in, told_of}
 use Rattle.cache_spaces.specs.Bares.{BareSpace, bare_tape}
 use Rattle.cache_spaces.specs.Calls.{At, OpensNext}
 use Rattle.cache_spaces.specs.Sound.{IsSound}
@@ -29,15 +29,15 @@ use Rattle.cache_run.proofs.Dropping.{none-behind}
 use Rattle.cache_run.proofs.Leading.{Leads, chain-adds-none, chain-closed, chain-leads}
 use Rattle.cache_run.proofs.Led.{Led, carried-led}
 use Rattle.cache_spaces.proofs.Placing.{at-is, at-map, at-more, at-same, at-unmoved}
-use Rattle.cache_devices.specs.declared.errors.RunError.TheVariants.{Read, Write, OutOfMemory, UsedUp, Moment}
-use Rattle.cache_devices.specs.declared.watched.Watched.{Watched}
-use Rattle.cache_driver.specs.Causes.{Because}
-use Rattle.cache_driver.specs.Driven.{ClosesAfter, around}
-use Rattle.cache_driver.specs.Ending.{outcome_by}
-use Rattle.cache_driver.specs.declared.driving.Progress.{Progress}
-use Rattle.cache_driver.specs.declared.driving.Progress.TheVariants.{More, Over}
-use Rattle.cache_driver.specs.declared.session.Session.{Session}
-use Rattle.cache_driver.proofs.Settled.{because-map}
+use Rattle.cache_run.specs.declared.devices.errors.RunError.TheVariants.{Read, Write, OutOfMemory, UsedUp, Moment}
+use Rattle.cache_run.specs.declared.devices.watched.Watched.{Watched}
+use Rattle.cache_run.specs.Driver.Causes.{Because}
+use Rattle.cache_run.specs.Driver.Driven.{ClosesAfter, around}
+use Rattle.cache_run.specs.Driver.Ending.{outcome_by}
+use Rattle.cache_run.specs.declared.driver.driving.Progress.{Progress}
+use Rattle.cache_run.specs.declared.driver.driving.Progress.TheVariants.{More, Over}
+use Rattle.cache_run.specs.declared.driver.session.Session.{Session}
+use Rattle.cache_run.proofs.driver.Settled.{because-map}
 
 -- what stays undone
 abbrev left_of : Rest → Left

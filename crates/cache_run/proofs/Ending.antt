@@ -29,9 +29,9 @@ use Rattle.cache_spaces.specs.Bares.{BareSpace, bare_tape}
 use Rattle.cache_spaces.specs.Calls.{IsOpened, OpensNext, ServesEvent}
 use Rattle.cache_spaces.specs.Sound.{IsSound}
 use Rattle.cache_spaces.specs.Spaces.{closing_of, config_of, known_of, notices_of, untaken_output}
-use Rattle.cache_devices.specs.declared.errors.RunError.{RunError}
-use Rattle.cache_devices.specs.declared.errors.RunError.TheVariants.{Moment}
-use Rattle.cache_driver.specs.Drives.{Outside}
+use Rattle.cache_run.specs.declared.devices.errors.RunError.{RunError}
+use Rattle.cache_run.specs.declared.devices.errors.RunError.TheVariants.{Moment}
+use Rattle.cache_run.specs.Driver.Drives.{Outside}
 use Rattle.cache_run.specs.Accounts.{Accounts, AddsNoLoads, KeepsLoads}
 use Rattle.cache_run.specs.Carried.{Broken, Carried, Left, nothing_left}
 use Rattle.cache_run.specs.Connected.{HasTakenReplies, IsEnded, IsFed, IsOpenOrEnded}

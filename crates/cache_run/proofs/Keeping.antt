@@ -11,15 +11,15 @@ use Rattle.cache_spaces.specs.Sound.{IsSound}
 use Rattle.cache_run.proofs.Ending.{opens-stands}
 use Rattle.cache_run.proofs.Happening.{IsSoundAt, happened-so, situation-of, stays-opened, none-where}
 use Rattle.cache_spaces.proofs.Placing.{at-is, at-map, at-was, at-same, at-more}
-use Rattle.cache_driver.specs.Exchanges.{Outs, Answered, Doing, Dropped, GivenUp}
+use Rattle.cache_run.specs.Driver.Exchanges.{Outs, Answered, Doing, Dropped, GivenUp}
 use Rattle.std.specs.Prelude.{Result, Ok, Err, OnErr, OnOk}
 use Rattle.std.specs.Option.{option_map}
 use Rattle.std.proofs.lemmas.Option.{same_Some}
 use Rattle.audit_model.specs.declared.event.Outcome.{Outcome}
 use Rattle.audit_model.specs.declared.input.Conn.{Conn}
 use Rattle.cache_spaces.specs.Spaces.{closing_of, config_of}
-use Rattle.cache_driver.specs.Hosting.{SettlesBy, Suits, exchange_of}
-use Rattle.cache_driver.specs.declared.host.Given.{Given}
+use Rattle.cache_run.specs.Driver.Hosting.{SettlesBy, Suits, exchange_of}
+use Rattle.cache_run.specs.declared.driver.host.Given.{Given}
 use Rattle.cache_run.specs.Happened.{IsGivenUpFor}
 use Rattle.cache_run.specs.Lent.{AnswersOr, Comes, Does, Gives, GivesUpOr, MayGiveLoads, SettlesAt}
 

@@ -17,7 +17,7 @@ use Rattle.cache_spaces.specs.Spaces.{StandsFor, config_of, known_of, notices_of
 use Rattle.cache_spaces.specs.Stores.{shown_of}
 use Rattle.cache_spaces.specs.Bares.{BareSpace, bare_tape}
 use Rattle.cache_run.specs.Goes.{Goes}
-use Rattle.cache_devices.specs.Sources.{Asking}
+use Rattle.cache_run.specs.Devices.Sources.{Asking}
 use Rattle.cache_run.specs.Happened.{Dropped, IsKeyOf, IsSettledBy, Settled, record_replies, asking_of}
 use Rattle.cache_run.proofs.Led.{record-one, Led, led-turn, led-known, led-more, led-none}
 use Rattle.cache_run.proofs.Going.{goes-still, output-none, output-stands, still-stands, fed-turn, goes-more, goes-output, goes-same}
@@ -25,8 +25,8 @@ use Rattle.cache_run.proofs.Happening.{goes-by, own-replies, happened-so, situat
 use Rattle.cache_core.specs.Settling.{answering, giving_up}
 use Rattle.cache_run.specs.Connected.{HasSituation, HasTakenReplies, IsFed}
 use Rattle.cache_run.proofs.Dropping.{taken-same, known-given}
-use Rattle.cache_driver.specs.Exchanges as did
-use Rattle.cache_driver.specs.Exchanges.{Doing, Exchange, Outs, AreDone, Chain, Hands, HaveClosed, Keeps, Leaves, LeavesNothing, asks_of, askings_in, bytes_of, moments_in, pieces_in, replies_in, told_of}
+use Rattle.cache_run.specs.Driver.Exchanges as did
+use Rattle.cache_run.specs.Driver.Exchanges.{Doing, Exchange, Outs, AreDone, Chain, Hands, HaveClosed, Keeps, Leaves, LeavesNothing, asks_of, askings_in, bytes_of, moments_in, pieces_in, replies_in, told_of}
 use Rattle.cache_run.specs.Lent.{Comes, Does, MayGiveLoads}
 use Rattle.std.specs.Prelude.{MatchOption, unwrap_or}
 use Rattle.std.specs.List.{last_or}

@@ -22,10 +22,10 @@ use Rattle.std.specs.Io.KnownBytes.{Appends, Consumes}
 use Rattle.audit_model.specs.declared.input.LoadId.{LoadId}
 use Rattle.audit_laws.specs.Waiting.Keys.{IsKnown}
 use Rattle.audit_laws.proofs.waiting.Keys.{keeps}
-use Rattle.cache_devices.specs.Sources.{Asking, Askings, Readings}
+use Rattle.cache_run.specs.Devices.Sources.{Asking, Askings, Readings}
 use Rattle.cache_run.specs.Runs.{Quiet}
 use Rattle.cache_run.specs.Loading.{AreKnown}
-use Rattle.cache_driver.specs.Drives.{Outside}
+use Rattle.cache_run.specs.Driver.Drives.{Outside}
 
 split-through : (f g : Situation → Option Situation) (o : Option Situation) (t : Situation) (rest : Option Situation) → ((m : Situation) → f m ≡ Some t → g m ≡ rest) → option_and_then f o ≡ Some t → option_and_then g o ≡ rest
 split-through f g None t rest h e = absurd (none-some t e)

@@ -9,11 +9,11 @@ use Rattle.audit_model.specs.declared.event.Event.TheVariants as event
 use Rattle.audit_model.specs.declared.event.Outcome.{Outcome}
 use Rattle.audit_model.specs.declared.transcript.Record.{Record}
 use Rattle.cache_core.specs.Turned.{notes_in}
-use Rattle.cache_devices.specs.Sources.{Asking, Askings, Readings}
+use Rattle.cache_run.specs.Devices.Sources.{Asking, Askings, Readings}
 use Rattle.cache_run.specs.Happened.{Turn, AreDrops, AreInPlace, AreRight, asked_in, moment_in, turn_notes, record_of, piece_in, records_in, replies_in}
 use Rattle.cache_run.specs.Worlds.{World}
-use Rattle.cache_devices.specs.declared.errors.RunError.{RunError}
-use Rattle.cache_devices.specs.declared.errors.RunError.TheVariants.{Moment}
+use Rattle.cache_run.specs.declared.devices.errors.RunError.{RunError}
+use Rattle.cache_run.specs.declared.devices.errors.RunError.TheVariants.{Moment}
 
 abbrev pub open_records : ℕ → Bool → List Record
 open_records number opens = if opens then record_of (event.Open number) [] ∷ [] else []

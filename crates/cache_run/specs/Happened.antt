@@ -11,7 +11,7 @@ use Rattle.audit_model.specs.declared.event.Outcome.{Outcome}
 use Rattle.audit_model.specs.declared.transcript.Note.{Note}
 use Rattle.audit_model.specs.declared.transcript.Record.{Record}
 use Rattle.audit_model.specs.declared.transcript.Step.{Step}
-use Rattle.cache_devices.specs.Sources.{Asking}
+use Rattle.cache_run.specs.Devices.Sources.{Asking}
 use Rattle.cache_core.specs.Settling.{answering, giving_up}
 use Rattle.cache_core.specs.Turned.{feeding, notes_in}
 use Rattle.cache_lines.specs.Gathered.{reply_in}

@@ -12,10 +12,10 @@ use Rattle.cache_spaces.specs.Bares.{BareSpace, bare_tape}
 use Rattle.cache_spaces.specs.Calls.{At, InSpace, IsOpened, OpensNext, ServesEvent, Settled, TakesOutput}
 use Rattle.cache_spaces.specs.Sound.{IsSound}
 use Rattle.cache_spaces.specs.Spaces.{closing_of, config_of, known_of}
-use Rattle.cache_devices.specs.Sources.{Asking}
-use Rattle.cache_driver.specs.Exchanges.{Answered, Doing, Dropped, Exchange, Fed, GivenUp, Looked, Outs}
-use Rattle.cache_driver.specs.Hosting.{SettlesBy}
-use Rattle.cache_driver.specs.declared.host.Given.{Given}
+use Rattle.cache_run.specs.Devices.Sources.{Asking}
+use Rattle.cache_run.specs.Driver.Exchanges.{Answered, Doing, Dropped, Exchange, Fed, GivenUp, Looked, Outs}
+use Rattle.cache_run.specs.Driver.Hosting.{SettlesBy}
+use Rattle.cache_run.specs.declared.driver.host.Given.{Given}
 use Rattle.cache_run.specs.Accounts.{DropsAll, DropsUnwaited}
 use Rattle.cache_run.specs.Happened.{IsGivenUpFor}
 use Rattle.cache_run.specs.Loading.{GivesLoads, GivesUpLoads}

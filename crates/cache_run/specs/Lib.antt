@@ -1,3 +1,5 @@
+pub mod Devices
+pub mod Driver
 pub mod Worlds
 pub mod Happened
 pub mod Carried

@@ -10,8 +10,8 @@ use Rattle.audit_model.specs.declared.event.Event.{Event}
 use Rattle.audit_model.specs.declared.event.Event.TheVariants as event
 use Rattle.audit_model.specs.declared.transcript.Note.{Note}
 use Rattle.audit_model.specs.declared.transcript.Record.{Record}
-use Rattle.cache_devices.specs.Watched.{device}
-use Rattle.cache_devices.specs.declared.watched.Watched.{Watched}
+use Rattle.cache_run.specs.Devices.Watched.{device}
+use Rattle.cache_run.specs.declared.devices.watched.Watched.{Watched}
 use Rattle.cache_spaces.specs.Calls.{At}
 use Rattle.cache_spaces.specs.Spaces.{closing_of, config_of, notices_of}
 use Rattle.audit_model.specs.declared.event.Outcome.{Outcome}
@@ -22,10 +22,10 @@ use Rattle.cache_run.specs.Carried.{Broken, Carried, nothing_left}
 use Rattle.cache_run.specs.Connected.{IsEnded}
 use Rattle.cache_run.specs.Goes.{Goes}
 use Rattle.cache_run.specs.Happened.{record_of}
-use Rattle.cache_driver.specs.Drives.{Outside}
+use Rattle.cache_run.specs.Driver.Drives.{Outside}
 use Rattle.cache_run.specs.Worlds.{outside, world}
-use Rattle.cache_devices.specs.declared.errors.RunError.{RunError}
-use Rattle.cache_devices.specs.declared.errors.RunError.TheVariants.{OutOfMemory}
+use Rattle.cache_run.specs.declared.devices.errors.RunError.{RunError}
+use Rattle.cache_run.specs.declared.devices.errors.RunError.TheVariants.{OutOfMemory}
 
 -- the number that the next connection gets
 abbrev pub next_number : BareSpace → ℕ

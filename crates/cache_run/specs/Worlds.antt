@@ -4,7 +4,7 @@ use Rattle.audit_model.specs.Situation.{Situation}
 use Rattle.audit_model.specs.declared.transcript.Note.{Note}
 use Rattle.cache_spaces.specs.Spaces.{notices_of}
 use Rattle.cache_spaces.specs.Bares.{BareSpace}
-use Rattle.cache_driver.specs.Drives.{Outside}
+use Rattle.cache_run.specs.Driver.Drives.{Outside}
 
 -- a situation, the notes told and not taken, and what stands outside
 pub record World (C L : Type 0) : Type 0 where

@@ -1,16 +1,16 @@
 //! Pieces that are fed, and what a connection is given.
 ghost use Rattle.std.specs.Prelude.{◌≡◌, ◌≤◌, ◌^◌, true, is_some, IfErr, IfOk, OnErr};
 ghost use Rattle.std.specs.Option.{option_map};
-ghost use Rattle.cache_driver.specs.Exchanges as did;
-ghost use Rattle.cache_driver.specs.Hosting.{Stops, Suits};
+ghost use Rattle.cache_run.specs.Driver.Exchanges as did;
+ghost use Rattle.cache_run.specs.Driver.Hosting.{Stops, Suits};
 ghost use Rattle.cache_spaces.specs.Calls.{At, InSpace, TakesOutput};
 ghost use Rattle.cache_spaces.specs.Spaces.{closing_of};
 ghost use Rattle.cache_run.specs.Lent.{Does, Gives, IsThere, MayGiveLoads};
 ghost use Rattle.cache_run.specs.Loading.{GivesLoads};
 
 use audit_model::{Bytes, Closing, Conn, Instant, LoadId, ServiceError};
-use cache_devices::RunError;
-use cache_driver::Given;
+use crate::devices::RunError;
+use crate::driver::Given;
 use cache_spaces::{Fed, Service};
 
 /// Feeds a piece. Answers whether a command is held back for want of memory.

@@ -7,8 +7,8 @@ use crate::drops::{close_if_open, drop_loads};
 use crate::giving::{feed_piece, give};
 use crate::loads::settle;
 use audit_model::{Bytes, Conn, LoadId, Outcome};
-use cache_devices::{Loader, RunError};
-use cache_driver::{Given, Host};
+use crate::devices::{Loader, RunError};
+use crate::driver::{Given, Host};
 use cache_spaces::Service;
 
 /// Nobody else has the service.

@@ -1,11 +1,11 @@
 //! Loads that are settled by what a loader says.
 ghost use Rattle.std.specs.Prelude.{◌≡◌, ◌≤◌, ◌^◌, true, false, IfOk, IfErr, OnOk, OnErr};
-ghost use Rattle.cache_driver.specs.Hosting.{Stops};
+ghost use Rattle.cache_run.specs.Driver.Hosting.{Stops};
 ghost use Rattle.cache_spaces.specs.Calls.{At};
 ghost use Rattle.cache_run.specs.Lent.{AnswersOr, GivesUpOr, IsThere, RefusesOutcome, SettlesAt};
 
 use audit_model::{Conn, Instant, LoadId, Outcome, ServiceError};
-use cache_devices::RunError;
+use crate::devices::RunError;
 use cache_spaces::Service;
 
 /// Gives a load up. One that is not under way stays settled.

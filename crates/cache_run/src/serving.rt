@@ -1,14 +1,14 @@
 //! One connection, from its opening to its closing.
 ghost use Rattle.std.specs.Prelude.{◌≡◌, ◌<◌, [], length, IfErr, OnOk, IsErrOf};
-ghost use Rattle.cache_devices.specs.Sources.{HasToldLate};
-ghost use Rattle.cache_driver.specs.Causes.{Fails, RunsOut};
+ghost use Rattle.cache_run.specs.Devices.Sources.{HasToldLate};
+ghost use Rattle.cache_run.specs.Driver.Causes.{Fails, RunsOut};
 ghost use Rattle.cache_spaces.specs.Calls.{At};
 ghost use Rattle.cache_run.specs.Accounts.{pending_of};
 ghost use Rattle.cache_run.specs.Runs.{RunsPartly, RunsWhole};
 
 use crate::lent::Lent;
-use cache_devices::{Clock, Loader, RunError, Watched};
-use cache_driver::{close, converse, open, outcome_of};
+use crate::devices::{Clock, Loader, RunError, Watched};
+use crate::driver::{close, converse, open, outcome_of};
 use cache_spaces::Service;
 use std::alloc::Global;
 use std::io::{Read, Write};

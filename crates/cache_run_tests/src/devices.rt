@@ -2,8 +2,7 @@
 use audit_model::{
     Bytes, Closing, Config, Conn, EvictionPolicy, Instant, Outcome, Seq, ServiceError, Weight,
 };
-use cache_devices::{Clock, Loader, RunError, Watched};
-use cache_run::run;
+use cache_run::{Clock, Loader, RunError, Watched, run};
 use cache_spaces::Service;
 use rand_core::SeedableRng;
 use rand_xoshiro::Xoshiro256PlusPlus;

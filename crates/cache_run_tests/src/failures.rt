@@ -1,7 +1,7 @@
 //! Devices that fail while a load is out.
 use crate::devices::{PLAIN, Ran, SOUND, Saying, Setting, run_over};
 use audit_model::Closing;
-use cache_devices::RunError;
+use cache_run::RunError;
 use std::alloc::Global;
 
 const INPUT: &[u8] = b"GET a\nLOAD k\nGET k\nLOAD j\n";

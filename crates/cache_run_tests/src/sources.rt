@@ -2,7 +2,7 @@
 ghost use Rattle.std.specs.Prelude.{◌≡◌};
 
 use audit_model::Outcome;
-use cache_devices::{Clock, Loader};
+use cache_run::{Clock, Loader};
 
 /// A clock that goes on by one at each reading.
 #[derive(Drop)]

@@ -1,5 +1,5 @@
 //! What is sent to writers, whole, in pieces and with failures, and what is read.
-use cache_devices::{RunError, Watched, send};
+use cache_run::{RunError, Watched, send};
 use std::alloc::Global;
 use std::io;
 use std::io::{ErrorKind, Write};

@@ -9,8 +9,8 @@ use Rattle.std.proofs.lemmas.List.Elements.{All-append, All-cons, All-nil, All-p
 use Rattle.audit_model.specs.declared.event.Outcome.{Outcome}
 use Rattle.audit_model.specs.declared.input.Conn.{Conn}
 use Rattle.audit_model.specs.declared.input.LoadId.{LoadId}
-use Rattle.cache_driver.specs.Exchanges as did
-use Rattle.cache_driver.specs.Exchanges.{Chain, Doing, Exchange, Hands, IsLastOf, Keeps, Leaves, Outs, asks_of, askings_in, bytes_of, moments_in, pieces_in, replies_in, told_of, untaken_in}
+use Rattle.cache_run.specs.Driver.Exchanges as did
+use Rattle.cache_run.specs.Driver.Exchanges.{Chain, Doing, Exchange, Hands, IsLastOf, Keeps, Leaves, Outs, asks_of, askings_in, bytes_of, moments_in, pieces_in, replies_in, told_of, untaken_in}
 use Rattle.cache_serve.specs.Asked as asked
 use Rattle.cache_serve.specs.Asked.{Asks, IsOfLoad, IsShort, MayBeGivenUp, ServedInput, Settling, clock_reading, inputs_of, piece_bytes, settlings_of}
 use Rattle.cache_serve.specs.Written.{AllAre}

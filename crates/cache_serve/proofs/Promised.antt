@@ -13,23 +13,23 @@ use Rattle.audit_model.specs.declared.input.Conn.{Conn}
 use Rattle.audit_model.specs.declared.input.Input.TheVariants as input
 use Rattle.audit_model.specs.declared.input.LoadId.{LoadId}
 use Rattle.audit_laws.specs.declared.receipts.receipt.Receipt.{Receipt}
-use Rattle.cache_devices.specs.Sources.{Asking, Askings, Readings}
-use Rattle.cache_devices.specs.declared.errors.RunError.{RunError}
-use Rattle.cache_devices.specs.declared.watched.Watched.{Watched}
-use Rattle.cache_devices.proofs.Reading.{askings_more}
-use Rattle.cache_devices.proofs.Sending.{same_appends}
-use Rattle.cache_driver.specs.Drives as driven
-use Rattle.cache_driver.specs.Drives.{IsOfHand, Rest, Talks, asked_of, late_of, lost_of}
-use Rattle.cache_driver.proofs.Settled.{because-map}
-use Rattle.cache_driver.proofs.Whole.{comes-drives}
-use Rattle.cache_driver.specs.Causes.{Because}
-use Rattle.cache_driver.specs.Driven.{ClosesAfter, ComesTo, around}
-use Rattle.cache_driver.specs.Ending.{outcome_by}
-use Rattle.cache_driver.specs.declared.driving.Progress.{Progress}
-use Rattle.cache_driver.specs.declared.driving.Progress.TheVariants.{More, Over}
-use Rattle.cache_driver.specs.declared.session.Session.{Session}
-use Rattle.cache_driver.specs.Exchanges as did
-use Rattle.cache_driver.specs.Exchanges.{Chain, Doing, Exchange, Outs, askings_in, moments_in, pieces_in, replies_in, untaken_in}
+use Rattle.cache_run.specs.Devices.Sources.{Asking, Askings, Readings}
+use Rattle.cache_run.specs.declared.devices.errors.RunError.{RunError}
+use Rattle.cache_run.specs.declared.devices.watched.Watched.{Watched}
+use Rattle.cache_run.proofs.devices.Reading.{askings_more}
+use Rattle.cache_run.proofs.devices.Sending.{same_appends}
+use Rattle.cache_run.specs.Driver.Drives as driven
+use Rattle.cache_run.specs.Driver.Drives.{IsOfHand, Rest, Talks, asked_of, late_of, lost_of}
+use Rattle.cache_run.proofs.driver.Settled.{because-map}
+use Rattle.cache_run.proofs.driver.Whole.{comes-drives}
+use Rattle.cache_run.specs.Driver.Causes.{Because}
+use Rattle.cache_run.specs.Driver.Driven.{ClosesAfter, ComesTo, around}
+use Rattle.cache_run.specs.Driver.Ending.{outcome_by}
+use Rattle.cache_run.specs.declared.driver.driving.Progress.{Progress}
+use Rattle.cache_run.specs.declared.driver.driving.Progress.TheVariants.{More, Over}
+use Rattle.cache_run.specs.declared.driver.session.Session.{Session}
+use Rattle.cache_run.specs.Driver.Exchanges as did
+use Rattle.cache_run.specs.Driver.Exchanges.{Chain, Doing, Exchange, Outs, askings_in, moments_in, pieces_in, replies_in, untaken_in}
 use Rattle.cache_serve.specs.Asked as asked
 use Rattle.cache_serve.specs.Asked.{Asks, AsksOrNot, HasAskedSome, IsOfLoad, IsShort, MayBeGivenUp, Opens, ServedInput, ServesConnection, ServesConnectionOrNot, Settling, clock_reading, closing_inputs, inputs_of, piece_bytes, settling_asking, settling_inputs, settlings_of}
 use Rattle.cache_serve.specs.Out.{HadGoneOut}

@@ -11,12 +11,12 @@ use Rattle.audit_model.specs.declared.input.Input.{Input}
 use Rattle.audit_model.specs.declared.input.Input.TheVariants as input
 use Rattle.audit_model.specs.declared.input.LoadId.{LoadId}
 use Rattle.audit_laws.specs.declared.receipts.output.Output.{Output}
-use Rattle.cache_devices.proofs.Reading.{askings_more}
-use Rattle.cache_devices.specs.Sources.{Asking, Askings}
-use Rattle.cache_driver.specs.Exchanges as did
-use Rattle.cache_driver.specs.Exchanges.{Doing, Outs}
-use Rattle.cache_driver.specs.Hosting.{SettlesBy, Suits, exchange_of}
-use Rattle.cache_driver.specs.declared.host.Given.{Given}
+use Rattle.cache_run.proofs.devices.Reading.{askings_more}
+use Rattle.cache_run.specs.Devices.Sources.{Asking, Askings}
+use Rattle.cache_run.specs.Driver.Exchanges as did
+use Rattle.cache_run.specs.Driver.Exchanges.{Doing, Outs}
+use Rattle.cache_run.specs.Driver.Hosting.{SettlesBy, Suits, exchange_of}
+use Rattle.cache_run.specs.declared.driver.host.Given.{Given}
 use Rattle.cache_serve.specs.Asked as asked
 use Rattle.cache_serve.specs.Asked.{Asks, IsOfLoad, IsShort, MayBeGivenUp, Settling, answer_input, give_up_input, load_number, settling_asking, settling_inputs}
 use Rattle.cache_serve.specs.Out.{HadGoneOut}

@@ -7,8 +7,8 @@ use Rattle.audit_model.specs.declared.input.Conn.{Conn}
 use Rattle.audit_model.specs.declared.input.Input.TheVariants as input
 use Rattle.audit_model.specs.declared.input.LoadId.{LoadId}
 use Rattle.audit_laws.specs.declared.receipts.receipt.Receipt.{Receipt}
-use Rattle.cache_devices.specs.Sources.{Asking}
-use Rattle.cache_driver.specs.Exchanges.{Answered, Doing, Dropped, Exchange, Fed, GivenUp, Looked, Outs}
+use Rattle.cache_run.specs.Devices.Sources.{Asking}
+use Rattle.cache_run.specs.Driver.Exchanges.{Answered, Doing, Dropped, Exchange, Fed, GivenUp, Looked, Outs}
 use Rattle.cache_serve.specs.Asked as asked
 use Rattle.cache_serve.specs.Asked.{Asks, AsksOrNot, IsOfLoad, IsShort, MayBeGivenUp, Opens, ServedInput, Settling, inputs_of, load_number, settling_asking, settling_inputs, settlings_of}
 

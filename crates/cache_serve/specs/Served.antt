@@ -4,9 +4,9 @@ use Rattle.std.specs.declared.alloc.Global.{Global}
 use Rattle.audit_model.specs.declared.event.Outcome.{Outcome}
 use Rattle.audit_model.specs.declared.input.Conn.{Conn}
 use Rattle.audit_laws.specs.declared.receipts.receipt.Receipt.{Receipt}
-use Rattle.cache_devices.specs.Sources.{Asking, Askings}
-use Rattle.cache_devices.specs.Watched.{device}
-use Rattle.cache_devices.specs.declared.watched.Watched.{Watched}
+use Rattle.cache_run.specs.Devices.Sources.{Asking, Askings}
+use Rattle.cache_run.specs.Devices.Watched.{device}
+use Rattle.cache_run.specs.declared.devices.watched.Watched.{Watched}
 use Rattle.cache_serve.specs.Asked.{Grows, Opens, ServesConnection, ServesConnectionOrNot}
 use Rattle.cache_serve.specs.Out.{HadGoneOut}
 use Rattle.cache_serve.specs.Unfit.{IsUnfit}

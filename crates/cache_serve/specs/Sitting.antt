@@ -8,10 +8,10 @@ use Rattle.audit_model.specs.declared.input.Conn.{Conn}
 use Rattle.audit_model.specs.declared.input.Input.{Input}
 use Rattle.audit_model.specs.declared.input.Input.TheVariants as input
 use Rattle.audit_laws.specs.declared.receipts.receipt.Receipt.{Receipt}
-use Rattle.cache_devices.specs.Sources.{Asking, Askings}
-use Rattle.cache_driver.specs.Exchanges.{Exchange, Outs}
-use Rattle.cache_driver.specs.Hosting.{Suits}
-use Rattle.cache_driver.specs.declared.host.Given.{Given}
+use Rattle.cache_run.specs.Devices.Sources.{Asking, Askings}
+use Rattle.cache_run.specs.Driver.Exchanges.{Exchange, Outs}
+use Rattle.cache_run.specs.Driver.Hosting.{Suits}
+use Rattle.cache_run.specs.declared.driver.host.Given.{Given}
 use Rattle.cache_serve.specs.Asked.{Asks, AsksOrNot}
 use Rattle.cache_serve.specs.Out.{AreOut, HadGoneOut}
 use Rattle.cache_serve.specs.Seated.{SeatCloses, SeatComes, SeatDrops, SeatOpens, SeatSettles, Tally}

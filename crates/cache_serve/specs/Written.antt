@@ -2,7 +2,7 @@
 use Rattle.std.specs.Prelude.{◌≡◌, ℕ, ◌+◌, ◌≤◌, List, [], ◌∷◌, length, Option}
 use Rattle.std.specs.List.{concat}
 use Rattle.audit_model.specs.declared.input.Conn.{Conn}
-use Rattle.cache_devices.specs.Sent.{SentBut}
+use Rattle.cache_run.specs.Devices.Sent.{SentBut}
 use Rattle.cache_shared.specs.Untaken.{WereUntaken}
 use Rattle.cache_spaces.specs.Spaces.{Shown}
 

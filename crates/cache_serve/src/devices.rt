@@ -1,6 +1,6 @@
 //! What connections are served with.
 use audit_model::Note;
-use cache_devices::{Clock, Loader};
+use cache_run::{Clock, Loader};
 use std::alloc::Global;
 use std::sync::Wait;
 

@@ -2,7 +2,7 @@
 ghost use Rattle.std.specs.Prelude.{◌≡◌, ◌⊎◌};
 
 use audit_model::ServiceError;
-use cache_devices::RunError;
+use cache_run::RunError;
 
 /// Why a connection stops where an input of its was refused.
 pub fn error_of_refusal(error: ServiceError) -> RunError

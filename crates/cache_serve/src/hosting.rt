@@ -3,7 +3,7 @@
 use crate::devices::{Devices, Teller};
 use crate::serving::serve_and_tell;
 use crate::workers::Workers;
-use cache_devices::{Clock, Loader, Watched};
+use cache_run::{Clock, Loader, Watched};
 use cache_shared::{Seat, Seating, SharedService, Takings};
 use std::alloc::Global;
 use std::net::{TcpListener, TcpStream};

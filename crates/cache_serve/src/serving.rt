@@ -1,8 +1,8 @@
 //! One connection of a shared service, from its opening to its closing.
 ghost use Rattle.std.specs.Prelude.{◌≡◌, ◌≤◌, ◌↔◌, Ok, IsErrOf, IsTrue};
-ghost use Rattle.cache_devices.specs.Failures.{HasFailed};
-ghost use Rattle.cache_devices.specs.Watched.{failures};
-ghost use Rattle.cache_devices.specs.Sources.{HasToldLate};
+ghost use Rattle.cache_run.specs.Devices.Failures.{HasFailed};
+ghost use Rattle.cache_run.specs.Devices.Watched.{failures};
+ghost use Rattle.cache_run.specs.Devices.Sources.{HasToldLate};
 ghost use Rattle.cache_serve.specs.Asked.{HasAskedSome};
 ghost use Rattle.cache_serve.specs.Full.{HasUsedUp};
 ghost use Rattle.cache_serve.specs.Served.{AsksAll, WritesAll};
@@ -10,8 +10,7 @@ ghost use Rattle.cache_serve.specs.Served.{AsksAll, WritesAll};
 use crate::devices::{Teller, Untold};
 use crate::sitting::Sitting;
 use audit_model::Note;
-use cache_devices::{Clock, Loader, RunError, Watched};
-use cache_driver::{Progress, close, converse, open, outcome_of};
+use cache_run::{Clock, Loader, Progress, RunError, Watched, close, converse, open, outcome_of};
 use cache_shared::{Seat, Seating, SharedService, Takings};
 use std::alloc::{AllocError, Global};
 use std::io::{Read, Write};

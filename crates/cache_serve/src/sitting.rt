@@ -2,7 +2,7 @@
 ghost use Rattle.std.specs.Prelude.{◌≡◌, ◌≤◌, ◌^◌, ℕ, false, None, IfOk, IfErr, IfSome, OnOk, OnErr};
 ghost use Rattle.std.specs.Option.{ForSome, option_map};
 ghost use Rattle.audit_model.specs.declared.input.Conn.{Conn};
-ghost use Rattle.cache_driver.specs.Hosting.{Stops};
+ghost use Rattle.cache_run.specs.Driver.Hosting.{Stops};
 ghost use Rattle.cache_serve.specs.Asked.{feed_input, give_up_input};
 ghost use Rattle.cache_serve.specs.Full.{HasUsedUp, used-up-within};
 ghost use Rattle.cache_serve.specs.Out.{AreOut};
@@ -14,8 +14,7 @@ use crate::devices::Teller;
 use crate::errors::error_of_refusal;
 use crate::pausing::pause;
 use audit_model::{Bytes, Conn, Input, Instant, LoadId, Note, Outcome, Seq, ServiceError};
-use cache_devices::{Loader, RunError};
-use cache_driver::{Given, Host};
+use cache_run::{Given, Host, Loader, RunError};
 use cache_shared::{Owed, Replies, Seat, Seating, SharedService, TakenLoads, Takings, Turn};
 use cache_spaces::{Output, Refusal};
 use std::alloc::Global;

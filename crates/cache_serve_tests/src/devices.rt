@@ -2,7 +2,7 @@
 ghost use Rattle.std.specs.Prelude.{◌≡◌, IfSome};
 
 use audit_model::{Config, EvictionPolicy, Instant, Note, Outcome, Weight};
-use cache_devices::{Clock, Loader};
+use cache_run::{Clock, Loader};
 use cache_serve::{Devices, Teller};
 use cache_shared::LiveService;
 use rand_core::SeedableRng;

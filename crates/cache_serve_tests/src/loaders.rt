@@ -1,6 +1,6 @@
 //! Loaders that are held, and writers that fail.
 use audit_model::{Bytes, Conn, Outcome, Seq};
-use cache_devices::Loader;
+use cache_run::Loader;
 use cache_shared::{LiveService, Seating, SharedService};
 use std::alloc::Global;
 use std::io::{ErrorKind, Write};

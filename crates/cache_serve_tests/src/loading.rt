@@ -4,7 +4,7 @@ ghost use Rattle.std.specs.Prelude.{◌≡◌};
 use crate::devices::{StillClock, make_core};
 use crate::loaders::{Held, Hold, News, Page};
 use audit_model::{Closing, Conn};
-use cache_devices::{RunError, Watched};
+use cache_run::{RunError, Watched};
 use cache_serve::serve;
 use cache_shared::{LiveService, Seat, Seating, SharedService};
 use std::alloc::Global;

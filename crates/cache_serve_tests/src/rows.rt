@@ -3,7 +3,7 @@
 use crate::loaders::Hold;
 use crate::loading::{Loaded, load_two};
 use audit_model::Closing;
-use cache_devices::RunError;
+use cache_run::RunError;
 use std::alloc::Global;
 use std::sync::Wait;
 use std::thread::Threads;

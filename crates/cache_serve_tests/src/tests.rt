@@ -3,7 +3,7 @@ use crate::rows::{Row, first_wrong};
 use crate::sockets::{Served, serve_past_failures, serve_two};
 use crate::waiting::await_other;
 use audit_model::Closing;
-use cache_devices::RunError;
+use cache_run::RunError;
 use std::test::*;
 
 /// Whether the replies and the events are those of the two clients below, and the replaced value was told.

@@ -1,6 +1,6 @@
 //! Devices for tests.
 use audit_model::Outcome;
-use cache_devices::{Clock, Loader};
+use cache_run::{Clock, Loader};
 
 /// A clock that stands at 0.
 #[derive(Clone, Copy, Drop)]

@@ -7,7 +7,7 @@ use crate::devices::{NoLoader, StillClock};
 use crate::inputs::make_core;
 use crate::seats::{list_of, two_seats};
 use audit_model::Transcript;
-use cache_devices::Watched;
+use cache_run::Watched;
 use cache_serve::serve;
 use cache_shared::{Seat, Seating, SharedService};
 use cache_spaces::RecordedService;

@@ -1,7 +1,7 @@
 //! A cache that is served by lines.
 #![tactic(auto)]
 
-use cache_devices::Watched;
+use cache_run::Watched;
 use cached_script::without_words;
 use cached_server::cached;
 use std::env::Env;

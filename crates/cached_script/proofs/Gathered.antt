@@ -3,7 +3,7 @@ use Rattle.std.proofs.Common.{◌≡◌, ℕ, List, [], ◌++◌, Option, sym, a
 use Rattle.std.specs.Prelude.{Result, Ok, Err, OnOk}
 use Rattle.std.specs.Io.KnownBytes.{Appends}
 use Rattle.std.proofs.lemmas.List.{append_assoc, append-nil}
-use Rattle.cache_devices.proofs.Sending.{appends_more}
+use Rattle.cache_run.proofs.devices.Sending.{appends_more}
 use Rattle.cached_script.specs.Gathering.{Gathers}
 
 -- one text behind another

@@ -12,7 +12,7 @@ use Rattle.audit_model.specs.Follows.{after_records}
 use Rattle.audit_model.specs.Situation.{Connection, Situation, connection_in, empty_situation}
 use Rattle.audit_model.specs.declared.command.Closing.{Closing}
 use Rattle.audit_model.specs.declared.command.Closing.TheVariants as by
-use Rattle.cache_devices.specs.Sources.{Readings}
+use Rattle.cache_run.specs.Devices.Sources.{Readings}
 use Rattle.cache_run.specs.Carried.{Carried, nothing_left, records_of}
 use Rattle.cache_run.specs.Connected.{IsEnded}
 use Rattle.cache_run.specs.Happened.{Turn, moment_in, turn_notes, piece_in, replies_in}

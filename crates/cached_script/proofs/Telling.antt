@@ -4,7 +4,7 @@ use Rattle.std.specs.Io.KnownBytes.{Appends}
 use Rattle.std.proofs.lemmas.Grind.{flat_map-append}
 use Rattle.std.proofs.lemmas.List.{append_assoc, append-nil}
 use Rattle.audit_model.specs.declared.transcript.Note.{Note}
-use Rattle.cache_devices.proofs.Sending.{same_appends}
+use Rattle.cache_run.proofs.devices.Sending.{same_appends}
 use Rattle.cached_script.specs.Gathering.{Gathers}
 use Rattle.cached_script.specs.Notes.{note_text, notes_text}
 use Rattle.cached_script.proofs.Gathered.{gathers-more}

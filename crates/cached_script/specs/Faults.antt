@@ -1,9 +1,9 @@
 -- The texts of the program's faults.
 use Rattle.std.specs.Prelude.{◌≡◌, ◌≢◌, ℕ, List, [], Option, codes}
-use Rattle.cache_devices.specs.Failures.{HasFailed}
-use Rattle.cache_devices.specs.Sent.{SentBut}
-use Rattle.cache_devices.specs.Watched.{device, failures}
-use Rattle.cache_devices.specs.declared.watched.Watched.{Watched}
+use Rattle.cache_run.specs.Devices.Failures.{HasFailed}
+use Rattle.cache_run.specs.Devices.Sent.{SentBut}
+use Rattle.cache_run.specs.Devices.Watched.{device, failures}
+use Rattle.cache_run.specs.declared.devices.watched.Watched.{Watched}
 use Rattle.cached_script.specs.declared.faults.Fault.{Fault}
 use Rattle.cached_script.specs.declared.faults.Fault.TheVariants as fault
 

@@ -5,9 +5,9 @@ use Rattle.std.specs.Option.{option_map_or}
 use Rattle.audit_model.specs.declared.transcript.Note.{Note}
 use Rattle.audit_model.specs.declared.transcript.RemovalCause.{RemovalCause}
 use Rattle.audit_model.specs.declared.transcript.RemovalCause.TheVariants.{Expired, Explicit, Replaced, Size}
-use Rattle.cache_devices.specs.Failures.{HasFailed}
-use Rattle.cache_devices.specs.declared.errors.RunError.{RunError}
-use Rattle.cache_devices.specs.declared.errors.RunError.TheVariants as error
+use Rattle.cache_run.specs.Devices.Failures.{HasFailed}
+use Rattle.cache_run.specs.declared.devices.errors.RunError.{RunError}
+use Rattle.cache_run.specs.declared.devices.errors.RunError.TheVariants as error
 use Rattle.cache_spaces.specs.Bares.{BareSpace}
 use Rattle.cache_spaces.specs.Spaces.{notices_of}
 

@@ -10,8 +10,8 @@ use Rattle.audit_model.specs.declared.config.Config.{Config}
 use Rattle.audit_model.specs.declared.config.EvictionPolicy.TheVariants.{Lru}
 use Rattle.audit_model.specs.declared.config.Weight.TheVariants.{One}
 use Rattle.audit_model.specs.declared.transcript.Transcript.{Transcript}
-use Rattle.cache_devices.specs.Watched.{device}
-use Rattle.cache_devices.specs.declared.watched.Watched.{Watched}
+use Rattle.cache_run.specs.Devices.Watched.{device}
+use Rattle.cache_run.specs.declared.devices.watched.Watched.{Watched}
 use Rattle.cache_run.specs.Carried.{records_of}
 use Rattle.cache_run.specs.Happened.{Turn, moment_in, turn_notes, piece_in, replies_in}
 use Rattle.cached_script.specs.Notes.{notes_text}

@@ -1,10 +1,10 @@
 //! Why the program ends before its time, and what it then writes.
 ghost use Rattle.std.specs.Prelude.{◌≡◌, ◌≢◌, codes};
-ghost use Rattle.cache_devices.specs.Watched.{device, failures};
+ghost use Rattle.cache_run.specs.Devices.Watched.{device, failures};
 ghost use Rattle.cached_script.specs.Faults.{EndsTelling, Tells, fault_message, usage_text};
 
 use crate::words::WordsError;
-use cache_devices::{RunError, Watched, send};
+use cache_run::{RunError, Watched, send};
 use std::io::{ErrorKind, Write};
 
 /// Why the program ends with status 1.

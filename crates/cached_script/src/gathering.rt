@@ -1,10 +1,10 @@
 //! Text that is gathered, and written at once.
 ghost use Rattle.std.specs.Prelude.{◌≡◌, ◌≤◌, [], IfErr, OnOk};
-ghost use Rattle.cache_devices.specs.Failures.{HasFailed};
-ghost use Rattle.cache_devices.specs.Watched.{device, failures};
+ghost use Rattle.cache_run.specs.Devices.Failures.{HasFailed};
+ghost use Rattle.cache_run.specs.Devices.Watched.{device, failures};
 ghost use Rattle.cached_script.specs.Gathering.{Gathers};
 
-use cache_devices::{RunError, Watched, send};
+use cache_run::{RunError, Watched, send};
 use std::io::Write;
 
 /// Gathers a text behind what was gathered. Where there is no room for it, both are written. Takes no memory.

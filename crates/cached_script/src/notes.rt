@@ -1,14 +1,14 @@
 //! Notes, as lines of text.
 ghost use Rattle.std.specs.Prelude.{◌≡◌, ◌≤◌, ◌<◌, ◌∷◌, [], length, IfErr, IfNone, IfSome, OnOk};
 ghost use Rattle.std.specs.Io.KnownBytes.{Appends};
-ghost use Rattle.cache_devices.specs.Failures.{HasFailed};
-ghost use Rattle.cache_devices.specs.Watched.{device, failures};
+ghost use Rattle.cache_run.specs.Devices.Failures.{HasFailed};
+ghost use Rattle.cache_run.specs.Devices.Watched.{device, failures};
 ghost use Rattle.cached_script.specs.Gathering.{Gathers};
 ghost use Rattle.cached_script.specs.Notes.{StopsTelling, cause_text, note_text, notes_text, notices_at};
 
 use crate::gathering::{put, write_out};
 use audit_model::{Note, RemovalCause};
-use cache_devices::{RunError, Watched};
+use cache_run::{RunError, Watched};
 use cache_spaces::Service;
 use std::io::Write;
 

@@ -1,6 +1,6 @@
 //! A clock that stands still, and a loader without values.
 use audit_model::Outcome;
-use cache_devices::{Clock, Loader};
+use cache_run::{Clock, Loader};
 
 /// A clock that stands at 0.
 #[derive(Clone, Copy, Drop)]

@@ -4,7 +4,7 @@ ghost use Rattle.std.specs.Arc.{arc_value};
 ghost use Rattle.cached_server.specs.Loads.{listed_outcome};
 
 use audit_model::{Outcome, Seq};
-use cache_devices::{Clock, Loader};
+use cache_run::{Clock, Loader};
 use cached_config::Listed;
 use std::alloc::Global;
 use std::sync::Arc;

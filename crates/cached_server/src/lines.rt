@@ -1,14 +1,14 @@
 //! Whole lines on one writer.
 ghost use Rattle.std.specs.Prelude.{◌≡◌, ◌≤◌, ◌++◌, ◌∷◌, [], true, codes, decimal, IsErr, IfErr, IfOk, OnOk, OnErr, false};
 ghost use Rattle.std.specs.Io.KnownBytes.{Appends};
-ghost use Rattle.cache_devices.specs.Failures.{HasFailed};
-ghost use Rattle.cache_devices.specs.Watched.{device, failures};
+ghost use Rattle.cache_run.specs.Devices.Failures.{HasFailed};
+ghost use Rattle.cache_run.specs.Devices.Watched.{device, failures};
 ghost use Rattle.cached_script.specs.Gathering.{Gathers};
 ghost use Rattle.cached_script.specs.Notes.{note_text};
 ghost use Rattle.cached_server.specs.Lines.{listening_line, named_note_line, named_note_lines};
 
 use audit_model::Note;
-use cache_devices::{RunError, Watched};
+use cache_run::{RunError, Watched};
 use cached_script::{put, write_note, write_out};
 use itoa::Buffer;
 use std::alloc::{AllocError, Global};

@@ -1,6 +1,6 @@
 //! What a script writes.
 use crate::streams::make_pieces;
-use cache_devices::Watched;
+use cache_run::Watched;
 use cached_script::run_script;
 use std::alloc::{AllocError, Global};
 use std::io::Read;

@@ -1,6 +1,6 @@
 //! The program over its words.
 use crate::sinks::{make_sink, read_back};
-use cache_devices::Watched;
+use cache_run::Watched;
 use cached_server::cached;
 use std::alloc::{AllocError, Global};
 use std::net::{Net, TcpListener, TcpStream};

@@ -1,11 +1,11 @@
 use Rattle.std.proofs.Common.{◌≡◌, [], true, refl, sym, ◌∙◌, subst, inl, ⊎_elim}
 use Rattle.std.specs.Prelude.{Err, IfErr}
-use Rattle.cache_devices.specs.Sources.{HasToldLate}
-use Rattle.cache_devices.specs.declared.errors.RunError.TheVariants.{Moment, Read, UsedUp, Write}
-use Rattle.cache_driver.specs.Causes.{Because, Fails, RunsOut}
-use Rattle.cache_driver.specs.Driven.{ClosesAfter, around}
-use Rattle.cache_driver.specs.Drives.{Drives}
-use Rattle.cache_driver.proofs.Whole.{converses-drives}
+use Rattle.cache_run.specs.Devices.Sources.{HasToldLate}
+use Rattle.cache_run.specs.declared.devices.errors.RunError.TheVariants.{Moment, Read, UsedUp, Write}
+use Rattle.cache_run.specs.Driver.Causes.{Because, Fails, RunsOut}
+use Rattle.cache_run.specs.Driver.Driven.{ClosesAfter, around}
+use Rattle.cache_run.specs.Driver.Drives.{Drives}
+use Rattle.cache_run.proofs.driver.Whole.{converses-drives}
 use Rattle.cache_run.specs.Accounts.{pending_of}
 use Rattle.cache_run.specs.Lent.{ClosesAt, ComesAt, DropsAt, OpensAt}
 use Rattle.cache_run.proofs.Driving.{lent-none, cause-of, memory-only, runs-partly, runs-whole, stops-for, unasked}

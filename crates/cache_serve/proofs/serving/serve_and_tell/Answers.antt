@@ -1,9 +1,9 @@
 use Rattle.std.proofs.Common.{◌≡◌, ◌≢◌, ◌≤◌, ◌∙◌, true, false, [], Ok, refl, sym, inl, inr, arith}
-use Rattle.cache_devices.proofs.Sending.{failed_after}
-use Rattle.cache_driver.specs.Driven.{around}
-use Rattle.cache_driver.specs.declared.driving.Progress.TheVariants.{More}
-use Rattle.cache_driver.proofs.Whole.{fresh-underway}
-use Rattle.cache_devices.specs.declared.errors.RunError.TheVariants.{Read, Write, UsedUp, Moment}
+use Rattle.cache_run.proofs.devices.Sending.{failed_after}
+use Rattle.cache_run.specs.Driver.Driven.{around}
+use Rattle.cache_run.specs.declared.driver.driving.Progress.TheVariants.{More}
+use Rattle.cache_run.proofs.driver.Whole.{fresh-underway}
+use Rattle.cache_run.specs.declared.devices.errors.RunError.TheVariants.{Read, Write, UsedUp, Moment}
 use Rattle.cache_serve.specs.Full.{used-up-within}
 use Rattle.cache_serve.specs.Sitting.{Closes, Comes, Drops, Opens, tally}
 use Rattle.cache_serve.proofs.Promised.{attended, ended-because, rested, rested-wrote}

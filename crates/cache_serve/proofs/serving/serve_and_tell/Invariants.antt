@@ -1,6 +1,6 @@
 use Rattle.std.proofs.Common.{◌≡◌, ◌≤◌, false}
-use Rattle.cache_devices.specs.Watched.{failures}
-use Rattle.cache_driver.specs.Driven.{Underway, around}
+use Rattle.cache_run.specs.Devices.Watched.{failures}
+use Rattle.cache_run.specs.Driver.Driven.{Underway, around}
 use Rattle.cache_serve.specs.Sitting.{Closes, Comes}
 use Rattle.cache_serve.proofs.serving.serve_and_tell.Given as goal
 

@@ -1,4 +1,4 @@
-use Rattle.cache_devices.specs.Watched.{device}
+use Rattle.cache_run.specs.Devices.Watched.{device}
 use Rattle.cached_script.proofs.Gathered.{gathers-both}
 use Rattle.cached_script.proofs.gathering.put.Goals as goal
 

@@ -1,5 +1,5 @@
 use Rattle.std.proofs.Common.{arith}
-use Rattle.cache_devices.specs.Watched.{device}
+use Rattle.cache_run.specs.Devices.Watched.{device}
 use Rattle.cached_script.specs.Notes.{notices_at}
 use Rattle.cached_script.proofs.Telling.{told-more}
 use Rattle.cached_script.proofs.notes.tell_notes.Goals as goal

@@ -1,5 +1,5 @@
 use Rattle.std.proofs.Common.{◌≤◌, ◌<◌, length}
-use Rattle.cache_devices.specs.Watched.{device, failures}
+use Rattle.cache_run.specs.Devices.Watched.{device, failures}
 use Rattle.cached_script.specs.Notes.{notices_at}
 use Rattle.cached_script.proofs.Telling.{HasTold}
 use Rattle.cached_script.proofs.notes.tell_notes.Given as goal

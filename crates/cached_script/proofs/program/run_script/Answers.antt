@@ -1,6 +1,6 @@
 use Rattle.std.proofs.Common.{sym, subst}
 use Rattle.std.specs.Io.KnownBytes.{Appends}
-use Rattle.cache_devices.specs.Watched.{device}
+use Rattle.cache_run.specs.Devices.Watched.{device}
 use Rattle.cached_script.specs.Notes.{notes_text, notices_at}
 use Rattle.cached_script.proofs.Scripting.{script-served, where-ok}
 use Rattle.cached_script.proofs.program.run_script.Goals as goal

@@ -1,6 +1,6 @@
 use Rattle.std.proofs.Common.{◌≡◌, true, false, arith, sym, subst}
-use Rattle.cache_driver.specs.Exchanges.{Fed}
-use Rattle.cache_driver.specs.Hosting.{exchange_of}
+use Rattle.cache_run.specs.Driver.Exchanges.{Fed}
+use Rattle.cache_run.specs.Driver.Hosting.{exchange_of}
 use Rattle.cache_run.specs.Lent.{ComesAt}
 use Rattle.cache_run.proofs.Keeping.{at-comes}
 use Rattle.cache_run.proofs.lent.LentHost.feed.Goals as goal

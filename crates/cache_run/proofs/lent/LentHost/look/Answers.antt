@@ -1,5 +1,5 @@
 use Rattle.std.proofs.Common.{arith}
-use Rattle.cache_driver.specs.Exchanges.{Looked}
+use Rattle.cache_run.specs.Driver.Exchanges.{Looked}
 use Rattle.cache_run.proofs.Keeping.{at-comes, none-given}
 use Rattle.cache_run.proofs.lent.LentHost.look.Goals as goal
 

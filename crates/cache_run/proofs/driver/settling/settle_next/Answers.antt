@@ -1,0 +1,57 @@
+use Rattle.std.proofs.Common.{◌≡◌, ◌∙◌, true, false, sym, arith}
+use Rattle.std.specs.Prelude.{Err}
+use Rattle.cache_run.proofs.devices.Sending.{failed_after}
+use Rattle.cache_run.specs.Driver.Driven.{IsClosed}
+use Rattle.cache_run.proofs.driver.Conversing.{moves-comes, moves-on}
+use Rattle.cache_run.proofs.driver.Settled.{closed-left, moves-beside, why-map}
+use Rattle.cache_run.proofs.driver.settling.settle_next.Goals as goal
+use Rattle.cache_run.proofs.driver.settling.settle_next.Goals.{else-has_no_load-via-then-has_no_load+else-eq, else-has_no_load-via-else-has_no_load}
+
+pub returns-in-Err : goal.returns-in-Err
+returns-in-Err g c =
+    let settled = c.in-Err.ensures in record {
+      same = settled.same;
+      known = settled.known;
+      goes = λ start a remaining goes. moves-comes _ _ remaining _ _ settled.same.0 goes.talks (λ is. settled.same.1 ∙ goes.whole is) (Err c.in-Err.error) settled.goes;
+      why = settled.why;
+      forward = settled.forward;
+      asked = settled.asked;
+    }
+
+pub returns-then-eq : goal.returns-then-eq
+returns-then-eq g c =
+    let counted = g.H.Host.counted in
+    let settled = c.in-Ok.ensures in
+    let fed = c.feed_piece.ensures in record {
+      same = (fed.same.0 ∙ settled.same.0, fed.same.1 ∙ settled.same.1);
+      known = fed.known;
+      goes = λ start a remaining goes.
+          let on = moves-on _ _ remaining _ _ settled.same.0 goes.talks IsClosed settled.goes in
+          moves-comes _ _ remaining _ _ fed.same.0 on.talks (λ is. fed.same.1 ∙ settled.same.1 ∙ goes.whole is) c.feed_piece.result (moves-beside g.D.Loader.loads c.settle_one.new.loader fed.goes);
+      why = why-map c.feed_piece.result (λ no. no) (failed_after _ _ _ settled.forward.0 fed.forward.0)
+          (g.met.H.Host.exhausts_within (counted c.args.place.now) (counted c.settle_one.new.place) (counted c.feed_piece.new.place) (counted c.feed_piece.new.place) settled.forward.1 (omega arith)) (λ late. late) fed.why;
+      forward = (omega (arith, settled.forward.0, fed.forward.0), omega (arith, settled.forward.1, fed.forward.1));
+      asked = settled.asked;
+    }
+
+pub returns : goal.returns
+returns g c =
+    let settled = c.in-Ok.ensures in record {
+      same = settled.same;
+      known = settled.known;
+      goes = λ start a remaining goes.
+          let on = moves-on _ _ remaining _ _ settled.same.0 goes.talks IsClosed settled.goes in record {
+            talks = on.talks;
+            stands = record {
+              closed = on.stands.closed;
+              done = λ is none all. on.stands.done is none (closed-left c.settle_one.new.session.footing (settled.known.ready is) (λ ready. elim c.else-has_no_load.branch [
+                | else-has_no_load-via-then-has_no_load+else-eq w ↦ let same = rw ready at w.eq.ensures in let no : true ≡ false = sym same ∙ w.if-eq.false in cc
+                | else-has_no_load-via-else-has_no_load w ↦ c.has_no_load.ensures.some w.if-has_no_load.false none
+              ]));
+            };
+            whole = λ is. settled.same.1 ∙ goes.whole is;
+          };
+      why = tt;
+      forward = settled.forward;
+      asked = settled.asked;
+    }

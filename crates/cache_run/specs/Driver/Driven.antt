@@ -1,0 +1,159 @@
+-- How far a driver has come with its connection.
+use Rattle.std.specs.Prelude.{◌≡◌, ◌≢◌, ℕ, ◌≤◌, Bool, true, false, List, [], ◌++◌, Option, None, Some, Result, Ok, Err, MatchResult, ◌⊎◌}
+use Rattle.std.specs.Io.KnownBytes.{IsAtEnd}
+use Rattle.audit_model.specs.declared.event.Outcome.{Outcome}
+use Rattle.audit_model.specs.declared.input.Conn.{Conn}
+use Rattle.cache_run.specs.Devices.Sources.{Asking, Askings}
+use Rattle.cache_run.specs.Devices.Watched.{device}
+use Rattle.cache_run.specs.declared.devices.errors.RunError.{RunError}
+use Rattle.cache_run.specs.declared.devices.errors.RunError.TheVariants.{Moment}
+use Rattle.cache_run.specs.declared.devices.watched.Watched.{Watched}
+use Rattle.cache_run.specs.Driver.Drives.{IsLate, Outside, Rest, Talks, no_rest}
+use Rattle.cache_run.specs.Driver.Exchanges.{AreDone, Exchange, HaveClosed, Outs}
+use Rattle.cache_run.specs.declared.driver.driving.Progress.{Progress}
+use Rattle.cache_run.specs.declared.driver.driving.Progress.TheVariants.{More, Over}
+use Rattle.cache_run.specs.declared.driver.host.Host.{Ghosts as Ways}
+use Rattle.cache_run.specs.declared.driver.session.Footing.{Footing}
+use Rattle.cache_run.specs.declared.driver.session.Footing.TheVariants.{Ready, Waiting, Closed}
+use Rattle.cache_run.specs.declared.driver.session.Session.{Session}
+
+-- where a host is, and a connection's writer, clock and loader
+pub record Spot (H K D : Type 0) : Type 0 where
+  pub place : H
+  pub contents : Option (List ℕ)
+  pub clock : K
+  pub loader : D
+
+abbrev pub spot : {H W K D : Type 0} → (W → Option (List ℕ)) → H → Watched W → K → D → Spot H K D
+spot contents place writer clock loader = record { place = place; contents = contents (device writer); clock = clock; loader = loader }
+
+-- besides what is left to read
+abbrev pub beside : {H K D : Type 0} → Option (List ℕ) → Spot H K D → Outside K D
+beside remaining p = record { remaining = remaining; contents = p.contents; clock = p.clock; loader = p.loader }
+
+-- the connection of a session is known; where the host is lent, no `LOAD` of it waits for others
+pub record Holds {H : Type 0} (lent : Bool) (Knows : Conn → H → Type 0) (session : Session) (h : H) : Type 0 where
+  pub known : Knows session.conn h
+  pub ready : lent ≡ true → session.footing ≢ Waiting
+
+-- A session stands as the last exchange left it. Where the host is lent and none is in hand, no load is left.
+pub record Stands (lent : Bool) (Settled : Footing → Type 0) (session : Session) (exchanges : List Exchange) : Type 0 where
+  pub closed : session.footing ≡ Closed → HaveClosed exchanges
+  pub done : lent ≡ true → session.taken.items ≡ [] → Settled session.footing → AreDone exchanges
+
+-- however it stands, or only where it has closed
+abbrev pub IsSettled : Footing → Type 0
+IsSettled footing = Unit {0}
+
+abbrev pub IsClosed : Footing → Type 0
+IsClosed footing = footing ≡ Closed
+
+-- it goes on, and behind whatever came before, the session stands as the last exchange left it
+abbrev pub EndsOn : {H : Type 0} → Bool → (Footing → Type 0) → Session → H → H → List Exchange → Rest → Type 0
+EndsOn lent Settled t k place exchanges rest = (place ≡ k) × (rest ≡ no_rest) × ((before : List Exchange) → Stands lent Settled t (before ++ exchanges))
+
+-- others had closed the connection, so that a piece was refused
+abbrev pub EndsLeft : {H : Type 0} → Bool → Session → H → List Exchange → Rest → Type 0
+EndsLeft lent t place exchanges rest = (lent ≡ false) × (t.taken.items ≡ []) × (rest.refused ≢ None) × (rest.unsent ≡ []) × (rest.untaken ≡ 0)
+
+-- an error came
+abbrev pub EndsBroke : {H : Type 0} → RunError → H → List Exchange → Rest → Type 0
+EndsBroke e place exchanges rest = (rest.untaken ≤ 1) × (e ≡ Moment → IsLate rest)
+
+-- it goes on, unless others had closed the connection, or an error came
+abbrev pub Ends : {H : Type 0} → Bool → Session → H → Result Progress RunError → H → List Exchange → Rest → Type 0
+Ends lent t k (Ok More) = EndsOn lent IsSettled t k
+Ends lent t k (Ok Over) = EndsLeft lent t
+Ends lent t k (Err e) = EndsBroke e
+
+-- it goes on, settled only where it has closed, unless an error came
+abbrev pub EndsSettled : {H : Type 0} → Bool → Session → H → Result (Unit {0}) RunError → H → List Exchange → Rest → Type 0
+EndsSettled lent t k (Ok done) = EndsOn lent IsClosed t k
+EndsSettled lent t k (Err e) = EndsBroke e
+
+module _ {H K D : Type 0} (Came : Conn → H → Exchange → H → Type 0) (Closes : Conn → H → H → Type 0) (reads : K → ℕ → K → Type 0) (loads : D → List ℕ → Option Outcome → D → Type 0) where
+  -- Exchanges came, and fed what left the inbox; then something may have been refused or left undone: a closing is one behind the last of them.
+  pub record Moves (End : H → List Exchange → Rest → Type 0) (s t : Session) (p q : Spot H K D) : Type 0 where
+    pub place : H
+    pub behind : (r : H) → Closes s.conn q.place r → Closes s.conn place r
+    pub rest : Rest
+    pub talks : Talks (Came s.conn) reads loads p.place place (beside (Some s.inbox) p) (beside (Some t.inbox) q) s.taken.items t.taken.items rest
+    pub ends : End place talks.exchanges rest
+
+  abbrev pub Goes : Bool → Result Progress RunError → Session → Session → Spot H K D → Spot H K D → Type 0
+  Goes lent result s t p q = Moves (Ends lent t q.place result) s t p q
+
+  abbrev pub Settles : Bool → Result (Unit {0}) RunError → Session → Session → Spot H K D → Spot H K D → Type 0
+  Settles lent result s t p q = Moves (EndsSettled lent t q.place result) s t p q
+
+-- no loader is asked
+abbrev pub asks_nobody : Unit {0} → List ℕ → Option Outcome → Unit {0} → Type 0
+asks_nobody d key answer e = ⊥
+
+-- what was read and not fed
+abbrev pub unfed : Session → Rest
+unfed session = record { refused = None; unfed = session.inbox; unsent = []; untaken = 0 }
+
+-- a reader, a writer, a clock and a loader
+abbrev pub around : {R W K D : Type 0} → (R → Option (List ℕ)) → (W → Option (List ℕ)) → Watched R → Watched W → K → D → Outside K D
+around remaining contents reader writer clock loader = record { remaining = remaining (device reader); contents = contents (device writer); clock = clock; loader = loader }
+
+-- since a connection was opened
+module _ {H K D : Type 0} (lent : Bool) (Came : Conn → H → Exchange → H → Type 0) (Closes : Conn → H → H → Type 0) (reads : K → ℕ → K → Type 0) (loads : D → List ℕ → Option Outcome → D → Type 0) (start : H) (a : Outside K D) where
+  -- Exchanges came, and what was read and not fed is in the inbox.
+  pub record Since (Settled : Footing → Type 0) (s : Session) (h : H) (b : Outside K D) : Type 0 where
+    pub talks : Talks (Came s.conn) reads loads start h a b [] s.taken.items (unfed s)
+    pub stands : Stands lent Settled s talks.exchanges
+
+  -- Exchanges came, and what was read and not fed is in the inbox: where the host is lent, nothing.
+  pub record Underway (s : Session) (h : H) (b : Outside K D) : Type 0 where
+    pub talks : Talks (Came s.conn) reads loads start h a b [] s.taken.items (unfed s)
+    pub stands : Stands lent IsSettled s talks.exchanges
+    pub whole : lent ≡ true → s.inbox ≡ []
+
+  -- it is over
+  pub record Finished (s : Session) (h : H) (b : Outside K D) : Type 0 where
+    pub closed : H
+    pub behind : (r : H) → Closes s.conn h r → Closes s.conn closed r
+    pub rest : Rest
+    pub talks : Talks (Came s.conn) reads loads start closed a b [] [] rest
+    pub done : lent ≡ true → AreDone talks.exchanges
+    pub over : IsAtEnd b.remaining ⊎ HaveClosed talks.exchanges ⊎ (rest.refused ≢ None)
+    pub whole : lent ≡ true → rest ≡ no_rest
+    pub sent : (rest.unsent ≡ []) × (rest.untaken ≡ 0)
+
+  -- an error came
+  pub record Stopped (s : Session) (h : H) (b : Outside K D) (e : RunError) : Type 0 where
+    pub stopped : H
+    pub behind : (r : H) → Closes s.conn h r → Closes s.conn stopped r
+    pub rest : Rest
+    pub talks : Talks (Came s.conn) reads loads start stopped a b [] s.taken.items rest
+    pub few : rest.untaken ≤ 1
+    pub late : e ≡ Moment → IsLate rest
+
+  abbrev pub ComesTo : Result Progress RunError → Session → H → Outside K D → Type 0
+  ComesTo (Ok More) s h b = Underway s h b
+  ComesTo (Ok Over) s h b = Finished s h b
+  ComesTo (Err e) s h b = Stopped s h b e
+
+-- a connection that is under way goes on, and nothing more is read
+abbrev pub Turns : {X H K D : Type 0} → Ways X H → (K → ℕ → K → Type 0) → (D → List ℕ → Option Outcome → D → Type 0) → Result Progress RunError → Session → Session → Spot H K D → Spot H K D → Type 0
+Turns {H = H} {K = K} {D = D} ways reads loads result s t p q =
+    (start : H) (a : Outside K D) (remaining : Option (List ℕ)) → Underway ways.LENT ways.came ways.closes reads loads start a s p.place (beside remaining p) → ComesTo ways.LENT ways.came ways.closes reads loads start a result t q.place (beside remaining q)
+
+-- a connection that is under way goes on: turns are used up, it is over, or an error came
+abbrev pub Converses : {X H R W K D : Type 0} → Ways X H → (R → Option (List ℕ)) → (W → Option (List ℕ)) → (K → ℕ → K → Type 0) → (D → List ℕ → Option Outcome → D → Type 0)
+    → Result Progress RunError → Session → Session → H → H → Watched R → Watched R → Watched W → Watched W → K → K → D → D → Type 0
+Converses {H = H} {K = K} {D = D} ways remaining contents reads loads result s t h k reader reader' writer writer' clock clock' loader loader' =
+    (start : H) (a : Outside K D) → Underway ways.LENT ways.came ways.closes reads loads start a s h (around remaining contents reader writer clock loader) → ComesTo ways.LENT ways.came ways.closes reads loads start a result t k (around remaining contents reader' writer' clock' loader')
+
+-- nothing was read, and no load is in hand
+pub record IsFresh (session : Session) : Type 0 where
+  pub taken : session.taken.items ≡ []
+  pub inbox : session.inbox ≡ []
+  pub footing : session.footing ≡ Ready
+
+-- a connection was closed, and after an error the loads were dropped
+abbrev pub ClosesAfter : {H D E : Type 0} → (Conn → H → H → Type 0) → (Conn → Outs → H → List Asking → H → Type 0) → (D → List ℕ → Option Outcome → D → Type 0) → Result (Unit {0}) E → Session → H → H → D → D → Type 0
+ClosesAfter {H} Closes Drops loads outcome s h k loader loader' =
+    MatchResult outcome (λ done. Closes s.conn h k × (loader' ≡ loader)) (λ e. (m : H) × (askings : List Asking) × Closes s.conn h m × Drops s.conn s.taken.items m askings k × Askings loads loader askings loader')

@@ -1,0 +1,124 @@
+-- What the driver of a connection does to its host, what it takes behind that, and the loads that it has in hand meanwhile.
+use Rattle.std.specs.Prelude.{◌≡◌, ◌≢◌, ℕ, Bool, false, List, [], ◌∷◌, ◌++◌, Option, None, Some, count_by, is_none, unwrap_or, MatchOption}
+use Rattle.std.specs.List.{flat_map, last_or}
+use Rattle.audit_model.specs.declared.command.Closing.{Closing}
+use Rattle.audit_model.specs.declared.event.Outcome.{Outcome}
+use Rattle.audit_model.specs.declared.input.LoadId.{LoadId}
+use Rattle.cache_run.specs.Devices.Sources.{Asking}
+
+-- loads that went out, with their keys
+abbrev pub Outs : Type 0
+Outs = List (LoadId × List ℕ)
+
+-- A piece was fed at a moment, and a command of it was held back for want of memory, or none was. The loader was asked for the load of that
+-- number, and at that moment the load was answered with what it said, or given up; or it was found not under way, and what the loader said was
+-- dropped. Or nothing was asked of the host.
+pub data Doing : Type 0 where
+  Fed : (piece : List ℕ) → (moment : ℕ) → (held : Bool) → Doing
+  Answered : (load : ℕ) → (key : List ℕ) → (outcome : Outcome) → (moment : ℕ) → Doing
+  GivenUp : (load : ℕ) → (asking : Asking) → (moment : ℕ) → Doing
+  Dropped : (load : ℕ) → (asking : Asking) → (moment : ℕ) → Doing
+  Looked : Doing
+
+-- What was done, and what was taken behind it: the replies of the connection, unless there was no memory for them; and the loads of its
+-- namespace, where they were wanted. And why the connection had closed, if it had.
+pub record Exchange : Type 0 where
+  pub doing : Doing
+  pub text : Option (List ℕ)
+  pub loads : Option Outs
+  pub closing : Option Closing
+
+-- the bytes that were fed
+abbrev pub bytes_of : Doing → List ℕ
+bytes_of (Fed piece moment held) = piece
+bytes_of (Answered load key outcome moment) = []
+bytes_of (GivenUp load asking moment) = []
+bytes_of (Dropped load asking moment) = []
+bytes_of Looked = []
+
+-- what the clock told
+abbrev pub told_of : Doing → List ℕ
+told_of (Fed piece moment held) = moment ∷ []
+told_of (Answered load key outcome moment) = moment ∷ []
+told_of (GivenUp load asking moment) = moment ∷ []
+told_of (Dropped load asking moment) = moment ∷ []
+told_of Looked = []
+
+-- what the loader was asked, and what it said
+abbrev pub asks_of : Doing → List Asking
+asks_of (Fed piece moment held) = []
+asks_of (Answered load key outcome moment) = record { key = key; answer = Some outcome } ∷ []
+asks_of (GivenUp load asking moment) = asking ∷ []
+asks_of (Dropped load asking moment) = asking ∷ []
+asks_of Looked = []
+
+-- over several
+abbrev pub pieces_in : List Exchange → List ℕ
+pieces_in exchanges = flat_map (λ exchange. bytes_of exchange.doing) exchanges
+
+abbrev pub moments_in : List Exchange → List ℕ
+moments_in exchanges = flat_map (λ exchange. told_of exchange.doing) exchanges
+
+abbrev pub askings_in : List Exchange → List Asking
+askings_in exchanges = flat_map (λ exchange. asks_of exchange.doing) exchanges
+
+abbrev pub replies_in : List Exchange → List ℕ
+replies_in exchanges = flat_map (λ exchange. unwrap_or exchange.text []) exchanges
+
+-- behind how many of them the replies were not taken
+abbrev pub untaken_in : List Exchange → ℕ
+untaken_in exchanges = count_by (λ exchange. is_none exchange.text) exchanges
+
+-- ---- the loads in hand
+
+-- the last in hand is the load of that number, with that key, and the rest are these
+abbrev pub IsLastOf : Outs → ℕ → List ℕ → Outs → Type 0
+IsLastOf hand load key rest = (id : LoadId) × (id.number ≡ load) × (hand ≡ rest ++ (id, key) ∷ [])
+
+-- the load that is settled or dropped is the last in hand, and taken out of it; the loader was asked by its key
+abbrev pub Leaves : Doing → Outs → Outs → Type 0
+Leaves (Fed piece moment held) hand rest = rest ≡ hand
+Leaves (Answered load key outcome moment) hand rest = IsLastOf hand load key rest
+Leaves (GivenUp load asking moment) hand rest = IsLastOf hand load asking.key rest
+Leaves (Dropped load asking moment) hand rest = IsLastOf hand load asking.key rest
+Leaves Looked hand rest = rest ≡ hand
+
+-- loads that are taken come into hand, where none was left there
+abbrev pub Keeps : Option Outs → Outs → Outs → Type 0
+Keeps None rest after = after ≡ rest
+Keeps (Some loads) rest after = (rest ≡ []) × (after ≡ loads)
+
+-- from the one hand to the other
+pub record Hands (exchange : Exchange) (before after : Outs) : Type 0 where
+  pub rest : Outs
+  pub leaves : Leaves exchange.doing before rest
+  pub keeps : Keeps exchange.loads rest after
+
+-- ---- one after another
+
+-- these exchanges came one after another, from that host and hand to this host and hand
+abbrev pub Chain : {H : Type 0} → (H → Exchange → H → Type 0) → H → Outs → List Exchange → H → Outs → Type 0
+Chain Came h hand [] k after = (k ≡ h) × (after ≡ hand)
+Chain {H} Came h hand (exchange ∷ exchanges) k after =
+    (m : H) × (between : Outs) × Came h exchange m × Hands exchange hand between × Chain Came m between exchanges k after
+
+-- ---- where they may end
+
+-- nothing is held back behind it: a piece was fed and none of its commands held back, or the connection had closed
+abbrev pub HoldsNothing : Doing → Option Closing → Type 0
+HoldsNothing doing (Some why) = Unit {0}
+HoldsNothing (Fed piece moment false) None = Unit {0}
+HoldsNothing doing None = ⊥
+
+-- and the loads were taken, and there was none
+pub record LeavesNothing (exchange : Exchange) : Type 0 where
+  pub none : exchange.loads ≡ Some []
+  pub all : HoldsNothing exchange.doing exchange.closing
+
+-- the last of them left nothing to be done, if there was one
+abbrev pub AreDone : List Exchange → Type 0
+AreDone exchanges = MatchOption (last_or None exchanges) (Unit {0}) LeavesNothing
+
+-- the connection had closed behind the last of them
+abbrev pub HaveClosed : List Exchange → Type 0
+HaveClosed exchanges = MatchOption (last_or None exchanges) ⊥ (λ exchange. exchange.closing ≢ None)

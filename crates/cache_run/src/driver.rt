@@ -1,0 +1,12 @@
+//! The driver of a connection, whatever serves it.
+mod driving;
+mod feeding;
+mod handing;
+mod host;
+mod inbox;
+mod session;
+mod settling;
+
+pub use driving::{Progress, close, converse, open, outcome_of};
+pub use host::{Given, Host};
+pub use session::{Footing, Session};

@@ -1,0 +1,146 @@
+//! One connection, from its opening to its closing.
+ghost use Rattle.std.specs.Prelude.{◌≡◌, ◌≤◌, ◌⊎◌, [], true, IfErr, IfOk, OnErr};
+ghost use Rattle.cache_run.specs.Devices.Sources.{HasToldLate};
+ghost use Rattle.cache_run.specs.Devices.Watched.{failures};
+ghost use Rattle.cache_run.specs.Driver.Causes.{Because, Fails, RunsFor, RunsOut};
+ghost use Rattle.cache_run.specs.Driver.Ending.{outcome_by};
+ghost use Rattle.cache_run.specs.Driver.Driven.{ClosesAfter, Converses, Holds, IsFresh};
+
+use crate::driver::feeding::feed_piece;
+use crate::driver::host::Host;
+use crate::driver::inbox::Inbox;
+use crate::driver::session::{Footing, Session};
+use crate::driver::settling::settle_next;
+use crate::devices::{Clock, Loader, RunError, Watched};
+use std::alloc::Global;
+use std::io::{Read, Write};
+
+/// Whether a driver goes on.
+#[derive(Clone, Copy, Debug, PartialEq, Eq, Drop)]
+pub enum Progress {
+    /// It goes on; where `converse` answers so, its turns are used up.
+    More,
+    /// It is over.
+    Over,
+}
+
+/// How a connection ended that is not gone on with: turns that were used up are an error.
+pub fn outcome_of(ended: Result<Progress, RunError>) -> Result<(), RunError>
+    ensures { result ≡ outcome_by ended }
+{
+    match ended {
+        Ok(Progress::Over) => Ok(()),
+        Ok(Progress::More) => Err(RunError::UsedUp),
+        Err(error) => Err(error),
+    }
+}
+
+/// Opens a connection of a namespace.
+pub fn open<H: Host>(
+    host: &mut H,
+    place: &mut H::Place,
+    alloc: Global,
+    namespace: u64,
+) -> Result<Session, RunError>
+    ensures opens { IfOk result (λ session. H.opens namespace session.conn place.old place.new × IsFresh session) }
+    ensures known { IfOk result (λ session. Holds H.LENT H.knows session place.new) }
+    ensures rests { OnErr result ((place.new ≡ place.old) ⊎ H.rests place.old place.new) }
+    ensures why { IfErr result (Because ⊥ ⊥ (H.exhausts (H.counted place.old) (H.counted place.new)) ⊥) }
+    ensures counts { H.counted place.old ≤ H.counted place.new }
+{
+    let inbox = match Inbox::new(alloc) {
+        Ok(inbox) => inbox,
+        Err(_) => return Err(RunError::OutOfMemory),
+    };
+    match host.open(place, namespace) {
+        Ok(conn) => Ok(Session::new(alloc, conn, inbox)),
+        Err(error) => Err(error),
+    }
+}
+
+/// Settles a load that went out, or waits for others'; where there is none, reads if all was fed, and feeds a beginning of what was read. Over
+/// at the end of the input, or where the connection has closed.
+fn take_turn<H: Host, I: Read, O: Write, K: Clock, D: Loader>(
+    host: &mut H,
+    place: &mut H::Place,
+    session: &mut Session,
+    reader: &mut Watched<I>,
+    writer: &mut Watched<O>,
+    clock: &mut K,
+    loader: &mut D,
+) -> Result<Progress, RunError>
+    requires known { Holds H.LENT H.knows session.old place.old }
+    ensures known { Holds H.LENT H.knows session.new place.new × (session.new.conn ≡ session.old.conn) }
+    ensures goes { Converses H.Host I.remaining O.contents K.reads D.loads result session.old session.new place.old place.new reader.old reader.new writer.old writer.new clock.old clock.new loader.old loader.new }
+    ensures why { IfErr result (Because (Fails reader.old reader.new) (Fails writer.old writer.new) (H.exhausts (H.counted place.old) (H.counted place.new)) (HasToldLate K.reads clock.new)) }
+    ensures more { IfOk result (λ progress. progress ≡ Progress.More → H.LENT ≡ true → session.old.inbox ≡ [] → (session.new.inbox ≡ []) × RunsFor 1 I.remaining D.loads reader.old reader.new loader.old loader.new) }
+    ensures forward { (failures reader.old ≤ failures reader.new) × (failures writer.old ≤ failures writer.new) × (H.counted place.old ≤ H.counted place.new) }
+{
+    if !session.has_no_load() || session.footing == Footing::Waiting {
+        return settle_next(host, place, session, writer, clock, loader);
+    }
+    if session.footing == Footing::Closed {
+        return Ok(Progress::Over);
+    }
+    match session.inbox.refill(reader) {
+        Ok(true) => {}
+        Ok(false) => return Ok(Progress::Over),
+        Err(error) => return Err(error),
+    }
+    if session.inbox.is_empty() {
+        return Ok(Progress::More);
+    }
+    let count = host.cut(session.inbox.as_slice());
+    feed_piece(host, place, session, count, writer, clock)
+}
+
+/// Answers what is read, and settles the loads that go out, to the end of the input or until the connection has closed. Where its turns are
+/// used up before, it can be called again.
+pub fn converse<H: Host, I: Read, O: Write, K: Clock, D: Loader>(
+    host: &mut H,
+    place: &mut H::Place,
+    session: &mut Session,
+    reader: &mut Watched<I>,
+    writer: &mut Watched<O>,
+    clock: &mut K,
+    loader: &mut D,
+) -> Result<Progress, RunError>
+    requires known { Holds H.LENT H.knows session.old place.old }
+    ensures known { Holds H.LENT H.knows session.new place.new × (session.new.conn ≡ session.old.conn) }
+    ensures goes { Converses H.Host I.remaining O.contents K.reads D.loads result session.old session.new place.old place.new reader.old reader.new writer.old writer.new clock.old clock.new loader.old loader.new }
+    ensures why { IfErr result (Because (Fails reader.old reader.new) (Fails writer.old writer.new) (H.exhausts (H.counted place.old) (H.counted place.new)) (HasToldLate K.reads clock.new)) }
+    ensures more { IfOk result (λ progress. progress ≡ Progress.More → H.LENT ≡ true → session.old.inbox ≡ [] → RunsOut I.remaining D.loads reader.old reader.new loader.old loader.new) }
+    ensures forward { (failures reader.old ≤ failures reader.new) × (failures writer.old ≤ failures writer.new) × (H.counted place.old ≤ H.counted place.new) }
+{
+    for _turn in 0..u128::MAX {
+        match take_turn(host, place, session, reader, writer, clock, loader) {
+            Ok(Progress::More) => {}
+            Ok(Progress::Over) => return Ok(Progress::Over),
+            Err(error) => return Err(error),
+        }
+    }
+    Ok(Progress::More)
+}
+
+/// Closes a connection, unless it has closed; after an error the loads in hand are dropped then, and those that have gone out.
+pub fn close<H: Host, D: Loader>(
+    host: &mut H,
+    place: &mut H::Place,
+    session: &Session,
+    outcome: Result<(), RunError>,
+    loader: &mut D,
+) -> Result<(), RunError>
+    requires known { Holds H.LENT H.knows session.now place.old }
+    ensures same { result ≡ outcome }
+    ensures closes { ClosesAfter H.closes H.drops D.loads outcome session.now place.old place.new loader.old loader.new }
+    ensures counts { H.counted place.old ≤ H.counted place.new }
+{
+    host.close(place, session.conn);
+    match outcome {
+        Ok(()) => Ok(()),
+        Err(error) => {
+            host.drop_loads(place, session.conn, session.taken.as_slice(), loader);
+            Err(error)
+        }
+    }
+}

@@ -1,0 +1,56 @@
+//! What was read, fed.
+ghost use Rattle.std.specs.Prelude.{◌≡◌, ◌≤◌, [], length, take, drop, IfErr};
+ghost use Rattle.cache_run.specs.Devices.Sources.{HasToldLate};
+ghost use Rattle.cache_run.specs.Devices.Watched.{failures};
+ghost use Rattle.cache_run.specs.Driver.Causes.{Because, Fails};
+ghost use Rattle.cache_run.specs.Driver.Driven.{Goes, Holds, asks_nobody, spot};
+
+use crate::driver::driving::Progress;
+use crate::driver::handing::hand_out;
+use crate::driver::host::Host;
+use crate::driver::session::Session;
+use crate::devices::{Clock, RunError, Watched};
+use std::io::Write;
+
+/// Feeds so many bytes of the inbox with the clock's reading, and hands out what comes of it. Over where others had closed the connection.
+/// Where a command of them is held back for want of memory, that is an error.
+pub fn feed_piece<H: Host, O: Write, K: Clock>(
+    host: &mut H,
+    place: &mut H::Place,
+    session: &mut Session,
+    count: usize,
+    writer: &mut Watched<O>,
+    clock: &mut K,
+) -> Result<Progress, RunError>
+    requires known { Holds H.LENT H.knows session.old place.old × (session.old.taken.items ≡ []) }
+    requires fits { (count ≤ length session.old.inbox) × H.fits (take count session.old.inbox) }
+    ensures same { (session.new.conn ≡ session.old.conn) × (session.new.inbox ≡ drop count session.old.inbox) }
+    ensures known { Holds H.LENT H.knows session.new place.new }
+    ensures goes { Goes H.came H.closes K.reads asks_nobody H.LENT result session.old session.new (spot O.contents place.old writer.old clock.old tt) (spot O.contents place.new writer.new clock.new tt) }
+    ensures why { IfErr result (Because ⊥ (Fails writer.old writer.new) (H.exhausts (H.counted place.old) (H.counted place.new)) (HasToldLate K.reads clock.new)) }
+    ensures forward { (failures writer.old ≤ failures writer.new) × (H.counted place.old ≤ H.counted place.new) }
+{
+    let moment = clock.now();
+    let fed = host.feed(
+        place,
+        session.conn,
+        &session.inbox.as_slice()[..count],
+        moment,
+        true,
+    );
+    session.inbox.skip(count);
+    let given = match fed {
+        Ok(Some(given)) => given,
+        Ok(None) => return Ok(Progress::Over),
+        Err(error) => return Err(error),
+    };
+    let held = given.held;
+    match hand_out(session, given, writer) {
+        Ok(()) => {}
+        Err(error) => return Err(error),
+    }
+    if held {
+        return Err(RunError::OutOfMemory);
+    }
+    Ok(Progress::More)
+}

@@ -1,0 +1,66 @@
+//! What a connection is given, handed out: loads are kept and replies are sent.
+ghost use Rattle.std.specs.Prelude.{◌≡◌, ◌≢◌, ◌≤◌, ℕ, [], List, None, IfErr, OnOk, OnErr};
+ghost use Rattle.std.specs.Option.{option_map};
+ghost use Rattle.cache_run.specs.Devices.Sent.{SentBut};
+ghost use Rattle.cache_run.specs.Devices.Watched.{device, failures};
+ghost use Rattle.cache_run.specs.Driver.Exchanges.{Keeps};
+ghost use Rattle.cache_run.specs.Driver.Causes.{Because, Fails};
+ghost use Rattle.cache_run.specs.Driver.Footings.{footing_by};
+ghost use Rattle.cache_run.specs.Driver.Handed.{HandsOut, text_of};
+
+use crate::driver::host::Given;
+use crate::driver::session::{Session, footing_of};
+use crate::devices::{RunError, Watched, send};
+use std::io::Write;
+
+/// Sends all of a text, and has the writer hand it on.
+fn send_whole<W: Write>(text: &[u8], writer: &mut Watched<W>) -> Result<(), RunError>
+    ensures ok { OnOk result (SentBut [] text.now (W.contents (device writer.old)) (W.contents (device writer.new))) }
+    ensures err { OnErr result ((rest : List ℕ) × SentBut rest text.now (W.contents (device writer.old)) (W.contents (device writer.new))) }
+    ensures why { IfErr result (Because ⊥ (Fails writer.old writer.new) ⊥ ⊥) }
+    ensures count { failures writer.old ≤ failures writer.new }
+{
+    if text.is_empty() {
+        return Ok(());
+    }
+    match send(text, writer) {
+        Ok(()) => {}
+        Err(error) => return Err(error),
+    }
+    match writer.flush() {
+        Ok(()) => Ok(()),
+        Err(_) => Err(RunError::Write),
+    }
+}
+
+/// Keeps the loads, and sends the replies. Where there was no memory for the replies, they stay to be taken.
+pub fn hand_out<W: Write>(
+    session: &mut Session,
+    given: Given,
+    writer: &mut Watched<W>,
+) -> Result<(), RunError>
+    requires empty { given.loads ≢ None → session.old.taken.items ≡ [] }
+    ensures keeps { Keeps (option_map (λ loads. loads.items) given.loads) session.old.taken.items session.new.taken.items }
+    ensures same { (session.new.conn ≡ session.old.conn) × (session.new.inbox ≡ session.old.inbox) }
+    ensures footing { session.new.footing ≡ footing_by given.closing given.waits }
+    ensures sent { HandsOut result (text_of given) (W.contents (device writer.old)) (W.contents (device writer.new)) }
+    ensures why { IfErr result (Because ⊥ (Fails writer.old writer.new) ⊥ ⊥) }
+    ensures count { failures writer.old ≤ failures writer.new }
+{
+    let Given {
+        replies,
+        loads,
+        closing,
+        waits,
+        ..
+    } = given;
+    session.footing = footing_of(closing, waits);
+    match loads {
+        Some(loads) => session.taken = loads,
+        None => {}
+    }
+    match replies {
+        Some(replies) => send_whole(replies.as_slice(), writer),
+        None => Err(RunError::OutOfMemory),
+    }
+}

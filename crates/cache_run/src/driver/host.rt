@@ -1,0 +1,150 @@
+//! What a driver serves its connection by.
+ghost use Rattle.std.specs.Prelude.{◌≡◌, ◌≤◌, ◌<◌, ◌^◌, ℕ, Bool, true, false, [], List, length, take, IfOk, IfErr, IfSome, OnErr, IsNone};
+ghost use Rattle.cache_run.specs.Devices.Sources.{Asking, Askings};
+ghost use Rattle.cache_run.specs.Driver.Exchanges.{Doing, Exchange, Fed, Looked, Outs};
+ghost use Rattle.cache_run.specs.Driver.Hosting.{SettlesBy, Stops, Suits, exchange_of};
+ghost use Rattle.audit_model.specs.declared.input.Conn.{Conn};
+
+use audit_model::{Bytes, Closing, Conn, LoadId, Outcome};
+use crate::devices::{Loader, RunError};
+
+/// What a connection is given behind an exchange.
+#[derive(Drop)]
+pub struct Given {
+    /// Whether a command is held back for want of memory.
+    pub held: bool,
+    /// Its replies that were not taken; none where there was no memory for them.
+    pub replies: Option<Vec<u8>>,
+    /// The loads of its namespace that had gone out and were not taken, where they were wanted.
+    pub loads: Option<Vec<(LoadId, Bytes)>>,
+    /// Why it has closed, if it has.
+    pub closing: Option<Closing>,
+    /// Whether a `LOAD` of it waits for a load that another connection's loader is asked for.
+    pub waits: bool,
+}
+
+/// Serves connections: a service that is lent, or a seat of one that threads share.
+pub trait Host {
+    /// What changes as a connection is served.
+    type Place;
+
+    /// Whether nobody else has the service.
+    ghost LENT: { Bool };
+
+    /// A connection of a namespace was opened.
+    ghost opens: { ℕ → Conn → Self.Place → Self.Place → Type 0 };
+
+    /// It is known.
+    ghost knows: { Conn → Self.Place → Type 0 };
+
+    /// A piece may be fed at once.
+    ghost fits: { List ℕ → Type 0 };
+
+    /// An exchange came.
+    ghost came: { Conn → Self.Place → Exchange → Self.Place → Type 0 };
+
+    /// Nothing came.
+    ghost rests: { Self.Place → Self.Place → Type 0 };
+
+    /// How many inputs were counted.
+    ghost counted: { Self.Place → ℕ };
+
+    /// The inputs that are counted were used up, between one count and another.
+    ghost exhausts: { ℕ → ℕ → Type 0 };
+
+    /// A connection was closed, if it was open.
+    ghost closes: { Conn → Self.Place → Self.Place → Type 0 };
+
+    /// Loads in hand were dropped, and then those that had gone out, for which a loader was asked so.
+    ghost drops: { Conn → Outs → Self.Place → List Asking → Self.Place → Type 0 };
+
+    /// Opens a connection.
+    fn open(&mut self, place: &mut Self::Place, namespace: u64) -> Result<Conn, RunError>
+        ensures opens { IfOk result (λ conn. opens namespace conn place.old place.new × knows conn place.new) }
+        ensures rests { OnErr result (rests place.old place.new) }
+        ensures count { counted place.old ≤ counted place.new }
+        ensures why { IfErr result (Stops (exhausts (counted place.old) (counted place.new)) ⊥) };
+
+    /// How much of what was read is fed at once.
+    fn cut(&mut self, bytes: &[u8]) -> usize
+        ensures within { result ≤ length bytes.now }
+        ensures some { 0 < length bytes.now → 0 < result }
+        ensures whole { LENT ≡ true → result ≡ length bytes.now }
+        ensures fits { fits (take result bytes.now) };
+
+    /// Feeds a piece. None where the connection had closed.
+    fn feed(
+        &mut self,
+        place: &mut Self::Place,
+        conn: Conn,
+        piece: &[u8],
+        moment: u64,
+        wants_loads: bool,
+    ) -> Result<Option<Given>, RunError>
+        requires known { knows conn place.old }
+        requires fits { fits piece.now }
+        ensures came { IfOk result (λ given. IfSome given (λ one. came conn place.old (exchange_of (Fed piece.now moment one.held) one) place.new × Suits LENT wants_loads one)) }
+        ensures closed { IfOk result (λ given. IsNone given → (LENT ≡ false) × rests place.old place.new) }
+        ensures rests { OnErr result (rests place.old place.new) }
+        ensures known { knows conn place.new }
+        ensures count { counted place.old ≤ counted place.new }
+        ensures why { IfErr result (Stops (exhausts (counted place.old) (counted place.new)) (2 ^ 63 ≤ moment)) };
+
+    /// Settles a load by what the loader said: it is answered, or given up where there is no answer or one that is refused for its bytes or its
+    /// time.
+    fn settle(
+        &mut self,
+        place: &mut Self::Place,
+        conn: Conn,
+        load: u64,
+        said: Option<Outcome>,
+        moment: u64,
+        wants_loads: bool,
+    ) -> Result<Given, RunError>
+        requires known { knows conn place.old }
+        ensures came { IfOk result (λ given. (key : List ℕ) → (doing : Doing) × SettlesBy load moment (record { key = key; answer = said }) doing × came conn place.old (exchange_of doing given) place.new) }
+        ensures suits { IfOk result (Suits LENT wants_loads) }
+        ensures rests { OnErr result (rests place.old place.new) }
+        ensures known { knows conn place.new }
+        ensures count { counted place.old ≤ counted place.new }
+        ensures why { IfErr result (Stops (exhausts (counted place.old) (counted place.new)) (2 ^ 63 ≤ moment)) };
+
+    /// What the connection is owed now.
+    fn look(&mut self, place: &mut Self::Place, conn: Conn, wants_loads: bool) -> Given
+        requires known { knows conn place.old }
+        ensures came { came conn place.old (exchange_of Looked result) place.new }
+        ensures suits { Suits LENT wants_loads result }
+        ensures count { counted place.old ≤ counted place.new }
+        ensures known { knows conn place.new };
+
+    /// Waits while a `LOAD` of the connection waits.
+    fn await_ready(&mut self, place: &Self::Place, conn: Conn);
+
+    /// Closes a connection, unless it has closed.
+    fn close(&mut self, place: &mut Self::Place, conn: Conn)
+        requires known { knows conn place.old }
+        ensures closes { closes conn place.old place.new }
+        ensures count { counted place.old ≤ counted place.new }
+        ensures known { knows conn place.new };
+
+    /// Drops the loads in hand of a connection that has closed, and those that have gone out.
+    fn drop_loads<L: Loader>(
+        &mut self,
+        place: &mut Self::Place,
+        conn: Conn,
+        hand: &[(LoadId, Bytes)],
+        loader: &mut L,
+    )
+        requires known { knows conn place.old }
+        ensures dropped { (askings : List Asking) × drops conn hand.now place.old askings place.new × Askings L.loads loader.old askings loader.new }
+        ensures count { counted place.old ≤ counted place.new };
+
+    /// An empty piece fits.
+    ghost fits_none: { fits [] };
+
+    /// Inputs that were used up, seen from further off.
+    ghost exhausts_within: { (i j k l : ℕ) → i ≤ j → k ≤ l → exhausts j k → exhausts i l };
+
+    /// A closing behind what rested.
+    ghost closes_behind: { (conn : Conn) (p q r : Self.Place) → rests p q → closes conn q r → closes conn p r };
+}

@@ -1,0 +1,96 @@
+//! What was read of a connection and not fed.
+ghost use Rattle.std.specs.Prelude.{◌≡◌, ◌==◌, ◌≤◌, [], drop, length, IfOk};
+ghost use Rattle.cache_run.specs.Driver.Reading.{Fills};
+
+use crate::devices::{RunError, Watched};
+use std::alloc::{AllocError, Global};
+use std::io::{ErrorKind, Read};
+use std::marker::Model;
+
+/// The most bytes that are read at once.
+const PIECE_BYTES: usize = 8192;
+
+/// Bytes that were read and not fed.
+#[derive(Drop)]
+pub struct Inbox {
+    buffer: Vec<u8>,
+    from: usize,
+    to: usize,
+}
+
+impl Model for Inbox {
+    ghost use Rattle.std.specs.Prelude.{ℕ, ◌≤◌, ◌<◌, List, drop, length, take};
+
+    ghost Value = { List ℕ };
+
+    ghost view = { λ i. drop i.from (take i.to i.buffer.items) };
+
+    ghost invariant = { λ i. (i.from ≤ i.to) × (i.to ≤ length i.buffer.items) × (0 < length i.buffer.items) };
+}
+
+impl Inbox {
+    /// None.
+    pub fn new(alloc: Global) -> Result<Inbox, AllocError>
+        ensures { IfOk result (λ inbox. inbox ≡ []) }
+    {
+        let buffer = vec![in alloc; 0u8; PIECE_BYTES]?;
+        Ok(Inbox {
+            buffer,
+            from: 0,
+            to: 0,
+        })
+    }
+
+    /// The bytes.
+    pub fn as_slice(&self) -> &[u8]
+        ensures { result.now ≡ self.now }
+    {
+        &self.buffer[self.from..self.to]
+    }
+
+    /// Whether all were fed.
+    pub fn is_empty(&self) -> bool
+        ensures { result ≡ (length self.now == 0) }
+    {
+        self.from == self.to
+    }
+
+    /// So many at the front are fed.
+    pub fn skip(&mut self, count: usize)
+        requires { count ≤ length self.old }
+        ensures { self.new ≡ drop count self.old }
+    {
+        self.from += count;
+    }
+
+    /// Reads a piece, where all were fed. Answers whether there may be more: not at the end of the input. After an interrupted read there is
+    /// none.
+    fn fill<I: Read>(&mut self, reader: &mut Watched<I>) -> Result<bool, RunError>
+        requires { self.old ≡ [] }
+        ensures { Fills I.remaining self.old self.new reader.old reader.new result }
+    {
+        self.from = 0;
+        self.to = 0;
+        let count = match reader.read(&mut self.buffer) {
+            Ok(count) => count,
+            Err(error) => {
+                if error.kind() == ErrorKind::Interrupted {
+                    return Ok(true);
+                }
+                return Err(RunError::Read);
+            }
+        };
+        self.to = count;
+        Ok(count != 0)
+    }
+
+    /// Reads a piece, if all were fed. Answers whether there may be more: not at the end of the input.
+    pub fn refill<I: Read>(&mut self, reader: &mut Watched<I>) -> Result<bool, RunError>
+        ensures { Fills I.remaining self.old self.new reader.old reader.new result }
+    {
+        if self.is_empty() {
+            return self.fill(reader);
+        }
+        Ok(true)
+    }
+}

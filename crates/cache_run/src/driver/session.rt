@@ -1,0 +1,69 @@
+//! A connection, and what its driver has in hand.
+ghost use Rattle.std.specs.Prelude.{◌≡◌, ◌≢◌, [], true, false};
+ghost use Rattle.cache_run.specs.Driver.Footings.{footing_by};
+
+use crate::driver::inbox::Inbox;
+use audit_model::{Bytes, Closing, Conn, LoadId};
+use std::alloc::Global;
+
+/// How a connection stands behind the last exchange.
+#[derive(Clone, Copy, Debug, PartialEq, Eq, Drop)]
+pub enum Footing {
+    /// It takes commands.
+    Ready,
+    /// A `LOAD` of it waits for a load that another connection's loader is asked for.
+    Waiting,
+    /// It has closed.
+    Closed,
+}
+
+/// One connection, and what its driver has in hand between exchanges.
+#[derive(Drop)]
+pub struct Session {
+    /// The connection.
+    pub conn: Conn,
+    /// Loads of its namespace that have gone out, and that its loader is to be asked for.
+    pub taken: Vec<(LoadId, Bytes)>,
+    /// What was read and not fed.
+    pub inbox: Inbox,
+    /// How it stands.
+    pub footing: Footing,
+}
+
+impl Session {
+    /// A connection of which nothing is in hand.
+    pub fn new(alloc: Global, conn: Conn, inbox: Inbox) -> Session
+        ensures conn { result.conn ≡ conn }
+        ensures taken { result.taken.items ≡ [] }
+        ensures inbox { result.inbox ≡ inbox }
+        ensures footing { result.footing ≡ Footing.Ready }
+    {
+        Session {
+            conn,
+            taken: Vec::new(alloc),
+            inbox,
+            footing: Footing::Ready,
+        }
+    }
+
+    /// Whether no load is in hand.
+    pub fn has_no_load(&self) -> bool
+        ensures none { result ≡ true → self.now.taken.items ≡ [] }
+        ensures some { result ≡ false → self.now.taken.items ≢ [] }
+    {
+        self.taken.is_empty()
+    }
+}
+
+/// How a connection stands.
+pub fn footing_of(closing: Option<Closing>, waits: bool) -> Footing
+    ensures { result ≡ footing_by closing waits }
+{
+    if closing.is_some() {
+        return Footing::Closed;
+    }
+    if waits {
+        return Footing::Waiting;
+    }
+    Footing::Ready
+}
