@@ -7,8 +7,14 @@ ghost use Rattle.audit_model.specs.Configs.{DeadlinesAgree};
 pub mod receipts;
 pub mod waiting;
 
-pub use receipts::{Output, Receipt, are_of, copy_input, copy_outcome, output_of, receipts_in_order, receipts_stand, stands};
-pub use waiting::{closed_unwaited, gives_up_unwaited, records_alone, records_apart, records_keep_keys, records_send_later, records_settle, records_tidy, steps_tidy, tidy_at_first, tidy_settled};
+pub use receipts::{
+    Output, Receipt, are_of, copy_input, copy_outcome, output_of, receipts_in_order,
+    receipts_stand, stands,
+};
+pub use waiting::{
+    closed_unwaited, gives_up_unwaited, records_alone, records_apart, records_keep_keys,
+    records_send_later, records_settle, records_tidy, steps_tidy, tidy_at_first, tidy_settled,
+};
 
 /// A front of an obeying transcript obeys: its first records, however many.
 pub fn fronts_obey()

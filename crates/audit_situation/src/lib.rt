@@ -21,5 +21,8 @@ pub use links::Links;
 pub use loads::LoadTable;
 pub use notes::{Covering, Deed, PARTS, do_deed, is_live, is_over, limit_of, live, part_count};
 pub use pending::Pending;
-pub use state::{Moved, State, begin, close, feed, find_link, find_load, find_pending, is_holding, may_run, open, pass, settle, waited};
+pub use state::{
+    Moved, State, begin, close, feed, find_link, find_load, find_pending, is_holding, may_run,
+    open, pass, settle, waited,
+};
 pub use waiters::Waiters;

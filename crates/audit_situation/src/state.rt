@@ -9,11 +9,11 @@ ghost use Rattle.audit_model.specs.Situation.{Ready, empty_situation, connection
 ghost use Rattle.audit_situation.specs.States.{shown_situation, have_numbers_apart, fed_to, moved_by};
 ghost use Rattle.audit_situation.specs.Standings.{moved_as};
 
+use crate::held::Holding;
 use crate::link::{Link, Moving, first_line};
 use crate::links::Links;
 use crate::loads::LoadTable;
 use crate::pending::Pending;
-use crate::held::Holding;
 use std::alloc::{AllocError, Global};
 
 /// What later steps depend on: the latest moment in nanoseconds, how many connections were opened and loads sent, the open connections, the

@@ -11,12 +11,12 @@ ghost use Rattle.cache_lines.specs.Waiting.{under_way};
 ghost use Rattle.cache_commands.specs.Loads.Pending.{SameTaken, load_numbered, loads_pending};
 ghost use Rattle.cache_store.specs.Values.{IsMoment};
 
+use crate::connections::Connections;
 use crate::recording::begin_kept;
 use crate::reserving::reserve_all;
 use crate::settling::{resume_all, tell_all};
 use audit_model::{Accepted, Note, Outcome};
 use cache_commands::Keyed;
-use crate::connections::Connections;
 use cache_lines::{Base, Tape, drain, most_notes};
 use cache_store::Store;
 use std::alloc::{AllocError, Global};

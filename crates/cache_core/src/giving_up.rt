@@ -9,9 +9,9 @@ ghost use Rattle.cache_lines.specs.Waiting.{under_way};
 ghost use Rattle.cache_commands.specs.Loads.Pending.{SameTaken, load_numbered, loads_pending};
 ghost use Rattle.cache_lines.specs.Tape.Taped.{IsAtRest, started};
 
+use crate::connections::Connections;
 use crate::recording::begin_kept;
 use crate::settling::give_up_all;
-use crate::connections::Connections;
 use cache_lines::{Base, Tape};
 use cache_store::Store;
 use std::alloc::AllocError;

@@ -12,14 +12,14 @@ ghost use Rattle.cache_store.specs.Values.{GivesNote};
 ghost use Rattle.cache_lines.specs.Tape.Taped.{IsAtRest};
 
 use crate::answering::{Stored, begin_answer, hand_out};
+use crate::connection::new_connection;
+use crate::connections::Connections;
 use crate::giving_up::{begin_give_up, settle_give_up};
 use crate::places::{close_at, find_open, find_opened, leave_closed, take_at, waits_at_place};
 use crate::recording::{begin_kept, feed_at};
 use crate::refusing::{refuse_answer, refuse_load};
 use audit_model::{Bytes, Closing, Event, Instant, LoadId, Note, Outcome, Seq, ServiceError};
 use cache_commands::{Keyed, Loads};
-use crate::connection::new_connection;
-use crate::connections::Connections;
 use cache_lines::{Base, Tape};
 use cache_store::Store;
 use std::alloc::{AllocError, Global};

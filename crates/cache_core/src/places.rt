@@ -7,11 +7,11 @@ ghost use Rattle.cache_lines.specs.Outputs.{IsRoomy};
 ghost use Rattle.cache_lines.specs.Waiting.{under_way, when_left};
 ghost use Rattle.cache_commands.specs.Loads.Pending.{SameTaken};
 
-use audit_model::{Closing, ServiceError};
 use crate::connection::Connection;
 use crate::connections::Connections;
-use cache_lines::Output;
+use audit_model::{Closing, ServiceError};
 use cache_commands::{Loads, Standing, is_waiting};
+use cache_lines::Output;
 use std::alloc::Global;
 use std::mem;
 

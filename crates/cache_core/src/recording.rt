@@ -10,10 +10,10 @@ ghost use Rattle.cache_commands.specs.Loads.Pending.{SameTaken};
 ghost use Rattle.cache_commands.specs.Loads.Standings.{holds_line};
 ghost use Rattle.cache_lines.specs.Tape.Taped.{IsAtRest, started};
 
-use crate::places::number_at;
-use audit_model::{Bytes, Event, Instant, Seq, ServiceError};
 use crate::connection::{Connection, feed_connection};
 use crate::connections::Connections;
+use crate::places::number_at;
+use audit_model::{Bytes, Event, Instant, Seq, ServiceError};
 use cache_lines::{Base, Tape};
 use cache_store::Store;
 use std::alloc::{AllocError, Global};

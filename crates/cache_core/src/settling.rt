@@ -11,12 +11,12 @@ ghost use Rattle.cache_lines.specs.Bases.{CanRun};
 ghost use Rattle.cache_lines.specs.Ended.{spare_of};
 ghost use Rattle.cache_commands.specs.Loads.Pending.{SameTaken};
 
-use crate::places::{leave_closed, number_at};
-use audit_model::Outcome;
 use crate::connection::{Connection, deliver, feed_ready, run_again};
 use crate::connections::Connections;
-use cache_lines::{Base, Tape};
+use crate::places::{leave_closed, number_at};
+use audit_model::Outcome;
 use cache_commands::Standing;
+use cache_lines::{Base, Tape};
 use cache_store::Store;
 
 /// Whether the connection is open and runs lines.

@@ -9,8 +9,8 @@ use audit_model::{
 };
 use cache_core::Namespace;
 use cache_front::{FrontStore, KeyedHasher};
-use cache_store::Store;
 use cache_lines::{Bare, Kept, Tape};
+use cache_store::Store;
 use rand_core::SeedableRng;
 use rand_xoshiro::SplitMix64;
 use std::alloc::{AllocError, Global};

@@ -4,8 +4,8 @@ mod draining;
 mod listing;
 mod making;
 
-use audit_model::{Key, Weight};
 use crate::entries::StoredValue;
+use audit_model::{Key, Weight};
 pub use calling::{clear, cover, insert, invalidate, prepare};
 pub use draining::{drain, note_of};
 use front_reference::Shared;

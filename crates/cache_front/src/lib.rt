@@ -9,6 +9,9 @@ pub mod entries;
 pub mod laws;
 pub mod store;
 
-pub use data::{Front, LentState, Notice, Notices, bits_of, clear, cover, drain, insert, invalidate, note_of, prepare, settings_of, write_keys};
+pub use data::{
+    Front, LentState, Notice, Notices, bits_of, clear, cover, drain, insert, invalidate, note_of,
+    prepare, settings_of, write_keys,
+};
 pub use entries::{KeyedHasher, StoredValue, WordBuilder, WordHasher};
 pub use store::FrontStore;

@@ -1,8 +1,8 @@
 //! What a connection's lines run over.
 
+use crate::tape::Tape;
 use cache_commands::{Keyed, Loads};
 use cache_store::Store;
-use crate::tape::Tape;
 
 /// What a connection's lines run over: the store, the loads under way, and the tape of the record under way.
 #[derive(Drop)]

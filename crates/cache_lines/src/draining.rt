@@ -5,10 +5,10 @@ ghost use Rattle.cache_commands.specs.Right.{step_saying};
 ghost use Rattle.cache_store.specs.Values.{GivesNote};
 ghost use Rattle.cache_lines.specs.Tape.Taped.{IsDrafted, ends, text_left};
 
+use crate::tape::Tape;
 use audit_model::{Accepted, Note};
 use cache_commands::Keyed;
 use cache_store::Store;
-use crate::tape::Tape;
 
 /// How many notes a line or an answer tells at most.
 pub fn most_notes<S: Store>(store: &Keyed<S>) -> usize

@@ -9,10 +9,10 @@ ghost use Rattle.cache_lines.specs.Waiting.{under_way};
 use crate::joining::join_load;
 use crate::looping::Stop;
 use crate::output::Output;
+use crate::tape::Tape;
 use audit_lines::trim;
 use audit_model::Config;
 use cache_commands::Loads;
-use crate::tape::Tape;
 
 /// How a connection's lines end.
 #[derive(Clone, Copy, PartialEq, Eq, Drop)]

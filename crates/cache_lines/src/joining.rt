@@ -12,10 +12,10 @@ ghost use Rattle.cache_lines.specs.Waiting.{is_load, load_sent_for, under_way, w
 ghost use Rattle.cache_lines.specs.Whole.{has_room};
 
 use crate::output::Output;
+use crate::tape::Tape;
 use audit_lines::{Request, read_line};
 use audit_model::Config;
 use cache_commands::Loads;
-use crate::tape::Tape;
 use std::alloc::AllocError;
 
 /// How many bytes `ERR abandoned` and a line feed are.

@@ -17,7 +17,10 @@ pub use base::Base;
 pub use draining::{drain, most_notes};
 pub use ending::{End, end_lines};
 pub use joining::join_load;
-pub use leads::{answer_settles, delivered_leads, give_up_settles, lines_lead, records_wait_for_loads, run_again_leads, steps_lead_on, told_waits};
+pub use leads::{
+    answer_settles, delivered_leads, give_up_settles, lines_lead, records_wait_for_loads,
+    run_again_leads, steps_lead_on, told_waits,
+};
 pub use looping::{Stop, Stopped, run_lines};
 pub use output::Output;
 pub use readying::{Ended, run_ready, take_piece};

@@ -5,10 +5,10 @@ ghost use Rattle.cache_lines.specs.Gathered.{IsFresh, gathered, spare_in, stage}
 ghost use Rattle.cache_lines.specs.Stops.{RunsFirst, RunsLines, has_run};
 
 use crate::running::{Done, run_line};
+use crate::tape::Tape;
 use audit_lines::{Next, next_in, trim};
 use cache_commands::Keyed;
 use cache_store::Store;
-use crate::tape::Tape;
 
 /// Why no further line runs now.
 #[derive(Clone, Copy, PartialEq, Eq, Drop)]

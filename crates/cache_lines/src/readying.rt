@@ -11,9 +11,9 @@ use crate::base::Base;
 use crate::ending::{End, end_lines};
 use crate::looping::{Stopped, behind, run_lines};
 use crate::output::Output;
+use crate::tape::Tape;
 use audit_lines::Buffer;
 use cache_store::Store;
-use crate::tape::Tape;
 
 /// How a connection's lines ended, and how many bytes those had that ran, a `QUIT` aside.
 #[derive(Clone, Copy, PartialEq, Eq, Drop)]

@@ -12,9 +12,9 @@ use crate::joining::join_load;
 use crate::output::Output;
 use crate::readying::take_piece;
 use crate::running::{Done, run_line};
+use crate::tape::Tape;
 use audit_lines::{Buffer, Next};
 use cache_store::Store;
-use crate::tape::Tape;
 use std::alloc::AllocError;
 
 /// How the lines of a connection ended.

@@ -7,10 +7,10 @@ ghost use Rattle.cache_lines.specs.Lines.{says_quit};
 ghost use Rattle.cache_lines.specs.Ran.{RunsAs, misses};
 
 use crate::draining::{end_step, most_notes};
+use crate::tape::Tape;
 use audit_lines::{Request, read_line};
 use cache_commands::{Keyed, Ran};
 use cache_store::Store;
-use crate::tape::Tape;
 use std::alloc::AllocError;
 
 /// What a line did.

@@ -4,4 +4,3 @@
 pub mod laws;
 pub mod parts_kept;
 pub mod parts_laws;
-

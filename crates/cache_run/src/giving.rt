@@ -8,9 +8,9 @@ ghost use Rattle.cache_spaces.specs.Spaces.{closing_of};
 ghost use Rattle.cache_run.specs.Lent.{Does, Gives, IsThere, MayGiveLoads};
 ghost use Rattle.cache_run.specs.Loading.{GivesLoads};
 
-use audit_model::{Bytes, Closing, Conn, Instant, LoadId, ServiceError};
 use crate::devices::RunError;
 use crate::driver::Given;
+use audit_model::{Bytes, Closing, Conn, Instant, LoadId, ServiceError};
 use cache_spaces::{Fed, Service};
 
 /// Feeds a piece. Answers whether a command is held back for want of memory.

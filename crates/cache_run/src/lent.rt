@@ -3,12 +3,12 @@ ghost use Rattle.std.specs.Prelude.{◌≡◌, true};
 ghost use Rattle.std.proofs.Common.{subst};
 ghost use Rattle.cache_run.specs.Lent.{ClosesAt, ComesAt, DropsAt, IsThere, OpensAt};
 
+use crate::devices::{Loader, RunError};
+use crate::driver::{Given, Host};
 use crate::drops::{close_if_open, drop_loads};
 use crate::giving::{feed_piece, give};
 use crate::loads::settle;
 use audit_model::{Bytes, Conn, LoadId, Outcome};
-use crate::devices::{Loader, RunError};
-use crate::driver::{Given, Host};
 use cache_spaces::Service;
 
 /// Nobody else has the service.

@@ -4,8 +4,8 @@ ghost use Rattle.cache_run.specs.Driver.Hosting.{Stops};
 ghost use Rattle.cache_spaces.specs.Calls.{At};
 ghost use Rattle.cache_run.specs.Lent.{AnswersOr, GivesUpOr, IsThere, RefusesOutcome, SettlesAt};
 
-use audit_model::{Conn, Instant, LoadId, Outcome, ServiceError};
 use crate::devices::RunError;
+use audit_model::{Conn, Instant, LoadId, Outcome, ServiceError};
 use cache_spaces::Service;
 
 /// Gives a load up. One that is not under way stays settled.

@@ -6,9 +6,9 @@ ghost use Rattle.cache_spaces.specs.Calls.{At};
 ghost use Rattle.cache_run.specs.Accounts.{pending_of};
 ghost use Rattle.cache_run.specs.Runs.{RunsPartly, RunsWhole};
 
-use crate::lent::Lent;
 use crate::devices::{Clock, Loader, RunError, Watched};
 use crate::driver::{close, converse, open, outcome_of};
+use crate::lent::Lent;
 use cache_spaces::Service;
 use std::alloc::Global;
 use std::io::{Read, Write};

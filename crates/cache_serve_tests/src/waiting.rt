@@ -3,8 +3,8 @@ ghost use Rattle.std.specs.Prelude.{◌≡◌};
 
 use crate::devices::make_core;
 use crate::loaders::value_of;
-use audit_model::{Conn, Input, Instant, LoadId, Seq};
 use audit_laws::Output;
+use audit_model::{Conn, Input, Instant, LoadId, Seq};
 use cache_shared::{LiveService, Seat, Seating, SharedService};
 use std::alloc::Global;
 use std::marker::Brand;

@@ -7,8 +7,8 @@
 pub mod model;
 
 pub use cache_run::{Clock, Loader, RunError, Watched, run};
-pub use cache_spaces::{AnswerError, Core, Fed, Output, RecordedService, Refusal, Service, play};
 pub use cache_serve::{Devices, Hosted, Teller, Untold, host, serve, serve_and_tell};
 pub use cache_shared::{
     Finished, LiveService, Replies, Seat, Seating, SharedService, Stepping, Takings,
 };
+pub use cache_spaces::{AnswerError, Core, Fed, Output, RecordedService, Refusal, Service, play};

@@ -4,8 +4,8 @@ ghost use Rattle.cache_shared.specs.Marks.{AllMarked, marks};
 ghost use Rattle.cache_shared.specs.Seats.{Agree, EachOnce, ArePartsOf, holders, numbered, receipts_at};
 
 use crate::seat::{Seat, Seating};
-use audit_model::Transcript;
 use audit_laws::{Receipt, are_of, receipts_stand};
+use audit_model::Transcript;
 use std::alloc::Global;
 
 /// Whether the receipts of these seats stand in a namespace's journal, each of whose records has one. Without memory `false`.

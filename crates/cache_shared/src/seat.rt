@@ -3,8 +3,8 @@ ghost use Rattle.std.specs.Prelude.{◌≡◌, ℕ, ◌+◌, ◌<◌, ◌≤◌,
 ghost use Rattle.cache_shared.specs.Seats.{SameReceipts, receipts_at};
 ghost use Rattle.cache_spaces.specs.Inputs.{namespace_of};
 
-use audit_model::Input;
 use audit_laws::Receipt;
+use audit_model::Input;
 use std::alloc::{AllocError, Global};
 use std::marker::Brand;
 use std::sync::ledger::{Ledger, Share};

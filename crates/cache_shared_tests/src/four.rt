@@ -5,8 +5,8 @@ ghost use Rattle.cache_shared.specs.Recordings.{journals_in};
 
 use crate::inputs::{conn, make_core};
 use crate::seats::{feed_once, open, two_seats};
-use audit_model::{Conn, Input};
 use audit_laws::Receipt;
+use audit_model::{Conn, Input};
 use cache_shared::{Finished, Seat, Seating, SharedService};
 use cache_spaces::RecordedService;
 use std::alloc::Global;

@@ -5,8 +5,8 @@ ghost use Rattle.cache_shared.specs.Recordings.{journals_in};
 
 use crate::inputs::{conn, feed, make_core};
 use crate::seats::{feed_once, list_of, open, two_seats};
-use audit_model::{Input, ServiceError, Transcript};
 use audit_laws::{Receipt, receipts_stand};
+use audit_model::{Input, ServiceError, Transcript};
 use cache_shared::{Finished, Seat, Seating, SharedService};
 use cache_spaces::{RecordedService, Refusal};
 use std::alloc::Global;

@@ -4,8 +4,8 @@ ghost use Rattle.cache_shared.specs.Events.{record_count};
 ghost use Rattle.cache_shared.specs.Recordings.{journals_in};
 
 use crate::inputs::{feed, make_core};
-use audit_model::{Conn, Input};
 use audit_laws::Output;
+use audit_model::{Conn, Input};
 use cache_shared::{Seat, Seating, SharedService};
 use cache_spaces::{RecordedService, Refusal};
 use std::alloc::{AllocError, Global};

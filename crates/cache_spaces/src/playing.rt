@@ -5,10 +5,10 @@ ghost use Rattle.cache_spaces.specs.Inputs.{Performs, namespace_of};
 ghost use Rattle.cache_spaces.specs.Journals.{kept_by};
 ghost use Rattle.cache_spaces.specs.Played.{ArePlayed};
 ghost use Rattle.cache_spaces.specs.Services.{are_taken};
-use audit_model::{Config, Input, Instant, ServiceError, Transcript};
-use audit_laws::copy_input;
-use audit_laws::Output;
+
 use crate::journals::RecordedService;
+use audit_laws::{Output, copy_input};
+use audit_model::{Config, Input, Instant, ServiceError, Transcript};
 use rand_xoshiro::Xoshiro256PlusPlus;
 use std::alloc::Global;
 

@@ -5,8 +5,8 @@ ghost use Rattle.cache_spaces.specs.Calls.{At, Refuses};
 ghost use Rattle.cache_spaces.specs.Inputs.{Performs, RefusedInput, namespace_of};
 
 use crate::service::{AnswerError, Core, Fed};
-use audit_model::{Bytes, Conn, Input, Instant, LoadId, Outcome, ServiceError};
 use audit_laws::Output;
+use audit_model::{Bytes, Conn, Input, Instant, LoadId, Outcome, ServiceError};
 use cache_lines::Tape;
 use thiserror::Error;
 

@@ -7,8 +7,8 @@ ghost use Rattle.engine_cells.specs.Looking.{is_expired, is_settled_as, HasFirst
 ghost use Rattle.engine_cells.specs.declared.cell.Cell.{Cell};
 
 use crate::cell::Cell;
-use engine_reference::Record;
 use engine_pending::Expirations;
+use engine_reference::Record;
 use policy_base::{Instant, KeyHashDate, MAX_NANOS};
 use policy_queue::Deque;
 use slab::Slab;

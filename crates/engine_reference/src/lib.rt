@@ -11,4 +11,7 @@ pub mod run_laws;
 pub use data::{Entry, Notice, Read, Record, Registered, Settings, Unsent, Upsert, Write};
 pub use housekeeper::{Housekeeper, InnerSync};
 pub use identifiers::{draw, is_registered};
-pub use rules::{Bundle, EvictionPolicy, Expiration, ExpirationPolicy, Expiry, Names, NoExpiry, NoPredicate, Policy, Predicate, PredicateError, Refusal, RemovalCause, Rules, WeighOne, Weigher};
+pub use rules::{
+    Bundle, EvictionPolicy, Expiration, ExpirationPolicy, Expiry, Names, NoExpiry, NoPredicate,
+    Policy, Predicate, PredicateError, Refusal, RemovalCause, Rules, WeighOne, Weigher,
+};

@@ -7,11 +7,11 @@ ghost use Rattle.engine_reference.specs.Runs.{RunsToEnd};
 ghost use Rattle.engine_reference.specs.Soundness.{IsSound};
 ghost use Rattle.engine_reference.specs.State.{Answers};
 
-use crate::covered::end_predicates;
-use crate::table::grow;
 use crate::applying::{apply_reads, apply_writes};
-use engine_reference::Rules;
+use crate::covered::end_predicates;
 use crate::sweeping::settle;
+use crate::table::grow;
+use engine_reference::Rules;
 use engine_tables::Tables;
 use std::alloc::AllocError;
 use std::hash::{BuildHasher, Hash};

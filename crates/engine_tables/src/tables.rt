@@ -21,9 +21,14 @@ ghost use Rattle.engine_cells.specs.Writing.{put_for, with_put_for, IsNewcomer};
 ghost use Rattle.engine_tables.specs.Changing.{ChangesAt, GoesToBack, IsWrittenOver, IsMarkedRemoved, CountsAt, IsForgotten, LeavesAt, taken_down};
 ghost use Rattle.engine_cells.specs.Kept.{numbered_at, kept_at, StandsFirst, is_admitted_as, is_removed_as};
 
-use engine_cells::{Cell, Keys, NodeName, Noted, PlacedWrite, QueueNodes, Tally, find_held, first_expired, first_settled, grow, set_changed, take_if, time_all};
+use engine_cells::{
+    Cell, Keys, NodeName, Noted, PlacedWrite, QueueNodes, Tally, find_held, first_expired,
+    first_settled, grow, set_changed, take_if, time_all,
+};
 use engine_pending::{Backlog, Expirations};
-use engine_reference::{Entry, Names, Notice, Record, Refusal, Registered, RemovalCause, Rules, Settings, Upsert, Write};
+use engine_reference::{
+    Entry, Names, Notice, Record, Refusal, Registered, RemovalCause, Rules, Settings, Upsert, Write,
+};
 use policy_base::{CacheRegion, FrequencySketch, KeyHashDate, NodeId};
 use policy_queue::{Deque, names_stand};
 use slab::Slab;

@@ -1,7 +1,7 @@
 //! Rows on newcomers: under TinyLFU a newcomer comes in where it was asked for more often than those that would go for it.
 use crate::playing::none_wrong;
-use engine_reference::{EvictionPolicy, RemovalCause, Settings};
 use crate::rows::{CASE, Case, ITSELF, Look, Row, SECOND, SETTINGS};
+use engine_reference::{EvictionPolicy, RemovalCause, Settings};
 
 const TINY_LFU: Settings = Settings {
     policy: EvictionPolicy::TinyLfu,

@@ -1,7 +1,7 @@
 //! The hash of a key, by the hasher that a cache was made with.
-use moka_engine::BaseCache;
 use crate::rows::{Folding, SETTINGS};
 use engine_reference::{Bundle, NoExpiry, NoPredicate, WeighOne};
+use moka_engine::BaseCache;
 use policy_base::HousekeeperConfig;
 use std::alloc::{AllocError, Global};
 use std::hash::{BuildHasher, Hash, Hasher};

@@ -24,4 +24,7 @@ pub mod running;
 #[cfg(test)]
 mod writes;
 
-pub use rows::{Brittle, CASE, Case, Engine, Fast, Folding, ITSELF, Lives, Look, NOT_CLONED, ONE, Repeating, Row, RowRules, SECOND, SETTINGS, ValueIs, Weighs, first_wrong};
+pub use rows::{
+    Brittle, CASE, Case, Engine, Fast, Folding, ITSELF, Lives, Look, NOT_CLONED, ONE, Repeating,
+    Row, RowRules, SECOND, SETTINGS, ValueIs, Weighs, first_wrong,
+};

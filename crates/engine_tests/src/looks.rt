@@ -1,8 +1,8 @@
 //! Rows on look-ups.
 
 use crate::playing::none_wrong;
-use engine_reference::Settings;
 use crate::rows::{CASE, Case, Look, Row, SECOND, SETTINGS};
+use engine_reference::Settings;
 
 const CASES: &[Case<'static>] = &[
     // An empty cache shows nothing.

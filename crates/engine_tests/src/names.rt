@@ -2,8 +2,8 @@
 ghost use Rattle.std.specs.Prelude.{◌≡◌};
 
 use crate::hashes::{Cache, cache_of};
-use moka_engine::Refusal;
 use engine_reference::Names;
+use moka_engine::Refusal;
 use policy_base::Instant;
 use std::alloc::{AllocError, Global};
 

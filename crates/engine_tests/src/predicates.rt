@@ -1,9 +1,9 @@
 //! Rows on predicates.
 
 use crate::playing::none_wrong;
-use moka_engine::Refusal;
-use engine_reference::{RemovalCause, Settings};
 use crate::rows::{CASE, Case, Look, Row, SETTINGS};
+use engine_reference::{RemovalCause, Settings};
+use moka_engine::Refusal;
 
 /// The random UUID whose free bits are all 0: what is left is the version, 4, and the variant, binary 10.
 const OF_ZEROS: u128 = 0x00000000_0000_4000_8000_000000000000;

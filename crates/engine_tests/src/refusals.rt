@@ -1,9 +1,9 @@
 //! A row on a value whose clone is refused: the calls answer so and leave all as it was.
 
 use crate::playing::none_wrong;
-use moka_engine::Refusal;
-use engine_reference::Settings;
 use crate::rows::{CASE, Case, Look, NOT_CLONED, Row, SETTINGS};
+use engine_reference::Settings;
+use moka_engine::Refusal;
 
 const CASES: &[Case<'static>] = &[
     // Look-ups and a removal answer that the clone is refused. The value is still there, was not used, and no ticket was given for it.

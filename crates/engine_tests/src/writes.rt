@@ -1,9 +1,9 @@
 //! Rows on writes, times, room and maintenance.
 
 use crate::playing::none_wrong;
-use moka_engine::Refusal;
-use engine_reference::{RemovalCause, Settings};
 use crate::rows::{CASE, Case, Look, Row, SECOND, SETTINGS};
+use engine_reference::{RemovalCause, Settings};
+use moka_engine::Refusal;
 
 const CASES: &[Case<'static>] = &[
     // Live 16 s, idle 7 s, and a second of its own from its creation on: the earliest of them ends a value.

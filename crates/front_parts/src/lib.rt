@@ -10,12 +10,21 @@ pub mod places;
 mod removals;
 pub mod wholes;
 
-pub use access::{Access, CompResult, Entry, EntrySelector, OwnedKeyEntrySelector, RefKeyEntrySelector};
+pub use access::{
+    Access, CompResult, Entry, EntrySelector, OwnedKeyEntrySelector, RefKeyEntrySelector,
+};
 pub use coalesced::{coalesce, look};
 pub use computed::compute;
 pub use iterator::{Iter, ScanningGet};
 pub use moka_engine::{BaseCache, EvictionPolicy, Notice, RemovalCause, Settings};
-pub use part::{contains_key, get, insert, insert_or_back, insert_reserved, reserve_insert, run_pending_tasks};
-pub use places::{clear_all, coalesce_at, compute_at, contains_key_at, count_visible, find_turn, for_part, get_at, hash_key, insert_at, insert_or_back_at, invalidate_at, keys_at, look_at, make_turn, new_parts, note_at, peek_at, place_of, place_of_turn, remove_at, run_all, scan_at, sum_numbers, sum_weights};
+pub use part::{
+    contains_key, get, insert, insert_or_back, insert_reserved, reserve_insert, run_pending_tasks,
+};
+pub use places::{
+    clear_all, coalesce_at, compute_at, contains_key_at, count_visible, find_turn, for_part,
+    get_at, hash_key, insert_at, insert_or_back_at, invalidate_at, keys_at, look_at, make_turn,
+    new_parts, note_at, peek_at, place_of, place_of_turn, remove_at, run_all, scan_at, sum_numbers,
+    sum_weights,
+};
 pub use removals::{invalidate, remove};
 pub use wholes::{clone_each, cover_all, next_notice, write_id};

@@ -8,8 +8,13 @@ ghost use Rattle.front_reference.specs.Wholes.{RunsPart};
 ghost use Rattle.front_parts.specs.Places.Calls.{CoalescesBy, ComputesIn, InsertsIn, IsCauseIn, LooksUpIn, TakesOutIn, hash_in, held_value_in, visible_in, ways_by};
 
 use engine_reference::{Names, Rules, Settings};
-use front_reference::{At, CacheError, Computed, IntoKey, LentKey, Made, Op, OpenTurn, OwnedKey, Shared};
-use front_parts::{BaseCache, clear_all, coalesce_at, compute_at, contains_key_at, get_at, hash_key, insert_at, invalidate_at, place_of, remove_at, run_all};
+use front_parts::{
+    BaseCache, clear_all, coalesce_at, compute_at, contains_key_at, get_at, hash_key, insert_at,
+    invalidate_at, place_of, remove_at, run_all,
+};
+use front_reference::{
+    At, CacheError, Computed, IntoKey, LentKey, Made, Op, OpenTurn, OwnedKey, Shared,
+};
 use policy_base::Instant;
 use std::alloc::{AllocError, Global};
 use std::hash::{BuildHasher, Hash, Hasher};

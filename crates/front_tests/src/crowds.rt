@@ -1,7 +1,7 @@
 //! More keys than there is room for.
+use crate::playing::{BuildError, Form, Numbers, next, numbers};
 use engine_reference::RemovalCause;
 use front_reference::CacheError;
-use crate::playing::{BuildError, Form, Numbers, next, numbers};
 use std::alloc::Global;
 
 /// A cache of capacity 500.

@@ -11,4 +11,7 @@ mod rows;
 mod turns;
 pub mod wholes;
 
-pub use playing::{BuildError, Call, Closure, Done, Form, Numbers, Select, Start, Times, TimesHasher, are_right, next, numbers};
+pub use playing::{
+    BuildError, Call, Closure, Done, Form, Numbers, Select, Start, Times, TimesHasher, are_right,
+    next, numbers,
+};

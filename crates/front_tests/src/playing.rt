@@ -4,7 +4,7 @@ mod hashing;
 mod script;
 mod selecting;
 
-pub use moka::BuildError;
 pub use hashing::{Times, TimesHasher};
+pub use moka::BuildError;
 pub use script::{Call, Closure, Done, Form, Numbers, Start, are_right, next, numbers};
 pub use selecting::Select;

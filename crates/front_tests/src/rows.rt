@@ -1,5 +1,5 @@
-use engine_reference::RemovalCause;
 use crate::playing::{Call, Closure, Done, Form, Select, are_right};
+use engine_reference::RemovalCause;
 
 /// A number by which keys spread over parts.
 const SPREAD: u64 = 11_400_714_819_323_198_485;

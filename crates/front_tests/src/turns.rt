@@ -1,6 +1,6 @@
+use crate::playing::{Call, Form, Start, are_right};
 use engine_reference::RemovalCause;
 use front_reference::{CacheError, TurnKind};
-use crate::playing::{Call, Form, Start, are_right};
 
 /// A cache of one part without bounds, and one of four.
 const ONE: Form = Form {

@@ -5,7 +5,10 @@ ghost use Rattle.moka.specs.declared.errors.BuildError.TheVariants.{OutOfMemory}
 
 use crate::errors::BuildError;
 use crate::settling::{as_limit, bits_for, segments_fault, time_fault};
-use engine_reference::{Bundle, EvictionPolicy, ExpirationPolicy, Expiry, NoExpiry, NoPredicate, Predicate, Settings, WeighOne, Weigher};
+use engine_reference::{
+    Bundle, EvictionPolicy, ExpirationPolicy, Expiry, NoExpiry, NoPredicate, Predicate, Settings,
+    WeighOne, Weigher,
+};
 use front_state::LentState;
 use policy_base::Instant;
 use std::alloc::Global;

@@ -8,14 +8,28 @@ mod states;
 
 pub use builder::CacheBuilder;
 pub use errors::BuildError;
-pub use front_parts::{Access, CompResult, Entry, EntrySelector, Iter, OwnedKeyEntrySelector, RefKeyEntrySelector, ScanningGet};
-pub use front_reference::{At, CacheError, ClonedKey, Computed, IntoKey, LentKey, Made, Op, OpenTurn, OwnedKey, Shared, TurnKind, TurnStart};
+pub use front_parts::{
+    Access, CompResult, Entry, EntrySelector, Iter, OwnedKeyEntrySelector, RefKeyEntrySelector,
+    ScanningGet,
+};
+pub use front_reference::{
+    At, CacheError, ClonedKey, Computed, IntoKey, LentKey, Made, Op, OpenTurn, OwnedKey, Shared,
+    TurnKind, TurnStart,
+};
 pub use front_state::{LentState, Segmented, Single};
-pub use moka_engine::{Bundle, EvictionPolicy, Expiration, ExpirationPolicy, Expiry, Instant, Names, NoExpiry, NoPredicate, Notice, Policy, Predicate, PredicateError, RemovalCause, Rules, Settings, WeighOne, Weigher};
-pub use states::{CacheState, NewSegmentedState, NewState, PlainBuilder, PlainRules, SegmentedState, StdHasher};
+pub use moka_engine::{
+    Bundle, EvictionPolicy, Expiration, ExpirationPolicy, Expiry, Instant, Names, NoExpiry,
+    NoPredicate, Notice, Policy, Predicate, PredicateError, RemovalCause, Rules, Settings,
+    WeighOne, Weigher,
+};
+pub use states::{
+    CacheState, NewSegmentedState, NewState, PlainBuilder, PlainRules, SegmentedState, StdHasher,
+};
 
 /// Functions whose contracts are laws of what the contracts speak of.
 pub mod laws {
-    pub use front_reference::{calls_keep, calls_stay_close, coalesces_keep, computes_keep, runs_leave_none_idle};
+    pub use front_reference::{
+        calls_keep, calls_stay_close, coalesces_keep, computes_keep, runs_leave_none_idle,
+    };
     pub use moka_engine::laws::{only_writes_show, run_tells_justly, size_has_point};
 }

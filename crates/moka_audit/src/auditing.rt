@@ -1,9 +1,9 @@
 //! The verdict on a transcript.
 ghost use Rattle.moka_audit.specs.Records.Verdicts.{IsJust};
 
+use crate::records::{Verdict, find_break};
 use audit_laws::first_break_is_first;
 use audit_model::{Config, Transcript};
-use crate::records::{Verdict, find_break};
 use std::alloc::Global;
 
 /// The verdict on a transcript of a namespace of that configuration, whoever made it: `Yes` exactly where it obeys and none of its events

@@ -9,7 +9,11 @@ pub mod records;
 pub mod steps;
 
 pub use audit_laws::{Output, Receipt, receipts_stand};
-pub use audit_model::{Accepted, Bytes, Closing, Command, Config, Conn, Event, EvictionPolicy, Input, Instant, LineError, LoadId, Note, Outcome, Record, RemovalCause, Seq, ServiceError, Step, Transcript, Weight};
+pub use audit_model::{
+    Accepted, Bytes, Closing, Command, Config, Conn, Event, EvictionPolicy, Input, Instant,
+    LineError, LoadId, Note, Outcome, Record, RemovalCause, Seq, ServiceError, Step, Transcript,
+    Weight,
+};
 pub use auditing::audit;
 pub use records::{Verdict, find_break};
 pub use steps::{Doing, Duty, Shown, judge, show};

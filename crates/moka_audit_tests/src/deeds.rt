@@ -1,6 +1,6 @@
 //! What a step does to the values held, as tables of rows.
-use audit_situation::{Covering, Deed, Held, Holding, do_deed, live};
 use audit_model::{Bytes, Config, EvictionPolicy, Note, NoteKey, RemovalCause, Seq, Weight};
+use audit_situation::{Covering, Deed, Held, Holding, do_deed, live};
 use std::alloc::{AllocError, Global};
 use std::test::Fail;
 

@@ -11,4 +11,7 @@ mod played;
 mod rows;
 pub mod transcripts;
 
-pub use model::{rows_of_belonging, rows_of_commands, rows_of_connections, rows_of_deadlines, rows_of_lines, rows_of_loads, rows_of_sizes, rows_of_values};
+pub use model::{
+    rows_of_belonging, rows_of_commands, rows_of_connections, rows_of_deadlines, rows_of_lines,
+    rows_of_loads, rows_of_sizes, rows_of_values,
+};

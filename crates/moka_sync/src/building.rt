@@ -5,7 +5,9 @@ ghost use Rattle.moka.specs.declared.errors.BuildError.{BuildError};
 ghost use Rattle.moka.specs.declared.errors.BuildError.TheVariants.{OutOfMemory};
 
 use crate::cache::Cache;
-use engine_reference::{Bundle, Expiry, NoExpiry, NoPredicate, Predicate, Rules, WeighOne, Weigher};
+use engine_reference::{
+    Bundle, Expiry, NoExpiry, NoPredicate, Predicate, Rules, WeighOne, Weigher,
+};
 use moka::{BuildError, CacheBuilder};
 use std::alloc::Global;
 use std::hash::{BuildHasher, BuildHasherDefault, FoldHasher, Hash};

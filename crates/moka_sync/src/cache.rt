@@ -3,6 +3,7 @@ ghost use Rattle.std.specs.Prelude.{◌≡◌, IfErr};
 ghost use Rattle.front_reference.specs.declared.errors.CacheError.TheVariants as errors;
 ghost use Rattle.sync_desk.specs.Slots.Refusals.{IsShortage};
 
+use crate::shared::SharedDesk;
 use engine_reference::{Policy, Rules};
 use front_reference::CacheError;
 use front_state::LentState;
@@ -10,7 +11,6 @@ use std::alloc::{AllocError, Global};
 use std::hash::{BuildHasher, Hash};
 use std::sync::{Arc, Wait};
 use sync_desk::Env;
-use crate::shared::SharedDesk;
 
 /// What is under the lock, and what of a cache never changes.
 #[derive(Drop)]

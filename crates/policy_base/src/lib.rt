@@ -14,5 +14,8 @@ pub use config::{HousekeeperConfig, sketch_capacity};
 pub use entry_info::{EntryInfo, UsedUp};
 pub use moment::{AccessTime, Instant, MAX_NANOS, duration_to_saturating_nanoseconds};
 pub use name::{CacheRegion, NodeId};
-pub use records::{DeqNode, DeqNodes, KeyHash, KeyHashDate, KvEntry, OldEntryInfo, ReadOp, Slot, ValueEntry, WriteOp};
+pub use records::{
+    DeqNode, DeqNodes, KeyHash, KeyHashDate, KvEntry, OldEntryInfo, ReadOp, Slot, ValueEntry,
+    WriteOp,
+};
 pub use sketch::{FrequencySketch, own_counts_stand};

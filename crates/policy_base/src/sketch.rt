@@ -2,6 +2,7 @@
 ghost use Rattle.std.specs.Prelude.{◌≡◌, ℕ, ◌+◌, ◌-◌, ◌*◌, ◌/◌, ◌%◌, ◌^◌, ◌<◌, ◌≤◌, List, [], map, length, slice_index, slice_set, nat_lt, vec_len, replicate, min, max, true, false, IsOk, OnOk, OnErr};
 ghost use Rattle.std.specs.Int.{IsNextPowerOfTwo};
 ghost use Rattle.policy_base.specs.Counts.{nibbles, counts_of, half, multiplier, spread, place, bump, frequency_of, incremented, bumped_in, can_grow_in, sketch_of, fresh, grown, own_count, after};
+
 use std::alloc::{AllocError, Global};
 use std::marker::Model;
 

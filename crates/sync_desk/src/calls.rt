@@ -6,10 +6,10 @@ ghost use Rattle.sync_desk.specs.Drawing.{InsertsAsDrawn, LooksUpAsDrawn};
 ghost use Rattle.sync_desk.specs.Slots.Refusals.{IsShortage};
 
 use crate::desk::Desk;
+use crate::env::Env;
 use engine_reference::Rules;
 use front_reference::CacheError;
 use std::hash::{BuildHasher, Hash};
-use crate::env::Env;
 
 /// What a call of the state is refused for: memory, or else numbers.
 pub(crate) fn shortage_of(refused: CacheError) -> CacheError

@@ -4,13 +4,13 @@ ghost use Rattle.front_reference.specs.Fronts.{ComesAfter};
 ghost use Rattle.front_reference.specs.Wholes.{total_number, total_weight};
 ghost use Rattle.sync_desk.specs.Drawing.{IsDrawn};
 
+use crate::env::Env;
+use crate::slots::Slots;
 use engine_reference::Rules;
 use front_reference::{At, Shared};
 use front_state::LentState;
 use std::alloc::Global;
 use std::hash::{BuildHasher, Hash};
-use crate::env::Env;
-use crate::slots::Slots;
 
 /// A cache's state with what its calls' moments come from, and the turns that are led or waited for. Each call draws its moment and its step: the greater of the environment's moment and the state's, and the step after the state's.
 #[derive(Drop)]

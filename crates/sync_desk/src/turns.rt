@@ -10,12 +10,12 @@ ghost use Rattle.sync_desk.specs.Slots.Refusals.{IsEndRefusal, IsShortage};
 
 use crate::calls::shortage_of;
 use crate::desk::Desk;
+use crate::env::Env;
+use crate::slots::{Asked, Ending, SharedName, WaitingName, copy_made};
 use engine_reference::Rules;
 use front_reference::{CacheError, IntoKey, Made, Shared, TurnKind, TurnStart};
 use std::alloc::AllocError;
 use std::hash::{BuildHasher, Hash};
-use crate::env::Env;
-use crate::slots::{Asked, Ending, SharedName, WaitingName, copy_made};
 
 /// How a call that makes a value begins.
 #[derive(Drop)]

@@ -5,12 +5,12 @@ ghost use Rattle.front_reference.specs.Wholes.{next_told, without_told};
 ghost use Rattle.sync_desk.specs.Slots.Refusals.{IsCoverRefusal};
 
 use crate::desk::Desk;
+use crate::env::Env;
 use engine_reference::Rules;
 use front_parts::ScanningGet;
 use front_reference::{CacheError, Shared};
 use moka_engine::Notice;
 use std::hash::{BuildHasher, Hash};
-use crate::env::Env;
 
 /// Why a predicate is refused: that none are taken, identifiers, memory, or else numbers.
 fn cover_refusal_of(refused: CacheError) -> CacheError

@@ -2,8 +2,8 @@
 ghost use Rattle.std.specs.Prelude.{◌≡◌};
 
 use crate::caches::{generator, wait_for_readings};
-use moka::{BuildError, CacheBuilder};
 use front_reference::CacheError;
+use moka::{BuildError, CacheBuilder};
 use moka_sync::{Build, Cache, Dial, DialEnv, PlainRules, StdHasher};
 use rand_xoshiro::Xoshiro256PlusPlus;
 use std::alloc::{AllocError, Global};

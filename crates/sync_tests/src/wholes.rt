@@ -1,8 +1,8 @@
 //! Whole caches: iterators beside writers, evictions that are told, printed text, what builders make.
 use crate::caches::{Dialled, Numbers, generator, make_dialled};
 use engine_reference::RemovalCause;
-use moka::{BuildError, CacheBuilder};
 use front_reference::{CacheError, Shared};
+use moka::{BuildError, CacheBuilder};
 use moka_sync::{Build, Cache, Dial, DialEnv, PlainRules, SegmentedCache, StdHasher};
 use rand_xoshiro::Xoshiro256PlusPlus;
 use std::alloc::{AllocError, Global};

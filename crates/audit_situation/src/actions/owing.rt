@@ -12,9 +12,9 @@ ghost use Rattle.audit_situation.specs.Actions.Doings.{action_of};
 
 use crate::actions::doing::Doing;
 use crate::held::Seen;
-use audit_model::Config;
 use crate::notes::live;
 use crate::{State, find_load};
+use audit_model::Config;
 
 /// The live value of a key.
 pub fn found<'a>(config: &Config, s: &'a State, key: &'a [u8]) -> Option<Seen<'a>>

@@ -11,7 +11,9 @@ ghost use Rattle.audit_situation.specs.Held.Holds.{held_by, is_open_key, value_u
 use crate::held::held::{Held, Seen};
 use crate::held::kept::StoredValue;
 use crate::held::open::{close_all, close_key, is_open, open_key};
-use crate::held::sums::{mark_after, mark_at, next_number, put_mark, put_weight, sum_with, weight_at};
+use crate::held::sums::{
+    mark_after, mark_at, next_number, put_mark, put_weight, sum_with, weight_at,
+};
 use crate::held::table::Table;
 use audit_model::Seq;
 use std::alloc::{AllocError, Global};

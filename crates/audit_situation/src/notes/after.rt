@@ -12,11 +12,11 @@ ghost use Rattle.audit_situation.specs.Notes.After.{has_true_notes, sized_part, 
 ghost use Rattle.audit_situation.specs.Notes.Deeds.{covering_by, deed_with};
 ghost use Rattle.audit_situation.specs.Notes.Scenes.{rest_of, are_told_rightly, LeavesUntold};
 
+use crate::held::{Held, Holding, Seen};
 use crate::notes::deed::{Covering, Deed};
 use crate::notes::notes::{Scene, are_true_notes, same_cause};
 use crate::notes::times::live;
 use crate::notes::weights::{PARTS, is_over, limit_of, overfilled};
-use crate::held::{Held, Holding, Seen};
 use audit_model::{Config, Note, RemovalCause};
 use std::alloc::{AllocError, Global};
 

@@ -9,9 +9,9 @@ ghost use Rattle.audit_model.specs.Values.{untold, without_key};
 ghost use Rattle.audit_model.specs.View.{Candidate as Eligible};
 ghost use Rattle.audit_situation.specs.Notes.Scenes.{candidate_in, newcomer_in, deed_in, rest_of, candidates_in, new_candidates_in, IsBefore, IsTrueNoteOf, TakesFirstValue};
 
+use crate::held::{Held, Holding, Seen};
 use crate::notes::deed::{Deed, is_this};
 use crate::notes::times::is_dead;
-use crate::held::{Held, Holding, Seen};
 use audit_model::{Config, Note, RemovalCause};
 
 /// What a step's notes are judged by.

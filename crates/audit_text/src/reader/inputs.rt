@@ -12,8 +12,8 @@ ghost use Rattle.audit_text.specs.Reader.Lines.{kept, telling_line, said_line, l
 use crate::reader::fields::{LineFault, TextError, Words};
 use crate::reader::item::{is_line, read_config, read_event};
 use crate::reader::lines::{cut_line, is_skipped};
-use audit_model::{Config, Conn, Event, Input, Instant, LoadId, Seq};
 use crate::{put, put_answer, put_close, put_config, put_feed, put_give_up, put_made, put_number};
+use audit_model::{Config, Conn, Event, Input, Instant, LoadId, Seq};
 use std::alloc::{AllocError, Global};
 
 /// What is played: configurations, the moment of the making, and inputs.

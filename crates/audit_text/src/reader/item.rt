@@ -8,8 +8,8 @@ ghost use Rattle.audit_text.specs.Reader.Items.{config_in_words, head_of, feed_i
 ghost use Rattle.audit_text.specs.Reader.Lines.{line_words};
 
 use crate::reader::fields::{LineFault, Words};
-use audit_model::{Accepted, Config, Event, Instant, Note, NoteKey, Outcome, Seq, Step};
 use crate::{put_config, put_event, put_made, put_note, put_own, put_whole_step};
+use audit_model::{Accepted, Config, Event, Instant, Note, NoteKey, Outcome, Seq, Step};
 use std::alloc::{AllocError, Global};
 
 /// What one line says.

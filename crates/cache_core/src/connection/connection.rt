@@ -7,8 +7,8 @@ ghost use Rattle.cache_commands.specs.declared.loads.standing.Standing.TheVarian
 
 use audit_lines::Buffer;
 use audit_model::Closing;
-use cache_lines::Output;
 use cache_commands::Standing;
+use cache_lines::Output;
 use std::alloc::Global;
 
 /// A connection: what came and was not used, the replies that were not taken, and why it closed.

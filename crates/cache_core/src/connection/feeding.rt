@@ -9,8 +9,8 @@ ghost use Rattle.cache_commands.specs.declared.loads.standing.Standing.TheVarian
 
 use crate::connection::connection::Connection;
 use crate::connection::standing::{Stance, stand, wait_or_close};
-use cache_lines::{Base, Fed, Tape, take_held, take_piece};
 use cache_commands::{Standing, is_holding};
+use cache_lines::{Base, Fed, Tape, take_held, take_piece};
 use cache_store::Store;
 use std::alloc::AllocError;
 

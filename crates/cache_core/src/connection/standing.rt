@@ -10,8 +10,8 @@ ghost use Rattle.cache_commands.specs.declared.loads.standing.Standing.TheVarian
 
 use audit_lines::{Buffer, Next};
 use audit_model::Closing;
-use cache_lines::End;
 use cache_commands::Standing;
+use cache_lines::End;
 
 /// At most this many bytes may stand behind a `LOAD` that waits.
 const MAX_BEHIND: usize = 8192;

@@ -3,9 +3,11 @@ ghost use Rattle.std.specs.Prelude.{◌≡◌, ◌<◌, ◌++◌, ◌∷◌, [],
 ghost use Rattle.std.specs.List.{slice_get};
 ghost use Rattle.cache_core.specs.Connections.Presence.{Here, Out, closing_at, is_here, retired_at};
 
-use crate::connections::residents::{Resident, add, look_up, put_back, reason_at, retire_at, take_out};
-use audit_model::Closing;
 use crate::connection::Connection;
+use crate::connections::residents::{
+    Resident, add, look_up, put_back, reason_at, retire_at, take_out,
+};
+use audit_model::Closing;
 use std::alloc::{AllocError, Global};
 use std::marker::Model;
 

@@ -4,8 +4,8 @@ ghost use Rattle.std.specs.List.{slice_get};
 ghost use Rattle.cache_core.specs.Connections.Presence.{Gone, Here, Out, closing_at, is_here, retired, retired_at};
 ghost use Rattle.cache_core.specs.Connections.Residents.{AreSettled, first_reason, held_or_out, presences_of, reason_numbered, reason_word};
 
-use audit_model::Closing;
 use crate::connection::Connection;
+use audit_model::Closing;
 use std::alloc::AllocError;
 use std::mem;
 

@@ -9,8 +9,8 @@ ghost use Rattle.cache_parts_store.specs.Meets.{stored};
 ghost use Rattle.cache_front.specs.Data.Data.{hash_with, CoversBy, InsertsBy, IsAnswerTo, LackTickets, TakesOutBy};
 
 use crate::data::{Front, Notices};
-use audit_model::{Bytes, Key, Seq};
 use crate::entries::StoredValue;
+use audit_model::{Bytes, Key, Seq};
 use cache_store::StoreError;
 use front_reference::{At, CacheError, ClonedKey};
 use policy_base::Instant;

@@ -5,8 +5,8 @@ ghost use Rattle.cache_parts.specs.Parts.{cause_of, note_from};
 ghost use Rattle.cache_parts_store.specs.View.{all_drained, waiting};
 
 use crate::data::{Front, Notices};
-use audit_model::{Key, Note, NoteKey, RemovalCause, Seq};
 use crate::entries::StoredValue;
+use audit_model::{Key, Note, NoteKey, RemovalCause, Seq};
 use front_reference::Shared;
 use front_state::Notice;
 use std::hash::BuildHasher;

@@ -4,9 +4,12 @@ ghost use Rattle.cache_parts.specs.Parts.{IsBrief};
 ghost use Rattle.cache_front.specs.Data.Data.{shown_by, word_of};
 ghost use Rattle.cache_front.specs.Data.Making.{IsJustMade};
 
-use audit_model::{Config, Key, Note, Weight};
+use crate::data::{
+    LentState, Notice, bits_of, clear, cover, drain, insert, invalidate, note_of, prepare,
+    settings_of, write_keys,
+};
 use crate::entries::{StoredValue, WordBuilder};
-use crate::data::{LentState, Notice, bits_of, clear, cover, drain, insert, invalidate, note_of, prepare, settings_of, write_keys};
+use audit_model::{Config, Key, Note, Weight};
 use cache_store::{Counts, Store, StoreError};
 use front_reference::{At, Shared};
 use policy_base::Instant;

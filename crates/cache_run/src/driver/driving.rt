@@ -6,12 +6,12 @@ ghost use Rattle.cache_run.specs.Driver.Causes.{Because, Fails, RunsFor, RunsOut
 ghost use Rattle.cache_run.specs.Driver.Ending.{outcome_by};
 ghost use Rattle.cache_run.specs.Driver.Driven.{ClosesAfter, Converses, Holds, IsFresh};
 
+use crate::devices::{Clock, Loader, RunError, Watched};
 use crate::driver::feeding::feed_piece;
 use crate::driver::host::Host;
 use crate::driver::inbox::Inbox;
 use crate::driver::session::{Footing, Session};
 use crate::driver::settling::settle_next;
-use crate::devices::{Clock, Loader, RunError, Watched};
 use std::alloc::Global;
 use std::io::{Read, Write};
 

@@ -5,11 +5,11 @@ ghost use Rattle.cache_run.specs.Devices.Watched.{failures};
 ghost use Rattle.cache_run.specs.Driver.Causes.{Because, Fails};
 ghost use Rattle.cache_run.specs.Driver.Driven.{Goes, Holds, asks_nobody, spot};
 
+use crate::devices::{Clock, RunError, Watched};
 use crate::driver::driving::Progress;
 use crate::driver::handing::hand_out;
 use crate::driver::host::Host;
 use crate::driver::session::Session;
-use crate::devices::{Clock, RunError, Watched};
 use std::io::Write;
 
 /// Feeds so many bytes of the inbox with the clock's reading, and hands out what comes of it. Over where others had closed the connection.

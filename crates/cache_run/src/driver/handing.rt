@@ -8,9 +8,9 @@ ghost use Rattle.cache_run.specs.Driver.Causes.{Because, Fails};
 ghost use Rattle.cache_run.specs.Driver.Footings.{footing_by};
 ghost use Rattle.cache_run.specs.Driver.Handed.{HandsOut, text_of};
 
+use crate::devices::{RunError, Watched, send};
 use crate::driver::host::Given;
 use crate::driver::session::{Session, footing_of};
-use crate::devices::{RunError, Watched, send};
 use std::io::Write;
 
 /// Sends all of a text, and has the writer hand it on.

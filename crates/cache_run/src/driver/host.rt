@@ -5,8 +5,8 @@ ghost use Rattle.cache_run.specs.Driver.Exchanges.{Doing, Exchange, Fed, Looked,
 ghost use Rattle.cache_run.specs.Driver.Hosting.{SettlesBy, Stops, Suits, exchange_of};
 ghost use Rattle.audit_model.specs.declared.input.Conn.{Conn};
 
-use audit_model::{Bytes, Closing, Conn, LoadId, Outcome};
 use crate::devices::{Loader, RunError};
+use audit_model::{Bytes, Closing, Conn, LoadId, Outcome};
 
 /// What a connection is given behind an exchange.
 #[derive(Drop)]

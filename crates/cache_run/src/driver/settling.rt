@@ -5,12 +5,12 @@ ghost use Rattle.cache_run.specs.Devices.Watched.{failures};
 ghost use Rattle.cache_run.specs.Driver.Causes.{Because, Fails, HasAsked};
 ghost use Rattle.cache_run.specs.Driver.Driven.{Holds, Settles, Turns, spot};
 
+use crate::devices::{Clock, Loader, RunError, Watched};
 use crate::driver::driving::Progress;
 use crate::driver::feeding::feed_piece;
 use crate::driver::handing::hand_out;
 use crate::driver::host::Host;
 use crate::driver::session::{Footing, Session};
-use crate::devices::{Clock, Loader, RunError, Watched};
 use std::io::Write;
 
 /// Asks the loader for the last load in hand by its key, settles it by what the loader says, takes it out of hand, and hands out what comes

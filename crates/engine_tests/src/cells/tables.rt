@@ -1,5 +1,7 @@
 //! Tables.
-use engine_reference::{Bundle, EvictionPolicy, NoExpiry, NoPredicate, Refusal, Settings, WeighOne};
+use engine_reference::{
+    Bundle, EvictionPolicy, NoExpiry, NoPredicate, Refusal, Settings, WeighOne,
+};
 use engine_tables::Tables;
 use std::alloc::{AllocError, Global};
 use std::hash::{BuildHasherDefault, FoldHasher};

@@ -1,7 +1,9 @@
 //! Rules, through their bounds.
 ghost use Rattle.std.specs.Prelude.{ℕ, Option, Some, nat_lt, nat_eq};
 
-use engine_reference::{Bundle, Expiration, Expiry, NoExpiry, NoPredicate, Predicate, Rules, WeighOne, Weigher};
+use engine_reference::{
+    Bundle, Expiration, Expiry, NoExpiry, NoPredicate, Predicate, Rules, WeighOne, Weigher,
+};
 use policy_base::Instant;
 use std::time::Duration;
 

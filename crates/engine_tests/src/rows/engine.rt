@@ -3,8 +3,8 @@
 use crate::rows::generators::Repeating;
 use crate::rows::rules::{Lives, RowRules, ValueIs, Weighs};
 use crate::rows::values::Brittle;
-use moka_engine::{BaseCache, Refusal};
 use engine_reference::{Bundle, Notice, Policy, Settings};
+use moka_engine::{BaseCache, Refusal};
 use policy_base::{HousekeeperConfig, Instant};
 use std::alloc::{AllocError, Global};
 use std::hash::{BuildHasherDefault, FoldHasher};

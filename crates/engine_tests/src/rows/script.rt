@@ -4,8 +4,8 @@
 use crate::rows::engine::Engine;
 use crate::rows::generators::Repeating;
 use crate::rows::rules::{ONE, ValueIs, Weighs};
-use moka_engine::Refusal;
 use engine_reference::{EvictionPolicy, RemovalCause, Settings};
+use moka_engine::Refusal;
 use policy_base::Instant;
 use std::alloc::{AllocError, Global};
 use std::time::Duration;

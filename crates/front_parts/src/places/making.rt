@@ -4,8 +4,8 @@ ghost use Rattle.engine_reference.specs.Calls.{IsNew};
 ghost use Rattle.front_reference.specs.Fronts.{share_of};
 ghost use Rattle.front_parts.specs.Places.Making.{AreNew, with_share};
 
-use engine_reference::{Rules, Settings};
 use crate::BaseCache;
+use engine_reference::{Rules, Settings};
 use policy_base::HousekeeperConfig;
 use std::alloc::{AllocError, Global};
 use std::hash::{BuildHasher, Hash};

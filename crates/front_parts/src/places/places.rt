@@ -8,9 +8,12 @@ ghost use Rattle.front_reference.specs.Parts.{Inserts, TakesOut};
 ghost use Rattle.front_reference.specs.Fronts.{CallsAt};
 ghost use Rattle.front_parts.specs.Places.Calls.{CoalescesAt, ComputesAt, IsAskedFirst, IsCauseOf, IsOpenAt, seen_of, visible_of, held_of, ways_by};
 
+use crate::{
+    BaseCache, coalesce, compute, contains_key, get, insert, insert_or_back, invalidate, look,
+    remove,
+};
 use engine_reference::{Names, Rules};
 use front_reference::{At, CacheError, Computed, IntoKey, Made, Op};
-use crate::{BaseCache, coalesce, compute, contains_key, get, insert, insert_or_back, invalidate, look, remove};
 use policy_base::Instant;
 use std::alloc::AllocError;
 use std::hash::{BuildHasher, Hash, Hasher};

@@ -2,8 +2,8 @@
 ghost use Rattle.std.specs.Prelude.{◌≡◌, ◌≤◌, IfOk, MatchOption, length, option_map, slice_get};
 ghost use Rattle.front_parts.specs.Places.Calls.{IsOpenAt, keys_of, visible_of, ways_by};
 
-use engine_reference::{Names, Rules};
 use crate::BaseCache;
+use engine_reference::{Names, Rules};
 use policy_base::Instant;
 use std::alloc::AllocError;
 use std::hash::{BuildHasher, Hash, Hasher};

@@ -6,8 +6,8 @@ ghost use Rattle.engine_reference.specs.Asking.{answers_of};
 ghost use Rattle.front_reference.specs.Fronts.{CallsEach};
 ghost use Rattle.front_reference.specs.Wholes.{RunsPart, visible_number};
 
-use engine_reference::Rules;
 use crate::{BaseCache, run_pending_tasks};
+use engine_reference::Rules;
 use policy_base::Instant;
 use std::hash::{BuildHasher, Hash};
 

@@ -10,7 +10,10 @@ ghost use Rattle.front_parts.specs.Wholes.Covering.{id_text};
 
 use crate::state::LentState;
 use engine_reference::Rules;
-use front_parts::{Iter, Notice, ScanningGet, clone_each, cover_all, hash_key, keys_at, next_notice, place_of, scan_at, write_id};
+use front_parts::{
+    Iter, Notice, ScanningGet, clone_each, cover_all, hash_key, keys_at, next_notice, place_of,
+    scan_at, write_id,
+};
 use front_reference::{At, CacheError, LentKey, Shared};
 use policy_base::Instant;
 use rand_core::Rng;

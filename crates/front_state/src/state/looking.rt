@@ -6,8 +6,8 @@ ghost use Rattle.front_parts.specs.Places.Calls.{LooksUpIn, visible_in, ways_by}
 
 use crate::state::LentState;
 use engine_reference::Rules;
-use front_reference::LentKey;
 use front_parts::{count_visible, hash_key, note_at, peek_at, place_of};
+use front_reference::LentKey;
 use policy_base::Instant;
 use std::hash::{BuildHasher, Hash, Hasher};
 

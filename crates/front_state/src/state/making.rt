@@ -5,8 +5,8 @@ ghost use Rattle.front_parts.specs.Places.Making.{IsMadeWith};
 
 use super::LentState;
 use engine_reference::{Rules, Settings};
-use front_reference::Shared;
 use front_parts::{for_part, new_parts};
+use front_reference::Shared;
 use policy_base::Instant;
 use std::alloc::{AllocError, Global};
 use std::hash::{BuildHasher, Hash};

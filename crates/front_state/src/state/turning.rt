@@ -14,8 +14,10 @@ ghost use Rattle.front_parts.specs.Places.Turning.{BeginsIn, EndsTurnAt, Finishe
 
 use crate::state::LentState;
 use engine_reference::{Names, Rules};
+use front_parts::{
+    find_turn, insert_or_back_at, look_at, make_turn, note_at, place_of, place_of_turn,
+};
 use front_reference::{At, CacheError, IntoKey, LentKey, Made, Shared, TurnKind, TurnStart};
-use front_parts::{find_turn, insert_or_back_at, look_at, make_turn, note_at, place_of, place_of_turn};
 use policy_base::Instant;
 use std::alloc::AllocError;
 use std::hash::{BuildHasher, Hash, Hasher};

@@ -1,6 +1,6 @@
 use engine_reference::{Bundle, NoExpiry, NoPredicate, WeighOne};
-use moka::{BuildError, CacheBuilder};
 use front_state::LentState;
+use moka::{BuildError, CacheBuilder};
 use policy_base::Instant;
 use std::alloc::{AllocError, Global};
 use std::hash::{BuildHasherDefault, FoldHasher};

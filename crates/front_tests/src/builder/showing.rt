@@ -1,9 +1,9 @@
 //! How a cache prints, and what a loop over it gives.
 use engine_reference::{Bundle, NoExpiry, NoPredicate, WeighOne};
-use moka::CacheBuilder;
 use front_parts::Iter;
 use front_reference::{At, Shared};
 use front_state::LentState;
+use moka::CacheBuilder;
 use policy_base::Instant;
 use std::alloc::Global;
 use std::hash::{BuildHasherDefault, FoldHasher};

@@ -3,9 +3,9 @@ ghost use Rattle.std.specs.Prelude.{◌==◌, ◌<◌, ◌||◌, IfSome};
 ghost use Rattle.front_reference.specs.Fronts.{ComesAfter};
 
 use engine_reference::{Bundle, NoExpiry, Predicate, WeighOne};
-use moka::{BuildError, CacheBuilder};
 use front_reference::At;
 use front_state::LentState;
+use moka::{BuildError, CacheBuilder};
 use policy_base::Instant;
 use std::alloc::Global;
 use std::hash::{BuildHasherDefault, FoldHasher};

@@ -8,9 +8,9 @@ ghost use Rattle.audit_situation.specs.States.{shown_situation};
 ghost use Rattle.moka_audit.specs.Steps.Showing.{task_of, runs_lines};
 ghost use Rattle.moka_audit.specs.Records.Due.{is_due_by};
 
+use crate::steps::Duty;
 use audit_model::Outcome;
 use audit_situation::{State, may_run};
-use crate::steps::Duty;
 use std::alloc::{AllocError, Global};
 
 /// What a feed makes due: to run the command that its connection holds back, and then its lines.

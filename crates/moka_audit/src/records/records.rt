@@ -13,11 +13,13 @@ ghost use Rattle.moka_audit.specs.Records.Auditing.{Reaches, Audits, AuditsEvent
 ghost use Rattle.moka_audit.specs.Records.Tidy.{is_tidy};
 
 use crate::records::admitting::is_taken;
-use crate::records::duties::{due_from, duties_to_deliver, duties_to_feed, duties_to_give_up, duty_at, left_from};
-use audit_situation::{Parts, State, begin, close, feed, find_pending, is_holding, open, settle};
+use crate::records::duties::{
+    due_from, duties_to_deliver, duties_to_feed, duties_to_give_up, duty_at, left_from,
+};
+use crate::steps::{Duty, Shown, judge, show};
 use audit_laws::breaks_agree;
 use audit_model::{Bytes, Config, Event, Instant, Outcome, Record, Step, Transcript};
-use crate::steps::{Duty, Shown, judge, show};
+use audit_situation::{Parts, State, begin, close, feed, find_pending, is_holding, open, settle};
 use std::alloc::{AllocError, Global};
 
 /// Judges steps for which those are due, and does what they do. Where one is wrong, or more is due behind the last, the answer is `false`, and

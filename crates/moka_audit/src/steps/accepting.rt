@@ -14,8 +14,8 @@ ghost use Rattle.audit_situation.specs.Held.Known.{agrees, agrees_with, with_par
 ghost use Rattle.moka_audit.specs.Steps.Judging.{offer_from, AcceptsOffer, Accepts};
 
 use crate::steps::replies::{accepts, digits_of, sum_with};
-use audit_situation::{Doing, Held, Parts, State, found, part_count};
 use audit_model::{Accepted, Bytes, Config, Outcome, Seq, Weight};
+use audit_situation::{Doing, Held, Parts, State, found, part_count};
 use std::alloc::{AllocError, Global};
 
 /// A key with what it is to hold, and its milliseconds to live.

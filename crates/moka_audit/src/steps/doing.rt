@@ -14,9 +14,9 @@ ghost use Rattle.audit_situation.specs.Notes.Deeds.{covering_by, deed_with};
 ghost use Rattle.audit_situation.specs.Actions.Doings.{action_of};
 ghost use Rattle.moka_audit.specs.Steps.Doings.{acting};
 
-use audit_situation::{Covering, Deed, Doing};
 use audit_lines::{Request, read_line};
 use audit_model::Config;
+use audit_situation::{Covering, Deed, Doing};
 
 /// What a line does.
 pub fn do_line<'a>(config: &Config, line: &'a [u8]) -> Doing<'a>

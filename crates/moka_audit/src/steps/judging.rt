@@ -21,9 +21,14 @@ use crate::steps::accepting::{accept, admit};
 use crate::steps::doing::{deed_of, is_drop, is_hold, is_silent, is_sync, key_loaded, quits};
 use crate::steps::owing::replies_rightly;
 use crate::steps::replies::{counts_of, is_said};
-use crate::steps::shown::{Duty, Shown, do_due, is_duty_of, is_held_rightly, is_run_lines, is_store};
-use audit_situation::{Doing, Held, Holding, Link, Moved, Moving, PARTS, Parts, State, do_deed, find_link, first_line, is_over, limit_of, loads_rightly, pass, waited};
+use crate::steps::shown::{
+    Duty, Shown, do_due, is_duty_of, is_held_rightly, is_run_lines, is_store,
+};
 use audit_model::{Config, Note};
+use audit_situation::{
+    Doing, Held, Holding, Link, Moved, Moving, PARTS, Parts, State, do_deed, find_link, first_line,
+    is_over, limit_of, loads_rightly, pass, waited,
+};
 use std::alloc::{AllocError, Global};
 
 /// The line that is due of a connection.

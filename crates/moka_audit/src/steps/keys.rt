@@ -7,8 +7,8 @@ ghost use Rattle.audit_model.specs.Replies.{keys_listed};
 ghost use Rattle.audit_model.specs.Situation.{live_keys_at};
 ghost use Rattle.audit_model.specs.Values.{without_key};
 
-use audit_situation::{Holding, Seen, is_live};
 use audit_model::Config;
+use audit_situation::{Holding, Seen, is_live};
 use itoa::Buffer;
 use std::alloc::{AllocError, Global};
 use std::collections::BTreeMap;

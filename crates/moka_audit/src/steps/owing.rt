@@ -11,9 +11,12 @@ ghost use Rattle.moka_audit.specs.Steps.Judging.{reply_owed, is_owed_or_refusal,
 
 use crate::steps::doing::is_sync;
 use crate::steps::keys::keys_listed;
-use crate::steps::replies::{accepts, fault_text, is_said, ok_or_off, outcome_text, sum_or_error, sum_with, value_or_none, value_reply, yes_or_no};
-use audit_situation::{Doing, State, found, may_refuse};
+use crate::steps::replies::{
+    accepts, fault_text, is_said, ok_or_off, outcome_text, sum_or_error, sum_with, value_or_none,
+    value_reply, yes_or_no,
+};
 use audit_model::Config;
+use audit_situation::{Doing, State, found, may_refuse};
 use std::alloc::{AllocError, Global};
 
 /// The reply to an `ADD`.

@@ -7,9 +7,9 @@ ghost use Rattle.audit_model.specs.Replies.{value_reply, value_or_none, yes_or_n
 ghost use Rattle.audit_situation.specs.Held.Seeing.{held_of};
 ghost use Rattle.audit_situation.specs.Held.Weights.{values_of};
 
-use audit_situation::{Holding, Seen};
 use audit_lines::number;
 use audit_model::{Config, LineError, Outcome};
+use audit_situation::{Holding, Seen};
 use itoa::Buffer;
 use std::alloc::{AllocError, Global};
 

@@ -6,8 +6,8 @@ ghost use Rattle.audit_situation.specs.Actions.Doings.{action_of};
 ghost use Rattle.moka_audit.specs.Steps.Showing.{shown_step, task_of, runs_lines, stores};
 
 use crate::steps::doing::{do_line, is_hold};
-use audit_situation::Doing;
 use audit_model::{Accepted, Config, Note, Outcome, Step};
+use audit_situation::Doing;
 
 /// What a record shows of a step.
 #[derive(Clone, Copy)]

@@ -7,7 +7,9 @@ ghost use Rattle.policy_queue.specs.Timers.Array.{key_of};
 ghost use Rattle.policy_queue.specs.Timers.Places.{ThePlace, timer_at, key_in, taken, IsSpread, AreUnder, AreFrom, LacksKey, StartsTaken, IsSpare, IsTaken, IsNamed, IsFirst, Comes, Goes};
 
 use crate::timers::array::Timer;
-use crate::timers::places::{Place, compact, deal, first_taken, key, lower_bound, near_spare, shift_down, shift_up, timer_in};
+use crate::timers::places::{
+    Place, compact, deal, first_taken, key, lower_bound, near_spare, shift_down, shift_up, timer_in,
+};
 use policy_base::NodeId;
 use std::alloc::Global;
 use std::marker::Model;

@@ -3,8 +3,8 @@ ghost use Rattle.std.specs.Prelude.{◌≡◌, IfErr};
 ghost use Rattle.sync_desk.specs.Slots.Refusals.{IsTurnRefusal};
 
 use engine_reference::{Bundle, NoExpiry, NoPredicate, WeighOne};
-use moka::{BuildError, CacheBuilder};
 use front_reference::CacheError;
+use moka::{BuildError, CacheBuilder};
 use moka_sync::{Build, Cache, Env, StdHasher};
 use std::alloc::Global;
 use std::sync::{Arc, Wait};
