@@ -85,7 +85,7 @@ impl Buffer {
         ensures line { result.now ≡ without_return (take n self.now.bytes) }
         ensures short { length result.now ≤ n }
     {
-        trim(&self.bytes[self.start..self.start + n])
+        without_return(&self.bytes[self.start..self.start + n])
     }
 
     /// Drops the line of `n` bytes at the front, and its line feed.
@@ -180,7 +180,7 @@ pub fn next_in(bytes: &[u8]) -> Next
 }
 
 /// The line without one carriage return at its end.
-pub fn trim(line: &[u8]) -> &[u8]
+pub fn without_return(line: &[u8]) -> &[u8]
     ensures line { result.now ≡ without_return line.now }
     ensures short { length result.now ≤ length line.now }
 {

@@ -5,6 +5,6 @@ mod buffer;
 mod numbers;
 mod request;
 
-pub use buffer::{Buffer, MAX_LINE, Next, next_in, trim};
+pub use buffer::{Buffer, MAX_LINE, Next, next_in, without_return};
 pub use numbers::{milliseconds, number};
 pub use request::{Request, read_line};

@@ -1,5 +1,5 @@
 -- Which values a step tells, and with which causes.
-use Rattle.std.specs.Prelude.{ℕ, Bool, true, false, not, ◌&&◌, ◌||◌, ◌==◌, nat_lt, List, [], ◌∷◌, ◌++◌, map, Option, Some, None, if◌then◌else◌, is_some, is_none}
+use Rattle.std.specs.Prelude.{ℕ, Bool, true, false, not, ◌&&◌, ◌||◌, ◌==◌, nat_lt, List, [], ◌∷◌, ◌++◌, map, Option, Some, None, if◌then◌else◌, is_some, is_none, codes}
 use Rattle.std.specs.List.{list_all, list_any, find, filter, sum_by}
 use Rattle.std.specs.Option.{option_to_list, option_map, option_map_or}
 use Rattle.audit_model.specs.Bytewise.{same}
@@ -12,6 +12,13 @@ use Rattle.audit_model.specs.declared.command.Command.TheVariants as says
 use Rattle.audit_model.specs.declared.transcript.Note.{Note}
 use Rattle.audit_model.specs.declared.transcript.RemovalCause.{RemovalCause}
 use Rattle.audit_model.specs.declared.transcript.RemovalCause.TheVariants.{Expired, Explicit, Replaced, Size}
+
+-- the word of a cause
+abbrev pub cause_word : RemovalCause → List ℕ
+cause_word Expired = codes "Expired"
+cause_word Explicit = codes "Explicit"
+cause_word Replaced = codes "Replaced"
+cause_word Size = codes "Size"
 
 -- the two are the same cause
 abbrev pub same_cause : RemovalCause → RemovalCause → Bool

@@ -1,11 +1,11 @@
 //! A connection that is open.
 ghost use Rattle.std.specs.Prelude.{◌≡◌, ◌<◌, ◌+◌, [], ◌++◌, ◌||◌, OnOk, MatchOption, Some, None, length, take, drop, option_map, nat_lt, IfOk, if◌then◌else◌};
 ghost use Rattle.audit_model.specs.Bytewise.{cut_at};
-ghost use Rattle.audit_model.specs.Stream.{first_line, behind_lines, without_return};
+ghost use Rattle.audit_model.specs.Stream.{first_line, behind_lines};
 ghost use Rattle.audit_model.specs.Situation.{Ready, is_ready, is_holding, is_waiting_now, is_overlong};
 ghost use Rattle.audit_situation.specs.Standings.{kept_line, shown_standing, left_standing, waits_after, moved_as, fed_with};
 
-use audit_lines::Buffer;
+use audit_lines::{Buffer, without_return};
 use audit_model::{Bytes, Seq};
 use memchr::memchr;
 use std::alloc::{AllocError, Global};
@@ -154,27 +154,12 @@ fn end_of_line(bytes: &[u8]) -> Option<usize>
     memchr(b'\n', bytes)
 }
 
-/// The line without one carriage return at its end.
-fn trim(line: &[u8]) -> &[u8]
-    ensures { result.now ≡ without_return line.now }
-{
-    let len = line.len();
-    if len == 0 {
-        return line;
-    }
-    if line[len - 1] == b'\r' {
-        &line[..len - 1]
-    } else {
-        line
-    }
-}
-
 /// The first line, once its line feed has come.
 pub fn first_line(bytes: &[u8]) -> Option<&[u8]>
     ensures { option_map (λ l. l.now) result ≡ first_line bytes.now }
 {
     match end_of_line(bytes) {
-        Some(at) => Some(trim(&bytes[..at])),
+        Some(at) => Some(without_return(&bytes[..at])),
         None => None,
     }
 }

@@ -11,7 +11,8 @@ use Rattle.audit_model.specs.declared.transcript.Note.{Note}
 use Rattle.audit_model.specs.declared.transcript.Record.{Record}
 use Rattle.audit_model.specs.declared.transcript.Step.{Step}
 use Rattle.audit_model.specs.declared.transcript.Transcript.{Transcript}
-use Rattle.audit_text.specs.Words.{bytes_word, option_word, flag_word, held_word, policy_word, weight_word, cause_word, line}
+use Rattle.audit_text.specs.Words.{bytes_word, option_word, flag_word, held_word, policy_word, weight_word, line}
+use Rattle.audit_model.specs.Notes.{cause_word}
 
 -- how long values live, the last three settings
 abbrev pub deadline_words : Config → List (List ℕ)

@@ -5,8 +5,6 @@ use Rattle.audit_model.specs.declared.config.EvictionPolicy.{EvictionPolicy}
 use Rattle.audit_model.specs.declared.config.EvictionPolicy.TheVariants as policy
 use Rattle.audit_model.specs.declared.config.Weight.{Weight}
 use Rattle.audit_model.specs.declared.config.Weight.TheVariants as weight
-use Rattle.audit_model.specs.declared.transcript.RemovalCause.{RemovalCause}
-use Rattle.audit_model.specs.declared.transcript.RemovalCause.TheVariants as cause
 
 -- the digit of a number below 16, in lower case
 abbrev pub hex_digit : ℕ → ℕ
@@ -42,12 +40,6 @@ policy_word policy.TinyLfu = codes "tinylfu"
 abbrev pub weight_word : Weight → List ℕ
 weight_word weight.One = codes "one"
 weight_word weight.Bytes = codes "bytes"
-
-abbrev pub cause_word : RemovalCause → List ℕ
-cause_word cause.Expired = codes "Expired"
-cause_word cause.Explicit = codes "Explicit"
-cause_word cause.Replaced = codes "Replaced"
-cause_word cause.Size = codes "Size"
 
 -- a line: its words, parted by one space, and a line feed
 abbrev pub line : List (List ℕ) → List ℕ

@@ -4,8 +4,7 @@ ghost use Rattle.audit_text.specs.Text.{config_words, deadline_words, made_words
 ghost use Rattle.audit_text.specs.Words.{bytes_word, option_word, line};
 
 use crate::words::{
-    cause_word, flag_word, held_word, policy_word, put, put_bytes, put_number, put_number_or_none,
-    weight_word,
+    flag_word, held_word, policy_word, put, put_bytes, put_number, put_number_or_none, weight_word,
 };
 use audit_model::{Accepted, Bytes, Config, Event, Instant, Note, Outcome, Step};
 use std::alloc::AllocError;
@@ -195,7 +194,7 @@ pub fn put_note(text: &mut Vec<u8>, word: &[u8], note: &Note) -> Result<(), Allo
     ensures { OnOk result (text.new.items ≡ text.old.items ++ note_line word.now note.now) }
 {
     put(text, word, b' ')?;
-    put(text, cause_word(note.cause), b' ')?;
+    put(text, note.cause.word(), b' ')?;
     put_bytes(text, note.key.as_slice(), b' ')?;
     put_bytes(text, note.value.as_slice(), b'\n')?;
     Ok(())

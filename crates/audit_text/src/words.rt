@@ -1,8 +1,8 @@
 //! Words, written behind a text, each with the byte that ends it.
 ghost use Rattle.std.specs.Prelude.{◌≡◌, ◌<◌, ◌++◌, ◌∷◌, [], OnOk, decimal};
-ghost use Rattle.audit_text.specs.Words.{hex_digit, byte_digits, bytes_word, option_word, flag_word, held_word, policy_word, weight_word, cause_word};
+ghost use Rattle.audit_text.specs.Words.{hex_digit, byte_digits, bytes_word, option_word, flag_word, held_word, policy_word, weight_word};
 
-use audit_model::{EvictionPolicy, RemovalCause, Weight};
+use audit_model::{EvictionPolicy, Weight};
 use itoa::Buffer;
 use std::alloc::AllocError;
 
@@ -12,18 +12,6 @@ fn hex_digit(n: u8) -> u8
     ensures { result ≡ hex_digit n }
 {
     if n < 10 { b'0' + n } else { b'a' - 10 + n }
-}
-
-/// The word of a cause.
-pub fn cause_word(cause: RemovalCause) -> &'static [u8]
-    ensures { result.now ≡ cause_word cause }
-{
-    match cause {
-        RemovalCause::Expired => b"Expired",
-        RemovalCause::Explicit => b"Explicit",
-        RemovalCause::Replaced => b"Replaced",
-        RemovalCause::Size => b"Size",
-    }
 }
 
 /// The word of a policy.

@@ -33,20 +33,10 @@ pub record MissesLive (now : ℕ) (reading : Reading) (was is : Values) (old new
   pub none : IsLive was now key None
   pub unwritten : new ≡ old
 
--- a number is used up: the line did nothing, and its reply says so
-pub record SaysUsedUp (was : Values) (old new : List ℕ) : Type 0 where
-  pub used_up : IsSpent was
-  pub written : new ≡ old ++ codes "ERR used\n"
-
 -- a line that reads so was answered, or misses
 abbrev pub RunsRequest : ℕ → Reading → Ran → Values → Values → List ℕ → List ℕ → Type 0
 RunsRequest now reading (Answered accepted) was is old new = IsAnswered now reading accepted was is old new
 RunsRequest now reading Misses was is old new = MissesLive now reading was is old new
-
--- it ran, or met a number that is used up
-abbrev pub RunsLine : ℕ → Reading → Option Ran → Values → Values → List ℕ → List ℕ → Type 0
-RunsLine now reading (Some ran) was is old new = RunsRequest now reading ran was is old new
-RunsLine now reading None was is old new = SaysUsedUp was old new
 
 -- it changed nothing
 abbrev pub rests : Ran → Bool

@@ -17,5 +17,5 @@ pub use covering::{clear, drop_prefix};
 pub use keyed::Keyed;
 pub use loading::{load, store_outcome, write_abandoned, write_outcome};
 pub use loads::{Load, Loads, Standing, is_holding, is_waiting};
-pub use running::{Ran, run_line, run_request};
+pub use running::{Ran, run_request};
 pub use sums::add;

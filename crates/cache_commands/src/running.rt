@@ -2,21 +2,18 @@
 ghost use Rattle.std.specs.Prelude.{◌≡◌, ◌≤◌, OnErr, IfOk, length, true};
 ghost use Rattle.std.specs.Option.{option_map_or};
 ghost use Rattle.std.specs.Result.{IsErrOf};
-ghost use Rattle.audit_model.specs.Grammar.{reading};
 ghost use Rattle.audit_lines.specs.Request.{said};
-ghost use Rattle.cache_commands.specs.Ran.{RunsLine, RunsRequest, FitsStore, rests};
+ghost use Rattle.cache_commands.specs.Ran.{RunsRequest, FitsStore, rests};
 ghost use Rattle.cache_store.specs.Values.{IsMoment, IsSpent};
 
 use crate::asking::{has, keys, quit};
-use crate::commands::{SHORT, del, fault, get, set, sync};
+use crate::commands::{del, fault, get, set, sync};
 use crate::covering::{clear, drop_prefix};
 use crate::loading::load;
 use crate::sums::add;
-use crate::writing::write;
-use audit_lines::{Request, read_line};
+use audit_lines::Request;
 use audit_model::{Accepted, Key};
 use cache_store::{Store, StoreError};
-use std::alloc::AllocError;
 
 /// What a line did besides its reply.
 #[derive(Clone, Copy, Drop)]
@@ -108,32 +105,4 @@ pub fn run_request<S: Store>(
         }
     };
     Ok(Ran::Answered(accepted))
-}
-
-/// Runs a line: its reply stands behind `reply`. Where a 64-bit number is used up it answers `None`, has changed nothing, and the reply is
-/// `ERR used`. An `Err` changes nothing. `key` is a place for the line's key: where it has room, no memory is taken for it.
-pub fn run_line<S: Store>(
-    store: &mut S,
-    key: &mut Key,
-    now: u64,
-    line: &[u8],
-    reply: &mut Vec<u8>,
-) -> Result<Option<Ran>, AllocError>
-    requires in_time { IsMoment (S.view store.old) now }
-    requires short { length line.now ≤ 8192 }
-    ensures runs { IfOk result (λ ran. RunsLine now (reading (S.view store.old).frame.config line.now) ran (S.view store.old) (S.view store.new) reply.old.items reply.new.items) }
-    ensures rests { IfOk result (λ ran. option_map_or rests ran true ≡ true → store.new ≡ store.old) }
-    ensures unchanged { OnErr result (store.new ≡ store.old) }
-    ensures unwritten { OnErr result (reply.new.items ≡ reply.old.items) }
-{
-    let request = read_line(store.config(), line);
-    match run_request(store, key, request, now, reply) {
-        Ok(ran) => Ok(Some(ran)),
-        Err(StoreError::OutOfMemory) => Err(AllocError),
-        Err(StoreError::UsedUp) => {
-            reply.try_reserve(SHORT)?;
-            write(reply, b"ERR used\n");
-            Ok(None)
-        }
-    }
 }

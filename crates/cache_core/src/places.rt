@@ -11,7 +11,7 @@ use crate::connection::Connection;
 use crate::connections::Connections;
 use audit_model::{Closing, ServiceError};
 use cache_commands::{Loads, Standing, is_waiting};
-use cache_lines::Output;
+use cache_lines::ReplyBuffer;
 use std::alloc::Global;
 use std::mem;
 
@@ -98,7 +98,7 @@ pub fn waits_at_place(connections: &Connections, index: usize) -> bool
 }
 
 /// Moves an output out, and leaves room for the reply to the `LOAD` that waits.
-fn take_keeping_room(alloc: Global, output: &mut Output) -> Vec<u8>
+fn take_keeping_room(alloc: Global, output: &mut ReplyBuffer) -> Vec<u8>
     requires { IsRoomy output.old }
     ensures room { IsRoomy output.new }
     ensures none { output.new.text.items ≡ [] }

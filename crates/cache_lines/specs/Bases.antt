@@ -7,8 +7,8 @@ use Rattle.cache_lines.specs.Ended.{RunsHeld, RunsReady}
 use Rattle.cache_lines.specs.Gathered.{IsFresh, Stage, gathered, stage}
 use Rattle.cache_lines.specs.Waiting.{UnderWay, under_way}
 use Rattle.cache_lines.specs.declared.base.Base.{Base}
-use Rattle.cache_lines.specs.declared.output.Output.{Output}
-use Rattle.cache_lines.specs.declared.releasing.Fed.{Fed}
+use Rattle.cache_lines.specs.declared.output.ReplyBuffer.{ReplyBuffer}
+use Rattle.cache_lines.specs.declared.releasing.Released.{Released}
 use Rattle.cache_lines.specs.declared.ending.End.{End}
 
 -- what lines change, and the loads under way
@@ -17,7 +17,7 @@ pub record Seen : Type 1 where
   pub loads : UnderWay
 
 -- by what the store and the tape show
-abbrev pub seen : {S T : Type 0} → (S → Values) → (T → Option Taped) → Base S T → Output → Seen
+abbrev pub seen : {S T : Type 0} → (S → Values) → (T → Option Taped) → Base S T → ReplyBuffer → Seen
 seen view tape base output = record { stage = stage (view base.store) output.text.items (tape base.tape); loads = under_way base.loads }
 
 -- where a record is made, nothing waits beside it
@@ -31,7 +31,7 @@ pub record CanRun (now : ℕ) (x : Seen) : Type 0 where
   pub spare : HasSpare x.stage.tape
 
 -- the store, what is gathered, and the loads are the same
-pub record LooksSame {S T : Type 0} (view : S → Values) (tape : T → Option Taped) (old new : Base S T) (output after : Output) : Type 0 where
+pub record LooksSame {S T : Type 0} (view : S → Values) (tape : T → Option Taped) (old new : Base S T) (output after : ReplyBuffer) : Type 0 where
   pub store_is : new.store ≡ old.store
   pub gathered_is : gathered (seen view tape new after).stage ≡ gathered (seen view tape old output).stage
   pub loads_are : SameLoads old.loads new.loads
@@ -41,5 +41,5 @@ abbrev pub ReadyRan : (now number : ℕ) (bytes rest : List ℕ) → End → (ol
 ReadyRan now number bytes rest end old new = RunsReady now number bytes rest end old.stage new.stage old.loads new.loads
 
 -- a connection that holds a line back, and began to wait for it so often, was fed, and lines ran until those bytes were left, and ended so
-abbrev pub HeldRan : (now number times : ℕ) (bytes piece rest : List ℕ) → Fed → (old new : Seen) → Type 0
+abbrev pub HeldRan : (now number times : ℕ) (bytes piece rest : List ℕ) → Released → (old new : Seen) → Type 0
 HeldRan now number times bytes piece rest fed old new = RunsHeld now number times bytes piece rest fed.end fed.waited old.stage new.stage old.loads new.loads

@@ -1,8 +1,8 @@
 -- Room for replies.
 use Rattle.std.specs.Prelude.{IsTrue, vec_len, vec_capacity}
 use Rattle.cache_lines.specs.Whole.{has_room}
-use Rattle.cache_lines.specs.declared.output.Output.{Output}
+use Rattle.cache_lines.specs.declared.output.ReplyBuffer.{ReplyBuffer}
 
 -- there is room for the reply to a `LOAD` that is given up for good, now and when the text is taken
-abbrev pub IsRoomy : Output → Type 0
+abbrev pub IsRoomy : ReplyBuffer → Type 0
 IsRoomy output = IsTrue (has_room (vec_len output.text) (vec_capacity output.text) (vec_len output.spare) (vec_capacity output.spare))

@@ -22,8 +22,8 @@ use Rattle.cache_lines.specs.Gathered.{IsFresh, Stage, gather, gathered}
 use Rattle.cache_lines.specs.Lines.{IsPlain, Runs, ends_quit, has_its_part, ready, says_quit, set_in, situation_behind, with_drops}
 use Rattle.cache_lines.specs.Making.{Making, making_of}
 use Rattle.cache_lines.specs.Ordered.{HasKeys, OrdersLines}
-use Rattle.cache_lines.specs.declared.running.Done.{Done}
-use Rattle.cache_lines.specs.declared.running.Done.TheVariants.{Stays, Quits, Misses}
+use Rattle.cache_lines.specs.declared.running.LineOutcome.{LineOutcome}
+use Rattle.cache_lines.specs.declared.running.LineOutcome.TheVariants.{Stays, Quits, Misses}
 
 -- The line's step was right but for its turn, its values stand, and its reply and notes were gathered.
 pub record RanOne (making : Making) (number : ℕ) (s : Situation) (line : List ℕ) (quit : Bool) (old new : Stage) : Type 0 where
@@ -62,13 +62,13 @@ pub record MissedLine (now : ℕ) (line : List ℕ) (old new : Stage) : Type 0 w
   pub text : new.text ≡ old.text
 
 -- the line ran, and may have closed its connection, or it did nothing
-abbrev pub RunsAs : (now number : ℕ) (line : List ℕ) → Done → (old new : Stage) → Type 0
+abbrev pub RunsAs : (now number : ℕ) (line : List ℕ) → LineOutcome → (old new : Stage) → Type 0
 RunsAs now number line Stays old new = RanLine now number line false old new
 RunsAs now number line Quits old new = RanLine now number line true old new
 RunsAs now number line Misses old new = MissedLine now line old new
 
 -- the line did nothing
-abbrev pub misses : Done → Bool
+abbrev pub misses : LineOutcome → Bool
 misses Stays = false
 misses Quits = false
 misses Misses = true

@@ -8,9 +8,9 @@ ghost use Rattle.cache_lines.specs.Waiting.{under_way};
 
 use crate::joining::join_load;
 use crate::looping::Stop;
-use crate::output::Output;
+use crate::output::ReplyBuffer;
 use crate::tape::Tape;
-use audit_lines::trim;
+use audit_lines::without_return;
 use audit_model::Config;
 use cache_commands::Loads;
 
@@ -38,7 +38,7 @@ pub fn end_lines<T: Tape>(
     number: u64,
     rest: &[u8],
     stop: Stop,
-    output: &mut Output,
+    output: &mut ReplyBuffer,
 ) -> End
     requires stops { CanEnd config.now rest.now stop (T.view tape.old) }
     requires spare { HasSpare (T.view tape.old) }
@@ -53,11 +53,11 @@ pub fn end_lines<T: Tape>(
         Stop::TooLong => End::TooLong,
         Stop::Quit => End::Quit,
         Stop::Held(len) => {
-            tape.hold(number, trim(&rest[..len]));
+            tape.hold(number, without_return(&rest[..len]));
             End::Held
         }
         Stop::Misses(len) => {
-            let line = trim(&rest[..len]);
+            let line = without_return(&rest[..len]);
             match join_load(loads, tape, config, number, line, output) {
                 Ok(()) => End::Waits,
                 Err(_) => {

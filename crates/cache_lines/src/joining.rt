@@ -11,7 +11,7 @@ ghost use Rattle.cache_lines.specs.Outputs.{IsRoomy};
 ghost use Rattle.cache_lines.specs.Waiting.{is_load, load_sent_for, under_way, when_waiting};
 ghost use Rattle.cache_lines.specs.Whole.{has_room};
 
-use crate::output::Output;
+use crate::output::ReplyBuffer;
 use crate::tape::Tape;
 use audit_lines::{Request, read_line};
 use audit_model::Config;
@@ -63,7 +63,7 @@ fn wait_for<T: Tape>(
     tape: &mut T,
     number: u64,
     key: &[u8],
-    output: &mut Output,
+    output: &mut ReplyBuffer,
 ) -> Result<(), AllocError>
     requires { IsDrafted (T.view tape.old) }
     ensures joined { OnOk result (under_way loads.new ≡ when_waiting number key.now (under_way loads.old)) }
@@ -87,7 +87,7 @@ pub fn join_load<T: Tape>(
     config: &Config,
     number: u64,
     line: &[u8],
-    output: &mut Output,
+    output: &mut ReplyBuffer,
 ) -> Result<(), AllocError>
     requires drafted { IsDrafted (T.view tape.old) }
     requires load { is_load (reading config.now line.now) ≡ true }

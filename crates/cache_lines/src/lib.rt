@@ -22,8 +22,8 @@ pub use leads::{
     run_again_leads, steps_lead_on, told_waits,
 };
 pub use looping::{Stop, Stopped, run_lines};
-pub use output::Output;
+pub use output::ReplyBuffer;
 pub use readying::{Ended, run_ready, take_piece};
-pub use releasing::{Fed, take_held};
-pub use running::{Done, run_line};
+pub use releasing::{Released, take_held};
+pub use running::{LineOutcome, run_line};
 pub use tape::{Bare, Kept, Spare, Tape, new_spares};

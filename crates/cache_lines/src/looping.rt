@@ -4,9 +4,9 @@ ghost use Rattle.cache_store.specs.Values.{IsMoment};
 ghost use Rattle.cache_lines.specs.Gathered.{IsFresh, gathered, spare_in, stage};
 ghost use Rattle.cache_lines.specs.Stops.{RunsFirst, RunsLines, has_run};
 
-use crate::running::{Done, run_line};
+use crate::running::{LineOutcome, run_line};
 use crate::tape::Tape;
-use audit_lines::{Next, next_in, trim};
+use audit_lines::{Next, next_in, without_return};
 use cache_commands::Keyed;
 use cache_store::Store;
 
@@ -63,10 +63,17 @@ fn run_first<S: Store, T: Tape>(
         Next::More => First::Stops(Stop::More),
         Next::TooLong => First::Stops(Stop::TooLong),
         Next::Line(len) => {
-            match run_line(store, tape, now, number, trim(&bytes[..len]), text) {
-                Ok(Done::Stays) => First::Ran(len),
-                Ok(Done::Quits) => First::Stops(Stop::Quit),
-                Ok(Done::Misses) => First::Stops(Stop::Misses(len)),
+            match run_line(
+                store,
+                tape,
+                now,
+                number,
+                without_return(&bytes[..len]),
+                text,
+            ) {
+                Ok(LineOutcome::Stays) => First::Ran(len),
+                Ok(LineOutcome::Quits) => First::Stops(Stop::Quit),
+                Ok(LineOutcome::Misses) => First::Stops(Stop::Misses(len)),
                 Err(_) => First::Stops(Stop::Held(len)),
             }
         }

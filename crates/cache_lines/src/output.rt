@@ -5,18 +5,18 @@ use std::alloc::Global;
 
 /// The replies of a connection that were not taken.
 #[derive(Drop)]
-pub struct Output {
+pub struct ReplyBuffer {
     pub text: Vec<u8>,
     /// Room for the reply to a `LOAD` that waits, for when the text is taken before.
     pub spare: Vec<u8>,
 }
 
-impl Output {
+impl ReplyBuffer {
     /// No replies, which takes no memory.
-    pub fn new(alloc: Global) -> Output
+    pub fn new(alloc: Global) -> ReplyBuffer
         ensures { result.text.items ≡ [] }
     {
-        Output {
+        ReplyBuffer {
             text: Vec::new(alloc),
             spare: Vec::new(alloc),
         }

@@ -10,7 +10,7 @@ ghost use Rattle.cache_lines.specs.Outputs.{IsRoomy};
 use crate::base::Base;
 use crate::ending::{End, end_lines};
 use crate::looping::{Stopped, behind, run_lines};
-use crate::output::Output;
+use crate::output::ReplyBuffer;
 use crate::tape::Tape;
 use audit_lines::Buffer;
 use cache_store::Store;
@@ -29,7 +29,7 @@ pub fn run_ready<S: Store, T: Tape>(
     now: u64,
     number: u64,
     bytes: &[u8],
-    output: &mut Output,
+    output: &mut ReplyBuffer,
 ) -> Ended
     requires in_time { IsMoment (S.view base.old.store) now }
     requires fresh { IsClear (seen S.view T.view base.old output.old) }
@@ -78,7 +78,7 @@ fn run_piece<S: Store, T: Tape>(
     number: u64,
     unread: &mut Buffer,
     piece: &[u8],
-    output: &mut Output,
+    output: &mut ReplyBuffer,
 ) -> End
     requires in_time { IsMoment (S.view base.old.store) now }
     requires fresh { IsClear (seen S.view T.view base.old output.old) }
@@ -101,7 +101,7 @@ fn run_joined<S: Store, T: Tape>(
     number: u64,
     unread: &mut Buffer,
     piece: &[u8],
-    output: &mut Output,
+    output: &mut ReplyBuffer,
 ) -> End
     requires in_time { IsMoment (S.view base.old.store) now }
     requires fresh { IsClear (seen S.view T.view base.old output.old) }
@@ -125,7 +125,7 @@ pub fn take_piece<S: Store, T: Tape>(
     number: u64,
     unread: &mut Buffer,
     piece: &[u8],
-    output: &mut Output,
+    output: &mut ReplyBuffer,
 ) -> End
     requires in_time { IsMoment (S.view base.old.store) now }
     requires fresh { IsClear (seen S.view T.view base.old output.old) }

@@ -9,9 +9,9 @@ ghost use Rattle.cache_lines.specs.Whole.{has_line};
 use crate::base::Base;
 use crate::ending::End;
 use crate::joining::join_load;
-use crate::output::Output;
+use crate::output::ReplyBuffer;
 use crate::readying::take_piece;
-use crate::running::{Done, run_line};
+use crate::running::{LineOutcome, run_line};
 use crate::tape::Tape;
 use audit_lines::{Buffer, Next};
 use cache_store::Store;
@@ -19,7 +19,7 @@ use std::alloc::AllocError;
 
 /// How the lines of a connection ended.
 #[derive(Clone, Copy, PartialEq, Eq, Drop)]
-pub struct Fed {
+pub struct Released {
     pub end: End,
     /// How often the `LOAD` that waits, if one does, began to do so.
     pub waited: u64,
@@ -34,8 +34,8 @@ pub fn take_held<S: Store, T: Tape>(
     waited: u64,
     unread: &mut Buffer,
     piece: &[u8],
-    output: &mut Output,
-) -> Result<Fed, AllocError>
+    output: &mut ReplyBuffer,
+) -> Result<Released, AllocError>
     requires can_run { CanRun now (seen S.view T.view base.old output.old) }
     requires fits { length piece.now ≤ unread.old.room }
     requires whole { IsTrue (has_line unread.old.bytes) }
@@ -57,16 +57,16 @@ pub fn take_held<S: Store, T: Tape>(
                 line,
                 &mut output.text,
             ) {
-                Ok(Done::Stays) => {
+                Ok(LineOutcome::Stays) => {
                     unread.skip(len);
                     let end = take_piece(base, now, number, unread, piece, output);
-                    Ok(Fed { end, waited: 1 })
+                    Ok(Released { end, waited: 1 })
                 }
-                Ok(Done::Quits) => Ok(Fed {
+                Ok(LineOutcome::Quits) => Ok(Released {
                     end: End::Quit,
                     waited: 1,
                 }),
-                Ok(Done::Misses) => {
+                Ok(LineOutcome::Misses) => {
                     join_load(
                         &mut base.loads,
                         &mut base.tape,
@@ -76,7 +76,7 @@ pub fn take_held<S: Store, T: Tape>(
                         output,
                     )?;
                     unread.append(piece);
-                    Ok(Fed {
+                    Ok(Released {
                         end: End::Waits,
                         waited: waited + 1,
                     })

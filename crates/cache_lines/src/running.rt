@@ -15,7 +15,7 @@ use std::alloc::AllocError;
 
 /// What a line did.
 #[derive(Clone, Copy, PartialEq, Eq, Drop)]
-pub enum Done {
+pub enum LineOutcome {
     /// It was answered.
     Stays,
     /// It was answered, and closes its connection.
@@ -44,7 +44,7 @@ pub fn run_line<S: Store, T: Tape>(
     number: u64,
     line: &[u8],
     text: &mut Vec<u8>,
-) -> Result<Done, AllocError>
+) -> Result<LineOutcome, AllocError>
     requires in_time { IsMoment (S.view store.old) now }
     requires short { length line.now ≤ 8192 }
     requires fresh { IsFresh (gathered (stage (S.view store.old) text.old.items (T.view tape.old))) }
@@ -63,12 +63,12 @@ pub fn run_line<S: Store, T: Tape>(
             end_step(store, tape, number, accepted, text, notes);
             store.sound();
             if quits {
-                Ok(Done::Quits)
+                Ok(LineOutcome::Quits)
             } else {
-                Ok(Done::Stays)
+                Ok(LineOutcome::Stays)
             }
         }
-        Ok(Ran::Misses) => Ok(Done::Misses),
+        Ok(Ran::Misses) => Ok(LineOutcome::Misses),
         Err(_) => Err(AllocError),
     }
 }

@@ -1,7 +1,7 @@
 //! A service that threads share under one lock.
 #![tactic(auto)]
 
-mod desk;
+mod booked;
 mod judging;
 mod live;
 mod loads;
@@ -14,7 +14,7 @@ mod service_core;
 mod shared;
 mod turning;
 
-pub use desk::{Desk, Finished};
+pub use booked::{BookedService, Finished};
 pub use live::LiveService;
 pub use loads::TakenLoads;
 pub use owed::Owed;

@@ -7,7 +7,7 @@ ghost use Rattle.cache_shared.specs.Seats.{AgreeAll, Counts, SameReceipts};
 ghost use Rattle.cache_spaces.specs.Calls.{InSpace, IsUnknown, Refuses};
 ghost use Rattle.cache_spaces.specs.Spaces.{closing_of, is_waiting_for};
 
-use crate::desk::{Desk, Finished};
+use crate::booked::{BookedService, Finished};
 use crate::loads::TakenLoads;
 use crate::owed::Owed;
 use crate::replies::Replies;
@@ -24,7 +24,7 @@ use std::sync::{Arc, Condvar, Mutex, Wait};
 /// The lock, and what tells of changes.
 #[derive(Drop)]
 struct Inner<L: Seating, C: Stepping> {
-    desk: Mutex<Desk<L, C>>,
+    booked: Mutex<BookedService<L, C>>,
     changed: Condvar,
 }
 
@@ -69,7 +69,7 @@ impl<L: Seating, C: Stepping> SharedService<L, C> {
             return Err((core, blank));
         };
         *open = Some(Inner {
-            desk: Mutex::new(Desk::new(core, blank, parts)),
+            booked: Mutex::new(BookedService::new(core, blank, parts)),
             changed: Condvar::new(),
         });
         Ok(SharedService { inner, alloc })
@@ -88,9 +88,9 @@ impl<L: Seating, C: Stepping> SharedService<L, C> {
         ensures seat { IfOk result (λ seat. (seat.count ≡ 0) × (seat.receipts.items ≡ [])) }
         ensures refused { IfErr result (λ e. e ≡ ServiceError.UsedUp) }
     {
-        let mut guard = self.inner().desk.lock(rt);
-        let desk = &mut *guard;
-        desk.seat(self.alloc)
+        let mut guard = self.inner().booked.lock(rt);
+        let booked = &mut *guard;
+        booked.seat(self.alloc)
     }
 
     /// Takes one input for a seat, in one hold of the lock. Where it is taken, the seat counts one more, and has one receipt more, of this
@@ -108,10 +108,10 @@ impl<L: Seating, C: Stepping> SharedService<L, C> {
         ensures used_up { IfErr result (λ refusal. refusal.error ≡ ServiceError.UsedUp → WasUsedUp C.events seat.old.count) }
     {
         let inner = self.inner();
-        let mut guard = inner.desk.lock(rt);
-        let desk = &mut *guard;
-        desk.core.stands();
-        let taken = desk.step(self.alloc, seat, input);
+        let mut guard = inner.booked.lock(rt);
+        let booked = &mut *guard;
+        booked.core.stands();
+        let taken = booked.step(self.alloc, seat, input);
         drop(guard);
         inner.changed.notify_all();
         taken
@@ -153,9 +153,9 @@ impl<L: Seating, C: Takings> SharedService<L, C> {
         ensures conn { IfOk result (λ replies. replies.conn ≡ conn) }
         ensures refused { IfErr result (λ e. (e ≡ ServiceError.OutOfMemory) ⊎ HeldAtSomeMoment C.spaces C.events (λ spaces. Refuses spaces conn.namespace e (λ space. IsUnknown space conn.number e))) }
     {
-        let mut guard = self.inner().desk.lock(rt);
-        let desk = &mut *guard;
-        desk.take_output(conn)
+        let mut guard = self.inner().booked.lock(rt);
+        let booked = &mut *guard;
+        booked.take_output(conn)
     }
 
     /// Takes one input for a seat, as `step` does, and moves out what a connection is owed behind it, in the same hold of the lock: its
@@ -182,9 +182,9 @@ impl<L: Seating, C: Takings> SharedService<L, C> {
         ensures moved { WereMoved C.spaces C.events C.untold conn.namespace notes.old.items notes.new.items }
     {
         let inner = self.inner();
-        let mut guard = inner.desk.lock(rt);
-        let desk = &mut *guard;
-        let turn = desk.turn(self.alloc, seat, conn, input, wants_loads, notes);
+        let mut guard = inner.booked.lock(rt);
+        let booked = &mut *guard;
+        let turn = booked.turn(self.alloc, seat, conn, input, wants_loads, notes);
         drop(guard);
         inner.changed.notify_all();
         turn
@@ -203,9 +203,9 @@ impl<L: Seating, C: Takings> SharedService<L, C> {
         ensures conn { result.conn ≡ conn }
         ensures moved { WereMoved C.spaces C.events C.untold conn.namespace notes.old.items notes.new.items }
     {
-        let mut guard = self.inner().desk.lock(rt);
-        let desk = &mut *guard;
-        desk.take_owed(conn, wants_loads, notes)
+        let mut guard = self.inner().booked.lock(rt);
+        let booked = &mut *guard;
+        booked.take_owed(conn, wants_loads, notes)
     }
 
     /// The oldest notes of a namespace that were told and not taken, moved out behind others in one hold of the lock, as many as there is
@@ -220,9 +220,9 @@ impl<L: Seating, C: Takings> SharedService<L, C> {
         ensures moved { WereMoved C.spaces C.events C.untold namespace notes.old.items notes.new.items }
         ensures refused { IfErr result (λ e. (e ≡ ServiceError.OutOfMemory) ⊎ (e ≡ ServiceError.NoNamespace)) }
     {
-        let mut guard = self.inner().desk.lock(rt);
-        let desk = &mut *guard;
-        desk.take_notices(namespace, notes)
+        let mut guard = self.inner().booked.lock(rt);
+        let booked = &mut *guard;
+        booked.take_notices(namespace, notes)
     }
 
     /// The loads of a namespace that went out and were not taken, with their keys, in the order in which they were sent; moved out, in one
@@ -231,9 +231,9 @@ impl<L: Seating, C: Takings> SharedService<L, C> {
         ensures namespace { IfOk result (λ loads. loads.namespace ≡ namespace) }
         ensures refused { IfErr result (λ e. HeldAtSomeMoment C.spaces C.events (λ spaces. (e ≡ ServiceError.NoNamespace) × (length spaces ≤ namespace))) }
     {
-        let mut guard = self.inner().desk.lock(rt);
-        let desk = &mut *guard;
-        desk.take_loads(namespace)
+        let mut guard = self.inner().booked.lock(rt);
+        let booked = &mut *guard;
+        booked.take_loads(namespace)
     }
 
     /// The oldest note of a namespace that was told and not taken, or none, in one hold of the lock. It is no event, and leaves no receipt.
@@ -242,9 +242,9 @@ impl<L: Seating, C: Takings> SharedService<L, C> {
         ensures note { IfOk result (λ note. WasOldestNote C.spaces C.events C.untold namespace note) }
         ensures refused { IfErr result (λ e. (e ≡ ServiceError.OutOfMemory) ⊎ HeldAtSomeMoment C.spaces C.events (λ spaces. (e ≡ ServiceError.NoNamespace) × (length spaces ≤ namespace))) }
     {
-        let mut guard = self.inner().desk.lock(rt);
-        let desk = &mut *guard;
-        desk.next_notice(namespace)
+        let mut guard = self.inner().booked.lock(rt);
+        let booked = &mut *guard;
+        booked.next_notice(namespace)
     }
 
     /// Why a connection is closed, or none while it is open, in one hold of the lock. Refused with `NoNamespace`, then with `NoConnection`.
@@ -252,7 +252,7 @@ impl<L: Seating, C: Takings> SharedService<L, C> {
         ensures closing { IfOk result (λ closing. HeldAtSomeMoment C.spaces C.events (λ spaces. InSpace spaces conn.namespace (λ space. closing ≡ closing_of space conn.number))) }
         ensures refused { IfErr result (λ e. HeldAtSomeMoment C.spaces C.events (λ spaces. Refuses spaces conn.namespace e (λ space. IsUnknown space conn.number e))) }
     {
-        let guard = self.inner().desk.lock(rt);
+        let guard = self.inner().booked.lock(rt);
         guard.closed(conn)
     }
 
@@ -261,7 +261,7 @@ impl<L: Seating, C: Takings> SharedService<L, C> {
         ensures waits { IfOk result (λ waits. HeldAtSomeMoment C.spaces C.events (λ spaces. InSpace spaces conn.namespace (λ space. waits ≡ is_waiting_for space conn.number))) }
         ensures refused { IfErr result (λ e. HeldAtSomeMoment C.spaces C.events (λ spaces. Refuses spaces conn.namespace e (λ space. IsUnknown space conn.number e))) }
     {
-        let guard = self.inner().desk.lock(rt);
+        let guard = self.inner().booked.lock(rt);
         guard.waiting(conn)
     }
 
@@ -270,7 +270,7 @@ impl<L: Seating, C: Takings> SharedService<L, C> {
     pub fn await_ready(&self, rt: &impl Wait, seat: &Seat<L>, conn: Conn) {
         let _seat = seat;
         let inner = self.inner();
-        let mut guard = inner.desk.lock(rt);
+        let mut guard = inner.booked.lock(rt);
         for _ in rt.forever() {
             match guard.waiting(conn) {
                 Ok(true) => guard = inner.changed.wait(rt, guard),
@@ -280,7 +280,7 @@ impl<L: Seating, C: Takings> SharedService<L, C> {
     }
 }
 
-/// Closes the desk, where these are all seats, their receipts stand, and there is memory.
+/// Closes it, where these are all seats, their receipts stand, and there is memory.
 fn close_if_all<L: Seating, C: Stepping>(
     alloc: Global,
     slot: &mut Option<Inner<L, C>>,
@@ -302,14 +302,14 @@ fn close_if_all<L: Seating, C: Stepping>(
     let Some(inner) = slot.take() else {
         unreachable!()
     };
-    let Inner { desk, changed } = inner;
-    let desk = desk.into_inner();
-    if !desk.are_all(&seats) || !desk.agrees(alloc, seats.as_slice()) {
+    let Inner { booked, changed } = inner;
+    let booked = booked.into_inner();
+    if !booked.are_all(&seats) || !booked.agrees(alloc, seats.as_slice()) {
         *slot = Some(Inner {
-            desk: Mutex::new(desk),
+            booked: Mutex::new(booked),
             changed,
         });
         return Err(seats);
     }
-    Ok(desk.close(seats, receipts))
+    Ok(booked.close(seats, receipts))
 }

@@ -4,7 +4,7 @@ ghost use Rattle.cache_shared.specs.Events.{IsLate, WasRefused, WasUsedUp};
 ghost use Rattle.cache_shared.specs.Looked.{WereMoved};
 ghost use Rattle.cache_shared.specs.Seats.{Counts, SameReceipts};
 
-use crate::desk::Desk;
+use crate::booked::BookedService;
 use crate::notices::take_notices;
 use crate::owed::{Owed, take_owed};
 use crate::seat::{Seat, Seating};
@@ -22,7 +22,7 @@ pub struct Turn<C: Takings> {
     pub owed: Owed<C>,
 }
 
-impl<L: Seating, C: Takings> Desk<L, C> {
+impl<L: Seating, C: Takings> BookedService<L, C> {
     /// Takes an input for a seat, as `step` does, and moves out what a connection is owed behind it, and its namespace's oldest notes, as many
     /// as there is room for.
     pub fn turn(
@@ -61,7 +61,7 @@ impl<L: Seating, C: Takings> Desk<L, C> {
     {
         // Notes that are not taken for want of memory stay.
         let _ = self.take_notices(conn.namespace, notes);
-        let Desk { core, .. } = self;
+        let BookedService { core, .. } = self;
         take_owed(core, conn, wants_loads)
     }
 
@@ -75,7 +75,7 @@ impl<L: Seating, C: Takings> Desk<L, C> {
         ensures refused { IfErr result (λ e. (e ≡ ServiceError.OutOfMemory) ⊎ (e ≡ ServiceError.NoNamespace)) }
         ensures events { C.events self.new.core ≡ C.events self.old.core }
     {
-        let Desk { core, .. } = self;
+        let BookedService { core, .. } = self;
         core.stands();
         take_notices(core, namespace, notes)
     }

@@ -1,7 +1,6 @@
 //! The namespaces that a service is made with.
 ghost use Rattle.std.specs.Prelude.{◌≡◌, ◌<◌, ◌^◌, IfOk, IsTrue};
 ghost use Rattle.std.specs.List.{list_all};
-ghost use Rattle.audit_model.specs.Configs.{is_time, is_valid};
 ghost use Rattle.cache_spaces.specs.Served.{is_served};
 ghost use Rattle.cache_spaces.specs.Services.{AreNew, IsNewNamespace, are_taken};
 
@@ -36,33 +35,11 @@ fn are_served(configs: &[Config]) -> bool
     ensures { result ≡ list_all is_served configs.now }
 {
     for config in configs {
-        if !is_valid(config) {
+        if !config.is_valid() {
             return false;
         }
     }
     true
-}
-
-/// Whether a configuration is in range: 1 to 256 parts, times of 1 to 999,999,999,999 milliseconds, and no live time beside own
-/// deadlines.
-fn is_valid(config: &Config) -> bool
-    ensures { result ≡ is_valid config.now }
-{
-    config.parts >= 1
-        && config.parts <= 256
-        && is_time(config.live_ms)
-        && is_time(config.idle_ms)
-        && !(config.own_deadlines && config.live_ms.is_some())
-}
-
-/// Whether a time, if there is one, is in range.
-fn is_time(milliseconds: Option<u64>) -> bool
-    ensures { result ≡ is_time milliseconds }
-{
-    match milliseconds {
-        Some(milliseconds) => milliseconds >= 1 && milliseconds <= 999_999_999_999,
-        None => true,
-    }
 }
 
 /// New namespaces of these configurations, in their order, each with a fork of the generator.

@@ -1,12 +1,10 @@
 //! What a file may say.
 ghost use Rattle.std.specs.Prelude.{◌≡◌, true, take, drop};
 ghost use Rattle.std.specs.List.{list_all};
-ghost use Rattle.audit_model.specs.Configs.{is_time, is_valid};
 ghost use Rattle.audit_model.specs.Grammar.{is_value};
 ghost use Rattle.cached_config.specs.Good.{are_distinct, are_good, is_apart, is_good_namespace, is_loadable, is_name, is_name_byte};
 
 use crate::listed::{HostedNamespace, Listed};
-use audit_model::Config;
 
 /// The most namespaces.
 const MOST: usize = 16;
@@ -65,7 +63,7 @@ fn is_good(space: &HostedNamespace) -> bool
 {
     is_name(space.name.as_slice())
         && space.port >= 1
-        && is_valid(&space.config)
+        && space.config.is_valid()
         && are_loadable(&space.loads)
 }
 
@@ -124,25 +122,4 @@ fn is_value(bytes: &[u8]) -> bool
         }
     }
     true
-}
-
-/// Whether a configuration is in range.
-fn is_valid(config: &Config) -> bool
-    ensures { result ≡ is_valid config.now }
-{
-    config.parts >= 1
-        && config.parts <= 256
-        && is_time(config.live_ms)
-        && is_time(config.idle_ms)
-        && !(config.own_deadlines && config.live_ms.is_some())
-}
-
-/// Whether a time, if there is one, is in range.
-fn is_time(milliseconds: Option<u64>) -> bool
-    ensures { result ≡ is_time milliseconds }
-{
-    match milliseconds {
-        Some(milliseconds) => milliseconds >= 1 && milliseconds <= 999_999_999_999,
-        None => true,
-    }
 }

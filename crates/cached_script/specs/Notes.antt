@@ -3,24 +3,16 @@ use Rattle.std.specs.Prelude.{◌≡◌, ◌≤◌, ◌⊎◌, ◌-◌, ◌^◌,
 use Rattle.std.specs.List.{flat_map, slice_get}
 use Rattle.std.specs.Option.{option_map_or}
 use Rattle.audit_model.specs.declared.transcript.Note.{Note}
-use Rattle.audit_model.specs.declared.transcript.RemovalCause.{RemovalCause}
-use Rattle.audit_model.specs.declared.transcript.RemovalCause.TheVariants.{Expired, Explicit, Replaced, Size}
+use Rattle.audit_model.specs.Notes.{cause_word}
 use Rattle.cache_run.specs.Devices.Failures.{HasFailed}
 use Rattle.cache_run.specs.declared.devices.errors.RunError.{RunError}
 use Rattle.cache_run.specs.declared.devices.errors.RunError.TheVariants as error
 use Rattle.cache_spaces.specs.Bares.{BareSpace}
 use Rattle.cache_spaces.specs.Spaces.{notices_of}
 
--- the word of a cause
-abbrev pub cause_text : RemovalCause → List ℕ
-cause_text Expired = codes "Expired"
-cause_text Explicit = codes "Explicit"
-cause_text Replaced = codes "Replaced"
-cause_text Size = codes "Size"
-
 -- the line of a note
 abbrev pub note_text : Note → List ℕ
-note_text note = codes "NOTE " ++ cause_text note.cause ++ 32 ∷ [] ++ note.key ++ 32 ∷ [] ++ note.value ++ 10 ∷ []
+note_text note = codes "NOTE " ++ cause_word note.cause ++ 32 ∷ [] ++ note.key ++ 32 ∷ [] ++ note.value ++ 10 ∷ []
 
 -- the lines of notes, in order
 abbrev pub notes_text : List Note → List ℕ

@@ -4,25 +4,13 @@ ghost use Rattle.std.specs.Io.KnownBytes.{Appends};
 ghost use Rattle.cache_run.specs.Devices.Failures.{HasFailed};
 ghost use Rattle.cache_run.specs.Devices.Watched.{device, failures};
 ghost use Rattle.cached_script.specs.Gathering.{Gathers};
-ghost use Rattle.cached_script.specs.Notes.{StopsTelling, cause_text, note_text, notes_text, notices_at};
+ghost use Rattle.cached_script.specs.Notes.{StopsTelling, note_text, notes_text, notices_at};
 
 use crate::gathering::{put, write_out};
-use audit_model::{Note, RemovalCause};
+use audit_model::Note;
 use cache_run::{RunError, Watched};
 use cache_spaces::Service;
 use std::io::Write;
-
-/// The word of a cause.
-fn cause_word(cause: RemovalCause) -> &'static [u8]
-    ensures { result.now ≡ cause_text cause }
-{
-    match cause {
-        RemovalCause::Expired => b"Expired",
-        RemovalCause::Explicit => b"Explicit",
-        RemovalCause::Replaced => b"Replaced",
-        RemovalCause::Size => b"Size",
-    }
-}
 
 /// Gathers the line of a note. Takes no memory.
 pub fn write_note<W: Write>(
@@ -35,7 +23,7 @@ pub fn write_note<W: Write>(
     ensures count { failures writer.old ≤ failures writer.new }
 {
     put(gathered, b"NOTE ", writer)?;
-    put(gathered, cause_word(note.cause), writer)?;
+    put(gathered, note.cause.word(), writer)?;
     put(gathered, b" ", writer)?;
     put(gathered, note.key.as_slice(), writer)?;
     put(gathered, b" ", writer)?;

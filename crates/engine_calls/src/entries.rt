@@ -9,7 +9,6 @@ ghost use Rattle.engine_reference.specs.Times.{changed_expiration, has_come};
 ghost use Rattle.engine_reference.specs.Visible.{cause_of_write};
 ghost use Rattle.engine_reference.specs.declared.data.Record.{Record};
 
-use crate::looks::record_in;
 use crate::times::{own_expiration, time_left};
 use engine_pending::is_dead;
 use engine_reference::{Entry, Expiration, RemovalCause, Rules, Settings};
@@ -64,7 +63,7 @@ pub fn next_entry<K: Eq + Hash, V, S: BuildHasher, R: Rules<K, V>>(
     ensures { (r : Record K V) → kept_at tables.now place ≡ Some r → result ≡ next_entry (answers_of R.weight_of R.created R.read R.updated R.covers) tables.now.state r.entry key value now step }
 {
     let rules = tables.rules();
-    let before = record_in(tables, place).entry.expires;
+    let before = tables.record_in(place).entry.expires;
     let weight = rules.weight(&key, &value);
     let mut entry = Entry {
         key,
@@ -91,7 +90,7 @@ pub fn expires_after_use<K: Eq + Hash, V, S: BuildHasher, R: Rules<K, V>>(
     requires moment { (r : Record K V) → kept_at tables.now place ≡ Some r → r.entry.written < 2 ^ 64 - 1 }
     ensures { (r : Record K V) → kept_at tables.now place ≡ Some r → result ≡ (used_entry (answers_of R.weight_of R.created R.read R.updated R.covers) tables.now.state now r.entry).expires }
 {
-    let entry = &record_in(tables, place).entry;
+    let entry = &tables.record_in(place).entry;
     let left = time_left(tables.settings(), now.as_nanos(), entry);
     let written = Instant::from_nanos(entry.written);
     let rules = tables.rules();
@@ -108,7 +107,7 @@ pub fn cause_of_write<K: Eq + Hash, V, S: BuildHasher, R: Rules<K, V>>(
     requires { is_some (kept_at tables.now place) ≡ true }
     ensures { (r : Record K V) → kept_at tables.now place ≡ Some r → result ≡ cause_of_write (answers_of R.weight_of R.created R.read R.updated R.covers) tables.now.state now r.entry }
 {
-    let entry = &record_in(tables, place).entry;
+    let entry = &tables.record_in(place).entry;
     if is_dead(tables.settings(), now, entry) {
         return RemovalCause::Expired;
     }
@@ -139,7 +138,7 @@ pub fn entry_of<K: Eq + Hash, V, S: BuildHasher, R: Rules<K, V>>(
     requires parts { (r : Record K V) → kept_at tables.now place ≡ Some r → (key ≡ r.entry.key) × (value ≡ r.entry.value) }
     ensures { (r : Record K V) → kept_at tables.now place ≡ Some r → result ≡ r.entry }
 {
-    let found = &record_in(tables, place).entry;
+    let found = &tables.record_in(place).entry;
     Entry {
         key,
         value,

@@ -9,9 +9,7 @@ mod times;
 mod uses;
 mod writes;
 
-pub use looks::{
-    clone_found, clone_key, clone_value, find, find_unless, held, look_up, pass_over, record_in,
-};
+pub use looks::{clone_found, clone_key, clone_value, find, find_unless, held, look_up, pass_over};
 pub use predicates::{commit, draw_id, invalidate, prepare, reserve};
 pub use settings::policy_of;
 pub use uses::{use_found, use_in};

@@ -16,20 +16,6 @@ use engine_tables::Tables;
 use std::alloc::AllocError;
 use std::hash::{BuildHasher, Hash, Hasher};
 
-/// The record in a place.
-pub fn record_in<K: Eq + Hash, V, S: BuildHasher, R: Rules<K, V>>(
-    tables: &Tables<K, V, S, R>,
-    place: usize,
-) -> &Record<K, V>
-    requires { is_some (kept_at tables.now place) ≡ true }
-    ensures { kept_at tables.now place ≡ Some result.now }
-{
-    match tables.record(place) {
-        Some(found) => found,
-        None => unreachable!(),
-    }
-}
-
 /// The record of a key, where it is held.
 pub fn held<'a, K: Eq + Hash, V, S: BuildHasher, R: Rules<K, V>, Q: Names<K>>(
     tables: &'a Tables<K, V, S, R>,
@@ -40,7 +26,7 @@ pub fn held<'a, K: Eq + Hash, V, S: BuildHasher, R: Rules<K, V>, Q: Names<K>>(
     ensures { option_copied result ≡ held_at K.eq tables.now.state.records (Q.named_key key.now) }
 {
     match tables.place_of(key, hash) {
-        Some(place) => Some(record_in(tables, place)),
+        Some(place) => Some(tables.record_in(place)),
         None => None,
     }
 }
@@ -54,7 +40,7 @@ fn is_seen_at<K: Eq + Hash, V, S: BuildHasher, R: Rules<K, V>>(
     requires { is_some (kept_at tables.now place) ≡ true }
     ensures { (r : Record K V) → kept_at tables.now place ≡ Some r → result ≡ is_visible (answers_of R.weight_of R.created R.read R.updated R.covers) tables.now.state now r.entry }
 {
-    let entry = &record_in(tables, place).entry;
+    let entry = &tables.record_in(place).entry;
     !is_dead(tables.settings(), now, entry) && !tables.is_over(entry)
 }
 
@@ -108,7 +94,7 @@ pub fn look_up<'a, K: Eq + Hash, V, S: BuildHasher, R: Rules<K, V>, Q: Names<K>>
     ensures { option_copied result ≡ visible_record (answers_of R.weight_of R.created R.read R.updated R.covers) K.eq tables.now.state now (Q.named_key key.now) }
 {
     match find(tables, key, hash, now) {
-        Some(place) => Some(record_in(tables, place)),
+        Some(place) => Some(tables.record_in(place)),
         None => None,
     }
 }
@@ -152,7 +138,7 @@ pub fn clone_found<K: Eq + Hash, V: Clone, S: BuildHasher, R: Rules<K, V>>(
 {
     match place {
         Some(place) => {
-            let value = record_in(tables, place).entry.value.clone()?;
+            let value = tables.record_in(place).entry.value.clone()?;
             Ok(Some(value))
         }
         None => Ok(None),
@@ -177,7 +163,7 @@ fn is_ignored<K: Eq + Hash, V, S: BuildHasher, R: Rules<K, V>, F: FnOnce(&V) -> 
     requires there { is_some (kept_at tables.now place) ≡ true }
     ensures { (r : Record K V) → kept_at tables.now place ≡ Some r → FnOnceReturnsAt F.FnOnce ignore_if r.entry.value result }
 {
-    let found = record_in(tables, place);
+    let found = tables.record_in(place);
     says_of(ignore_if, &found.entry.value)
 }
 

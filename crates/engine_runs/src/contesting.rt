@@ -7,7 +7,6 @@ ghost use Rattle.engine_reference.specs.Records.{settled_in};
 ghost use Rattle.engine_reference.specs.declared.data.Record.{Record};
 ghost use Rattle.engine_runs.specs.Contesting.{is_won, GoesPast, from_place, IsOnList, outcome, IsDecided};
 
-use crate::deciding::record_in;
 use engine_reference::Rules;
 use engine_tables::Tables;
 use std::hash::{BuildHasher, Hash};
@@ -56,7 +55,7 @@ fn past<K: Eq + Hash, V, S: BuildHasher, R: Rules<K, V>>(
     requires some { 0 < left }
     ensures { (r : Record K V) → kept_at tables.now place ≡ Some r → GoesPast tables.now.state.sketch left ahead r result }
 {
-    let found = record_in(tables, place);
+    let found = tables.record_in(place);
     if found.writes != found.applied {
         return (left, ahead);
     }

@@ -114,20 +114,6 @@ fn decide_on<K: Eq + Hash, V, S: BuildHasher, R: Rules<K, V>>(
     judge(tables, write, refused)
 }
 
-/// The record in a place that has one.
-pub(crate) fn record_in<K: Eq + Hash, V, S: BuildHasher, R: Rules<K, V>>(
-    tables: &Tables<K, V, S, R>,
-    place: usize,
-) -> &Record<K, V>
-    requires { is_some (kept_at tables.now place) ≡ true }
-    ensures { kept_at tables.now place ≡ Some result.now }
-{
-    match tables.record(place) {
-        Some(found) => found,
-        None => unreachable!(),
-    }
-}
-
 /// What is done about a pending write of the record in a place.
 pub fn decide<K: Eq + Hash, V, S: BuildHasher, R: Rules<K, V>>(
     tables: &Tables<K, V, S, R>,
@@ -137,6 +123,6 @@ pub fn decide<K: Eq + Hash, V, S: BuildHasher, R: Rules<K, V>>(
     requires { is_some (kept_at tables.now place) ≡ true }
     ensures { (r : Record K V) → kept_at tables.now place ≡ Some r → result ≡ decision tables.now.state write r }
 {
-    let found = record_in(tables, place);
+    let found = tables.record_in(place);
     decide_on(tables, found, write)
 }

@@ -5,7 +5,6 @@ ghost use Rattle.engine_reference.specs.Runs.{counting, next_to_evict};
 ghost use Rattle.engine_reference.specs.declared.data.Record.{Record};
 ghost use Rattle.engine_runs.specs.Displacing.{front_of, displaced, GivesWay, KeepsUncounted};
 
-use crate::deciding::record_in;
 use engine_reference::{RemovalCause, Rules, Upsert};
 use engine_tables::Tables;
 use std::hash::{BuildHasher, Hash};
@@ -39,7 +38,7 @@ fn displace_one<K: Eq + Hash + Drop, V: Drop, S: BuildHasher, R: Rules<K, V>>(
     ensures fewer { length tables.new.state.records < length tables.old.state.records }
 {
     tables.access_stands();
-    let weight = record_in(tables, place).counts.unwrap_or(0);
+    let weight = tables.record_in(place).counts.unwrap_or(0);
     tables.leave(place, RemovalCause::Size);
     left.saturating_sub(weight)
 }

@@ -211,6 +211,17 @@ impl<K: Eq + Hash, V, S: BuildHasher, R: Rules<K, V>> Tables<K, V, S, R> {
         }
     }
 
+    /// The record in a place that has one.
+    pub fn record_in(&self, place: usize) -> &Record<K, V>
+        requires { is_some (kept_at self.now place) ≡ true }
+        ensures { kept_at self.now place ≡ Some result.now }
+    {
+        match self.record(place) {
+            Some(found) => found,
+            None => unreachable!(),
+        }
+    }
+
     /// How many places there are at most: each record stands in one of them.
     pub fn places(&self) -> usize
         ensures most { length self.now.numbers ≤ result }

@@ -9,6 +9,7 @@ ghost use Rattle.engine_reference.specs.Asking.{answers_of};
 ghost use Rattle.engine_reference.specs.Rules.Hashing.{hash_of_key};
 ghost use Rattle.front_reference.specs.Parts.{IsCause, IsReady, Computes, computed_as};
 ghost use Rattle.front_reference.specs.declared.data.Op.TheVariants as op;
+ghost use Rattle.front_parts.specs.Access.Answering.{IsOutcomeOf};
 ghost use Rattle.front_parts.specs.Looking.{IsOpen, OperatesAfterLook, RemovesAfterLook};
 
 use crate::coalesced::{note, note_and_insert};
@@ -88,8 +89,9 @@ fn operate<
 }
 
 /// What is answered where nothing was to be done.
-fn shown_unchanged<V>(seen: Option<V>) -> Computed<V>
-    ensures { (held : Option V) → result ≡ computed_as op.Nop seen held }
+pub fn shown_unchanged<V>(seen: Option<V>) -> Computed<V>
+    ensures shown { (held : Option V) → result ≡ computed_as op.Nop seen held }
+    ensures fits { IsOutcomeOf op.Nop result }
 {
     match seen {
         Some(value) => Computed::Unchanged(value),
@@ -98,8 +100,9 @@ fn shown_unchanged<V>(seen: Option<V>) -> Computed<V>
 }
 
 /// What is answered where a value was put.
-fn shown_put<V>(value: V, was_seen: bool) -> Computed<V>
-    ensures { (seen held : Option V) → was_seen ≡ is_some seen → result ≡ computed_as (op.Put value) seen held }
+pub fn shown_put<V>(value: V, was_seen: bool) -> Computed<V>
+    ensures shown { (seen held : Option V) → was_seen ≡ is_some seen → result ≡ computed_as (op.Put value) seen held }
+    ensures fits { IsOutcomeOf (op.Put value) result }
 {
     if was_seen {
         Computed::ReplacedWith(value)
@@ -109,8 +112,9 @@ fn shown_put<V>(value: V, was_seen: bool) -> Computed<V>
 }
 
 /// What is answered where the key was removed.
-fn shown_removed<V>(removed: Option<V>) -> Computed<V>
-    ensures { (seen : Option V) → result ≡ computed_as op.Remove seen removed }
+pub fn shown_removed<V>(removed: Option<V>) -> Computed<V>
+    ensures shown { (seen : Option V) → result ≡ computed_as op.Remove seen removed }
+    ensures fits { IsOutcomeOf op.Remove result }
 {
     match removed {
         Some(value) => Computed::Removed(value),

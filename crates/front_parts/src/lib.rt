@@ -12,9 +12,10 @@ pub mod wholes;
 
 pub use access::{
     Access, CompResult, Entry, EntrySelector, OwnedKeyEntrySelector, RefKeyEntrySelector,
+    option_made, result_made, value_made,
 };
 pub use coalesced::{coalesce, look};
-pub use computed::compute;
+pub use computed::{compute, shown_put, shown_removed, shown_unchanged};
 pub use iterator::{Iter, ScanningGet};
 pub use moka_engine::{BaseCache, EvictionPolicy, Notice, RemovalCause, Settings};
 pub use part::{

@@ -1,4 +1,6 @@
 //! What the front is made of, and what its calls are asked and answer.
+ghost use Rattle.std.specs.Prelude.{◌≡◌, true};
+ghost use Rattle.front_reference.specs.Fronts.{same_kind};
 
 use policy_base::Instant;
 
@@ -20,6 +22,21 @@ pub enum TurnKind {
     Try,
     /// A call that decides by the entry what is to be done.
     Compute,
+}
+
+impl TurnKind {
+    /// Whether it is this kind.
+    pub fn is_same(self, other: TurnKind) -> bool
+        ensures same { result ≡ true → self ≡ other }
+        ensures value { result ≡ same_kind self other }
+    {
+        match self {
+            TurnKind::With => matches!(other, TurnKind::With),
+            TurnKind::Optionally => matches!(other, TurnKind::Optionally),
+            TurnKind::Try => matches!(other, TurnKind::Try),
+            TurnKind::Compute => matches!(other, TurnKind::Compute),
+        }
+    }
 }
 
 /// A turn that is under way: at most one of a kind and a key. Its number is one that no other turn has or had.

@@ -4,7 +4,7 @@ use Rattle.std.specs.Prelude.{⊤, IfOk, MatchOption}
 use Rattle.engine_reference.specs.Scanning.{past}
 use Rattle.engine_reference.specs.State.{State}
 use Rattle.engine_reference.specs.Visible.{visible_value}
-use Rattle.front_parts.specs.Access.Answering.{IsCoalesced, IsComputed, IsOptionOf, IsOutcomeOf, IsResultOf, IsValueOf, Suits, done_as, passes_none}
+use Rattle.front_parts.specs.Access.Answering.{IsCoalesced, IsComputed, IsOptionOf, IsOutcomeOf, IsResultOf, IsValueOf, Suits, done_as, made_option, made_result, passes_none}
 use Rattle.front_reference.specs.Fronts.{Front}
 use Rattle.front_reference.specs.Parts.{computed_as, computed_by, held_value, op_decided}
 use Rattle.front_reference.specs.declared.data.At.{At}
@@ -14,7 +14,7 @@ use Rattle.front_reference.specs.declared.data.Made.TheVariants.{Value}
 use Rattle.front_reference.specs.declared.data.Op.{Op}
 use Rattle.front_reference.specs.declared.data.Op.TheVariants.{Nop, Put, Remove}
 use Rattle.front_reference.specs.declared.data.TurnKind.{TurnKind}
-use Rattle.front_state.specs.Accessing.{CoalescedIn, ComputedIn, GetsIn, GetsOptionIn, GetsResultIn, SeesIn, made_option, made_result}
+use Rattle.front_state.specs.Accessing.{CoalescedIn, ComputedIn, GetsIn, GetsOptionIn, GetsResultIn, SeesIn}
 use Rattle.front_parts.specs.Places.Calls.{CoalescesIn, ComputesIn, Ways, visible_in, visible_of}
 
 module _ {V F : Type 0} where

@@ -1,6 +1,6 @@
 -- What a front says of its calls to selectors, and what its calls that make a value answer.
 use Rattle.std.specs.Prelude.{◌≡◌, ⊤, Bool, Option, Some, None, MatchOption, Result, Ok, Err}
-use Rattle.front_parts.specs.Access.Answering.{IsCoalesced, IsComputed, IsOptionOf, IsResultOf, IsValueOf, passes_none}
+use Rattle.front_parts.specs.Access.Answering.{IsCoalesced, IsComputed, IsOptionOf, IsResultOf, IsValueOf, made_option, made_result, passes_none}
 use Rattle.front_reference.specs.Fronts.{ComesAfter, Front, turn_of}
 use Rattle.front_reference.specs.declared.data.At.{At}
 use Rattle.front_reference.specs.declared.data.Computed.{Computed}
@@ -14,17 +14,6 @@ use Rattle.front_parts.specs.Places.Calls.{CoalescesIn, ComputesIn, Ways, visibl
 pub record MayCall {K V P S R : Type 0} (eq : K → K → Bool) (f : Front K V P S R) (at : At) (kind : Option TurnKind) (key : K) : Type 0 where
   pub follows : ComesAfter at.now at.step f
   pub free : MatchOption kind (Unit {0}) (λ k. turn_of eq f.turns k key ≡ None)
-
-module _ {V F : Type 0} where
-  -- what was made, where there may be none
-  abbrev pub made_option : Option V → Made V F
-  made_option (Some value) = Value value
-  made_option None = Nothing
-
-  -- what was made, or why not
-  abbrev pub made_result : Result V F → Made V F
-  made_result (Ok value) = Value value
-  made_result (Err fault) = Fault fault
 
 module _ {K V P S R : Type 0} (ways : Ways K V P S R) where
   -- the visible value is seen

@@ -6,7 +6,7 @@ ghost use Rattle.engine_reference.specs.Asking.{answers_of};
 ghost use Rattle.engine_reference.specs.Runs.{is_due};
 ghost use Rattle.engine_reference.specs.declared.data.Record.{Record};
 
-use engine_calls::{record_in, use_found, use_in};
+use engine_calls::{use_found, use_in};
 use engine_reference::Rules;
 use engine_runs::{run, run_if_due};
 use engine_tables::Tables;
@@ -25,7 +25,7 @@ fn note_after_run<K: Eq + Hash + Drop, V: Drop, S: BuildHasher, R: Rules<K, V>>(
     requires found { (o : Option (Record K V)) × IsFoundIn tables.old hash o place }
     ensures { (o : Option (Record K V)) → IsFoundIn tables.old hash o place → NotesRead (answers_of R.weight_of R.created R.read R.updated R.covers) o hash now tables.old.state tables.new.state }
 {
-    let number = record_in(tables, place).number;
+    let number = tables.record_in(place).number;
     run(tables, now.as_nanos());
     use_found(tables, number, hash, now);
 }

@@ -7,8 +7,8 @@ use Rattle.front_reference.specs.declared.data.Made.{Made}
 use Rattle.front_reference.specs.declared.data.Op.{Op}
 use Rattle.front_reference.specs.declared.data.TurnKind.{TurnKind}
 use Rattle.front_reference.specs.declared.errors.CacheError.{CacheError}
-use Rattle.moka_sync.specs.declared.turns.Turn.{Turn}
-use Rattle.moka_sync.specs.declared.turns.Turn.TheVariants.{Answered, Led, GivenUp}
+use Rattle.moka_sync.specs.declared.turns.MakingStart.{MakingStart}
+use Rattle.moka_sync.specs.declared.turns.MakingStart.TheVariants.{Answered, Led, GivenUp}
 use Rattle.sync_desk.specs.Slots.Endings.{suits}
 
 -- a closure decided by something that it was shown, and what it decided was done; or its error is answered
@@ -21,7 +21,7 @@ module _ {V F : Type 0} where
   HasReceived kind received = MatchOption received (Unit {0}) (λ made. suits kind made ≡ true)
 
   -- what a call came to, where it is an answer, is such as its kind may have
-  abbrev pub HasAnswer : {A : Type 0} → TurnKind → Turn A V F → Type 0
+  abbrev pub HasAnswer : {A : Type 0} → TurnKind → MakingStart A V F → Type 0
   HasAnswer kind (Answered made) = suits kind made ≡ true
   HasAnswer kind (Led number) = Unit {0}
   HasAnswer kind (GivenUp asked) = Unit {0}

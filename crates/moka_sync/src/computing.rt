@@ -8,41 +8,11 @@ ghost use Rattle.sync_desk.specs.Slots.Refusals.{IsEndRefusal, IsShortage};
 use crate::shared::SharedDesk;
 use crate::turns::Lead;
 use engine_reference::Rules;
+use front_parts::{shown_put, shown_removed, shown_unchanged};
 use front_reference::{CacheError, Computed, Op, Shared, TurnKind};
 use std::hash::{BuildHasher, Hash};
 use std::sync::Wait;
 use sync_desk::{ComputeStart, Env};
-
-/// What was done where a value was put.
-fn put_done<V>(value: V, was_seen: bool) -> Computed<V>
-    ensures { IsOutcomeOf (op.Put value) result }
-{
-    if was_seen {
-        Computed::ReplacedWith(value)
-    } else {
-        Computed::Inserted(value)
-    }
-}
-
-/// What was done where a value was removed, if one was.
-fn remove_done<V>(removed: Option<V>) -> Computed<V>
-    ensures { IsOutcomeOf op.Remove result }
-{
-    match removed {
-        Some(value) => Computed::Removed(value),
-        None => Computed::StillNone,
-    }
-}
-
-/// What was done where nothing was.
-fn nothing_done<V>(seen: Option<V>) -> Computed<V>
-    ensures { IsOutcomeOf op.Nop result }
-{
-    match seen {
-        Some(value) => Computed::Unchanged(value),
-        None => Computed::StillNone,
-    }
-}
 
 impl<
     'a,
@@ -94,7 +64,7 @@ impl<
     {
         match value.clone() {
             Ok(kept) => match self.put(rt, kept) {
-                Ok(()) => Ok(put_done(value, was_seen)),
+                Ok(()) => Ok(shown_put(value, was_seen)),
                 Err(refused) => Err(refused),
             },
             Err(_) => {
@@ -119,12 +89,12 @@ impl<
         match decided {
             Op::Put(value) => self.put_copy(rt, value, seen.is_some()),
             Op::Remove => match self.take_out(rt, key) {
-                Ok(removed) => Ok(remove_done(removed)),
+                Ok(removed) => Ok(shown_removed(removed)),
                 Err(refused) => Err(refused),
             },
             Op::Nop => {
                 self.abandon(rt);
-                Ok(nothing_done(seen))
+                Ok(shown_unchanged(seen))
             }
         }
     }

@@ -7,43 +7,12 @@ ghost use Rattle.sync_desk.specs.Slots.Refusals.{IsTurnRefusal};
 use crate::shared::SharedDesk;
 use crate::turns::BEGINNINGS;
 use engine_reference::Rules;
+use front_parts::{option_made, result_made, value_made};
 use front_reference::{CacheError, Made, Shared, TurnKind};
 use std::alloc::AllocError;
 use std::hash::{BuildHasher, Hash};
 use std::sync::{Arc, Wait};
 use sync_desk::{Asked, Env};
-
-/// The value that was made.
-fn value_made<V, F: Drop>(made: Made<V, F>) -> V
-    requires { suits turns.With made ≡ true }
-{
-    match made {
-        Made::Value(value) => value,
-        _ => unreachable!(),
-    }
-}
-
-/// The value that was made, if one was.
-fn option_made<V, F: Drop>(made: Made<V, F>) -> Option<V>
-    requires { suits turns.Optionally made ≡ true }
-{
-    match made {
-        Made::Value(value) => Some(value),
-        Made::Nothing => None,
-        Made::Fault(_) => unreachable!(),
-    }
-}
-
-/// The value that was made, or why none was.
-fn result_made<V, F: Drop>(made: Made<V, Shared<F>>) -> Result<V, Arc<F>>
-    requires { suits turns.Try made ≡ true }
-{
-    match made {
-        Made::Value(value) => Ok(value),
-        Made::Fault(fault) => Err(fault.into_arc()),
-        Made::Nothing => unreachable!(),
-    }
-}
 
 impl<
     K: Eq + Hash + Drop,

@@ -25,7 +25,7 @@ pub(crate) struct Lead<'a, K: Eq + Hash, V, S: BuildHasher, R: Rules<K, V>, E> {
 }
 
 /// What a call that makes a value comes to.
-enum Turn<A, V, F> {
+enum MakingStart<A, V, F> {
     /// A visible value, or what another made.
     Answered(Made<V, F>),
     /// The turn of this number began, and the caller leads it.
@@ -191,7 +191,7 @@ impl<
         kind: TurnKind,
         asked: A,
         replace_if: P,
-    ) -> Result<Turn<A, V, Shared<R::Fault>>, CacheError>
+    ) -> Result<MakingStart<A, V, Shared<R::Fault>>, CacheError>
         requires becomes { (a : A) → A.can_become a }
         requires exact { (x y : V) → V.is_clone x y → y ≡ x }
         requires callable { P.IsAlwaysCallable replace_if }
@@ -201,11 +201,11 @@ impl<
         let mut guard = self.lock(rt);
         let desk = &mut *guard;
         match desk.begin(kind, asked, replace_if)? {
-            Start::Found(value) => Ok(Turn::Answered(Made::Value(value))),
-            Start::Lead(number) => Ok(Turn::Led(number)),
+            Start::Found(value) => Ok(MakingStart::Answered(Made::Value(value))),
+            Start::Lead(number) => Ok(MakingStart::Led(number)),
             Start::Wait(number, asked) => match self.wait_for(rt, guard, kind, number)? {
-                Some(made) => Ok(Turn::Answered(made)),
-                None => Ok(Turn::GivenUp(asked)),
+                Some(made) => Ok(MakingStart::Answered(made)),
+                None => Ok(MakingStart::GivenUp(asked)),
             },
         }
     }
@@ -236,11 +236,11 @@ impl<
         let mut asked = asked;
         for _ in 0..times {
             match self.take_turn(rt, kind, asked, |value: &V| -> bool { replace_if(value) }) {
-                Ok(Turn::Answered(made)) => return Ok((made, false)),
-                Ok(Turn::Led(number)) => {
+                Ok(MakingStart::Answered(made)) => return Ok((made, false)),
+                Ok(MakingStart::Led(number)) => {
                     return make_fresh(Lead::new(self, kind, number), rt, make);
                 }
-                Ok(Turn::GivenUp(again)) => asked = again,
+                Ok(MakingStart::GivenUp(again)) => asked = again,
                 Err(refused) => return Err(refused),
             }
         }
@@ -273,9 +273,9 @@ impl<
             was_passed_over = replace_if(value);
             was_passed_over
         }) {
-            Ok(Turn::Answered(made)) => Ok((made, false)),
-            Ok(Turn::Led(number)) => make_fresh(Lead::new(self, kind, number), rt, make),
-            Ok(Turn::GivenUp(again)) => self.coalesce(
+            Ok(MakingStart::Answered(made)) => Ok((made, false)),
+            Ok(MakingStart::Led(number)) => make_fresh(Lead::new(self, kind, number), rt, make),
+            Ok(MakingStart::GivenUp(again)) => self.coalesce(
                 rt,
                 kind,
                 again,

@@ -12,7 +12,7 @@ use Rattle.audit_model.specs.Bytewise.{same}
 use Rattle.audit_model.specs.History.{Value}
 use Rattle.audit_model.specs.Situation.{HeldValue}
 use Rattle.audit_model.specs.Values.{without_key}
-use Rattle.audit_situation.specs.Held.Slots.{Slot, slot_at, slots_without}
+use Rattle.audit_situation.specs.Held.Slots.{HeldSlot, slot_at, slots_without}
 use Rattle.audit_situation.specs.Held.Slots.{slot_used_at as used_slot}
 use Rattle.audit_situation.specs.Held.Weights.{weight_of_part, values_of}
 use Rattle.audit_situation.specs.Held.Holds.{Open, is_open_key, held_by, are_sound, are_past_marks, values_in, value_used_at, value_covered_by, marked_in, RepresentsHeld}
@@ -91,18 +91,18 @@ le-suc n a h = grind (arith, nat_tests)
 
 -- ---- values
 
-pub values-by : (opens : Open) (marks : List ℕ) (slots : List Slot) → values_of (map (held_by opens marks) slots) ≡ values_in slots
+pub values-by : (opens : Open) (marks : List ℕ) (slots : List HeldSlot) → values_of (map (held_by opens marks) slots) ≡ values_in slots
 values-by opens marks slots = map-through (held_by opens marks) (λ h. h.value) slots
 
-value-without : (key : List ℕ) (slots : List Slot) → values_in (slots_without key slots) ≡ without_key (λ v. v.key) key (values_in slots)
+value-without : (key : List ℕ) (slots : List HeldSlot) → values_in (slots_without key slots) ≡ without_key (λ v. v.key) key (values_in slots)
 value-without key slots = sym (without-map (λ s. s.value) (λ (v : Value). v.key) key slots)
 
-value-found : (key : List ℕ) (slots : List Slot) (s : Slot) → slot_at key slots ≡ Some s → find (λ (v : Value). same key v.key) (values_in slots) ≡ Some s.value
-value-found key slots s e = find-map (λ (s : Slot). s.value) (λ (v : Value). same key v.key) slots ∙ ap (option_map (λ (s : Slot). s.value)) e
+value-found : (key : List ℕ) (slots : List HeldSlot) (s : HeldSlot) → slot_at key slots ≡ Some s → find (λ (v : Value). same key v.key) (values_in slots) ≡ Some s.value
+value-found key slots s e = find-map (λ (s : HeldSlot). s.value) (λ (v : Value). same key v.key) slots ∙ ap (option_map (λ (s : HeldSlot). s.value)) e
 
 -- ---- what holds of all values
 
-pub small-view : (next : ℕ) (opens : Open) (marks : List ℕ) (slots : List Slot) → are_sound next slots ≡ true → list_all (λ h. nat_lt h.value.part 256) (map (held_by opens marks) slots) ≡ true
+pub small-view : (next : ℕ) (opens : Open) (marks : List ℕ) (slots : List HeldSlot) → are_sound next slots ≡ true → list_all (λ h. nat_lt h.value.part 256) (map (held_by opens marks) slots) ≡ true
 small-view next opens marks [] h = refl
 small-view next opens marks (s ∷ slots) h =
     let parts = and_parts (nat_lt s.stamp next && nat_lt s.value.part 256) (are_sound next slots) h in
@@ -135,7 +135,7 @@ keeps-none marks weights m w = record {
 
 -- ---- a use
 
-used-sound : (next : ℕ) (key : List ℕ) (now : ℕ) (slots : List Slot) → are_sound next (map (used_slot key now) slots) ≡ are_sound next slots
+used-sound : (next : ℕ) (key : List ℕ) (now : ℕ) (slots : List HeldSlot) → are_sound next (map (used_slot key now) slots) ≡ are_sound next slots
 used-sound next key now [] = refl
 used-sound next key now (s ∷ slots) = ap (λ b. b && are_sound next (map (used_slot key now) slots)) (go (same key s.value.key)) ∙ ap (λ b. (nat_lt s.stamp next && nat_lt s.value.part 256) && b) (used-sound next key now slots)
   where
@@ -143,7 +143,7 @@ used-sound next key now (s ∷ slots) = ap (λ b. b && are_sound next (map (used
     go true = refl
     go false = refl
 
-used-values : (key : List ℕ) (now : ℕ) (slots : List Slot) → values_in (map (used_slot key now) slots) ≡ values_in slots
+used-values : (key : List ℕ) (now : ℕ) (slots : List HeldSlot) → values_in (map (used_slot key now) slots) ≡ values_in slots
 used-values key now [] = refl
 used-values key now (s ∷ slots) = ap (λ v. v ∷ values_in (map (used_slot key now) slots)) (go (same key s.value.key)) ∙ ap (λ vs. s.value ∷ vs) (used-values key now slots)
   where
@@ -151,7 +151,7 @@ used-values key now (s ∷ slots) = ap (λ v. v ∷ values_in (map (used_slot ke
     go true = refl
     go false = refl
 
-pub view-used : (opens : Open) (marks : List ℕ) (key : List ℕ) (now : ℕ) (slots : List Slot)
+pub view-used : (opens : Open) (marks : List ℕ) (key : List ℕ) (now : ℕ) (slots : List HeldSlot)
     → map (held_by opens marks) (map (used_slot key now) slots) ≡ map (value_used_at key now) (map (held_by opens marks) slots)
 view-used opens marks key now [] = refl
 view-used opens marks key now (s ∷ slots) = ap (λ h. h ∷ map (held_by opens marks) (map (used_slot key now) slots)) (go (same key s.value.key)) ∙ ap (λ hs. value_used_at key now (held_by opens marks s) ∷ hs) (view-used opens marks key now slots)
@@ -160,7 +160,7 @@ view-used opens marks key now (s ∷ slots) = ap (λ h. h ∷ map (held_by opens
     go true = refl
     go false = refl
 
-module _ (next : ℕ) (opens : Open) (marks weights : List ℕ) (total : ℕ) (slots : List Slot) (k : RepresentsHeld next marks weights total slots) where
+module _ (next : ℕ) (opens : Open) (marks weights : List ℕ) (total : ℕ) (slots : List HeldSlot) (k : RepresentsHeld next marks weights total slots) where
   pub keeps-used : (key : List ℕ) (now : ℕ) → RepresentsHeld next marks weights total (map (used_slot key now) slots)
   keeps-used key now = record {
     sound = used-sound next key now slots ∙ k.sound;
@@ -173,33 +173,33 @@ module _ (next : ℕ) (opens : Open) (marks weights : List ℕ) (total : ℕ) (s
 
   -- ---- a value taken
 
-  pub part-small : (key : List ℕ) (s : Slot) → slot_at key slots ≡ Some s → s.value.part < 256
+  pub part-small : (key : List ℕ) (s : HeldSlot) → slot_at key slots ≡ Some s → s.value.part < 256
   part-small key s e =
-      let sound = found-all (λ (s : Slot). nat_lt s.stamp next && nat_lt s.value.part 256) (λ s. same key s.value.key) slots s k.sound e in
+      let sound = found-all (λ (s : HeldSlot). nat_lt s.stamp next && nat_lt s.value.part 256) (λ s. same key s.value.key) slots s k.sound e in
       lt-lt _ _ (and_parts (nat_lt s.stamp next) (nat_lt s.value.part 256) sound).1
 
-  weights-split : (key : List ℕ) (s : Slot) (part : ℕ) → slot_at key slots ≡ Some s → cond (s.value.part == part) s.value.weight 0 + weight_of_part part (values_in (slots_without key slots)) ≡ get_or weights part 0
+  weights-split : (key : List ℕ) (s : HeldSlot) (part : ℕ) → slot_at key slots ≡ Some s → cond (s.value.part == part) s.value.weight 0 + weight_of_part part (values_in (slots_without key slots)) ≡ get_or weights part 0
   weights-split key s part e =
       ap (λ vs. cond (s.value.part == part) s.value.weight 0 + weight_of_part part vs) (value-without key slots)
       ∙ weight-without key part (values_in slots) s.value (value-found key slots s e) ∙ sym (k.weighed part)
 
-  own-weight : (key : List ℕ) (s : Slot) → slot_at key slots ≡ Some s → s.value.weight + weight_of_part s.value.part (values_in (slots_without key slots)) ≡ get_or weights s.value.part 0
+  own-weight : (key : List ℕ) (s : HeldSlot) → slot_at key slots ≡ Some s → s.value.weight + weight_of_part s.value.part (values_in (slots_without key slots)) ≡ get_or weights s.value.part 0
   own-weight key s e = ap (λ b. cond b s.value.weight 0 + weight_of_part s.value.part (values_in (slots_without key slots))) (sym (eq-eqb s.value.part s.value.part refl)) ∙ weights-split key s s.value.part e
 
-  all-weight : (key : List ℕ) (s : Slot) → slot_at key slots ≡ Some s → s.value.weight + sum_by (λ v. v.weight) (values_in (slots_without key slots)) ≡ total
+  all-weight : (key : List ℕ) (s : HeldSlot) → slot_at key slots ≡ Some s → s.value.weight + sum_by (λ v. v.weight) (values_in (slots_without key slots)) ≡ total
   all-weight key s e =
       ap (λ vs. s.value.weight + sum_by (λ v. v.weight) vs) (value-without key slots) ∙ sum-without key (values_in slots) s.value (value-found key slots s e) ∙ sym k.sum
 
-  pub enough-weight : (key : List ℕ) (s : Slot) → slot_at key slots ≡ Some s → s.value.weight ≤ get_or weights s.value.part 0
+  pub enough-weight : (key : List ℕ) (s : HeldSlot) → slot_at key slots ≡ Some s → s.value.weight ≤ get_or weights s.value.part 0
   enough-weight key s e = let o = own-weight key s e in omega arith
 
-  pub enough-total : (key : List ℕ) (s : Slot) → slot_at key slots ≡ Some s → s.value.weight ≤ total
+  pub enough-total : (key : List ℕ) (s : HeldSlot) → slot_at key slots ≡ Some s → s.value.weight ≤ total
   enough-total key s e = let o = all-weight key s e in omega arith
 
-  pub keeps-taken : (key : List ℕ) (s : Slot) → slot_at key slots ≡ Some s
+  pub keeps-taken : (key : List ℕ) (s : HeldSlot) → slot_at key slots ≡ Some s
       → RepresentsHeld next marks (set weights s.value.part (get_or weights s.value.part 0 - s.value.weight)) (total - s.value.weight) (slots_without key slots)
   keeps-taken key s e = record {
-    sound = all-without (λ (s : Slot). nat_lt s.stamp next && nat_lt s.value.part 256) (λ s. s.value.key) key slots k.sound;
+    sound = all-without (λ (s : HeldSlot). nat_lt s.stamp next && nat_lt s.value.part 256) (λ s. s.value.key) key slots k.sound;
     marked = k.marked;
     marks_of_all = k.marks_of_all;
     weights_of_all = length-set weights s.value.part _ ∙ k.weights_of_all;
@@ -223,7 +223,7 @@ module _ (next : ℕ) (opens : Open) (marks weights : List ℕ) (total : ℕ) (s
   pub keeps-missed : (key : List ℕ) → slot_at key slots ≡ None → slots_without key slots ≡ slots
   keeps-missed key e = go slots e
     where
-      go : (xs : List Slot) → slot_at key xs ≡ None → slots_without key xs ≡ xs
+      go : (xs : List HeldSlot) → slot_at key xs ≡ None → slots_without key xs ≡ xs
       go [] e = refl
       go (x ∷ xs) e = step (same key x.value.key) e (λ f. go xs f)
         where
@@ -238,7 +238,7 @@ module _ (next : ℕ) (opens : Open) (marks weights : List ℕ) (total : ℕ) (s
   get-past (x ∷ xs) zero h = le-le x next (and_parts (nat_le x next) (are_past_marks next xs) h).0
   get-past (x ∷ xs) (suc i) h = get-past xs i (and_parts (nat_le x next) (are_past_marks next xs) h).1
 
-  pub new-view : (s : Slot) (held : HeldValue) → s.stamp ≡ next → s.value ≡ held.value → s.last_use ≡ held.last_use → is_open_key s.value.key opens ≡ true → held.covered ≡ false → held.evictable ≡ false
+  pub new-view : (s : HeldSlot) (held : HeldValue) → s.stamp ≡ next → s.value ≡ held.value → s.last_use ≡ held.last_use → is_open_key s.value.key opens ≡ true → held.covered ≡ false → held.evictable ≡ false
       → held_by opens marks s ≡ held
   new-view s held e v u o c m =
       let mark = get-past marks s.value.part k.marked in
@@ -248,12 +248,12 @@ module _ (next : ℕ) (opens : Open) (marks weights : List ℕ) (total : ℕ) (s
       ∙ ap (λ x. record { value = x; last_use = s.last_use; covered = held.covered; evictable = held.evictable }) v
       ∙ ap (λ x. record { value = held.value; last_use = x; covered = held.covered; evictable = held.evictable }) u
 
-  pub keeps-added : (s : Slot) → s.stamp ≡ next → s.value.part < 256
+  pub keeps-added : (s : HeldSlot) → s.stamp ≡ next → s.value.part < 256
       → RepresentsHeld (next + 1) marks (set weights s.value.part (get_or weights s.value.part 0 + s.value.weight)) (total + s.value.weight) (slots ++ s ∷ [])
   keeps-added s e small = record {
     sound =
-        list_all-append (λ (s : Slot). nat_lt s.stamp (next + 1) && nat_lt s.value.part 256) slots (s ∷ [])
-        ∙ and_from _ _ (all-more (λ (s : Slot). nat_lt s.stamp next && nat_lt s.value.part 256) (λ (s : Slot). nat_lt s.stamp (next + 1) && nat_lt s.value.part 256) slots older k.sound)
+        list_all-append (λ (s : HeldSlot). nat_lt s.stamp (next + 1) && nat_lt s.value.part 256) slots (s ∷ [])
+        ∙ and_from _ _ (all-more (λ (s : HeldSlot). nat_lt s.stamp next && nat_lt s.value.part 256) (λ (s : HeldSlot). nat_lt s.stamp (next + 1) && nat_lt s.value.part 256) slots older k.sound)
         (and_from _ _ (and_from _ _ (lt-of s.stamp (next + 1) (omega arith)) (lt-of s.value.part 256 small)) refl);
     marked = all-more (λ m. nat_le m next) (λ m. nat_le m (next + 1)) marks (λ m h. le-suc next m h) k.marked;
     marks_of_all = k.marks_of_all;
@@ -263,9 +263,9 @@ module _ (next : ℕ) (opens : Open) (marks weights : List ℕ) (total : ℕ) (s
   }
     where
       values_more : values_in slots ++ s.value ∷ [] ≡ values_in (slots ++ s ∷ [])
-      values_more = sym (map-append (λ (s : Slot). s.value) slots (s ∷ []))
+      values_more = sym (map-append (λ (s : HeldSlot). s.value) slots (s ∷ []))
 
-      older : (s : Slot) → (nat_lt s.stamp next && nat_lt s.value.part 256) ≡ true → (nat_lt s.stamp (next + 1) && nat_lt s.value.part 256) ≡ true
+      older : (s : HeldSlot) → (nat_lt s.stamp next && nat_lt s.value.part 256) ≡ true → (nat_lt s.stamp (next + 1) && nat_lt s.value.part 256) ≡ true
       older s h = let parts = and_parts (nat_lt s.stamp next) (nat_lt s.value.part 256) h in and_from _ _ (lt-suc next s.stamp parts.0) parts.1
 
       pushed : (part : ℕ) → get_or weights part 0 + cond (s.value.part == part) s.value.weight 0 ≡ weight_of_part part (values_in (slots ++ s ∷ []))
@@ -318,7 +318,7 @@ module _ (next : ℕ) (opens : Open) (marks weights : List ℕ) (total : ℕ) (s
 
     pub view-marked : map (held_by opens (set marks part mark_then)) slots ≡ map (marked_in part over anew) (map (held_by opens marks) slots)
     view-marked =
-        map-all (λ (s : Slot). nat_lt s.stamp next && nat_lt s.value.part 256) (held_by opens (set marks part mark_then)) (λ s. marked_in part over anew (held_by opens marks s)) slots k.sound
+        map-all (λ (s : HeldSlot). nat_lt s.stamp next && nat_lt s.value.part 256) (held_by opens (set marks part mark_then)) (λ s. marked_in part over anew (held_by opens marks s)) slots k.sound
         (λ s h. one s (and_parts (nat_lt s.stamp next) (nat_lt s.value.part 256) h).0 (s.value.part == part) refl)
         ∙ sym (map-through (held_by opens marks) (marked_in part over anew) slots)
       where
@@ -327,7 +327,7 @@ module _ (next : ℕ) (opens : Open) (marks weights : List ℕ) (total : ℕ) (s
         by_cases stamp old false true h = not-lt stamp 0 (omega arith)
         by_cases stamp old false false h = refl
 
-        one : (s : Slot) → nat_lt s.stamp next ≡ true → (b : Bool) → (s.value.part == part) ≡ b → held_by opens (set marks part mark_then) s ≡ marked_in part over anew (held_by opens marks s)
+        one : (s : HeldSlot) → nat_lt s.stamp next ≡ true → (b : Bool) → (s.value.part == part) ≡ b → held_by opens (set marks part mark_then) s ≡ marked_in part over anew (held_by opens marks s)
         one s h true is =
             let e = eqb-true s.value.part part is in
             ap (λ m. record (held_by opens marks s) { evictable = nat_lt s.stamp m })
@@ -345,10 +345,10 @@ module _ (next : ℕ) (opens : Open) (marks weights : List ℕ) (total : ℕ) (s
 
 -- ---- values by key
 
-pub find-held : (opens : Open) (marks : List ℕ) (key : List ℕ) (slots : List Slot) → find (λ h. same key h.value.key) (map (held_by opens marks) slots) ≡ option_map (held_by opens marks) (slot_at key slots)
+pub find-held : (opens : Open) (marks : List ℕ) (key : List ℕ) (slots : List HeldSlot) → find (λ h. same key h.value.key) (map (held_by opens marks) slots) ≡ option_map (held_by opens marks) (slot_at key slots)
 find-held opens marks key slots = find-map (held_by opens marks) (λ (h : HeldValue). same key h.value.key) slots
 
-pub without-held : (opens : Open) (marks : List ℕ) (key : List ℕ) (slots : List Slot) → without_key (λ h. h.value.key) key (map (held_by opens marks) slots) ≡ map (held_by opens marks) (slots_without key slots)
+pub without-held : (opens : Open) (marks : List ℕ) (key : List ℕ) (slots : List HeldSlot) → without_key (λ h. h.value.key) key (map (held_by opens marks) slots) ≡ map (held_by opens marks) (slots_without key slots)
 without-held opens marks key slots = without-map (held_by opens marks) (λ (h : HeldValue). h.value.key) key slots
 
 none-of : {X Y : Type 0} (f : X → Y) (o : Option X) → option_map f o ≡ None → o ≡ None
@@ -356,7 +356,7 @@ none-of f None e = refl
 none-of f (Some x) e = absurd (none-some (f x) (sym e))
 
 -- no slot has the key where no value does
-pub absent-slot : (opens : Open) (marks : List ℕ) (key : List ℕ) (slots : List Slot) → find (λ h. same key h.value.key) (map (held_by opens marks) slots) ≡ None → slot_at key slots ≡ None
+pub absent-slot : (opens : Open) (marks : List ℕ) (key : List ℕ) (slots : List HeldSlot) → find (λ h. same key h.value.key) (map (held_by opens marks) slots) ≡ None → slot_at key slots ≡ None
 absent-slot opens marks key slots e = none-of (held_by opens marks) (slot_at key slots) (sym (find-held opens marks key slots) ∙ e)
 
 pub on-ok : {T E : Type 0} (r : Result T E) {A B : Type 0} → (A → B) → OnOk r A → OnOk r B
@@ -368,12 +368,12 @@ either (Ok x) f g a b = f a
 either (Err e) f g a b = g b
 
 -- one value more, as it is kept
-pub keeps-more : (next : ℕ) (opens : Open) (marks weights : List ℕ) (total : ℕ) (slots : List Slot) → RepresentsHeld next marks weights total slots
-    → (s : Slot) (held : HeldValue) (after more : ℕ) (sums : List ℕ) (sum : ℕ) → s ≡ record { value = held.value; last_use = held.last_use; stamp = next } → held.value.part < 256
+pub keeps-more : (next : ℕ) (opens : Open) (marks weights : List ℕ) (total : ℕ) (slots : List HeldSlot) → RepresentsHeld next marks weights total slots
+    → (s : HeldSlot) (held : HeldValue) (after more : ℕ) (sums : List ℕ) (sum : ℕ) → s ≡ record { value = held.value; last_use = held.last_use; stamp = next } → held.value.part < 256
     → after ≡ next + 1 → sum ≡ get_or weights held.value.part 0 + held.value.weight → sums ≡ set weights held.value.part sum → more ≡ total + held.value.weight
     → RepresentsHeld after marks sums more (slots ++ s ∷ [])
 keeps-more next opens marks weights total slots k s held after more sums sum is small a b w m =
-    let t : Slot = record { value = held.value; last_use = held.last_use; stamp = next } in
+    let t : HeldSlot = record { value = held.value; last_use = held.last_use; stamp = next } in
     subst (λ x. RepresentsHeld after marks sums more (slots ++ x ∷ [])) (sym is)
     (subst (λ n. RepresentsHeld n marks sums more (slots ++ t ∷ [])) (sym a)
     (subst (λ ws. RepresentsHeld (next + 1) marks ws more (slots ++ t ∷ [])) (sym (w ∙ ap (set weights held.value.part) b))
@@ -381,7 +381,7 @@ keeps-more next opens marks weights total slots k s held after more sums sum is 
     (keeps-added next opens marks weights total slots k t refl small))))
 
 -- what stands beside a key is seen as before where no other key was opened or closed
-pub view-beside : (after before : Open) (marks : List ℕ) (key : List ℕ) (slots : List Slot) → ((q : List ℕ) → same key q ≡ false → is_open_key q after ≡ is_open_key q before) → slot_at key slots ≡ None
+pub view-beside : (after before : Open) (marks : List ℕ) (key : List ℕ) (slots : List HeldSlot) → ((q : List ℕ) → same key q ≡ false → is_open_key q after ≡ is_open_key q before) → slot_at key slots ≡ None
     → map (held_by after marks) slots ≡ map (held_by before marks) slots
 view-beside after before marks key [] others e = refl
 view-beside after before marks key (s ∷ slots) others e = go (same key s.value.key) refl e (view-beside after before marks key slots others)
@@ -392,7 +392,7 @@ view-beside after before marks key (s ∷ slots) others e = go (same key s.value
     go false is e ih = ap (λ b. record (held_by before marks s) { covered = not b } ∷ map (held_by after marks) slots) (others s.value.key is) ∙ ap (λ hs. held_by before marks s ∷ hs) (ih e)
 
 -- where the keys that begin so were closed, their values are covered
-pub view-covered : (after before : Open) (marks : List ℕ) (prefix : List ℕ) (slots : List Slot) → ((q : List ℕ) → is_open_key q after ≡ (not (starts_with nat_eq q prefix) && is_open_key q before))
+pub view-covered : (after before : Open) (marks : List ℕ) (prefix : List ℕ) (slots : List HeldSlot) → ((q : List ℕ) → is_open_key q after ≡ (not (starts_with nat_eq q prefix) && is_open_key q before))
     → map (held_by after marks) slots ≡ map (value_covered_by prefix) (map (held_by before marks) slots)
 view-covered after before marks prefix [] closed = refl
 view-covered after before marks prefix (s ∷ slots) closed =
@@ -405,25 +405,25 @@ view-covered after before marks prefix (s ∷ slots) closed =
     go false true = refl
     go false false = refl
 
-pub view-more : (next : ℕ) (after before : Open) (marks weights : List ℕ) (total : ℕ) (slots : List Slot) → RepresentsHeld next marks weights total slots
-    → (s : Slot) (held : HeldValue) → s ≡ record { value = held.value; last_use = held.last_use; stamp = next } → slot_at held.value.key slots ≡ None
+pub view-more : (next : ℕ) (after before : Open) (marks weights : List ℕ) (total : ℕ) (slots : List HeldSlot) → RepresentsHeld next marks weights total slots
+    → (s : HeldSlot) (held : HeldValue) → s ≡ record { value = held.value; last_use = held.last_use; stamp = next } → slot_at held.value.key slots ≡ None
     → ((q : List ℕ) → is_open_key q after ≡ cond (same held.value.key q) true (is_open_key q before)) → held.covered ≡ false → held.evictable ≡ false
     → map (held_by after marks) (slots ++ s ∷ []) ≡ map (held_by before marks) slots ++ held ∷ []
 view-more next after before marks weights total slots k s held is absent opened c m =
     map-append (held_by after marks) slots (s ∷ [])
     ∙ ap (λ hs. hs ++ held_by after marks s ∷ []) (view-beside after before marks held.value.key slots (λ q e. opened q ∙ ap (λ b. cond b true (is_open_key q before)) e) absent)
     ∙ ap (λ h. map (held_by before marks) slots ++ h ∷ [])
-    (new-view next after marks weights total slots k s held (ap (λ (x : Slot). x.stamp) is) (ap (λ (x : Slot). x.value) is) (ap (λ (x : Slot). x.last_use) is)
-    (ap (λ (x : Slot). is_open_key x.value.key after) is ∙ opened held.value.key ∙ ap (λ b. cond b true (is_open_key held.value.key before)) ((bytes_eq-Decides held.value.key held.value.key).1 refl)) c m)
+    (new-view next after marks weights total slots k s held (ap (λ (x : HeldSlot). x.stamp) is) (ap (λ (x : HeldSlot). x.value) is) (ap (λ (x : HeldSlot). x.last_use) is)
+    (ap (λ (x : HeldSlot). is_open_key x.value.key after) is ∙ opened held.value.key ∙ ap (λ b. cond b true (is_open_key held.value.key before)) ((bytes_eq-Decides held.value.key held.value.key).1 refl)) c m)
 
 -- the slot that is found is the key's own
-pub found-key : (key : List ℕ) (slots : List Slot) (s : Slot) → slot_at key slots ≡ Some s → key ≡ s.value.key
+pub found-key : (key : List ℕ) (slots : List HeldSlot) (s : HeldSlot) → slot_at key slots ≡ Some s → key ≡ s.value.key
 found-key key slots s e = (bytes_eq-Decides key s.value.key).0 (go slots e)
   where
-    go : (xs : List Slot) → slot_at key xs ≡ Some s → same key s.value.key ≡ true
+    go : (xs : List HeldSlot) → slot_at key xs ≡ Some s → same key s.value.key ≡ true
     go [] e = absurd (none-some s e)
     go (x ∷ xs) e = step (same key x.value.key) refl e (go xs)
       where
         step : (b : Bool) → same key x.value.key ≡ b → cond b (Some x) (slot_at key xs) ≡ Some s → (slot_at key xs ≡ Some s → same key s.value.key ≡ true) → same key s.value.key ≡ true
-        step true is e ih = let own : x ≡ s = cc in subst (λ (y : Slot). same key y.value.key ≡ true) own is
+        step true is e ih = let own : x ≡ s = cc in subst (λ (y : HeldSlot). same key y.value.key ≡ true) own is
         step false is e ih = ih e

@@ -11,14 +11,14 @@ use Rattle.std.proofs.lemmas.List.{map-append, length-append}
 use Rattle.std.proofs.lemmas.Slice.Eq.{bytes_eq-Decides}
 use Rattle.audit_model.specs.Bytewise.{same}
 use Rattle.lru.specs.LruCache.{LruCache, lru_cache, put_entries}
-use Rattle.audit_situation.specs.Held.Slots.{Slot, Entry, slot_of, slots_of, slot_at, slots_without, slot_used_at, is_new_key, have_keys_apart}
+use Rattle.audit_situation.specs.Held.Slots.{HeldSlot, Entry, slot_of, slots_of, slot_at, slots_without, slot_used_at, is_new_key, have_keys_apart}
 use Rattle.audit_situation.specs.declared.held.kept.StoredValue.{StoredValue}
 use Rattle.audit_situation.proofs.held.Pushing.{find-behind, find-past, find-before, without-behind, without-past}
 
 abbrev pub is_at : List ℕ → Vec ℕ Global → Bool
 is_at key v = same key v.items
 
-abbrev pub item_of : Entry → Slot
+abbrev pub item_of : Entry → HeldSlot
 item_of e = slot_of e.0.items e.1
 
 equal : (a b : List ℕ) → same a b ≡ true → a ≡ b
@@ -40,7 +40,7 @@ new-none key (e ∷ es) n = go (slot_at key (slots_of es)) refl (λ f. new-none 
     other true h = absurd (none-some (item_of e) (sym h))
     other false h = refl
 
-    go : (o : Option Slot) → slot_at key (slots_of es) ≡ o → (slot_at key (slots_of es) ≡ None → is_new_key key es ≡ true) → (not (same key e.0.items) && is_new_key key es) ≡ true
+    go : (o : Option HeldSlot) → slot_at key (slots_of es) ≡ o → (slot_at key (slots_of es) ≡ None → is_new_key key es ≡ true) → (not (same key e.0.items) && is_new_key key es) ≡ true
     go (Some s) f ih = absurd (none-some s (sym n ∙ find-before (λ s. same key s.value.key) (slots_of es) (item_of e ∷ []) s f))
     go None f ih = and_from _ _ (other (same key e.0.items) (sym (find-behind (λ s. same key s.value.key) (slots_of es) (item_of e) f) ∙ n)) (ih f)
 

@@ -9,7 +9,7 @@ use Rattle.std.specs.declared.alloc.Global.{Global}
 use Rattle.audit_model.specs.Bytewise.{same}
 use Rattle.audit_model.specs.History.{Value}
 use Rattle.audit_model.specs.Situation.{HeldValue}
-use Rattle.audit_situation.specs.Held.Slots.{Slot}
+use Rattle.audit_situation.specs.Held.Slots.{HeldSlot}
 use Rattle.audit_situation.specs.Held.Weights.{weight_of_part}
 
 -- the keys of the values that no prefix covers
@@ -21,12 +21,12 @@ abbrev pub is_open_key : List ℕ → Open → Bool
 is_open_key key open_keys = contains_by (λ k. slice_cmp nat_cmp key k.items) open_keys
 
 -- a value held, by the open keys, and by the numbers at which each part's weight was last a point
-abbrev pub held_by : Open → List ℕ → Slot → HeldValue
+abbrev pub held_by : Open → List ℕ → HeldSlot → HeldValue
 held_by open_keys marks s =
     record { value = s.value; last_use = s.last_use; covered = not (is_open_key s.value.key open_keys); evictable = nat_lt s.stamp (get_or marks s.value.part 0) }
 
 -- each number was given out before that one, and each part is one of 256
-abbrev pub are_sound : ℕ → List Slot → Bool
+abbrev pub are_sound : ℕ → List HeldSlot → Bool
 are_sound next slots = list_all (λ s. nat_lt s.stamp next && nat_lt s.value.part 256) slots
 
 -- no mark is a later number
@@ -34,7 +34,7 @@ abbrev pub are_past_marks : ℕ → List ℕ → Bool
 are_past_marks next marks = list_all (λ m. nat_le m next) marks
 
 -- the values of slots
-abbrev pub values_in : List Slot → List Value
+abbrev pub values_in : List HeldSlot → List Value
 values_in slots = map (λ s. s.value) slots
 
 -- a value that is used at that moment, where it is of that key
@@ -50,7 +50,7 @@ abbrev pub marked_in : ℕ → Bool → Bool → HeldValue → HeldValue
 marked_in part over anew h = if h.value.part == part then record h { evictable = over || (not anew && h.evictable) } else h
 
 -- what holds of the representation
-pub record RepresentsHeld (next : ℕ) (marks weights : List ℕ) (total : ℕ) (slots : List Slot) : Type 0 where
+pub record RepresentsHeld (next : ℕ) (marks weights : List ℕ) (total : ℕ) (slots : List HeldSlot) : Type 0 where
   pub sound : are_sound next slots ≡ true
   pub marked : are_past_marks next marks ≡ true
   pub marks_of_all : length marks ≡ 256

@@ -9,13 +9,13 @@ use Rattle.audit_model.specs.Values.{without_key}
 use Rattle.audit_situation.specs.declared.held.kept.StoredValue.{StoredValue}
 
 -- a value with its last use, and the number by which it is told from values accepted later
-pub record Slot : Type 0 where
+pub record HeldSlot : Type 0 where
   pub value : Value
   pub last_use : ℕ
   pub stamp : ℕ
 
 -- a key with what is kept beside it
-abbrev pub slot_of : List ℕ → StoredValue → Slot
+abbrev pub slot_of : List ℕ → StoredValue → HeldSlot
 slot_of key kept =
     record { value = record { key = key; bytes = kept.bytes; part = kept.part; weight = kept.weight; accepted_at = kept.accepted_at; own_deadline = kept.own_deadline }; last_use = kept.last_use; stamp = kept.stamp }
 
@@ -23,20 +23,20 @@ abbrev pub Entry : Type 0
 Entry = Vec ℕ Global × StoredValue
 
 -- the entries, of which the newest comes first, as slots, oldest first
-abbrev pub slots_of : List Entry → List Slot
+abbrev pub slots_of : List Entry → List HeldSlot
 slots_of [] = []
 slots_of (e ∷ es) = slots_of es ++ slot_of e.0.items e.1 ∷ []
 
 -- the key's slot
-abbrev pub slot_at : List ℕ → List Slot → Option Slot
+abbrev pub slot_at : List ℕ → List HeldSlot → Option HeldSlot
 slot_at key slots = find (λ s. same key s.value.key) slots
 
 -- the slots but the key's
-abbrev pub slots_without : List ℕ → List Slot → List Slot
+abbrev pub slots_without : List ℕ → List HeldSlot → List HeldSlot
 slots_without key slots = without_key (λ s. s.value.key) key slots
 
 -- the key's slot is used at that moment
-abbrev pub slot_used_at : List ℕ → ℕ → Slot → Slot
+abbrev pub slot_used_at : List ℕ → ℕ → HeldSlot → HeldSlot
 slot_used_at key now s = if same key s.value.key then record s { last_use = now } else s
 
 -- none of the entries has the key

@@ -25,9 +25,9 @@ pub struct Table {
 
 impl Model for Table {
     ghost use Rattle.std.specs.Prelude.{List};
-    ghost use Rattle.audit_situation.specs.Held.Slots.{Slot, slots_of};
+    ghost use Rattle.audit_situation.specs.Held.Slots.{HeldSlot, slots_of};
 
-    ghost Value = { List Slot };
+    ghost Value = { List HeldSlot };
 
     ghost view = { λ t. slots_of t.cache.entries };
 }

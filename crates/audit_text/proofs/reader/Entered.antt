@@ -25,21 +25,21 @@ use Rattle.audit_text.specs.Reader.Lines.{line_words, is_skipped, kept, said_lin
 use Rattle.audit_text.specs.declared.reader.fields.TextError.{TextError}
 use Rattle.audit_text.specs.declared.reader.fields.TextError.TheVariants as error
 use Rattle.audit_text.specs.declared.reader.inputs.Begun.{Begun}
-use Rattle.audit_text.specs.declared.reader.inputs.Entry.{Entry}
-use Rattle.audit_text.specs.declared.reader.inputs.Entry.TheVariants as entry
+use Rattle.audit_text.specs.declared.reader.inputs.InputLine.{InputLine}
+use Rattle.audit_text.specs.declared.reader.inputs.InputLine.TheVariants as entry
 use Rattle.audit_text.specs.declared.reader.inputs.Replay.{Replay}
 use Rattle.audit_text.proofs.reader.Itemed.{config_of-words, words-config, words-outcome, bind-some, words-said}
 use Rattle.audit_text.proofs.reader.Joined.{Lacks, IsWord, joined, lacks-joined, line-joined, said_lines-line, said_lines-kept}
 use Rattle.audit_text.proofs.reader.Said.{number_in-decimal, word-decimal, bytes_in-word, word-bytes, number_or_none, word-tested}
 
 -- an entry that can be written
-abbrev FitsEntry : Entry → Type 0
+abbrev FitsEntry : InputLine → Type 0
 FitsEntry (entry.Config config) = FitsConfig config
 FitsEntry (entry.Made made) = FitsNumber made.nanos
 FitsEntry (entry.Input input) = FitsInput input
 
 -- the line_words of an entry
-abbrev entry_words : Entry → List (List ℕ)
+abbrev entry_words : InputLine → List (List ℕ)
 entry_words (entry.Config config) = config_words config
 entry_words (entry.Made made) = made_words made.nanos
 entry_words (entry.Input input) = input_words input
@@ -60,7 +60,7 @@ entry_words_in-input (input.Feed conn piece moment) fits = rw (number_in-decimal
 entry_words_in-input (input.Answer load outcome moment) fits = entry_words_in-answer load outcome moment fits
 entry_words_in-input (input.GiveUp load moment) fits = rw (number_in-decimal load.namespace fits.0, number_in-decimal load.number fits.1, number_in-decimal moment.nanos fits.2)
 
-entry_words_in-entry : (e : Entry) → FitsEntry e → entry_words_in (entry_words e) ≡ Some e
+entry_words_in-entry : (e : InputLine) → FitsEntry e → entry_words_in (entry_words e) ≡ Some e
 unfolding entry_words_in entry_of
 entry_words_in-entry (entry.Config config) fits = rw (config_of-words config fits)
 entry_words_in-entry (entry.Made made) fits = rw (number_in-decimal made.nanos fits)
@@ -76,12 +76,12 @@ words-asked (input.Answer load outcome moment) fits =
 words-asked (input.GiveUp load moment) fits =
     (word-tested (codes "input") refl, (word-decimal load.namespace fits.0, (word-tested (codes "giveup") refl, (word-decimal load.number fits.1, (word-decimal moment.nanos fits.2, tt)))))
 
-words-entry : (e : Entry) → FitsEntry e → Each IsWord (entry_words e)
+words-entry : (e : InputLine) → FitsEntry e → Each IsWord (entry_words e)
 words-entry (entry.Config config) fits = words-config config fits
 words-entry (entry.Made made) fits = (word-tested (codes "made") refl, (word-decimal made.nanos fits, tt))
 words-entry (entry.Input input) fits = words-asked input fits
 
-says-entry : (e : Entry) → is_skipped (joined (entry_words e)) ≡ false
+says-entry : (e : InputLine) → is_skipped (joined (entry_words e)) ≡ false
 says-entry (entry.Config config) = refl
 says-entry (entry.Made made) = refl
 says-entry (entry.Input (input.Open namespace)) = refl
@@ -90,33 +90,33 @@ says-entry (entry.Input (input.Feed conn piece moment)) = refl
 says-entry (entry.Input (input.Answer load outcome moment)) = refl
 says-entry (entry.Input (input.GiveUp load moment)) = refl
 
-text-entry : (e : Entry) → entry_line e ≡ joined (entry_words e) ++ 10 ∷ []
+text-entry : (e : InputLine) → entry_line e ≡ joined (entry_words e) ++ 10 ∷ []
 text-entry (entry.Config config) = line-joined (config_words config)
 text-entry (entry.Made made) = line-joined (made_words made.nanos)
 text-entry (entry.Input input) = line-joined (input_words input)
 
-entry_in-line : (e : Entry) (l : List ℕ) → entry_words_in (line_words l) ≡ Some e → entry_line e ≡ l ++ 10 ∷ [] → entry_in l ≡ Some e
+entry_in-line : (e : InputLine) (l : List ℕ) → entry_words_in (line_words l) ≡ Some e → entry_line e ≡ l ++ 10 ∷ [] → entry_in l ≡ Some e
 unfolding entry_in
 entry_in-line e l said text = bind-some (entry_words_in (line_words l)) e _ said ∙ cond-true (bytes_eq (entry_line e) (l ++ 10 ∷ [])) _ _ ((bytes_eq-Decides (entry_line e) (l ++ 10 ∷ [])).1 text)
 
-entry_in-entry : (e : Entry) → FitsEntry e → entry_in (joined (entry_words e)) ≡ Some e
+entry_in-entry : (e : InputLine) → FitsEntry e → entry_in (joined (entry_words e)) ≡ Some e
 entry_in-entry e fits =
     entry_in-line e (joined (entry_words e)) (ap entry_words_in (words-said (entry_words e) (says-entry e) (words-entry e fits)) ∙ entry_words_in-entry e fits) (text-entry e)
 
 -- ---- all lines
 
-abbrev configs_then : List Config → List Entry → List Entry
+abbrev configs_then : List Config → List InputLine → List InputLine
 configs_then [] es = es
 configs_then (c ∷ cs) es = entry.Config c ∷ configs_then cs es
 
-abbrev input_entries : List Input → List Entry
+abbrev input_entries : List Input → List InputLine
 input_entries [] = []
 input_entries (i ∷ is) = entry.Input i ∷ input_entries is
 
-abbrev entries : Replay → List Entry
+abbrev entries : Replay → List InputLine
 entries replay = configs_then replay.configs (entry.Made replay.made ∷ input_entries replay.inputs)
 
-fits-configs : (cs : List Config) (es : List Entry) → Each FitsConfig cs → Each FitsEntry es → Each FitsEntry (configs_then cs es)
+fits-configs : (cs : List Config) (es : List InputLine) → Each FitsConfig cs → Each FitsEntry es → Each FitsEntry (configs_then cs es)
 fits-configs [] es all more = more
 fits-configs (c ∷ cs) es all more = (all.0, fits-configs cs es all.1 more)
 
@@ -124,10 +124,10 @@ fits-inputs : (is : List Input) → Each FitsInput is → Each FitsEntry (input_
 fits-inputs [] all = tt
 fits-inputs (i ∷ is) all = (all.0, fits-inputs is all.1)
 
-abbrev text_of : List Entry → List ℕ
+abbrev text_of : List InputLine → List ℕ
 text_of es = flat_map entry_line es
 
-text-configs : (cs : List Config) (es : List Entry) → text_of (configs_then cs es) ≡ flat_map (λ config. line (config_words config)) cs ++ text_of es
+text-configs : (cs : List Config) (es : List InputLine) → text_of (configs_then cs es) ≡ flat_map (λ config. line (config_words config)) cs ++ text_of es
 text-configs [] es = refl
 text-configs (c ∷ cs) es = ap (λ t. line (config_words c) ++ t) (text-configs cs es) ∙ sym (append_assoc (line (config_words c)) (flat_map (λ config. line (config_words config)) cs) (text_of es))
 
@@ -145,11 +145,11 @@ text-entries replay =
     ∙ sym (append_assoc configs made inputs)
 
 -- entries behind what was read
-abbrev add_entries : Begun → List Entry → Option Begun
+abbrev add_entries : Begun → List InputLine → Option Begun
 add_entries b [] = Some b
 add_entries b (e ∷ es) = add_entry b e >>= (λ more. add_entries more es)
 
-lines-entries : (b : Begun) (es : List Entry) → Each FitsEntry es → begin_lines b (said_lines (text_of es)) ≡ add_entries b es
+lines-entries : (b : Begun) (es : List InputLine) → Each FitsEntry es → begin_lines b (said_lines (text_of es)) ≡ add_entries b es
 lines-entries b [] all = refl
 lines-entries b (e ∷ es) all = first ∙ by_sum (add_entry b e) (λ more. lines-entries more es all.1)
   where
@@ -166,15 +166,15 @@ lines-entries b (e ∷ es) all = first ∙ by_sum (add_entry b e) (λ more. line
     by_sum (Some more) behind = behind more
 
 -- entries behind what was read, to the end
-abbrev run : Begun → List Entry → Option Replay
+abbrev run : Begun → List InputLine → Option Replay
 run b es = add_entries b es >>= replay_of
 
-run-configs : (front cs : List Config) (es : List Entry) → run (record { configs = front; made = None; inputs = [] }) (configs_then cs es) ≡ run (record { configs = front ++ cs; made = None; inputs = [] }) es
+run-configs : (front cs : List Config) (es : List InputLine) → run (record { configs = front; made = None; inputs = [] }) (configs_then cs es) ≡ run (record { configs = front ++ cs; made = None; inputs = [] }) es
 unfolding begin_config
 run-configs front [] es = ap (λ c. run (record { configs = c; made = None; inputs = [] }) es) (sym (append-nil front))
 run-configs front (c ∷ cs) es = run-configs (front ++ c ∷ []) cs es ∙ ap (λ c. run (record { configs = c; made = None; inputs = [] }) es) (append_assoc front (c ∷ []) cs)
 
-run-made : (cs : List Config) (made : Instant) (es : List Entry) → cs ≢ [] → run (record { configs = cs; made = None; inputs = [] }) (entry.Made made ∷ es) ≡ run (record { configs = cs; made = Some made; inputs = [] }) es
+run-made : (cs : List Config) (made : Instant) (es : List InputLine) → cs ≢ [] → run (record { configs = cs; made = None; inputs = [] }) (entry.Made made ∷ es) ≡ run (record { configs = cs; made = Some made; inputs = [] }) es
 unfolding begin_made
 run-made [] made es some = absurd (some refl)
 run-made (c ∷ cs) made es some = rw (ne_eqb (length (c ∷ cs)) 0 (λ e. absurd (omega arith)))

@@ -9,7 +9,7 @@ use Rattle.audit_text.specs.declared.reader.fields.LineFault.{LineFault}
 use Rattle.audit_text.specs.declared.reader.fields.LineFault.TheVariants as fault
 use Rattle.audit_text.specs.declared.reader.gathering.Gathered.{Gathered}
 use Rattle.audit_text.specs.declared.reader.inputs.Begun.{Begun}
-use Rattle.audit_text.specs.declared.reader.inputs.Entry.{Entry}
+use Rattle.audit_text.specs.declared.reader.inputs.InputLine.{InputLine}
 use Rattle.audit_text.specs.declared.reader.item.Item.{Item}
 
 -- lines behind lines
@@ -40,7 +40,7 @@ begin_lines_append b (l ∷ front) behind = by_entry (entry_in l) (λ more. begi
     by_sum None rest = refl
     by_sum (Some more) rest = rest more
 
-    by_entry : (said : Option Entry) → ((more : Begun) → begin_lines more (front ++ behind) ≡ (begin_lines more front >>= (λ m. begin_lines m behind)))
+    by_entry : (said : Option InputLine) → ((more : Begun) → begin_lines more (front ++ behind) ≡ (begin_lines more front >>= (λ m. begin_lines m behind)))
         → (said >>= (λ e. add_entry b e >>= (λ more. begin_lines more (front ++ behind)))) ≡ ((said >>= (λ e. add_entry b e >>= (λ more. begin_lines more front))) >>= (λ m. begin_lines m behind))
     by_entry None rest = refl
     by_entry (Some e) rest = by_sum (add_entry b e) rest

@@ -15,7 +15,8 @@ use Rattle.audit_model.specs.declared.transcript.Accepted.{Accepted}
 use Rattle.audit_model.specs.declared.transcript.Note.{Note}
 use Rattle.audit_model.specs.declared.transcript.Step.{Step}
 use Rattle.audit_text.specs.Text.{config_words, deadline_words, made_words, event_words, outcome_words, own_text, part_word, note_line, step_words, step_text}
-use Rattle.audit_text.specs.Words.{bytes_word, option_word, flag_word, held_word, policy_word, weight_word, cause_word, line}
+use Rattle.audit_text.specs.Words.{bytes_word, option_word, flag_word, held_word, policy_word, weight_word, line}
+use Rattle.audit_model.specs.Notes.{cause_word}
 use Rattle.audit_text.specs.Reader.Fields.{◌>>=◌, field, whole}
 use Rattle.audit_text.specs.Reader.Fits.{Each, IfAny, FitsNumber, FitsBytes, FitsPart, FitsConfig, FitsOutcome, FitsEvent, FitsNote, FitsStep}
 use Rattle.audit_text.specs.Reader.Gathered.{item_line}

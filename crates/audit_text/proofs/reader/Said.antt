@@ -17,7 +17,8 @@ use Rattle.audit_model.specs.declared.config.Weight.TheVariants as weight
 use Rattle.audit_model.specs.declared.transcript.Accepted.{Accepted}
 use Rattle.audit_model.specs.declared.transcript.RemovalCause.{RemovalCause}
 use Rattle.audit_model.specs.declared.transcript.RemovalCause.TheVariants as cause
-use Rattle.audit_text.specs.Words.{hex_digit, byte_digits, bytes_word, option_word, flag_word, held_word, policy_word, weight_word, cause_word}
+use Rattle.audit_text.specs.Words.{hex_digit, byte_digits, bytes_word, option_word, flag_word, held_word, policy_word, weight_word}
+use Rattle.audit_model.specs.Notes.{cause_word}
 use Rattle.audit_text.specs.Text.{part_word}
 use Rattle.audit_lines.proofs.Digits.{AreDigits, number_in-fits}
 use Rattle.audit_text.specs.Reader.Fields.{◌>>=◌, option_in, part_in_words, flag_in, held_in, policy_in, weight_in_words, cause_in, digit_in, byte_in, digits_in, bytes_in}

@@ -19,12 +19,12 @@ use Rattle.audit_text.specs.Reader.Lines.{line_words, said_lines}
 use Rattle.audit_text.specs.declared.reader.fields.TextError.{TextError}
 use Rattle.audit_text.specs.declared.reader.fields.TextError.TheVariants as error
 use Rattle.audit_text.specs.declared.reader.inputs.Begun.{Begun}
-use Rattle.audit_text.specs.declared.reader.inputs.Entry.{Entry}
-use Rattle.audit_text.specs.declared.reader.inputs.Entry.TheVariants as entry
+use Rattle.audit_text.specs.declared.reader.inputs.InputLine.{InputLine}
+use Rattle.audit_text.specs.declared.reader.inputs.InputLine.TheVariants as entry
 use Rattle.audit_text.specs.declared.reader.inputs.Replay.{Replay}
 
 -- the line of an entry
-abbrev pub entry_line : Entry → List ℕ
+abbrev pub entry_line : InputLine → List ℕ
 entry_line (entry.Config config) = line (config_words config)
 entry_line (entry.Made made) = line (made_words made.nanos)
 entry_line (entry.Input input) = line (input_words input)
@@ -50,7 +50,7 @@ input_in ws = do
   asked_of namespace.0 kind.0 kind.1
 
 -- what is said, by its kind
-unfoldable pub entry_of : List ℕ → List (List ℕ) → Option (Entry × List (List ℕ))
+unfoldable pub entry_of : List ℕ → List (List ℕ) → Option (InputLine × List (List ℕ))
 entry_of kind ws =
     if bytes_eq kind (codes "input") then option_map (λ input. (entry.Input input.0, input.1)) (input_in ws)
     else (if bytes_eq kind (codes "config") then option_map (λ config. (entry.Config config.0, config.1)) (config_in_words ws)
@@ -58,14 +58,14 @@ entry_of kind ws =
     else None))
 
 -- what the line_words of a whole line say, not so strictly
-unfoldable pub entry_words_in : List (List ℕ) → Option Entry
+unfoldable pub entry_words_in : List (List ℕ) → Option InputLine
 entry_words_in ws = do
   kind ← field Some ws
   said ← entry_of kind.0 kind.1
   whole said
 
 -- what a line says; it is of the form only as it would be written
-unfoldable pub entry_in : List ℕ → Option Entry
+unfoldable pub entry_in : List ℕ → Option InputLine
 entry_in line = do
   said ← entry_words_in (line_words line)
   (if bytes_eq (entry_line said) (line ++ 10 ∷ []) then Some said else None)
@@ -97,7 +97,7 @@ unfoldable pub begin_input : Begun → Input → Option Begun
 begin_input b input = if is_none b.made then None else Some (record b { inputs = b.inputs ++ input ∷ [] })
 
 -- what was read with an entry more, where it may stand there
-abbrev pub add_entry : Begun → Entry → Option Begun
+abbrev pub add_entry : Begun → InputLine → Option Begun
 add_entry b (entry.Config config) = begin_config b config
 add_entry b (entry.Made made) = begin_made b made
 add_entry b (entry.Input input) = begin_input b input

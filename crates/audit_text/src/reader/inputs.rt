@@ -34,7 +34,7 @@ pub struct Begun {
 
 /// What one line of inputs says.
 #[derive(Drop)]
-pub enum Entry {
+pub enum InputLine {
     /// The settings of a namespace.
     Config(Config),
     /// The moment of the making.
@@ -103,20 +103,20 @@ fn take_input_line(alloc: Global, begun: &mut Begun, line: &[u8]) -> Result<(), 
 }
 
 /// Adds an entry behind the others, where it may stand there.
-fn add_entry(begun: &mut Begun, entry: Entry) -> Result<(), LineFault>
+fn add_entry(begun: &mut Begun, entry: InputLine) -> Result<(), LineFault>
     ensures text { OnOk result (begun_text begun.new ≡ begun_text begun.old ++ entry_line entry) }
     ensures said { IsMade (add_entry begun.old entry) result begun.new }
 {
     match entry {
-        Entry::Config(config) => begin_config(begun, config),
-        Entry::Made(made) => begin_made(begun, made),
-        Entry::Input(input) => begin_input(begun, input),
+        InputLine::Config(config) => begin_config(begun, config),
+        InputLine::Made(made) => begin_made(begun, made),
+        InputLine::Input(input) => begin_input(begun, input),
     }
 }
 
 #[tactic(auto, using(crate::proofs::reader::Growing::flat_map_push), unfolding(crate::specs::Reader::Entries::begin_config))]
 fn begin_config(begun: &mut Begun, config: Config) -> Result<(), LineFault>
-    ensures text { OnOk result (begun_text begun.new ≡ begun_text begun.old ++ entry_line (Entry.Config config)) }
+    ensures text { OnOk result (begun_text begun.new ≡ begun_text begun.old ++ entry_line (InputLine.Config config)) }
     ensures said { IsMade (begin_config begun.old config) result begun.new }
 {
     if !has_only_configs(begun) {
@@ -136,7 +136,7 @@ fn has_only_configs(begun: &Begun) -> bool
 
 #[tactic(auto, unfolding(crate::specs::Reader::Entries::begin_made))]
 fn begin_made(begun: &mut Begun, made: Instant) -> Result<(), LineFault>
-    ensures text { OnOk result (begun_text begun.new ≡ begun_text begun.old ++ entry_line (Entry.Made made)) }
+    ensures text { OnOk result (begun_text begun.new ≡ begun_text begun.old ++ entry_line (InputLine.Made made)) }
     ensures said { IsMade (begin_made begun.old made) result begun.new }
 {
     if !has_only_configs(begun) || begun.configs.len() == 0 {
@@ -148,7 +148,7 @@ fn begin_made(begun: &mut Begun, made: Instant) -> Result<(), LineFault>
 
 #[tactic(auto, using(crate::proofs::reader::Growing::flat_map_push), unfolding(crate::specs::Reader::Entries::begin_input))]
 fn begin_input(begun: &mut Begun, input: Input) -> Result<(), LineFault>
-    ensures text { OnOk result (begun_text begun.new ≡ begun_text begun.old ++ entry_line (Entry.Input input)) }
+    ensures text { OnOk result (begun_text begun.new ≡ begun_text begun.old ++ entry_line (InputLine.Input input)) }
     ensures said { IsMade (begin_input begun.old input) result begun.new }
 {
     if begun.made.is_none() {
@@ -160,7 +160,7 @@ fn begin_input(begun: &mut Begun, input: Input) -> Result<(), LineFault>
 
 /// What a line says. A line is of the form only as it would be written: its text is compared.
 #[tactic(auto, unfolding(crate::specs::Reader::Entries::entry_in))]
-fn read_entry(alloc: Global, line: &[u8]) -> Result<Entry, LineFault>
+fn read_entry(alloc: Global, line: &[u8]) -> Result<InputLine, LineFault>
     ensures written { IfOk result (λ e. entry_line e ≡ line.now ++ 10 ∷ []) }
     ensures said { IsRead (entry_in line.now) result }
 {
@@ -169,7 +169,7 @@ fn read_entry(alloc: Global, line: &[u8]) -> Result<Entry, LineFault>
 }
 
 /// That an entry would be written as this line.
-fn check_entry(alloc: Global, entry: &Entry, line: &[u8]) -> Result<(), LineFault>
+fn check_entry(alloc: Global, entry: &InputLine, line: &[u8]) -> Result<(), LineFault>
     ensures written { OnOk result (entry_line entry.now ≡ line.now ++ 10 ∷ []) }
     ensures said { IsMade (if bytes_eq (entry_line entry.now) (line.now ++ 10 ∷ []) then Some entry.now else None) result entry.now }
 {
@@ -183,13 +183,13 @@ fn check_entry(alloc: Global, entry: &Entry, line: &[u8]) -> Result<(), LineFaul
 }
 
 /// Writes an entry.
-fn put_entry(text: &mut Vec<u8>, entry: &Entry) -> Result<(), AllocError>
+fn put_entry(text: &mut Vec<u8>, entry: &InputLine) -> Result<(), AllocError>
     ensures { OnOk result (text.new.items ≡ text.old.items ++ entry_line entry.now) }
 {
     match entry {
-        Entry::Config(config) => put_config(text, config),
-        Entry::Made(made) => put_made(text, *made),
-        Entry::Input(input) => put_input(text, input),
+        InputLine::Config(config) => put_config(text, config),
+        InputLine::Made(made) => put_made(text, *made),
+        InputLine::Input(input) => put_input(text, input),
     }
 }
 
@@ -239,7 +239,7 @@ fn put_asked(text: &mut Vec<u8>, input: &Input) -> Result<(), AllocError>
 
 /// Reads a line, not so strictly.
 #[tactic(auto, unfolding(crate::specs::Reader::Entries::entry_words_in))]
-fn parse_entry(alloc: Global, line: &[u8]) -> Result<Entry, LineFault>
+fn parse_entry(alloc: Global, line: &[u8]) -> Result<InputLine, LineFault>
     ensures { IsRead (entry_words_in (line_words line.now)) result }
 {
     let mut words = Words::new(line);
@@ -250,7 +250,11 @@ fn parse_entry(alloc: Global, line: &[u8]) -> Result<Entry, LineFault>
 
 /// What is said behind the word that names its kind.
 #[tactic(auto, unfolding(crate::specs::Reader::Entries::entry_of))]
-fn parse_entry_kind(alloc: Global, kind: &[u8], words: &mut Words<'_>) -> Result<Entry, LineFault>
+fn parse_entry_kind(
+    alloc: Global,
+    kind: &[u8],
+    words: &mut Words<'_>,
+) -> Result<InputLine, LineFault>
     ensures { IsReadOff (entry_of kind.now (words_left words.old)) result (words_left words.new) }
 {
     if kind == b"input".as_slice() {
@@ -265,27 +269,27 @@ fn parse_entry_kind(alloc: Global, kind: &[u8], words: &mut Words<'_>) -> Result
 }
 
 /// An input, as an entry.
-fn parse_input(alloc: Global, words: &mut Words<'_>) -> Result<Entry, LineFault>
-    ensures { IsReadOff (option_map (λ input. (Entry.Input input.0, input.1)) (input_in (words_left words.old))) result (words_left words.new) }
+fn parse_input(alloc: Global, words: &mut Words<'_>) -> Result<InputLine, LineFault>
+    ensures { IsReadOff (option_map (λ input. (InputLine.Input input.0, input.1)) (input_in (words_left words.old))) result (words_left words.new) }
 {
     let input = read_input(alloc, words)?;
-    Ok(Entry::Input(input))
+    Ok(InputLine::Input(input))
 }
 
 /// The settings of a namespace, as an entry.
-fn parse_config(words: &mut Words<'_>) -> Result<Entry, LineFault>
-    ensures { IsReadOff (option_map (λ config. (Entry.Config config.0, config.1)) (config_in_words (words_left words.old))) result (words_left words.new) }
+fn parse_config(words: &mut Words<'_>) -> Result<InputLine, LineFault>
+    ensures { IsReadOff (option_map (λ config. (InputLine.Config config.0, config.1)) (config_in_words (words_left words.old))) result (words_left words.new) }
 {
     let config = read_config(words)?;
-    Ok(Entry::Config(config))
+    Ok(InputLine::Config(config))
 }
 
 /// The moment of the making, as an entry.
-fn parse_made(words: &mut Words<'_>) -> Result<Entry, LineFault>
-    ensures { IsReadOff (option_map (λ nanos. (Entry.Made (record { nanos = nanos.0 }), nanos.1)) (field number_in (words_left words.old))) result (words_left words.new) }
+fn parse_made(words: &mut Words<'_>) -> Result<InputLine, LineFault>
+    ensures { IsReadOff (option_map (λ nanos. (InputLine.Made (record { nanos = nanos.0 }), nanos.1)) (field number_in (words_left words.old))) result (words_left words.new) }
 {
     let nanos = words.number()?;
-    Ok(Entry::Made(Instant { nanos }))
+    Ok(InputLine::Made(Instant { nanos }))
 }
 
 /// An input behind its word: a namespace, and an event; an opening has no number.

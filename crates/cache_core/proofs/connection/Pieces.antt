@@ -16,7 +16,7 @@ use Rattle.cache_lines.specs.Making.{Making, making_of}
 use Rattle.cache_lines.specs.Waiting.{waiting, with_under_way}
 use Rattle.cache_lines.specs.Whole.{has_line, held_line}
 use Rattle.cache_lines.specs.declared.ending.End.{End}
-use Rattle.cache_lines.specs.declared.releasing.Fed.{Fed}
+use Rattle.cache_lines.specs.declared.releasing.Released.{Released}
 use Rattle.cache_lines.proofs.Drawn.{spends-same}
 use Rattle.cache_lines.proofs.LineRuns.{gather-none}
 use Rattle.cache_lines.proofs.LoadWaits.{stops-waiting}
@@ -89,7 +89,7 @@ fed-ready now_is number old new piece rest end is_held was is e r puts closes ru
 }
 
 -- the connection held a line back
-pub fed-held : (now_is number : ℕ) (old new : Connection) (piece rest : List ℕ) (fed : Fed) (is_held : Bool) (was is : Seen)
+pub fed-held : (now_is number : ℕ) (old new : Connection) (piece rest : List ℕ) (fed : Released) (is_held : Bool) (was is : Seen)
     → old.standing ≡ now.Held → HeldRan now_is number old.waited old.unread.bytes piece rest fed was is
     → ((base : Situation) (left : List HeldValue) (n : ℕ) → situation_behind (ends_by_quit fed.end) base left (left_by n fed.end fed.waited rest) ≡ put_in base left n new)
     → ClosesFor (closing_by false (ends_by_quit fed.end) (waits_now fed.end)) new.closing → RunsOn new.closing new.standing (ends_by_quit fed.end) (waits_now fed.end) → is_held ≡ holds_back fed.end

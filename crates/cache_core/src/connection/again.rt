@@ -16,7 +16,7 @@ ghost use Rattle.cache_lines.specs.Tape.Taped.{HasSpare};
 use crate::connection::connection::Connection;
 use audit_lines::{Buffer, Next};
 use cache_commands::{Standing, write_abandoned};
-use cache_lines::{Base, Done, Tape, join_load, run_line};
+use cache_lines::{Base, LineOutcome, Tape, join_load, run_line};
 use cache_store::Store;
 
 /// How often a `LOAD` may wait.
@@ -91,7 +91,7 @@ fn load_again<S: Store, T: Tape>(
         line,
         &mut connection.output.text,
     ) {
-        Ok(Done::Misses) => {
+        Ok(LineOutcome::Misses) => {
             match join_load(
                 &mut base.loads,
                 &mut base.tape,
@@ -109,12 +109,12 @@ fn load_again<S: Store, T: Tape>(
                 }
             }
         }
-        Ok(Done::Stays) => {
+        Ok(LineOutcome::Stays) => {
             pass_line(&mut connection.unread);
             connection.standing = Standing::Ready;
             connection.waited = 0;
         }
-        Ok(Done::Quits) => {
+        Ok(LineOutcome::Quits) => {
             pass_line(&mut connection.unread);
             connection.standing = Standing::Ready;
             connection.waited = 0;

@@ -8,7 +8,7 @@ ghost use Rattle.cache_commands.specs.declared.loads.standing.Standing.TheVarian
 use audit_lines::Buffer;
 use audit_model::Closing;
 use cache_commands::Standing;
-use cache_lines::Output;
+use cache_lines::ReplyBuffer;
 use std::alloc::Global;
 
 /// A connection: what came and was not used, the replies that were not taken, and why it closed.
@@ -18,7 +18,7 @@ pub struct Connection {
     pub standing: Standing,
     /// How often the `LOAD` that is its first unread line began to wait, at most 200.
     pub waited: u64,
-    pub output: Output,
+    pub output: ReplyBuffer,
     pub closing: Option<Closing>,
     ghost fits: { Fits standing waited closing unread.bytes },
     ghost roomy: { waits_for_load standing ≡ true → IsRoomy output },
@@ -35,7 +35,7 @@ pub fn new_connection(alloc: Global) -> Connection
         unread: Buffer::new(alloc),
         standing: Standing::Ready,
         waited: 0,
-        output: Output::new(alloc),
+        output: ReplyBuffer::new(alloc),
         closing: None,
     }
 }

@@ -10,7 +10,7 @@ ghost use Rattle.cache_commands.specs.declared.loads.standing.Standing.TheVarian
 use crate::connection::connection::Connection;
 use crate::connection::standing::{Stance, stand, wait_or_close};
 use cache_commands::{Standing, is_holding};
-use cache_lines::{Base, Fed, Tape, take_held, take_piece};
+use cache_lines::{Base, Released, Tape, take_held, take_piece};
 use cache_store::Store;
 use std::alloc::AllocError;
 
@@ -75,7 +75,7 @@ fn feed_held<S: Store, T: Tape>(
         piece,
         &mut connection.output,
     ) {
-        Ok(Fed { end, waited: times }) => {
+        Ok(Released { end, waited: times }) => {
             let Stance {
                 standing,
                 waited,

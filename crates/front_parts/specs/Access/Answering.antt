@@ -18,6 +18,16 @@ module _ {V F : Type 0} where
   Suits (Some Try) (Fault f) = Unit {0}
   Suits kind other = ⊥
 
+  -- what was made, where there may be none
+  abbrev pub made_option : Option V → Made V F
+  made_option (Some value) = Value value
+  made_option None = Nothing
+
+  -- what was made, or why not
+  abbrev pub made_result : Result V F → Made V F
+  made_result (Ok value) = Value value
+  made_result (Err fault) = Fault fault
+
   -- a value was made, and such a one
   abbrev pub IsValueOf : (V → Type 0) → Made V F → Type 0
   IsValueOf Makes (Value v) = Makes v

@@ -8,23 +8,11 @@ ghost use Rattle.front_parts.specs.Places.Turning.{IsTurnCause, IsTurnPlace};
 use engine_reference::Names;
 use front_reference::{CacheError, IntoKey, OpenTurn, TurnKind};
 
-/// Whether two kinds are the same.
-fn is_kind(kind: TurnKind, other: TurnKind) -> bool
-    ensures { result ≡ same_kind kind other }
-{
-    match kind {
-        TurnKind::With => matches!(other, TurnKind::With),
-        TurnKind::Optionally => matches!(other, TurnKind::Optionally),
-        TurnKind::Try => matches!(other, TurnKind::Try),
-        TurnKind::Compute => matches!(other, TurnKind::Compute),
-    }
-}
-
 /// Whether a turn is the one of a kind and a key.
 fn is_turn_of<K: PartialEq, Q: Names<K>>(turn: &OpenTurn<K>, kind: TurnKind, key: &Q) -> bool
     ensures { result ≡ (same_kind turn.now.kind kind && K.eq (Q.named_key key.now) turn.now.key) }
 {
-    is_kind(turn.kind, kind) && key.is_name_of(&turn.key)
+    turn.kind.is_same(kind) && key.is_name_of(&turn.key)
 }
 
 /// The number of the turn of a kind and a key.

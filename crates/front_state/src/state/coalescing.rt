@@ -2,16 +2,17 @@
 ghost use Rattle.std.specs.Prelude.{◌≡◌, false, Some, None, IfOk, IfErr, OnErr};
 ghost use Rattle.std.specs.Arc.{arc_value};
 ghost use Rattle.std.specs.Fn.{FnOnceReturnsAt};
-ghost use Rattle.front_parts.specs.Access.Answering.{IsOptionOf, IsResultOf, IsValueOf, Suits, passes_none};
+ghost use Rattle.front_parts.specs.Access.Answering.{IsOptionOf, IsResultOf, IsValueOf, Suits, made_option, made_result, passes_none};
 ghost use Rattle.front_parts.specs.Access.Selecting.{with_fault};
 ghost use Rattle.front_reference.specs.Fronts.{ComesAfter};
 ghost use Rattle.front_reference.specs.declared.data.Made.TheVariants as outcome;
 ghost use Rattle.front_reference.specs.declared.data.TurnKind.TheVariants as turns;
-ghost use Rattle.front_state.specs.Accessing.{GetsIn, GetsOptionIn, GetsResultIn, MayCall, made_option, made_result};
+ghost use Rattle.front_state.specs.Accessing.{GetsIn, GetsOptionIn, GetsResultIn, MayCall};
 ghost use Rattle.front_parts.specs.Places.Calls.{IsCauseIn, hash_in, ways_by};
 
 use crate::state::LentState;
 use engine_reference::Rules;
+use front_parts::{option_made, result_made, value_made};
 use front_reference::{At, CacheError, ClonedKey, IntoKey, Made, OwnedKey, Shared};
 use std::alloc::{AllocError, Global};
 use std::hash::{BuildHasher, Hash, Hasher};
@@ -376,40 +377,5 @@ fn made_of_result<V: Drop, F: Drop>(
     match answer {
         Ok(value) => Ok(Made::Value(value)),
         Err(fault) => Ok(Made::Fault(Shared::new(alloc, fault)?)),
-    }
-}
-
-/// The value that was made.
-fn value_made<V>(made: Made<V, ()>) -> V
-    requires { Suits None made }
-    ensures { outcome.Value result ≡ made }
-{
-    match made {
-        Made::Value(value) => value,
-        _ => unreachable!(),
-    }
-}
-
-/// The value that was made, if one was.
-fn option_made<V>(made: Made<V, ()>) -> Option<V>
-    requires { Suits (Some turns.Optionally) made }
-    ensures { made_option result ≡ made }
-{
-    match made {
-        Made::Value(value) => Some(value),
-        Made::Nothing => None,
-        Made::Fault(_) => unreachable!(),
-    }
-}
-
-/// The value that was made, or why none was.
-fn result_made<V, F: Drop>(made: Made<V, Shared<F>>) -> Result<V, Arc<F>>
-    requires { Suits (Some turns.Try) made }
-    ensures { made_result (with_fault arc_value result) ≡ made }
-{
-    match made {
-        Made::Value(value) => Ok(value),
-        Made::Fault(fault) => Err(fault.into_arc()),
-        Made::Nothing => unreachable!(),
     }
 }

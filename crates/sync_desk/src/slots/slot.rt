@@ -29,7 +29,7 @@ impl<V, F> Debug for Ending<V, F> {
 
 /// One turn that is led, or that some still wait for.
 #[derive(Drop)]
-pub(crate) struct Slot<V, F> {
+pub(crate) struct TurnSlot<V, F> {
     pub(crate) kind: TurnKind,
     pub(crate) number: u64,
     pub(crate) waiting: u64,

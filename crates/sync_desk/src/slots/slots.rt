@@ -1,43 +1,29 @@
 //! Who waits for which turn, and how it ended.
 ghost use Rattle.std.specs.Prelude.{◌≡◌, ◌<◌, ◌≤◌, ◌&&◌, [], true, position, ◌+◌, nat_lt, IfOk, IfErr, IfSome, OnOk, OnErr, length, vec_len, vec_capacity};
 ghost use Rattle.std.specs.List.{list_any};
-ghost use Rattle.front_reference.specs.Fronts.{same_kind};
 ghost use Rattle.front_reference.specs.declared.data.TurnKind.{TurnKind};
 ghost use Rattle.front_reference.specs.declared.errors.CacheError.TheVariants as errors;
 ghost use Rattle.sync_desk.specs.Slots.Endings.{fits, suits};
 ghost use Rattle.sync_desk.specs.Slots.Waiting.{JoinsAt, OpensAtEnd, is_slot_of};
 ghost use Rattle.sync_desk.specs.declared.slots.slot.Ending.TheVariants.{Underway};
 
-use crate::slots::slot::{Ending, Slot};
+use crate::slots::slot::{Ending, TurnSlot};
 use front_reference::{CacheError, Made, TurnKind};
 use std::alloc::{AllocError, Global};
 
 /// All of them.
 #[derive(Drop)]
 pub struct Slots<V, F> {
-    pub(crate) slots: Vec<Slot<V, F>>,
+    pub(crate) slots: Vec<TurnSlot<V, F>>,
 }
 
-/// Whether two kinds are the same.
-fn is_kind(kind: TurnKind, other: TurnKind) -> bool
-    ensures same { result ≡ true → kind ≡ other }
-    ensures value { result ≡ same_kind kind other }
-{
-    match kind {
-        TurnKind::With => matches!(other, TurnKind::With),
-        TurnKind::Optionally => matches!(other, TurnKind::Optionally),
-        TurnKind::Try => matches!(other, TurnKind::Try),
-        TurnKind::Compute => matches!(other, TurnKind::Compute),
-    }
-}
-
-impl<V: Drop, F: Drop> Slot<V, F> {
+impl<V: Drop, F: Drop> TurnSlot<V, F> {
     /// Whether it is the turn of this kind and number.
     fn is(&self, kind: TurnKind, number: u64) -> bool
         ensures same { result ≡ true → self.now.kind ≡ kind }
         ensures value { result ≡ is_slot_of kind number self.now }
     {
-        self.number == number && is_kind(self.kind, kind)
+        self.number == number && self.kind.is_same(kind)
     }
 
     /// Whether the turn is under way.
@@ -71,7 +57,7 @@ impl<V: Drop, F: Drop> Slot<V, F> {
     }
 }
 
-impl<V: Clone + Drop, F: Clone + Drop> Slot<V, F> {
+impl<V: Clone + Drop, F: Clone + Drop> TurnSlot<V, F> {
     /// One less waits, and gets a clone of what the turn ended with.
     fn leave(&mut self) -> Result<Ending<V, F>, AllocError>
         ensures { IfOk result (λ ending. fits self.old.kind ending ≡ true) }
@@ -97,7 +83,11 @@ pub fn copy_made<V: Clone, F: Clone>(made: &Made<V, F>) -> Result<Made<V, F>, Al
 }
 
 /// The place of the turn of a kind and number.
-fn place_of<V: Drop, F: Drop>(slots: &[Slot<V, F>], kind: TurnKind, number: u64) -> Option<usize>
+fn place_of<V: Drop, F: Drop>(
+    slots: &[TurnSlot<V, F>],
+    kind: TurnKind,
+    number: u64,
+) -> Option<usize>
     ensures value { result ≡ position (is_slot_of kind number) slots.now }
     ensures within { IfSome result (λ i. i < length slots.now) }
 {
@@ -127,7 +117,7 @@ impl<V: Drop, F: Drop> Slots<V, F> {
         requires room { vec_len self.old.slots < vec_capacity self.old.slots }
         ensures opens { OpensAtEnd kind number self.old.slots.items self.new.slots.items }
     {
-        self.slots.push_reserved(Slot {
+        self.slots.push_reserved(TurnSlot {
             kind,
             number,
             waiting: 0,

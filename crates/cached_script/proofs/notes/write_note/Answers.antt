@@ -4,7 +4,7 @@ use Rattle.cached_script.proofs.notes.write_note.Goals as goal
 
 pub returns-clause-ok : goal.returns-clause-ok
 returns-clause-ok g c =
-    rw (← c.cause_word.ensures, ← c.as_slice.ensures, ← c.as_slice-2.ensures) (on_ok_weaker c.put-7.result
+    rw (← c.word.ensures, ← c.as_slice.ensures, ← c.as_slice-2.ensures) (on_ok_weaker c.put-7.result
     (λ last. gathers-more _ _ _ _ _ _ _ _
     (gathers-more _ _ _ _ _ _ _ _
     (gathers-more _ _ _ _ _ _ _ _

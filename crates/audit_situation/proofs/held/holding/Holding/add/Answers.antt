@@ -1,7 +1,7 @@
 use Rattle.std.proofs.Common.{true, cond, ◌≡◌, ◌++◌, ◌∷◌, [], ◌+◌, sym, ap, ◌∙◌, map, set, get_or, subst}
 use Rattle.std.specs.List.{find}
 use Rattle.audit_model.specs.Bytewise.{same}
-use Rattle.audit_situation.specs.Held.Slots.{Slot, slot_of, slot_at}
+use Rattle.audit_situation.specs.Held.Slots.{HeldSlot, slot_of, slot_at}
 use Rattle.audit_situation.specs.Held.Holds.{held_by, is_open_key, RepresentsHeld}
 use Rattle.audit_situation.proofs.held.Keeping.{keeps-more, view-more, absent-slot}
 use Rattle.audit_situation.proofs.held.holding.Holding.add.Goals as goal
@@ -9,7 +9,7 @@ use Rattle.audit_situation.proofs.held.holding.Holding.add.Goals as goal
 pub add-requires : goal.add-requires
 add-requires c =
     let inside = c.self.inside in
-    ap (λ (s : Slot). slot_at s.value.key inside.table) c.into_kept-key.ensures
+    ap (λ (s : HeldSlot). slot_at s.value.key inside.table) c.into_kept-key.ensures
     ∙ absent-slot inside.open_keys inside.marks.items c.args.held.value.key inside.table
     (ap (find (λ h. same c.args.held.value.key h.value.key)) c.self.view_is ∙ c.requires.absent)
 
@@ -34,7 +34,7 @@ returns c =
     let inside = c.self.inside in
     let held = c.args.held in
     let s = slot_of c.into_kept-key.result.0.items c.into_kept-key.result.1 in
-    let own = ap (λ (s : Slot). s.value.key) c.into_kept-key.ensures in
+    let own = ap (λ (s : HeldSlot). s.value.key) c.into_kept-key.ensures in
     ap (map (held_by c.open_key.new.keys inside.marks.items)) c.in_ok-add.ensures.added
     ∙ view-more inside.next c.open_key.new.keys inside.open_keys inside.marks.items inside.weights.items inside.total inside.table inside.keeps s held c.into_kept-key.ensures
     (absent-slot inside.open_keys inside.marks.items held.value.key inside.table (ap (find (λ h. same held.value.key h.value.key)) c.self.view_is ∙ c.requires.absent))

@@ -20,7 +20,7 @@ use std::sync::ledger::{Blank, Book, Share};
 
 /// The service under the lock, with the book of all seats' events and the parts that no seat has.
 #[derive(Drop)]
-pub struct Desk<L: Seating, C: Stepping> {
+pub struct BookedService<L: Seating, C: Stepping> {
     pub(crate) core: C,
     book: Book<L>,
     rest: Share<L>,
@@ -42,16 +42,16 @@ pub struct Finished<C: Stepping> {
     pub receipts: Vec<Vec<Vec<Receipt>>>,
 }
 
-impl<L: Seating, C: Stepping> Desk<L, C> {
-    /// A desk without seats, over a service of no events. Its ledger is cut into `parts`, one for each seat.
-    pub fn new(core: C, blank: Blank, parts: u64) -> Desk<L, C>
+impl<L: Seating, C: Stepping> BookedService<L, C> {
+    /// A service without seats, over a service of no events. Its ledger is cut into `parts`, one for each seat.
+    pub fn new(core: C, blank: Blank, parts: u64) -> BookedService<L, C>
         requires empty { C.events core ≡ 0 }
         requires name { blank.name ≡ L.name }
         requires parts { (blank.parts ≡ L.parts) × (L.all ≡ L.parts) × (parts ≡ L.parts) }
         ensures { result.core ≡ core }
     {
         let (book, rest) = blank.open::<L>();
-        Desk {
+        BookedService {
             core,
             book,
             rest,
@@ -78,7 +78,7 @@ impl<L: Seating, C: Stepping> Desk<L, C> {
         ensures seat { (result.count ≡ 0) × (result.receipts.items ≡ []) }
         ensures core { self.new.core ≡ self.old.core }
     {
-        let Desk { rest, left, .. } = self;
+        let BookedService { rest, left, .. } = self;
         let share = rest.split_off(1, 0);
         *left -= 1;
         Seat {
@@ -241,7 +241,7 @@ impl<L: Seating, C: Stepping> Desk<L, C> {
         ensures unchanged { OnErr result (TakesNothing C.spaces C.events self.old.core self.new.core × (count.new ≡ count.old)) }
         ensures back { IfErr result (λ refusal. refusal.input ≡ input) }
     {
-        let Desk { core, book, .. } = self;
+        let BookedService { core, book, .. } = self;
         let Some(next) = count.checked_add(1) else {
             return Err(Refusal {
                 error: ServiceError::UsedUp,
@@ -292,7 +292,7 @@ impl<L: Seating, C: Stepping> Desk<L, C> {
         ensures receipts { result.receipts.items ≡ map (λ seat. seat.receipts) seats.items }
         ensures reached { ∥ IsReached (C.spaces result.service) (C.events result.service) ∥₁ }
     {
-        let Desk {
+        let BookedService {
             core,
             mut book,
             mut rest,
@@ -316,14 +316,14 @@ impl<L: Seating, C: Stepping> Desk<L, C> {
     }
 }
 
-impl<L: Seating, C: Takings> Desk<L, C> {
+impl<L: Seating, C: Takings> BookedService<L, C> {
     /// The reply bytes of a connection since the last taking, moved out.
     pub fn take_output(&mut self, conn: Conn) -> Result<Replies<C>, ServiceError>
         ensures conn { IfOk result (λ replies. replies.conn ≡ conn) }
         ensures refused { IfErr result (λ e. (e ≡ ServiceError.OutOfMemory) ⊎ HeldAtSomeMoment C.spaces C.events (λ spaces. Refuses spaces conn.namespace e (λ space. IsUnknown space conn.number e))) }
         ensures events { C.events self.new.core ≡ C.events self.old.core }
     {
-        let Desk { core, .. } = self;
+        let BookedService { core, .. } = self;
         take_replies(core, conn)
     }
 
@@ -333,7 +333,7 @@ impl<L: Seating, C: Takings> Desk<L, C> {
         ensures refused { IfErr result (λ e. HeldAtSomeMoment C.spaces C.events (λ spaces. (e ≡ ServiceError.NoNamespace) × (length spaces ≤ namespace))) }
         ensures events { C.events self.new.core ≡ C.events self.old.core }
     {
-        let Desk { core, .. } = self;
+        let BookedService { core, .. } = self;
         take_loads(core, namespace)
     }
 
@@ -343,7 +343,7 @@ impl<L: Seating, C: Takings> Desk<L, C> {
         ensures refused { IfErr result (λ e. (e ≡ ServiceError.OutOfMemory) ⊎ HeldAtSomeMoment C.spaces C.events (λ spaces. (e ≡ ServiceError.NoNamespace) × (length spaces ≤ namespace))) }
         ensures events { C.events self.new.core ≡ C.events self.old.core }
     {
-        let Desk { core, .. } = self;
+        let BookedService { core, .. } = self;
         core.stands();
         core.next_notice(namespace)
     }

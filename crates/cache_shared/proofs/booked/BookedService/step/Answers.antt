@@ -3,7 +3,7 @@ use Rattle.audit_laws.specs.declared.receipts.receipt.Receipt.{Receipt}
 use Rattle.cache_shared.proofs.Coming.{came-result}
 use Rattle.cache_shared.proofs.Counted.{counts-bare, counts-kept}
 use Rattle.cache_shared.specs.Seats.{receipts_at}
-use Rattle.cache_shared.proofs.desk.Desk.step.Goals as goal
+use Rattle.cache_shared.proofs.booked.BookedService.step.Goals as goal
 
 pub returns-then-KEEPS-clause-counted : goal.returns-then-KEEPS-clause-counted
 returns-then-KEEPS-clause-counted g c =

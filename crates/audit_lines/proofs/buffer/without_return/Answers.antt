@@ -2,7 +2,7 @@ use Rattle.std.proofs.Common.{◌-◌, length, sym, ap, ◌∙◌, arith}
 use Rattle.std.proofs.lemmas.List.{nil_from_length}
 use Rattle.audit_model.specs.Stream.{without_return}
 use Rattle.audit_lines.proofs.Returns.{without_return-dropped, without_return-kept}
-use Rattle.audit_lines.proofs.buffer.trim.Goals as goal
+use Rattle.audit_lines.proofs.buffer.without_return.Goals as goal
 
 pub returns-then-len-eq0-clause-line : goal.returns-then-len-eq0-clause-line
 returns-then-len-eq0-clause-line c =

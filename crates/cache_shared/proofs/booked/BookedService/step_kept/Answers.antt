@@ -1,6 +1,6 @@
 use Rattle.std.proofs.Common.{◌<◌, rules, length}
 use Rattle.cache_shared.proofs.Keeping.{gains-result, stays-result}
-use Rattle.cache_shared.proofs.desk.Desk.step_kept.Goals as goal
+use Rattle.cache_shared.proofs.booked.BookedService.step_kept.Goals as goal
 
 pub returns-in-Ok-make_lists-clause-receipt : goal.returns-in-Ok-make_lists-clause-receipt
 returns-in-Ok-make_lists-clause-receipt g c =

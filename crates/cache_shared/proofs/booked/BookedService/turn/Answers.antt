@@ -1,5 +1,5 @@
 use Rattle.cache_shared.proofs.Moving.{moves-none}
-use Rattle.cache_shared.proofs.desk.Desk.turn.Goals as goal
+use Rattle.cache_shared.proofs.booked.BookedService.turn.Goals as goal
 
 pub returns-in-Err-clause-moved : goal.returns-in-Err-clause-moved
 returns-in-Err-clause-moved g c = record { core = c.args.self.now.core; reached = c.stands.ensures; left = _; moved = moves-none _ _ }

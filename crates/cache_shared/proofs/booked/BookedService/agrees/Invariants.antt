@@ -1,5 +1,5 @@
 use Rattle.cache_shared.specs.Seats.{AgreeBelow}
-use Rattle.cache_shared.proofs.desk.Desk.agrees.Given as goal
+use Rattle.cache_shared.proofs.booked.BookedService.agrees.Given as goal
 
 abbrev pub invariant-loop-namespace : goal.invariant-loop-namespace
 invariant-loop-namespace g l = AgreeBelow l.namespace (g.C.Stepping.journals l.self.core) (λ seat. seat.receipts.items) l.seats

@@ -1,0 +1,45 @@
+//! What calls that make a value answer, by what was made.
+ghost use Rattle.std.specs.Prelude.{◌≡◌, Some, None};
+ghost use Rattle.std.specs.Arc.{arc_value};
+ghost use Rattle.front_reference.specs.declared.data.Made.TheVariants as outcome;
+ghost use Rattle.front_reference.specs.declared.data.TurnKind.TheVariants as turns;
+ghost use Rattle.front_parts.specs.Access.Answering.{Suits, made_option, made_result};
+ghost use Rattle.front_parts.specs.Access.Selecting.{with_fault};
+
+use front_reference::{Made, Shared};
+use std::sync::Arc;
+
+/// The value that was made.
+pub fn value_made<V, F: Drop>(made: Made<V, F>) -> V
+    requires { Suits None made }
+    ensures { outcome.Value result ≡ made }
+{
+    match made {
+        Made::Value(value) => value,
+        _ => unreachable!(),
+    }
+}
+
+/// The value that was made, if one was.
+pub fn option_made<V, F: Drop>(made: Made<V, F>) -> Option<V>
+    requires { Suits (Some turns.Optionally) made }
+    ensures { made_option result ≡ made }
+{
+    match made {
+        Made::Value(value) => Some(value),
+        Made::Nothing => None,
+        Made::Fault(_) => unreachable!(),
+    }
+}
+
+/// The value that was made, or why none was.
+pub fn result_made<V, F: Drop>(made: Made<V, Shared<F>>) -> Result<V, Arc<F>>
+    requires { Suits (Some turns.Try) made }
+    ensures { made_result (with_fault arc_value result) ≡ made }
+{
+    match made {
+        Made::Value(value) => Ok(value),
+        Made::Fault(fault) => Err(fault.into_arc()),
+        Made::Nothing => unreachable!(),
+    }
+}
