@@ -2,8 +2,7 @@
 #![tactic(auto)]
 
 use cache_run::Watched;
-use cached_script::without_words;
-use cached_server::cached;
+use cached_server::{cached, without_words};
 use std::env::Env;
 use std::process::ExitCode;
 use std::{env, io};

@@ -5,8 +5,8 @@ use Rattle.std.specs.Io.KnownBytes.{Appends}
 use Rattle.std.proofs.lemmas.Grind.{flat_map-append}
 use Rattle.std.proofs.lemmas.List.{append-nil, take_more}
 use Rattle.audit_model.specs.declared.transcript.Note.{Note}
-use Rattle.cached_script.specs.Gathering.{Gathers}
-use Rattle.cached_script.proofs.Gathered.{gathers-more}
+use Rattle.cached_server.specs.Script.Gathering.{Gathers}
+use Rattle.cached_server.proofs.script.Gathered.{gathers-more}
 use Rattle.cached_server.specs.Lines.{named_note_line, named_note_lines}
 
 -- what was gathered from nothing, and then written out

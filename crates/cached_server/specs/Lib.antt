@@ -1,2 +1,4 @@
+pub mod Config
+pub mod Script
 pub mod Lines
 pub mod Loads

@@ -1,9 +1,9 @@
 //! Notes of a namespace, told as lines on a writer that all namespaces share.
+use crate::config::Listed;
 use crate::devices::{ListLoader, StartClock};
 use crate::lines::Lines;
 use audit_model::{Bytes, Note};
 use cache_serve::{Devices, Teller};
-use cached_config::Listed;
 use std::alloc::Global;
 use std::io::Write;
 use std::sync::{Arc, Mutex, Wait};

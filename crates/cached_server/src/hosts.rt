@@ -2,11 +2,11 @@
 ghost use Rattle.std.specs.Prelude.{◌≡◌, ◌⊎◌, IfOk, IfErr};
 
 use crate::announcing::{SharedLines, Site};
+use crate::config::HostedNamespace;
+use crate::script::Fault;
 use audit_model::{Config, Instant};
 use cache_serve::host;
 use cache_shared::{LiveService, Seating, SharedService};
-use cached_config::HostedNamespace;
-use cached_script::Fault;
 use rand_core::SeedableRng;
 use rand_xoshiro::Xoshiro256PlusPlus;
 use std::alloc::Global;

@@ -3,13 +3,13 @@ ghost use Rattle.std.specs.Prelude.{◌≡◌, ◌≤◌, ◌++◌, ◌∷◌, [
 ghost use Rattle.std.specs.Io.KnownBytes.{Appends};
 ghost use Rattle.cache_run.specs.Devices.Failures.{HasFailed};
 ghost use Rattle.cache_run.specs.Devices.Watched.{device, failures};
-ghost use Rattle.cached_script.specs.Gathering.{Gathers};
-ghost use Rattle.cached_script.specs.Notes.{note_text};
+ghost use Rattle.cached_server.specs.Script.Gathering.{Gathers};
+ghost use Rattle.cached_server.specs.Script.Notes.{note_text};
 ghost use Rattle.cached_server.specs.Lines.{listening_line, named_note_line, named_note_lines};
 
+use crate::script::{put, write_note, write_out};
 use audit_model::Note;
 use cache_run::{RunError, Watched};
-use cached_script::{put, write_note, write_out};
 use itoa::Buffer;
 use std::alloc::{AllocError, Global};
 use std::io::Write;

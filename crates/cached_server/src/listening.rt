@@ -2,8 +2,8 @@
 ghost use Rattle.std.specs.Prelude.{◌≡◌, ◌⊎◌, IfErr};
 
 use crate::announcing::SharedLines;
-use cached_config::HostedNamespace;
-use cached_script::Fault;
+use crate::config::HostedNamespace;
+use crate::script::Fault;
 use std::alloc::Global;
 use std::io::Write;
 use std::net::{Ipv4Addr, Net, SocketAddr, TcpListener, TcpStream};

@@ -2,15 +2,15 @@
 ghost use Rattle.std.specs.Prelude.{◌≡◌, ◌≢◌, ◌≤◌, ◌⊎◌, None, IsErr, IfErr};
 ghost use Rattle.toml.specs.Parse.{parse_document};
 ghost use Rattle.cache_run.specs.Devices.Watched.{device, failures};
-ghost use Rattle.cached_script.specs.Faults.{Tells, fault_message, usage_text};
-ghost use Rattle.cached_script.specs.Scripts.{ServesStreams};
+ghost use Rattle.cached_server.specs.Script.Faults.{Tells, fault_message, usage_text};
+ghost use Rattle.cached_server.specs.Script.Scripts.{ServesStreams};
 
 use crate::hosts::serve_spaces;
 use crate::lines::Lines;
 use crate::listening::{listen, show_all};
 use crate::reading::{read_spaces, read_text};
+use crate::script::{Chosen, Fault, fail, fail_words, run_script, take_words};
 use cache_run::Watched;
-use cached_script::{Chosen, Fault, fail, fail_words, run_script, take_words};
 use std::alloc::Global;
 use std::convert::AsStr;
 use std::io::{Read, Write};

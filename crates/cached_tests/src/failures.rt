@@ -1,7 +1,7 @@
 //! Scripts over readers and writers that fail.
 use crate::streams::{make_faulty, make_pieces, make_short};
 use cache_run::Watched;
-use cached_script::{run_script, without_words};
+use cached_server::{run_script, without_words};
 use std::alloc::{AllocError, Global};
 use std::io::ErrorKind;
 use std::test::Fail;

@@ -1,7 +1,7 @@
 //! What a script writes.
 use crate::streams::make_pieces;
 use cache_run::Watched;
-use cached_script::run_script;
+use cached_server::run_script;
 use std::alloc::{AllocError, Global};
 use std::io::Read;
 

@@ -1,7 +1,7 @@
 //! Servers of configurations, with clients.
 use crate::clients::{free_ports, take_port};
 use crate::stages::{Cast, Served, stage};
-use cached_script::Fault;
+use cached_server::Fault;
 use std::alloc::{AllocError, Global};
 use std::net::{Net, TcpListener, TcpStream};
 use std::random::RandomSource;

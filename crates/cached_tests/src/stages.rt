@@ -1,8 +1,7 @@
 //! Servers, each with its clients, to its end.
 use crate::clients::{connect, read_all, send_only, talk, talk_later, use_up};
 use crate::sinks::{Sink, make_sink, read_back};
-use cached_script::Fault;
-use cached_server::serve_text;
+use cached_server::{Fault, serve_text};
 use std::alloc::{AllocError, Global};
 use std::net::{Net, TcpListener, TcpStream};
 use std::random::RandomSource;

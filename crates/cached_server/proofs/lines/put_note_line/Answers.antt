@@ -1,4 +1,4 @@
-use Rattle.cached_script.proofs.Gathered.{gathers-more}
+use Rattle.cached_server.proofs.script.Gathered.{gathers-more}
 use Rattle.cached_server.proofs.lines.put_note_line.Goals as goal
 
 pub returns-in-Ok-clause-ok : goal.returns-in-Ok-clause-ok

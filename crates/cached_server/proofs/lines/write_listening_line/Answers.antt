@@ -1,4 +1,4 @@
-use Rattle.cached_script.proofs.Gathered.{gathers-more}
+use Rattle.cached_server.proofs.script.Gathered.{gathers-more}
 use Rattle.cached_server.proofs.Lining.{whole-line}
 use Rattle.cached_server.proofs.lines.write_listening_line.Goals as goal
 

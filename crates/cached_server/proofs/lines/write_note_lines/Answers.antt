@@ -1,5 +1,5 @@
 use Rattle.std.proofs.Common.{arith}
-use Rattle.cached_script.proofs.Gathered.{gathers-more}
+use Rattle.cached_server.proofs.script.Gathered.{gathers-more}
 use Rattle.cached_server.proofs.Lining.{lines-more}
 use Rattle.cached_server.proofs.lines.write_note_lines.Goals as goal
 

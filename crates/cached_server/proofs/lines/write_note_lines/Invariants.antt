@@ -1,6 +1,6 @@
 use Rattle.std.proofs.Common.{◌≤◌, [], take}
 use Rattle.cache_run.specs.Devices.Watched.{device, failures}
-use Rattle.cached_script.specs.Gathering.{Gathers}
+use Rattle.cached_server.specs.Script.Gathering.{Gathers}
 use Rattle.cached_server.specs.Lines.{named_note_lines}
 use Rattle.cached_server.proofs.lines.write_note_lines.Given as goal
 

@@ -1,0 +1,31 @@
+-- The texts of the program's faults.
+use Rattle.std.specs.Prelude.{◌≡◌, ◌≢◌, ℕ, List, [], Option, codes}
+use Rattle.cache_run.specs.Devices.Failures.{HasFailed}
+use Rattle.cache_run.specs.Devices.Sent.{SentBut}
+use Rattle.cache_run.specs.Devices.Watched.{device, failures}
+use Rattle.cache_run.specs.declared.devices.watched.Watched.{Watched}
+use Rattle.cached_server.specs.declared.script.faults.Fault.{Fault}
+use Rattle.cached_server.specs.declared.script.faults.Fault.TheVariants as fault
+
+-- the text of a fault, with its line end
+abbrev pub fault_message : Fault → List ℕ
+fault_message fault.Read = codes "cached: read failed\n"
+fault_message fault.Write = codes "cached: write failed\n"
+fault_message fault.OutOfMemory = codes "cached: out of memory\n"
+fault_message fault.UsedUp = codes "cached: used up\n"
+fault_message fault.BadConfiguration = codes "cached: bad configuration\n"
+fault_message fault.CannotListen = codes "cached: cannot listen\n"
+
+-- how the program is called
+abbrev pub usage_text : List ℕ
+usage_text = codes "usage: cached --script | --config FILE\n"
+
+-- A beginning of the text was written; all of it, unless the stream failed.
+pub record Tells (text : List ℕ) (before after : Option (List ℕ)) (failed later : ℕ) : Type 0 where
+  pub rest : List ℕ
+  pub sent : SentBut rest text before after
+  pub cut : rest ≢ [] → HasFailed failed later
+
+-- the program ends with that status, and that text was told
+abbrev pub EndsTelling : {E : Type 0} → (E → Option (List ℕ)) → (status wanted : ℕ) → List ℕ → Watched E → Watched E → Type 0
+EndsTelling contents status wanted text errors errors' = (status ≡ wanted) × Tells text (contents (device errors)) (contents (device errors')) (failures errors) (failures errors')

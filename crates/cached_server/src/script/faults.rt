@@ -1,0 +1,96 @@
+//! Why the program ends before its time, and what it then writes.
+ghost use Rattle.std.specs.Prelude.{◌≡◌, ◌≢◌, codes};
+ghost use Rattle.cache_run.specs.Devices.Watched.{device, failures};
+ghost use Rattle.cached_server.specs.Script.Faults.{EndsTelling, Tells, fault_message, usage_text};
+
+use crate::script::words::WordsError;
+use cache_run::{RunError, Watched, send};
+use std::io::{ErrorKind, Write};
+
+/// Why the program ends with status 1.
+#[derive(Clone, Copy, Debug, PartialEq, Eq, Drop)]
+pub enum Fault {
+    /// Standard input could not be read.
+    Read,
+    /// Standard output could not be written.
+    Write,
+    /// There was no memory.
+    OutOfMemory,
+    /// A count was used up.
+    UsedUp,
+    /// The file is no good configuration.
+    BadConfiguration,
+    /// A listener could not be had, or could not go on.
+    CannotListen,
+}
+
+const USAGE: &[u8] = b"usage: cached --script | --config FILE\n";
+
+/// The text of a fault, with its line end.
+fn text_of(fault: Fault) -> &'static [u8]
+    ensures { result.now ≡ fault_message fault }
+{
+    match fault {
+        Fault::Read => b"cached: read failed\n",
+        Fault::Write => b"cached: write failed\n",
+        Fault::OutOfMemory => b"cached: out of memory\n",
+        Fault::UsedUp => b"cached: used up\n",
+        Fault::BadConfiguration => b"cached: bad configuration\n",
+        Fault::CannotListen => b"cached: cannot listen\n",
+    }
+}
+
+/// Writes the text of a fault, and answers the status after it. What cannot be written is lost.
+pub fn fail<E: Write>(errors: &mut Watched<E>, fault: Fault) -> u8
+    ensures status { result ≡ 1 }
+    ensures told { Tells (fault_message fault) (E.contents (device errors.old)) (E.contents (device errors.new)) (failures errors.old) (failures errors.new) }
+{
+    let _ = send(text_of(fault), errors);
+    1
+}
+
+/// Writes how the program is called, and answers the status of words that are not served.
+fn show_usage<E: Write>(errors: &mut Watched<E>) -> u8
+    ensures status { result ≡ 2 }
+    ensures told { Tells usage_text (E.contents (device errors.old)) (E.contents (device errors.new)) (failures errors.old) (failures errors.new) }
+{
+    let _ = send(USAGE, errors);
+    2
+}
+
+/// The program where its words are not served: the text, and the status after it. Without memory that is 1.
+pub fn fail_words<E: Write>(error: WordsError, errors: &mut Watched<E>) -> u8
+    ensures memory { error ≡ WordsError.OutOfMemory → EndsTelling E.contents result 1 (fault_message Fault.OutOfMemory) errors.old errors.new }
+    ensures usage { error ≡ WordsError.Usage → EndsTelling E.contents result 2 usage_text errors.old errors.new }
+{
+    match error {
+        WordsError::Usage => show_usage(errors),
+        WordsError::OutOfMemory => fail(errors, Fault::OutOfMemory),
+    }
+}
+
+/// The program where its words cannot be had. Without memory its status is 1; words that are no text are not served.
+pub fn without_words<E: Write>(cause: ErrorKind, errors: &mut Watched<E>) -> u8
+    ensures memory { cause ≡ ErrorKind.OutOfMemory → EndsTelling E.contents result 1 (fault_message Fault.OutOfMemory) errors.old errors.new }
+    ensures other { cause ≢ ErrorKind.OutOfMemory → EndsTelling E.contents result 2 usage_text errors.old errors.new }
+{
+    if cause == ErrorKind::OutOfMemory {
+        return fail(errors, Fault::OutOfMemory);
+    }
+    show_usage(errors)
+}
+
+/// Why the program ends where a connection ended with an error.
+pub fn fault_of(error: RunError) -> Fault
+    ensures read { error ≡ RunError.Read → result ≡ Fault.Read }
+    ensures write { error ≡ RunError.Write → result ≡ Fault.Write }
+    ensures memory { error ≡ RunError.OutOfMemory → result ≡ Fault.OutOfMemory }
+    ensures used_up { error ≡ RunError.UsedUp → result ≡ Fault.UsedUp }
+{
+    match error {
+        RunError::Read => Fault::Read,
+        RunError::Write => Fault::Write,
+        RunError::OutOfMemory => Fault::OutOfMemory,
+        RunError::UsedUp | RunError::Moment => Fault::UsedUp,
+    }
+}

@@ -1,0 +1,86 @@
+//! A script over standard streams.
+ghost use Rattle.std.specs.Prelude.{◌≡◌, ◌≤◌, IsOk};
+ghost use Rattle.cached_server.specs.Script.Scripts.{ServesStreams};
+
+use crate::script::faults::{Fault, fail, fault_of};
+use crate::script::notes::tell_notes;
+use crate::script::sources::{NoLoader, StillClock};
+use audit_model::{Config, EvictionPolicy, Instant, Weight};
+use cache_run::{RunError, Watched, run};
+use cache_spaces::Service;
+use rand_core::SeedableRng;
+use rand_xoshiro::Xoshiro256PlusPlus;
+use std::alloc::Global;
+use std::io::{Read, Write};
+use std::mem;
+
+/// The namespace that a script is run in.
+const NAMESPACE: u64 = 0;
+
+/// A namespace without limits.
+const PLAIN: Config = Config {
+    capacity: None,
+    policy: EvictionPolicy::Lru,
+    parts: 1,
+    weight: Weight::One,
+    live_ms: None,
+    idle_ms: None,
+    own_deadlines: false,
+};
+
+/// So many bytes of notes are gathered before they are written.
+const NOTES_BYTES: usize = 65536;
+
+/// Serves the script that `reader` gives, in a namespace without limits. Answers the program's status: 0 at the end of the script, 1 after
+/// an error.
+///
+/// At 0 the input came to its end, or a line closed the connection; the replies of the script's lines stand on `writer`, and its notes on
+/// `errors`. An error's text follows the notes; what
+/// cannot be written to `errors` is lost.
+pub fn run_script<R: Read, W: Write, E: Write>(
+    alloc: Global,
+    reader: &mut Watched<R>,
+    writer: &mut Watched<W>,
+    errors: &mut Watched<E>,
+) -> u8
+    ensures status { result ≤ 1 }
+    ensures served { result ≡ 0 → ServesStreams R.remaining W.contents E.contents reader.old reader.new writer.old writer.new errors.old errors.new }
+{
+    let Ok(mut gathered) = Vec::with_capacity(alloc, NOTES_BYTES) else {
+        return fail(errors, Fault::OutOfMemory);
+    };
+    let made = Instant { nanos: 0 };
+    let generator = Xoshiro256PlusPlus::seed_from_u64(0);
+    let mut service = match Service::new(alloc, &[PLAIN], generator, made) {
+        Ok(service) => service,
+        Err(_) => return fail(errors, Fault::OutOfMemory),
+    };
+    let ran = run(
+        &mut service,
+        alloc,
+        NAMESPACE,
+        reader,
+        writer,
+        &mut StillClock,
+        &mut NoLoader,
+    );
+    service.sound(NAMESPACE);
+    let told = tell_notes(&mut service, NAMESPACE, &mut gathered, errors);
+    // The program ends here: the system takes the memory back at once, where the values' own freeing takes a sixth of a script's time.
+    mem::forget(service);
+    match ran {
+        Ok(()) => status_after(told, errors),
+        Err(error) => fail(errors, fault_of(error)),
+    }
+}
+
+/// The status of a script that came to its end, by whether its notes were told.
+fn status_after<E: Write>(told: Result<(), RunError>, errors: &mut Watched<E>) -> u8
+    ensures status { result ≤ 1 }
+    ensures told { result ≡ 0 → (IsOk told × (errors.new ≡ errors.old)) }
+{
+    match told {
+        Ok(()) => 0,
+        Err(untold) => fail(errors, fault_of(untold)),
+    }
+}
