@@ -1,8 +1,9 @@
 """Runs the gate, and prints what it cost: minutes, processor minutes, what the host took away, processor seconds by crate.
 
-usage: python3 tools/gate_times.py [COMMAND ..]     without a command: bash .ci/run; its output goes to gate.log in the folder for temporary files
+usage: python3 tools/gate_times.py [COMMAND ..]     without a command: rt ci
 
-Each process of the prover is looked at every two seconds; what it used after the last look is not counted by crate.
+The command's output goes through, but for its last line, which comes last here too. Of a crate, `build` is its proof, `tests` the proof of its
+tests, `check` its must-fail edits. Each process of the prover is looked at every two seconds; what it used after the last look is not counted.
 """
 
 import collections
@@ -11,7 +12,7 @@ import os
 import resource
 import subprocess
 import sys
-import tempfile
+import threading
 import time
 
 ROOT = os.path.dirname(os.path.dirname(os.path.abspath(__file__)))
@@ -58,20 +59,27 @@ def seen(gate):
             yield (number, began), (words[words.index("--crate-name") + 1], kind), seconds
 
 
+def pass_on(output, last):
+    """Prints each line but the last, which it leaves in a list."""
+    for line in output:
+        if last:
+            print(last.pop(), end="", flush=True)
+        last.append(line)
+
+
 def main():
-    command = sys.argv[1:] or ["bash", ".ci/run"]
-    used = {}
+    command = sys.argv[1:] or ["rt", "ci"]
+    used, last = {}, []
     start, taken = time.time(), stolen()
-    log = os.path.join(tempfile.gettempdir(), "gate.log")
-    with open(log, "w") as output:
-        gate = subprocess.Popen(command, cwd=ROOT, stdout=output, stderr=subprocess.STDOUT)
-        while gate.poll() is None:
-            for process, crate, seconds in seen(gate.pid):
-                used[process] = (crate, seconds)
-            time.sleep(2)
+    gate = subprocess.Popen(command, cwd=ROOT, stdout=subprocess.PIPE, stderr=subprocess.STDOUT, text=True, errors="replace")
+    reader = threading.Thread(target=pass_on, args=(gate.stdout, last))
+    reader.start()
+    while gate.poll() is None:
+        for process, crate, seconds in seen(gate.pid):
+            used[process] = (crate, seconds)
+        time.sleep(2)
+    reader.join()
     children = resource.getrusage(resource.RUSAGE_CHILDREN)
-    with open(log) as output:
-        print(output.read().rstrip().rsplit("\n", 1)[-1])
     print(f"{(time.time() - start) / 60:.1f} minutes, {(children.ru_utime + children.ru_stime) / 60:.0f} processor minutes, {(stolen() - taken) / 60:.1f} stolen")
     sums = collections.Counter()
     for crate, seconds in used.values():
@@ -79,6 +87,7 @@ def main():
     for (crate, kind), seconds in sums.most_common():
         if seconds >= 20:
             print(f"{seconds:6.0f} {kind:6} {crate}")
+    print(*last, sep="", end="", flush=True)
     sys.exit(gate.returncode)
 
 
