@@ -1,7 +1,7 @@
 #!/usr/bin/env python3
 """Times the cache of one part beside the kit's `LruCache`: look-ups, writes over, inserts above the capacity, and what a value takes.
 
-Build the program first: in crates/engine_bench, `rt run` leaves it at out/engine_bench. Each time is the difference of two
+Build the program first: in crates/bench, `rt run` leaves it at out/bench. Each time is the difference of two
 runs of one round, one of which fills the same cache, draws keys the same way and goes through them without a call, by the
 processor time. A factor compares runs of one round; what is printed are medians over the rounds, and the least and the greatest
 factor. Memory is the most that a run had resident, less that of a run of one value.
@@ -15,7 +15,7 @@ import statistics
 import subprocess
 import sys
 
-PROGRAM = pathlib.Path(__file__).resolve().parent.parent / "crates/engine_bench/out/engine_bench"
+PROGRAM = pathlib.Path(__file__).resolve().parent.parent / "crates/bench/out/bench"
 CACHES = ["tiny_lfu", "lru_cache"]
 WORKS = ["gets", "writes", "fetches"]
 SIZES = [1_000, 100_000, 1_000_000]
@@ -30,7 +30,7 @@ BYTES_BOUND = 260
 
 def words_of(cache, work, draws, size, drawn, passes):
     """The words of one run."""
-    return [str(PROGRAM), cache, work, draws, str(size), str(drawn), str(passes)]
+    return [str(PROGRAM), "engine", cache, work, draws, str(size), str(drawn), str(passes)]
 
 
 def spent_by(*kind):

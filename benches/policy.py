@@ -1,7 +1,7 @@
 #!/usr/bin/env python3
 """Times the policy's structures: moves of a queue, timers, counts of a sketch.
 
-Build the program first: in crates/policy_bench, `rt run` leaves it at out/policy_bench. Each figure is the difference of two
+Build the program first: in crates/bench, `rt run` leaves it at out/bench. Each figure is the difference of two
 runs, one of which only builds the structure, by the processor time of the best of three; the work itself is bounded.
 Ends with status 1 where a move of the first node at a million nodes takes more than three times one at a thousand: those
 go through memory in order. A drawn node is mostly in no cache at a million, so its figure says more of the machine.
@@ -11,7 +11,7 @@ import pathlib
 import subprocess
 import sys
 
-PROGRAM = pathlib.Path(__file__).resolve().parent.parent / "crates/policy_bench/out/policy_bench"
+PROGRAM = pathlib.Path(__file__).resolve().parent.parent / "crates/bench/out/bench"
 MOST_GROWTH = 3.0
 
 
@@ -20,7 +20,7 @@ def seconds_of(what, size, rounds):
     best = None
     for _ in range(3):
         before = os.times()
-        subprocess.run([PROGRAM, what, str(size), str(rounds)], stdout=subprocess.DEVNULL, check=True)
+        subprocess.run([PROGRAM, "policy", what, str(size), str(rounds)], stdout=subprocess.DEVNULL, check=True)
         after = os.times()
         spent = after.children_user + after.children_system - before.children_user - before.children_system
         best = spent if best is None else min(best, spent)

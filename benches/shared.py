@@ -1,7 +1,7 @@
 #!/usr/bin/env python3
 """Times a cache that threads share beside the kit's `LruCache` under one lock: 1, 2 and 4 threads, 90 of 100 calls look-ups, keys by Zipf.
 
-Build the program first: in crates/sync_bench, `rt run` leaves it at out/sync_bench. Each time is the processor time of a run
+Build the program first: in crates/bench, `rt run` leaves it at out/bench. Each time is the processor time of a run
 less that of one of the same round that draws the same keys and makes no call. A factor compares two runs of one round; medians
 of the rounds are printed, with the least and the greatest factor. Ends with status 1 where a call takes more than 4 times what
 one takes of `LruCache`.
@@ -12,7 +12,7 @@ import statistics
 import subprocess
 import sys
 
-PROGRAM = pathlib.Path(__file__).resolve().parent.parent / "crates/sync_bench/out/sync_bench"
+PROGRAM = pathlib.Path(__file__).resolve().parent.parent / "crates/bench/out/bench"
 CACHES = ["loops", "moka", "lru"]
 THREADS = [1, 2, 4]
 SIZE = 100_000
@@ -24,7 +24,7 @@ BOUND = 4.0
 
 def spent_by(cache, threads):
     """The processor seconds of one run."""
-    words = [str(PROGRAM), cache, str(threads), str(SIZE), str(DRAWN), str(CALLS)]
+    words = [str(PROGRAM), "sync", cache, str(threads), str(SIZE), str(DRAWN), str(CALLS)]
     process = subprocess.Popen(words, stdout=subprocess.DEVNULL)
     _, status, usage = os.wait4(process.pid, 0)
     process.returncode = os.waitstatus_to_exitcode(status)

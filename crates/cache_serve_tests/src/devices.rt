@@ -1,41 +1,10 @@
 //! Devices for tests.
-ghost use Rattle.std.specs.Prelude.{◌≡◌, IfSome};
-
-use audit_model::{Config, EvictionPolicy, Instant, Note, Outcome, Weight};
+use audit_model::{Note, Outcome};
 use cache_run::{Clock, Loader};
 use cache_serve::{Devices, Teller};
-use cache_shared::LiveService;
-use rand_core::SeedableRng;
-use rand_xoshiro::Xoshiro256PlusPlus;
 use std::alloc::Global;
 use std::sync::atomic::{AtomicU64, Ordering};
 use std::sync::{Arc, Wait};
-
-/// A plain namespace.
-pub const PLAIN: Config = Config {
-    capacity: None,
-    policy: EvictionPolicy::Lru,
-    parts: 1,
-    weight: Weight::One,
-    live_ms: None,
-    idle_ms: None,
-    own_deadlines: false,
-};
-
-/// A new service of one plain namespace.
-pub fn make_core(alloc: Global) -> Option<LiveService>
-    ensures { IfSome result (λ core. core.events ≡ 0) }
-{
-    match LiveService::new(
-        alloc,
-        &[PLAIN],
-        Xoshiro256PlusPlus::seed_from_u64(1),
-        Instant { nanos: 0 },
-    ) {
-        Ok(core) => Some(core),
-        Err(_) => None,
-    }
-}
 
 /// A clock that stands at 0.
 #[derive(Clone, Copy, Drop)]

@@ -1,16 +1,27 @@
-//! Connections over a shared service: over sockets, and over devices that fail.
+//! A service that threads share, one that is read, and connections over a shared service: over memory, over sockets, and over devices
+//! that fail.
 #![tactic(auto)]
 
 #[cfg(test)]
+mod crews;
+#[cfg(test)]
 mod devices;
+#[cfg(test)]
+mod hosting;
+#[cfg(test)]
+mod inputs;
+#[cfg(test)]
+mod judging;
 #[cfg(test)]
 mod loaders;
 #[cfg(test)]
-mod loading;
+mod plays;
 #[cfg(test)]
-mod rows;
+mod reading;
 #[cfg(test)]
-mod sockets;
+mod serving;
+#[cfg(test)]
+mod steps;
 #[cfg(test)]
 mod tests;
 #[cfg(test)]

@@ -1,11 +1,12 @@
 //! Loaders that are held, and writers that fail.
-use audit_model::{Bytes, Conn, Outcome, Seq};
+use crate::inputs::conn;
+use audit_model::{Bytes, Outcome, Seq};
 use cache_run::Loader;
-use cache_shared::{LiveService, Seating, SharedService};
+use cache_shared::{Seating, SharedService, Takings};
 use std::alloc::Global;
 use std::io::{ErrorKind, Write};
+use std::sync::Wait;
 use std::sync::atomic::{AtomicU64, Ordering};
-use std::sync::{Arc, Wait};
 use std::time::{Clock, Duration};
 use std::{io, thread};
 
@@ -35,25 +36,18 @@ pub enum Hold {
 /// A loader that is held, up to a limit of turns. It finds nothing for `n`, fails for `f`, asks for a give-up for `g`, finds a value with a
 /// line end for `b` when it is asked first of all, and else the value `v`; where it was held too long it fails.
 #[derive(Drop)]
-pub struct Held<L: Seating, R: Wait + Clock + Copy> {
-    pub rt: R,
+pub struct Held<'a, L: Seating, C: Takings, R: Wait + Clock> {
+    pub rt: &'a R,
     pub alloc: Global,
-    pub shared: SharedService<L, LiveService>,
-    pub news: Arc<News>,
+    pub shared: &'a SharedService<L, C>,
+    pub news: &'a News,
     pub hold: Hold,
 }
 
-impl<L: Seating, R: Wait + Clock + Copy> Held<L, R> {
+impl<L: Seating, C: Takings, R: Wait + Clock> Held<'_, L, C, R> {
     /// Whether a connection waits for a load.
     fn waits(&self, number: u64) -> bool {
-        let conn = Conn {
-            namespace: 0,
-            number,
-        };
-        match self.shared.waiting(&self.rt, conn) {
-            Ok(waits) => waits,
-            Err(_) => false,
-        }
+        self.shared.waiting(self.rt, conn(number)) == Ok(true)
     }
 
     /// Whether it is held no more.
@@ -71,7 +65,7 @@ impl<L: Seating, R: Wait + Clock + Copy> Held<L, R> {
             if self.is_free() {
                 return true;
             }
-            thread::sleep(&self.rt, Duration::from_millis(1));
+            thread::sleep(self.rt, Duration::from_millis(1));
         }
         false
     }
@@ -79,7 +73,10 @@ impl<L: Seating, R: Wait + Clock + Copy> Held<L, R> {
 
 /// A text, where there is memory for it.
 fn text_of(alloc: Global, bytes: &[u8]) -> Option<Bytes> {
-    Some(Seq::from_vec(Vec::from_slice(alloc, bytes).ok()?))
+    match Vec::from_slice(alloc, bytes) {
+        Ok(text) => Some(Seq::from_vec(text)),
+        Err(_) => None,
+    }
 }
 
 /// A value with this text.
@@ -94,20 +91,16 @@ fn fault_of(alloc: Global, bytes: &[u8]) -> Option<Outcome> {
 
 /// What is found for a key by a loader that was asked so often before.
 fn found(alloc: Global, key: &[u8], asked: u64) -> Option<Outcome> {
-    if key == b"n".as_slice() {
-        Some(Outcome::None)
-    } else if key == b"f".as_slice() {
-        fault_of(alloc, b"down")
-    } else if key == b"g".as_slice() {
-        None
-    } else if key == b"b".as_slice() && asked == 0 {
-        value_of(alloc, b"x\ny")
-    } else {
-        value_of(alloc, b"v")
+    match (key, asked) {
+        (b"n", _) => Some(Outcome::None),
+        (b"f", _) => fault_of(alloc, b"down"),
+        (b"g", _) => None,
+        (b"b", 0) => value_of(alloc, b"x\ny"),
+        _ => value_of(alloc, b"v"),
     }
 }
 
-impl<L: Seating, R: Wait + Clock + Copy> Loader for Held<L, R> {
+impl<L: Seating, C: Takings, R: Wait + Clock> Loader for Held<'_, L, C, R> {
     ghost loads = { λ c key answer d. Unit {0} };
 
     fn load(&mut self, key: &[u8]) -> Option<Outcome> {
@@ -122,13 +115,13 @@ impl<L: Seating, R: Wait + Clock + Copy> Loader for Held<L, R> {
 
 /// A writer that takes so many bytes and then fails, and says when a text was written that ends in a value.
 #[derive(Drop)]
-pub struct Page {
+pub struct Page<'a> {
     pub text: Vec<u8>,
     pub room: usize,
-    pub news: Arc<News>,
+    pub news: &'a News,
 }
 
-impl Write for Page {
+impl Write for Page<'_> {
     fn write(&mut self, buf: &[u8]) -> io::Result<usize> {
         let count = buf.len().min(self.room);
         if count == 0 && !buf.is_empty() {

@@ -1,37 +1,17 @@
+//! What has to come of plays.
+use crate::crews::{Crew, Script};
+use crate::hosting::Visit;
 use crate::loaders::Hold;
-use crate::rows::{Row, first_wrong};
-use crate::sockets::{Served, serve_past_failures, serve_two};
-use crate::waiting::await_other;
+use crate::plays::{Live, Recorded, over_live, over_recorded};
+use crate::serving::Row;
 use audit_model::Closing;
 use cache_run::RunError;
+use std::alloc::Global;
+use std::net::{Net, TcpListener, TcpStream};
+use std::sync::Wait;
 use std::test::*;
-
-/// Whether the replies and the events are those of the two clients below, and the replaced value was told.
-fn is_served(served: &Served) -> bool {
-    served.replies.0.as_slice() == b"OK\nVAL 1\nOK\nOK\n".as_slice()
-        && served.replies.1.as_slice() == b"VAL 2\nNONE\nOK\n".as_slice()
-        && served.told == 1
-        && served.events >= 4
-}
-
-#[test]
-fn two_clients(rt: HostRuntime) {
-    let served = serve_two(
-        rt,
-        rt.alloc(),
-        b"SET a - 1\nGET a\nSET a - 2\nQUIT\n",
-        b"GET a\nGET b\nQUIT\n",
-    );
-    assert!(rt; matches!(&served, Some(served) if is_served(served)));
-}
-
-#[test]
-fn a_failed_accept_waits_for_a_connection_to_end(rt: HostRuntime) {
-    let replies = serve_past_failures(rt, rt.alloc(), b"SET a - 1\n", b"GET a\n");
-    assert!(rt;
-        matches!(&replies, Some(replies) if replies.0.as_slice() == b"OK\n".as_slice() && replies.1.as_slice() == b"VAL 1\n".as_slice())
-    );
-}
+use std::thread::Threads;
+use std::time::Clock;
 
 /// One connection that sends nothing beside one that loads, with room for all that is written.
 const ALONE: Row<'static> = Row {
@@ -42,6 +22,7 @@ const ALONE: Row<'static> = Row {
     ended: Ok(()),
     asked: 0,
     closing: None,
+    counts: None,
 };
 
 const ROWS: &[Row<'static>] = &[
@@ -114,13 +95,160 @@ const ROWS: &[Row<'static>] = &[
     },
 ];
 
+/// The place of the first row that does not come out so.
+fn first_wrong<R>(rt: R, alloc: Global) -> Option<usize>
+where
+    R: Net<Listener = TcpListener, Stream = TcpStream>
+        + Threads
+        + Wait
+        + Clock
+        + Copy
+        + Send
+        + Sync
+        + 'static,
+{
+    for (place, row) in ROWS.iter().enumerate() {
+        if over_live(rt, alloc, 3, Live::Serve(row)) != Some(true) {
+            return Some(place);
+        }
+    }
+    None
+}
+
 #[test]
 fn two_connections_that_load(rt: HostRuntime) {
-    assert_eq!(rt; first_wrong(rt, rt.alloc(), ROWS), None);
+    assert_eq!(rt; first_wrong(rt, rt.alloc()), None);
+}
+
+/// Two connections of which one quits.
+const QUITTING: Row<'static> = Row {
+    texts: (
+        b"SET a - 1\nGET a\nSET a - 2\nGET a\n",
+        b"SET b - 1\nGET b\nQUIT\nGET b\n",
+    ),
+    replies: (b"OK\nVAL 1\nOK\nVAL 2\n", b"OK\nVAL 1\nOK\n"),
+    counts: Some((3, 2)),
+    ..ALONE
+};
+
+#[test]
+fn two_connections_are_recorded(rt: HostRuntime) {
+    assert!(rt; over_recorded(rt, rt.alloc(), 3, Recorded::Serve(&QUITTING)) == Some(true));
 }
 
 #[test]
 fn one_awaits_what_another_answers(rt: HostRuntime) {
-    let text = await_other(&rt, rt.alloc());
-    assert!(rt; matches!(&text, Some(text) if text.as_slice() == b"VAL v\n".as_slice()));
+    assert!(rt; over_live(rt, rt.alloc(), 3, Live::Await) == Some(true));
+}
+
+/// One client after another, of whose values one is replaced.
+const CLIENTS: Visit<'static> = Visit {
+    texts: (
+        b"SET a - 1\nGET a\nSET a - 2\nQUIT\n",
+        b"GET a\nGET b\nQUIT\n",
+    ),
+    reads: 1000,
+    blocks: true,
+    limit: Some(2),
+    replies: (b"OK\nVAL 1\nOK\nOK\n", b"VAL 2\nNONE\nOK\n"),
+    is_early: false,
+    events: 4,
+    told: 1,
+};
+
+/// A failed accept waits for a connection to end. The host goes on until nobody is connected.
+const PAST_FAILURES: Visit<'static> = Visit {
+    texts: (b"SET a - 1\n", b"GET a\n"),
+    reads: 1,
+    blocks: false,
+    limit: None,
+    replies: (b"OK\n", b"VAL 1\n"),
+    is_early: true,
+    events: 4,
+    told: 0,
+};
+
+#[test]
+fn two_clients(rt: HostRuntime) {
+    assert!(rt; over_live(rt, rt.alloc(), 5, Live::Host(&CLIENTS)) == Some(true));
+}
+
+#[test]
+fn a_failed_accept_waits_for_a_connection_to_end(rt: HostRuntime) {
+    assert!(rt; over_live(rt, rt.alloc(), 5, Live::Host(&PAST_FAILURES)) == Some(true));
+}
+
+/// A `SET` and a `GET` in two feeds, 25 times, between an open and a close.
+const BUSY: Script<'static> = Script {
+    texts: &[b"SET a - 1\n", b"GET a\n"],
+    times: 25,
+    closes: true,
+    count: 52,
+};
+
+/// The same of another key.
+const BUSY_TOO: Script<'static> = Script {
+    texts: &[b"SET b - 2\n", b"GET b\n"],
+    ..BUSY
+};
+
+/// One feed behind an open.
+const BRIEF: Script<'static> = Script {
+    texts: &[b"SET a - 1\n"],
+    times: 1,
+    closes: false,
+    count: 2,
+};
+
+/// Nothing.
+const IDLE: Script<'static> = Script {
+    texts: &[],
+    times: 0,
+    closes: false,
+    count: 0,
+};
+
+const FOUR: Crew<'static> = [BUSY, BUSY_TOO, BUSY, BUSY_TOO];
+
+/// Two threads that each open a connection and feed it.
+const TWO: Crew<'static> = [
+    BRIEF,
+    Script {
+        texts: &[b"GET a\n"],
+        ..BRIEF
+    },
+    IDLE,
+    IDLE,
+];
+
+/// Four threads are recorded, also where the ledger has spare parts; without a part there is no seat.
+#[test]
+fn four_threads_are_recorded(rt: HostRuntime) {
+    assert!(rt;
+        over_recorded(rt, rt.alloc(), 4, Recorded::Crew(FOUR, 208)) == Some(true)
+            && over_recorded(rt, rt.alloc(), 9, Recorded::Crew(FOUR, 208)) == Some(true)
+            && over_recorded(rt, rt.alloc(), 3, Recorded::Crew(FOUR, 208)) == None
+    );
+}
+
+#[test]
+fn receipts_of_two_threads(rt: HostRuntime) {
+    assert!(rt; over_recorded(rt, rt.alloc(), 4, Recorded::Crew(TWO, 4)) == Some(true));
+}
+
+/// An open, a `SET`, a `GET` and a close.
+const ONCE: Script<'static> = Script {
+    times: 1,
+    count: 4,
+    ..BUSY
+};
+
+/// `tools/refuse_allocations.py` runs this with each allocation refused in turn. What the test itself wants is had at the second try.
+#[test]
+fn refused_memory_leaves_all_as_it_was(rt: HostRuntime) {
+    let once = over_recorded(rt, rt.alloc(), 1, Recorded::One(ONCE));
+    assert!(rt;
+        once == Some(true)
+            || once == None && over_recorded(rt, rt.alloc(), 1, Recorded::One(ONCE)) == Some(true)
+    );
 }

@@ -1,6 +1,4 @@
 //! The configuration file of a server: which namespaces it has, each with its port and the values that its loads find.
-#[cfg(test)]
-mod configs;
 mod fields;
 mod good;
 mod listed;

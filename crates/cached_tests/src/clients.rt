@@ -36,7 +36,7 @@ pub fn use_up<R: Net<Listener = TcpListener, Stream = TcpStream>>(rt: &R, port: 
 }
 
 /// What comes until the end.
-pub fn read_all(alloc: Global, stream: &mut TcpStream) -> Vec<u8> {
+fn read_all(alloc: Global, mut stream: TcpStream) -> Vec<u8> {
     let mut replies = Vec::new(alloc);
     let mut buffer = [0u8; 1024];
     for _ in 0..100_000u32 {
@@ -52,45 +52,6 @@ pub fn read_all(alloc: Global, stream: &mut TcpStream) -> Vec<u8> {
     replies
 }
 
-/// One that sends a text, and reads to the end.
-pub fn talk<R: Net<Listener = TcpListener, Stream = TcpStream> + Clock>(
-    rt: &R,
-    alloc: Global,
-    port: u16,
-    text: &[u8],
-) -> Vec<u8> {
-    match connect(rt, port) {
-        Some(mut stream) => match stream.write_all(text) {
-            Ok(()) => read_all(alloc, &mut stream),
-            Err(_) => Vec::new(alloc),
-        },
-        None => Vec::new(alloc),
-    }
-}
-
-/// Sends a text, and another one 1.2 seconds later.
-fn send_both<R: Clock>(rt: &R, stream: &mut TcpStream, texts: (&[u8], &[u8])) -> io::Result<()> {
-    stream.write_all(texts.0)?;
-    thread::sleep(rt, Duration::from_millis(1200));
-    stream.write_all(texts.1)
-}
-
-/// One that sends a text, and another one 1.2 seconds later, and reads to the end.
-pub fn talk_later<R: Net<Listener = TcpListener, Stream = TcpStream> + Clock>(
-    rt: &R,
-    alloc: Global,
-    port: u16,
-    texts: (&[u8], &[u8]),
-) -> Vec<u8> {
-    match connect(rt, port) {
-        Some(mut stream) => match send_both(rt, &mut stream, texts) {
-            Ok(()) => read_all(alloc, &mut stream),
-            Err(_) => Vec::new(alloc),
-        },
-        None => Vec::new(alloc),
-    }
-}
-
 /// One that sends a text, and reads nothing.
 pub fn send_only<R: Net<Listener = TcpListener, Stream = TcpStream> + Clock>(
     rt: &R,
@@ -102,13 +63,24 @@ pub fn send_only<R: Net<Listener = TcpListener, Stream = TcpStream> + Clock>(
     Some(stream)
 }
 
-/// Some ports on which nobody listens.
-pub fn free_ports<R: Net<Listener = TcpListener, Stream = TcpStream>>(
+/// One that sends a text, and another one 1.2 seconds later if there is one, and reads to the end.
+pub fn talk<R: Net<Listener = TcpListener, Stream = TcpStream> + Clock>(
     rt: &R,
-) -> io::Result<(u16, u16)> {
-    let first = TcpListener::bind(rt, address(0))?;
-    let second = TcpListener::bind(rt, address(0))?;
-    Ok((first.local_addr()?.port(), second.local_addr()?.port()))
+    alloc: Global,
+    port: u16,
+    text: &[u8],
+    later: &[u8],
+) -> Vec<u8> {
+    match send_only(rt, port, text) {
+        Some(mut stream) => {
+            if !later.is_empty() {
+                thread::sleep(rt, Duration::from_millis(1200));
+                let _ = stream.write_all(later);
+            }
+            read_all(alloc, stream)
+        }
+        None => Vec::new(alloc),
+    }
 }
 
 /// A listener on a port of this machine, and that port.

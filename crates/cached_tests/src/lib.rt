@@ -1,5 +1,5 @@
-//! Tests of scripts over readers and writers that fail, of the program over its words, and of servers over sockets of this
-//! machine.
+//! Tests of configurations, of scripts over readers and writers that fail, of the program over its words, and of servers over
+//! sockets of this machine.
 #![tactic(auto)]
 
 #[cfg(test)]
@@ -7,9 +7,11 @@ mod caches;
 #[cfg(test)]
 mod clients;
 #[cfg(test)]
-mod failures;
+mod configs;
 #[cfg(test)]
-mod rows;
+mod devices;
+#[cfg(test)]
+mod scripts;
 #[cfg(test)]
 mod servers;
 #[cfg(test)]
@@ -17,6 +19,6 @@ mod sinks;
 #[cfg(test)]
 mod stages;
 #[cfg(test)]
-mod streams;
+mod texts;
 #[cfg(test)]
 mod words;

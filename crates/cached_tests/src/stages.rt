@@ -1,8 +1,8 @@
 //! Servers, each with its clients, to its end.
-use crate::clients::{connect, read_all, send_only, talk, talk_later, use_up};
+use crate::clients::{connect, send_only, talk, use_up};
 use crate::sinks::{Sink, make_sink, read_back};
 use cached_server::{Fault, serve_text};
-use std::alloc::{AllocError, Global};
+use std::alloc::Global;
 use std::net::{Net, TcpListener, TcpStream};
 use std::random::RandomSource;
 use std::sync::Wait;
@@ -34,14 +34,8 @@ pub enum Cast {
     Bad,
     /// None.
     Nobody,
-}
-
-/// How many connections each namespace serves.
-fn count_of(cast: Cast) -> u64 {
-    match cast {
-        Cast::One | Cast::Pausing | Cast::Each | Cast::Nobody => 1,
-        Cast::Bad => 6,
-    }
+    /// None, and the second port is taken.
+    Shut,
 }
 
 /// The clients' part.
@@ -53,30 +47,40 @@ fn play<R: Net<Listener = TcpListener, Stream = TcpStream> + Clock>(
     texts: (&[u8], &[u8]),
 ) -> (Vec<u8>, Vec<u8>) {
     match cast {
-        Cast::One => {
-            let replies = talk(rt, alloc, ports.0, texts.0);
-            use_up(rt, ports.0, 1);
-            (replies, Vec::new(alloc))
-        }
-        Cast::Pausing => {
-            let replies = talk_later(rt, alloc, ports.0, texts);
-            use_up(rt, ports.0, 1);
-            (replies, Vec::new(alloc))
-        }
-        Cast::Each => {
-            let first = talk(rt, alloc, ports.0, texts.0);
-            let second = talk(rt, alloc, ports.1, texts.1);
-            use_up(rt, ports.0, 1);
-            use_up(rt, ports.1, 1);
-            (first, second)
-        }
-        Cast::Bad => {
-            let both = play_badly(rt, alloc, ports.0, texts);
-            use_up(rt, ports.0, 6);
-            both
-        }
-        Cast::Nobody => (Vec::new(alloc), Vec::new(alloc)),
+        Cast::One => (talk(rt, alloc, ports.0, texts.0, b""), Vec::new(alloc)),
+        Cast::Pausing => (talk(rt, alloc, ports.0, texts.0, texts.1), Vec::new(alloc)),
+        Cast::Each => (
+            talk(rt, alloc, ports.0, texts.0, b""),
+            talk(rt, alloc, ports.1, texts.1, b""),
+        ),
+        Cast::Bad => play_badly(rt, alloc, ports.0, texts),
+        Cast::Nobody | Cast::Shut => (Vec::new(alloc), Vec::new(alloc)),
     }
+}
+
+/// How many connections there are to each port.
+fn counts_of(cast: Cast) -> (u32, u32) {
+    match cast {
+        Cast::One | Cast::Pausing => (1, 0),
+        Cast::Each => (1, 1),
+        Cast::Bad => (6, 0),
+        Cast::Nobody | Cast::Shut => (0, 0),
+    }
+}
+
+/// The clients' part. Then as many connections are used up as a failed test would leave, so that its server ends.
+fn play_and_end<R: Net<Listener = TcpListener, Stream = TcpStream> + Clock>(
+    rt: &R,
+    alloc: Global,
+    cast: Cast,
+    ports: (u16, u16),
+    texts: (&[u8], &[u8]),
+) -> (Vec<u8>, Vec<u8>) {
+    let replies = play(rt, alloc, cast, ports, texts);
+    let counts = counts_of(cast);
+    use_up(rt, ports.0, counts.0);
+    use_up(rt, ports.1, counts.1);
+    replies
 }
 
 /// One that sends nothing, one that closes half-way, one that sends garbage, one whose line never ends, one that does not read its replies,
@@ -87,17 +91,15 @@ fn play_badly<R: Net<Listener = TcpListener, Stream = TcpStream> + Clock>(
     port: u16,
     texts: (&[u8], &[u8]),
 ) -> (Vec<u8>, Vec<u8>) {
-    let silent = connect(rt, port);
+    let _silent = connect(rt, port);
     drop(send_only(rt, port, b"SET half - 1"));
-    let garbage = talk(rt, alloc, port, b"\x00\xff\xfe\nGET\nQUIT\n");
+    let garbage = talk(rt, alloc, port, b"\x00\xff\xfe\nGET\nQUIT\n", b"");
     let endless = match vec![in alloc; b'x'; 8193] {
-        Ok(line) => talk(rt, alloc, port, &line),
+        Ok(line) => talk(rt, alloc, port, &line, b""),
         Err(_) => Vec::new(alloc),
     };
-    let deaf = send_only(rt, port, texts.0);
-    let good = talk(rt, alloc, port, texts.1);
-    drop(silent);
-    drop(deaf);
+    let _deaf = send_only(rt, port, texts.0);
+    let good = talk(rt, alloc, port, texts.1, b"");
     if endless.is_empty() {
         (garbage, good)
     } else {
@@ -105,7 +107,7 @@ fn play_badly<R: Net<Listener = TcpListener, Stream = TcpStream> + Clock>(
     }
 }
 
-/// Serves what a text configures, each namespace so often as the clients need.
+/// Serves what a text configures, each namespace as often as the clients need.
 fn serve_cast<R>(rt: R, alloc: Global, config: &str, cast: Cast, sink: Sink<R>) -> Result<(), Fault>
 where
     R: Net<Listener = TcpListener, Stream = TcpStream>
@@ -118,8 +120,9 @@ where
         + Sync
         + 'static,
 {
+    let limit = u64::from(counts_of(cast).0.max(1));
     match Instant::now(&rt) {
-        Ok(begun) => serve_text(rt, alloc, config, begun, sink, Some(count_of(cast))),
+        Ok(begun) => serve_text(rt, alloc, config, begun, sink, Some(limit)),
         Err(_) => Err(Fault::Read),
     }
 }
@@ -133,7 +136,7 @@ pub fn stage<R>(
     ports: (u16, u16),
     texts: (&[u8], &[u8]),
     room: usize,
-) -> Result<Served, AllocError>
+) -> Option<Served>
 where
     R: Net<Listener = TcpListener, Stream = TcpStream>
         + Clock
@@ -145,15 +148,15 @@ where
         + Sync
         + 'static,
 {
-    let (sink, written) = make_sink(rt, alloc, room)?;
+    let (sink, written) = make_sink(rt, alloc, room).ok()?;
     let lent = &rt;
     let (replies, ended) = thread::join(
         lent,
-        move || play(lent, alloc, cast, ports, texts),
+        move || play_and_end(lent, alloc, cast, ports, texts),
         move || serve_cast(rt, alloc, config, cast, sink),
     );
     let shown = read_back(&rt, alloc, &written);
-    Ok(Served {
+    Some(Served {
         replies,
         shown,
         ended,

@@ -2,12 +2,12 @@
 use crate::sinks::{make_sink, read_back};
 use cache_run::Watched;
 use cached_server::cached;
-use std::alloc::{AllocError, Global};
+use std::alloc::Global;
+use std::env::Env;
 use std::net::{Net, TcpListener, TcpStream};
 use std::random::RandomSource;
 use std::rt::Files;
 use std::sync::Wait;
-use std::test::Fail;
 use std::thread::Threads;
 use std::time::Clock;
 use std::{env, fs, io, process};
@@ -16,11 +16,11 @@ const USAGE: &[u8] = b"usage: cached --script | --config FILE\n";
 
 const BAD: &[u8] = b"cached: bad configuration\n";
 
-/// Words, and the status, the output and the errors that the program has by them.
+/// Words, what lies in the file of the last of them, if anything does, and the status, the output and the errors of the program.
 type Row<'a> = (&'a [&'a str], u8, &'a [u8], &'a [u8]);
 
-/// Whether the program over words and an input comes to what the row says, and shows nothing.
-fn comes_so<R>(rt: R, alloc: Global, row: Row<'_>, input: &[u8]) -> Result<bool, AllocError>
+/// Whether the program over words comes to what the row says, and shows nothing.
+fn comes_so<R>(rt: R, alloc: Global, (words, status, output, errors): Row<'_>) -> bool
 where
     R: Net<Listener = TcpListener, Stream = TcpStream>
         + Files
@@ -34,18 +34,16 @@ where
         + Sync
         + 'static,
 {
-    let (words, status, output, errors) = row;
-    let (sink, written) = make_sink(rt, alloc, 1000)?;
-    let mut reader = Watched::new(input);
+    let Ok((sink, written)) = make_sink(rt, alloc, 1000) else {
+        return false;
+    };
+    let mut reader = Watched::new(b"SET a - 1\nDEL a\n".as_slice());
     let mut writer = Watched::new(Vec::new(alloc));
     let mut told = Watched::new(Vec::new(alloc));
-    let ended = cached(rt, alloc, words, &mut reader, &mut writer, &mut told, sink);
-    Ok(
-        ended == status
-            && writer.inner().as_slice() == output
-            && told.inner().as_slice() == errors
-            && read_back(&rt, alloc, &written).is_empty(),
-    )
+    cached(rt, alloc, words, &mut reader, &mut writer, &mut told, sink) == status
+        && writer.inner().as_slice() == output
+        && told.inner().as_slice() == errors
+        && read_back(&rt, alloc, &written).is_empty()
 }
 
 const ROWS: &[Row<'static>] = &[
@@ -66,35 +64,8 @@ const ROWS: &[Row<'static>] = &[
     (&["cached", "--config", "no/such/file"], 1, b"", BAD),
 ];
 
-/// The place of the first row that does not come out so.
-fn first_wrong<R>(rt: R, alloc: Global) -> Option<usize>
-where
-    R: Net<Listener = TcpListener, Stream = TcpStream>
-        + Files
-        + AllocGlobal
-        + Clock
-        + RandomSource
-        + Threads
-        + Wait
-        + Copy
-        + Send
-        + Sync
-        + 'static,
-{
-    for (place, row) in ROWS.iter().enumerate() {
-        if comes_so(rt, alloc, *row, b"SET a - 1\nDEL a\n") != Ok(true) {
-            return Some(place);
-        }
-    }
-    None
-}
-
-#[test]
-fn words_are_judged_first(rt: HostRuntime) {
-    assert_eq!(rt; first_wrong(rt, rt.alloc()), None);
-}
-
-const TEXTS: &[&str] = &[
+/// Files that are no configurations.
+const FILES: &[&str] = &[
     "",
     "[[namespace]]\nname = \"a\"\nport = 1\n[[namespace]]\nname = \"b\"\nport = 1\n",
     "[[namespace]]\nname = \"a\"\nport = 1\n[[namespace]]\nname = \"a\"\nport = 2\n",
@@ -104,8 +75,8 @@ const TEXTS: &[&str] = &[
     "[[namespace]\n",
 ];
 
-/// Whether a file of a text, written to that path and removed behind it, is a bad configuration of the program.
-fn is_bad<R>(rt: R, alloc: Global, path: &str, text: &str) -> io::Result<bool>
+/// Whether the program over its words comes to what each row says.
+fn all_come_so<R>(rt: R, alloc: Global) -> bool
 where
     R: Net<Listener = TcpListener, Stream = TcpStream>
         + Files
@@ -119,42 +90,71 @@ where
         + Sync
         + 'static,
 {
-    fs::write(&rt, path, text)?;
-    let came = comes_so(rt, alloc, (&["cached", "--config", path], 1, b"", BAD), b"");
-    fs::remove_file(&rt, path)?;
-    Ok(came == Ok(true))
-}
-
-/// The place of the first text that is not a bad configuration.
-fn first_good<R>(rt: R, alloc: Global, path: &str) -> io::Result<Option<usize>>
-where
-    R: Net<Listener = TcpListener, Stream = TcpStream>
-        + Files
-        + AllocGlobal
-        + Clock
-        + RandomSource
-        + Threads
-        + Wait
-        + Copy
-        + Send
-        + Sync
-        + 'static,
-{
-    for (place, text) in TEXTS.iter().enumerate() {
-        if !is_bad(rt, alloc, path, text)? {
-            return Ok(Some(place));
+    for row in ROWS {
+        if !comes_so(rt, alloc, *row) {
+            return false;
         }
     }
-    Ok(None)
+    true
+}
+
+/// Whether a file of a text, written to that path and removed behind it, is a bad configuration of the program.
+fn is_bad<R>(rt: R, alloc: Global, path: &str, text: &str) -> bool
+where
+    R: Net<Listener = TcpListener, Stream = TcpStream>
+        + Files
+        + AllocGlobal
+        + Clock
+        + RandomSource
+        + Threads
+        + Wait
+        + Copy
+        + Send
+        + Sync
+        + 'static,
+{
+    let is_written = fs::write(&rt, path, text).is_ok();
+    let came = comes_so(rt, alloc, (&["cached", "--config", path], 1, b"", BAD));
+    fs::remove_file(&rt, path).is_ok() && is_written && came
+}
+
+/// Whether each file is.
+fn are_bad<R>(rt: R, alloc: Global, path: &str) -> bool
+where
+    R: Net<Listener = TcpListener, Stream = TcpStream>
+        + Files
+        + AllocGlobal
+        + Clock
+        + RandomSource
+        + Threads
+        + Wait
+        + Copy
+        + Send
+        + Sync
+        + 'static,
+{
+    for text in FILES {
+        if !is_bad(rt, alloc, path, text) {
+            return false;
+        }
+    }
+    true
+}
+
+/// A path for the process of this number.
+fn path_of<R: Env + AllocGlobal>(rt: &R, process: u32) -> io::Result<String> {
+    let directory = env::temp_dir(rt)?;
+    let folder = directory.to_str().unwrap_or(".");
+    Ok(format!(in rt.alloc(); "{folder}/cached-{process}.toml")?)
 }
 
 #[test]
-fn bad_configurations(rt: HostRuntime) -> Result<(), Fail> {
-    let id = process::id(rt.process());
-    let directory = env::temp_dir(&rt)?;
-    let folder = directory.to_str().unwrap_or(".");
-    let path = format!(in rt.alloc(); "{folder}/cached-{id}.toml")?;
-    let good = first_good(rt, rt.alloc(), path.as_str())?;
-    assert_eq!(rt; good, None);
-    Ok(())
+fn words_are_judged_first(rt: HostRuntime) {
+    assert!(rt; all_come_so(rt, rt.alloc()));
+}
+
+#[test]
+fn bad_configurations(rt: HostRuntime) {
+    let path = path_of(&rt, process::id(rt.process()));
+    assert!(rt; matches!(&path, Ok(path) if are_bad(rt, rt.alloc(), path.as_str())));
 }

@@ -1,6 +1,6 @@
-//! Rows on newcomers: under TinyLFU a newcomer comes in where it was asked for more often than those that would go for it.
-use crate::playing::none_wrong;
-use crate::rows::{CASE, Case, ITSELF, Look, Row, SECOND, SETTINGS};
+//! Rows on newcomers: under TinyLFU a newcomer comes in where it was asked for more often than
+//! those that would go for it.
+use crate::rows::{CASE, Case, ITSELF, Look, Row, SECOND, SETTINGS, none_wrong};
 use engine_reference::{EvictionPolicy, RemovalCause, Settings};
 
 const TINY_LFU: Settings = Settings {
@@ -8,7 +8,8 @@ const TINY_LFU: Settings = Settings {
     ..SETTINGS
 };
 
-// Keys 0 and 1 are asked for before there is a table, then 2, 0 and 1 once each: 2 was used longest ago. Key 3 comes and is refused, and is asked for, twice.
+// Keys 0 and 1 are asked for before there is a table, then 2, 0 and 1 once each: 2 was used longest
+// ago. Key 3 comes and is refused, and is asked for, twice.
 const REFUSED_TWICE: &[Row<'static>] = &[
     Row::Puts(0, 5, 1),
     Row::Puts(1, 6, 2),
@@ -70,7 +71,8 @@ const REFUSED_THRICE: &[Row<'static>] = &[
 ];
 
 const CASES: &[Case<'static>] = &[
-    // Weights of one: a newcomer comes in once it was asked for more often than the value used longest ago.
+    // Weights of one: a newcomer comes in once it was asked for more often than the value used
+    // longest ago.
     Case {
         settings: Settings {
             capacity: Some(3),
@@ -110,7 +112,8 @@ const CASES: &[Case<'static>] = &[
         ],
         ..CASE
     },
-    // A heavy newcomer is held against all that would go for it, together; a value that grows pushes others out.
+    // A heavy newcomer is held against all that would go for it, together; a value that grows
+    // pushes others out.
     Case {
         settings: Settings {
             capacity: Some(31),
@@ -133,7 +136,8 @@ const CASES: &[Case<'static>] = &[
         ],
         ..CASE
     },
-    // A run that is due makes the table too: the second where memory for it was refused to the first.
+    // A run that is due makes the table too: the second where memory for it was refused to the
+    // first.
     Case {
         settings: Settings {
             capacity: Some(3),

@@ -1,5 +1,5 @@
 //! A housekeeper of an engine.
-use crate::hashes::{Cache, cache_of};
+use crate::rows::{CASE, Numbers, empty_cache};
 use engine_reference::Housekeeper;
 use policy_base::{HousekeeperConfig, Instant};
 use std::alloc::{AllocError, Global};
@@ -22,14 +22,14 @@ fn at(nanos: u64) -> Instant {
 }
 
 /// Whether runs are due before a run, and after one that comes later.
-fn runs(cache: &mut Cache, housekeeper: &mut Housekeeper) -> bool {
+fn runs(cache: &mut Numbers, housekeeper: &mut Housekeeper) -> bool {
     housekeeper.run_pending_tasks(cache, at(LATER));
     let ran = dues(housekeeper, 0, LATER) == (false, false);
     housekeeper.try_run_pending_tasks(cache, at(MADE)) && ran
 }
 
 fn housekept(alloc: Global) -> Result<bool, AllocError> {
-    let mut cache = cache_of(alloc)?;
+    let mut cache = empty_cache(alloc, &CASE)?;
     let mut housekeeper = Housekeeper::new(HousekeeperConfig::default(), at(MADE));
     Ok(
         runs(&mut cache, &mut housekeeper)

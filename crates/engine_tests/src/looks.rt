@@ -1,7 +1,5 @@
 //! Rows on look-ups.
-
-use crate::playing::none_wrong;
-use crate::rows::{CASE, Case, Look, Row, SECOND, SETTINGS};
+use crate::rows::{CASE, Case, Look, Row, SECOND, SETTINGS, none_wrong};
 use engine_reference::Settings;
 
 const CASES: &[Case<'static>] = &[

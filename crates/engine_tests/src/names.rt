@@ -1,7 +1,7 @@
 //! A key that is looked for by what names it, and the texts of refusals.
 ghost use Rattle.std.specs.Prelude.{◌≡◌};
 
-use crate::hashes::{Cache, cache_of};
+use crate::rows::{CASE, Numbers, empty_cache, put};
 use engine_reference::Names;
 use moka_engine::Refusal;
 use policy_base::Instant;
@@ -21,34 +21,36 @@ impl<'a> Names<u32> for LentNumber<'a> {
     }
 }
 
-/// Writes 70 under 7, at the second try where memory is refused.
-fn write(cache: &mut Cache, now: Instant) -> Result<u64, Refusal> {
-    match cache.reserve_write() {
-        Ok(()) => {}
-        Err(_) => cache.reserve_write()?,
-    }
-    let hash = cache.hash(&7);
-    Ok(cache.do_insert_with_hash(7, hash, 70, now, 1))
+fn start() -> Instant {
+    Instant::from_nanos(0)
 }
 
 /// What is found by a name of a key.
-fn found(cache: &Cache, key: u32, now: Instant) -> Result<Option<u32>, AllocError> {
+fn found(cache: &Numbers, key: u32) -> Option<u32> {
     let hash = cache.hash(&key);
-    cache.get_with_hash_without_recording(&LentNumber { key: &key }, hash, now)
+    match cache.get_with_hash_without_recording(&LentNumber { key: &key }, hash, start()) {
+        Ok(Some(value)) => Some(value.number),
+        _ => None,
+    }
 }
 
-fn found_by_names(alloc: Global) -> Result<(Option<u32>, Option<u32>), Refusal> {
-    let now = Instant::from_nanos(0);
-    let mut cache = cache_of(alloc)?;
-    let _ticket = write(&mut cache, now)?;
-    let seven = found(&cache, 7, now)?;
-    let eight = found(&cache, 8, now)?;
-    Ok((seven, eight))
+/// Names of 7 and 8, where 70 is written under 7.
+fn finds_seven(cache: &mut Numbers) -> bool {
+    put(cache, 7, 70, start(), 1).is_ok()
+        && found(cache, 7) == Some(70)
+        && found(cache, 8).is_none()
+}
+
+fn is_found_by_names(alloc: Global) -> bool {
+    match empty_cache(alloc, &CASE) {
+        Ok(mut cache) => finds_seven(&mut cache),
+        Err(_) => false,
+    }
 }
 
 #[test]
 fn a_name_finds_its_key(rt: HostRuntime) {
-    assert_eq!(rt; found_by_names(rt.alloc()), Ok((Some(70), None)));
+    assert!(rt; is_found_by_names(rt.alloc()));
 }
 
 const TEXTS: [(Refusal, &str); 6] = [

@@ -1,11 +1,10 @@
 //! Rows on predicates.
-
-use crate::playing::none_wrong;
-use crate::rows::{CASE, Case, Look, Row, SETTINGS};
+use crate::rows::{CASE, Case, Look, Row, SETTINGS, none_wrong};
 use engine_reference::{RemovalCause, Settings};
 use moka_engine::Refusal;
 
-/// The random UUID whose free bits are all 0: what is left is the version, 4, and the variant, binary 10.
+/// The random UUID whose free bits are all 0: what is left is the version, 4, and the variant,
+/// binary 10.
 const OF_ZEROS: u128 = 0x00000000_0000_4000_8000_000000000000;
 
 /// The one whose free bits are all 1.
@@ -16,7 +15,8 @@ const ZEROS: u32 = 0;
 const ONES: u32 = u32::MAX;
 
 const CASES: &[Case<'static>] = &[
-    // A generator of zeros gives one identifier. While that is registered a predicate is refused, and covers nothing; a run that it covers nothing after takes it away.
+    // A generator of zeros gives one identifier. While that is registered a predicate is refused,
+    // and covers nothing; a run that it covers nothing after takes it away.
     Case {
         rows: &[
             Row::Puts(1, 10, 1),
@@ -38,7 +38,8 @@ const CASES: &[Case<'static>] = &[
         ],
         ..CASE
     },
-    // A predicate covers what was written at earlier steps, also where only its first half was there before.
+    // A predicate covers what was written at earlier steps, also where only its first half was
+    // there before.
     Case {
         rows: &[
             Row::Puts(1, 10, 1),

@@ -1,12 +1,11 @@
 //! A row on a value whose clone is refused: the calls answer so and leave all as it was.
-
-use crate::playing::none_wrong;
-use crate::rows::{CASE, Case, Look, NOT_CLONED, Row, SETTINGS};
+use crate::rows::{CASE, Case, Look, NOT_CLONED, Row, SETTINGS, none_wrong};
 use engine_reference::Settings;
 use moka_engine::Refusal;
 
 const CASES: &[Case<'static>] = &[
-    // Look-ups and a removal answer that the clone is refused. The value is still there, was not used, and no ticket was given for it.
+    // Look-ups and a removal answer that the clone is refused. The value is still there, was not
+    // used, and no ticket was given for it.
     Case {
         settings: Settings {
             idle: Some(7),

@@ -1,3 +1,2 @@
 //! Tests of the fast cache's run, as far as memory is asked for.
-#[cfg(test)]
 mod runs;

@@ -1,12 +1,11 @@
 //! Rows on writes, times, room and maintenance.
-
-use crate::playing::none_wrong;
-use crate::rows::{CASE, Case, Look, Row, SECOND, SETTINGS};
+use crate::rows::{CASE, Case, Look, Row, SECOND, SETTINGS, none_wrong};
 use engine_reference::{RemovalCause, Settings};
 use moka_engine::Refusal;
 
 const CASES: &[Case<'static>] = &[
-    // Live 16 s, idle 7 s, and a second of its own from its creation on: the earliest of them ends a value.
+    // Live 16 s, idle 7 s, and a second of its own from its creation on: the earliest of them ends
+    // a value.
     Case {
         settings: Settings {
             live: Some(16 * SECOND),
@@ -129,7 +128,8 @@ const CASES: &[Case<'static>] = &[
         ],
         ..CASE
     },
-    // The queue takes 128 writes; a ticket that was sent is unknown, which is said before that the queue is full.
+    // The queue takes 128 writes; a ticket that was sent is unknown, which is said before that the
+    // queue is full.
     Case {
         rows: &[
             Row::PutsOften(1, 10, 129),

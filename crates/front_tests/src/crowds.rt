@@ -1,15 +1,13 @@
 //! More keys than there is room for.
-use crate::playing::{BuildError, Form, Numbers, next, numbers};
+use crate::playing::{Form, Numbers, ONE, empty_cache, next};
 use engine_reference::RemovalCause;
 use front_reference::CacheError;
 use std::alloc::Global;
 
 /// A cache of capacity 500.
 const WIDE: Form = Form {
-    segments: 1,
     capacity: Some(500),
-    live: 1_000_000,
-    factor: 11_400_714_819_323_198_485,
+    ..ONE
 };
 
 /// How many keys come.
@@ -78,18 +76,10 @@ fn is_told(state: &mut Numbers) -> bool {
         && count_told(state, RemovalCause::Explicit) == Some(500)
 }
 
-/// An empty cache, made once more where memory was refused.
-fn made(alloc: Global) -> Result<Numbers, BuildError> {
-    match numbers(alloc, WIDE) {
-        Ok(state) => Ok(state),
-        Err(_) => numbers(alloc, WIDE),
-    }
-}
-
 fn are_told(alloc: Global) -> bool {
-    match made(alloc) {
-        Ok(mut state) => is_told(&mut state),
-        Err(_) => false,
+    match empty_cache(alloc, WIDE) {
+        Some(mut state) => is_told(&mut state),
+        None => false,
     }
 }
 

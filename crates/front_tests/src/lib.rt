@@ -1,17 +1,19 @@
-//! Rows of a cache that is lent.
+//! Rows of a cache that is lent, and uses of it.
 #![tactic(auto)]
 
-pub mod builder;
+#[cfg(test)]
+mod builder;
+#[cfg(test)]
+mod covering;
 #[cfg(test)]
 mod crowds;
-pub mod playing;
+#[cfg(test)]
+mod iterating;
+#[cfg(test)]
+mod playing;
 #[cfg(test)]
 mod rows;
 #[cfg(test)]
 mod turns;
-pub mod wholes;
-
-pub use playing::{
-    BuildError, Call, Closure, Done, Form, Numbers, Select, Start, Times, TimesHasher, are_right,
-    next, numbers,
-};
+#[cfg(test)]
+mod uses;

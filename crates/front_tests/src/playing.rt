@@ -1,10 +1,13 @@
 //! Rows of a cache that is lent: what is asked of it, what it is to answer, and what plays them.
 mod closures;
 mod hashing;
+mod rules;
 mod script;
 mod selecting;
+mod turning;
 
-pub use hashing::{Times, TimesHasher};
-pub use moka::BuildError;
-pub use script::{Call, Closure, Done, Form, Numbers, Start, are_right, next, numbers};
+pub use script::{
+    Call, Case, Closure, Done, Form, Numbers, ONE, SPREAD, Start, all_right, empty_cache, next,
+};
 pub use selecting::Select;
+pub use turning::Turning;

@@ -1,19 +1,16 @@
-use crate::playing::{Call, Closure, Done, Form, Select, are_right};
+//! Rows of values: made, chosen, told, and let go for want of room.
+use crate::playing::{Call, Case, Closure, Done, Form, ONE, Select, all_right};
 use engine_reference::RemovalCause;
-
-/// A number by which keys spread over parts.
-const SPREAD: u64 = 11_400_714_819_323_198_485;
 
 /// Values that live for a hundred milliseconds, in four parts.
 const SHORT: Form = Form {
     segments: 4,
-    capacity: None,
     live: 100,
-    factor: SPREAD,
+    ..ONE
 };
 
 /// Calls that make a value where none is visible.
-const MADE: [(u64, Call); 16] = [
+const MADE: &[(u64, Call)] = &[
     (0, Call::With(Closure::GetWith(1, 7, 7))),
     (0, Call::With(Closure::GetWith(1, 8, 7))),
     (0, Call::With(Closure::GetWithIf(1, 8, 9, 7))),
@@ -33,7 +30,7 @@ const MADE: [(u64, Call); 16] = [
 ];
 
 /// Selectors: what is inserted, put, counted, and removed after its deadline has come.
-const SELECTED: [(u64, Call); 16] = [
+const SELECTED: &[(u64, Call)] = &[
     (0, Call::With(Closure::OrInsert(1, 3, (3, true)))),
     (0, Call::With(Closure::OrInsert(1, 6, (3, false)))),
     (
@@ -64,8 +61,9 @@ const SELECTED: [(u64, Call); 16] = [
     ),
 ];
 
-/// Each other call that makes a value, where none is there, where one is, and where its closure makes none.
-const CHOSEN: [(u64, Call); 18] = [
+/// Each other call that makes a value, where none is there, where one is, and where its closure
+/// makes none.
+const CHOSEN: &[(u64, Call)] = &[
     (0, Call::With(Closure::Select(1, Select::Get(7, 7)))),
     (0, Call::With(Closure::Select(1, Select::Get(8, 7)))),
     (
@@ -129,7 +127,7 @@ const CHOSEN: [(u64, Call); 18] = [
 ];
 
 /// A compute call takes out what has expired, and that is told.
-const TAKEN_OUT: [(u64, Call); 4] = [
+const TAKEN_OUT: &[(u64, Call)] = &[
     (0, Call::Insert(1, 10)),
     (
         100_000_000,
@@ -139,15 +137,16 @@ const TAKEN_OUT: [(u64, Call); 4] = [
     (100_000_000, Call::NoneTold),
 ];
 
-/// Three segments, which become four, each with a share of 3 of a capacity of 10; all keys belong to one.
+/// Three segments, which become four, each with a share of 3 of a capacity of 10; all keys belong
+/// to one.
 const SHARED: Form = Form {
     segments: 3,
     capacity: Some(10),
-    live: 1_000_000,
     factor: 0,
+    ..ONE
 };
 
-const FITTING: [(u64, Call); 8] = [
+const FITTING: &[(u64, Call)] = &[
     (0, Call::Insert(0, 10)),
     (0, Call::Insert(1, 11)),
     (0, Call::Insert(2, 12)),
@@ -160,14 +159,12 @@ const FITTING: [(u64, Call); 8] = [
 
 /// A cache of capacity 3.
 const SMALL: Form = Form {
-    segments: 1,
     capacity: Some(3),
-    live: 1_000_000,
-    factor: SPREAD,
+    ..ONE
 };
 
 /// Who was used least recently leaves, and is told so.
-const EVICTED: [(u64, Call); 33] = [
+const EVICTED: &[(u64, Call)] = &[
     (0, Call::Insert(1, 10)),
     (0, Call::Insert(2, 20)),
     (0, Call::Get(1, Some(10))),
@@ -204,7 +201,7 @@ const EVICTED: [(u64, Call); 33] = [
 ];
 
 /// What is used without its value stays, and what is only peeked at leaves.
-const TOUCHED: [(u64, Call); 15] = [
+const TOUCHED: &[(u64, Call)] = &[
     (0, Call::InsertNamed(1, 10)),
     (0, Call::InsertNamed(2, 20)),
     (0, Call::InsertNamed(3, 30)),
@@ -223,7 +220,7 @@ const TOUCHED: [(u64, Call); 15] = [
 ];
 
 /// What leaves after its deadline is told so, whoever takes it out; and so is what is written over.
-const TOLD: [(u64, Call); 15] = [
+const TOLD: &[(u64, Call)] = &[
     (0, Call::Insert(1, 10)),
     (0, Call::Insert(1, 11)),
     (0, Call::Told(1, RemovalCause::Replaced)),
@@ -241,23 +238,13 @@ const TOLD: [(u64, Call); 15] = [
     (100_000_000, Call::NoneTold),
 ];
 
-/// A predicate where none is taken.
-const REFUSED: [(u64, Call); 4] = [
-    (0, Call::Insert(1, 10)),
-    (0, Call::RefusesPredicate),
-    (0, Call::Get(1, Some(10))),
-    (0, Call::NoneTold),
-];
-
 /// A cache that takes nothing.
 const NONE: Form = Form {
-    segments: 1,
     capacity: Some(0),
-    live: 1_000_000,
-    factor: SPREAD,
+    ..ONE
 };
 
-const NOTHING_TAKEN: [(u64, Call); 8] = [
+const NOTHING_TAKEN: &[(u64, Call)] = &[
     (0, Call::Insert(0, 0)),
     (0, Call::Has(0, false)),
     (0, Call::Get(0, None)),
@@ -272,11 +259,11 @@ const NOTHING_TAKEN: [(u64, Call); 8] = [
 const COLLIDING: Form = Form {
     segments: 4,
     capacity: Some(8),
-    live: 1_000_000,
     factor: 0,
+    ..ONE
 };
 
-const COLLIDED: [(u64, Call); 12] = [
+const COLLIDED: &[(u64, Call)] = &[
     (0, Call::Insert(0, 10)),
     (0, Call::Run),
     (0, Call::Count(1)),
@@ -295,14 +282,14 @@ const COLLIDED: [(u64, Call); 12] = [
 const HALVES: Form = Form {
     segments: 2,
     capacity: Some(2),
-    live: 1_000_000,
     factor: 1,
+    ..ONE
 };
 
 /// The key that differs from 1 in its highest bit alone, and so belongs to the other part.
 const FAR: u64 = 9_223_372_036_854_775_809;
 
-const APART: [(u64, Call); 11] = [
+const APART: &[(u64, Call)] = &[
     (0, Call::Insert(1, 10)),
     (0, Call::Insert(FAR, 20)),
     (0, Call::Visible(2)),
@@ -316,62 +303,70 @@ const APART: [(u64, Call); 11] = [
     (0, Call::Get(FAR, Some(20))),
 ];
 
+const MAKING: &[Case<'static>] = &[
+    Case {
+        form: SHORT,
+        calls: MADE,
+    },
+    Case {
+        form: SHORT,
+        calls: SELECTED,
+    },
+    Case {
+        form: SHORT,
+        calls: CHOSEN,
+    },
+];
+
+const LEAVING: &[Case<'static>] = &[
+    Case {
+        form: SHORT,
+        calls: TAKEN_OUT,
+    },
+    Case {
+        form: SHORT,
+        calls: TOLD,
+    },
+    Case {
+        form: SMALL,
+        calls: EVICTED,
+    },
+    Case {
+        form: SMALL,
+        calls: TOUCHED,
+    },
+];
+
+const PARTS: &[Case<'static>] = &[
+    Case {
+        form: SHARED,
+        calls: FITTING,
+    },
+    Case {
+        form: NONE,
+        calls: NOTHING_TAKEN,
+    },
+    Case {
+        form: COLLIDING,
+        calls: COLLIDED,
+    },
+    Case {
+        form: HALVES,
+        calls: APART,
+    },
+];
+
 #[test]
-fn further_calls_make_values(rt: HostRuntime) {
-    assert!(rt; are_right(rt.alloc(), SHORT, &CHOSEN));
+fn calls_make_values(rt: HostRuntime) {
+    all_right(&rt, rt.alloc(), MAKING);
 }
 
 #[test]
-fn what_expired_is_taken_out(rt: HostRuntime) {
-    assert!(rt; are_right(rt.alloc(), SHORT, &TAKEN_OUT));
+fn what_leaves_is_told(rt: HostRuntime) {
+    all_right(&rt, rt.alloc(), LEAVING);
 }
 
 #[test]
-fn a_share_is_rounded_up(rt: HostRuntime) {
-    assert!(rt; are_right(rt.alloc(), SHARED, &FITTING));
-}
-
-#[test]
-fn what_is_touched_stays(rt: HostRuntime) {
-    assert!(rt; are_right(rt.alloc(), SMALL, &TOUCHED));
-}
-
-#[test]
-fn closures_make_values(rt: HostRuntime) {
-    assert!(rt; are_right(rt.alloc(), SHORT, &MADE));
-}
-
-#[test]
-fn selectors_choose(rt: HostRuntime) {
-    assert!(rt; are_right(rt.alloc(), SHORT, &SELECTED));
-}
-
-#[test]
-fn the_least_recently_used_leaves(rt: HostRuntime) {
-    assert!(rt; are_right(rt.alloc(), SMALL, &EVICTED));
-}
-
-#[test]
-fn removals_are_told(rt: HostRuntime) {
-    assert!(rt; are_right(rt.alloc(), SHORT, &TOLD));
-}
-
-#[test]
-fn predicates_are_refused(rt: HostRuntime) {
-    assert!(rt; are_right(rt.alloc(), SHORT, &REFUSED));
-}
-
-#[test]
-fn capacity_zero_takes_nothing(rt: HostRuntime) {
-    assert!(rt; are_right(rt.alloc(), NONE, &NOTHING_TAKEN));
-}
-
-#[test]
-fn keys_of_one_hash_share_a_part(rt: HostRuntime) {
-    assert!(rt; are_right(rt.alloc(), COLLIDING, &COLLIDED));
-}
-
-#[test]
-fn two_keys_in_two_parts(rt: HostRuntime) {
-    assert!(rt; are_right(rt.alloc(), HALVES, &APART));
+fn parts_have_their_shares(rt: HostRuntime) {
+    all_right(&rt, rt.alloc(), PARTS);
 }

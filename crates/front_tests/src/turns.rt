@@ -1,26 +1,16 @@
-use crate::playing::{Call, Form, Start, are_right};
+//! Rows of turns and values, of one part and of four.
+use crate::playing::{Call, Case, Form, ONE, Start, all_right};
 use engine_reference::RemovalCause;
 use front_reference::{CacheError, TurnKind};
 
-/// A cache of one part without bounds, and one of four.
-const ONE: Form = Form {
-    segments: 1,
-    capacity: None,
-    live: 1_000_000,
-    factor: 11_400_714_819_323_198_485,
-};
-
-const FOUR: Form = Form {
-    segments: 4,
-    capacity: None,
-    live: 1_000_000,
-    factor: 11_400_714_819_323_198_485,
-};
+/// A cache of four parts.
+const FOUR: Form = Form { segments: 4, ..ONE };
 
 const UNKNOWN: Result<(), CacheError> = Err(CacheError::UnknownTurn);
 
-/// One turn of a kind and a key; a value that was made is inserted whatever happened to the key meanwhile.
-const TURNS: [(u64, Call); 17] = [
+/// One turn of a kind and a key; a value that was made is inserted whatever happened to the key
+/// meanwhile.
+const TURNS: &[(u64, Call)] = &[
     (0, Call::Begin(TurnKind::Try, 7, Start::Lead(0))),
     (0, Call::Begin(TurnKind::Try, 7, Start::Wait(0))),
     (0, Call::Begin(TurnKind::With, 7, Start::Lead(1))),
@@ -41,7 +31,7 @@ const TURNS: [(u64, Call); 17] = [
 ];
 
 /// Values come, are used, leave, and are counted after a run.
-const VALUES: [(u64, Call); 16] = [
+const VALUES: &[(u64, Call)] = &[
     (0, Call::Get(1, None)),
     (0, Call::Has(1, false)),
     (0, Call::OrInsert(1, 3, (3, true))),
@@ -60,22 +50,26 @@ const VALUES: [(u64, Call); 16] = [
     (6, Call::Run),
 ];
 
-#[test]
-fn turns_of_one_part(rt: HostRuntime) {
-    assert!(rt; are_right(rt.alloc(), ONE, &TURNS));
-}
+const CASES: &[Case<'static>] = &[
+    Case {
+        form: ONE,
+        calls: TURNS,
+    },
+    Case {
+        form: FOUR,
+        calls: TURNS,
+    },
+    Case {
+        form: ONE,
+        calls: VALUES,
+    },
+    Case {
+        form: FOUR,
+        calls: VALUES,
+    },
+];
 
 #[test]
-fn turns_of_four_parts(rt: HostRuntime) {
-    assert!(rt; are_right(rt.alloc(), FOUR, &TURNS));
-}
-
-#[test]
-fn values_of_one_part(rt: HostRuntime) {
-    assert!(rt; are_right(rt.alloc(), ONE, &VALUES));
-}
-
-#[test]
-fn values_of_four_parts(rt: HostRuntime) {
-    assert!(rt; are_right(rt.alloc(), FOUR, &VALUES));
+fn turns_and_values(rt: HostRuntime) {
+    all_right(&rt, rt.alloc(), CASES);
 }

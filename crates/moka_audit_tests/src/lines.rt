@@ -1,7 +1,3 @@
 //! Tests of lines and requests.
-#[cfg(test)]
 mod buffers;
-#[cfg(test)]
-mod outcome;
-#[cfg(test)]
 mod requests;

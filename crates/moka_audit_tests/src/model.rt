@@ -1,4 +1,5 @@
-//! Worked rows: transcripts that obey the definitions, and transcripts that break a rule at a known record, each as a computed check.
+//! Worked rows: transcripts that obey the definitions, and transcripts that break a rule at a known
+//! record, each as a computed check.
 ghost use Rattle.moka_audit_tests.specs.Model.Lines.{GoodLines, BrokenLines};
 ghost use Rattle.moka_audit_tests.specs.Model.Connections.{GoodConnections, BrokenConnections};
 ghost use Rattle.moka_audit_tests.specs.Model.Values.{GoodValues, BrokenValues};

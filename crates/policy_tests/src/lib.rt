@@ -13,6 +13,5 @@ mod regions;
 mod sketches;
 #[cfg(test)]
 mod timers;
-pub mod uses;
-
-pub use uses::{expire_until, is_worth_more, push_both, use_again};
+#[cfg(test)]
+mod uses;

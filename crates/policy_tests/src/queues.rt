@@ -1,5 +1,5 @@
-//! Queues. A push whose memory is refused is tried once more, and has changed nothing; so the tests pass with any one allocation
-//! refused.
+//! Queues. A push whose memory is refused is tried once more, and has changed nothing; so the tests
+//! pass with any one allocation refused.
 use crate::outcome::none_wrong;
 use moka_policy::{CacheRegion, Deque, NodeId, PushError, ReserveError};
 use policy_queue::places_of;
@@ -12,7 +12,8 @@ struct Queue {
     names: Vec<NodeId>,
 }
 
-/// What is done with a queue, and what has to come of it. Nodes are named by the number of their push, from 0.
+/// What is done with a queue, and what has to come of it. Nodes are named by the number of their
+/// push, from 0.
 #[derive(Clone, Copy)]
 enum Act {
     Push(u64),
@@ -61,7 +62,8 @@ fn seen(deque: &Deque<u64>) -> (usize, Option<u64>) {
     (deque.len(), deque.peek_back().copied())
 }
 
-/// Pushes, at the second try where memory is refused: then nothing has changed, and the element comes back.
+/// Pushes, at the second try where memory is refused: then nothing has changed, and the element
+/// comes back.
 fn push(deque: &mut Deque<u64>, element: u64) -> Option<NodeId> {
     let before = seen(deque);
     match deque.push_back(element) {
@@ -209,7 +211,8 @@ fn shows_so(deque: &mut Deque<u64>, act: Act) -> bool {
     }
 }
 
-/// Does one after another on a new queue, and answers the place of the first that did not come out so.
+/// Does one after another on a new queue, and answers the place of the first that did not come out
+/// so.
 fn wrong_row(alloc: Global, acts: &[Act]) -> Option<usize> {
     let mut queue = new_queue(alloc);
     for (place, act) in acts.iter().enumerate() {
@@ -220,7 +223,8 @@ fn wrong_row(alloc: Global, acts: &[Act]) -> Option<usize> {
     None
 }
 
-/// Plays these cases, each on a new queue, and answers the first that did not come out so, and the place of its first row that did not.
+/// Plays these cases, each on a new queue, and answers the first that did not come out so, and the
+/// place of its first row that did not.
 fn first_wrong(alloc: Global, cases: &[&[Act]]) -> Option<(usize, usize)> {
     for (number, acts) in cases.iter().enumerate() {
         if let Some(place) = wrong_row(alloc, acts) {

@@ -143,7 +143,8 @@ fn regions_have_names(rt: HostRuntime) {
     );
 }
 
-/// What a configuration is made with: how long a run lasts at most, how often it repeats, and how many it evicts at a time.
+/// What a configuration is made with: how long a run lasts at most, how often it repeats, and how
+/// many it evicts at a time.
 fn configuration() -> (Duration, u32, u32) {
     let config = HousekeeperConfig::default();
     (

@@ -1,5 +1,5 @@
-//! The queues of a cache's entries. What is refused for memory is tried once more, and has changed nothing; so the tests pass with any
-//! one allocation refused.
+//! The queues of a cache's entries. What is refused for memory is tried once more, and has changed
+//! nothing; so the tests pass with any one allocation refused.
 use crate::outcome::none_wrong;
 use moka_policy::{
     CacheRegion, Deques, EntryInfo, Instant, KeyHash, KeyHashDate, NodeId, PushError, Slot, Stale,
@@ -16,14 +16,16 @@ struct Cache {
     deques: Deques<u8>,
 }
 
-/// What is done with the queues, and what has to come of it. Entries are numbered from 0 as they are added.
+/// What is done with the queues, and what has to come of it. Entries are numbered from 0 as they
+/// are added.
 #[derive(Clone, Copy)]
 enum Act {
     /// Adds the entry of that number behind all others, in both orders.
     Add(usize),
     /// Makes room for so many in each queue.
     Reserve(usize),
-    /// Adds the entry of that number behind all others in order of writes, where there is room for it already.
+    /// Adds the entry of that number behind all others in order of writes, where there is room for
+    /// it already.
     AddWritten(usize),
     Use(usize, Result<(), Stale>),
     Write(usize, Result<(), Stale>),
@@ -33,7 +35,8 @@ enum Act {
     WriteInDeque(usize, Result<(), Stale>),
     UnlinkUsedInDeque(usize, Result<(), Stale>),
     UnlinkWrittenInDeque(usize, Result<(), Stale>),
-    /// The entry's node in order of writes, unlinked from the queue in order of use, or from its own.
+    /// The entry's node in order of writes, unlinked from the queue in order of use, or from its
+    /// own.
     UnlinkWrittenAsUsed(usize, Option<Result<(), Stale>>),
     UnlinkWrittenNode(usize, Option<Result<(), Stale>>),
     ResetCursor,
@@ -239,7 +242,8 @@ fn shows_so(cache: &mut Cache, act: Act) -> bool {
     }
 }
 
-/// Does one after another on new queues, and answers the place of the first that did not come out so.
+/// Does one after another on new queues, and answers the place of the first that did not come out
+/// so.
 fn wrong_row(alloc: Global, acts: &[Act]) -> Option<usize> {
     let mut cache = new_cache(alloc);
     for (place, act) in acts.iter().enumerate() {
@@ -250,7 +254,8 @@ fn wrong_row(alloc: Global, acts: &[Act]) -> Option<usize> {
     None
 }
 
-/// Plays these cases, each on new queues, and answers the first that did not come out so, and the place of its first row that did not.
+/// Plays these cases, each on new queues, and answers the first that did not come out so, and the
+/// place of its first row that did not.
 fn first_wrong(alloc: Global, cases: &[&[Act]]) -> Option<(usize, usize)> {
     for (number, acts) in cases.iter().enumerate() {
         if let Some(place) = wrong_row(alloc, acts) {

@@ -1,5 +1,5 @@
-//! The frequency sketch. A table that is refused for memory is asked for once more, and the sketch is as it was; so the tests pass with
-//! any one allocation refused.
+//! The frequency sketch. A table that is refused for memory is asked for once more, and the sketch
+//! is as it was; so the tests pass with any one allocation refused.
 use crate::outcome::none_wrong;
 use moka_policy::FrequencySketch;
 use std::alloc::Global;
@@ -43,7 +43,8 @@ fn comes_so(sketch: &mut FrequencySketch, act: Act) -> bool {
     }
 }
 
-/// Does one after another on a new sketch, and answers the place of the first that did not come out so.
+/// Does one after another on a new sketch, and answers the place of the first that did not come out
+/// so.
 fn wrong_row(alloc: Global, acts: &[Act]) -> Option<usize> {
     let mut sketch = FrequencySketch::default(alloc);
     for (place, act) in acts.iter().enumerate() {
@@ -54,7 +55,8 @@ fn wrong_row(alloc: Global, acts: &[Act]) -> Option<usize> {
     None
 }
 
-/// Plays these cases, each on a new sketch, and answers the first that did not come out so, and the place of its first row that did not.
+/// Plays these cases, each on a new sketch, and answers the first that did not come out so, and the
+/// place of its first row that did not.
 fn first_wrong(alloc: Global, cases: &[&[Act]]) -> Option<(usize, usize)> {
     for (number, acts) in cases.iter().enumerate() {
         if let Some(place) = wrong_row(alloc, acts) {

@@ -1,4 +1,5 @@
-//! Timers. What is refused for memory is tried once more, and has changed nothing; so the tests pass with any one allocation refused.
+//! Timers. What is refused for memory is tried once more, and has changed nothing; so the tests
+//! pass with any one allocation refused.
 use crate::outcome::none_wrong;
 use moka_policy::{
     Due, EntryInfo, Instant, KeyHash, NodeId, ScheduleError, Slot, TimerEvent, TimerWheel,
@@ -24,7 +25,8 @@ struct Timers {
 enum Act {
     /// A new entry that is due at that moment gets a timer.
     Schedule(u64),
-    /// A thousand new entries, due at the thousandth tick, the one before it, and so on to the first.
+    /// A thousand new entries, due at the thousandth tick, the one before it, and so on to the
+    /// first.
     ScheduleThousand,
     /// Room is made for so many timers.
     Reserve(usize),
@@ -205,7 +207,8 @@ fn place_alone(timers: &mut Timers, time: u64, entry: usize) -> bool {
     true
 }
 
-/// Whether the timer that was placed last is known, and then stands at that moment; nothing where none was placed.
+/// Whether the timer that was placed last is known, and then stands at that moment; nothing where
+/// none was placed.
 fn replace(timers: &mut Timers, time: u64) -> Option<bool> {
     match timers.last {
         Some(id) => Some(timers.wheel.replace(id, due(time)).is_ok()),
@@ -260,7 +263,8 @@ fn shows_so(timers: &mut Timers, act: Act) -> bool {
     }
 }
 
-/// Does one after another with new timers, and answers the place of the first that did not come out so.
+/// Does one after another with new timers, and answers the place of the first that did not come out
+/// so.
 fn wrong_row(alloc: Global, acts: &[Act]) -> Option<usize> {
     let mut timers = new_timers(alloc);
     for (place, act) in acts.iter().enumerate() {
@@ -271,7 +275,8 @@ fn wrong_row(alloc: Global, acts: &[Act]) -> Option<usize> {
     None
 }
 
-/// Plays these cases, each with new timers, and answers the first that did not come out so, and the place of its first row that did not.
+/// Plays these cases, each with new timers, and answers the first that did not come out so, and the
+/// place of its first row that did not.
 fn first_wrong(alloc: Global, cases: &[&[Act]]) -> Option<(usize, usize)> {
     for (number, acts) in cases.iter().enumerate() {
         if let Some(place) = wrong_row(alloc, acts) {

@@ -4,9 +4,13 @@ use moka::{BuildError, CacheBuilder};
 use moka_sync::{Build, Cache, Dial, DialEnv, StdHasher};
 use rand_core::SeedableRng;
 use rand_xoshiro::Xoshiro256PlusPlus;
-use std::alloc::Global;
+use std::alloc::{AllocError, Global};
 use std::sync::Arc;
+use std::sync::atomic::AtomicU64;
 use std::thread;
+
+/// What gives moments and random words.
+pub type Moments = DialEnv<Xoshiro256PlusPlus>;
 
 /// A cache of numbers under numbers, whose making may fail with a number.
 pub type Numbers = Cache<
@@ -14,35 +18,47 @@ pub type Numbers = Cache<
     u64,
     StdHasher,
     Bundle<NoExpiry, WeighOne, NoPredicate, u64>,
-    DialEnv<Xoshiro256PlusPlus>,
+    Moments,
 >;
 
 /// How often a gate is looked at before its row fails.
 const LOOKS: u64 = 20_000_000;
 
-/// A generator.
-pub fn generator() -> Xoshiro256PlusPlus {
-    Xoshiro256PlusPlus::seed_from_u64(1)
+/// What gives the moments that a dial shows.
+pub fn moments_of(dial: Arc<Dial>) -> Moments {
+    DialEnv::new(dial, Xoshiro256PlusPlus::seed_from_u64(1))
 }
 
-/// A cache with the dial that gives it its moments.
+/// What gives moments that are all 0.
+pub fn make_moments(alloc: Global) -> Result<Moments, BuildError> {
+    match Arc::new(alloc, Dial::new()) {
+        Ok(dial) => Ok(moments_of(dial)),
+        Err(_) => Err(BuildError::OutOfMemory),
+    }
+}
+
+/// A cache with the dial that gives it its moments, and how many closures ran.
 #[derive(Drop)]
 pub struct Dialled {
     pub cache: Numbers,
     pub dial: Arc<Dial>,
+    pub runs: AtomicU64,
 }
 
 /// An empty one of capacity 500, in so many segments.
-pub fn make_dialled(alloc: Global, segments: usize) -> Result<Dialled, BuildError> {
-    let Ok(dial) = Arc::new(alloc, Dial::new()) else {
-        return Err(BuildError::OutOfMemory);
-    };
-    let env = DialEnv::new(Arc::try_clone(&dial)?, generator());
+pub fn make_dialled(alloc: Global, segments: usize) -> Option<Dialled> {
+    let dial = Arc::new(alloc, Dial::new()).ok()?;
+    let moments = moments_of(Arc::try_clone(&dial).ok()?);
     let cache = CacheBuilder::new(500)
         .segments(segments)
         .faults::<u64>()
-        .build(alloc, env)?;
-    Ok(Dialled { cache, dial })
+        .build(alloc, moments)
+        .ok()?;
+    Some(Dialled {
+        cache,
+        dial,
+        runs: AtomicU64::new(0),
+    })
 }
 
 /// Waits until a dial was read so often. False where it never is.
@@ -54,4 +70,12 @@ pub fn wait_for_readings(dial: &Dial, readings: u64) -> bool {
         thread::yield_now();
     }
     false
+}
+
+/// Whether each of the threads says yes.
+pub fn each_says_yes(said: Result<Vec<bool>, AllocError>) -> bool {
+    match said {
+        Ok(said) => said.iter().all(|yes| *yes),
+        Err(_) => false,
+    }
 }

@@ -1,15 +1,14 @@
 //! Predicates and selectors.
 ghost use Rattle.std.specs.Prelude.{◌==◌};
 
-use crate::caches::{Dialled, Numbers, generator, make_dialled};
-use engine_reference::{Bundle, NoExpiry, Predicate, WeighOne};
-use front_parts::CompResult;
+use crate::caches::{Dialled, Moments, make_dialled, make_moments};
+use engine_reference::{Bundle, NoExpiry, NoPredicate, Predicate, WeighOne};
+use front_parts::{CompResult, Entry};
 use front_reference::{CacheError, Op};
 use moka::{BuildError, CacheBuilder};
-use moka_sync::{Build, Cache, ConcurrentCacheExt, Dial, DialEnv, StdHasher};
-use rand_xoshiro::Xoshiro256PlusPlus;
+use moka_sync::{Attached, Build, Cache, ConcurrentCacheExt, StdHasher};
 use std::alloc::Global;
-use std::sync::{Arc, Wait};
+use std::sync::Wait;
 
 /// Covers the entries of a value.
 #[derive(Drop)]
@@ -23,87 +22,115 @@ impl Predicate<u64, u64> for Is {
     }
 }
 
-type Covered = Cache<
-    u64,
-    u64,
-    StdHasher,
-    Bundle<NoExpiry, WeighOne, Is, ()>,
-    DialEnv<Xoshiro256PlusPlus>,
->;
+type Covered = Cache<u64, u64, StdHasher, Bundle<NoExpiry, WeighOne, Is, ()>, Moments>;
 
 fn make_covered(alloc: Global) -> Result<Covered, BuildError> {
-    let Ok(dial) = Arc::new(alloc, Dial::new()) else {
-        return Err(BuildError::OutOfMemory);
-    };
-    let env = DialEnv::new(dial, generator());
     CacheBuilder::new(100)
         .segments(2)
         .support_invalidation_closures()
-        .build(alloc, env)
+        .build(alloc, make_moments(alloc)?)
 }
 
-/// What a predicate covers is gone, and what is written after it is not covered. An identifier has 36 bytes.
-fn covers<H: Wait + Copy>(rt: &H, cache: &Covered) -> Result<bool, CacheError> {
-    cache.insert(rt, 1, 10)?;
-    cache.insert(rt, 2, 20)?;
-    let id = cache.invalidate_entries_if(rt, Is(10))?;
-    cache.insert(rt, 3, 10)?;
-    cache.sync(rt)?;
-    Ok(
-        id.len() == 36
-            && cache.get(rt, &1)? == None
-            && cache.get(rt, &2)? == Some(20)
-            && cache.get(rt, &3)? == Some(10)
-            && cache.entry_count(rt) == 2,
-    )
-}
-
-fn covers_anew<H: Wait + Copy>(rt: &H, alloc: Global) -> bool {
-    match make_covered(alloc) {
-        Ok(cache) => covers(rt, &cache) == Ok(true),
+/// Whether a predicate is taken, and its identifier has 36 bytes.
+fn is_named<H: Wait>(rt: &H, cache: &Covered) -> bool {
+    match cache.invalidate_entries_if(rt, Is(10)) {
+        Ok(id) => id.len() == 36,
         Err(_) => false,
     }
 }
 
-/// A value that is there is not made again; one that is to be replaced is.
-fn selects<H: Wait + Copy>(rt: &H, cache: &Numbers) -> Result<bool, CacheError> {
-    let mut attached = cache.clone()?.attach(*rt);
-    let first = attached.entry(1).or_insert(3)?;
-    let again = attached.entry_by_ref(&1)?.or_insert(6)?;
-    let other = attached
-        .entry(1)
-        .or_insert_with_if(|| 7, |value: &u64| *value == 3)?;
-    let put = attached.entry(2).and_upsert_with(|_| 8)?;
-    Ok(
-        first.is_fresh()
-            && !again.is_fresh()
-            && *again.value() == 3
-            && other.is_fresh()
-            && *other.value() == 7
-            && put.is_fresh()
-            && !put.is_old_value_replaced(),
-    )
+/// Whether what a predicate covers is gone, and what is written after it is not covered.
+fn covers<H: Wait>(rt: &H, cache: &Covered) -> bool {
+    cache.insert(rt, 1, 10) == Ok(())
+        && cache.insert(rt, 2, 20) == Ok(())
+        && is_named(rt, cache)
+        && cache.insert(rt, 3, 10) == Ok(())
+        && cache.sync(rt) == Ok(())
+        && cache.get(rt, &1) == Ok(None)
+        && cache.get(rt, &2) == Ok(Some(20))
+        && cache.get(rt, &3) == Ok(Some(10))
+        && cache.entry_count(rt) == 2
 }
 
-/// Nothing is done, a value is removed, and there is none to be removed.
-fn decides<H: Wait + Copy>(rt: &H, cache: &Numbers) -> Result<bool, CacheError> {
-    let mut attached = cache.clone()?.attach(*rt);
-    let same = attached.entry(1).and_compute_with(|_| Op::Nop)?;
-    let gone = attached.entry(1).and_compute_with(|_| Op::Remove)?;
-    let none = attached.entry(1).and_compute_with(|_| Op::Remove)?;
-    Ok(
-        matches!(same, CompResult::Unchanged(_))
-            && matches!(gone, CompResult::Removed(_))
-            && matches!(none, CompResult::StillNone(_)),
-    )
+fn covers_anew<H: Wait>(rt: &H, alloc: Global) -> bool {
+    match make_covered(alloc) {
+        Ok(cache) => covers(rt, &cache),
+        Err(_) => false,
+    }
 }
 
-fn selects_anew<H: Wait + Copy>(rt: &H, alloc: Global) -> bool {
-    match make_dialled(alloc, 1) {
-        Ok(Dialled { cache, dial: _ }) => {
-            selects(rt, &cache) == Ok(true) && decides(rt, &cache) == Ok(true)
+/// A handle of a cache of numbers.
+type Handle<H> = Attached<
+    u64,
+    u64,
+    StdHasher,
+    Bundle<NoExpiry, WeighOne, NoPredicate, u64>,
+    Moments,
+    H,
+>;
+
+/// Whether a selector answers this value, made anew or not, with none replaced by it.
+fn is_entry(entry: Result<Entry<u64, u64>, CacheError>, value: u64, is_fresh: bool) -> bool {
+    match entry {
+        Ok(entry) => {
+            *entry.value() == value
+                && entry.is_fresh() == is_fresh
+                && !entry.is_old_value_replaced()
         }
         Err(_) => false,
+    }
+}
+
+/// Whether a value that is there is not made again by a key that is lent.
+fn stays<H: Wait>(attached: &mut Handle<H>) -> bool {
+    match attached.entry_by_ref(&1) {
+        Ok(selector) => is_entry(selector.or_insert(6), 3, false),
+        Err(_) => false,
+    }
+}
+
+/// Whether a value that is there is not made again, and one that is to be replaced is.
+fn selects<H: Wait>(attached: &mut Handle<H>) -> bool {
+    is_entry(attached.entry(1).or_insert(3), 3, true)
+        && stays(attached)
+        && is_entry(
+            attached
+                .entry(1)
+                .or_insert_with_if(|| 7, |value: &u64| *value == 3),
+            7,
+            true,
+        )
+        && is_entry(attached.entry(2).and_upsert_with(|_| 8), 8, true)
+}
+
+/// Whether nothing is done, a value is removed, and there is none to be removed.
+fn decides<H: Wait>(attached: &mut Handle<H>) -> bool {
+    matches!(
+        attached.entry(1).and_compute_with(|_| Op::Nop),
+        Ok(CompResult::Unchanged(_))
+    ) && matches!(
+        attached.entry(1).and_compute_with(|_| Op::Remove),
+        Ok(CompResult::Removed(_))
+    ) && matches!(
+        attached.entry(1).and_compute_with(|_| Op::Remove),
+        Ok(CompResult::StillNone(_))
+    )
+}
+
+/// Whether both do on a handle of a new cache.
+fn chooses<H: Wait + Copy>(rt: &H, alloc: Global) -> bool {
+    match make_dialled(alloc, 1) {
+        Some(
+            Dialled {
+                cache,
+                dial: _,
+                runs: _,
+            },
+        ) => {
+            let mut attached = cache.attach(*rt);
+            selects(&mut attached) && decides(&mut attached)
+        }
+        None => false,
     }
 }
 
@@ -114,5 +141,5 @@ fn predicates_cover(rt: HostRuntime) {
 
 #[test]
 fn selectors_choose(rt: HostRuntime) {
-    assert!(rt; selects_anew(&rt, rt.alloc()));
+    assert!(rt; chooses(&rt, rt.alloc()));
 }

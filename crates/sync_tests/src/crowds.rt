@@ -1,47 +1,32 @@
-//! Calls of four threads and more.
-use crate::caches::{Dialled, Numbers, make_dialled, wait_for_readings};
-use front_parts::{CompResult, Entry};
-use front_reference::{CacheError, Op};
-use std::alloc::{AllocError, Global};
+//! Calls of four threads.
+use crate::caches::{Dialled, Numbers, each_says_yes, make_dialled, wait_for_readings};
+use front_parts::Entry;
+use front_reference::Op;
+use std::alloc::Global;
 use std::sync::Wait;
-use std::sync::atomic::{AtomicU64, Ordering};
+use std::sync::atomic::Ordering;
 use std::thread;
 use std::thread::Threads;
 
-/// Whether each of so many threads says yes.
-fn each_says_yes(said: Result<Vec<bool>, AllocError>) -> bool {
-    match said {
-        Ok(said) => said.iter().all(|yes| *yes),
-        Err(_) => false,
+/// What each of four threads does.
+#[derive(Clone, Copy)]
+enum Work {
+    /// It asks for one key, and a closure that runs waits until the dial was read so often.
+    Make(u64),
+    /// It counts one key up 25 times.
+    Count,
+    /// 10 is inserted and got, 20 is inserted, 10 is invalidated.
+    Write,
+}
+
+/// 70 for the closure that runs first, or 99 where the dial is not read so often.
+fn make(shared: &Dialled, readings: u64) -> u64 {
+    let number = shared.runs.fetch_add(1, Ordering::SeqCst);
+    if wait_for_readings(&shared.dial, readings) {
+        number.wrapping_add(70)
+    } else {
+        99
     }
-}
-
-/// One of four calls for one key: the closure that runs waits until all have begun.
-fn make_once<H: Wait + Copy>(rt: &H, shared: &Dialled, runs: &AtomicU64, readings: u64) -> bool {
-    let made = shared.cache.get_with(rt, 1, || -> u64 {
-        let number = runs.fetch_add(1, Ordering::SeqCst);
-        if wait_for_readings(&shared.dial, readings) {
-            number.wrapping_add(70)
-        } else {
-            99
-        }
-    });
-    made == Ok(70)
-}
-
-/// Four threads ask for one key, and one closure runs.
-fn one_runs<R: Threads + Wait + Sync + Copy>(rt: &R, alloc: Global) -> bool {
-    let Ok(shared) = make_dialled(alloc, 1) else {
-        return false;
-    };
-    let runs = AtomicU64::new(0);
-    let all = shared.dial.readings().saturating_add(4);
-    each_says_yes(thread::map_indices(
-        rt,
-        alloc,
-        4,
-        &|_: usize| { make_once(rt, &shared, &runs, all) },
-    )) && runs.load(Ordering::SeqCst) == 1
 }
 
 /// One more than the number of a key, or 1; after others had their chance to come between.
@@ -55,62 +40,80 @@ fn count_up(seen: Option<Entry<u64, u64>>) -> Op<u64> {
     }
 }
 
-/// Counts a key up.
-fn count_once<H: Wait + Copy>(rt: &H, cache: &Numbers) -> Result<(), CacheError> {
-    let mut attached = cache.clone()?.attach(*rt);
-    let _counted = attached.entry(1).and_compute_with(count_up)?;
-    Ok(())
+/// Counts a key up. Answers whether that was taken.
+fn counts<H: Wait + Copy>(rt: &H, cache: &Numbers) -> bool {
+    match cache.clone() {
+        Ok(cache) => {
+            let mut attached = cache.attach(*rt);
+            attached.entry(2).and_compute_with(count_up).is_ok()
+        }
+        Err(_) => false,
+    }
 }
 
 /// Counts a key up 25 times.
-fn count_25<H: Wait + Copy>(rt: &H, cache: &Numbers) -> bool {
+fn counts_25<H: Wait + Copy>(rt: &H, cache: &Numbers) -> bool {
     for _ in 0..25u32 {
-        if count_once(rt, cache).is_err() {
+        if !counts(rt, cache) {
             return false;
         }
     }
     true
 }
 
-/// Four threads count one key up, 25 times each.
-fn counts_to_100<R: Threads + Wait + Sync + Copy>(rt: &R, alloc: Global) -> bool {
-    let Ok(Dialled { cache, dial: _ }) = make_dialled(alloc, 1) else {
-        return false;
-    };
-    each_says_yes(thread::map_indices(rt, alloc, 4, &|_: usize| { count_25(rt, &cache) }))
-        && cache.get(rt, &1) == Ok(Some(100))
+fn writes<H: Wait>(rt: &H, cache: &Numbers) -> bool {
+    cache.insert(rt, 10, 100).is_ok()
+        && cache.get(rt, &10).is_ok()
+        && cache.run_pending_tasks(rt).is_ok()
+        && cache.insert(rt, 20, 200).is_ok()
+        && cache.invalidate(rt, &10).is_ok()
 }
 
-/// One thread's calls: 10 is inserted and got, 20 is inserted, 10 is invalidated.
-fn work<H: Wait + Copy>(rt: &H, cache: &Numbers) -> Result<(), CacheError> {
-    cache.insert(rt, 10, 100)?;
-    let _found = cache.get(rt, &10)?;
-    cache.run_pending_tasks(rt)?;
-    cache.insert(rt, 20, 200)?;
-    cache.invalidate(rt, &10)
+/// Whether one thread's work comes out as it should.
+fn works<H: Wait + Copy>(rt: &H, shared: &Dialled, work: Work) -> bool {
+    match work {
+        Work::Make(readings) => {
+            shared.cache.get_with(rt, 1, || make(shared, readings)) == Ok(70)
+        }
+        Work::Count => counts_25(rt, &shared.cache),
+        Work::Write => writes(rt, &shared.cache),
+    }
 }
 
-/// Four threads work, and what they leave is as one would leave it.
-fn leaves_20<R: Threads + Wait + Sync + Copy>(rt: &R, alloc: Global) -> bool {
-    let Ok(Dialled { cache, dial: _ }) = make_dialled(alloc, 1) else {
-        return false;
-    };
-    each_says_yes(thread::map_indices(rt, alloc, 4, &|_: usize| { work(rt, &cache) == Ok(()) }))
-        && cache.get(rt, &10) == Ok(None)
-        && cache.get(rt, &20) == Ok(Some(200))
+/// Whether the work of each of four threads does.
+fn all_work<R: Threads + Wait + Sync + Copy>(
+    rt: &R,
+    alloc: Global,
+    shared: &Dialled,
+    work: Work,
+) -> bool {
+    each_says_yes(thread::map_indices(rt, alloc, 4, &|_: usize| works(rt, shared, work)))
+}
+
+/// Whether one closure runs for four, four count to 100, and what four write is as one would leave it.
+fn are_right<R: Threads + Wait + Sync + Copy>(rt: &R, alloc: Global, shared: &Dialled) -> bool {
+    all_work(
+        rt,
+        alloc,
+        shared,
+        Work::Make(shared.dial.readings().saturating_add(4)),
+    ) && shared.runs.load(Ordering::SeqCst) == 1
+        && all_work(rt, alloc, shared, Work::Count)
+        && shared.cache.get(rt, &2) == Ok(Some(100))
+        && all_work(rt, alloc, shared, Work::Write)
+        && shared.cache.get(rt, &10) == Ok(None)
+        && shared.cache.get(rt, &20) == Ok(Some(200))
+}
+
+/// The same of a new cache.
+fn are_right_anew<R: Threads + Wait + Sync + Copy>(rt: &R, alloc: Global) -> bool {
+    match make_dialled(alloc, 1) {
+        Some(shared) => are_right(rt, alloc, &shared),
+        None => false,
+    }
 }
 
 #[test]
-fn one_closure_runs_for_four(rt: HostRuntime) {
-    assert!(rt; one_runs(&rt, rt.alloc()));
-}
-
-#[test]
-fn computing_is_one_at_a_time(rt: HostRuntime) {
-    assert!(rt; counts_to_100(&rt, rt.alloc()));
-}
-
-#[test]
-fn four_threads_leave_20(rt: HostRuntime) {
-    assert!(rt; leaves_20(&rt, rt.alloc()));
+fn four_threads_make_count_and_write(rt: HostRuntime) {
+    assert!(rt; are_right_anew(&rt, rt.alloc()));
 }

@@ -1,4 +1,4 @@
-//! Rows of a cache that threads share, held by counted gates.
+//! Rows of a cache that threads share, held by counted gates, and a use of it.
 #![tactic(auto)]
 
 #[cfg(test)]
@@ -12,9 +12,10 @@ mod crowds;
 #[cfg(test)]
 mod refusing;
 #[cfg(test)]
+mod resolver;
+#[cfg(test)]
+mod resolving;
+#[cfg(test)]
 mod turns;
-pub mod uses;
 #[cfg(test)]
 mod wholes;
-
-pub use uses::{Resolver, Unresolved, Upstream};

@@ -1,118 +1,96 @@
-//! A value whose clones can be refused.
+//! A value whose clones are refused.
 ghost use Rattle.std.specs.Prelude.{◌≡◌};
 
-use crate::caches::{generator, wait_for_readings};
+use crate::caches::{Moments, moments_of, wait_for_readings};
 use front_reference::CacheError;
-use moka::{BuildError, CacheBuilder};
-use moka_sync::{Build, Cache, Dial, DialEnv, PlainRules, StdHasher};
-use rand_xoshiro::Xoshiro256PlusPlus;
+use moka::CacheBuilder;
+use moka_sync::{Build, Cache, Dial, PlainRules, StdHasher};
 use std::alloc::{AllocError, Global};
-use std::marker::Model;
-use std::sync::atomic::{AtomicU64, Ordering};
 use std::sync::{Arc, Wait};
 use std::thread;
 use std::thread::Threads;
 
-/// A number of which so many clones are refused.
+/// A number. The clones of 1 are refused.
 #[derive(Drop)]
-struct Fussy {
-    number: u64,
-    refusals: Option<Arc<AtomicU64>>,
-}
-
-impl Model for Fussy {
-    ghost use Rattle.std.specs.Prelude.{ℕ};
-
-    ghost Value = { ℕ };
-
-    ghost view = { λ fussy. fussy.number };
-}
+struct Fussy(u64);
 
 impl Clone for Fussy {
     ghost is_clone = { λ old made. made ≡ old };
 
     fn clone(&self) -> Result<Self, AllocError> {
-        let Some(refusals) = &self.refusals else {
-            return Err(AllocError);
-        };
-        let left = refusals.load(Ordering::SeqCst);
-        refusals.store(left.saturating_sub(1), Ordering::SeqCst);
-        if 0 < left {
-            return Err(AllocError);
+        if self.0 == 1 {
+            Err(AllocError)
+        } else {
+            Ok(Fussy(self.0))
         }
-        Ok(Fussy {
-            number: self.number,
-            refusals: Some(Arc::try_clone(refusals)?),
-        })
     }
 }
 
-type Fussies = Cache<u64, Fussy, StdHasher, PlainRules, DialEnv<Xoshiro256PlusPlus>>;
-
-/// A cache, its dial, and how many clones are to be refused.
+/// A cache with the dial that gives it its moments.
 #[derive(Drop)]
-struct Set {
-    cache: Fussies,
+struct Fussies {
+    cache: Cache<u64, Fussy, StdHasher, PlainRules, Moments>,
     dial: Arc<Dial>,
-    refusals: Arc<AtomicU64>,
 }
 
-fn make_set(alloc: Global) -> Result<Set, BuildError> {
-    let Ok(dial) = Arc::new(alloc, Dial::new()) else {
-        return Err(BuildError::OutOfMemory);
-    };
-    let Ok(refusals) = Arc::new(alloc, AtomicU64::new(0)) else {
-        return Err(BuildError::OutOfMemory);
-    };
-    let env = DialEnv::new(Arc::try_clone(&dial)?, generator());
-    let cache = CacheBuilder::new(10).build(alloc, env)?;
-    Ok(Set {
-        cache,
-        dial,
-        refusals,
-    })
+fn make_fussies(alloc: Global) -> Option<Fussies> {
+    let dial = Arc::new(alloc, Dial::new()).ok()?;
+    let moments = moments_of(Arc::try_clone(&dial).ok()?);
+    let cache = CacheBuilder::new(10).build(alloc, moments).ok()?;
+    Some(Fussies { cache, dial })
 }
 
-/// A value of this number, of which as many clones are refused as the set says.
-fn make_fussy(set: &Set, number: u64) -> Fussy {
-    Fussy {
-        number,
-        refusals: Arc::try_clone(&set.refusals).ok(),
+/// A number, once the dial was read so often, or else 0.
+fn make(dial: &Dial, number: u64, readings: u64) -> Fussy {
+    if wait_for_readings(dial, readings) {
+        Fussy(number)
+    } else {
+        Fussy(0)
     }
 }
 
-/// A call that leads, and makes its value once another waits; its next clone is then refused.
-fn lead<H: Wait>(rt: &H, set: &Set, readings: u64) -> Result<u64, CacheError> {
-    let made = set.cache.get_with(rt, 0, || -> Fussy {
-        let _waits = wait_for_readings(&set.dial, readings);
-        set.refusals.store(1, Ordering::SeqCst);
-        make_fussy(set, 1)
-    })?;
-    Ok(made.number)
-}
-
-/// A call that waits.
-fn follow<H: Wait>(rt: &H, set: &Set, readings: u64) -> Result<u64, CacheError> {
-    let _leads = wait_for_readings(&set.dial, readings);
-    let made = set
+/// Whether a call that leads, and makes its value once another waits, is refused.
+fn is_refused<H: Wait>(rt: &H, fussies: &Fussies, readings: u64) -> bool {
+    match fussies
         .cache
-        .get_with(rt, 0, || -> Fussy { make_fussy(set, 2) })?;
-    Ok(made.number)
+        .get_with(rt, 0, || make(&fussies.dial, 1, readings))
+    {
+        Ok(_) => false,
+        Err(error) => error == CacheError::OutOfMemory,
+    }
 }
 
-/// The leader is refused, and who waited makes the value.
-fn next_leads<R: Threads + Wait + Sync>(rt: &R, alloc: Global) -> bool {
-    let Ok(set) = make_set(alloc) else {
+/// Whether a call that waits makes the value.
+fn is_made<H: Wait>(rt: &H, fussies: &Fussies, readings: u64) -> bool {
+    if !wait_for_readings(&fussies.dial, readings) {
         return false;
-    };
-    let before = set.dial.readings();
-    let leads = before.saturating_add(1);
-    let waits = before.saturating_add(2);
-    let (led, followed) = thread::join(rt, || lead(rt, &set, waits), || follow(rt, &set, leads));
-    led == Err(CacheError::OutOfMemory) && followed == Ok(2)
+    }
+    match fussies.cache.get_with(rt, 0, || Fussy(2)) {
+        Ok(made) => made.0 == 2,
+        Err(_) => false,
+    }
+}
+
+/// Whether the leader is refused, and who waited makes the value.
+fn next_leads<R: Threads + Wait + Sync>(rt: &R, fussies: &Fussies) -> bool {
+    let before = fussies.dial.readings();
+    let (is_refused, is_made) = thread::join(
+        rt,
+        || is_refused(rt, fussies, before.saturating_add(2)),
+        || is_made(rt, fussies, before.saturating_add(1)),
+    );
+    is_refused && is_made
+}
+
+/// The same of a new cache.
+fn next_leads_anew<R: Threads + Wait + Sync>(rt: &R, alloc: Global) -> bool {
+    match make_fussies(alloc) {
+        Some(fussies) => next_leads(rt, &fussies),
+        None => false,
+    }
 }
 
 #[test]
 fn refused_leader_gives_its_turn_up(rt: HostRuntime) {
-    assert!(rt; next_leads(&rt, rt.alloc()));
+    assert!(rt; next_leads_anew(&rt, rt.alloc()));
 }

@@ -72,8 +72,8 @@ fn put_many(keys: &mut Keys, many: usize, hashes: u64, shift: u32) -> bool
     true
 }
 
-/// Takes a place where it stands, and puts it where it does not; answers whether it stands then, or nothing where
-/// memory is refused.
+/// Takes a place where it stands, and puts it where it does not; answers whether it stands then, or
+/// nothing where memory is refused.
 fn turn(keys: &mut Keys, hash: u64, place: usize) -> Option<bool>
     requires { place < 2 ^ 64 - 1 }
 {
@@ -128,7 +128,8 @@ fn places_are_found_by_hashes_that_differ_in_few_bits(rt: HostRuntime) {
     );
 }
 
-/// How often a place is said to stand or not to stand otherwise than it does, where places come and go at random.
+/// How often a place is said to stand or not to stand otherwise than it does, where places come and
+/// go at random.
 fn wrong_at_random(alloc: Global, hashes: u64, turns: usize) -> Option<usize>
     requires { 0 < hashes }
 {
@@ -157,8 +158,8 @@ fn places_that_come_and_go_at_random_stand_where_they_do(rt: HostRuntime) {
     assert_eq!(rt; wrong_at_random(rt.alloc(), 256, 20_000), Some(0));
 }
 
-/// How many places come under one hash without memory, once there is room for them, and whether more than can be are
-/// refused.
+/// How many places come under one hash without memory, once there is room for them, and whether
+/// more than can be are refused.
 fn found_in_room(alloc: Global, many: usize) -> Option<(usize, bool)> {
     let mut keys = Keys::new(alloc);
     if !makes_room(&mut keys, many) {

@@ -40,7 +40,8 @@ fn made(alloc: Global) -> Result<OneTable, AllocError> {
     }
 }
 
-/// Whether there is room, at the second try where memory is refused; more than there are tickets is refused.
+/// Whether there is room, at the second try where memory is refused; more than there are tickets is
+/// refused.
 fn makes_room(alloc: Global) -> Result<(Result<(), Refusal>, Result<(), Refusal>), AllocError> {
     let mut tables = made(alloc)?;
     let first = match tables.make_room(2) {

@@ -1,8 +1,10 @@
-//! Worked rows of the reference cache, as computed checks: a small cache is played through the definitions, and what it tells, holds and shows is compared.
+//! Worked rows of the reference cache, as computed checks: a small cache is played through the
+//! definitions, and what it tells, holds and shows is compared.
 
 ghost use Rattle.engine_tests.specs.Laws.Rows.{RowsOfTimes, RowsOfCoverage, RowsOfLeastRecentlyUsed, RowsOfFrequencies, RowsOfSending};
 
-/// Live and idle times and own expirations end at the very moment; what a write tells of a dead value.
+/// Live and idle times and own expirations end at the very moment; what a write tells of a dead
+/// value.
 pub fn rows_of_times()
     ensures { RowsOfTimes }
 {}
@@ -17,7 +19,8 @@ pub fn rows_of_least_recently_used()
     ensures { RowsOfLeastRecentlyUsed }
 {}
 
-/// A newcomer displaces the shortest settled front that is as heavy where it was asked for more often, and is refused else.
+/// A newcomer displaces the shortest settled front that is as heavy where it was asked for more
+/// often, and is refused else.
 pub fn rows_of_frequencies()
     ensures { RowsOfFrequencies }
 {}

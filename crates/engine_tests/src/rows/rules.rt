@@ -1,13 +1,17 @@
-//! The rules of the rows' caches: an expiration of a value's own from its creation on, weight one or a value's own, and predicates by value.
+//! The rules of the rows' caches: an expiration of a value's own from its creation on, weight one
+//! or a value's own, and predicates by value.
 ghost use Rattle.std.specs.Prelude.{ℕ, ◌==◌, Option, option_map, if◌then◌else◌};
 ghost use Rattle.std.specs.Duration.{as_nanos};
 
 use crate::rows::values::Brittle;
 use engine_reference::{Bundle, Expiry, Predicate, Weigher};
+use moka_engine::BaseCache;
 use policy_base::Instant;
+use std::hash::{BuildHasherDefault, FoldHasher};
 use std::time::Duration;
 
-/// How long each value lives from its creation on, if it has such a time. Reads and updates change nothing of it.
+/// How long each value lives from its creation on, if it has such a time. Reads and updates change
+/// nothing of it.
 #[derive(Drop)]
 pub struct Lives {
     pub time: Option<Duration>,
@@ -83,5 +87,8 @@ impl Predicate<u32, Brittle> for ValueIs {
     }
 }
 
-/// The rules of the rows' caches.
-pub type RowRules = Bundle<Lives, Weighs, ValueIs, u8>;
+/// A hasher of std without a key of its own.
+pub type Folding = BuildHasherDefault<FoldHasher>;
+
+/// The rows' caches: numbers under numbers.
+pub type Numbers = BaseCache<u32, Brittle, Folding, Bundle<Lives, Weighs, ValueIs, u8>>;

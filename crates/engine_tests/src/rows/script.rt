@@ -1,13 +1,18 @@
-//! What is asked of an engine, row by row, and what has to come of it. A call that is refused for memory is made once more, and has changed nothing; so the rows pass with any one allocation refused. Rows and not
-//! calls one behind the other, since each call of a test is proved on its own.
+//! What is asked of a cache, row by row, and what has to come of it. A call that is refused for
+//! memory is made once more, and has changed nothing; so the rows pass with any one allocation
+//! refused. Rows and not calls one behind the other, since each call of a test is proved on its
+//! own.
 
-use crate::rows::engine::Engine;
-use crate::rows::generators::Repeating;
-use crate::rows::rules::{ONE, ValueIs, Weighs};
-use engine_reference::{EvictionPolicy, RemovalCause, Settings};
+use crate::rows::calls::{
+    contains, give_up, invalidate, invalidate_apart, invalidate_in_halves, put, puts, remove,
+    remove_in_halves, shown, stored_key,
+};
+use crate::rows::rules::{Folding, Lives, Numbers, ONE, Weighs};
+use engine_reference::{Bundle, EvictionPolicy, RemovalCause, Settings};
 use moka_engine::Refusal;
-use policy_base::Instant;
+use policy_base::{HousekeeperConfig, Instant};
 use std::alloc::{AllocError, Global};
+use std::process::Abort;
 use std::time::Duration;
 
 /// A second, in nanoseconds.
@@ -16,19 +21,19 @@ pub const SECOND: u64 = 1_000_000_000;
 /// How a value is looked up.
 #[derive(Clone, Copy)]
 pub enum Look {
-    /// By `get`, a use.
+    /// By `get_with_hash`, a use.
     Get,
-    /// By `get_past`, which passes over this value.
+    /// By `get_with_hash_and_ignore_if`, which passes over this value.
     GetPast(u32),
-    /// By `look`.
+    /// By `get_with_hash_without_recording`.
     Peek,
     /// By `scanning_get`.
     Scan,
-    /// By `borrow`.
+    /// By `peek`.
     Borrow,
-    /// By `get_in_halves`, a use.
+    /// By `peek` and then `note_look_up`, a use.
     InHalves,
-    /// By `held`, which shows dead and covered values too.
+    /// By `held_value_with_hash`, which shows dead and covered values too.
     Held,
 }
 
@@ -45,13 +50,15 @@ pub enum Row<'a> {
     HoldsBack(u32, u32, u64, u64),
     /// The write of a ticket is sent.
     Sends(u64, Result<(), Refusal>),
-    /// A key is removed and its entry told: its value, and the ticket of the removal, which is not sent.
+    /// A key is removed and its entry told: its value, and the ticket of the removal, which is not
+    /// sent.
     Removes(u32, Result<Option<(u32, u64)>, Refusal>),
     /// The same in two halves.
     RemovesInHalves(u32, Result<Option<(u32, u64)>, Refusal>),
     /// All is cleared at a step.
     Clears(u64),
-    /// A predicate of a value is registered at a step under that identifier, by a generator of that word.
+    /// A predicate of a value is registered at a step under that identifier, by a generator of that
+    /// word.
     Invalidates(u32, u64, u32, Result<u128, Refusal>),
     /// The same in two halves.
     InvalidatesInHalves(u32, u64, u32, Result<u128, Refusal>),
@@ -69,7 +76,7 @@ pub enum Row<'a> {
     /// A look at a key is refused.
     Refuses(Look, u32),
     Contains(u32, bool),
-    /// What `get_key` answers.
+    /// What `get_key_with_hash` answers.
     Key(u32, Option<u32>),
     /// The keys of the first segment, in any order.
     Keys(&'a [u32]),
@@ -109,7 +116,8 @@ pub struct Case<'a> {
     pub rows: &'a [Row<'a>],
 }
 
-/// The least recently used leaves above the capacity, if there is one; removals are told, predicates are taken, and there are no times.
+/// The least recently used leaves above the capacity, if there is one; removals are told,
+/// predicates are taken, and there are no times.
 pub const SETTINGS: Settings = Settings {
     capacity: None,
     live: None,
@@ -130,6 +138,9 @@ pub const CASE: Case<'static> = Case {
     rows: &[],
 };
 
+/// For how many entries a cache is made.
+const INITIAL_CAPACITY: usize = 2;
+
 fn at(nanos: u64) -> Instant {
     Instant::from_nanos(nanos.min(1_000_000_000_000))
 }
@@ -141,30 +152,8 @@ fn duration(nanos: Option<u64>) -> Option<Duration> {
     }
 }
 
-/// Writes a value, at the second try where memory is refused, and answers the ticket.
-fn put<E: Engine>(
-    cache: &mut E,
-    key: u32,
-    value: u32,
-    now: Instant,
-    step: u64,
-) -> Result<u64, Refusal> {
-    match cache.put(key, value, now, step) {
-        Err(Refusal::OutOfMemory) => cache.put(key, value, now, step),
-        answer => answer,
-    }
-}
-
-/// Whether a value is written and its write sent.
-fn puts<E: Engine>(cache: &mut E, key: u32, value: u32, now: Instant, step: u64) -> bool {
-    match put(cache, key, value, now, step) {
-        Ok(ticket) => cache.send(ticket) == Ok(()),
-        Err(_) => false,
-    }
-}
-
 /// Whether that is so at each step from 1 up to the end.
-fn puts_often<E: Engine>(cache: &mut E, key: u32, value: u32, now: Instant, end: u64) -> bool {
+fn puts_often(cache: &mut Numbers, key: u32, value: u32, now: Instant, end: u64) -> bool {
     for step in 1..end {
         if !puts(cache, key, value, now, step) {
             return false;
@@ -173,100 +162,14 @@ fn puts_often<E: Engine>(cache: &mut E, key: u32, value: u32, now: Instant, end:
     true
 }
 
-/// Removes a key, at the second try where memory is refused, and tells its entry.
-fn remove<E: Engine>(cache: &mut E, key: u32, now: Instant) -> Result<Option<(u32, u64)>, Refusal> {
-    match cache.remove(key, now) {
-        Err(Refusal::OutOfMemory) => cache.remove(key, now),
-        answer => answer,
-    }
-}
-
-/// The same in two halves.
-fn remove_in_halves<E: Engine>(
-    cache: &mut E,
-    key: u32,
-    now: Instant,
-) -> Result<Option<(u32, u64)>, Refusal> {
-    match cache.remove_in_halves(key, now) {
-        Err(Refusal::OutOfMemory) => cache.remove_in_halves(key, now),
-        answer => answer,
-    }
-}
-
-/// Registers a predicate of a value, at the second try where memory is refused.
-fn invalidate<E: Engine>(cache: &mut E, value: u32, step: u64, word: u32) -> Result<u128, Refusal> {
-    let mut generator = Repeating(word);
-    match cache.invalidate_entries_if(ValueIs(value), step, &mut generator) {
-        Err(Refusal::OutOfMemory) => {
-            cache.invalidate_entries_if(ValueIs(value), step, &mut generator)
-        }
-        answer => answer,
-    }
-}
-
-/// The same in two halves.
-fn invalidate_in_halves<E: Engine>(
-    cache: &mut E,
-    value: u32,
-    step: u64,
-    word: u32,
-) -> Result<u128, Refusal> {
-    let mut generator = Repeating(word);
-    match cache.invalidate_in_halves(ValueIs(value), step, &mut generator) {
-        Err(Refusal::OutOfMemory) => {
-            cache.invalidate_in_halves(ValueIs(value), step, &mut generator)
-        }
-        answer => answer,
-    }
-}
-
-/// The same, with its room made before its identifier is drawn.
-fn invalidate_apart<E: Engine>(
-    cache: &mut E,
-    value: u32,
-    step: u64,
-    word: u32,
-) -> Result<u128, Refusal> {
-    let mut generator = Repeating(word);
-    match cache.invalidate_apart(ValueIs(value), step, &mut generator) {
-        Err(Refusal::OutOfMemory) => cache.invalidate_apart(ValueIs(value), step, &mut generator),
-        answer => answer,
-    }
-}
-
-/// Draws an identifier and gives its room up, at the second try where memory is refused.
-fn prepare_and_give_up<E: Engine>(cache: &mut E, word: u32) -> Result<u128, Refusal> {
-    let mut generator = Repeating(word);
-    match cache.prepare_and_give_up(&mut generator) {
-        Err(Refusal::OutOfMemory) => cache.prepare_and_give_up(&mut generator),
-        answer => answer,
-    }
-}
-
-/// A run for which there is memory, at the second try where it is refused: the first has done all the rest.
-fn runs_whole<E: Engine>(cache: &mut E, now: Instant) -> bool {
+/// A run for which there is memory, at the second try where it is refused: the first has done all
+/// the rest.
+fn runs_whole(cache: &mut Numbers, now: Instant) -> bool {
     cache.try_run_pending_tasks(now).is_ok() || cache.try_run_pending_tasks(now).is_ok()
 }
 
-fn shown<E: Engine>(
-    cache: &mut E,
-    by: Look,
-    key: u32,
-    now: Instant,
-) -> Result<Option<u32>, AllocError> {
-    match by {
-        Look::Get => cache.get(key, now),
-        Look::GetPast(past) => cache.get_past(key, now, past),
-        Look::Peek => cache.look(key, now),
-        Look::Scan => cache.scanning_get(key, now),
-        Look::Borrow => Ok(cache.borrow(key, now)),
-        Look::InHalves => Ok(cache.get_in_halves(key, now)),
-        Look::Held => cache.held(key),
-    }
-}
-
 /// The keys of a segment, at the second try where memory is refused.
-fn keys<E: Engine>(cache: &E, segment: usize) -> Result<Option<Vec<u32>>, AllocError> {
+fn keys(cache: &Numbers, segment: usize) -> Result<Option<Vec<u32>>, AllocError> {
     match cache.keys(segment) {
         Ok(found) => Ok(found),
         Err(_) => cache.keys(segment),
@@ -283,29 +186,30 @@ fn are_those(found: &[u32], wanted: &[u32]) -> bool {
     found.len() == wanted.len()
 }
 
-fn has_keys<E: Engine>(cache: &E, wanted: &[u32]) -> bool {
+fn has_keys(cache: &Numbers, wanted: &[u32]) -> bool {
     match keys(cache, 0) {
         Ok(Some(found)) => are_those(found.as_slice(), wanted),
         _ => false,
     }
 }
 
-fn has_no_keys<E: Engine>(cache: &E, segment: usize) -> bool {
+fn has_no_keys(cache: &Numbers, segment: usize) -> bool {
     match keys(cache, segment) {
         Ok(None) => true,
         _ => false,
     }
 }
 
-fn tells<E: Engine>(cache: &mut E, cause: RemovalCause, key: u32, value: u32) -> bool {
+fn tells(cache: &mut Numbers, cause: RemovalCause, key: u32, value: u32) -> bool {
     match cache.next_notice() {
-        Some(notice) => notice.cause == cause && notice.key == key && notice.value == value,
+        Some(notice) => notice.cause == cause && notice.key == key && notice.value.number == value,
         None => false,
     }
 }
 
-/// What is told next is one of the keys 0 to 2, cleared; answers it among those that were told before, each a bit.
-fn told_cleared<E: Engine>(cache: &mut E, told: u32) -> Option<u32> {
+/// What is told next is one of the keys 0 to 2, cleared; answers it among those that were told
+/// before, each a bit.
+fn told_cleared(cache: &mut Numbers, told: u32) -> Option<u32> {
     match cache.next_notice() {
         Some(notice) => {
             if notice.cause == RemovalCause::Explicit && notice.key < 3 {
@@ -318,7 +222,7 @@ fn told_cleared<E: Engine>(cache: &mut E, told: u32) -> Option<u32> {
     }
 }
 
-fn tells_three_cleared<E: Engine>(cache: &mut E) -> bool {
+fn tells_three_cleared(cache: &mut Numbers) -> bool {
     let mut told = 0;
     for _ in 0..3 {
         match told_cleared(cache, told) {
@@ -329,13 +233,13 @@ fn tells_three_cleared<E: Engine>(cache: &mut E) -> bool {
     told == 7
 }
 
-fn has_times<E: Engine>(cache: &E, live: Option<u64>, idle: Option<u64>) -> bool {
+fn has_times(cache: &Numbers, live: Option<u64>, idle: Option<u64>) -> bool {
     let policy = cache.policy();
     policy.time_to_live() == duration(live) && policy.time_to_idle() == duration(idle)
 }
 
 /// Writes, sends, removes or clears, and answers whether it came out so.
-fn writes_so<E: Engine>(cache: &mut E, now: Instant, row: Row<'_>) -> bool {
+fn writes_so(cache: &mut Numbers, now: Instant, row: Row<'_>) -> bool {
     match row {
         Row::At(_) => true,
         Row::Puts(key, value, step) => puts(cache, key, value, now, step),
@@ -355,7 +259,7 @@ fn writes_so<E: Engine>(cache: &mut E, now: Instant, row: Row<'_>) -> bool {
 }
 
 /// Registers a predicate or runs, and answers whether it came out so.
-fn runs_so<E: Engine>(cache: &mut E, now: Instant, row: Row<'_>) -> bool {
+fn runs_so(cache: &mut Numbers, now: Instant, row: Row<'_>) -> bool {
     match row {
         Row::Invalidates(value, step, word, wanted) => {
             invalidate(cache, value, step, word) == wanted
@@ -366,7 +270,7 @@ fn runs_so<E: Engine>(cache: &mut E, now: Instant, row: Row<'_>) -> bool {
         Row::InvalidatesApart(value, step, word, wanted) => {
             invalidate_apart(cache, value, step, word) == wanted
         }
-        Row::GivesUp(word, wanted) => prepare_and_give_up(cache, word) == wanted,
+        Row::GivesUp(word, wanted) => give_up(cache, word) == wanted,
         Row::Runs => {
             cache.run_pending_tasks(now);
             true
@@ -381,12 +285,12 @@ fn runs_so<E: Engine>(cache: &mut E, now: Instant, row: Row<'_>) -> bool {
 }
 
 /// Looks for keys or is told of them, and answers whether it came out so.
-fn looks_so<E: Engine>(cache: &mut E, now: Instant, row: Row<'_>) -> bool {
+fn looks_so(cache: &mut Numbers, now: Instant, row: Row<'_>) -> bool {
     match row {
         Row::Shows(by, key, wanted) => shown(cache, by, key, now) == Ok(wanted),
         Row::Refuses(by, key) => shown(cache, by, key, now).is_err(),
-        Row::Contains(key, wanted) => cache.contains_key(key, now) == wanted,
-        Row::Key(key, wanted) => cache.get_key(key) == Ok(wanted),
+        Row::Contains(key, wanted) => contains(cache, key, now) == wanted,
+        Row::Key(key, wanted) => stored_key(cache, key) == Ok(wanted),
         Row::Keys(wanted) => has_keys(cache, wanted),
         Row::NoKeys(segment) => has_no_keys(cache, segment),
         Row::Tells(cause, key, value) => tells(cache, cause, key, value),
@@ -397,7 +301,7 @@ fn looks_so<E: Engine>(cache: &mut E, now: Instant, row: Row<'_>) -> bool {
 }
 
 /// Whether a cache has these counts or was made so.
-fn is_so<E: Engine>(cache: &E, row: Row<'_>) -> bool {
+fn is_so(cache: &Numbers, row: Row<'_>) -> bool {
     match row {
         Row::TableRefused(wanted) => cache.is_table_refused() == wanted,
         Row::Number(wanted) => cache.entry_count() == wanted,
@@ -421,8 +325,9 @@ fn moment_from(row: Row<'_>, now: Instant) -> Instant {
     }
 }
 
-/// Asks one row after another from moment 0 on, and answers the place of the first that did not come out so, counted from the first of those before.
-fn wrong_row<E: Engine>(cache: &mut E, case: &Case<'_>) -> Option<usize> {
+/// Asks one row after another from moment 0 on, and answers the place of the first that did not
+/// come out so, counted from the first of those before.
+fn wrong_row(cache: &mut Numbers, case: &Case<'_>) -> Option<usize> {
     let mut now = at(0);
     for (place, row) in case.before.iter().chain(case.rows.iter()).enumerate() {
         now = moment_from(*row, now);
@@ -444,33 +349,45 @@ fn text(alloc: Global, of: Option<&str>) -> Result<Option<String>, AllocError> {
 }
 
 /// The empty cache of a case.
-fn made_once<E: Engine>(alloc: Global, case: &Case<'_>) -> Result<E, AllocError> {
+fn made(alloc: Global, case: &Case<'_>) -> Result<Numbers, AllocError> {
     let name = text(alloc, case.name)?;
-    E::make(alloc, name, case.settings, duration(case.own), case.weighs)
+    let time = duration(case.own);
+    Numbers::new(
+        alloc,
+        name,
+        INITIAL_CAPACITY,
+        case.settings,
+        HousekeeperConfig::default(),
+        Folding::new(),
+        Bundle::new(Lives { time }, case.weighs),
+    )
 }
 
 /// The same, at the second try where memory is refused.
-fn made<E: Engine>(alloc: Global, case: &Case<'_>) -> Result<E, AllocError> {
-    match made_once(alloc, case) {
+pub fn empty_cache(alloc: Global, case: &Case<'_>) -> Result<Numbers, AllocError> {
+    match made(alloc, case) {
         Ok(cache) => Ok(cache),
-        Err(_) => made_once(alloc, case),
+        Err(_) => made(alloc, case),
     }
 }
 
-fn wrong_row_of<E: Engine>(alloc: Global, case: &Case<'_>) -> Result<Option<usize>, AllocError> {
-    let mut cache: E = made(alloc, case)?;
+fn wrong_row_of(alloc: Global, case: &Case<'_>) -> Result<Option<usize>, AllocError> {
+    let mut cache = empty_cache(alloc, case)?;
     Ok(wrong_row(&mut cache, case))
 }
 
-/// Plays these cases on an engine, and answers the first that did not come out so, and the place of its first row that did not.
-pub fn first_wrong<E: Engine>(
-    alloc: Global,
-    cases: &[Case<'_>],
-) -> Result<Option<(usize, usize)>, AllocError> {
+/// Plays these cases, and answers the first that did not come out so, and the place of its first
+/// row that did not.
+fn first_wrong(alloc: Global, cases: &[Case<'_>]) -> Result<Option<(usize, usize)>, AllocError> {
     for (number, case) in cases.iter().enumerate() {
-        if let Some(place) = wrong_row_of::<E>(alloc, case)? {
+        if let Some(place) = wrong_row_of(alloc, case)? {
             return Ok(Some((number, place)));
         }
     }
     Ok(None)
+}
+
+/// Each case came out so.
+pub fn none_wrong(rt: &impl Abort, alloc: Global, cases: &[Case<'_>]) {
+    assert_eq!(rt; first_wrong(alloc, cases), Ok(None));
 }

@@ -53,7 +53,8 @@ fn run(tables: &mut OneTable) -> Result<(), AllocError>
     }
 }
 
-/// What a first run answers where half the capacity is held, its moment, and whether the sketch has a table then.
+/// What a first run answers where half the capacity is held, its moment, and whether the sketch has
+/// a table then.
 fn ran(alloc: Global) -> Result<(Result<(), AllocError>, u64, bool), AllocError> {
     let mut tables = made(alloc)?;
     let answer = run(&mut tables);

@@ -1,3 +1,4 @@
+//! What builders make, and what they refuse.
 use engine_reference::{Bundle, NoExpiry, NoPredicate, WeighOne};
 use front_state::LentState;
 use moka::{BuildError, CacheBuilder};
@@ -17,7 +18,8 @@ type Numbers = LentState<
 /// A thousand years of 365 days, in seconds.
 const LONGEST: u64 = 31_536_000_000;
 
-/// A builder's settings: time to live and to idle in seconds, segments; and what comes of them: how many segments, or why not.
+/// A builder's settings: time to live and to idle in seconds, segments; and what comes of them: how
+/// many segments, or why not.
 #[derive(Clone, Copy)]
 struct Row {
     live: u64,
@@ -91,7 +93,8 @@ fn build(alloc: Global, live: u64, idle: u64, segments: usize) -> Result<Numbers
         .build_state(alloc, BuildHasherDefault::new(), Instant::from_nanos(5))
 }
 
-/// How many segments a cache of these settings shows, or why it is not built. Where memory was refused it is built once more.
+/// How many segments a cache of these settings shows, or why it is not built. Where memory was
+/// refused it is built once more.
 fn built(alloc: Global, row: &Row) -> Result<usize, BuildError> {
     let first = build(alloc, row.live, row.idle, row.segments);
     let state = match first {
@@ -114,38 +117,6 @@ fn first_wrong_row(alloc: Global) -> usize {
 #[test]
 fn rows_of_builders(rt: HostRuntime) {
     assert_eq!(rt; first_wrong_row(rt.alloc()), ROWS.len());
-}
-
-/// What a cache shows that is built without times: its capacity, and of how many segments it is.
-fn shows_plainly(
-    alloc: Global,
-    capacity: u64,
-    wanted: usize,
-    segments: usize,
-) -> Result<bool, BuildError> {
-    let state: Numbers = CacheBuilder::new(capacity)
-        .segments(wanted)
-        .build_state(alloc, BuildHasherDefault::new(), Instant::from_nanos(0))?;
-    let policy = state.policy();
-    Ok(
-        policy.max_capacity() == Some(capacity)
-            && policy.num_segments() == segments
-            && policy.time_to_live().is_none()
-            && policy.time_to_idle().is_none(),
-    )
-}
-
-fn is_shown(alloc: Global, capacity: u64, wanted: usize, segments: usize) -> bool {
-    shows_plainly(alloc, capacity, wanted, segments) == Ok(true)
-        || shows_plainly(alloc, capacity, wanted, segments) == Ok(true)
-}
-
-#[test]
-fn a_cache_shows_the_wanted_capacity(rt: HostRuntime) {
-    let alloc = rt.alloc();
-    assert!(rt;
-        is_shown(alloc, 10, 3, 4) && is_shown(alloc, 100, 15, 16) && is_shown(alloc, 100, 1, 1)
-    );
 }
 
 /// Whether a cache shows what its builder was told.

@@ -13,9 +13,10 @@ type Segments = SegmentedState<u64, u64>;
 /// What a cache is made with, and what it shows: how many segments it has, or why it is not made.
 type Row = (u64, usize, Result<usize, BuildError>);
 
-const ROWS: [Row; 6] = [
+const ROWS: [Row; 7] = [
     (10, 3, Ok(4)),
     (100, 15, Ok(16)),
+    (100, 1, Ok(1)),
     (0, 1, Ok(1)),
     (5, 0, Err(BuildError::NoSegments)),
     (5, 65_537, Err(BuildError::TooManySegments)),
@@ -26,10 +27,11 @@ fn segments_of(alloc: Global, capacity: u64, segments: usize) -> Result<usize, B
     let now = Instant::from_nanos(3);
     let cache = Segments::new(alloc, capacity, segments, now)?;
     let policy = cache.policy();
-    if policy.max_capacity() != Some(capacity) || cache.last_call().now != now {
-        return Ok(0);
-    }
-    Ok(policy.num_segments())
+    let is_plain = policy.max_capacity() == Some(capacity)
+        && policy.time_to_live().is_none()
+        && policy.time_to_idle().is_none()
+        && cache.last_call().now == now;
+    Ok(if is_plain { policy.num_segments() } else { 0 })
 }
 
 /// Where memory was refused it is made once more.

@@ -2,7 +2,8 @@
 
 use std::hash::{BuildHasher, Hasher};
 
-/// Hashes a number of 64 bits to its product with a factor: with 1 to itself, with 0 each to the same.
+/// Hashes a number of 64 bits to its product with a factor: with 1 to itself, with 0 each to the
+/// same.
 #[derive(Clone, Copy)]
 pub struct Times {
     pub factor: u64,

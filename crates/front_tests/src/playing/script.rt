@@ -4,28 +4,42 @@ ghost use Rattle.front_reference.specs.Fronts.{ComesAfter};
 
 use crate::playing::closures::perform_closure;
 use crate::playing::hashing::Times;
+use crate::playing::rules::IsEither;
 use crate::playing::selecting::Select;
-use engine_reference::{Bundle, EvictionPolicy, NoExpiry, NoPredicate, RemovalCause, WeighOne};
+use crate::playing::turning::Turning;
+use engine_reference::{Bundle, EvictionPolicy, NoExpiry, RemovalCause, WeighOne};
 use front_reference::{At, CacheError, ClonedKey, Made, OwnedKey, TurnKind, TurnStart};
 use front_state::LentState;
 use moka::{BuildError, CacheBuilder};
 use policy_base::Instant;
-use rand_core::SeedableRng;
-use rand_xoshiro::SplitMix64;
 use std::alloc::{AllocError, Global};
+use std::process::Abort;
 use std::time::Duration;
 
 /// A cache of numbers.
-pub type Numbers = LentState<u64, u64, Times, Bundle<NoExpiry, WeighOne, NoPredicate, ()>>;
+pub type Numbers = LentState<u64, u64, Times, Bundle<NoExpiry, WeighOne, IsEither, ()>>;
 
-/// How a row's cache is made: its segments, its capacity, how many milliseconds its values live, and by what its hasher multiplies.
+/// How a row's cache is made.
 #[derive(Clone, Copy)]
 pub struct Form {
     pub segments: usize,
     pub capacity: Option<u64>,
+    /// How many milliseconds its values live.
     pub live: u64,
+    /// By what its hasher multiplies.
     pub factor: u64,
 }
+
+/// A number by which keys spread over parts.
+pub const SPREAD: u64 = 11_400_714_819_323_198_485;
+
+/// A cache of one part without bounds, whose values live longer than any row.
+pub const ONE: Form = Form {
+    segments: 1,
+    capacity: None,
+    live: 1_000_000,
+    factor: SPREAD,
+};
 
 /// How a turn begins.
 #[derive(Clone, Copy, PartialEq, Eq)]
@@ -89,8 +103,13 @@ pub enum Call {
     Told(u64, RemovalCause),
     /// No notice is left.
     NoneTold,
-    /// A predicate is refused, since the cache was not made to take one.
-    RefusesPredicate,
+    /// The oldest notice is of one of these keys, and of this cause.
+    ToldEither(u64, u64, RemovalCause),
+    /// A predicate on two values is registered in all segments; its identifiers are drawn from so
+    /// many words of 0, and then of all ones.
+    Cover(u64, u64, u32, Result<(), CacheError>),
+    /// The same in a cache of one segment, which answers the identifier.
+    CoverNamed(u64, u64, u32, Result<&'static str, CacheError>),
     /// A call with a closure.
     With(Closure),
 }
@@ -108,9 +127,11 @@ pub enum Closure {
     Try(u64, Result<u64, ()>, Result<u64, ()>),
     /// `or_insert`, and whether the entry is fresh.
     OrInsert(u64, u64, (u64, bool)),
-    /// `or_insert_with_if`, where this value is replaced: the entry's value, whether it is fresh, and whether a value was replaced.
+    /// `or_insert_with_if`, where this value is replaced: the entry's value, whether it is fresh,
+    /// and whether a value was replaced.
     OrInsertIf(u64, u64, u64, (u64, bool, bool)),
-    /// `and_upsert_with` to this value: whether the entry is fresh, and whether a value was replaced.
+    /// `and_upsert_with` to this value: whether the entry is fresh, and whether a value was
+    /// replaced.
     Upsert(u64, u64, (bool, bool)),
     /// A compute call that counts to 2, and then removes.
     CountUp(u64, Done),
@@ -148,12 +169,14 @@ pub fn next(state: &Numbers, nanos: u64) -> Option<At>
     Some(At { now, step })
 }
 
-/// An empty cache of a form, which lets go what was used least recently and tells removals.
-pub fn numbers(alloc: Global, form: Form) -> Result<Numbers, BuildError> {
+/// An empty cache of a form, which lets go what was used least recently, tells removals and takes
+/// predicates.
+fn numbers(alloc: Global, form: Form) -> Result<Numbers, BuildError> {
     let builder = CacheBuilder::default()
         .segments(form.segments)
         .eviction_policy(EvictionPolicy::lru())
         .eviction_listener()
+        .support_invalidation_closures()
         .time_to_live(Duration::from_millis(form.live));
     let hasher = Times {
         factor: form.factor,
@@ -304,20 +327,39 @@ fn begin_compute(
     Ok(start_of(answer) == start)
 }
 
-fn is_told(state: &mut Numbers, key: u64, cause: RemovalCause) -> bool {
-    match state.next_notice() {
-        Some(notice) => *notice.key == key && notice.cause == cause,
-        None => false,
-    }
-}
-
-fn refuses_predicate(state: &mut Numbers, at: At) -> bool
+/// What comes of a predicate.
+fn perform_cover(state: &mut Numbers, at: At, call: Call) -> Result<bool, CacheError>
     requires follows { ComesAfter at.now at.step state.old }
     requires rises { state.old.step < at.step }
 {
-    let mut generator = SplitMix64::seed_from_u64(1);
-    let answer = state.invalidate_entries_if(NoPredicate, &mut generator, at);
-    matches!(answer, Err(CacheError::InvalidationClosuresDisabled))
+    match call {
+        Call::Cover(first, second, zeros, answer) => {
+            let covers = IsEither(first, second);
+            match state.invalidate_segments_if(covers, &mut Turning(zeros), at) {
+                Err(CacheError::OutOfMemory) => Err(CacheError::OutOfMemory),
+                given => Ok(given == answer),
+            }
+        }
+        Call::CoverNamed(first, second, zeros, answer) => {
+            let covers = IsEither(first, second);
+            match state.invalidate_entries_if(covers, &mut Turning(zeros), at) {
+                Ok(id) => Ok(answer == Ok(id.as_str())),
+                Err(CacheError::OutOfMemory) => Err(CacheError::OutOfMemory),
+                Err(refused) => Ok(answer == Err(refused)),
+            }
+        }
+        _ => Ok(false),
+    }
+}
+
+fn is_told(state: &mut Numbers, first: u64, second: u64, cause: RemovalCause) -> bool {
+    match state.next_notice() {
+        Some(notice) => {
+            let key = *notice.key;
+            (key == first || key == second) && notice.cause == cause
+        }
+        None => false,
+    }
 }
 
 /// Whether a call answers what it is to. Where it was refused for memory it is made once more.
@@ -344,9 +386,10 @@ fn perform(alloc: Global, state: &mut Numbers, nanos: u64, call: Call) -> Result
         | Call::Run
         | Call::Count(..) => { perform_simple(state, at, call) }
         Call::With(closure) => perform_closure(state, at, closure),
-        Call::Told(key, cause) => Ok(is_told(state, key, cause)),
+        Call::Told(key, cause) => Ok(is_told(state, key, key, cause)),
+        Call::ToldEither(first, second, cause) => Ok(is_told(state, first, second, cause)),
         Call::NoneTold => Ok(state.next_notice().is_none()),
-        Call::RefusesPredicate => Ok(refuses_predicate(state, at)),
+        Call::Cover(..) | Call::CoverNamed(..) => { perform_cover(state, at, call) }
         _ => perform_turn(alloc, state, at, call),
     }
 }
@@ -362,13 +405,40 @@ fn right_calls(alloc: Global, state: &mut Numbers, calls: &[(u64, Call)]) -> usi
     calls.len()
 }
 
-/// Whether all of these calls answer what they are to, on an empty cache of a form.
-pub fn are_right(alloc: Global, form: Form, calls: &[(u64, Call)]) -> bool {
+/// An empty cache, made once more where memory was refused.
+pub fn empty_cache(alloc: Global, form: Form) -> Option<Numbers> {
     match numbers(alloc, form) {
-        Ok(mut state) => right_calls(alloc, &mut state, calls) == calls.len(),
-        Err(_) => match numbers(alloc, form) {
-            Ok(mut state) => right_calls(alloc, &mut state, calls) == calls.len(),
-            Err(_) => false,
-        },
+        Ok(state) => Some(state),
+        Err(_) => numbers(alloc, form).ok(),
     }
+}
+
+/// Calls on an empty cache of a form.
+#[derive(Clone, Copy)]
+pub struct Case<'a> {
+    pub form: Form,
+    pub calls: &'a [(u64, Call)],
+}
+
+/// Whether all of a case's calls answer what they are to.
+fn is_case_right(alloc: Global, case: Case<'_>) -> bool {
+    match empty_cache(alloc, case.form) {
+        Some(mut state) => right_calls(alloc, &mut state, case.calls) == case.calls.len(),
+        None => false,
+    }
+}
+
+/// How many of these cases come out right before one does not.
+fn right_cases(alloc: Global, cases: &[Case<'_>]) -> usize {
+    for place in 0..cases.len() {
+        if !is_case_right(alloc, cases[place]) {
+            return place;
+        }
+    }
+    cases.len()
+}
+
+/// Each case comes out right.
+pub fn all_right(rt: &impl Abort, alloc: Global, cases: &[Case<'_>]) {
+    assert_eq!(rt; right_cases(alloc, cases), cases.len());
 }

@@ -25,7 +25,8 @@ pub enum Select {
     OrOptionally(Option<u64>, Option<Shown>),
     /// `or_try_insert_with`.
     OrTry(Result<u64, ()>, Result<Shown, ()>),
-    /// `and_try_compute_with` to this value, to what is there, or to a fault: the value that there is then.
+    /// `and_try_compute_with` to this value, to what is there, or to a fault: the value that there
+    /// is then.
     TryCompute(Result<Option<u64>, ()>, Result<Option<u64>, ()>),
     /// `and_compute_with` to this value, whose entry is unwrapped.
     Put(u64),

@@ -1,4 +1,4 @@
-use crate::lines::outcome::none_wrong;
+//! Bytes that come in pieces, and the lines that they make.
 use audit_lines::{Buffer, MAX_LINE, Next};
 use std::alloc::{AllocError, Global};
 
@@ -52,7 +52,8 @@ fn comes_so(buffer: &mut Buffer, row: Row<'_>) -> bool {
     }
 }
 
-/// Does one row after another with a new buffer, and answers the place of the first that did not come out so.
+/// Does one row after another with a new buffer, and answers the place of the first that did not
+/// come out so.
 fn first_wrong(alloc: Global, rows: &[Row<'_>]) -> Option<usize> {
     let mut buffer = Buffer::new(alloc);
     for (place, row) in rows.iter().enumerate() {
@@ -63,6 +64,7 @@ fn first_wrong(alloc: Global, rows: &[Row<'_>]) -> Option<usize> {
     None
 }
 
+/// A line in pieces.
 const PIECES: &[Row<'static>] = &[
     Row::Holds(0),
     Row::Feeds(b"ab"),
@@ -79,11 +81,7 @@ const PIECES: &[Row<'static>] = &[
     Row::Holds(0),
 ];
 
-#[test]
-fn a_line_in_pieces(rt: HostRuntime) {
-    none_wrong(&rt, first_wrong(rt.alloc(), PIECES));
-}
-
+/// One carriage return is dropped.
 const CARRIAGE_RETURNS: &[Row<'static>] = &[
     Row::Feeds(b"a\r\r\n\r\n\nb\rc\n"),
     Row::Takes(b"a\r"),
@@ -92,22 +90,12 @@ const CARRIAGE_RETURNS: &[Row<'static>] = &[
     Row::Takes(b"b\rc"),
 ];
 
-#[test]
-fn one_carriage_return_is_dropped(rt: HostRuntime) {
-    none_wrong(&rt, first_wrong(rt.alloc(), CARRIAGE_RETURNS));
-}
-
 const LONGEST_LINE: &[Row<'static>] = &[
     Row::Feeds(&[b'a'; MAX_LINE]),
     Row::Says(Next::More),
     Row::Feeds(b"\n"),
     Row::Says(Next::Line(8192)),
 ];
-
-#[test]
-fn the_longest_line(rt: HostRuntime) {
-    none_wrong(&rt, first_wrong(rt.alloc(), LONGEST_LINE));
-}
 
 const LINE_TOO_LONG: &[Row<'static>] = &[
     Row::Feeds(&[b'a'; 8193]),
@@ -119,11 +107,7 @@ const LINE_TOO_LONG: &[Row<'static>] = &[
     Row::Says(Next::More),
 ];
 
-#[test]
-fn a_line_too_long(rt: HostRuntime) {
-    none_wrong(&rt, first_wrong(rt.alloc(), LINE_TOO_LONG));
-}
-
+/// A value of 8184 bytes, and one of 8185.
 const LONGEST_VALUE: &[Row<'static>] = &[
     Row::Feeds(b"SET a - "),
     Row::Feeds(&[b'v'; 8184]),
@@ -138,12 +122,7 @@ const VALUE_TOO_LONG: &[Row<'static>] = &[
     Row::Says(Next::TooLong),
 ];
 
-#[test]
-fn a_value_of_8184_bytes_and_one_of_8185(rt: HostRuntime) {
-    none_wrong(&rt, first_wrong(rt.alloc(), LONGEST_VALUE));
-    none_wrong(&rt, first_wrong(rt.alloc(), VALUE_TOO_LONG));
-}
-
+/// A piece comes after a refusal.
 const AFTER_A_REFUSAL: &[Row<'static>] = &[
     Row::Feeds(b"one\ntw"),
     Row::Takes(b"one"),
@@ -153,7 +132,27 @@ const AFTER_A_REFUSAL: &[Row<'static>] = &[
     Row::Takes(b"two"),
 ];
 
+const CASES: &[&[Row<'static>]] = &[
+    PIECES,
+    CARRIAGE_RETURNS,
+    LONGEST_LINE,
+    LINE_TOO_LONG,
+    LONGEST_VALUE,
+    VALUE_TOO_LONG,
+    AFTER_A_REFUSAL,
+];
+
+/// The first case that does not come out so, and the place of its first row that does not.
+fn first_wrong_case(alloc: Global) -> Option<(usize, usize)> {
+    for (number, rows) in CASES.iter().enumerate() {
+        if let Some(place) = first_wrong(alloc, rows) {
+            return Some((number, place));
+        }
+    }
+    None
+}
+
 #[test]
-fn a_piece_after_a_refusal(rt: HostRuntime) {
-    none_wrong(&rt, first_wrong(rt.alloc(), AFTER_A_REFUSAL));
+fn lines_come_in_pieces(rt: HostRuntime) {
+    assert_eq!(rt; first_wrong_case(rt.alloc()), None);
 }

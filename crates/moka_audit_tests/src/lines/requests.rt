@@ -1,6 +1,7 @@
-use crate::lines::outcome::none_wrong;
+//! Lines, and what they are read as.
 use audit_lines::{Request, read_line};
 use audit_model::{Config, EvictionPolicy, LineError, Weight};
+use std::alloc::{AllocError, Global};
 
 fn config(own_deadlines: bool) -> Config {
     Config {
@@ -78,6 +79,7 @@ fn first_wrong(rows: &[Row<'_>]) -> Option<usize> {
     None
 }
 
+/// Each command.
 const COMMANDS: &[Row<'static>] = &[
     Row(
         b"SET a - some value ",
@@ -96,24 +98,16 @@ const COMMANDS: &[Row<'static>] = &[
     Row(b"QUIT", false, Wanted::Quit),
 ];
 
-#[test]
-fn each_command(rt: HostRuntime) {
-    none_wrong(&rt, first_wrong(COMMANDS));
-}
-
+/// An empty value.
 const EMPTY_VALUES: &[Row<'static>] = &[
     Row(b"SET a - ", false, Wanted::Set(b"a", None, b"")),
     Row(b"SET a -", false, Wanted::Fault(LineError::Syntax)),
 ];
 
-#[test]
-fn an_empty_value(rt: HostRuntime) {
-    none_wrong(&rt, first_wrong(EMPTY_VALUES));
-}
-
 const DEADLINES: &[Row<'static>] = &[
     Row(b"SET a 5 x", true, Wanted::Set(b"a", Some(5), b"x")),
     Row(b"SET a 5 x", false, Wanted::Fault(LineError::Deadline)),
+    Row(b"SET a 00 x", true, Wanted::Set(b"a", Some(0), b"x")),
     Row(b"SET a - x", true, Wanted::Set(b"a", None, b"x")),
     Row(
         b"SET a 999999999999 x",
@@ -134,11 +128,6 @@ const DEADLINES: &[Row<'static>] = &[
     Row(b"SET a 5\r x", true, Wanted::Fault(LineError::Deadline)),
     Row(b"SET a 5 \r", true, Wanted::Fault(LineError::Syntax)),
 ];
-
-#[test]
-fn deadlines(rt: HostRuntime) {
-    none_wrong(&rt, first_wrong(DEADLINES));
-}
 
 const NUMBERS: &[Row<'static>] = &[
     Row(b"ADD n 5 007", true, Wanted::Add(b"n", Some(5), 7)),
@@ -179,62 +168,7 @@ const NUMBERS: &[Row<'static>] = &[
     Row(b"ADD  - 1", false, Wanted::Fault(LineError::Syntax)),
 ];
 
-#[test]
-fn numbers(rt: HostRuntime) {
-    none_wrong(&rt, first_wrong(NUMBERS));
-}
-
-#[test]
-fn the_longest_values(rt: HostRuntime) {
-    let mut line = [b'v'; 8192];
-    line[..8].copy_from_slice(b"SET a - ");
-    let rows = [
-        Row(
-            line.as_slice(),
-            false,
-            Wanted::Set(b"a", None, &[b'v'; 8184]),
-        ),
-        Row(b"SET a 00 x", true, Wanted::Set(b"a", Some(0), b"x")),
-    ];
-    none_wrong(&rt, first_wrong(&rows));
-}
-
-#[test]
-fn the_longest_key(rt: HostRuntime) {
-    let mut get = [b'k'; 254];
-    get[..4].copy_from_slice(b"GET ");
-    let mut get_longer = [b'k'; 255];
-    get_longer[..4].copy_from_slice(b"GET ");
-    let rows = [
-        Row(&get, false, Wanted::Get(&[b'k'; 250])),
-        Row(
-            get_longer.as_slice(),
-            false,
-            Wanted::Fault(LineError::Syntax),
-        ),
-    ];
-    none_wrong(&rt, first_wrong(&rows));
-}
-
-#[test]
-fn the_longest_key_of_a_value(rt: HostRuntime) {
-    let mut set = [b'k'; 258];
-    set[..4].copy_from_slice(b"SET ");
-    set[254..].copy_from_slice(b" - x");
-    let mut set_longer = [b'k'; 259];
-    set_longer[..4].copy_from_slice(b"SET ");
-    set_longer[255..].copy_from_slice(b" - x");
-    let rows = [
-        Row(&set, false, Wanted::Set(&[b'k'; 250], None, b"x")),
-        Row(
-            set_longer.as_slice(),
-            false,
-            Wanted::Fault(LineError::Syntax),
-        ),
-    ];
-    none_wrong(&rt, first_wrong(&rows));
-}
-
+/// What cannot be read.
 const UNREAD: &[Row<'static>] = &[
     Row(b"", false, Wanted::Fault(LineError::Command)),
     Row(b"get a", false, Wanted::Fault(LineError::Command)),
@@ -256,7 +190,69 @@ const UNREAD: &[Row<'static>] = &[
     Row(b"DROPIF a b", false, Wanted::Fault(LineError::Syntax)),
 ];
 
+const TABLES: &[&[Row<'static>]] = &[COMMANDS, EMPTY_VALUES, DEADLINES, NUMBERS, UNREAD];
+
+/// The first table with a line that is not read so, and the place of the line.
+fn first_wrong_table() -> Option<(usize, usize)> {
+    for (number, rows) in TABLES.iter().enumerate() {
+        if let Some(place) = first_wrong(rows) {
+            return Some((number, place));
+        }
+    }
+    None
+}
+
 #[test]
-fn what_cannot_be_read(rt: HostRuntime) {
-    none_wrong(&rt, first_wrong(UNREAD));
+fn lines_are_read(rt: HostRuntime) {
+    assert_eq!(rt; first_wrong_table(), None);
+}
+
+/// A line with so many bytes `k` between two texts, and what it is to be read as.
+#[derive(Clone, Copy)]
+struct Long<'a>(&'a [u8], usize, &'a [u8], Wanted<'a>);
+
+/// The longest value, the longest key that is asked for, and that of a value.
+const LONG: &[Long<'static>] = &[
+    Long(
+        b"SET a - ",
+        8184,
+        b"",
+        Wanted::Set(b"a", None, &[b'k'; 8184]),
+    ),
+    Long(b"GET ", 250, b"", Wanted::Get(&[b'k'; 250])),
+    Long(b"GET ", 251, b"", Wanted::Fault(LineError::Syntax)),
+    Long(b"SET ", 250, b" - x", Wanted::Set(&[b'k'; 250], None, b"x")),
+    Long(b"SET ", 251, b" - x", Wanted::Fault(LineError::Syntax)),
+];
+
+fn line_of(alloc: Global, long: Long<'_>) -> Result<Vec<u8>, AllocError> {
+    let mut line = Vec::from_slice(alloc, long.0)?;
+    for _ in 0..long.1 {
+        line.push(b'k')?;
+    }
+    line.extend_from_slice(long.2)?;
+    Ok(line)
+}
+
+/// Whether such a line is read so.
+fn is_long_read(alloc: Global, long: Long<'_>) -> bool {
+    match line_of(alloc, long) {
+        Ok(line) => is_read_as(&line, false, long.3),
+        Err(_) => false,
+    }
+}
+
+/// How many of these are read so before one is not.
+fn right_long(alloc: Global) -> usize {
+    for place in 0..LONG.len() {
+        if !is_long_read(alloc, LONG[place]) && !is_long_read(alloc, LONG[place]) {
+            return place;
+        }
+    }
+    LONG.len()
+}
+
+#[test]
+fn the_longest_keys_and_values(rt: HostRuntime) {
+    assert_eq!(rt; right_long(rt.alloc()), LONG.len());
 }

@@ -1,6 +1,5 @@
 //! What is no transcript of a service.
-use crate::transcripts::rows::{PLAIN, Row, expect_right};
-use std::test::Fail;
+use crate::transcripts::rows::{Case, PLAIN, Row, all_right};
 
 /// Wrong numbers, lines, parts and moments.
 const HOSTILE: &[Row] = &[
@@ -164,8 +163,18 @@ const MORE: &[Row] = &[
     },
 ];
 
+const CASES: &[Case] = &[
+    Case {
+        head: PLAIN,
+        rows: HOSTILE,
+    },
+    Case {
+        head: PLAIN,
+        rows: MORE,
+    },
+];
+
 #[test]
-fn hostile_transcripts(rt: HostRuntime) -> Result<(), Fail> {
-    expect_right(rt.alloc(), PLAIN, HOSTILE)?;
-    expect_right(rt.alloc(), PLAIN, MORE)
+fn hostile_transcripts(rt: HostRuntime) {
+    all_right(&rt, rt.alloc(), CASES);
 }

@@ -1,7 +1,6 @@
 //! Loads: those of the worked scripts, and what wrong services would have recorded of them.
-use crate::transcripts::rows::{NOTHING, OWN, PLAIN, Row, expect_right, verdict_again};
+use crate::transcripts::rows::{Case, NOTHING, OWN, PLAIN, Row, all_right, verdict_again};
 use std::alloc::{AllocError, Global};
-use std::test::Fail;
 
 /// Whatever the settings.
 const LOADS: &[Row] = &[
@@ -30,7 +29,8 @@ const LOADS: &[Row] = &[
         lines: b"open 1\nopen 2\nfeed 1 0 'LOAD_k~\nstep 1 run 'LOAD_k - 1 -\nfeed 2 0 'LOAD_k~\nstep 2 run 'LOAD_k - - -\ngiveup 1 0\nstep 1 run 'LOAD_k - 2 -\n",
         breaks: 5,
     },
-    // A line behind a `LOAD` that waits runs early, as it came in another piece, or in the same one.
+    // A line behind a `LOAD` that waits runs early, as it came in another piece, or in the same
+    // one.
     Row {
         lines: b"open 1\nopen 2\nfeed 1 0 'LOAD_k~\nstep 1 run 'LOAD_k - 1 -\nfeed 1 0 'GET_a~\nstep 1 run 'GET_a 'NONE~ - -\n",
         breaks: 4,
@@ -72,7 +72,8 @@ const LOADS: &[Row] = &[
         lines: b"open 1\nfeed 1 0 'LOAD_k~\nstep 1 run 'LOAD_k - 1 -\nanswer 1 0 fault 'down\nstep 1 run 'LOAD_k 'ERR_load_down~ - -\nfeed 1 0 'QUIT~GET_a~\nstep 1 run 'QUIT 'OK~ - -\n",
         breaks: 0,
     },
-    // An outcome that the event refuses: a line end in a value or a fault, a time where there are no own deadlines.
+    // An outcome that the event refuses: a line end in a value or a fault, a time where there are
+    // no own deadlines.
     Row {
         lines: b"open 1\nfeed 1 0 'LOAD_k~\nstep 1 run 'LOAD_k - 1 -\nanswer 1 0 value 'x~y -\nown 0\nstep 1 run 'LOAD_k 'VAL_x~y~ - -\n",
         breaks: 3,
@@ -175,11 +176,24 @@ const TIMED: &[Row] = &[
     },
 ];
 
+const CASES: &[Case] = &[
+    Case {
+        head: PLAIN,
+        rows: LOADS,
+    },
+    Case {
+        head: NOTHING,
+        rows: OFF,
+    },
+    Case {
+        head: OWN,
+        rows: TIMED,
+    },
+];
+
 #[test]
-fn loads(rt: HostRuntime) -> Result<(), Fail> {
-    expect_right(rt.alloc(), PLAIN, LOADS)?;
-    expect_right(rt.alloc(), NOTHING, OFF)?;
-    expect_right(rt.alloc(), OWN, TIMED)
+fn loads(rt: HostRuntime) {
+    all_right(&rt, rt.alloc(), CASES);
 }
 
 /// Puts a give-up, behind which the next load is sent.
@@ -206,24 +220,14 @@ fn put_earlier(alloc: Global, lines: &mut Vec<u8>, times: u64) -> Result<(), All
     Ok(())
 }
 
-/// The lines of a `LOAD` that is given up again and again, at each but the last time sending a load anew, and abandoned at the last.
+/// The lines of a `LOAD` that is given up again and again, at each but the last time sending a load
+/// anew, and abandoned at the last.
 fn given_up(alloc: Global, times: u64) -> Result<Vec<u8>, AllocError> {
     let start = b"open 1\nfeed 1 0 'LOAD_k~\nstep 1 run 'LOAD_k - 1 -\n";
     let mut lines = Vec::from_slice(alloc, start)?;
     put_earlier(alloc, &mut lines, times)?;
     put_last(alloc, &mut lines, times)?;
     Ok(lines)
-}
-
-/// Fails with how many give-ups are not judged to break a rule at that record.
-fn expect_given_up(alloc: Global, rows: &[(u64, u64)]) -> Result<(), Fail> {
-    for (times, breaks) in rows {
-        let lines = given_up(alloc, *times)?;
-        if verdict_again(alloc, PLAIN, &lines) != Some(*breaks) {
-            return Err(Fail::new(format_args!("given up {times} times")));
-        }
-    }
-    Ok(())
 }
 
 /// Puts so many bytes.
@@ -243,36 +247,63 @@ fn behind(alloc: Global, count: u64, steps: &[u8]) -> Result<Vec<u8>, AllocError
     Ok(lines)
 }
 
-/// Fails with how many bytes, with the steps behind the answer, are not judged to break a rule at that record.
-fn expect_behind(alloc: Global, rows: &[(u64, &[u8], u64)]) -> Result<(), Fail> {
-    for (count, steps, breaks) in rows {
-        let lines = behind(alloc, *count, steps)?;
-        if verdict_again(alloc, PLAIN, &lines) != Some(*breaks) {
-            return Err(Fail::new(format_args!("{count} bytes behind")));
-        }
-    }
-    Ok(())
-}
-
-/// How often a load is given up, and the record at which that breaks a rule, or 0.
-const GIVE_UPS: &[(u64, u64)] = &[(200, 0), (199, 201), (201, 202)];
-
 const TOLD: &[u8] = b"step 1 run 'LOAD_k 'NONE~ - -\n";
 
-/// How many bytes stand behind a `LOAD`, the steps of its answer, and the record at which that breaks a rule, or 0.
-const BEHIND: &[(u64, &[u8], u64)] = &[
-    (8192, TOLD, 0),
-    (8192, b"", 3),
-    (8193, b"", 0),
-    (8193, TOLD, 3),
+/// Lines that are too long to be written out.
+#[derive(Clone, Copy)]
+enum Long {
+    /// A load is given up so often.
+    GivenUp(u64),
+    /// So many bytes stand behind a `LOAD`, whose answer has these steps.
+    Behind(u64, &'static [u8]),
+}
+
+/// Such lines, and the record at which they break a rule, or 0.
+const LONG: &[(Long, u64)] = &[
+    (Long::GivenUp(200), 0),
+    (Long::GivenUp(199), 201),
+    (Long::GivenUp(201), 202),
+    (Long::Behind(8192, TOLD), 0),
+    (Long::Behind(8192, b""), 3),
+    (Long::Behind(8193, b""), 0),
+    (Long::Behind(8193, TOLD), 3),
 ];
 
-#[test]
-fn the_200th_give_up_abandons(rt: HostRuntime) -> Result<(), Fail> {
-    expect_given_up(rt.alloc(), GIVE_UPS)
+fn lines_of(alloc: Global, long: Long) -> Result<Vec<u8>, AllocError> {
+    match long {
+        Long::GivenUp(times) => given_up(alloc, times),
+        Long::Behind(count, steps) => behind(alloc, count, steps),
+    }
+}
+
+/// The same, at the second try where memory is refused.
+fn lines_again(alloc: Global, long: Long) -> Result<Vec<u8>, AllocError> {
+    match lines_of(alloc, long) {
+        Ok(lines) => Ok(lines),
+        Err(_) => lines_of(alloc, long),
+    }
+}
+
+/// Whether such lines are judged to break a rule at that record.
+fn is_right(alloc: Global, long: Long, breaks: u64) -> bool {
+    match lines_again(alloc, long) {
+        Ok(lines) => verdict_again(alloc, PLAIN, &lines) == Some(breaks),
+        Err(_) => false,
+    }
+}
+
+/// How many of these are judged so before one is not.
+fn right_long(alloc: Global) -> usize {
+    for place in 0..LONG.len() {
+        let (long, breaks) = LONG[place];
+        if !is_right(alloc, long, breaks) {
+            return place;
+        }
+    }
+    LONG.len()
 }
 
 #[test]
-fn bytes_behind_a_load(rt: HostRuntime) -> Result<(), Fail> {
-    expect_behind(rt.alloc(), BEHIND)
+fn many_give_ups_and_bytes_behind_a_load(rt: HostRuntime) {
+    assert_eq!(rt; right_long(rt.alloc()), LONG.len());
 }

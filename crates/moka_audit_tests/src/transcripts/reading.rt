@@ -1,7 +1,6 @@
 //! Texts that are read and written.
 use audit_text::{TextError, read_inputs, read_transcript, write_transcript};
 use std::alloc::Global;
-use std::test::Fail;
 
 const EXAMPLE: &[u8] =
     b"config capacity=- policy=lru parts=1 weight=one live_ms=- idle_ms=- deadlines=0
@@ -154,72 +153,77 @@ fn never_live(alloc: Global, text: &[u8]) -> bool {
     }
 }
 
-#[test]
-fn the_example_is_read_and_written_again(rt: HostRuntime) -> Result<(), Fail> {
-    let alloc = rt.alloc();
-    assert!(rt; has(alloc, EXAMPLE, 5, 0, 1));
-    assert!(rt; is_written_as(alloc, EXAMPLE, EXAMPLE));
-    Ok(())
+fn is_example_read(alloc: Global) -> bool {
+    has(alloc, EXAMPLE, 5, 0, 1) && is_written_as(alloc, EXAMPLE, EXAMPLE)
 }
 
 #[test]
-fn other_settings_and_words(rt: HostRuntime) -> Result<(), Fail> {
-    let alloc = rt.alloc();
-    assert!(rt; has(alloc, OTHER, 3, u64::MAX, u32::MAX));
-    assert!(rt; never_live(alloc, OTHER));
-    assert!(rt; is_written_as(alloc, OTHER, OTHER));
-    Ok(())
+fn the_example_is_read_and_written_again(rt: HostRuntime) {
+    assert!(rt; is_example_read(rt.alloc()));
+}
+
+fn is_other_read(alloc: Global) -> bool {
+    has(alloc, OTHER, 3, u64::MAX, u32::MAX)
+        && never_live(alloc, OTHER)
+        && is_written_as(alloc, OTHER, OTHER)
 }
 
 #[test]
-fn comments_and_empty_lines_are_skipped(rt: HostRuntime) -> Result<(), Fail> {
+fn other_settings_and_words(rt: HostRuntime) {
+    assert!(rt; is_other_read(rt.alloc()));
+}
+
+#[test]
+fn comments_and_empty_lines_are_skipped(rt: HostRuntime) {
     assert!(rt; is_written_as(rt.alloc(), COMMENTED, HEAD));
-    Ok(())
 }
 
-#[test]
-fn broken_lines_have_their_numbers(rt: HostRuntime) -> Result<(), Fail> {
-    let rows = [
-        Row::Whole(b"", 1),
-        Row::Whole(b"made 0\n", 1),
-        Row::Whole(b"# one\nconfig capacity=-\n", 2),
-        Row::Behind(b"open 1\nopen x\n", 4),
-        Row::Behind(b"open  1\n", 3),
-        Row::Behind(b"open 1 \n", 3),
-        Row::Behind(b"open 01\n", 3),
-        Row::Behind(b"open 18446744073709551616\n", 3),
-        Row::Behind(b"open 1\r\n", 3),
-        Row::Behind(b"feed 1 0 x5\n", 3),
-        Row::Behind(b"feed 1 0 x5A\n", 3),
-        Row::Behind(b"feed 1 0 55\n", 3),
-        Row::Behind(b"made 0\n", 3),
-        Row::Behind(HEAD, 3),
-        Row::Behind(b"step 1 run x - - -\n", 3),
-        Row::Behind(b"open 1\nnote Size x x\n", 4),
-        Row::Behind(b"open 1\nstep 1 run x - - -\nown 0\n", 5),
-        Row::Behind(b"open 1\nown 0\nown 0\n", 5),
-        Row::Behind(b"open 1\nownnote Size x x\nown 0\n", 5),
-        Row::Behind(b"open 1\nstep 1 run x - - -\nownnote Size x x\n", 5),
-        Row::Behind(b"open 1\nstep 1 ran x - - -\n", 4),
-        Row::Behind(b"open 1\nown 0\nnote Size x x\n", 5),
-        Row::IsRead(b"open 1\nclose 1\n"),
-    ];
-    assert_eq!(rt; first_wrong(rt.alloc(), &rows), None);
-    Ok(())
-}
+const BROKEN_LINES: &[Row<'static>] = &[
+    Row::Whole(b"", 1),
+    Row::Whole(b"made 0\n", 1),
+    Row::Whole(b"# one\nconfig capacity=-\n", 2),
+    Row::Behind(b"open 1\nopen x\n", 4),
+    Row::Behind(b"open  1\n", 3),
+    Row::Behind(b"open 1 \n", 3),
+    Row::Behind(b"open 01\n", 3),
+    Row::Behind(b"open 18446744073709551616\n", 3),
+    Row::Behind(b"open 1\r\n", 3),
+    Row::Behind(b"feed 1 0 x5\n", 3),
+    Row::Behind(b"feed 1 0 x5A\n", 3),
+    Row::Behind(b"feed 1 0 55\n", 3),
+    Row::Behind(b"made 0\n", 3),
+    Row::Behind(HEAD, 3),
+    Row::Behind(b"step 1 run x - - -\n", 3),
+    Row::Behind(b"open 1\nnote Size x x\n", 4),
+    Row::Behind(b"open 1\nstep 1 run x - - -\nown 0\n", 5),
+    Row::Behind(b"open 1\nown 0\nown 0\n", 5),
+    Row::Behind(b"open 1\nownnote Size x x\nown 0\n", 5),
+    Row::Behind(b"open 1\nstep 1 run x - - -\nownnote Size x x\n", 5),
+    Row::Behind(b"open 1\nstep 1 ran x - - -\n", 4),
+    Row::Behind(b"open 1\nown 0\nnote Size x x\n", 5),
+    Row::IsRead(b"open 1\nclose 1\n"),
+];
 
 #[test]
-fn inputs_are_read(rt: HostRuntime) -> Result<(), Fail> {
-    let five =
-        b"input 0 open\ninput 0 feed 1 5 x0a\ninput 0 answer 1 7 none\ninput 0 giveup 1 7\ninput 0 close 1\n".as_slice();
-    let a_number_too_many =
-        b"input 0 open\ninput 0 feed 1 5 x0a\ninput 0 answer 1 7 none\ninput 0 giveup 1 7\ninput 0 close 1\ninput 0 open 1\n".as_slice();
-    let rows = [
-        Row::AreRead(five, 5),
-        Row::InputsBehind(a_number_too_many, 8),
-        Row::Inputs(b"made 0\n", 1),
-        Row::InputsBehind(b"input 00 open\n", 3),
-    ];
-    assert_eq!(rt; first_wrong(rt.alloc(), &rows), None);
-    Ok(())
+fn broken_lines_have_their_numbers(rt: HostRuntime) {
+    assert_eq!(rt; first_wrong(rt.alloc(), BROKEN_LINES), None);
+}
+
+const INPUTS: &[Row<'static>] = &[
+    Row::AreRead(
+        b"input 0 open\ninput 0 feed 1 5 x0a\ninput 0 answer 1 7 none\ninput 0 giveup 1 7\ninput 0 close 1\n",
+        5,
+    ),
+    // a number too many
+    Row::InputsBehind(
+        b"input 0 open\ninput 0 feed 1 5 x0a\ninput 0 answer 1 7 none\ninput 0 giveup 1 7\ninput 0 close 1\ninput 0 open 1\n",
+        8,
+    ),
+    Row::Inputs(b"made 0\n", 1),
+    Row::InputsBehind(b"input 00 open\n", 3),
+];
+
+#[test]
+fn inputs_are_read(rt: HostRuntime) {
+    assert_eq!(rt; first_wrong(rt.alloc(), INPUTS), None);
 }

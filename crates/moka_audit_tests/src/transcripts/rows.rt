@@ -5,10 +5,11 @@ use audit_model::{Config, Transcript};
 use audit_text::read_transcript;
 use moka_audit::{Verdict, audit};
 use std::alloc::{AllocError, Global};
-use std::test::Fail;
+use std::process::Abort;
 
-/// Lines of a transcript behind its head, in which `'` begins bytes whose `_` is a space, whose `~` is a line feed and whose `^` is a
-/// carriage return; and the record at which it breaks a rule, or 0.
+/// Lines of a transcript behind its head, in which `'` begins bytes whose `_` is a space, whose `~`
+/// is a line feed and whose `^` is a carriage return; and the record at which it breaks a rule, or
+/// 0.
 pub struct Row {
     pub lines: &'static [u8],
     pub breaks: u64,
@@ -90,7 +91,8 @@ fn breaks_at(alloc: Global, config: &Config, transcript: &Transcript) -> Option<
     }
 }
 
-/// The verdict on a text: the record at which it breaks a rule, or 0. None where it is no text of a transcript, or memory is wanted.
+/// The verdict on a text: the record at which it breaks a rule, or 0. None where it is no text of a
+/// transcript, or memory is wanted.
 fn verdict_on(alloc: Global, text: &[u8]) -> Option<u64> {
     match read_transcript(alloc, text) {
         Ok((config, transcript)) => breaks_at(alloc, &config, &transcript),
@@ -119,12 +121,35 @@ fn is_right(alloc: Global, head: &[u8], row: &Row) -> bool {
     verdict_again(alloc, head, row.lines) == Some(row.breaks)
 }
 
-/// Fails with the place of the first row whose verdict is another.
-pub fn expect_right(alloc: Global, head: &[u8], rows: &[Row]) -> Result<(), Fail> {
+/// How many rows have the right verdict before one has not.
+fn right_rows(alloc: Global, head: &[u8], rows: &[Row]) -> usize {
     for (place, row) in rows.iter().enumerate() {
         if !is_right(alloc, head, row) {
-            return Err(Fail::new(format_args!("row {place}")));
+            return place;
         }
     }
-    Ok(())
+    rows.len()
+}
+
+/// Rows behind one head.
+#[derive(Clone, Copy)]
+pub struct Case {
+    pub head: &'static [u8],
+    pub rows: &'static [Row],
+}
+
+/// The first case with a row whose verdict is another, and the place of the row.
+fn first_wrong(alloc: Global, cases: &[Case]) -> Option<(usize, usize)> {
+    for (number, case) in cases.iter().enumerate() {
+        let place = right_rows(alloc, case.head, case.rows);
+        if place < case.rows.len() {
+            return Some((number, place));
+        }
+    }
+    None
+}
+
+/// Each verdict is the right one.
+pub fn all_right(rt: &impl Abort, alloc: Global, cases: &[Case]) {
+    assert_eq!(rt; first_wrong(alloc, cases), None);
 }

@@ -1,6 +1,5 @@
 //! What wrong services would have recorded, each beside what is right.
-use crate::transcripts::rows::{BRIEF, FULL, OWN, PLAIN, Row, TWO_PARTS, expect_right};
-use std::test::Fail;
+use crate::transcripts::rows::{BRIEF, Case, FULL, OWN, PLAIN, Row, TWO_PARTS, all_right};
 
 /// Whatever the settings.
 const WRONG: &[Row] = &[
@@ -149,6 +148,11 @@ const LINES: &[Row] = &[
         lines: b"open 1\nfeed 1 0 'SET_a_-_1~\nstep 1 run 'SET_a_-_1 'OK~ - 0\nfeed 1 0 'DEL_a~\nstep 1 run 'DEL_a 'OK~ - -\nnote Explicit 'a '1\nfeed 1 0 'GET_a~\nstep 1 run 'GET_a 'NONE~ - -\n",
         breaks: 0,
     },
+    // Runs no line behind a `QUIT`.
+    Row {
+        lines: b"open 1\nfeed 1 0 'SET_a_-_1~QUIT~GET_a~\nstep 1 run 'SET_a_-_1 'OK~ - 0\nstep 1 run 'QUIT 'OK~ - -\n",
+        breaks: 0,
+    },
     // Refuses an identifier before one was taken.
     Row {
         lines: b"open 1\nfeed 1 0 'SET_a_-_1~\nstep 1 run 'SET_a_-_1 'OK~ - 0\nfeed 1 0 'DROPIF_z~\nstep 1 run 'DROPIF_z 'ERR_id~ - -\n",
@@ -274,21 +278,38 @@ const ROOM: &[Row] = &[
     },
 ];
 
-#[test]
-fn wrong_services(rt: HostRuntime) -> Result<(), Fail> {
-    expect_right(rt.alloc(), PLAIN, WRONG)?;
-    expect_right(rt.alloc(), PLAIN, NOTES)
-}
+const CASES: &[Case] = &[
+    Case {
+        head: PLAIN,
+        rows: WRONG,
+    },
+    Case {
+        head: PLAIN,
+        rows: NOTES,
+    },
+    Case {
+        head: PLAIN,
+        rows: LINES,
+    },
+    Case {
+        head: BRIEF,
+        rows: LATE,
+    },
+    Case {
+        head: OWN,
+        rows: DEADLINES,
+    },
+    Case {
+        head: TWO_PARTS,
+        rows: PARTS,
+    },
+    Case {
+        head: FULL,
+        rows: ROOM,
+    },
+];
 
 #[test]
-fn wrong_lines(rt: HostRuntime) -> Result<(), Fail> {
-    expect_right(rt.alloc(), PLAIN, LINES)
-}
-
-#[test]
-fn wrong_services_by_settings(rt: HostRuntime) -> Result<(), Fail> {
-    expect_right(rt.alloc(), BRIEF, LATE)?;
-    expect_right(rt.alloc(), OWN, DEADLINES)?;
-    expect_right(rt.alloc(), TWO_PARTS, PARTS)?;
-    expect_right(rt.alloc(), FULL, ROOM)
+fn wrong_services(rt: HostRuntime) {
+    all_right(&rt, rt.alloc(), CASES);
 }

@@ -1,0 +1,5 @@
+//! A cache of one part: it is filled, and then many calls are made on it.
+mod caches;
+mod work;
+
+pub use work::{Order, run};

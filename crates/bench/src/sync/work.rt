@@ -1,0 +1,142 @@
+//! The work.
+ghost use Rattle.std.specs.Prelude.{◌<◌, length};
+
+use crate::drawing::{Draws, draw_keys};
+use crate::orders::number_of;
+use crate::sync::caches::{Lru, Moka, SharedNumbers};
+use std::alloc::{Allocator, Global};
+use std::num::NonZeroUsize;
+use std::sync::Wait;
+use std::thread;
+use std::thread::Threads;
+
+/// Which cache it is.
+#[derive(Clone, Copy, Debug, PartialEq, Eq)]
+enum Which {
+    /// The cache that threads share.
+    Moka,
+    /// The kit's under one lock.
+    Lru,
+    /// None: the loop alone.
+    Loops,
+}
+
+impl Which {
+    fn from_word(word: &str) -> Option<Which> {
+        match word {
+            "moka" => Some(Which::Moka),
+            "lru" => Some(Which::Lru),
+            "loops" => Some(Which::Loops),
+            _ => None,
+        }
+    }
+}
+
+/// What is to be done, with which cache.
+#[derive(Clone, Copy)]
+pub struct Order {
+    which: Which,
+    threads: usize,
+    size: NonZeroUsize,
+    drawn: usize,
+    calls: usize,
+}
+
+impl Order {
+    /// The order of its words behind the first: the cache, how many threads, how many keys there
+    /// are and values are held, how many keys are drawn, and how many calls each thread makes.
+    pub fn from_words<A: Allocator>(words: &[String<A>]) -> Option<Order> {
+        let [cache, threads, size, drawn, calls] = words else {
+            return None;
+        };
+        Some(Order {
+            which: Which::from_word(cache.as_str())?,
+            threads: number_of(threads.as_str())?,
+            size: NonZeroUsize::new(number_of(size.as_str())?)?,
+            drawn: number_of(drawn.as_str())?,
+            calls: number_of(calls.as_str())?,
+        })
+    }
+}
+
+/// No cache.
+struct Nothing;
+
+impl SharedNumbers for Nothing {
+    fn get<H: Wait>(&self, rt: &H, key: u64) -> bool {
+        let _rt = rt;
+        key == 0
+    }
+
+    fn put<H: Wait>(&self, rt: &H, key: u64, value: u64) -> bool {
+        let _rt = rt;
+        key == value
+    }
+}
+
+/// One call: nine of ten are look-ups. Whether a value was found.
+fn call<C: SharedNumbers, H: Wait>(rt: &H, cache: &C, turn: usize, key: u64) -> bool {
+    if turn % 10 == 9 {
+        let _is_written = cache.put(rt, key, key);
+        false
+    } else {
+        cache.get(rt, key)
+    }
+}
+
+/// One thread's calls, each with the next key that was drawn; how many values were found.
+fn make_calls<C: SharedNumbers, H: Wait>(
+    rt: &H,
+    cache: &C,
+    keys: &[u64],
+    from: usize,
+    calls: usize,
+) -> u64
+    requires { 0 < length keys.now }
+{
+    let mut found = 0u64;
+    for turn in 0..calls {
+        let key = keys[turn.wrapping_add(from) % keys.len()];
+        found = found.wrapping_add(call(rt, cache, turn, key) as u64);
+    }
+    found
+}
+
+/// All threads' calls.
+fn work_with<C: SharedNumbers + Sync, R: Threads + Wait + Sync>(
+    rt: &R,
+    alloc: Global,
+    cache: &C,
+    keys: &[u64],
+    order: &Order,
+) -> Option<u64>
+    requires { 0 < length keys.now }
+{
+    let calls = order.calls;
+    let found = thread::map_indices(
+        rt,
+        alloc,
+        order.threads,
+        &|number: usize| -> u64
+            requires { 0 < length keys.now }
+        { make_calls(rt, cache, keys, number.wrapping_mul(7919), calls) },
+    );
+    match found {
+        Ok(found) => Some(found.iter().fold(0u64, |sum, one| sum.wrapping_add(*one))),
+        Err(_) => None,
+    }
+}
+
+/// Does the work, and answers how many values were found; or nothing, where memory was refused or
+/// nothing was drawn.
+pub fn run<R: Threads + Wait + Sync>(rt: &R, alloc: Global, order: Order) -> Option<u64> {
+    let keys = draw_keys(alloc, Draws::Zipf, order.size.get(), order.drawn)?;
+    if keys.is_empty() {
+        return None;
+    }
+    match order.which {
+        Which::Moka => work_with(rt, alloc, &Moka::make(alloc, order.size)?, &keys, &order),
+        Which::Lru => work_with(rt, alloc, &Lru::make(alloc, order.size)?, &keys, &order),
+        Which::Loops => work_with(rt, alloc, &Nothing, &keys, &order),
+    }
+}

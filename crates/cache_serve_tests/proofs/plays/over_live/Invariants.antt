@@ -1,0 +1,7 @@
+use Rattle.cache_serve_tests.proofs.plays.over_live.Given as goal
+
+abbrev pub ghosts-play_live-L-Seating : goal.ghosts-play_live-L-Seating
+ghosts-play_live-L-Seating g a = record { all = a.blank.parts }
+
+abbrev pub ghosts-play_live-L-Ledger : goal.ghosts-play_live-L-Ledger
+ghosts-play_live-L-Ledger g a = record { name = a.blank.name; parts = a.blank.parts }

@@ -1,0 +1,7 @@
+use Rattle.cache_serve_tests.proofs.plays.over_recorded.Given as goal
+
+abbrev pub ghosts-play_recorded-L-Seating : goal.ghosts-play_recorded-L-Seating
+ghosts-play_recorded-L-Seating g a = record { all = a.blank.parts }
+
+abbrev pub ghosts-play_recorded-L-Ledger : goal.ghosts-play_recorded-L-Ledger
+ghosts-play_recorded-L-Ledger g a = record { name = a.blank.name; parts = a.blank.parts }

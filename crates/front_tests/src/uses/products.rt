@@ -1,0 +1,106 @@
+//! Rows of a table, read through a cache.
+ghost use Rattle.std.specs.Prelude.{◌≡◌, [], IfOk};
+
+use crate::uses::reading::{next_call, read_through};
+use moka::{BuildError, CacheBuilder, CacheError, CacheState, Instant, StdHasher};
+use sqlite::{Alter, Connection, Error, params};
+use std::alloc::Global;
+use std::sync::Arc;
+use std::time::Duration;
+use thiserror::Error;
+
+/// How many products are kept at most.
+const CAPACITY: u64 = 10_000;
+
+/// How long one is kept after it was read, in seconds.
+const SECONDS: u64 = 60;
+
+/// A row of the table: a price in cents, and how many are in stock.
+#[derive(Clone, Copy, Debug, PartialEq, Eq, Drop)]
+pub struct Product {
+    pub price: i64,
+    pub stock: i64,
+}
+
+/// Why a product cannot be shown or changed.
+#[derive(Debug, Drop, Error)]
+pub enum ProductError {
+    /// The cache has no room.
+    #[error("{0}")]
+    Cache(#[from] CacheError),
+    /// The table has no such row, or it cannot be read.
+    #[error("{0}")]
+    Row(Arc<Error>),
+    /// It cannot be written.
+    #[error("{0}")]
+    Write(#[from] Error),
+}
+
+/// The products of a table, by the number of their row. Each is read once, and then kept for a
+/// minute or until it is written.
+#[derive(Drop)]
+pub struct Products<S: Alter> {
+    table: Connection<S>,
+    cache: CacheState<i64, Product>,
+}
+
+/// The product of a row.
+fn read<S: Alter>(table: &mut Connection<S>, number: i64) -> Result<Product, Error> {
+    let row = table.query_row(
+        "SELECT price, stock FROM product WHERE number = ?1",
+        params![number],
+    )?;
+    Ok(Product {
+        price: row.get(0)?,
+        stock: row.get(1)?,
+    })
+}
+
+/// Writes a row, new or old.
+fn write<S: Alter>(table: &mut Connection<S>, number: i64, product: Product) -> Result<(), Error> {
+    let _changes = table.execute(
+        "INSERT OR REPLACE INTO product (number, price, stock) VALUES (?1, ?2, ?3)",
+        params![number, product.price, product.stock],
+    )?;
+    Ok(())
+}
+
+impl<S: Alter + Drop> Products<S> {
+    /// The products of a table `product (number INTEGER PRIMARY KEY, price INTEGER, stock
+    /// INTEGER)`, none of which was read yet.
+    pub fn new(alloc: Global, table: Connection<S>, clock: Instant) -> Result<Self, BuildError>
+        ensures alone { IfOk result (λ products. products.cache.turns ≡ []) }
+    {
+        let cache = CacheBuilder::new(CAPACITY)
+            .time_to_live(Duration::from_secs(SECONDS))
+            .build_state(alloc, StdHasher::new(), clock)?;
+        Ok(Products { table, cache })
+    }
+
+    /// A product: the one that is kept, or the row of the table, which is then kept.
+    pub fn find(&mut self, number: i64, clock: Instant) -> Result<Product, ProductError>
+        requires alone { self.old.cache.turns ≡ [] }
+        ensures alone { self.new.cache.turns ≡ [] }
+    {
+        let at = next_call(&self.cache, clock)?;
+        let table = &mut self.table;
+        match read_through(&mut self.cache, number, || read(table, number), at)? {
+            Ok(product) => Ok(product),
+            Err(fault) => Err(ProductError::Row(fault)),
+        }
+    }
+
+    /// Writes a product. It is forgotten first, so that what is shown later was read after the
+    /// write, whether that fails or not.
+    pub fn set(&mut self, number: i64, product: Product, clock: Instant) -> Result<(), ProductError>
+        requires alone { self.old.cache.turns ≡ [] }
+        ensures alone { self.new.cache.turns ≡ [] }
+    {
+        let at = next_call(&self.cache, clock)?;
+        self.cache.invalidate(&number, at)?;
+        write(&mut self.table, number, product)?;
+        Ok(())
+    }
+}
+
+mod tests;
