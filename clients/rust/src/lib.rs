@@ -1,0 +1,1089 @@
+//! A client of `cached`, the cache that is served by lines (`docs/PROTOCOL.md` of the repository).
+//!
+//! It blocks, and stands on the standard library alone.
+//!
+//! ```no_run
+//! use bivrang::{Options, Pool, Reply, Request};
+//!
+//! fn main() -> Result<(), bivrang::Error> {
+//!     let cache = Pool::new("127.0.0.1:7411", Options::default());
+//!     cache.set(b"a", b"two words", None)?;
+//!     assert_eq!(cache.get(b"a")?, Some(b"two words".to_vec()));
+//!     assert_eq!(cache.add(b"n", 40, None)?, Some(40));
+//!     let replies = cache.pipeline(&[Request::Has { key: b"a" }, Request::Sync])?;
+//!     assert_eq!(replies[0], Ok(Reply::Present(true)));
+//!     Ok(())
+//! }
+//! ```
+//!
+//! [`Pool`] is a pool of connections to one server, for many threads. [`Connection`] is one
+//! connection. [`Servers`] spreads keys over several servers. Each has a method for each line of
+//! the protocol.
+
+use std::collections::HashSet;
+use std::fmt;
+use std::io::{self, ErrorKind, Read, Write};
+use std::net::{TcpStream, ToSocketAddrs};
+use std::sync::{Condvar, Mutex, MutexGuard, PoisonError};
+use std::time::{Duration, Instant};
+
+/// The most bytes that a request has before its line feed.
+pub const LONGEST_LINE: usize = 8192;
+
+/// The most bytes of a key or prefix.
+pub const LONGEST_KEY: usize = 250;
+
+/// The most milliseconds that a value can be given to live.
+pub const LONGEST_LIFE: u64 = 999_999_999_999;
+
+/// A reply line with more bytes is none of the protocol's, whose values fit a line of 8192.
+const LONGEST_REPLY_LINE: usize = 16384;
+
+/// So many bytes of requests are sent at most before their replies are read, or one request. The
+/// server reads nothing while replies of it wait to be sent; what it has not read stands in the
+/// sockets' buffers, which hold that much.
+const WINDOW: usize = 16384;
+
+const RECEIVED_AT_ONCE: usize = 65536;
+
+// What can go wrong.
+
+/// What the server says of a request where it replies `ERR ..`. The connection goes on.
+#[derive(Clone, Debug, PartialEq, Eq)]
+pub enum ServerError {
+    /// `ERR command`: the server does not know the command.
+    Command,
+    /// `ERR syntax`: words are missing or too many, or a byte stands where none of its kind may.
+    Syntax,
+    /// `ERR deadline`: the namespace does not have `deadlines = true`.
+    Deadline,
+    /// `ERR number`: the key's value is no number, or the sum is above 2^64 - 1. The value is as it
+    /// was.
+    Number,
+    /// `ERR id`: no identifier was free for the prefix. It hides nothing.
+    Identifiers,
+    /// `ERR load text`: the server could not find the value elsewhere, and says why.
+    LoadFailed(Vec<u8>),
+    /// `ERR abandoned`: finding the value was given up each time that it was begun.
+    LoadAbandoned,
+    /// A reply `ERR` of a word that this client does not know: all bytes behind `ERR `.
+    Other(Vec<u8>),
+}
+
+impl ServerError {
+    fn of_text(text: &[u8]) -> ServerError {
+        match text {
+            b"command" => ServerError::Command,
+            b"syntax" => ServerError::Syntax,
+            b"deadline" => ServerError::Deadline,
+            b"number" => ServerError::Number,
+            b"id" => ServerError::Identifiers,
+            b"abandoned" => ServerError::LoadAbandoned,
+            _ => match text.strip_prefix(b"load ") {
+                Some(cause) => ServerError::LoadFailed(cause.to_vec()),
+                None => ServerError::Other(text.to_vec()),
+            },
+        }
+    }
+}
+
+impl fmt::Display for ServerError {
+    fn fmt(&self, out: &mut fmt::Formatter<'_>) -> fmt::Result {
+        match self {
+            ServerError::Command => out.write_str("ERR command"),
+            ServerError::Syntax => out.write_str("ERR syntax"),
+            ServerError::Deadline => out.write_str("ERR deadline"),
+            ServerError::Number => out.write_str("ERR number"),
+            ServerError::Identifiers => out.write_str("ERR id"),
+            ServerError::LoadFailed(cause) => write!(out, "ERR load {}", cause.escape_ascii()),
+            ServerError::LoadAbandoned => out.write_str("ERR abandoned"),
+            ServerError::Other(text) => write!(out, "ERR {}", text.escape_ascii()),
+        }
+    }
+}
+
+impl std::error::Error for ServerError {}
+
+/// Why a call answers nothing.
+#[derive(Debug)]
+pub enum Error {
+    /// A key or prefix is not 1 to 250 bytes, each from `!` to `~`. Nothing was sent.
+    Key,
+    /// A value has a line end (byte 10 or 13). Nothing was sent.
+    Value,
+    /// A value makes its line longer than 8192 bytes. Nothing was sent.
+    TooLong,
+    /// A time to live is above 999,999,999,999 milliseconds. Nothing was sent.
+    Deadline,
+    /// A pipeline over several servers has a request that is of no key. Nothing was sent.
+    NoKey,
+    /// There is no connection to the server. Nothing was sent.
+    Connect(io::Error),
+    /// There was no connection within the time limit. Nothing was sent.
+    ConnectTimeout,
+    /// All connections of the pool were in use for the time limit. Nothing was sent.
+    PoolTimeout,
+    /// The connection was closed before, by an earlier error or `quit`. Nothing was sent.
+    Spent,
+    /// The connection was closed or reset before the reply was whole. The request, or some of a
+    /// pipeline's, may have run.
+    Broken {
+        /// Whether a byte of a reply came.
+        has_reply_begun: bool,
+        /// What the system says; none where the server closed the connection in good order.
+        cause: Option<io::Error>,
+    },
+    /// A line of the reply was not whole within the time limit. The request may have run.
+    ReplyTimeout,
+    /// What came is no reply to the request. The request may have run.
+    BadReply(Vec<u8>),
+    /// The server replied `ERR ..`.
+    Server(ServerError),
+}
+
+impl Error {
+    /// Whether the request, or with a pipeline some of its requests, may have run although no whole
+    /// reply came.
+    pub fn may_have_run(&self) -> bool {
+        matches!(
+            self,
+            Error::Broken { .. } | Error::ReplyTimeout | Error::BadReply(_)
+        )
+    }
+}
+
+impl fmt::Display for Error {
+    fn fmt(&self, out: &mut fmt::Formatter<'_>) -> fmt::Result {
+        match self {
+            Error::Key => out.write_str("a key is 1 to 250 bytes, each from ! to ~"),
+            Error::Value => out.write_str("a value has no line end"),
+            Error::TooLong => out.write_str("the line is longer than 8192 bytes"),
+            Error::Deadline => out.write_str("a time to live is at most 999999999999 milliseconds"),
+            Error::NoKey => out.write_str("a request of no key is of no one server"),
+            Error::Connect(cause) => write!(out, "no connection: {cause}"),
+            Error::ConnectTimeout => out.write_str("no connection within the time limit"),
+            Error::PoolTimeout => out.write_str("all connections were in use"),
+            Error::Spent => out.write_str("the connection is closed"),
+            Error::Broken { cause: None, .. } => out.write_str("the server closed the connection"),
+            Error::Broken {
+                cause: Some(cause), ..
+            } => write!(out, "the connection broke: {cause}"),
+            Error::ReplyTimeout => out.write_str("no whole line of a reply within the time limit"),
+            Error::BadReply(line) => write!(out, "no reply to this: {}", line.escape_ascii()),
+            Error::Server(error) => error.fmt(out),
+        }
+    }
+}
+
+impl std::error::Error for Error {
+    fn source(&self) -> Option<&(dyn std::error::Error + 'static)> {
+        match self {
+            Error::Connect(cause) => Some(cause),
+            Error::Broken { cause, .. } => cause
+                .as_ref()
+                .map(|cause| cause as &(dyn std::error::Error + 'static)),
+            Error::Server(error) => Some(error),
+            _ => None,
+        }
+    }
+}
+
+// Requests and replies.
+
+/// A request, for `pipeline`. What each does says the method of its name of [`Pool`].
+#[derive(Clone, Copy, Debug, PartialEq, Eq)]
+pub enum Request<'a> {
+    /// `SET key deadline value`
+    Set {
+        key: &'a [u8],
+        value: &'a [u8],
+        /// How long the value lives at most; `-` where none.
+        milliseconds: Option<u64>,
+    },
+    /// `GET key`
+    Get { key: &'a [u8] },
+    /// `HAS key`
+    Has { key: &'a [u8] },
+    /// `LOAD key`
+    Load { key: &'a [u8] },
+    /// `DEL key`
+    Delete { key: &'a [u8] },
+    /// `ADD key deadline number`
+    Add {
+        key: &'a [u8],
+        number: u64,
+        /// How long the sum lives at most; `-` where none.
+        milliseconds: Option<u64>,
+    },
+    /// `CLEAR`
+    Clear,
+    /// `DROPIF prefix`
+    DropIf { prefix: &'a [u8] },
+    /// `KEYS`
+    Keys,
+    /// `SYNC`
+    Sync,
+}
+
+/// What is held after maintenance.
+#[derive(Clone, Copy, Debug, PartialEq, Eq)]
+pub struct Held {
+    /// How many values are held.
+    pub values: u64,
+    /// What they weigh together: as many as they are, or with `weight = "bytes"` their bytes.
+    pub weight: u64,
+}
+
+/// The reply to a request of a pipeline.
+#[derive(Clone, Debug, PartialEq, Eq)]
+pub enum Reply {
+    /// To `Set`: whether the value is stored; it is not where the capacity is 0.
+    Stored(bool),
+    /// To `Get` and `Load`: the value, if there is one.
+    Value(Option<Vec<u8>>),
+    /// To `Has`: whether there is a value.
+    Present(bool),
+    /// To `Add`: the sum; none where the capacity is 0.
+    Sum(Option<u64>),
+    /// To `Delete`, `Clear` and `DropIf`.
+    Done,
+    /// To `Keys`: the keys, in byte order.
+    Keys(Vec<Vec<u8>>),
+    /// To `Sync`.
+    Held(Held),
+}
+
+fn is_key(key: &[u8]) -> bool {
+    (1..=LONGEST_KEY).contains(&key.len()) && key.iter().all(|byte| (b'!'..=b'~').contains(byte))
+}
+
+fn check_key(key: &[u8]) -> Result<(), Error> {
+    if is_key(key) {
+        Ok(())
+    } else {
+        Err(Error::Key)
+    }
+}
+
+fn deadline_text(milliseconds: Option<u64>) -> Result<String, Error> {
+    match milliseconds {
+        None => Ok("-".to_string()),
+        Some(life) if life <= LONGEST_LIFE => Ok(life.to_string()),
+        Some(_) => Err(Error::Deadline),
+    }
+}
+
+impl<'a> Request<'a> {
+    /// The key, where the request is of one.
+    pub fn key(&self) -> Option<&'a [u8]> {
+        match *self {
+            Request::Set { key, .. }
+            | Request::Get { key }
+            | Request::Has { key }
+            | Request::Load { key }
+            | Request::Delete { key }
+            | Request::Add { key, .. } => Some(key),
+            Request::Clear | Request::DropIf { .. } | Request::Keys | Request::Sync => None,
+        }
+    }
+
+    /// Whether it changes no value, so that it may be sent anew where a connection broke.
+    pub fn is_read(&self) -> bool {
+        matches!(
+            self,
+            Request::Get { .. } | Request::Has { .. } | Request::Keys
+        )
+    }
+
+    /// The bytes that are sent. Fails with `Key`, `Value`, `TooLong` or `Deadline`.
+    pub fn line(&self) -> Result<Vec<u8>, Error> {
+        let mut line = match *self {
+            Request::Set {
+                key,
+                value,
+                milliseconds,
+            } => set_line(key, value, milliseconds)?,
+            Request::Get { key } => word_line("GET", key)?,
+            Request::Has { key } => word_line("HAS", key)?,
+            Request::Load { key } => word_line("LOAD", key)?,
+            Request::Delete { key } => word_line("DEL", key)?,
+            Request::Add {
+                key,
+                number,
+                milliseconds,
+            } => {
+                let number = number.to_string();
+                keyed_line("ADD", key, milliseconds, number.as_bytes())?
+            }
+            Request::Clear => b"CLEAR".to_vec(),
+            Request::DropIf { prefix } => word_line("DROPIF", prefix)?,
+            Request::Keys => b"KEYS".to_vec(),
+            Request::Sync => b"SYNC".to_vec(),
+        };
+        line.push(b'\n');
+        Ok(line)
+    }
+}
+
+/// A line of a word and a key.
+fn word_line(word: &str, key: &[u8]) -> Result<Vec<u8>, Error> {
+    check_key(key)?;
+    Ok([word.as_bytes(), key].join(&b' '))
+}
+
+/// A line of a word, a key, a deadline and more bytes.
+fn keyed_line(
+    word: &str,
+    key: &[u8],
+    milliseconds: Option<u64>,
+    rest: &[u8],
+) -> Result<Vec<u8>, Error> {
+    check_key(key)?;
+    let deadline = deadline_text(milliseconds)?;
+    Ok([word.as_bytes(), key, deadline.as_bytes(), rest].join(&b' '))
+}
+
+fn set_line(key: &[u8], value: &[u8], milliseconds: Option<u64>) -> Result<Vec<u8>, Error> {
+    if value.iter().any(|byte| matches!(byte, b'\n' | b'\r')) {
+        return Err(Error::Value);
+    }
+    let line = keyed_line("SET", key, milliseconds, value)?;
+    if line.len() > LONGEST_LINE {
+        return Err(Error::TooLong);
+    }
+    Ok(line)
+}
+
+/// A number of 1 to 20 digits.
+fn number_of(text: &[u8]) -> Option<u64> {
+    if text.is_empty() || !text.iter().all(u8::is_ascii_digit) {
+        return None;
+    }
+    std::str::from_utf8(text).ok()?.parse().ok()
+}
+
+/// The first line of a reply, as the request lets it be read. `KEYS` has as many lines behind it as
+/// `Keys` is to hold. None where it is no reply to the request.
+fn read_first(request: &Request<'_>, line: &[u8]) -> Option<Reply> {
+    match request {
+        Request::Set { .. } => match line {
+            b"OK" => Some(Reply::Stored(true)),
+            b"OFF" => Some(Reply::Stored(false)),
+            _ => None,
+        },
+        Request::Get { .. } | Request::Load { .. } => match line {
+            b"NONE" => Some(Reply::Value(None)),
+            _ => Some(Reply::Value(Some(line.strip_prefix(b"VAL ")?.to_vec()))),
+        },
+        Request::Has { .. } => match line {
+            b"YES" => Some(Reply::Present(true)),
+            b"NO" => Some(Reply::Present(false)),
+            _ => None,
+        },
+        Request::Add { .. } => match line {
+            b"OFF" => Some(Reply::Sum(None)),
+            _ => Some(Reply::Sum(Some(number_of(line.strip_prefix(b"VAL ")?)?))),
+        },
+        Request::Delete { .. } | Request::Clear | Request::DropIf { .. } => {
+            (line == b"OK").then_some(Reply::Done)
+        }
+        Request::Keys => {
+            number_of(line.strip_prefix(b"KEYS ")?)?;
+            Some(Reply::Keys(Vec::new()))
+        }
+        Request::Sync => {
+            let mut words = line.strip_prefix(b"SYNC ")?.split(|byte| *byte == b' ');
+            let (values, weight) = (number_of(words.next()?)?, number_of(words.next()?)?);
+            let held = Reply::Held(Held { values, weight });
+            words.next().is_none().then_some(held)
+        }
+    }
+}
+
+/// A reply of a kind that its request does not have cannot be: `read_first` gave it.
+fn never<T>() -> T {
+    unreachable!("a reply is read by its request")
+}
+
+/// The lines that are of one key, for a type with `ask`.
+macro_rules! keyed_commands {
+    ($self:ident, $receiver:ty) => {
+        /// Stores a value; it lives so many milliseconds at most, where they are given. False where
+        /// the capacity is 0, so nothing is stored.
+        pub fn set(
+            $self: $receiver,
+            key: &[u8],
+            value: &[u8],
+            milliseconds: Option<u64>,
+        ) -> Result<bool, Error> {
+            match $self.ask(&Request::Set {
+                key,
+                value,
+                milliseconds,
+            })? {
+                Reply::Stored(stored) => Ok(stored),
+                _ => never(),
+            }
+        }
+
+        /// The key's live value, which is a use of it.
+        pub fn get($self: $receiver, key: &[u8]) -> Result<Option<Vec<u8>>, Error> {
+            match $self.ask(&Request::Get { key })? {
+                Reply::Value(value) => Ok(value),
+                _ => never(),
+            }
+        }
+
+        /// Whether the key has a live value; no use of it.
+        pub fn has($self: $receiver, key: &[u8]) -> Result<bool, Error> {
+            match $self.ask(&Request::Has { key })? {
+                Reply::Present(present) => Ok(present),
+                _ => never(),
+            }
+        }
+
+        /// The key's live value; where it has none, the server finds one elsewhere and stores it.
+        /// None where there is none. The reply may take as long as the finding takes.
+        pub fn load($self: $receiver, key: &[u8]) -> Result<Option<Vec<u8>>, Error> {
+            match $self.ask(&Request::Load { key })? {
+                Reply::Value(value) => Ok(value),
+                _ => never(),
+            }
+        }
+
+        /// Deletes the key's value, if it has one.
+        pub fn delete($self: $receiver, key: &[u8]) -> Result<(), Error> {
+            $self.ask(&Request::Delete { key })?;
+            Ok(())
+        }
+
+        /// Adds to the key's number, 0 where it has no live value, stores the sum, and answers it.
+        /// None where the capacity is 0. Without milliseconds the sum has no deadline, whatever the
+        /// value before had.
+        pub fn add(
+            $self: $receiver,
+            key: &[u8],
+            number: u64,
+            milliseconds: Option<u64>,
+        ) -> Result<Option<u64>, Error> {
+            match $self.ask(&Request::Add {
+                key,
+                number,
+                milliseconds,
+            })? {
+                Reply::Sum(sum) => Ok(sum),
+                _ => never(),
+            }
+        }
+    };
+}
+
+/// The other lines, but for `QUIT`.
+macro_rules! whole_commands {
+    ($self:ident, $receiver:ty) => {
+        /// Hides all values that are stored.
+        pub fn clear($self: $receiver) -> Result<(), Error> {
+            $self.ask(&Request::Clear)?;
+            Ok(())
+        }
+
+        /// Hides all values whose keys begin so.
+        pub fn drop_if($self: $receiver, prefix: &[u8]) -> Result<(), Error> {
+            $self.ask(&Request::DropIf { prefix })?;
+            Ok(())
+        }
+
+        /// The keys that have a live value, in byte order; no use of them. There may be millions:
+        /// their lines come in one reply.
+        pub fn keys($self: $receiver) -> Result<Vec<Vec<u8>>, Error> {
+            match $self.ask(&Request::Keys)? {
+                Reply::Keys(keys) => Ok(keys),
+                _ => never(),
+            }
+        }
+
+        /// Runs maintenance, and says what is held then.
+        pub fn sync($self: $receiver) -> Result<Held, Error> {
+            match $self.ask(&Request::Sync)? {
+                Reply::Held(held) => Ok(held),
+                _ => never(),
+            }
+        }
+    };
+}
+
+// Connections.
+
+/// Time limits, each above zero, and how many connections a pool has.
+#[derive(Clone, Copy, Debug, PartialEq, Eq)]
+pub struct Options {
+    /// The longest that connecting to an address may take. 2 s where not set.
+    pub connect: Duration,
+    /// The longest that sending may take, and that each line of a reply may take, from the sending
+    /// or from the line before. 5 s where not set.
+    pub reply: Duration,
+    /// The longest that a call waits for a connection while all are in use. 5 s where not set.
+    pub wait: Duration,
+    /// How many connections a pool has at most; 0 counts as 1. 8 where not set.
+    pub connections: usize,
+}
+
+impl Default for Options {
+    fn default() -> Options {
+        Options {
+            connect: Duration::from_secs(2),
+            reply: Duration::from_secs(5),
+            wait: Duration::from_secs(5),
+            connections: 8,
+        }
+    }
+}
+
+/// A result for each request of a pipeline, in their order.
+pub type Replies = Vec<Result<Reply, ServerError>>;
+
+/// One connection to one namespace. After an error other than a refused argument or `Server` it is
+/// closed, and stays so.
+#[derive(Debug)]
+pub struct Connection {
+    stream: Option<TcpStream>,
+    received: Vec<u8>,
+    /// So many bytes at the front of `received` were read.
+    taken: usize,
+    reply: Duration,
+}
+
+fn is_timeout(error: &io::Error) -> bool {
+    matches!(error.kind(), ErrorKind::WouldBlock | ErrorKind::TimedOut)
+}
+
+/// A connection to the first of an address's places that answers.
+fn connect(address: &str, limit: Duration) -> io::Result<TcpStream> {
+    let mut failed = io::Error::new(ErrorKind::NotFound, "the address names no place");
+    for place in address.to_socket_addrs()? {
+        match TcpStream::connect_timeout(&place, limit) {
+            Ok(stream) => return Ok(stream),
+            Err(error) => failed = error,
+        }
+    }
+    Err(failed)
+}
+
+impl Connection {
+    /// Connects to an address, as `127.0.0.1:7411`. Fails with `Connect` or `ConnectTimeout`.
+    pub fn open(address: &str, options: &Options) -> Result<Connection, Error> {
+        let made = connect(address, options.connect).and_then(|stream| {
+            stream.set_nodelay(true)?;
+            stream.set_write_timeout(Some(options.reply))?;
+            Ok(stream)
+        });
+        match made {
+            Ok(stream) => Ok(Connection {
+                stream: Some(stream),
+                received: Vec::new(),
+                taken: 0,
+                reply: options.reply,
+            }),
+            Err(error) if is_timeout(&error) => Err(Error::ConnectTimeout),
+            Err(error) => Err(Error::Connect(error)),
+        }
+    }
+
+    /// Whether it can be used: it was not closed, and each reply came whole.
+    pub fn is_open(&self) -> bool {
+        self.stream.is_some()
+    }
+
+    /// Whether it can be used and nothing came unasked, neither bytes nor the server's end. Does
+    /// not wait.
+    pub fn is_quiet(&self) -> bool {
+        let Some(stream) = &self.stream else {
+            return false;
+        };
+        if self.taken < self.received.len() || stream.set_nonblocking(true).is_err() {
+            return false;
+        }
+        let peeked = stream.peek(&mut [0]);
+        let is_silent = matches!(peeked, Err(error) if error.kind() == ErrorKind::WouldBlock);
+        is_silent && stream.set_nonblocking(false).is_ok()
+    }
+
+    /// `QUIT`: the server says `OK` and closes; then so does this side.
+    pub fn quit(&mut self) -> Result<(), Error> {
+        let told = self.exchange_lines(b"QUIT\n", true, |connection| {
+            match connection.line(true)?.as_slice() {
+                b"OK" => Ok(()),
+                line => Err(Error::BadReply(line.to_vec())),
+            }
+        });
+        self.stream = None;
+        told
+    }
+
+    /// Sends requests without waiting for each one's reply. Where one of them cannot be sent, none
+    /// is.
+    ///
+    /// Fails as a whole where a reply does not come whole: the first requests of them, some, all or
+    /// none, may have run.
+    pub fn pipeline(&mut self, requests: &[Request<'_>]) -> Result<Replies, Error> {
+        self.exchange(requests, &lines_of(requests)?)
+    }
+
+    /// Sends requests, whose lines are given, and reads their replies.
+    fn exchange(&mut self, requests: &[Request<'_>], lines: &[Vec<u8>]) -> Result<Replies, Error> {
+        let mut replies = Vec::with_capacity(requests.len());
+        while replies.len() < requests.len() {
+            let start = replies.len();
+            let end = start + window(&lines[start..]);
+            let text = lines[start..end].concat();
+            self.exchange_lines(&text, start == 0, |connection| {
+                for request in &requests[start..end] {
+                    replies.push(connection.read_reply(request, replies.is_empty())?);
+                }
+                Ok(())
+            })?;
+        }
+        Ok(replies)
+    }
+
+    fn ask(&mut self, request: &Request<'_>) -> Result<Reply, Error> {
+        only(self.pipeline(std::slice::from_ref(request))?)
+    }
+
+    keyed_commands!(self, &mut Self);
+    whole_commands!(self, &mut Self);
+
+    /// Sends lines and reads their replies; whether they are the first of their call. What ends it
+    /// early closes the connection.
+    fn exchange_lines<T>(
+        &mut self,
+        text: &[u8],
+        is_first: bool,
+        read: impl FnOnce(&mut Connection) -> Result<T, Error>,
+    ) -> Result<T, Error> {
+        let told = self.send(text, is_first).and_then(|()| read(self));
+        if told.is_err() {
+            self.stream = None;
+        }
+        told
+    }
+
+    fn send(&mut self, text: &[u8], is_first: bool) -> Result<(), Error> {
+        let Some(stream) = &mut self.stream else {
+            return Err(Error::Spent);
+        };
+        if self.taken < self.received.len() {
+            // Bytes came that nobody asked for.
+            return Err(Error::BadReply(self.received[self.taken..].to_vec()));
+        }
+        match stream.write_all(text) {
+            Ok(()) => Ok(()),
+            Err(error) if is_timeout(&error) => Err(Error::ReplyTimeout),
+            Err(error) => Err(Error::Broken {
+                has_reply_begun: !is_first,
+                cause: Some(error),
+            }),
+        }
+    }
+
+    fn read_reply(
+        &mut self,
+        request: &Request<'_>,
+        is_first: bool,
+    ) -> Result<Result<Reply, ServerError>, Error> {
+        let line = self.line(is_first)?;
+        if let Some(text) = line.strip_prefix(b"ERR ") {
+            return Ok(Err(ServerError::of_text(text)));
+        }
+        match read_first(request, &line) {
+            Some(Reply::Keys(keys)) => Ok(Ok(Reply::Keys(self.read_keys(&line, keys)?))),
+            Some(reply) => Ok(Ok(reply)),
+            None => Err(Error::BadReply(line)),
+        }
+    }
+
+    /// The lines behind a line `KEYS n`.
+    fn read_keys(&mut self, line: &[u8], mut keys: Vec<Vec<u8>>) -> Result<Vec<Vec<u8>>, Error> {
+        let count = line.strip_prefix(b"KEYS ").and_then(number_of);
+        for _ in 0..count.unwrap_or(0) {
+            let key = self.line(false)?;
+            if !is_key(&key) {
+                return Err(Error::BadReply(key));
+            }
+            keys.push(key);
+        }
+        Ok(keys)
+    }
+
+    /// The next line of replies, without its line feed; whether it is the first of its call.
+    fn line(&mut self, is_first: bool) -> Result<Vec<u8>, Error> {
+        let start = Instant::now();
+        let mut scanned = self.taken;
+        loop {
+            let found = self.received[scanned..].iter().position(|b| *b == b'\n');
+            if let Some(place) = found {
+                let line = self.received[self.taken..scanned + place].to_vec();
+                self.taken = scanned + place + 1;
+                return Ok(line);
+            }
+            self.received.drain(..self.taken);
+            self.taken = 0;
+            scanned = self.received.len();
+            if scanned > LONGEST_REPLY_LINE {
+                return Err(Error::BadReply(self.received[..80].to_vec()));
+            }
+            self.receive(self.reply.saturating_sub(start.elapsed()), is_first)?;
+        }
+    }
+
+    /// Receives more bytes within that time.
+    fn receive(&mut self, left: Duration, is_first: bool) -> Result<(), Error> {
+        let Some(stream) = &mut self.stream else {
+            return Err(Error::Spent);
+        };
+        let has_reply_begun = !is_first || !self.received.is_empty();
+        if left.is_zero() {
+            return Err(Error::ReplyTimeout);
+        }
+        let start = self.received.len();
+        self.received.resize(start + RECEIVED_AT_ONCE, 0);
+        let told = stream
+            .set_read_timeout(Some(left))
+            .and_then(|()| stream.read(&mut self.received[start..]));
+        self.received
+            .truncate(start + told.as_ref().map_or(0, |count| *count));
+        match told {
+            Ok(0) => Err(Error::Broken {
+                has_reply_begun,
+                cause: None,
+            }),
+            Ok(_) => Ok(()),
+            Err(error) if is_timeout(&error) => Err(Error::ReplyTimeout),
+            Err(error) if error.kind() == ErrorKind::Interrupted => Ok(()),
+            Err(error) => Err(Error::Broken {
+                has_reply_begun,
+                cause: Some(error),
+            }),
+        }
+    }
+}
+
+/// The lines of requests. Fails where one of them cannot be sent.
+fn lines_of(requests: &[Request<'_>]) -> Result<Vec<Vec<u8>>, Error> {
+    requests.iter().map(Request::line).collect()
+}
+
+/// How many lines are sent before their replies are read: those that fit the window, and at least
+/// one.
+fn window(lines: &[Vec<u8>]) -> usize {
+    let mut size = 0;
+    let fitting = lines.iter().take_while(|line| {
+        size += line.len();
+        size <= WINDOW
+    });
+    fitting.count().max(1)
+}
+
+/// The reply to the one request that was sent.
+fn only(mut replies: Replies) -> Result<Reply, Error> {
+    match replies.pop() {
+        Some(reply) => reply.map_err(Error::Server),
+        None => never(),
+    }
+}
+
+/// The connections of a pool.
+#[derive(Debug)]
+struct Shelf {
+    idle: Vec<Connection>,
+    in_use: usize,
+}
+
+/// A pool of connections to one namespace, which threads share. Connections are made as they are
+/// wanted, and kept.
+///
+/// A connection that broke, timed out or replied nonsense is closed and never used again. A request
+/// that only reads (`Get`, `Has`, `Keys`), or a pipeline of such, is sent once more, on a fresh
+/// connection, where the first broke before a byte of a reply came; no other request is, since it
+/// may have run.
+#[derive(Debug)]
+pub struct Pool {
+    address: String,
+    options: Options,
+    shelf: Mutex<Shelf>,
+    returned: Condvar,
+}
+
+impl Pool {
+    /// A pool of connections to an address, as `127.0.0.1:7411`. Connects to nothing yet.
+    pub fn new(address: impl Into<String>, options: Options) -> Pool {
+        Pool {
+            address: address.into(),
+            options,
+            shelf: Mutex::new(Shelf {
+                idle: Vec::new(),
+                in_use: 0,
+            }),
+            returned: Condvar::new(),
+        }
+    }
+
+    /// How many connections are kept and not in use.
+    pub fn idle(&self) -> usize {
+        self.shelf().idle.len()
+    }
+
+    /// As [`Connection::pipeline`], on one connection.
+    pub fn pipeline(&self, requests: &[Request<'_>]) -> Result<Replies, Error> {
+        let lines = lines_of(requests)?;
+        let _ticket = self.enter()?;
+        let told = self.run_on(self.take()?, requests, &lines);
+        match told {
+            Err(Error::Broken {
+                has_reply_begun: false,
+                ..
+            }) if requests.iter().all(Request::is_read) => {
+                self.run_on(self.open()?, requests, &lines)
+            }
+            told => told,
+        }
+    }
+
+    fn ask(&self, request: &Request<'_>) -> Result<Reply, Error> {
+        only(self.pipeline(std::slice::from_ref(request))?)
+    }
+
+    keyed_commands!(self, &Self);
+    whole_commands!(self, &Self);
+
+    fn shelf(&self) -> MutexGuard<'_, Shelf> {
+        self.shelf.lock().unwrap_or_else(PoisonError::into_inner)
+    }
+
+    fn open(&self) -> Result<Connection, Error> {
+        Connection::open(&self.address, &self.options)
+    }
+
+    /// Waits until a connection may be used.
+    fn enter(&self) -> Result<Ticket<'_>, Error> {
+        let most = self.options.connections.max(1);
+        let (mut shelf, _) = self
+            .returned
+            .wait_timeout_while(self.shelf(), self.options.wait, |shelf| {
+                shelf.in_use >= most
+            })
+            .unwrap_or_else(PoisonError::into_inner);
+        if shelf.in_use >= most {
+            return Err(Error::PoolTimeout);
+        }
+        shelf.in_use += 1;
+        Ok(Ticket { pool: self })
+    }
+
+    /// The connection that was used last and is still quiet, or a fresh one.
+    fn take(&self) -> Result<Connection, Error> {
+        loop {
+            let last = self.shelf().idle.pop();
+            match last {
+                Some(connection) if connection.is_quiet() => return Ok(connection),
+                Some(_) => {}
+                None => return self.open(),
+            }
+        }
+    }
+
+    fn run_on(
+        &self,
+        mut connection: Connection,
+        requests: &[Request<'_>],
+        lines: &[Vec<u8>],
+    ) -> Result<Replies, Error> {
+        let told = connection.exchange(requests, lines);
+        if connection.is_open() {
+            self.shelf().idle.push(connection);
+        }
+        told
+    }
+}
+
+/// The leave to use a connection of a pool.
+struct Ticket<'a> {
+    pool: &'a Pool,
+}
+
+impl Drop for Ticket<'_> {
+    fn drop(&mut self) {
+        self.pool.shelf().in_use -= 1;
+        self.pool.returned.notify_one();
+    }
+}
+
+// Several servers.
+
+/// The 64-bit FNV-1a hash.
+pub fn hash_bytes(text: &[u8]) -> u64 {
+    text.iter().fold(0xcbf2_9ce4_8422_2325, |hash, byte| {
+        (hash ^ u64::from(*byte)).wrapping_mul(0x0100_0000_01b3)
+    })
+}
+
+/// The output function of the generator SplitMix64: one to one on 64 bits.
+pub fn mix(value: u64) -> u64 {
+    let value = (value ^ (value >> 30)).wrapping_mul(0xbf58_476d_1ce4_e5b9);
+    let value = (value ^ (value >> 27)).wrapping_mul(0x94d0_49bb_1331_11eb);
+    value ^ (value >> 31)
+}
+
+/// One of several servers.
+#[derive(Clone, Debug, PartialEq, Eq)]
+pub struct Server {
+    /// What its keys go by. With a name other than the address a server can move and keep its keys.
+    pub name: String,
+    /// Where it is, as `127.0.0.1:7411`.
+    pub address: String,
+    /// Its share of the keys beside the other servers' weights, 1 to 1000.
+    pub weight: u32,
+}
+
+impl Server {
+    /// A server of weight 1 that goes by its address.
+    pub fn at(address: impl Into<String>) -> Server {
+        let address = address.into();
+        Server {
+            name: address.clone(),
+            address,
+            weight: 1,
+        }
+    }
+}
+
+/// Servers that cannot be taken: none, two of one name, or a weight that is not 1 to 1000.
+#[derive(Clone, Copy, Debug, PartialEq, Eq)]
+pub struct BadServers;
+
+impl fmt::Display for BadServers {
+    fn fmt(&self, out: &mut fmt::Formatter<'_>) -> fmt::Result {
+        out.write_str("servers are at least one, of different names, with weights of 1 to 1000")
+    }
+}
+
+impl std::error::Error for BadServers {}
+
+/// Several servers, each a [`Pool`], over which keys are spread by rendezvous hashing.
+///
+/// A server of weight w stands for w virtual ones, `NAME#0` to `NAME#(w - 1)`, and a key belongs
+/// to the server of the virtual one with the highest score for it. So where a server is added, the
+/// only keys that move are those that it gets, and where one is taken away, those that it had. The
+/// Python client gives each key to the same server. There is no copy elsewhere: where a server is
+/// gone, calls of its keys fail.
+#[derive(Debug)]
+pub struct Servers {
+    pools: Vec<(String, Pool)>,
+    /// The hash of each virtual server's name, and the place of its pool.
+    seeds: Vec<(u64, usize)>,
+}
+
+impl Servers {
+    /// These servers, each with a pool of these options.
+    pub fn new(servers: &[Server], options: Options) -> Result<Servers, BadServers> {
+        let names: HashSet<&str> = servers.iter().map(|server| server.name.as_str()).collect();
+        let are_weights = servers
+            .iter()
+            .all(|server| (1..=1000).contains(&server.weight));
+        if servers.is_empty() || names.len() < servers.len() || !are_weights {
+            return Err(BadServers);
+        }
+        let pool = |server: &Server| Pool::new(server.address.clone(), options);
+        let seeds = servers.iter().enumerate().flat_map(|(place, server)| {
+            let seed = |number| hash_bytes(format!("{}#{number}", server.name).as_bytes());
+            (0..server.weight).map(move |number| (seed(number), place))
+        });
+        Ok(Servers {
+            seeds: seeds.collect(),
+            pools: servers
+                .iter()
+                .map(|server| (server.name.clone(), pool(server)))
+                .collect(),
+        })
+    }
+
+    /// The name and the pool of the server that a key belongs to.
+    pub fn server_of(&self, key: &[u8]) -> (&str, &Pool) {
+        let (name, pool) = &self.pools[self.place_of(key)];
+        (name, pool)
+    }
+
+    /// The names and pools of all servers.
+    pub fn pools(&self) -> impl Iterator<Item = (&str, &Pool)> {
+        self.pools.iter().map(|(name, pool)| (name.as_str(), pool))
+    }
+
+    /// Sends each server its requests as one pipeline, one server after the other. The replies are
+    /// in the order of the requests.
+    pub fn pipeline(&self, requests: &[Request<'_>]) -> Result<Replies, Error> {
+        let mut shares = vec![Vec::new(); self.pools.len()];
+        for (number, request) in requests.iter().enumerate() {
+            request.line()?;
+            let key = request.key().ok_or(Error::NoKey)?;
+            shares[self.place_of(key)].push((number, *request));
+        }
+        let mut told = Vec::with_capacity(requests.len());
+        for ((_, pool), share) in self.pools.iter().zip(shares) {
+            let (numbers, share): (Vec<_>, Vec<_>) = share.into_iter().unzip();
+            if !share.is_empty() {
+                told.extend(numbers.into_iter().zip(pool.pipeline(&share)?));
+            }
+        }
+        told.sort_by_key(|(number, _)| *number);
+        Ok(told.into_iter().map(|(_, reply)| reply).collect())
+    }
+
+    keyed_commands!(self, &Self);
+
+    /// [`Pool::clear`] of each server, also where one of them fails: then the first error is told
+    /// behind the last server.
+    pub fn clear(&self) -> Result<(), Error> {
+        self.each(Pool::clear).map(|_| ())
+    }
+
+    /// [`Pool::drop_if`] of each server, as `clear`.
+    pub fn drop_if(&self, prefix: &[u8]) -> Result<(), Error> {
+        self.each(|pool| pool.drop_if(prefix)).map(|_| ())
+    }
+
+    /// The live keys of all servers, in byte order. A key that stands at two, since servers changed
+    /// meanwhile, is told once.
+    pub fn keys(&self) -> Result<Vec<Vec<u8>>, Error> {
+        let mut keys = self.each(Pool::keys)?.concat();
+        keys.sort_unstable();
+        keys.dedup();
+        Ok(keys)
+    }
+
+    /// [`Pool::sync`] of each server, in their order.
+    pub fn sync(&self) -> Result<Vec<Held>, Error> {
+        self.each(Pool::sync)
+    }
+
+    fn ask(&self, request: &Request<'_>) -> Result<Reply, Error> {
+        let key = request.key().ok_or(Error::NoKey)?;
+        self.server_of(key).1.ask(request)
+    }
+
+    fn place_of(&self, key: &[u8]) -> usize {
+        let hash = hash_bytes(key);
+        let (mut best, mut chosen) = (0, 0);
+        for (seed, place) in &self.seeds {
+            let score = mix(hash ^ seed);
+            if score > best {
+                (best, chosen) = (score, *place);
+            }
+        }
+        chosen
+    }
+
+    fn each<T>(&self, call: impl Fn(&Pool) -> Result<T, Error>) -> Result<Vec<T>, Error> {
+        let told: Vec<_> = self.pools.iter().map(|(_, pool)| call(pool)).collect();
+        told.into_iter().collect()
+    }
+}

@@ -1,0 +1,213 @@
+#!/usr/bin/env python3
+"""Tests of tools/watch.py, without the server: `python3 tools/test_watch.py`. They take seconds."""
+import html.parser
+import os
+import pathlib
+import socket
+import subprocess
+import sys
+import tempfile
+import threading
+import time
+import unittest
+
+sys.dont_write_bytecode = True
+sys.path.insert(0, str(pathlib.Path(__file__).resolve().parent))
+import watch  # noqa: E402
+
+PROGRAM = pathlib.Path(__file__).resolve().parent / "watch.py"
+HOST = "127.0.0.1"
+PATIENCE = 20
+
+
+def counts(**told):
+    return {**dict.fromkeys(watch.CAUSES, 0), **told}
+
+
+class Lines(unittest.TestCase):
+    def test_lines(self):
+        board = watch.Board()
+        board.take(
+            b"listening main 127.0.0.1:7411\n"
+            b"listening listening 127.0.0.1:65535\n"
+            b"main NOTE Replaced a 1\n"
+            b"main NOTE Replaced a \n"
+            b"main NOTE Size k listening x 127.0.0.1:7\n"
+            b"listening NOTE Expired k v\n"
+            b"main NOTE Explicit k \xff\x00 NOTE Size\n"
+        )
+        self.assertEqual(board.look(), [
+            ("main", 7411, counts(Replaced=2, Size=1, Explicit=1)),
+            ("listening", 65535, counts(Expired=1)),
+        ])
+
+    def test_lines_that_say_nothing(self):
+        board = watch.Board()
+        board.take(b"listening a 127.0.0.1:1\n")
+        before = board.look()
+        for line in [
+            b"",
+            b"a",
+            b"a NOTE",
+            b"a NOTE Lost k v",
+            b"a note Size k v",
+            b"b NOTE Size k v",
+            b"A NOTE Size k v",
+            b"listening b 127.0.0.2:1",
+            b"listening b 127.0.0.1:",
+            b"listening b 127.0.0.1:1 ",
+            b"cached: out of memory",
+        ]:
+            board.take(line + b"\n")
+            self.assertEqual(board.look(), before, line)
+
+    def test_pieces(self):
+        text = b"listening a 127.0.0.1:1\na NOTE Size k v\na NOTE Expired k v\na NOTE Size"
+        board = watch.Board()
+        for place in range(len(text)):
+            board.take(text[place : place + 1])
+        self.assertEqual(board.look(), [("a", 1, counts(Size=1, Expired=1))])
+
+    def test_a_server_that_begins_anew_counts_anew(self):
+        board = watch.Board()
+        for port in (1, 2):
+            board.take(b"listening a 127.0.0.1:%d\na NOTE Size k v\n" % port)
+        self.assertEqual(board.look(), [("a", 2, counts(Size=1))])
+
+
+class Numbers(unittest.TestCase):
+    def test_rates(self):
+        self.assertIsNone(watch.rates_of(counts(Size=4), None, 2))
+        self.assertIsNone(watch.rates_of(counts(Size=4), counts(), 0))
+        self.assertEqual(watch.rates_of(counts(Size=9), counts(Size=4), 2), counts(Size=2.5))
+        self.assertEqual(watch.rates_of(counts(), counts(Size=4), 2), counts())
+
+    def test_texts(self):
+        rates = {None: "-", 0: "0", 0.26: "0.3", 99.94: "99.9", 1234.6: "1,235"}
+        self.assertEqual({value: watch.rate(value) for value in rates}, rates)
+        numbers = {None: "-", 0: "0", 1234567: "1,234,567"}
+        self.assertEqual({value: watch.number(value) for value in numbers}, numbers)
+
+    def test_ceilings(self):
+        rows = [(0, 2), (0.5, 2), (2, 2), (3, 4), (5, 10), (10, 10), (11, 20), (401, 1000)]
+        for most, wanted in rows:
+            self.assertEqual(watch.ceiling(most), wanted)
+
+    def test_gaps(self):
+        points = [(0, None), (1, 5), (2, 6), (3, None), (4, None), (5, 7)]
+        self.assertEqual(list(watch.runs(points)), [[(1, 5), (2, 6)], [(5, 7)]])
+
+    def test_bars(self):
+        self.assertEqual(watch.sparks([9, None, 0, 4, 8], 4), " ▁▅█")
+        self.assertEqual(watch.sparks([0, 0], 4), "▁▁")
+        self.assertEqual(watch.sparks([], 4), "")
+
+
+class Page(html.parser.HTMLParser):
+    """Sees that each tag is closed in its turn, and gathers the lines of pictures."""
+
+    def __init__(self, text):
+        super().__init__()
+        self.open, self.lines, self.words = [], [], []
+        self.feed(text)
+        self.close()
+
+    def handle_starttag(self, tag, attributes):
+        if tag != "meta":
+            self.open.append(tag)
+
+    def handle_startendtag(self, tag, attributes):
+        if tag == "polyline":
+            self.lines.append(dict(attributes)["points"].split())
+
+    def handle_endtag(self, tag):
+        if self.open.pop() != tag:
+            raise AssertionError(f"{tag} is closed too early")
+
+    def handle_data(self, data):
+        self.words += data.split()
+
+
+class FakeServer:
+    """Answers each line with `SYNC 3 7`."""
+
+    def __init__(self):
+        self.listener = socket.create_server((HOST, 0))
+        self.listener.settimeout(PATIENCE)
+        self.port = self.listener.getsockname()[1]
+        threading.Thread(target=self.serve, daemon=True).start()
+
+    def serve(self):
+        try:
+            link, _ = self.listener.accept()
+            with link:
+                while link.recv(100):
+                    link.sendall(b"SYNC 3 7\n")
+        except OSError:
+            pass
+
+
+class Runs(unittest.TestCase):
+    def setUp(self):
+        self.server = FakeServer()
+        self.addCleanup(self.server.listener.close)
+        folder = tempfile.TemporaryDirectory()
+        self.addCleanup(folder.cleanup)
+        self.folder = pathlib.Path(folder.name)
+
+    def start(self, *words, **options):
+        process = subprocess.Popen(
+            [sys.executable, str(PROGRAM), "--plain", *map(str, words)],
+            stdout=subprocess.PIPE, text=True, **options,
+        )
+        self.addCleanup(process.stdout.close)
+        self.addCleanup(process.kill)
+        return process
+
+    def rows(self, process, name):
+        """What each table says of a namespace, behind its port."""
+        told, _ = process.communicate(timeout=PATIENCE)
+        self.assertEqual(process.returncode, 0)
+        return [line.split()[2:] for line in told.splitlines() if line.startswith(name + " ")]
+
+    def test_a_pipe(self):
+        begins, ends = os.pipe()
+        page = self.folder / "page.html"
+        process = self.start("--interval", 0.5, "--html", page, stdin=begins)
+        os.close(begins)
+        os.write(ends, b"listening main 127.0.0.1:%d\nmain NOTE Size" % self.server.port)
+        time.sleep(1.2)
+        os.write(ends, b" k v\n" + b"main NOTE Expired k v\n" * 9)
+        time.sleep(0.8)
+        os.close(ends)
+        rows = self.rows(process, "main")
+        self.assertEqual(rows[-1][:2], ["3", "7"])
+        self.assertTrue(any(float(row[2]) > 5 for row in rows if row[2] != "-"), rows)
+        read = Page(page.read_text(encoding="utf-8"))
+        self.assertEqual(read.open, [])
+        self.assertEqual(len(read.lines), 5)
+        self.assertTrue(all(len(line) >= 2 for line in read.lines), read.lines)
+        self.assertIn("main", read.words)
+
+    def test_a_file_that_grows(self):
+        log = self.folder / "log"
+        log.write_bytes(b"listening main 127.0.0.1:%d\n" % self.server.port)
+        process = self.start("--log", log, "--interval", 0.5, "--seconds", 2.5)
+        time.sleep(1.2)
+        with log.open("ab") as file:
+            file.write(b"main NOTE Replaced k v\n" * 50)
+        rows = self.rows(process, "main")
+        self.assertEqual(rows[0], ["3", "7", "-", "-", "-", "-"])
+        self.assertTrue(3 <= len(rows) <= 7, rows)
+        self.assertTrue(any(float(row[4]) > 20 for row in rows[1:]), rows)
+
+    def test_a_server_that_is_gone(self):
+        self.server.listener.close()
+        log = self.folder / "log"
+        log.write_bytes(b"listening main 127.0.0.1:%d\n" % self.server.port)
+        rows = self.rows(self.start("--log", log, "--interval", 0.5, "--seconds", 0.6), "main")
+        self.assertEqual(rows[-1][:2], ["-", "-"])
+
+
+if __name__ == "__main__":
+    unittest.main()
