@@ -1,6 +1,6 @@
 //! The hash of a key, by the hasher that a cache was made with.
-use crate::rows::{CASE, Folding, empty_cache};
-use std::alloc::{AllocError, Global};
+use crate::rows::{CASE, Folding, Numbers, empty_cache};
+use std::alloc::Global;
 use std::hash::{BuildHasher, Hash, Hasher};
 
 fn hash_of(key: u32) -> u64 {
@@ -9,15 +9,20 @@ fn hash_of(key: u32) -> u64 {
     state.finish()
 }
 
-/// What a cache makes of two keys.
-fn hashes(alloc: Global, first: u32, second: u32) -> Result<(u64, u64), AllocError> {
-    let cache = empty_cache(alloc, &CASE)?;
-    Ok((cache.hash(&first), cache.hash(&second)))
+/// Two keys have different hashes, and a cache makes these of them.
+fn hashes_so(cache: &Numbers) -> bool {
+    let (seven, eight) = (hash_of(7), hash_of(8));
+    cache.hash(&7) == seven && cache.hash(&8) == eight && seven != eight
+}
+
+fn is_hashed(alloc: Global) -> bool {
+    match empty_cache(alloc, &CASE) {
+        Ok(cache) => hashes_so(&cache),
+        Err(_) => false,
+    }
 }
 
 #[test]
 fn a_key_is_hashed_by_the_hasher(rt: HostRuntime) {
-    let found = hashes(rt.alloc(), 7, 8);
-    assert_eq!(rt; found, Ok((hash_of(7), hash_of(8))));
-    assert!(rt; hash_of(7) != hash_of(8));
+    assert!(rt; is_hashed(rt.alloc()));
 }

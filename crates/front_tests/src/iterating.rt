@@ -53,9 +53,13 @@ fn count_given(state: &Numbers) -> u32 {
     64
 }
 
+fn gives_filled(state: &mut Numbers, keys: u64) -> bool {
+    fill(state, keys) && u64::from(count_given(state)) == keys
+}
+
 fn gives_each(alloc: Global, segments: usize, keys: u64) -> bool {
     match empty_cache(alloc, Form { segments, ..ONE }) {
-        Some(mut state) => fill(&mut state, keys) && u64::from(count_given(&state)) == keys,
+        Some(mut state) => gives_filled(&mut state, keys),
         None => false,
     }
 }

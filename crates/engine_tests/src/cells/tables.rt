@@ -20,63 +20,58 @@ const SETTINGS: Settings = Settings {
     made: 0,
 };
 
-/// New tables, at the second try where memory is refused.
-fn made(alloc: Global) -> Result<OneTable, AllocError> {
-    match Tables::new(
+/// New tables.
+fn made_once(alloc: Global) -> Result<OneTable, AllocError> {
+    Tables::new(
         alloc,
         None,
         SETTINGS,
         Folding::new(),
         Bundle::new(NoExpiry, WeighOne),
-    ) {
+    )
+}
+
+/// The same, at the second try where memory is refused.
+fn made(alloc: Global) -> Result<OneTable, AllocError> {
+    match made_once(alloc) {
         Ok(tables) => Ok(tables),
-        Err(_) => Tables::new(
-            alloc,
-            None,
-            SETTINGS,
-            Folding::new(),
-            Bundle::new(NoExpiry, WeighOne),
-        ),
+        Err(_) => made_once(alloc),
     }
 }
 
-/// Whether there is room, at the second try where memory is refused; more than there are tickets is
-/// refused.
-fn makes_room(alloc: Global) -> Result<(Result<(), Refusal>, Result<(), Refusal>), AllocError> {
-    let mut tables = made(alloc)?;
-    let first = match tables.make_room(2) {
-        Ok(()) => Ok(()),
-        Err(_) => tables.make_room(2),
-    };
-    Ok((first, tables.make_room(u64::MAX)))
+/// Whether there is room, at the second try where memory is refused.
+fn has_room(tables: &mut OneTable) -> bool {
+    tables.make_room(2).is_ok() || tables.make_room(2).is_ok()
 }
 
-#[test]
-fn room_is_made_for_writes(rt: HostRuntime) {
-    assert_eq!(rt; makes_room(rt.alloc()), Ok((Ok(()), Err(Refusal::UsedUp))));
+/// There is room for two writes, and more than there are tickets is refused.
+fn makes_room(tables: &mut OneTable) -> bool {
+    has_room(tables) && tables.make_room(u64::MAX) == Err(Refusal::UsedUp)
 }
 
 /// Whether the sketch's table is made, at the second try where memory is refused.
-fn makes_table(alloc: Global) -> Result<(), AllocError> {
-    let mut tables = made(alloc)?;
-    match tables.make_table(16) {
-        Ok(()) => Ok(()),
-        Err(_) => tables.make_table(16),
+fn makes_table(tables: &mut OneTable) -> bool {
+    tables.make_table(16).is_ok() || tables.make_table(16).is_ok()
+}
+
+/// What tables hold: their weight, the place used longest ago, and the first that is due.
+fn held(tables: &OneTable) -> (u128, Option<usize>, Option<usize>) {
+    (tables.held_weight(), tables.oldest(), tables.first_due(0))
+}
+
+/// New tables hold nothing, have room for writes, and make the table of the sketch.
+fn are_right(tables: &mut OneTable) -> bool {
+    held(tables) == (0, None, None) && makes_room(tables) && makes_table(tables)
+}
+
+fn new_are_right(alloc: Global) -> bool {
+    match made(alloc) {
+        Ok(mut tables) => are_right(&mut tables),
+        Err(_) => false,
     }
 }
 
 #[test]
-fn the_table_of_the_sketch_is_made(rt: HostRuntime) {
-    assert_eq!(rt; makes_table(rt.alloc()), Ok(()));
-}
-
-/// What new tables hold: its weight, the place used longest ago, and the first that is due.
-fn held_when_new(alloc: Global) -> Result<(u128, Option<usize>, Option<usize>), AllocError> {
-    let tables = made(alloc)?;
-    Ok((tables.held_weight(), tables.oldest(), tables.first_due(0)))
-}
-
-#[test]
-fn new_tables_hold_nothing(rt: HostRuntime) {
-    assert_eq!(rt; held_when_new(rt.alloc()), Ok((0, None, None)));
+fn new_tables(rt: HostRuntime) {
+    assert!(rt; new_are_right(rt.alloc()));
 }

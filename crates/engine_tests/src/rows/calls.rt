@@ -170,17 +170,18 @@ pub fn give_up(cache: &mut Numbers, word: u32) -> Result<u128, Refusal> {
     }
 }
 
-// The number of a value that was found.
-fn number_of(found: Option<Brittle>) -> Option<u32> {
+/// The number of a value that was found.
+fn number_of(found: Result<Option<Brittle>, AllocError>) -> Result<Option<u32>, AllocError> {
     match found {
-        Some(value) => Some(value.number),
-        None => None,
+        Ok(Some(value)) => Ok(Some(value.number)),
+        Ok(None) => Ok(None),
+        Err(refused) => Err(refused),
     }
 }
 
 fn get(cache: &mut Numbers, key: u32, now: Instant) -> Result<Option<u32>, AllocError> {
     let hash = cache.hash(&key);
-    Ok(number_of(cache.get_with_hash(&key, hash, now)?))
+    number_of(cache.get_with_hash(&key, hash, now))
 }
 
 fn get_past(
@@ -191,16 +192,16 @@ fn get_past(
 ) -> Result<Option<u32>, AllocError> {
     let is_past = |value: &Brittle| value.number == past;
     let hash = cache.hash(&key);
-    Ok(number_of(cache.get_with_hash_and_ignore_if(&key, hash, now, is_past)?))
+    number_of(cache.get_with_hash_and_ignore_if(&key, hash, now, is_past))
 }
 
 fn look(cache: &Numbers, key: u32, now: Instant) -> Result<Option<u32>, AllocError> {
     let hash = cache.hash(&key);
-    Ok(number_of(cache.get_with_hash_without_recording(&key, hash, now)?))
+    number_of(cache.get_with_hash_without_recording(&key, hash, now))
 }
 
 fn scan(cache: &Numbers, key: u32, now: Instant) -> Result<Option<u32>, AllocError> {
-    Ok(number_of(cache.scanning_get(&key, now)?))
+    number_of(cache.scanning_get(&key, now))
 }
 
 fn peek(cache: &Numbers, key: u32, now: Instant) -> Option<u32> {
@@ -220,7 +221,7 @@ fn get_in_halves(cache: &mut Numbers, key: u32, now: Instant) -> Option<u32> {
 
 fn held(cache: &Numbers, key: u32) -> Result<Option<u32>, AllocError> {
     let hash = cache.hash(&key);
-    Ok(number_of(cache.held_value_with_hash(&key, hash)?))
+    number_of(cache.held_value_with_hash(&key, hash))
 }
 
 /// What a look shows of a key.

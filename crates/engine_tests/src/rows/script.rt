@@ -371,23 +371,27 @@ pub fn empty_cache(alloc: Global, case: &Case<'_>) -> Result<Numbers, AllocError
     }
 }
 
-fn wrong_row_of(alloc: Global, case: &Case<'_>) -> Result<Option<usize>, AllocError> {
-    let mut cache = empty_cache(alloc, case)?;
-    Ok(wrong_row(&mut cache, case))
+/// The place of the first row of a case that does not come out so; the first where there was no
+/// memory for a cache.
+fn wrong_row_of(alloc: Global, case: &Case<'_>) -> Option<usize> {
+    match empty_cache(alloc, case) {
+        Ok(mut cache) => wrong_row(&mut cache, case),
+        Err(_) => Some(0),
+    }
 }
 
 /// Plays these cases, and answers the first that did not come out so, and the place of its first
 /// row that did not.
-fn first_wrong(alloc: Global, cases: &[Case<'_>]) -> Result<Option<(usize, usize)>, AllocError> {
+fn first_wrong(alloc: Global, cases: &[Case<'_>]) -> Option<(usize, usize)> {
     for (number, case) in cases.iter().enumerate() {
-        if let Some(place) = wrong_row_of(alloc, case)? {
-            return Ok(Some((number, place)));
+        if let Some(place) = wrong_row_of(alloc, case) {
+            return Some((number, place));
         }
     }
-    Ok(None)
+    None
 }
 
 /// Each case came out so.
 pub fn none_wrong(rt: &impl Abort, alloc: Global, cases: &[Case<'_>]) {
-    assert_eq!(rt; first_wrong(alloc, cases), Ok(None));
+    assert_eq!(rt; first_wrong(alloc, cases), None);
 }

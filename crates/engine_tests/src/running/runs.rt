@@ -53,15 +53,22 @@ fn run(tables: &mut OneTable) -> Result<(), AllocError>
     }
 }
 
-/// What a first run answers where half the capacity is held, its moment, and whether the sketch has
-/// a table then.
-fn ran(alloc: Global) -> Result<(Result<(), AllocError>, u64, bool), AllocError> {
-    let mut tables = made(alloc)?;
-    let answer = run(&mut tables);
-    Ok((answer, tables.ran(), tables.sketch().has_table()))
+/// A first run where half the capacity is held finds memory, has its moment, and makes the sketch's
+/// table.
+fn makes_table(tables: &mut OneTable) -> bool
+    requires { ∥ IsSound tables.old.state ∥₁ }
+{
+    run(tables) == Ok(()) && tables.ran() == 5 && tables.sketch().has_table()
+}
+
+fn new_make_table(alloc: Global) -> bool {
+    match made(alloc) {
+        Ok(mut tables) => makes_table(&mut tables),
+        Err(_) => false,
+    }
 }
 
 #[test]
 fn a_run_makes_the_table_of_the_sketch(rt: HostRuntime) {
-    assert_eq!(rt; ran(rt.alloc()), Ok((Ok(()), 5, true)));
+    assert!(rt; new_make_table(rt.alloc()));
 }

@@ -93,21 +93,22 @@ fn build(alloc: Global, live: u64, idle: u64, segments: usize) -> Result<Numbers
         .build_state(alloc, BuildHasherDefault::new(), Instant::from_nanos(5))
 }
 
-/// How many segments a cache of these settings shows, or why it is not built. Where memory was
-/// refused it is built once more.
+/// How many segments a cache of these settings shows, or why it is not built.
 fn built(alloc: Global, row: &Row) -> Result<usize, BuildError> {
-    let first = build(alloc, row.live, row.idle, row.segments);
-    let state = match first {
-        Err(BuildError::OutOfMemory) => build(alloc, row.live, row.idle, row.segments)?,
-        Err(refused) => return Err(refused),
-        Ok(state) => state,
-    };
-    Ok(state.policy().num_segments())
+    match build(alloc, row.live, row.idle, row.segments) {
+        Ok(state) => Ok(state.policy().num_segments()),
+        Err(refused) => Err(refused),
+    }
+}
+
+/// Whether that is what the row says, at the second try where memory is refused.
+fn is_right(alloc: Global, row: &Row) -> bool {
+    built(alloc, row) == row.built || built(alloc, row) == row.built
 }
 
 fn first_wrong_row(alloc: Global) -> usize {
     for place in 0..ROWS.len() {
-        if built(alloc, &ROWS[place]) != ROWS[place].built {
+        if !is_right(alloc, &ROWS[place]) {
             return place;
         }
     }
@@ -120,22 +121,26 @@ fn rows_of_builders(rt: HostRuntime) {
 }
 
 /// Whether a cache shows what its builder was told.
-fn shows(alloc: Global) -> Result<bool, BuildError> {
-    let state = build(alloc, 2700, 900, 1)?;
+fn shows(state: &Numbers) -> bool {
     let policy = state.policy();
-    Ok(
-        policy.max_capacity() == Some(100)
-            && policy.time_to_live() == Some(Duration::from_secs(2700))
-            && policy.time_to_idle() == Some(Duration::from_secs(900))
-            && state.name().is_none()
-            && state.entry_count() == 0
-            && state.last_call().step == 0,
-    )
+    policy.max_capacity() == Some(100)
+        && policy.time_to_live() == Some(Duration::from_secs(2700))
+        && policy.time_to_idle() == Some(Duration::from_secs(900))
+        && state.name().is_none()
+        && state.entry_count() == 0
+        && state.last_call().step == 0
+}
+
+fn is_shown(alloc: Global) -> bool {
+    match build(alloc, 2700, 900, 1) {
+        Ok(state) => shows(&state),
+        Err(_) => false,
+    }
 }
 
 #[test]
 fn a_cache_shows_its_settings(rt: HostRuntime) {
-    assert!(rt; shows(rt.alloc()) == Ok(true) || shows(rt.alloc()) == Ok(true));
+    assert!(rt; is_shown(rt.alloc()) || is_shown(rt.alloc()));
 }
 
 fn has_text(alloc: Global, refused: BuildError, text: &str) -> Result<bool, AllocError> {

@@ -8,7 +8,7 @@ use engine_reference::{Bundle, NoExpiry, NoPredicate, WeighOne};
 use front_parts::Iter;
 use front_reference::{At, CacheError, Shared};
 use front_state::LentState;
-use moka::CacheBuilder;
+use moka::{BuildError, CacheBuilder};
 use policy_base::Instant;
 use std::alloc::Global;
 use std::hash::{BuildHasherDefault, FoldHasher};
@@ -37,22 +37,15 @@ fn next(cache: &Numbers) -> Option<At>
     })
 }
 
-/// A cache with one value, or none where memory was refused.
-fn with_one(alloc: Global) -> Option<Numbers> {
-    let now = Instant::from_nanos(0);
-    let mut cache: Numbers = CacheBuilder::new(10)
-        .eviction_listener()
-        .build_state(alloc, BuildHasherDefault::new(), now)
-        .ok()?;
-    let at = next(&cache)?;
-    cache.insert(1, 10, at).ok()?;
-    Some(cache)
+/// Puts 10 under 1.
+fn puts_one(cache: &mut Numbers) -> bool {
+    match next(cache) {
+        Some(at) => cache.insert(1, 10, at).is_ok(),
+        None => false,
+    }
 }
 
-fn prints_as_a_map(alloc: Global) -> bool {
-    let Some(cache) = with_one(alloc) else {
-        return false;
-    };
+fn prints_as_a_map(alloc: Global, cache: &Numbers) -> bool {
     match format!(in alloc; "{cache:?}") {
         Ok(text) => text.as_str() == "{1: 10}",
         Err(_) => false,
@@ -67,20 +60,14 @@ fn gives_first(pairs: &mut Pairs<'_>) -> bool {
     }
 }
 
-fn is_iterated(alloc: Global) -> bool {
-    let Some(cache) = with_one(alloc) else {
-        return false;
-    };
-    let mut pairs = (&cache).into_iter();
+fn is_iterated(cache: &Numbers) -> bool {
+    let mut pairs = cache.into_iter();
     gives_first(&mut pairs) && pairs.next().is_none()
 }
 
 /// A cache that was not made to take predicates refuses one, and keeps its value.
-fn refuses_predicates(alloc: Global) -> bool {
-    let Some(mut cache) = with_one(alloc) else {
-        return false;
-    };
-    let Some(at) = next(&cache) else {
+fn refuses_predicates(cache: &mut Numbers) -> bool {
+    let Some(at) = next(cache) else {
         return false;
     };
     let answer = cache.invalidate_entries_if(NoPredicate, &mut Turning(4), at);
@@ -89,17 +76,28 @@ fn refuses_predicates(alloc: Global) -> bool {
         && cache.next_notice().is_none()
 }
 
-#[test]
-fn predicates_are_refused(rt: HostRuntime) {
-    assert!(rt; refuses_predicates(rt.alloc()) || refuses_predicates(rt.alloc()));
+/// What a cache with one value shows.
+fn shows(alloc: Global, cache: &mut Numbers) -> bool {
+    puts_one(cache)
+        && prints_as_a_map(alloc, cache)
+        && is_iterated(cache)
+        && refuses_predicates(cache)
+}
+
+fn made(alloc: Global) -> Result<Numbers, BuildError> {
+    CacheBuilder::new(10)
+        .eviction_listener()
+        .build_state(alloc, BuildHasherDefault::new(), Instant::from_nanos(0))
+}
+
+fn is_shown(alloc: Global) -> bool {
+    match made(alloc) {
+        Ok(mut cache) => shows(alloc, &mut cache),
+        Err(_) => false,
+    }
 }
 
 #[test]
-fn a_cache_prints_as_a_map(rt: HostRuntime) {
-    assert!(rt; prints_as_a_map(rt.alloc()) || prints_as_a_map(rt.alloc()));
-}
-
-#[test]
-fn a_reference_to_a_cache_is_iterated(rt: HostRuntime) {
-    assert!(rt; is_iterated(rt.alloc()) || is_iterated(rt.alloc()));
+fn a_cache_with_one_value(rt: HostRuntime) {
+    assert!(rt; is_shown(rt.alloc()) || is_shown(rt.alloc()));
 }

@@ -23,15 +23,26 @@ const ROWS: [Row; 7] = [
     (7, 2, Ok(2)),
 ];
 
-fn segments_of(alloc: Global, capacity: u64, segments: usize) -> Result<usize, BuildError> {
-    let now = Instant::from_nanos(3);
-    let cache = Segments::new(alloc, capacity, segments, now)?;
+/// When the caches are made.
+fn made_at() -> Instant {
+    Instant::from_nanos(3)
+}
+
+/// How many segments a cache without times shows; 0 where it shows other settings.
+fn shown_segments(cache: &Segments, capacity: u64) -> usize {
     let policy = cache.policy();
     let is_plain = policy.max_capacity() == Some(capacity)
         && policy.time_to_live().is_none()
         && policy.time_to_idle().is_none()
-        && cache.last_call().now == now;
-    Ok(if is_plain { policy.num_segments() } else { 0 })
+        && cache.last_call().now == made_at();
+    if is_plain { policy.num_segments() } else { 0 }
+}
+
+fn segments_of(alloc: Global, capacity: u64, segments: usize) -> Result<usize, BuildError> {
+    match Segments::new(alloc, capacity, segments, made_at()) {
+        Ok(cache) => Ok(shown_segments(&cache, capacity)),
+        Err(refused) => Err(refused),
+    }
 }
 
 /// Where memory was refused it is made once more.
@@ -47,40 +58,65 @@ fn rows_of_segments(rt: HostRuntime) {
 }
 
 /// A cache of one segment shows its capacity, and no times.
-fn shows_one(alloc: Global) -> Result<bool, BuildError> {
-    let cache = Numbers::new(alloc, 100, Instant::from_nanos(3))?;
+fn shows_one(cache: &Numbers) -> bool {
     let policy = cache.policy();
-    Ok(
-        policy.max_capacity() == Some(100)
-            && policy.num_segments() == 1
-            && policy.time_to_live().is_none()
-            && policy.time_to_idle().is_none(),
-    )
+    policy.max_capacity() == Some(100)
+        && policy.num_segments() == 1
+        && policy.time_to_live().is_none()
+        && policy.time_to_idle().is_none()
+}
+
+fn is_one(alloc: Global) -> bool {
+    match Numbers::new(alloc, 100, made_at()) {
+        Ok(cache) => shows_one(&cache),
+        Err(_) => false,
+    }
 }
 
 #[test]
 fn one_segment_is_made(rt: HostRuntime) {
-    assert!(rt; shows_one(rt.alloc()) == Ok(true) || shows_one(rt.alloc()) == Ok(true));
+    assert!(rt; is_one(rt.alloc()) || is_one(rt.alloc()));
 }
 
-/// Builders by name: of one segment with nothing set, and of three, which become four.
-fn builders_show(alloc: Global) -> Result<bool, BuildError> {
-    let now = Instant::from_nanos(3);
-    let one: Numbers = Numbers::builder()
+/// A cache of one segment without a capacity shows the time that was set.
+fn shows_a_minute(cache: &Numbers) -> bool {
+    let policy = cache.policy();
+    policy.max_capacity().is_none()
+        && policy.num_segments() == 1
+        && policy.time_to_live() == Some(Duration::from_secs(60))
+}
+
+/// A builder of one segment, by its name.
+fn one_built(alloc: Global) -> Result<Numbers, BuildError> {
+    Numbers::builder()
         .time_to_live(Duration::from_secs(60))
-        .build_state(alloc, StdHasher::new(), now)?;
-    let four: Segments = Segments::builder(3)
+        .build_state(alloc, StdHasher::new(), made_at())
+}
+
+fn is_one_built(alloc: Global) -> bool {
+    match one_built(alloc) {
+        Ok(cache) => shows_a_minute(&cache),
+        Err(_) => false,
+    }
+}
+
+/// A builder of three segments, by its name.
+fn three_built(alloc: Global) -> Result<Segments, BuildError> {
+    Segments::builder(3)
         .initial_capacity(10)
-        .build_state(alloc, StdHasher::new(), now)?;
-    Ok(
-        one.policy().max_capacity().is_none()
-            && one.policy().num_segments() == 1
-            && one.policy().time_to_live() == Some(Duration::from_secs(60))
-            && four.policy().num_segments() == 4,
-    )
+        .build_state(alloc, StdHasher::new(), made_at())
+}
+
+/// Three segments become four.
+fn are_four_built(alloc: Global) -> bool {
+    match three_built(alloc) {
+        Ok(cache) => cache.policy().num_segments() == 4,
+        Err(_) => false,
+    }
 }
 
 #[test]
 fn builders_go_by_name(rt: HostRuntime) {
-    assert!(rt; builders_show(rt.alloc()) == Ok(true) || builders_show(rt.alloc()) == Ok(true));
+    assert!(rt; is_one_built(rt.alloc()) || is_one_built(rt.alloc()));
+    assert!(rt; are_four_built(rt.alloc()) || are_four_built(rt.alloc()));
 }

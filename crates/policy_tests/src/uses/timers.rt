@@ -51,16 +51,14 @@ fn schedules(wheel: &mut TimerWheel<u8>, entry: usize, entries: &Slab<Slot<u8>>)
     wheel.is_enabled() && wheel.schedule(entry, entries).is_ok()
 }
 
-/// Timers of entries that are due after 2, 3 and 60 seconds.
-fn three_timers(alloc: Global, entries: &Slab<Slot<u8>>) -> Option<TimerWheel<u8>> {
-    let mut wheel = TimerWheel::new(alloc, at(0));
-    wheel.enable();
+/// Schedules the entries.
+fn schedules_all(wheel: &mut TimerWheel<u8>, entries: &Slab<Slot<u8>>) -> bool {
     for entry in 0..3 {
-        if !schedules(&mut wheel, entry, entries) {
-            return None;
+        if !schedules(wheel, entry, entries) {
+            return false;
         }
     }
-    Some(wheel)
+    true
 }
 
 /// Whether a wheel is enabled and stands at the moment 0.
@@ -72,20 +70,30 @@ fn is_at_start(wheel: &TimerWheel<u8>) -> bool
     wheel.is_enabled() && wheel.moment().as_nanos() == 0 && wheel.origin().as_nanos() == 0
 }
 
-/// How many of three timers expire within five seconds, and how many are left.
-fn expired_and_left(alloc: Global) -> Option<(u64, usize)> {
-    let mut entries = three_entries(alloc)?;
-    let mut wheel = three_timers(alloc, &entries)?;
-    if !is_at_start(&wheel) {
-        return None;
+/// Two timers expire within five seconds, and one is left.
+fn expires_two(wheel: &mut TimerWheel<u8>, entries: &mut Slab<Slot<u8>>) -> bool {
+    if !is_at_start(wheel) {
+        return false;
     }
     let now = Instant::from_nanos(5_000_000_000);
-    let expired = expire_until(&mut wheel, &mut entries, now);
-    Some((expired, wheel.len()))
+    expire_until(wheel, entries, now) == 2 && wheel.len() == 1
+}
+
+/// The same with new timers of entries.
+fn expires_of(alloc: Global, entries: &mut Slab<Slot<u8>>) -> bool {
+    let mut wheel = TimerWheel::new(alloc, at(0));
+    wheel.enable();
+    schedules_all(&mut wheel, entries) && expires_two(&mut wheel, entries)
+}
+
+fn expires(alloc: Global) -> bool {
+    match three_entries(alloc) {
+        Some(mut entries) => expires_of(alloc, &mut entries),
+        None => false,
+    }
 }
 
 #[test]
 fn expires_what_is_due(rt: HostRuntime) {
-    let wanted = Some((2, 1));
-    assert!(rt; expired_and_left(rt.alloc()) == wanted || expired_and_left(rt.alloc()) == wanted);
+    assert!(rt; expires(rt.alloc()) || expires(rt.alloc()));
 }

@@ -60,34 +60,50 @@ fn writes(products: &mut Products<MemStore>, product: Product) -> bool
     write(&mut products.table, 7, product).is_ok()
 }
 
+fn reads_once_a_minute(products: &mut Products<MemStore>) -> bool
+    requires { products.old.cache.turns ≡ [] }
+{
+    sets(products, 1, OLD)
+        && finds(products, 2, Some(OLD))
+        && writes(products, NEW)
+        && finds(products, 61, Some(OLD))
+        && finds(products, 62, Some(NEW))
+}
+
+fn shows_at_once(products: &mut Products<MemStore>) -> bool
+    requires { products.old.cache.turns ≡ [] }
+{
+    sets(products, 1, OLD)
+        && finds(products, 2, Some(OLD))
+        && sets(products, 3, NEW)
+        && finds(products, 3, Some(NEW))
+}
+
+fn asks_again(products: &mut Products<MemStore>) -> bool
+    requires { products.old.cache.turns ≡ [] }
+{
+    finds(products, 1, None) && writes(products, NEW) && finds(products, 2, Some(NEW))
+}
+
 fn is_read_once_a_minute(alloc: Global) -> bool {
-    let Some(mut products) = open(alloc) else {
-        return false;
-    };
-    sets(&mut products, 1, OLD)
-        && finds(&mut products, 2, Some(OLD))
-        && writes(&mut products, NEW)
-        && finds(&mut products, 61, Some(OLD))
-        && finds(&mut products, 62, Some(NEW))
+    match open(alloc) {
+        Some(mut products) => reads_once_a_minute(&mut products),
+        None => false,
+    }
 }
 
 fn is_shown_at_once(alloc: Global) -> bool {
-    let Some(mut products) = open(alloc) else {
-        return false;
-    };
-    sets(&mut products, 1, OLD)
-        && finds(&mut products, 2, Some(OLD))
-        && sets(&mut products, 3, NEW)
-        && finds(&mut products, 3, Some(NEW))
+    match open(alloc) {
+        Some(mut products) => shows_at_once(&mut products),
+        None => false,
+    }
 }
 
 fn is_asked_for_again(alloc: Global) -> bool {
-    let Some(mut products) = open(alloc) else {
-        return false;
-    };
-    finds(&mut products, 1, None)
-        && writes(&mut products, NEW)
-        && finds(&mut products, 2, Some(NEW))
+    match open(alloc) {
+        Some(mut products) => asks_again(&mut products),
+        None => false,
+    }
 }
 
 /// A product that is written behind the cache's back shows when the minute of the old one is over.

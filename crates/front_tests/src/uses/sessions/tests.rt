@@ -30,53 +30,83 @@ fn is_of(sessions: &mut Hashed, seconds: u32, user: Option<u64>) -> bool {
     sessions.user(1, at(seconds)).ok() == Some(user)
 }
 
-fn ends_when_idle(alloc: Global) -> bool {
-    let Some(mut sessions) = open(alloc) else {
-        return false;
-    };
-    begins(&mut sessions, 0, 5)
-        && is_of(&mut sessions, 800, Some(5))
-        && is_of(&mut sessions, 1699, Some(5))
-        && is_of(&mut sessions, 2599, None)
+fn ends_when_idle(sessions: &mut Hashed) -> bool {
+    begins(sessions, 0, 5)
+        && is_of(sessions, 800, Some(5))
+        && is_of(sessions, 1699, Some(5))
+        && is_of(sessions, 2599, None)
+}
+
+/// Whether the session is there each 700 seconds, five times.
+fn is_there(sessions: &mut Hashed) -> bool {
+    for use_of in 1..6u32 {
+        if !is_of(sessions, use_of * 700, Some(5)) {
+            return false;
+        }
+    }
+    true
 }
 
 /// The session is used every 700 seconds.
-fn lasts_an_hour(alloc: Global) -> bool {
-    let Some(mut sessions) = open(alloc) else {
-        return false;
-    };
-    let mut is_there = begins(&mut sessions, 0, 5);
-    for quarter in 1..6u32 {
-        is_there &= is_of(&mut sessions, quarter * 700, Some(5));
-    }
-    is_there && is_of(&mut sessions, 3599, Some(5)) && is_of(&mut sessions, 3601, None)
+fn lasts_an_hour(sessions: &mut Hashed) -> bool {
+    begins(sessions, 0, 5)
+        && is_there(sessions)
+        && is_of(sessions, 3599, Some(5))
+        && is_of(sessions, 3601, None)
 }
 
-fn is_ended(alloc: Global) -> bool {
-    let Some(mut sessions) = open(alloc) else {
-        return false;
-    };
-    begins(&mut sessions, 0, 5)
+fn ends(sessions: &mut Hashed) -> bool {
+    begins(sessions, 0, 5)
         && sessions.end(1, at(1)).is_ok()
-        && is_of(&mut sessions, 2, None)
-        && begins(&mut sessions, 3, 6)
-        && is_of(&mut sessions, 4, Some(6))
+        && is_of(sessions, 2, None)
+        && begins(sessions, 3, 6)
+        && is_of(sessions, 4, Some(6))
+}
+
+/// What is done with sessions.
+#[derive(Clone, Copy)]
+enum Story {
+    EndsWhenIdle,
+    LastsAnHour,
+    Ends,
+}
+
+/// Whether it comes out so.
+fn comes_so(sessions: &mut Hashed, story: Story) -> bool {
+    match story {
+        Story::EndsWhenIdle => ends_when_idle(sessions),
+        Story::LastsAnHour => lasts_an_hour(sessions),
+        Story::Ends => ends(sessions),
+    }
+}
+
+/// Whether it comes out so where there are no sessions yet.
+fn begins_so(alloc: Global, story: Story) -> bool {
+    match open(alloc) {
+        Some(mut sessions) => comes_so(&mut sessions, story),
+        None => false,
+    }
+}
+
+/// The same, at the second try where memory is refused.
+fn is_so(alloc: Global, story: Story) -> bool {
+    begins_so(alloc, story) || begins_so(alloc, story)
 }
 
 /// A session without use for a quarter of an hour has ended.
 #[test]
 fn an_idle_session_ends(rt: HostRuntime) {
-    assert!(rt; ends_when_idle(rt.alloc()) || ends_when_idle(rt.alloc()));
+    assert!(rt; is_so(rt.alloc(), Story::EndsWhenIdle));
 }
 
 /// However often it is used, it lasts an hour and no more.
 #[test]
 fn uses_do_not_make_it_last(rt: HostRuntime) {
-    assert!(rt; lasts_an_hour(rt.alloc()) || lasts_an_hour(rt.alloc()));
+    assert!(rt; is_so(rt.alloc(), Story::LastsAnHour));
 }
 
 /// A session that was ended is over, and a new one takes its token's place.
 #[test]
 fn a_session_is_ended(rt: HostRuntime) {
-    assert!(rt; is_ended(rt.alloc()) || is_ended(rt.alloc()));
+    assert!(rt; is_so(rt.alloc(), Story::Ends));
 }

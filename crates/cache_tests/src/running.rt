@@ -1,0 +1,7 @@
+//! Devices, and runs whose connections load.
+
+mod devices;
+mod failures;
+mod loads;
+mod sources;
+mod writers;

@@ -1,0 +1,157 @@
+//! What the uses come to.
+use crate::uses::{PLAIN, ask_once, example, load_rows, play_pair, play_plainly};
+use cache_service::Service;
+use cache_service::model::{Bytes, Conn, Input, Instant, Record, Seq, ServiceError};
+use rand_core::SeedableRng;
+use rand_xoshiro::Xoshiro256PlusPlus;
+use std::alloc::{AllocError, Global};
+
+const START: Instant = Instant { nanos: 0 };
+
+const CONN: Conn = Conn {
+    namespace: 0,
+    number: 1,
+};
+
+fn new_service(alloc: Global) -> Result<Service, ServiceError> {
+    Service::new(alloc, &[PLAIN], Xoshiro256PlusPlus::seed_from_u64(1), START)
+}
+
+/// Whether those are the bytes.
+fn is_text(text: Result<Vec<u8>, ServiceError>, wanted: &[u8]) -> bool {
+    match text {
+        Ok(text) => text.as_slice() == wanted,
+        Err(_) => false,
+    }
+}
+
+fn replies(service: &mut Service, lines: &[u8], wanted: &[u8]) -> bool {
+    is_text(ask_once(service, lines, START), wanted)
+}
+
+/// Whether one connection finds what another stored.
+fn finds_what_is_stored(alloc: Global) -> bool {
+    match new_service(alloc) {
+        Ok(mut service) => {
+            replies(&mut service, b"SET session:7 - ada\n", b"OK\n")
+                && replies(
+                    &mut service,
+                    b"GET session:7\nGET session:8\n",
+                    b"VAL ada\nNONE\n",
+                )
+        }
+        Err(_) => false,
+    }
+}
+
+#[test]
+fn replies_of_connections(rt: HostRuntime) {
+    assert!(rt; finds_what_is_stored(rt.alloc()));
+}
+
+const ROWS: &[(&[u8], &[u8])] = &[(b"session:7", b"ada")];
+
+/// Whether the loads that have gone out are settled by the rows, and the connection is then replied so.
+fn loads(alloc: Global, service: &mut Service, wanted: &[u8]) -> bool {
+    load_rows(alloc, service, ROWS, START).is_ok() && is_text(service.take_output(CONN), wanted)
+}
+
+fn loads_each(alloc: Global, service: &mut Service) -> bool {
+    let lines = b"LOAD session:7\nGET session:7\nLOAD session:8\n";
+    service.open(0) == Ok(CONN)
+        && service.feed(CONN, lines, START).is_ok()
+        && loads(alloc, service, b"VAL ada\nVAL ada\n")
+        && loads(alloc, service, b"NONE\n")
+}
+
+/// Whether a connection is replied what the rows have, and nothing where they have none.
+fn loads_what_rows_have(alloc: Global) -> bool {
+    match new_service(alloc) {
+        Ok(mut service) => loads_each(alloc, &mut service),
+        Err(_) => false,
+    }
+}
+
+#[test]
+fn rows_that_are_loaded(rt: HostRuntime) {
+    assert!(rt; loads_what_rows_have(rt.alloc()));
+}
+
+/// Whether a connection's opening stands in the one transcript.
+fn records_an_opening(alloc: Global) -> bool {
+    let inputs = [Input::Open { namespace: 0 }];
+    match play_plainly(alloc, START, &inputs) {
+        Ok(transcripts) => {
+            matches!(transcripts.as_slice(), [transcript] if transcript.records.len() == 1)
+        }
+        Err(_) => false,
+    }
+}
+
+#[test]
+fn a_transcript(rt: HostRuntime) {
+    assert!(rt; records_an_opening(rt.alloc()));
+}
+
+/// The reply of a record's last line.
+fn last_reply(record: &Record) -> Option<&Bytes> {
+    match record.steps.as_slice() {
+        [.., step] => step.reply.as_ref(),
+        [] => None,
+    }
+}
+
+/// Whether the last line of the last record is replied so.
+fn ends_with(records: &[Record], wanted: &[u8]) -> bool {
+    match records {
+        [.., record] => { matches!(last_reply(record), Some(reply) if reply.as_slice() == wanted) }
+        [] => false,
+    }
+}
+
+fn copied(alloc: Global, text: &[u8]) -> Result<Bytes, AllocError> {
+    match Vec::from_slice(alloc, text) {
+        Ok(copy) => Ok(Seq::from_vec(copy)),
+        Err(error) => Err(error),
+    }
+}
+
+/// Whether of three keys, of which the first was used again, the second is the one that a namespace of two places does not hold.
+fn keeps_the_last_two(alloc: Global) -> bool {
+    let lines = b"SET a - 1\nSYNC\nSET b - 2\nSYNC\nGET a\nSYNC\nSET c - 3\nSYNC\nKEYS\n";
+    let Ok(piece) = copied(alloc, lines) else {
+        return false;
+    };
+    let inputs = [
+        Input::Open { namespace: 0 },
+        Input::Feed {
+            conn: CONN,
+            piece,
+            moment: START,
+        },
+    ];
+    match play_pair(alloc, START, &inputs) {
+        Ok(transcripts) => {
+            matches!(transcripts.as_slice(), [transcript] if ends_with(transcript.records.as_slice(), b"KEYS 2\na\nc\n"))
+        }
+        Err(_) => false,
+    }
+}
+
+#[test]
+fn the_least_recently_used_leaves(rt: HostRuntime) {
+    assert!(rt; keeps_the_last_two(rt.alloc()));
+}
+
+/// Whether the example of the README is replied as the protocol says.
+fn answers_example(alloc: Global) -> bool {
+    match example::replies(alloc) {
+        Ok(text) => text.as_slice() == b"OK\nVAL 1\nNONE\nYES\n".as_slice(),
+        Err(_) => false,
+    }
+}
+
+#[test]
+fn example_of_the_readme(rt: HostRuntime) {
+    assert!(rt; answers_example(rt.alloc()));
+}
