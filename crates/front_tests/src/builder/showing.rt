@@ -65,15 +65,25 @@ fn is_iterated(cache: &Numbers) -> bool {
     gives_first(&mut pairs) && pairs.next().is_none()
 }
 
-/// A cache that was not made to take predicates refuses one, and keeps its value.
+/// A cache that was not made to take predicates refuses one.
 fn refuses_predicates(cache: &mut Numbers) -> bool {
-    let Some(at) = next(cache) else {
-        return false;
+    match next(cache) {
+        Some(at) => match cache.invalidate_entries_if(NoPredicate, &mut Turning(4), at) {
+            Ok(_) => false,
+            Err(refused) => refused == CacheError::InvalidationClosuresDisabled,
+        },
+        None => false,
+    }
+}
+
+/// The value stays, and nothing is told.
+fn keeps_its_value(cache: &mut Numbers) -> bool {
+    let now = cache.last_call().now;
+    let is_there = match cache.peek(&1, now) {
+        Some(value) => *value == 10,
+        None => false,
     };
-    let answer = cache.invalidate_entries_if(NoPredicate, &mut Turning(4), at);
-    matches!(answer, Err(CacheError::InvalidationClosuresDisabled))
-        && cache.peek(&1, at.now) == Some(&10)
-        && cache.next_notice().is_none()
+    is_there && cache.next_notice().is_none()
 }
 
 /// What a cache with one value shows.
@@ -82,6 +92,7 @@ fn shows(alloc: Global, cache: &mut Numbers) -> bool {
         && prints_as_a_map(alloc, cache)
         && is_iterated(cache)
         && refuses_predicates(cache)
+        && keeps_its_value(cache)
 }
 
 fn made(alloc: Global) -> Result<Numbers, BuildError> {
