@@ -23,6 +23,8 @@ pub struct Row<'a> {
     pub replies: (&'a [u8], &'a [u8]),
     /// A text for each namespace, in which `#` is its port, and others behind them.
     pub shown: &'a [&'a str],
+    /// What is told behind those.
+    pub told: &'a str,
     /// Whether the server's writer has room for just that.
     pub is_cut: bool,
     pub ended: Result<(), Fault>,
@@ -38,6 +40,7 @@ pub const NOBODY: Row<'static> = Row {
     texts: (b"", b""),
     replies: (b"", b""),
     shown: &[],
+    told: "",
     is_cut: false,
     ended: Ok(()),
 };
@@ -65,7 +68,8 @@ where
 {
     let numbers = (u32::from(ports.0), u32::from(ports.1));
     let config = text_by(alloc, row.config, numbers)?;
-    let shown = text_by(alloc, row.shown, numbers)?;
+    let mut shown = text_by(alloc, row.shown, numbers)?;
+    shown.push_str(row.told).ok()?;
     let room = if row.is_cut { shown.len() } else { AMPLE };
     let served = stage(rt, alloc, config.as_str(), row.cast, ports, row.texts, room)?;
     Some(is_so(&served, row, shown.as_str()))
@@ -229,7 +233,8 @@ where
         cast: Cast::One,
         texts: (sent.as_bytes(), b""),
         replies: (read.as_bytes(), b""),
-        shown: &["listening m 127.0.0.1:#\n", notes.as_str()],
+        shown: &["listening m 127.0.0.1:#\n"],
+        told: notes.as_str(),
         ..NOBODY
     };
     Some(serves(rt, alloc, &row))
