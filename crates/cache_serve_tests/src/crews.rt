@@ -21,8 +21,12 @@ pub struct Script<'a> {
     pub count: u64,
 }
 
-/// Four scripts.
-pub type Crew<'a> = [Script<'a>; 4];
+/// Four scripts, two for each pair of threads.
+#[derive(Clone, Copy)]
+pub struct Crew<'a> {
+    pub front: (Script<'a>, Script<'a>),
+    pub back: (Script<'a>, Script<'a>),
+}
 
 /// Feeds each text.
 fn feeds_all<L: Seating, R: Wait>(
@@ -120,11 +124,10 @@ fn all_work<L: Seating + Send + Sync, R: Threads + Wait + Sync>(
     back: &mut (Seat<L>, Seat<L>),
     crew: Crew<'_>,
 ) -> bool {
-    let [one, two, three, four] = crew;
     let (first, second) = thread::join(
         rt,
-        || both_work(rt, alloc, shared, front, (one, two)),
-        || both_work(rt, alloc, shared, back, (three, four)),
+        || both_work(rt, alloc, shared, front, crew.front),
+        || both_work(rt, alloc, shared, back, crew.back),
     );
     first && second
 }
@@ -137,9 +140,11 @@ fn refused<L: Seating>(
 ) -> Option<(SharedService<L>, Vec<Seat<L>>)>
     requires ledger { L.all ≡ L.parts }
 {
-    match shared.finish(seats) {
-        Err((shared, seats)) if seats.len() == count => Some((shared, seats)),
-        _ => None,
+    let (shared, seats) = shared.finish(seats).err()?;
+    if seats.len() == count {
+        Some((shared, seats))
+    } else {
+        None
     }
 }
 

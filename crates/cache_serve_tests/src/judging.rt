@@ -103,7 +103,8 @@ fn are_right(
     crew: &Crew<'_>,
 ) -> bool {
     let mut seen = [false; MOST];
-    for script in crew.iter().rev() {
+    let scripts = [crew.back.1, crew.back.0, crew.front.1, crew.front.0];
+    for script in &scripts {
         if !is_right(alloc, journal, &mut seen, seats.pop(), script) {
             return false;
         }

@@ -208,18 +208,22 @@ const IDLE: Script<'static> = Script {
     count: 0,
 };
 
-const FOUR: Crew<'static> = [BUSY, BUSY_TOO, BUSY, BUSY_TOO];
+const FOUR: Crew<'static> = Crew {
+    front: (BUSY, BUSY_TOO),
+    back: (BUSY, BUSY_TOO),
+};
 
 /// Two threads that each open a connection and feed it.
-const TWO: Crew<'static> = [
-    BRIEF,
-    Script {
-        texts: &[b"GET a\n"],
-        ..BRIEF
-    },
-    IDLE,
-    IDLE,
-];
+const TWO: Crew<'static> = Crew {
+    front: (
+        BRIEF,
+        Script {
+            texts: &[b"GET a\n"],
+            ..BRIEF
+        },
+    ),
+    back: (IDLE, IDLE),
+};
 
 /// Four threads are recorded, also where the ledger has spare parts; without a part there is no seat.
 #[test]
