@@ -1,5 +1,5 @@
 //! Tests of the judge of transcripts: of its definitions, of lines, of what a step does to values,
-//! and of verdicts.
+//! of verdicts, and that what a service plays is right, whole and cut at every byte.
 #![tactic(auto)]
 
 #[cfg(test)]
@@ -8,5 +8,9 @@ mod deeds;
 mod lines;
 #[cfg(test)]
 mod model;
+#[cfg(test)]
+mod played;
+#[cfg(test)]
+mod rows;
 #[cfg(test)]
 mod transcripts;

@@ -1,0 +1,340 @@
+//! The rows played from a service, whole and byte by byte, and judged.
+use crate::rows::{Came, NOTHING, Row, rows_of_limits, rows_of_lines, rows_of_loads};
+use audit_model::{
+    Bytes, Config, Conn, Input, Instant, LoadId, Outcome, Seq, ServiceError, Transcript,
+};
+use cache_spaces::play;
+use moka_audit::{Verdict, audit};
+use rand_core::SeedableRng;
+use rand_xoshiro::Xoshiro256PlusPlus;
+use std::alloc::{AllocError, Global};
+use std::test::Fail;
+
+const START: Instant = Instant { nanos: 0 };
+
+/// How pieces come.
+#[derive(Clone, Copy)]
+enum Cut {
+    Whole,
+    ByteByByte,
+}
+
+fn bytes(alloc: Global, text: &[u8]) -> Result<Bytes, AllocError> {
+    Ok(Seq::from_vec(Vec::from_slice(alloc, text)?))
+}
+
+fn load_of(number: u64) -> LoadId {
+    LoadId {
+        namespace: 0,
+        number,
+    }
+}
+
+fn feed(alloc: Global, number: u64, nanos: u64, piece: &[u8]) -> Result<Input, AllocError> {
+    Ok(Input::Feed {
+        conn: Conn {
+            namespace: 0,
+            number,
+        },
+        piece: bytes(alloc, piece)?,
+        moment: Instant { nanos },
+    })
+}
+
+/// Adds a piece for a connection at a moment, whole.
+fn push_whole(
+    alloc: Global,
+    inputs: &mut Vec<Input>,
+    conn: u64,
+    nanos: u64,
+    piece: &[u8],
+) -> Result<(), AllocError> {
+    inputs.push(feed(alloc, conn, nanos, piece)?)?;
+    Ok(())
+}
+
+/// Adds each byte for a connection at a moment.
+fn push_bytes(
+    alloc: Global,
+    inputs: &mut Vec<Input>,
+    conn: u64,
+    nanos: u64,
+    bytes: &[u8],
+) -> Result<(), AllocError> {
+    for byte in bytes {
+        push_whole(alloc, inputs, conn, nanos, &[*byte])?;
+    }
+    Ok(())
+}
+
+/// Adds a piece for a connection at a moment.
+fn push_piece(
+    alloc: Global,
+    inputs: &mut Vec<Input>,
+    cut: Cut,
+    conn: u64,
+    nanos: u64,
+    piece: &[u8],
+) -> Result<(), AllocError> {
+    match cut {
+        Cut::Whole => push_whole(alloc, inputs, conn, nanos, piece),
+        Cut::ByteByByte => push_bytes(alloc, inputs, conn, nanos, piece),
+    }
+}
+
+/// Adds so many bytes for a connection, and those behind them.
+fn push_filled(
+    alloc: Global,
+    inputs: &mut Vec<Input>,
+    cut: Cut,
+    conn: u64,
+    many: usize,
+    behind: &[u8],
+) -> Result<(), AllocError> {
+    let mut piece = vec![in alloc; b'x'; many]?;
+    piece.extend_from_slice(behind)?;
+    push_piece(alloc, inputs, cut, conn, 0, &piece)
+}
+
+/// Adds an answer of a load.
+fn push_answer(inputs: &mut Vec<Input>, load: u64, outcome: Outcome) -> Result<(), AllocError> {
+    inputs.push(Input::Answer {
+        load: load_of(load),
+        outcome,
+        moment: START,
+    })?;
+    Ok(())
+}
+
+/// Adds the give-ups of these loads.
+fn push_give_ups(inputs: &mut Vec<Input>, first: u64, last: u64) -> Result<(), AllocError> {
+    for load in first..=last {
+        inputs.push(Input::GiveUp {
+            load: load_of(load),
+            moment: START,
+        })?;
+    }
+    Ok(())
+}
+
+/// Adds the value of a load.
+fn push_value(
+    alloc: Global,
+    inputs: &mut Vec<Input>,
+    load: u64,
+    value: &[u8],
+) -> Result<(), AllocError> {
+    let value = bytes(alloc, value)?;
+    push_answer(inputs, load, Outcome::Value(value, None))
+}
+
+/// Adds the fault of a load.
+fn push_fault(
+    alloc: Global,
+    inputs: &mut Vec<Input>,
+    load: u64,
+    text: &[u8],
+) -> Result<(), AllocError> {
+    let text = bytes(alloc, text)?;
+    push_answer(inputs, load, Outcome::Fault(text))
+}
+
+/// Adds the opening of a connection.
+fn push_open(inputs: &mut Vec<Input>) -> Result<(), AllocError> {
+    inputs.push(Input::Open { namespace: 0 })?;
+    Ok(())
+}
+
+/// Adds what comes.
+fn push(
+    alloc: Global,
+    inputs: &mut Vec<Input>,
+    cut: Cut,
+    came: Came<'_>,
+) -> Result<(), AllocError> {
+    match came {
+        Came::Open => push_open(inputs),
+        Came::Piece(conn, piece) => push_piece(alloc, inputs, cut, conn, 0, piece),
+        Came::At(conn, nanos, piece) => push_piece(alloc, inputs, cut, conn, nanos, piece),
+        Came::Filled(conn, many, behind) => push_filled(alloc, inputs, cut, conn, many, behind),
+        Came::Value(load, value) => push_value(alloc, inputs, load, value),
+        Came::Fault(load, text) => push_fault(alloc, inputs, load, text),
+        Came::GiveUps(first, last) => push_give_ups(inputs, first, last),
+    }
+}
+
+/// All that comes.
+fn inputs_of(alloc: Global, cut: Cut, came: &[Came<'_>]) -> Result<Vec<Input>, AllocError> {
+    let mut inputs = Vec::new(alloc);
+    for one in came {
+        push(alloc, &mut inputs, cut, *one)?;
+    }
+    Ok(inputs)
+}
+
+/// The transcripts of the namespaces, of which there is one, to which these come.
+fn play_row(
+    alloc: Global,
+    row: &Row<'_>,
+    inputs: &[Input],
+) -> Result<Vec<Transcript>, ServiceError> {
+    let generator = Xoshiro256PlusPlus::seed_from_u64(1);
+    play(alloc, &[*row.config], generator, START, inputs)
+}
+
+/// The last transcript.
+fn last_of(transcripts: Vec<Transcript>) -> Result<Transcript, Fail> {
+    let mut transcripts = transcripts;
+    match transcripts.pop() {
+        Some(transcript) => Ok(transcript),
+        None => Err(Fail::new("no transcript")),
+    }
+}
+
+/// The replies to a connection.
+fn replies_to(alloc: Global, transcript: &Transcript, conn: u64) -> Result<Vec<u8>, AllocError> {
+    let mut replies = Vec::new(alloc);
+    for entry in transcript.records.as_slice() {
+        for step in entry.steps.as_slice() {
+            if let Some(reply) = &step.reply {
+                if step.conn == conn {
+                    replies.extend_from_slice(reply.as_slice())?;
+                }
+            }
+        }
+    }
+    Ok(replies)
+}
+
+/// How many loads went out.
+fn loads_of(transcript: &Transcript) -> u64 {
+    let mut loads: u64 = 0;
+    for entry in transcript.records.as_slice() {
+        for step in entry.steps.as_slice() {
+            if step.load.is_some() {
+                loads = loads.saturating_add(1);
+            }
+        }
+    }
+    loads
+}
+
+/// Whether each connection is replied what the row says.
+fn has_replies(alloc: Global, transcript: &Transcript, row: &Row<'_>) -> Result<bool, AllocError> {
+    for (place, wanted) in row.replies.iter().enumerate() {
+        let replies = replies_to(alloc, transcript, place as u64 + 1)?;
+        if replies.as_slice() != *wanted {
+            return Ok(false);
+        }
+    }
+    Ok(true)
+}
+
+/// The transcript that is played of a row.
+fn played(alloc: Global, cut: Cut, row: &Row<'_>) -> Result<Transcript, Fail> {
+    let inputs = inputs_of(alloc, cut, row.came)?;
+    last_of(play_row(alloc, row, &inputs)?)
+}
+
+/// Whether a transcript is judged to be right, and comes out as its row says.
+fn is_right(alloc: Global, transcript: &Transcript, row: &Row<'_>) -> Result<bool, AllocError> {
+    Ok(
+        audit(alloc, row.config, transcript) == Verdict::Yes
+            && loads_of(transcript) == row.loads
+            && has_replies(alloc, transcript, row)?,
+    )
+}
+
+/// Fails with the place of the first row that does not come out as it says, or is not judged to be right.
+fn expect_right(alloc: Global, cut: Cut, rows: &[Row<'_>]) -> Result<(), Fail> {
+    for (place, row) in rows.iter().enumerate() {
+        let transcript = played(alloc, cut, row)?;
+        if !is_right(alloc, &transcript, row)? {
+            return Err(Fail::new(format_args!("row {place}")));
+        }
+    }
+    Ok(())
+}
+
+/// All that comes, whole, at the second try where memory is refused.
+fn inputs_again(alloc: Global, came: &[Came<'_>]) -> Result<Vec<Input>, AllocError> {
+    match inputs_of(alloc, Cut::Whole, came) {
+        Ok(inputs) => Ok(inputs),
+        Err(_) => inputs_of(alloc, Cut::Whole, came),
+    }
+}
+
+/// The transcript, at the second try where memory is refused.
+fn played_again(alloc: Global, row: &Row<'_>) -> Result<Transcript, Fail> {
+    let inputs = inputs_again(alloc, row.came)?;
+    match play_row(alloc, row, &inputs) {
+        Ok(transcripts) => last_of(transcripts),
+        Err(_) => last_of(play_row(alloc, row, &inputs)?),
+    }
+}
+
+/// The verdict, at the second try where memory is refused.
+fn verdict_again(alloc: Global, config: &Config, transcript: &Transcript) -> Verdict {
+    match audit(alloc, config, transcript) {
+        Verdict::OutOfMemory => audit(alloc, config, transcript),
+        verdict => verdict,
+    }
+}
+
+/// Whether the transcript obeys, and has one verdict by a configuration that it may break.
+fn is_steady(alloc: Global, row: &Row<'_>, other: &Config) -> Result<bool, Fail> {
+    let transcript = played_again(alloc, row)?;
+    let first = verdict_again(alloc, other, &transcript);
+    let second = verdict_again(alloc, other, &transcript);
+    Ok(verdict_again(alloc, row.config, &transcript) == Verdict::Yes && first == second)
+}
+
+/// Fails with the place of the first row with another verdict where memory was refused once.
+fn expect_steady(alloc: Global, rows: &[Row<'_>]) -> Result<(), Fail> {
+    for (place, row) in rows.iter().enumerate() {
+        if !is_steady(alloc, row, &NOTHING)? {
+            return Err(Fail::new(format_args!("row {place}")));
+        }
+    }
+    Ok(())
+}
+
+#[test]
+fn lines_with_memory_refused_once(rt: HostRuntime) -> Result<(), Fail> {
+    expect_steady(rt.alloc(), rows_of_lines())
+}
+
+#[test]
+fn loads_with_memory_refused_once(rt: HostRuntime) -> Result<(), Fail> {
+    expect_steady(rt.alloc(), rows_of_loads())
+}
+
+#[test]
+fn lines_whole(rt: HostRuntime) -> Result<(), Fail> {
+    expect_right(rt.alloc(), Cut::Whole, rows_of_lines())
+}
+
+#[test]
+fn lines_byte_by_byte(rt: HostRuntime) -> Result<(), Fail> {
+    expect_right(rt.alloc(), Cut::ByteByByte, rows_of_lines())
+}
+
+#[test]
+fn loads_whole(rt: HostRuntime) -> Result<(), Fail> {
+    expect_right(rt.alloc(), Cut::Whole, rows_of_loads())
+}
+
+#[test]
+fn loads_byte_by_byte(rt: HostRuntime) -> Result<(), Fail> {
+    expect_right(rt.alloc(), Cut::ByteByByte, rows_of_loads())
+}
+
+#[test]
+fn limits_whole(rt: HostRuntime) -> Result<(), Fail> {
+    expect_right(rt.alloc(), Cut::Whole, rows_of_limits())
+}
+
+#[test]
+fn limits_byte_by_byte(rt: HostRuntime) -> Result<(), Fail> {
+    expect_right(rt.alloc(), Cut::ByteByByte, rows_of_limits())
+}
