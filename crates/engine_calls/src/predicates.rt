@@ -17,6 +17,7 @@ pub fn reserve<K: Eq + Hash, V, S: BuildHasher, R: Rules<K, V>>(
     ensures ok { OnOk result (tables.new ≡ record tables.old { state = with_room tables.old.state }) }
     ensures err { OnErr result (tables.new ≡ tables.old) }
     ensures takes { OnOk result (tables.old.state.settings.takes_predicates ≡ true) }
+    ensures first { tables.old.state.settings.takes_predicates ≡ false → IsErrOf result Refusal.InvalidationClosuresDisabled }
     ensures disabled { IsErrOf result Refusal.InvalidationClosuresDisabled → tables.old.state.settings.takes_predicates ≡ false }
     ensures used_up { IsErrOf result Refusal.UsedUp → 2 ^ 64 ≤ tables.old.state.next_ticket + tables.old.state.reserved + 1 }
     ensures kinds { OnErr result ((IsErrOf result Refusal.OutOfMemory) ⊎ ((IsErrOf result Refusal.InvalidationClosuresDisabled) ⊎ (IsErrOf result Refusal.UsedUp))) }
@@ -52,6 +53,7 @@ pub fn prepare<K: Eq + Hash, V, S: BuildHasher, R: Rules<K, V>, G: Rng>(
     ensures drawn { IfOk result (λ id. Draws (G.stream generator.old) (G.stream generator.new) (is_registered tables.old.state.predicates) id) }
     ensures err { OnErr result (tables.new ≡ tables.old) }
     ensures takes { OnOk result (tables.old.state.settings.takes_predicates ≡ true) }
+    ensures first { tables.old.state.settings.takes_predicates ≡ false → IsErrOf result Refusal.InvalidationClosuresDisabled }
     ensures refused { IfErr result (IsCauseToRegister tables.old.state (G.stream generator.old) (G.stream generator.new)) }
 {
     reserve(tables)?;
@@ -92,6 +94,7 @@ pub fn invalidate<K: Eq + Hash, V, S: BuildHasher, R: Rules<K, V>, G: Rng>(
     ensures drawn { IfOk result (λ id. Draws (G.stream generator.old) (G.stream generator.new) (is_registered tables.old.state.predicates) id) }
     ensures err { OnErr result (tables.new ≡ tables.old) }
     ensures takes { OnOk result (tables.old.state.settings.takes_predicates ≡ true) }
+    ensures first { tables.old.state.settings.takes_predicates ≡ false → IsErrOf result Refusal.InvalidationClosuresDisabled }
     ensures refused { IfErr result (IsCauseToRegister tables.old.state (G.stream generator.old) (G.stream generator.new)) }
 {
     let id = prepare(tables, generator)?;

@@ -18,7 +18,7 @@ other-set a b place i None apart keeps whole h = tt
 other-set a b place i (Some t) apart keeps whole h = λ all. keeps.others i t apart (h (whole all))
 
 module _ {K V : Type 0} where
-  cells-within : (cells : List (Option (Cell K V))) (i : ℕ) (c : Cell K V) → cell_at cells i ≡ Some c → i < length cells
+  pub cells-within : (cells : List (Option (Cell K V))) (i : ℕ) (c : Cell K V) → cell_at cells i ≡ Some c → i < length cells
   cells-within [] i c h = absurd (cc)
   cells-within (o ∷ cells) zero c h = omega arith
   cells-within (o ∷ cells) (suc i) c h = let later = cells-within cells i c h in omega (arith, later)

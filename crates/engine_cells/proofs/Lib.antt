@@ -1,3 +1,4 @@
+pub mod Drawers
 pub mod Placed
 pub mod Listed
 pub mod Access

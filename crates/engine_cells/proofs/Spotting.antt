@@ -5,7 +5,7 @@ use Rattle.std.specs.List.{fold}
 use Rattle.engine_reference.specs.Rules.Hashing.{hash_of_key}
 use Rattle.std.specs.Cmp.{IsEquivalence}
 use Rattle.std.proofs.lemmas.Bool.{eqb-true, eq-eqb, cases_Bool, and_parts, and_from}
-use Rattle.engine_cells.specs.Keys.Spots.{Spots, IsUnder, ComesUnder, OnlyGainsSpace}
+use Rattle.engine_cells.specs.Keys.Spots.{tag_of, Spots, IsAmong, IsUnder, ComesUnder, OnlyGainsSpace}
 use Rattle.engine_reference.specs.Records.{held_at}
 use Rattle.engine_cells.specs.declared.cell.Cell.{Cell}
 use Rattle.engine_cells.specs.Cells.{cell_at, records_by_number}
@@ -62,13 +62,13 @@ module _ {K V : Type 0} (eq : K → K → Bool) where
                   cell = d;
                   there = ap (λ k. cell_at new k) same ∙ gets.there;
                   held = alike.held ∙ ap (λ y. y.item.is_held) (sym is) ∙ o.held;
-                  hash_is = alike.hash ∙ ap (λ y. y.item.hash) (sym is) ∙ o.hash_is;
+                  tag_is = ap tag_of (alike.hash ∙ ap (λ y. y.item.hash) (sym is)) ∙ o.tag_is;
                 }
             | inr f ↦ record {
               cell = o.cell;
               there = gets.others j (λ same. let t = eq-eqb j i same in absurd (cc)) ∙ o.there;
               held = o.held;
-              hash_is = o.hash_is;
+              tag_is = o.tag_is;
             }
           ];
       single = λ key j k a b. h.single key j k (as-before key j (cell_at new j) refl a) (as-before key k (cell_at new k) refl b);
@@ -118,8 +118,8 @@ module _ {K V : Type 0} (eq : K → K → Bool) where
         let o = h.only hash j (l.only hash j u) in
         let f : Some o.cell ≡ Some c = sym o.there ∙ ap (λ k. cell_at old k) same ∙ there in
         let is : o.cell ≡ c = cc in
-        let hash_is : hash ≡ c.item.hash = sym o.hash_is ∙ ap (λ y. y.item.hash) is in
-        l.gone (subst (λ k. IsUnder after c.item.hash k) same (subst (λ n. IsUnder after n j) hash_is u))
+        let tag_is : tag_of hash ≡ tag_of c.item.hash = sym o.tag_is ∙ ap (λ y. tag_of y.item.hash) is in
+        l.gone (subst (λ k. IsUnder after c.item.hash k) same (subst (λ t. IsAmong after.entries t j) tag_is u))
     apart false e l hash j u same =
         let o = h.only hash j (subst (λ s. IsUnder s hash j) l u) in
         let f : Some o.cell ≡ Some c = sym o.there ∙ ap (λ k. cell_at old k) same ∙ there in
@@ -131,7 +131,7 @@ module _ {K V : Type 0} (eq : K → K → Bool) where
       spotted = λ j x at held. stays c.item.is_held refl leaves x.item.hash j (h.spotted j x (stood j x at held) held) (elsewhere j x at held);
       only = λ hash j u.
           let o = h.only hash j (before c.item.is_held refl leaves hash j u) in
-          record { cell = o.cell; there = unholds.others j (apart c.item.is_held refl leaves hash j u) ∙ o.there; held = o.held; hash_is = o.hash_is };
+          record { cell = o.cell; there = unholds.others j (apart c.item.is_held refl leaves hash j u) ∙ o.there; held = o.held; tag_is = o.tag_is };
       single = λ key j k a b. h.single key j k (matched key j (cell_at new j) refl a) (matched key k (cell_at new k) refl b);
     }
 
@@ -194,9 +194,9 @@ module _ {K V : Type 0} (eq : K → K → Bool) where
               cell = o.cell;
               there = gets.others j (λ same. let e : Some o.cell ≡ None = sym o.there ∙ ap (λ k. cell_at old k) same ∙ vacant in cc) ∙ o.there;
               held = o.held;
-              hash_is = o.hash_is;
+              tag_is = o.tag_is;
             }
-        | inr q ↦ record { cell = c; there = ap (λ k. cell_at new k) q.1 ∙ gets.there; held = held; hash_is = sym q.0 }
+        | inr q ↦ record { cell = c; there = ap (λ k. cell_at new k) q.1 ∙ gets.there; held = held; tag_is = sym q.0 }
       ];
       single = λ key j k a b. one key j k (cell_at new j) (cell_at new k) refl refl a b;
     }

@@ -1,4 +1,6 @@
 pub mod Keys
+pub mod Drawers
+pub mod Lending
 pub mod Cells
 pub mod Kept
 pub mod Fitting

@@ -1,16 +1,16 @@
 -- Cells and the spots of their keys' hashes.
 use Rattle.std.specs.Prelude.{◌≡◌, ℕ, ◌==◌, Bool, true, false, ◌&&◌, List, Option, Some, None}
-use Rattle.engine_cells.specs.Keys.Spots.{Spots, IsUnder, LeavesFrom}
+use Rattle.engine_cells.specs.Keys.Spots.{tag_of, Spots, IsUnder, LeavesFrom}
 use Rattle.engine_cells.specs.declared.cell.Cell.{Cell}
 use Rattle.engine_cells.specs.Cells.{cell_at}
 
 module _ {K V : Type 0} where
-  -- a place has a held record of a hash
+  -- a place has a held record under a hash
   pub record HoldsAt (cells : List (Option (Cell K V))) (hash place : ℕ) : Type 0 where
     pub cell : Cell K V
     pub there : cell_at cells place ≡ Some cell
     pub held : cell.item.is_held ≡ true
-    pub hash_is : cell.item.hash ≡ hash
+    pub tag_is : tag_of cell.item.hash ≡ tag_of hash
 
   -- the hash of each held record is that of its key
   abbrev pub AreHashed : (K → ℕ) → List (Option (Cell K V)) → Type 0

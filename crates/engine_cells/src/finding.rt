@@ -6,12 +6,12 @@ ghost use Rattle.engine_cells.specs.Cells.{cell_at, record_in, records_by_number
 ghost use Rattle.engine_cells.specs.Spotted.{is_match, is_numbered, AreSpotted, HaveHash, IsHeldUnder, LeavesIf};
 
 use crate::cell::Cell;
+use crate::cell_slab::CellSlab;
 use crate::keys::Keys;
 use engine_reference::Names;
-use slab::Slab;
 
 /// Whether the record in a place is held under a key.
-fn is_match<K: Eq, Q: Names<K>, V>(cells: &Slab<Cell<K, V>>, place: usize, key: &Q) -> bool
+fn is_match<K: Eq, Q: Names<K>, V>(cells: &CellSlab<Cell<K, V>>, place: usize, key: &Q) -> bool
     ensures { result ≡ is_match K.eq (Q.named_key key.now) (cell_at cells.now.slots place) }
 {
     match cells.get(place) {
@@ -32,7 +32,7 @@ pub fn take_if(keys: &mut Keys, goes: bool, hash: u64, place: usize)
 
 /// The place of a key's record, where it is held, by the key's hash.
 pub fn find_held<K: Eq, Q: Names<K>, V>(
-    cells: &Slab<Cell<K, V>>,
+    cells: &CellSlab<Cell<K, V>>,
     keys: &Keys,
     key: &Q,
     hash: u64,
@@ -48,7 +48,7 @@ pub fn find_held<K: Eq, Q: Names<K>, V>(
 }
 
 /// Whether a place has the record of a number.
-fn is_numbered<K, V>(cells: &Slab<Cell<K, V>>, place: usize, number: u64) -> bool
+fn is_numbered<K, V>(cells: &CellSlab<Cell<K, V>>, place: usize, number: u64) -> bool
     ensures { result ≡ is_numbered number (cell_at cells.now.slots place) }
 {
     match cells.get(place) {
@@ -59,7 +59,7 @@ fn is_numbered<K, V>(cells: &Slab<Cell<K, V>>, place: usize, number: u64) -> boo
 
 /// The place of the record of a number, which is held under this hash where it is there.
 pub fn find_number<K: Eq, V>(
-    cells: &Slab<Cell<K, V>>,
+    cells: &CellSlab<Cell<K, V>>,
     keys: &Keys,
     number: u64,
     hash: u64,

@@ -1,13 +1,13 @@
 //! Places by hash: a ready hash leads to the places that stand under it, and the caller says which of them it seeks.
 ghost use Rattle.std.specs.Prelude.{◌≡◌, ◌≢◌, ◌↔◌, IsTrue, true, false, ℕ, ◌+◌, ◌-◌, ◌*◌, ◌/◌, ◌^◌, ◌<◌, ◌≤◌, length, replicate, IsOk, OnOk, OnErr, IfOk, IfSome, IfNone};
-ghost use Rattle.engine_cells.specs.Keys.Spots.{IsUnder, Spots, ComesUnder, LeavesFrom, OnlyGainsSpace};
+ghost use Rattle.engine_cells.specs.Keys.Spots.{tag_of, IsUnder, Spots, ComesUnder, LeavesFrom, OnlyGainsSpace};
 ghost use Rattle.engine_cells.specs.Keys.Slots.{nowhere, vacant, slot_at, IsTaken, taken_in, most_in, home_of, steps_on, steps_to, IsOnWay, Has, HasAll, AreFound, IsFirstVacant, Adds, IsHoled, LeavesOut, Loses};
 
 use std::alloc::{AllocError, Global};
 use std::marker::Model;
 
 /// What a vacant slot has in place of a place.
-const NOWHERE: usize = usize::MAX;
+const NOWHERE: u32 = u32::MAX;
 
 /// How many places there may be.
 pub const MOST_PLACES: usize = 1 << 32;
@@ -15,17 +15,18 @@ pub const MOST_PLACES: usize = 1 << 32;
 /// What spreads hashes over the slots: an odd number near 2^64 over the golden ratio.
 const SPREAD: u64 = 0x9E37_79B9_7F4A_7C15;
 
-/// A hash with its place, in 16 bytes. A vacant slot has the place `NOWHERE`.
+/// A tag with a place, in 8 bytes. A vacant slot has the place `NOWHERE`.
 #[derive(Clone, Copy)]
 struct Slot {
-    hash: u64,
-    place: usize,
+    tag: u32,
+    place: u32,
 }
 
-/// Places by hash. Several places may stand under one hash, each of them once.
+/// Places by hash. Several places may stand under one hash, each of them once; those of hashes with one tag stand under
+/// each of these hashes.
 #[derive(Drop)]
 pub struct Keys {
-    // At most two thirds of the slots are taken.
+    // At most half of the slots are taken.
     slots: Vec<Slot>,
     // How many places there are.
     count: usize,
@@ -40,7 +41,7 @@ impl Model for Keys {
 
     ghost view = { λ k. record { entries = entries_in k.slots.items; space = most_in (length k.slots.items) - k.count } };
 
-    // each place is found from its hash's home on, and there are vacant slots
+    // each place is found from its tag's home on, and there are vacant slots
     ghost invariant = { λ k. record {
       found : AreFound k.slots.items;
       counted : taken_in k.slots.items ≡ k.count;
@@ -83,23 +84,23 @@ impl Keys {
     }
 
     /// The place that is sought, of those that stand under a hash. It takes no memory, and asks about no place that
-    /// stands under another hash, nor about any once one is found.
+    /// stands under another tag, nor about any once one is found.
     pub fn get<F: Fn(usize) -> bool>(&self, hash: u64, is_sought: F) -> Option<usize>
         requires { F.IsAlwaysCallable is_sought }
         ensures found { IfSome result (λ place. IsUnder self.now hash place × F.post is_sought place true) }
         ensures none { IfNone result ((place : ℕ) → IsUnder self.now hash place → F.post is_sought place false) }
     {
-        find(&self.slots, hash, is_sought)
+        find(&self.slots, tag_of(hash), is_sought)
     }
 
     /// Puts a place, which is not there, under a hash. There is room.
     pub fn put(&mut self, hash: u64, place: usize)
         requires room { 0 < self.old.space }
         requires absent { IsUnder self.old hash place → ⊥ }
-        requires place { place < 2 ^ 64 - 1 }
+        requires place { place < 2 ^ 32 - 1 }
         ensures { ComesUnder self.old self.new hash place }
     {
-        put_in(&mut self.slots, hash, place);
+        put_in(&mut self.slots, tag_of(hash), place as u32);
         self.count += 1;
     }
 
@@ -108,7 +109,7 @@ impl Keys {
         requires { IsUnder self.old hash place }
         ensures { LeavesFrom self.old self.new hash place }
     {
-        let at = slot_of(&self.slots, hash, place);
+        let at = slot_of(&self.slots, tag_of(hash), place as u32);
         take_out(&mut self.slots, at);
         self.count -= 1;
     }
@@ -118,7 +119,7 @@ impl Keys {
 fn most_in(many: usize) -> usize
     ensures { result ≡ most_in many }
 {
-    many / 3 * 2
+    many / 2
 }
 
 /// How many slots so many places want.
@@ -126,16 +127,22 @@ fn slots_for(places: usize) -> usize
     requires { places ≤ 2 ^ 33 }
     ensures { places ≤ most_in result }
 {
-    (places / 2 + 1) * 3
+    places * 2
 }
 
-/// The slot in which a hash is looked for first, of so many.
-fn home_of(hash: u64, many: usize) -> usize
-    ensures value { result ≡ home_of hash many }
+/// A hash's tag.
+fn tag_of(hash: u64) -> u32
+    ensures { result ≡ tag_of hash }
+{
+    (hash.wrapping_mul(SPREAD) >> 32) as u32
+}
+
+/// The slot in which a tag is looked for first, of so many.
+fn home_of(tag: u32, many: usize) -> usize
+    ensures value { result ≡ home_of tag many }
     ensures within { 0 < many → result < many }
 {
-    let spread = hash.wrapping_mul(SPREAD);
-    ((spread as u128 * many as u128) >> 64) as usize
+    ((tag as u128 * many as u128) >> 32) as usize
 }
 
 /// The slot to which so many steps lead.
@@ -169,19 +176,19 @@ fn vacant_slots(alloc: Global, many: usize) -> Result<Vec<Slot>, AllocError>
     ensures { IfOk result (λ slots. slots.items ≡ replicate many vacant) }
 {
     let slot = Slot {
-        hash: 0,
+        tag: 0,
         place: NOWHERE,
     };
     Vec::from_elem(alloc, slot, many)
 }
 
-/// The vacant slot that comes first for a hash.
-fn vacant_for(slots: &Vec<Slot>, hash: u64) -> usize
+/// The vacant slot that comes first for a tag.
+fn vacant_for(slots: &Vec<Slot>, tag: u32) -> usize
     requires { taken_in slots.now.items < length slots.now.items }
-    ensures { IsFirstVacant slots.now.items hash result }
+    ensures { IsFirstVacant slots.now.items tag result }
 {
     let many = slots.len();
-    let home = home_of(hash, many);
+    let home = home_of(tag, many);
     for steps in 0..many {
         let at = steps_on(many, home, steps);
         if slots[at].place == NOWHERE {
@@ -191,20 +198,20 @@ fn vacant_for(slots: &Vec<Slot>, hash: u64) -> usize
     unreachable!()
 }
 
-/// Puts a place, which is not there, under a hash. Not all slots are taken.
-fn put_in(slots: &mut Vec<Slot>, hash: u64, place: usize)
+/// Puts a place, which is not there, under a tag. Not all slots are taken.
+fn put_in(slots: &mut Vec<Slot>, tag: u32, place: u32)
     requires room { taken_in slots.old.items < length slots.old.items }
     requires found { AreFound slots.old.items }
-    requires absent { Has slots.old.items hash place → ⊥ }
+    requires absent { Has slots.old.items tag place → ⊥ }
     requires place { place < nowhere }
-    ensures added { Adds slots.old.items slots.new.items hash place }
+    ensures added { Adds slots.old.items slots.new.items tag place }
     ensures found { AreFound slots.new.items }
 {
-    let at = vacant_for(slots, hash);
-    slots[at] = Slot { hash, place };
+    let at = vacant_for(slots, tag);
+    slots[at] = Slot { tag, place };
 }
 
-/// Puts the places of other slots under their hashes.
+/// Puts the places of other slots under their tags.
 fn put_all(slots: &mut Vec<Slot>, others: &Vec<Slot>)
     requires vacant { slots.old.items ≡ replicate (length slots.old.items) vacant }
     requires room { taken_in others.now.items < length slots.old.items }
@@ -217,56 +224,56 @@ fn put_all(slots: &mut Vec<Slot>, others: &Vec<Slot>)
     for k in 0..others.len() {
         let slot = others[k];
         if slot.place < NOWHERE {
-            put_in(slots, slot.hash, slot.place);
+            put_in(slots, slot.tag, slot.place);
         }
     }
 }
 
-/// The place that is sought, of those that stand under a hash.
-fn find<F: Fn(usize) -> bool>(slots: &Vec<Slot>, hash: u64, is_sought: F) -> Option<usize>
+/// The place that is sought, of those that stand under a tag.
+fn find<F: Fn(usize) -> bool>(slots: &Vec<Slot>, tag: u32, is_sought: F) -> Option<usize>
     requires callable { F.IsAlwaysCallable is_sought }
     requires stand { AreFound slots.now.items }
-    ensures found { IfSome result (λ place. Has slots.now.items hash place × F.post is_sought place true) }
-    ensures none { IfNone result ((place : ℕ) → Has slots.now.items hash place → F.post is_sought place false) }
+    ensures found { IfSome result (λ place. Has slots.now.items tag place × F.post is_sought place true) }
+    ensures none { IfNone result ((place : ℕ) → Has slots.now.items tag place → F.post is_sought place false) }
 {
     let many = slots.len();
-    let home = home_of(hash, many);
+    let home = home_of(tag, many);
     for steps in 0..many {
         let slot = slots[steps_on(many, home, steps)];
         if slot.place == NOWHERE {
             return None;
         }
-        if slot.hash == hash && is_sought(slot.place) {
-            return Some(slot.place);
+        if slot.tag == tag && is_sought(slot.place as usize) {
+            return Some(slot.place as usize);
         }
     }
     None
 }
 
-/// The slot of a place, which stands under the hash.
-fn slot_of(slots: &Vec<Slot>, hash: u64, place: usize) -> usize
-    requires { Has slots.now.items hash place }
-    ensures { slot_at slots.now.items result ≡ record { hash = hash; place = place } }
+/// The slot of a place, which stands under the tag.
+fn slot_of(slots: &Vec<Slot>, tag: u32, place: u32) -> usize
+    requires { Has slots.now.items tag place }
+    ensures { slot_at slots.now.items result ≡ record { tag = tag; place = place } }
 {
     let many = slots.len();
-    let home = home_of(hash, many);
+    let home = home_of(tag, many);
     for steps in 0..many {
         let at = steps_on(many, home, steps);
         let slot = slots[at];
-        if slot.hash == hash && slot.place == place {
+        if slot.tag == tag && slot.place == place {
             return at;
         }
     }
     unreachable!()
 }
 
-/// Whether a slot is on the way from a hash's home to another, or is that one.
-fn is_on_way(many: usize, hash: u64, to: usize, at: usize) -> bool
+/// Whether a slot is on the way from a tag's home to another, or is that one.
+fn is_on_way(many: usize, tag: u32, to: usize, at: usize) -> bool
     requires to { to < many }
     requires at { at < many }
-    ensures { IsTrue result ↔ IsOnWay many hash to at }
+    ensures { IsTrue result ↔ IsOnWay many tag to at }
 {
-    let home = home_of(hash, many);
+    let home = home_of(tag, many);
     steps_to(many, home, at) <= steps_to(many, home, to)
 }
 
@@ -287,7 +294,7 @@ fn move_up(slots: &mut Vec<Slot>, from: usize) -> usize
         if slot.place == NOWHERE {
             return hole;
         }
-        if is_on_way(many, slot.hash, at, hole) {
+        if is_on_way(many, slot.tag, at, hole) {
             slots[hole] = slot;
             hole = at;
         }
@@ -305,7 +312,7 @@ fn take_out(slots: &mut Vec<Slot>, from: usize)
 {
     let hole = move_up(slots, from);
     slots[hole] = Slot {
-        hash: 0,
+        tag: 0,
         place: NOWHERE,
     };
 }

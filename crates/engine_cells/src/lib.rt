@@ -2,6 +2,7 @@
 #![tactic(auto)]
 
 mod cell;
+mod cell_slab;
 mod finding;
 pub mod keys;
 mod listing;
@@ -12,6 +13,7 @@ mod tally;
 mod timing;
 
 pub use cell::{Cell, NodeName, Noted, PlacedWrite, QueueNodes};
+pub use cell_slab::CellSlab;
 pub use finding::{find_held, find_number, take_if};
 pub use keys::{Keys, MOST_PLACES};
 pub use listing::push_held_keys;

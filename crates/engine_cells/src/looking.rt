@@ -7,11 +7,11 @@ ghost use Rattle.engine_cells.specs.Looking.{is_expired, is_settled_as, HasFirst
 ghost use Rattle.engine_cells.specs.declared.cell.Cell.{Cell};
 
 use crate::cell::Cell;
+use crate::cell_slab::CellSlab;
 use engine_pending::Expirations;
 use engine_reference::Record;
 use policy_base::{Instant, KeyHashDate, MAX_NANOS};
 use policy_queue::Deque;
-use slab::Slab;
 
 /// Whether a record is held, and its own expiration was reached.
 fn is_expired<K, V>(found: &Record<K, V>, now: u64) -> bool
@@ -23,22 +23,10 @@ fn is_expired<K, V>(found: &Record<K, V>, now: u64) -> bool
     }
 }
 
-/// The place of a held record whose own expiration was reached, by a look at every record.
-fn first_due<K, V>(cells: &Slab<Cell<K, V>>, now: u64) -> Option<usize>
-    ensures found { IfSome result (λ i. (c : Cell K V) × (cell_at cells.now.slots i ≡ Some c) × (is_expired now c.item ≡ true)) }
-    ensures none { IfNone result ((i : ℕ) (c : Cell K V) → cell_at cells.now.slots i ≡ Some c → is_expired now c.item ≡ false) }
-{
-    for (place, cell) in cells.iter() {
-        if is_expired(&cell.item, now) {
-            return Some(place);
-        }
-    }
-    None
-}
-
 /// Whether a place has a held record whose own expiration was reached.
-fn is_expired_at<K, V>(cells: &Slab<Cell<K, V>>, place: usize, now: u64) -> bool
-    ensures { result ≡ true → (c : Cell K V) × (cell_at cells.now.slots place ≡ Some c) × (is_expired now c.item ≡ true) }
+fn is_expired_at<K, V>(cells: &CellSlab<Cell<K, V>>, place: usize, now: u64) -> bool
+    ensures due { result ≡ true → (c : Cell K V) × (cell_at cells.now.slots place ≡ Some c) × (is_expired now c.item ≡ true) }
+    ensures not { result ≡ false → (c : Cell K V) → cell_at cells.now.slots place ≡ Some c → is_expired now c.item ≡ false }
 {
     match cells.get(place) {
         Some(cell) => is_expired(&cell.item, now),
@@ -46,10 +34,23 @@ fn is_expired_at<K, V>(cells: &Slab<Cell<K, V>>, place: usize, now: u64) -> bool
     }
 }
 
+/// The place of a held record whose own expiration was reached, by a look at every record.
+fn first_due<K, V>(cells: &CellSlab<Cell<K, V>>, now: u64) -> Option<usize>
+    ensures found { IfSome result (λ i. (c : Cell K V) × (cell_at cells.now.slots i ≡ Some c) × (is_expired now c.item ≡ true)) }
+    ensures none { IfNone result ((i : ℕ) (c : Cell K V) → cell_at cells.now.slots i ≡ Some c → is_expired now c.item ≡ false) }
+{
+    for place in 0..cells.capacity() {
+        if is_expired_at(cells, place, now) {
+            return Some(place);
+        }
+    }
+    None
+}
+
 /// The place of a held record whose own expiration was reached, by the first timer. Every record is looked at only where
 /// there was no memory for a timer.
 pub fn first_expired<K, V>(
-    cells: &Slab<Cell<K, V>>,
+    cells: &CellSlab<Cell<K, V>>,
     expirations: &Expirations,
     now: u64,
 ) -> Option<usize>
@@ -77,7 +78,7 @@ pub fn first_expired<K, V>(
 }
 
 /// Whether the record in a place is settled.
-fn is_settled_at<K, V>(cells: &Slab<Cell<K, V>>, place: usize) -> bool
+fn is_settled_at<K, V>(cells: &CellSlab<Cell<K, V>>, place: usize) -> bool
     ensures { result ≡ is_settled_as (record_in cells.now.slots place) }
 {
     match cells.get(place) {
@@ -87,7 +88,10 @@ fn is_settled_at<K, V>(cells: &Slab<Cell<K, V>>, place: usize) -> bool
 }
 
 /// The place of the first settled record of the access list, whose nodes stand in this queue.
-pub fn first_settled<K, V>(cells: &Slab<Cell<K, V>>, queue: &Deque<KeyHashDate>) -> Option<usize>
+pub fn first_settled<K, V>(
+    cells: &CellSlab<Cell<K, V>>,
+    queue: &Deque<KeyHashDate>,
+) -> Option<usize>
     requires apart { HaveOwnNumbers cells.now.slots }
     requires linked { AreLinked cells.now.slots queue.now.nodes }
     ensures found { IfSome result (HasFirstSettled cells.now.slots queue.now.nodes) }

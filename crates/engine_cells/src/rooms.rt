@@ -5,15 +5,15 @@ ghost use Rattle.engine_cells.specs.Keys.Spots.{OnlyGainsSpace};
 ghost use Rattle.engine_cells.specs.Rooms.{OnlyMoreCells, HasRooms};
 
 use crate::cell::Cell;
+use crate::cell_slab::CellSlab;
 use crate::keys::Keys;
 use policy_base::KeyHashDate;
 use policy_queue::Deque;
-use slab::Slab;
 
 /// Makes room for `more` records, where `waiting` of those that are there stand in no queue, and answers whether there
 /// was memory for it.
 pub fn grow<K, V>(
-    cells: &mut Slab<Cell<K, V>>,
+    cells: &mut CellSlab<Cell<K, V>>,
     access: &mut Deque<KeyHashDate>,
     order: &mut Deque<KeyHashDate>,
     keys: &mut Keys,

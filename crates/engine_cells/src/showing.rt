@@ -5,9 +5,9 @@ ghost use Rattle.engine_cells.specs.Showing.{shows_value, shown_in, shown_part};
 ghost use Rattle.engine_cells.specs.Tallying.{sum_over};
 
 use crate::cell::{Cell, Noted, PlacedWrite};
+use crate::cell_slab::CellSlab;
 use engine_pending::{Backlog, is_dead};
 use engine_reference::{Record, Rules};
-use slab::Slab;
 
 /// Whether a record is held, alive, and nothing stands over its entry.
 fn shows_value<K, V, S, R: Rules<K, V>>(
@@ -24,7 +24,7 @@ fn shows_value<K, V, S, R: Rules<K, V>>(
 
 /// 1 where the record in a place shows a value, and else 0.
 fn shown_at<K, V, S, R: Rules<K, V>>(
-    cells: &Slab<Cell<K, V>>,
+    cells: &CellSlab<Cell<K, V>>,
     place: usize,
     backlog: &Backlog<K, V, Noted, PlacedWrite, S, R>,
     now: u64,
@@ -40,7 +40,7 @@ fn shown_at<K, V, S, R: Rules<K, V>>(
 
 /// How many records show a value, by a look at every one.
 pub fn count_shown<K, V, S, R: Rules<K, V>>(
-    cells: &Slab<Cell<K, V>>,
+    cells: &CellSlab<Cell<K, V>>,
     backlog: &Backlog<K, V, Noted, PlacedWrite, S, R>,
     now: u64,
 ) -> usize

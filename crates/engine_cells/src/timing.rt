@@ -6,8 +6,8 @@ ghost use Rattle.engine_cells.specs.Cells.{cell_at};
 ghost use Rattle.engine_cells.specs.declared.cell.Cell.{Cell};
 
 use crate::cell::Cell;
+use crate::cell_slab::CellSlab;
 use engine_pending::Expirations;
-use slab::Slab;
 
 /// A place expires at another moment than before, if it does.
 pub fn set_changed(
@@ -26,7 +26,7 @@ pub fn set_changed(
 }
 
 /// When the record in a place expires by itself, where it is held.
-fn expiration_at<K, V>(cells: &Slab<Cell<K, V>>, place: usize) -> Option<u64>
+fn expiration_at<K, V>(cells: &CellSlab<Cell<K, V>>, place: usize) -> Option<u64>
     ensures { (c : Cell K V) → cell_at cells.now.slots place ≡ Some c → c.item.is_held ≡ true → result ≡ c.item.entry.expires }
 {
     match cells.get(place) {
@@ -42,7 +42,7 @@ fn expiration_at<K, V>(cells: &Slab<Cell<K, V>>, place: usize) -> Option<u64>
 }
 
 /// A place gets the timer that it is to have.
-fn time_place<K, V>(cells: &Slab<Cell<K, V>>, place: usize, expirations: &mut Expirations)
+fn time_place<K, V>(cells: &CellSlab<Cell<K, V>>, place: usize, expirations: &mut Expirations)
     ensures others { KeepsOthers place expirations.old.timers expirations.new.timers }
     ensures whole { expirations.new.is_whole ≡ true → expirations.old.is_whole ≡ true }
     ensures set { (c : Cell K V) → cell_at cells.now.slots place ≡ Some c → c.item.is_held ≡ true → IsSet expirations.new place c.item.entry.expires }
@@ -52,7 +52,7 @@ fn time_place<K, V>(cells: &Slab<Cell<K, V>>, place: usize, expirations: &mut Ex
 }
 
 /// Each place gets the timer that it is to have, whatever there was memory for before.
-pub fn time_all<K, V>(cells: &Slab<Cell<K, V>>, expirations: &mut Expirations)
+pub fn time_all<K, V>(cells: &CellSlab<Cell<K, V>>, expirations: &mut Expirations)
     ensures { AreAwaited cells.now.slots expirations.new }
 {
     expirations.start_again();

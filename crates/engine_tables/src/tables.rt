@@ -22,8 +22,8 @@ ghost use Rattle.engine_tables.specs.Changing.{ChangesAt, GoesToBack, IsWrittenO
 ghost use Rattle.engine_cells.specs.Kept.{numbered_at, kept_at, StandsFirst, is_admitted_as, is_removed_as};
 
 use engine_cells::{
-    Cell, Keys, NodeName, Noted, PlacedWrite, QueueNodes, Tally, find_held, first_expired,
-    first_settled, grow, set_changed, take_if, time_all,
+    Cell, CellSlab, Keys, NodeName, Noted, PlacedWrite, QueueNodes, Tally, find_held,
+    first_expired, first_settled, grow, set_changed, take_if, time_all,
 };
 use engine_pending::{Backlog, Expirations};
 use engine_reference::{
@@ -31,7 +31,6 @@ use engine_reference::{
 };
 use policy_base::{CacheRegion, FrequencySketch, KeyHashDate, NodeId};
 use policy_queue::{Deque, names_stand};
-use slab::Slab;
 use std::alloc::{AllocError, Global};
 use std::hash::{BuildHasher, Hash, Hasher};
 use std::marker::Model;
@@ -42,7 +41,7 @@ mod again;
 /// The tables of a cache of one part. Each method that changes them makes one change, for which there is room.
 #[derive(Drop)]
 pub struct Tables<K: Eq + Hash, V, S: BuildHasher, R: Rules<K, V>> {
-    cells: Slab<Cell<K, V>>,
+    cells: CellSlab<Cell<K, V>>,
     access: Deque<KeyHashDate>,
     order: Deque<KeyHashDate>,
     tally: Tally,
@@ -107,7 +106,7 @@ impl<K: Eq + Hash, V, S: BuildHasher, R: Rules<K, V>> Tables<K, V, S, R> {
     {
         let backlog = Backlog::new(alloc, name, settings, hasher, rules)?;
         Ok(Tables {
-            cells: Slab::new(alloc),
+            cells: CellSlab::new(alloc),
             access: Deque::new(alloc, CacheRegion::MainProbation),
             order: Deque::new(alloc, CacheRegion::Other),
             tally: Tally {

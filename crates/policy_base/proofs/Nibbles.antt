@@ -4,6 +4,8 @@ use Rattle.std.proofs.Math.Nat.{pow-suc}
 use native.Mathlib.Nat.{div-div-eq-div-mul}
 use Rattle.std.proofs.lemmas.List.{get_or_append_left, get_or-append-add, set-append_left, set-append_right, length-append, map-append, replicate-append-replicate}
 use Rattle.std.proofs.Common.{ltb, true, false}
+use Rattle.std.specs.Int.Bits.{bit_and}
+use Rattle.std.proofs.lemmas.Nat.{and_mask, and_mod, and_shr}
 use Rattle.std.proofs.lemmas.Bool.{lt-ltb, le-ltb, cond-true, cond-false}
 use Rattle.policy_base.specs.Counts.{nibbles, counts_of, half, bump}
 
@@ -63,20 +65,23 @@ bump-fits (suc n) w (suc i) lt below fits =
     let h = bump-fits n (w / 16) i (omega arith) below small in
     omega arith
 
--- a word whose lowest count is c
-pub nibbles-cons : (n c w : ℕ) → c < 16 → nibbles (suc n) (w * 16 + c) ≡ c ∷ nibbles n w
-unfolding nibbles
-nibbles-cons n c w small =
-    let a : (w * 16 + c) % 16 ≡ c = omega arith in
-    let b : (w * 16 + c) / 16 ≡ w = omega arith in
-    ap₂ ◌∷◌ a (ap (nibbles n) b)
+-- the lower three bits of each of n counts
+abbrev pub lower_bits : ℕ → ℕ
+lower_bits zero = 0
+lower_bits (suc n) = lower_bits n * 16 + 7
 
--- a halved word is the halved rest below the halved lowest count
-pub nibbles-half : (n w h : ℕ) → nibbles n h ≡ map half (nibbles n (w / 16)) → nibbles (suc n) (h * 16 + w % 16 / 2) ≡ map half (nibbles (suc n) w)
+-- a shift by one bit halves each count, once the bit that comes from the count above is dropped
+pub nibbles-half : (n w : ℕ) → nibbles n (bit_and (w / 2) (lower_bits n)) ≡ map half (nibbles n w)
 unfolding nibbles
-nibbles-half n w h e =
-    let small : w % 16 / 2 < 16 = omega arith in
-    nibbles-cons n (w % 16 / 2) h small ∙ ap (λ r. (w % 16 / 2) ∷ r) e
+nibbles-half zero w = refl
+nibbles-half (suc n) w =
+    let low : lower_bits (suc n) % 16 ≡ 7 = omega arith in
+    let high : lower_bits (suc n) / 16 ≡ lower_bits n = omega arith in
+    let three : bit_and (w / 2 % 16) 7 ≡ w / 2 % 16 % 8 = and_mask (w / 2 % 16) 3 in
+    let count : bit_and (w / 2) (lower_bits (suc n)) % 16 ≡ w % 16 / 2 = and_mod (w / 2) (lower_bits (suc n)) 4 ∙ ap (bit_and (w / 2 % 16)) low ∙ three ∙ omega arith in
+    let shift : w / 2 / 16 ≡ w / 16 / 2 = omega arith in
+    let rest : bit_and (w / 2) (lower_bits (suc n)) / 16 ≡ bit_and (w / 16 / 2) (lower_bits n) = and_shr (w / 2) (lower_bits (suc n)) 4 ∙ ap₂ bit_and shift high in
+    ap₂ ◌∷◌ count (ap (nibbles n) rest ∙ nibbles-half n (w / 16))
 
 -- the counts of a table: count i of word j
 pub get_or-counts : (ws : List ℕ) (j i : ℕ) → j < length ws → i < 16 → get_or (counts_of ws) (16 * j + i) 0 ≡ get_or (nibbles 16 (get_or ws j 0)) i 0
@@ -101,11 +106,6 @@ set-counts (w ∷ ws) (suc j) i v c lt small e =
     let past : 16 ≤ 16 * suc j + i = omega arith in
     let k : 16 * suc j + i - 16 ≡ 16 * j + i = omega arith in
     ap (λ r. nibbles 16 w ++ r) (set-counts ws j i v c (omega arith) small e ∙ ap (λ q. set (counts_of ws) q c) (sym k)) ∙ sym (set-append_right (nibbles 16 w) (counts_of ws) 16 (16 * suc j + i) c size past)
-
--- a count is below 16, and 0 counts of anything are none
-pub halved_none : (w : ℕ) → nibbles 0 0 ≡ map half (nibbles 0 w)
-unfolding nibbles
-halved_none w = refl
 
 -- the counts of halved words
 pub counts-half : (ws vs : List ℕ) → length vs ≡ length ws → ((k : ℕ) → k < length ws → nibbles 16 (get_or vs k 0) ≡ map half (nibbles 16 (get_or ws k 0))) → counts_of vs ≡ map half (counts_of ws)

@@ -1,5 +1,5 @@
 -- How each change of the cells keeps them sound. The lists of vacant entries are those of `slab`.
-use Rattle.std.proofs.Common.{◌≡◌, ◌≢◌, ℕ, ◌+◌, ◌-◌, ◌^◌, ◌<◌, ◌≤◌, true, List, [], ◌∷◌, ◌++◌, map, length, get_or, set, Some, None, is_some, count_by, slice_get, sym, ap, ◌∙◌, inl, inr, arith, length-set}
+use Rattle.std.proofs.Common.{◌≡◌, ◌≢◌, ℕ, ◌+◌, ◌-◌, ◌^◌, ◌<◌, ◌≤◌, true, List, [], ◌∷◌, ◌++◌, map, length, max, get_or, set, Some, None, is_some, count_by, slice_get, sym, ap, ◌∙◌, inl, inr, arith, length-set}
 use Rattle.std.proofs.lemmas.List.{map-set, map_push, length-map, length_push, get_or-map, get_or_at, get_or_append_left, get_or_past}
 use Rattle.std.proofs.lemmas.Bool.{cases_lt}
 use Rattle.std.proofs.lemmas.Option.{slice_get_within, slice_get-get_or}
@@ -7,7 +7,7 @@ use Rattle.slab.specs.Slab.{Slab, Updates}
 use Rattle.slab.specs.declared.Entry.{Entry}
 use Rattle.slab.specs.declared.Entry.TheVariants.{Vacant, Occupied}
 use Rattle.slab.specs.Entry.{value_of}
-use Rattle.slab.proofs.EntryLemmas.{full_at_end, next_within, next_is_vacant, next_is_not_occupied, occupied_at, count-set, IsSound-push, IsSound-fill, IsSound-vacate, IsSound-rewrite}
+use Rattle.slab.proofs.EntryLemmas.{full_at_end, next_within, next_is_vacant, next_is_not_occupied, occupied_at, count-set, IsSound-push, IsSound-fill, IsSound-vacate}
 use Rattle.slab.proofs.SlabLemmas.{Updates-set}
 use Rattle.policy_base.specs.declared.cells.Cell.{Cell}
 use Rattle.policy_base.specs.declared.cells.Cell.TheVariants as cell
@@ -57,6 +57,14 @@ module _ {A B : Type 0} (cs : List (Cell A B)) (len next : ℕ) (h : IsSoundly c
     fits = omega (arith, length_push cs (cell.Taken a b));
   }
 
+  -- a new cell comes only where all others are taken
+  pub pushed_slots : (a : A) (b : B) (m : ℕ) → next ≡ length cs → length cs < 2 ^ 32 - 2 → length (map value_of (map entry_of (cs ++ cell.Taken a b ∷ []))) ≤ max m (count_by is_some (map value_of (map entry_of (cs ++ cell.Taken a b ∷ []))))
+  pushed_slots a b m at_end room =
+      let now = (pushed a b at_end room).sound.counted in
+      let all = full at_end in
+      let more = length-map (map entry_of (cs ++ cell.Taken a b ∷ [])) value_of ∙ length-map (cs ++ cell.Taken a b ∷ []) entry_of ∙ length_push cs (cell.Taken a b) in
+      omega (arith, now, all, more)
+
   pub filled : (c : Cell A B) (after : ℕ) (a : A) (b : B) → next ≢ length cs → c ≡ get_or cs next c → c ≡ cell.Vacant after → IsSoundly (set cs next (cell.Taken a b)) (len + 1) after
   filled c after a b before read is = record {
     sound = rw (map-set entry_of cs next (cell.Taken a b)) (IsSound-fill es len next after (a, b) h.sound (read_entry next c (before_end before) read ∙ ap (λ x. Some (entry_of x)) is));
@@ -93,15 +101,6 @@ module _ {A B : Type 0} (cs : List (Cell A B)) (len next : ℕ) (h : IsSoundly c
 
     pub vacated_len : count_by is_some (map value_of (map entry_of (set cs k (cell.Vacant next)))) + 1 ≡ count_by is_some (map value_of es)
     vacated_len = rw (map-set entry_of cs k (cell.Vacant next)) (omega (arith, count-set es k (Occupied taken.0) (Vacant next) taken.1))
-
-    pub rewritten : (a : A) (b : B) → IsSoundly (set cs k (cell.Taken a b)) len next
-    rewritten a b = record {
-      sound = rw (map-set entry_of cs k (cell.Taken a b)) (IsSound-rewrite es len next k taken.0 (a, b) h.sound taken.1);
-      fits = omega (arith, h.fits, length-set cs k (cell.Taken a b));
-    }
-
-    pub rewritten_len : (a : A) (b : B) → count_by is_some (map value_of (map entry_of (set cs k (cell.Taken a b)))) ≡ count_by is_some (map value_of es)
-    rewritten_len a b = rw (map-set entry_of cs k (cell.Taken a b)) (omega (arith, count-set es k (Occupied taken.0) (Occupied (a, b)) taken.1))
 
   -- a write of one cell changes what its key finds, and no other
   pub updated : (s t : Slab (A × B)) (k : ℕ) (c : Cell A B) → k < length cs → s.slots ≡ map value_of es → t.slots ≡ map value_of (map entry_of (set cs k c)) → Updates s t k (value_of (entry_of c))

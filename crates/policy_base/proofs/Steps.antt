@@ -1,7 +1,8 @@
 -- One increment of a sketch.
-use Rattle.std.proofs.Common.{◌≡◌, ℕ, ◌+◌, ◌*◌, ◌/◌, ◌^◌, ◌<◌, ◌≤◌, Bool, false, cond, ltb, eqb, min, max, List, map, replicate, sym, ap, ap₂, ◌∙◌, arith}
+use Rattle.std.proofs.Common.{◌≡◌, ℕ, ◌+◌, ◌*◌, ◌/◌, ◌^◌, ◌<◌, ◌≤◌, Bool, false, cond, ltb, eqb, min, max, List, map, replicate, length, sym, subst, ap, ap₂, ◌∙◌, arith}
 use Rattle.std.proofs.lemmas.Bool.{ne_eqb, lt-ltb, le-ltb, cond-true, cond-false}
 use Rattle.policy_base.specs.Counts.{Sketch, half, bumped_in, can_grow_in, incremented, aged, counts_of, sketch_of, grown}
+use Rattle.std.specs.Int.{IsPowerOfTwo}
 use Rattle.policy_base.proofs.Nibbles.{counts-zeros}
 
 module _ (z : ℕ) (cs ds : List ℕ) (size more sample h : ℕ) (g : Bool) (some : 0 < z) (counts : ds ≡ bumped_in z cs h) (grew : g ≡ can_grow_in z cs h) (is : more ≡ size + cond g 1 0) where
@@ -22,3 +23,10 @@ pub made : (s : Sketch) (words capacity : ℕ) (len sample : ℕ) (items : List 
 made s words capacity len sample items lt e f g =
     ap (λ n. sketch_of n items 0 sample) e ∙ ap (λ xs. let t : Sketch = record { words = words; counts = xs; size = 0; sample = sample } in t) (ap counts_of f ∙ counts-zeros words) ∙ ap (λ n. let t : Sketch = record { words = words; counts = replicate (16 * words) 0; size = 0; sample = n } in t) g
     ∙ sym (cond-true (ltb s.words words) _ _ (lt-ltb s.words words lt))
+
+-- a slice of a table that has words
+pub is_power : (len : ℕ) (items now : List ℕ) → len ≡ length items → now ≡ items → (0 < len → IsPowerOfTwo len) → 0 < length now → IsPowerOfTwo (length now)
+is_power len items now e f power some =
+    let long : length now ≡ len = ap length f ∙ sym e in
+    let P : ℕ → Type 0 = IsPowerOfTwo in
+    subst P (sym long) (power (omega arith))

@@ -1,8 +1,8 @@
 //! A slab whose keys have 32 bits, and whose cells have no byte to spare.
 //!
-//! It does what `slab` does, and contracts see it as they see that. A cell has two parts, so that a first part of 32
-//! bits stands beside the cell's own mark: with eight bytes and eight more in the second part it takes 24.
-ghost use Rattle.std.specs.Prelude.{◌≡◌, ◌+◌, ◌-◌, ◌<◌, ◌≤◌, ◌^◌, [], length, IsSome, IsOk, OnOk, option_map, None, Some, vec_len, vec_capacity};
+//! It does what `slab` does, and contracts see it as they see that. A cell's mark has 32 bits: with two parts of eight
+//! bytes each it takes 24.
+ghost use Rattle.std.specs.Prelude.{◌≡◌, ◌+◌, ◌-◌, ◌<◌, ◌≤◌, ◌^◌, [], length, max, IsSome, IsOk, OnOk, option_map, None, Some, vec_len, vec_capacity};
 ghost use Rattle.slab.specs.Slab.{get, ContainsKey, slab_len, HasRoomFor, Updates};
 
 use std::alloc::{AllocError, Global};
@@ -95,6 +95,7 @@ impl<A, B> Cells<A, B> {
         ensures len { slab_len self.new ≡ slab_len self.old + 1 }
         ensures key_in_range { result < 2 ^ 32 - 2 }
         ensures capacity { self.new.capacity ≡ self.old.capacity }
+        ensures slots { length self.new.slots ≤ max (length self.old.slots) (slab_len self.new) }
     {
         let key = self.next;
         self.len += 1;
@@ -119,6 +120,7 @@ impl<A, B> Cells<A, B> {
         ensures room { HasRoomFor self.new 1 }
         ensures key_is_next { self.new.vacant_key ≡ key }
         ensures capacity { self.new.capacity ≡ self.old.capacity }
+        ensures slots { length self.new.slots ≡ length self.old.slots }
     {
         let vacant = Cell::Vacant(self.next);
         match mem::replace(&mut self.cells[key as usize], vacant) {
@@ -140,22 +142,6 @@ impl<A, B> Cells<A, B> {
             Some(Cell::Taken(first, second)) => Some((first, second)),
             Some(Cell::Vacant(_)) => None,
             None => None,
-        }
-    }
-}
-
-impl<A: Drop, B> Cells<A, B> {
-    /// Puts another first part at `key`, which must hold a value.
-    pub fn set_first(&mut self, key: u32, first: A)
-        requires { ContainsKey self.old key }
-        ensures updates { Updates self.old self.new key (option_map (λ value. (first, value.1)) (get self.old key)) }
-        ensures len { slab_len self.new ≡ slab_len self.old }
-        ensures vacant_key { self.new.vacant_key ≡ self.old.vacant_key }
-        ensures capacity { self.new.capacity ≡ self.old.capacity }
-    {
-        match &mut self.cells[key as usize] {
-            Cell::Taken(part, _) => *part = first,
-            Cell::Vacant(_) => unreachable!(),
         }
     }
 }

@@ -1,6 +1,6 @@
 //! How often hashes were counted of late, in words of sixteen counts.
 ghost use Rattle.std.specs.Prelude.{◌≡◌, ℕ, ◌+◌, ◌-◌, ◌*◌, ◌/◌, ◌%◌, ◌^◌, ◌<◌, ◌≤◌, List, [], map, length, slice_index, slice_set, nat_lt, vec_len, replicate, min, max, true, false, IsOk, OnOk, OnErr};
-ghost use Rattle.std.specs.Int.{IsNextPowerOfTwo};
+ghost use Rattle.std.specs.Int.{IsPowerOfTwo, IsNextPowerOfTwo};
 ghost use Rattle.policy_base.specs.Counts.{nibbles, counts_of, half, multiplier, spread, place, bump, frequency_of, incremented, bumped_in, can_grow_in, sketch_of, fresh, grown, own_count, after};
 
 use std::alloc::{AllocError, Global};
@@ -24,17 +24,14 @@ fn with_one_more(word: u64, i: u32) -> u64
     word + (1u64 << (4 * i))
 }
 
-/// The word with each of its lowest `n` counts halved.
-fn halved(word: u64, n: u32) -> u64
-    requires { n ≤ 16 }
-    ensures counts { nibbles n result ≡ map half (nibbles n word) }
-    ensures fits { result < 16 ^ n }
+/// The lower three bits of each count.
+const LOWER_BITS: u64 = 0x7777_7777_7777_7777;
+
+/// The word with each of its counts halved: a bit that moves down into the count below is dropped.
+fn halved(word: u64) -> u64
+    ensures { nibbles 16 result ≡ map half (nibbles 16 word) }
 {
-    if n == 0 {
-        0
-    } else {
-        halved(word / 16, n - 1) * 16 + word % 16 / 2
-    }
+    (word >> 1) & LOWER_BITS
 }
 
 /// The multiplier of the `i`-th count of a hash.
@@ -71,13 +68,23 @@ pub struct FrequencySketch {
 
 impl Model for FrequencySketch {
     ghost use Rattle.std.specs.Prelude.{◌≤◌, ◌<◌, ◌^◌, vec_len};
+    ghost use Rattle.std.specs.Int.{IsPowerOfTwo};
     ghost use Rattle.policy_base.specs.Counts.{Sketch, counts_of};
 
     ghost Value = { Sketch };
 
     ghost view = { λ s. record { words = vec_len s.table; counts = counts_of s.table.items; size = s.size; sample = s.sample } };
 
-    ghost invariant = { λ s. (s.size < s.sample) × (s.sample < 2 ^ 32) };
+    ghost invariant = { λ s. (s.size < s.sample) × (s.sample < 2 ^ 32) × (0 < vec_len s.table → IsPowerOfTwo (vec_len s.table)) };
+}
+
+/// The word of the `i`-th count of a hash, of so many words.
+fn word_of(words: usize, hash: u64, i: u64) -> usize
+    requires { IsPowerOfTwo words }
+    ensures word { result ≡ spread hash i % words }
+    ensures within { result < words }
+{
+    (spread_of(hash, i) & (words as u64 - 1)) as usize
 }
 
 /// Halves every count.
@@ -85,18 +92,18 @@ fn halve_all(table: &mut [u64])
     ensures { counts_of table.new ≡ map half (counts_of table.old) }
 {
     for word in table.iter_mut() {
-        *word = halved(*word, 16);
+        *word = halved(*word);
     }
 }
 
 /// Adds one at a place, and says whether it grew.
 fn bump_at(table: &mut [u64], hash: u64, i: u64) -> bool
     requires index { i < 4 }
-    requires some { 0 < length table.old }
+    requires power { IsPowerOfTwo (length table.old) }
     ensures counts { counts_of table.new ≡ bump (counts_of table.old) (place (length table.old) hash i) }
     ensures grew { result ≡ nat_lt (slice_index (counts_of table.old) (place (length table.old) hash i)) 15 }
 {
-    let at = (spread_of(hash, i) % table.len() as u64) as usize;
+    let at = word_of(table.len(), hash, i);
     let k = (4 * (hash % 4) + i) as u32;
     let word = table[at];
     if count_at(word, k) < 15 {
@@ -109,7 +116,7 @@ fn bump_at(table: &mut [u64], hash: u64, i: u64) -> bool
 
 /// Adds one to each of the four counts of a hash, and says whether one grew.
 fn bump_all(table: &mut [u64], hash: u64) -> bool
-    requires { 0 < length table.old }
+    requires { IsPowerOfTwo (length table.old) }
     ensures counts { counts_of table.new ≡ bumped_in (length table.old) (counts_of table.old) hash }
     ensures grew { result ≡ can_grow_in (length table.old) (counts_of table.old) hash }
     ensures len { length table.new ≡ length table.old }
@@ -123,7 +130,7 @@ fn bump_all(table: &mut [u64], hash: u64) -> bool
 
 /// Counts a hash once more, and answers the new size.
 fn counted(table: &mut [u64], size: u64, sample: u64, hash: u64) -> u64
-    requires some { 0 < length table.old }
+    requires power { IsPowerOfTwo (length table.old) }
     requires size { size < sample }
     requires sample { sample < 2 ^ 32 }
     ensures sketch { sketch_of (length table.new) table.new result sample ≡ incremented (sketch_of (length table.old) table.old size sample) hash }
@@ -141,11 +148,11 @@ fn counted(table: &mut [u64], size: u64, sample: u64, hash: u64) -> u64
 /// The count at a place.
 fn count_of(table: &[u64], hash: u64, i: u64) -> u8
     requires index { i < 4 }
-    requires some { 0 < length table.now }
+    requires power { IsPowerOfTwo (length table.now) }
     ensures count { result ≡ slice_index (counts_of table.now) (place (length table.now) hash i) }
     ensures top { result ≤ 15 }
 {
-    let at = (spread_of(hash, i) % table.len() as u64) as usize;
+    let at = word_of(table.len(), hash, i);
     let k = (4 * (hash % 4) + i) as u32;
     count_at(table[at], k)
 }

@@ -1,132 +1,180 @@
--- The loop that closes up the empty places.
-use Rattle.std.proofs.Common.{◌≡◌, ◌≢◌, ℕ, ◌+◌, ◌<◌, ◌≤◌, List, [], ◌∷◌, ◌++◌, length, get_or, set, take, drop, Option, Some, None, option_map, refl, sym, ap, ◌∙◌, inl, inr, arith}
-use Rattle.std.proofs.lemmas.Bool.{cases_eq}
-use Rattle.std.proofs.lemmas.List.{take_more_set, take-set-le, drop-set-lt, append_assoc, append-nil, length-set, length-append, get_or-set_same, get_or-set_other, drop_all, get_or-take, length-take}
-use Rattle.std.proofs.lemmas.Option.{same_Some}
-use Rattle.slab.specs.Slab.{get, Updates, slab_len}
-use Rattle.policy_queue.specs.declared.places.Seat.{Seat}
-use Rattle.policy_queue.specs.Places.{vacant, order, Nodes, place_in, seat_in, IsStored, SameNodes}
-use Rattle.policy_queue.proofs.Order.{within, order_push, order_drop_some, order_drop_none}
+-- Closing up: indices are carried down over empty places.
+use Rattle.std.proofs.Common.{◌≡◌, ◌≢◌, ℕ, ◌+◌, ◌-◌, ◌^◌, ◌<◌, ◌≤◌, List, length, get_or, set, take, max, refl, sym, ap, ◌∙◌, inl, inr, arith}
+use Rattle.std.proofs.lemmas.Bool.{cases_lt, cases_eq}
+use Rattle.std.proofs.lemmas.List.{get_or_past, get_or-set_same, get_or-set_other, get_or-take, length-set, length-take, length-take-le}
+use Rattle.policy_queue.specs.declared.index_queue.Cursors.{Cursors}
+use Rattle.policy_queue.specs.Indices.{vacant, order, AreSeated, AreEmpty, AreArranged, Carries}
+use Rattle.policy_queue.proofs.Order.{within, order_carried, order_take_all, all_taken}
+use Rattle.policy_queue.proofs.Seats.{seated_alike, seated_carried}
 
-module _ {T : Type 0} where
-  -- a node stands at another place
-  pub record Replaced (s s' : Nodes T) (slot place : ℕ) : Type 0 where
-    pub updates : Updates s s' slot (option_map (λ (v : ℕ × Seat T). (place, v.1)) (get s slot))
-    pub count : slab_len s' ≡ slab_len s
-    pub room : s'.capacity ≡ s.capacity
+module _ (ps : List ℕ) (to from : ℕ) (le : to ≤ from) where
+  pub Carries-start : (ss : List ℕ) → AreSeated ps ss → AreEmpty ps to from → Carries ps ps ss to from from to
+  Carries-start ss seated gap = record {
+    same = refl;
+    seated = seated;
+    low = omega arith;
+    high = omega arith;
+    before = λ k lt. refl;
+    taken = λ k low high. absurd (omega arith);
+    gap = gap;
+    behind = λ k low. refl;
+    moved = λ k low high. absurd (omega arith);
+  }
 
-  module _ (s s' : Nodes T) (slot place : ℕ) (h : Replaced s s' slot place) where
-    seat_kept : (o : Option (ℕ × Seat T)) → option_map (λ (v : ℕ × Seat T). v.1) (option_map (λ (v : ℕ × Seat T). (place, v.1)) o) ≡ option_map (λ (v : ℕ × Seat T). v.1) o
-    seat_kept None = refl
-    seat_kept (Some v) = refl
-
-    place_set : (o : Option (ℕ × Seat T)) (v : ℕ × Seat T) → o ≡ Some v → option_map (λ (v : ℕ × Seat T). v.0) (option_map (λ (v : ℕ × Seat T). (place, v.1)) o) ≡ Some place
-    place_set o v e = ap (λ p. option_map (λ (v : ℕ × Seat T). v.0) (option_map (λ (v : ℕ × Seat T). (place, v.1)) p)) e
-
-    pub replaced_same : SameNodes s s'
-    replaced_same = record {
-      seats = λ x. elim (cases_eq x slot) [
-        | inl e ↦ ap (seat_in s') e ∙ ap (λ o. option_map (λ (v : ℕ × Seat T). v.1) o) h.updates.changed ∙ seat_kept (get s slot) ∙ ap (seat_in s) (sym e)
-        | inr d ↦ ap (λ o. option_map (λ (v : ℕ × Seat T). v.1) o) (h.updates.others x d)
-      ];
-      count = h.count;
-      room = h.room;
-    }
-
-    pub replaced_here : (v : ℕ × Seat T) → get s slot ≡ Some v → place_in s' slot ≡ Some place
-    replaced_here v e = ap (λ o. option_map (λ (v : ℕ × Seat T). v.0) o) h.updates.changed ∙ place_set (get s slot) v e
-
-    pub replaced_other : (x : ℕ) → x ≢ slot → place_in s' x ≡ place_in s x
-    replaced_other x d = ap (λ o. option_map (λ (v : ℕ × Seat T). v.0) o) (h.updates.others x d)
-
-  pub SameNodes-start : (s : Nodes T) → SameNodes s s
-  SameNodes-start s = record { seats = λ slot. refl; count = refl; room = refl }
-
-  pub SameNodes-then : (a b c : Nodes T) → SameNodes a b → SameNodes b c → SameNodes a c
-  SameNodes-then a b c f g = record { seats = λ slot. g.seats slot ∙ f.seats slot; count = g.count ∙ f.count; room = g.room ∙ f.room }
-
-  pub record Closing (ps₀ : List ℕ) (s₀ : Nodes T) (ps : List ℕ) (s : Nodes T) (to from : ℕ) : Type 0 where
-    pub behind : to ≤ from
-    pub len : length ps ≡ length ps₀
-    pub listed : order (take to ps) ++ order (drop from ps) ≡ order ps₀
-    pub gap : (k : ℕ) → to ≤ k → k < from → get_or ps k vacant ≡ vacant
-    pub full : length (order (take to ps)) ≡ to
-    pub stored : IsStored ps s
-    pub same : SameNodes s₀ s
-
-  module _ (ps₀ : List ℕ) (s₀ : Nodes T) where
-    pub Closing-start : IsStored ps₀ s₀ → Closing ps₀ s₀ ps₀ s₀ 0 0
-    Closing-start stored = record {
-      behind = omega arith;
-      len = refl;
-      listed = refl;
-      gap = λ k low high. absurd (omega arith);
-      full = refl;
-      stored = stored;
-      same = SameNodes-start s₀;
-    }
-
+  module _ (qs ts : List ℕ) (k next : ℕ) (h : Carries ps qs ts to from k next) where
     -- an empty place is passed over
-    pub Closing-none : (ps : List ℕ) (s : Nodes T) (to from : ℕ) → Closing ps₀ s₀ ps s to from → from < length ps → get_or ps from vacant ≡ vacant → Closing ps₀ s₀ ps s to (from + 1)
-    Closing-none ps s to from h below empty = record {
-      behind = omega (arith, h.behind);
-      len = h.len;
-      listed = ap (λ r. order (take to ps) ++ r) (sym (order_drop_none ps from below empty)) ∙ h.listed;
-      gap = λ k low high. elim (cases_eq k from) [ inl e ↦ ap (λ i. get_or ps i vacant) e ∙ empty | inr e ↦ h.gap k low (omega arith) ];
-      full = h.full;
-      stored = h.stored;
+    pub Carries-none : get_or qs k vacant ≡ vacant → Carries ps qs ts to from (k + 1) next
+    Carries-none empty = record {
       same = h.same;
+      seated = h.seated;
+      low = h.low;
+      high = omega (arith, h.high);
+      before = h.before;
+      taken = h.taken;
+      gap = λ j low high. elim (cases_eq j k) [ inl e ↦ ap (λ i. get_or qs i vacant) e ∙ empty | inr d ↦ h.gap j low (omega arith) ];
+      behind = λ j low. h.behind j (omega arith);
+      moved = λ j low high some. elim (cases_eq j k) [
+        | inl e ↦ absurd (some (sym (h.behind j (omega arith)) ∙ ap (λ i. get_or qs i vacant) e ∙ empty))
+        | inr d ↦ h.moved j low (omega arith) some
+      ];
     }
 
-    -- a node moves down to the first empty place
-    pub Closing-some : (ps : List ℕ) (s s' : Nodes T) (to from slot : ℕ) → Closing ps₀ s₀ ps s to from → get_or ps from vacant ≡ slot → slot ≢ vacant → Replaced s s' slot to → (v : ℕ × Seat T) → get s slot ≡ Some v → Closing ps₀ s₀ (set (set ps from vacant) to slot) s' (to + 1) (from + 1)
-    Closing-some ps s s' to from slot h there named moved v held =
-        let taken : get_or ps from vacant ≢ vacant = λ e. named (sym there ∙ e) in
-        let below : from < length ps = within ps from taken in
-        let ps₁ : List ℕ = set ps from vacant in
-        let ps₂ : List ℕ = set ps₁ to slot in
-        let len₁ : length ps₁ ≡ length ps = length-set ps from vacant in
-        let to_lt : to < length ps₁ = omega (arith, h.behind) in
-        let front : take (to + 1) ps₂ ≡ take to ps ++ slot ∷ [] = take_more_set ps₁ to slot to_lt ∙ ap (λ r. r ++ slot ∷ []) (take-set-le to ps from vacant h.behind) in
-        let live_front : order (take (to + 1) ps₂) ≡ order (take to ps) ++ slot ∷ [] = ap order front ∙ order_push (take to ps) slot named in
-        let back : drop (from + 1) ps₂ ≡ drop (from + 1) ps = drop-set-lt (from + 1) ps₁ to slot (omega (arith, h.behind)) ∙ drop-set-lt (from + 1) ps from vacant (omega arith) in
-        let from_here : order (drop from ps) ≡ slot ∷ order (drop (from + 1) ps) = order_drop_some ps from taken ∙ ap (λ x. x ∷ order (drop (from + 1) ps)) there in
-        let at_slot : place_in s slot ≡ Some from = ap (place_in s) (sym there) ∙ h.stored from taken in
+    -- an index goes down to the first empty place
+    pub Carries-some : (x : ℕ) → get_or qs k vacant ≡ x → x ≢ vacant → length qs ≤ 2 ^ 32 - 1 → length ts ≤ 2 ^ 32 - 1 → Carries ps (set (set qs k vacant) next x) (set ts x next) to from (k + 1) (next + 1)
+    Carries-some x there named fits few =
+        let high = h.high in
+        let low = h.low in
+        let down : next ≤ k = omega arith in
+        let below : k < length qs = within qs k (λ e. named (sym there ∙ e)) in
+        let len₁ = length-set qs k vacant in
+        let qs' : List ℕ = set (set qs k vacant) next x in
+        let other : (j : ℕ) → j ≢ next → j ≢ k → get_or qs' j vacant ≡ get_or qs j vacant = λ j d e. get_or-set_other (set qs k vacant) next j x vacant d ∙ get_or-set_other qs k j vacant vacant e in
+        let here : get_or qs' next vacant ≡ x = get_or-set_same (set qs k vacant) next x vacant (omega arith) in
         record {
-          behind = omega (arith, h.behind);
-          len = length-set ps₁ to slot ∙ len₁ ∙ h.len;
-          listed = ap (λ r. r ++ order (drop (from + 1) ps₂)) live_front ∙ ap (λ r. (order (take to ps) ++ slot ∷ []) ++ order r) back ∙ append_assoc (order (take to ps)) (slot ∷ []) (order (drop (from + 1) ps)) ∙ ap (λ r. order (take to ps) ++ r) (sym from_here) ∙ h.listed;
-          gap = λ k low high. get_or-set_other ps₁ to k slot vacant (omega arith) ∙ elim (cases_eq k from) [
-            | inl e ↦ ap (λ i. get_or ps₁ i vacant) e ∙ get_or-set_same ps from vacant vacant below
-            | inr e ↦ get_or-set_other ps from k vacant vacant e ∙ h.gap k (omega arith) (omega arith)
+          same = order_carried qs next k x down h.gap there named ∙ h.same;
+          seated = seated_carried qs ts h.seated x next k there named down (λ lt. h.gap next (omega arith) lt) fits few;
+          low = omega arith;
+          high = omega arith;
+          before = λ j lt. other j (omega arith) (omega arith) ∙ h.before j lt;
+          taken = λ j ge lt. elim (cases_eq j next) [
+            | inl e ↦ λ f. named (sym here ∙ ap (λ i. get_or qs' i vacant) (sym e) ∙ f)
+            | inr d ↦ λ f. h.taken j ge (omega arith) (sym (other j d (omega arith)) ∙ f)
           ];
-          full = ap length live_front ∙ length-append (order (take to ps)) (slot ∷ []) ∙ ap (λ j. j + 1) h.full;
-          stored = λ k at_k. elim (cases_eq k to) [
-            | inl e ↦
-                let here : get_or ps₂ k vacant ≡ slot = ap (λ i. get_or ps₂ i vacant) e ∙ get_or-set_same ps₁ to slot vacant to_lt in
-                ap (place_in s') here ∙ replaced_here s s' slot to moved v held ∙ ap (λ i. Some i) (sym e)
-            | inr e ↦
-                let at_1 : get_or ps₂ k vacant ≡ get_or ps₁ k vacant = get_or-set_other ps₁ to k slot vacant e in
-                elim (cases_eq k from) [
-                  | inl f ↦ absurd (at_k (at_1 ∙ ap (λ i. get_or ps₁ i vacant) f ∙ get_or-set_same ps from vacant vacant below))
-                  | inr f ↦
-                      let at_0 : get_or ps₂ k vacant ≡ get_or ps k vacant = at_1 ∙ get_or-set_other ps from k vacant vacant f in
-                      let was : place_in s (get_or ps k vacant) ≡ Some k = h.stored k (λ g. at_k (at_0 ∙ g)) in
-                      ap (place_in s') at_0 ∙ replaced_other s s' slot to moved (get_or ps k vacant) (λ g. f (same_Some k from (sym was ∙ ap (place_in s) g ∙ at_slot))) ∙ was
-                ]
+          gap = λ j ge lt. elim (cases_eq j k) [
+            | inl e ↦ get_or-set_other (set qs k vacant) next j x vacant (omega arith) ∙ ap (λ i. get_or (set qs k vacant) i vacant) e ∙ get_or-set_same qs k vacant vacant below
+            | inr d ↦ other j (omega arith) d ∙ h.gap j (omega arith) (omega arith)
           ];
-          same = SameNodes-then s₀ s s' h.same (replaced_same s s' slot to moved);
+          behind = λ j ge. other j (omega arith) (omega arith) ∙ h.behind j (omega arith);
+          moved = λ j ge lt some. omega arith;
         }
 
-    -- what is left after the last place
-    pub Closing-end : (ps : List ℕ) (s : Nodes T) (to from : ℕ) → Closing ps₀ s₀ ps s to from → length ps ≤ from → order (take to ps) ≡ order ps₀
-    Closing-end ps s to from h past =
-        sym (append-nil (order (take to ps))) ∙ ap (λ r. order (take to ps) ++ order r) (sym (drop_all from ps past)) ∙ h.listed
+-- a front of the places, with no index behind it, reads as all of them
+pub take_alike : (ps : List ℕ) (n : ℕ) → ((j : ℕ) → n ≤ j → get_or ps j vacant ≡ vacant) → (k : ℕ) → get_or (take n ps) k vacant ≡ get_or ps k vacant
+take_alike ps n none k = elim (cases_lt k n) [
+  | inl lt ↦ get_or-take n ps k vacant lt
+  | inr ge ↦ get_or_past (take n ps) k vacant (omega (arith, length-take n ps)) ∙ sym (none k ge)
+]
 
-  -- a front of sound places is sound
-  pub IsStored-take : (ps : List ℕ) (s : Nodes T) (n : ℕ) → IsStored ps s → IsStored (take n ps) s
-  IsStored-take ps s n stored k at_k =
-      let lt = within (take n ps) k at_k in
-      let k_lt : k < n = omega (arith, length-take n ps) in
-      let at = get_or-take n ps k vacant k_lt in
-      ap (place_in s) at ∙ stored k (λ e. at_k (at ∙ e))
+-- where reading begins
+module _ (ps ss : List ℕ) (cs : Cursors) (h : AreArranged ps ss cs) (some : 0 < length ps) (from : ℕ) (is : from ≡ max cs.unread cs.front) where
+  pub from_within : from < length ps
+  from_within =
+      let first = (h.ends.first some).0 in
+      elim (cases_lt 0 cs.unread) [ inl lt ↦ (let l = h.gap.within lt in omega arith) | inr ge ↦ omega arith ]
+
+  pub gap_before : AreEmpty ps cs.carried from
+  gap_before k low high = elim (cases_lt k cs.unread) [ inl lt ↦ h.gap.empty k low lt | inr ge ↦ h.ends.before k (omega arith) ]
+
+  -- the front is among the carried places or the first that is read
+  pub front_side : cs.front ≢ from → cs.front < cs.carried
+  front_side d = elim (cases_lt cs.front cs.carried) [
+    | inl lt ↦ lt
+    | inr ge ↦ absurd ((h.ends.first some).1 (h.gap.empty cs.front ge (omega arith)))
+  ]
+
+  module _ (qs ts : List ℕ) (end next : ℕ) (c : Carries ps qs ts cs.carried from end next) (len : length qs ≡ length ps) (more : from < end) (high : end ≤ length ps) where
+    -- where the first index stands then
+    pub record IsFront (f : ℕ) : Type 0 where
+      pub before : (j : ℕ) → j < f → get_or qs j vacant ≡ vacant
+      pub first : get_or qs f vacant ≢ vacant
+      pub below : f < next
+
+    pub front_carried : cs.front ≡ from → IsFront cs.carried
+    front_carried e =
+        let ordered = h.gap.ordered in
+        let down : cs.carried < next = c.moved from (omega arith) more (λ f. (h.ends.first some).1 (ap (λ i. get_or ps i vacant) e ∙ f)) in
+        record {
+          before = λ j lt. c.before j lt ∙ h.ends.before j (omega arith);
+          first = c.taken cs.carried (omega arith) down;
+          below = down;
+        }
+
+    pub front_stays : cs.front ≢ from → IsFront cs.front
+    front_stays d =
+        let side = front_side d in
+        let low = c.low in
+        record {
+          before = λ j lt. c.before j (omega arith) ∙ h.ends.before j lt;
+          first = λ e. (h.ends.first some).1 (sym (c.before cs.front side) ∙ e);
+          below = omega arith;
+        }
+
+    next_high : next ≤ end
+    next_high = let up = c.high in let ordered = h.gap.ordered in omega arith
+
+    -- some places are still to be read
+    pub closing_goes_on : (f : ℕ) → IsFront f → end ≢ length ps → length ts ≡ length ss → AreArranged qs ts (record { front = f; carried = next; unread = end })
+    closing_goes_on f at less seats =
+        let up = next_high in
+        let below = at.below in
+        let fits = h.fits in
+        let few = h.few in
+        record {
+          seated = c.seated;
+          ends = record {
+            before = at.before;
+            first = λ _. (omega arith, at.first);
+            last = λ _ e. h.ends.last some (sym (c.behind (length ps - 1) (omega arith)) ∙ ap (λ (n : ℕ). get_or qs (n - 1) vacant) (sym len) ∙ e);
+            none = λ e. absurd (omega arith);
+          };
+          gap = record { empty = c.gap; ordered = up; within = λ _. omega arith };
+          fits = omega arith;
+          few = omega arith;
+        }
+
+    none_behind : end ≡ length ps → (j : ℕ) → next ≤ j → get_or qs j vacant ≡ vacant
+    none_behind all j ge = elim (cases_lt j end) [ inl lt ↦ c.gap j ge lt | inr past ↦ get_or_past qs j vacant (omega arith) ]
+
+    pub order_closed : end ≡ length ps → order (take next qs) ≡ order ps
+    order_closed all = order_take_all qs next (none_behind all) ∙ c.same
+
+    -- all places were read
+    pub closing_ends : (f : ℕ) → IsFront f → end ≡ length ps → length ts ≡ length ss → AreArranged (take next qs) ts (record { front = f; carried = 0; unread = 0 })
+    closing_ends f at all seats =
+        let up = next_high in
+        let below = at.below in
+        let fits = h.fits in
+        let few = h.few in
+        let short : length (take next qs) ≡ next = length-take-le next qs (omega arith) in
+        let same = take_alike qs next (none_behind all) in
+        let down : cs.carried < next = c.moved (length ps - 1) (omega arith) (omega arith) (h.ends.last some) in
+        record {
+          seated = seated_alike qs (take next qs) ts same c.seated;
+          ends = record {
+            before = λ j lt. same j ∙ at.before j lt;
+            first = λ _. (omega arith, λ e. at.first (sym (same f) ∙ e));
+            last = λ _ e. c.taken (next - 1) (omega arith) (omega arith) (sym (same (next - 1)) ∙ ap (λ (n : ℕ). get_or (take next qs) (n - 1) vacant) (sym short) ∙ e);
+            none = λ e. absurd (omega arith);
+          };
+          gap = record { empty = λ k low lt. absurd (omega arith); ordered = omega arith; within = λ lt. absurd (omega arith) };
+          fits = omega arith;
+          few = omega arith;
+        }
+
+    -- and no empty one is left where all of them were unread
+    pub closed_whole : end ≡ length ps → cs.carried ≡ 0 → length (take next qs) ≡ length (order ps)
+    closed_whole all zero =
+        let up = next_high in
+        let short : length (take next qs) ≡ next = length-take-le next qs (omega arith) in
+        let same = take_alike qs next (none_behind all) in
+        sym (all_taken (take next qs) (λ k lt e. c.taken k (omega arith) (omega arith) (sym (same k) ∙ e))) ∙ ap length (order_closed all)

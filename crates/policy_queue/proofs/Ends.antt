@@ -1,17 +1,17 @@
--- The first and the last node of an array of places.
+-- The first and the last index of an array of places.
 use Rattle.std.proofs.Common.{◌≡◌, ◌≢◌, ℕ, ◌+◌, ◌-◌, ◌<◌, ◌≤◌, List, [], ◌∷◌, ◌++◌, length, get_or, set, take, drop, min, refl, sym, ap, ◌∙◌, inl, inr, arith, Some}
 use Rattle.std.proofs.lemmas.Bool.{cases_lt, cases_eq}
 use Rattle.std.proofs.lemmas.List.{drop_all, length-set, length-take-le, get_or-set_same, get_or-set_other, get_or-take, get_or_append_left, get_or_at, length_push}
 use Rattle.policy_queue.specs.Queue.{final}
-use Rattle.policy_queue.specs.Places.{vacant, order, Ends, EndsBut}
-use Rattle.policy_queue.proofs.Order.{within, order_at, full_taken}
+use Rattle.policy_queue.specs.Indices.{vacant, order, Ends, EndsBut}
+use Rattle.policy_queue.proofs.Order.{within, order_at}
 
 pub final-push : {X : Type 0} (xs : List X) (x : X) → final (xs ++ x ∷ []) ≡ Some x
 final-push [] x = refl
 final-push (y ∷ []) x = refl
 final-push (y ∷ z ∷ rest) x = final-push (z ∷ rest) x
 
--- the last node stands in the last place
+-- the last index stands in the last place
 pub order_last : (ps : List ℕ) (f : ℕ) → Ends ps f → 0 < length ps → order ps ≡ order (take (length ps - 1) ps) ++ get_or ps (length ps - 1) vacant ∷ []
 order_last ps f h some =
     let none : order (drop (length ps - 1 + 1) ps) ≡ [] = ap order (drop_all (length ps - 1 + 1) ps (omega arith)) in
@@ -31,7 +31,7 @@ Ends-emptied ps f k h there =
       last = λ other e. h.last (omega arith) (sym (ap (λ i. get_or (set ps k vacant) (i - 1) vacant) len ∙ get_or-set_other ps k (length ps - 1) vacant vacant (omega arith)) ∙ e);
     }
 
--- the empty places behind the last node are given up
+-- the empty places behind the last index are given up
 pub Ends-trimmed : (ps : List ℕ) (f k m : ℕ) → EndsBut ps f k → k + 1 ≡ length ps → m ≤ length ps → ((j : ℕ) → m ≤ j → get_or ps j vacant ≡ vacant) → (0 < m → get_or ps (m - 1) vacant ≢ vacant) → Ends (take m ps) (min f m)
 Ends-trimmed ps f k m h at_end le none last =
     let len : length (take m ps) ≡ m = length-take-le m ps le in
@@ -51,7 +51,7 @@ Ends-trimmed ps f k m h at_end le none last =
       none = λ e. omega arith;
     }
 
--- the front moves on to the next node
+-- the front moves on to the next index
 pub Ends-advanced : (ps : List ℕ) (f k g : ℕ) → EndsBut ps f k → k ≡ f → k + 1 ≢ length ps → ((j : ℕ) → k + 1 ≤ j → j < g → get_or ps j vacant ≡ vacant) → (g < length ps → get_or ps g vacant ≢ vacant) → k + 1 ≤ g → g ≤ length ps → Ends ps g
 Ends-advanced ps f k g h at_front more none first low high =
     let within_k = h.within in
@@ -78,14 +78,6 @@ Ends-between ps f k h other more =
       last = λ some. h.last more;
       none = λ e. absurd (omega arith);
     }
-
-pub Ends-full : (ps : List ℕ) → length ps ≡ length (order ps) → Ends ps 0
-Ends-full ps full = record {
-  before = λ j lt. absurd (omega arith);
-  first = λ some. (some, full_taken ps 0 (omega arith) some);
-  last = λ some. full_taken ps (length ps - 1) (omega arith) (omega arith);
-  none = λ e. refl;
-}
 
 pub Ends-push : (ps : List ℕ) (f s : ℕ) → s ≢ vacant → Ends ps f → Ends (ps ++ s ∷ []) f
 Ends-push ps f s d h =
@@ -116,6 +108,3 @@ Ends-push ps f s d h =
 
 pub Ends-none : Ends [] 0
 Ends-none = record { before = λ j lt. absurd (omega arith); first = λ some. absurd (omega arith); last = λ some. absurd (omega arith); none = λ e. refl }
-
-pub front_within : (ps : List ℕ) (f : ℕ) → Ends ps f → f ≤ length ps
-front_within ps f h = elim (cases_lt 0 (length ps)) [ inl some ↦ let lt = (h.first some).0 in omega arith | inr none ↦ let zero_f = h.none (omega arith) in omega arith ]

@@ -1,8 +1,11 @@
 pub mod Live
+pub mod Listed
 pub mod Order
-pub mod Slots
+pub mod Seats
 pub mod Ends
 pub mod Closing
-pub mod Moves
+pub mod Arranged
+pub mod Standing
 pub mod Names
+pub mod Queues
 pub mod Seeking

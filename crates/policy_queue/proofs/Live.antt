@@ -1,12 +1,12 @@
 -- Lemmas on lists of named nodes.
 use Rattle.std.proofs.Common.{◌≡◌, true, false, Bool, List, [], ◌∷◌, ◌++◌, Some, None, MatchOption, option_map, refl, sym, ap, ◌∙◌, subst}
-use Rattle.std.proofs.lemmas.Bool.{true≢false, cond-true, cond-false}
+use Rattle.std.proofs.lemmas.Bool.{cond-true, cond-false}
 use Rattle.std.proofs.lemmas.Option.{none-some, same_Some}
 use Rattle.policy_base.specs.declared.name.NodeId.{NodeId}
 use Rattle.policy_queue.specs.declared.places.Node.{Node}
 use Rattle.policy_base.specs.Region.{same_id}
 use Rattle.policy_base.proofs.Names.{same_id-refl}
-use Rattle.policy_queue.specs.Queue.{find, without_node, from_id, head, is_nonempty}
+use Rattle.policy_queue.specs.Queue.{find, without_node, from_id, head}
 
 module _ {T : Type 0} where
   -- no node of the list has this name
@@ -51,7 +51,3 @@ module _ {T : Type 0} where
   front_leaves (n ∷ rest) id Q P e p =
       let same : n.id ≡ id = same_Some n.id id e in
       subst P (sym same) p
-
-pub empty_from : {X : Type 0} (xs : List X) → is_nonempty xs ≡ false → xs ≡ []
-empty_from [] e = refl
-empty_from (x ∷ xs) e = absurd (true≢false e)

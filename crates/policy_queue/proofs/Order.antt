@@ -1,9 +1,8 @@
--- Lemmas on places and on the slots that stand in them.
-use Rattle.std.proofs.Common.{◌≡◌, ◌≢◌, ℕ, zero, suc, ◌+◌, ◌-◌, ◌<◌, ◌≤◌, true, false, List, [], ◌∷◌, ◌++◌, length, get_or, set, take, drop, refl, sym, ap, ◌∙◌, inl, inr, arith, subst}
+-- Lemmas on places and on the indices that stand in them.
+use Rattle.std.proofs.Common.{◌≡◌, ◌≢◌, ℕ, zero, suc, ◌+◌, ◌-◌, ◌<◌, ◌≤◌, List, [], ◌∷◌, ◌++◌, length, get_or, set, take, drop, refl, sym, ap, ◌∙◌, inl, inr, arith, subst}
 use Rattle.std.proofs.lemmas.Bool.{cases_lt, cases_eq, cond-true, cond-false, eq-eqb, ne_eqb}
-use Rattle.std.proofs.lemmas.List.{take-append-drop, drop_more, drop_all, get_or_past, get_or-drop, get_or-take, get_or-set_same, get_or-set_other, set_split, append-nil, length-append, length-drop, length-take}
-use Rattle.policy_queue.specs.Queue.{is_nonempty}
-use Rattle.policy_queue.specs.Places.{vacant, order, Lacks}
+use Rattle.std.proofs.lemmas.List.{take-append-drop, drop_more, drop_all, get_or_past, get_or-set_same, get_or-set_other, set_split, append-nil, length-append, length-set, take-set-le, drop-set-lt}
+use Rattle.policy_queue.specs.Indices.{vacant, order, Lacks}
 
 pub order_empty : (p : ℕ) (ps : List ℕ) → p ≡ vacant → order (p ∷ ps) ≡ order ps
 order_empty p ps e = cond-true _ _ _ (eq-eqb p vacant e)
@@ -44,7 +43,7 @@ order_emptied ps k h =
 pub order_push : (ps : List ℕ) (p : ℕ) → p ≢ vacant → order (ps ++ p ∷ []) ≡ order ps ++ p ∷ []
 order_push ps p d = order-append ps (p ∷ []) ∙ ap (λ r. order ps ++ r) (order_taken p [] d)
 
--- no more nodes than places
+-- no more indices than places
 pub length-order : (ps : List ℕ) → length (order ps) ≤ length ps
 length-order [] = omega arith
 length-order (p ∷ ps) = elim (cases_eq p vacant) [
@@ -71,32 +70,12 @@ order_take_all ps m h =
     let none : order (drop m ps) ≡ [] = order_skip ps m (m + length ps) (omega arith) (λ j low high. h j low) ∙ ap order (drop_all (m + length ps) ps (omega arith)) in
     sym (order_split ps m ∙ ap (λ r. order (take m ps) ++ r) none ∙ append-nil (order (take m ps)))
 
-pub nonempty_append : {X : Type 0} (xs : List X) (x : X) (ys : List X) → is_nonempty (xs ++ x ∷ ys) ≡ true
-nonempty_append [] x ys = refl
-nonempty_append (y ∷ xs) x ys = refl
-
--- a node stands behind place k exactly where k is not the last place
-pub nonempty_behind : (ps : List ℕ) (k : ℕ) → k + 1 < length ps → get_or ps (length ps - 1) vacant ≢ vacant → is_nonempty (order (drop (k + 1) ps)) ≡ true
-nonempty_behind ps k lt d =
-    let j : ℕ = length ps - 1 - (k + 1) in
-    let e : (k + 1) + (length ps - 1 - (k + 1)) ≡ length ps - 1 = omega arith in
-    let at = get_or-drop (k + 1) ps (length ps - 1 - (k + 1)) vacant ∙ ap (λ i. get_or ps i vacant) e in
-    ap is_nonempty (order_at (drop (k + 1) ps) (length ps - 1 - (k + 1)) (λ f. d (sym at ∙ f))) ∙ nonempty_append _ _ _
-
-pub empty_behind : (ps : List ℕ) (k : ℕ) → length ps ≤ k + 1 → is_nonempty (order (drop (k + 1) ps)) ≡ false
-empty_behind ps k le = ap (λ r. is_nonempty (order r)) (drop_all (k + 1) ps le)
-
 -- an array without an empty place
-pub full_taken : (ps : List ℕ) (k : ℕ) → length ps ≤ length (order ps) → k < length ps → get_or ps k vacant ≢ vacant
-full_taken ps k full lt = λ e.
-    let all = ap length (order_split ps k ∙ ap (λ r. order (take k ps) ++ r) (order_drop_none ps k lt e)) ∙ length-append (order (take k ps)) (order (drop (k + 1) ps)) in
-    let front = length-order (take k ps) in
-    let back = length-order (drop (k + 1) ps) in
-    let len : length (take k ps) ≤ k = omega (arith, length-take k ps) in
-    let rest = length-drop (k + 1) ps in
-    omega arith
+pub all_taken : (ps : List ℕ) → ((k : ℕ) → k < length ps → get_or ps k vacant ≢ vacant) → length (order ps) ≡ length ps
+all_taken [] h = refl
+all_taken (p ∷ ps) h = ap length (order_taken p ps (h 0 (omega arith))) ∙ ap suc (all_taken ps (λ k lt. h (suc k) (omega arith)))
 
--- one node fewer
+-- one index fewer
 pub length-emptied : (ps : List ℕ) (k : ℕ) → get_or ps k vacant ≢ vacant → length (order (take k ps) ++ order (drop (k + 1) ps)) + 1 ≡ length (order ps)
 length-emptied ps k d =
     let before = ap length (order_at ps k d) ∙ length-append (order (take k ps)) (get_or ps k vacant ∷ order (drop (k + 1) ps)) in
@@ -120,17 +99,21 @@ Lacks-at (p ∷ ps) x (suc k) h d = elim (cases_eq p vacant) [
   | inr f ↦ let g = subst (Lacks x) (order_taken p ps f) h in Lacks-at ps x k g.1 d
 ]
 
-pub Lacks-append : (x : ℕ) (xs ys : List ℕ) → Lacks x xs → Lacks x ys → Lacks x (xs ++ ys)
-Lacks-append x [] ys h g = g
-Lacks-append x (y ∷ xs) ys h g = (h.0, Lacks-append x xs ys h.1 g)
-
--- what stands in a front of the places, once one of them is emptied, stood there before
-pub taken_before : (ps qs : List ℕ) (k n : ℕ) → k < length ps → qs ≡ take n (set ps k vacant) → (j : ℕ) → get_or qs j vacant ≢ vacant → (j ≢ k) × (get_or qs j vacant ≡ get_or ps j vacant)
-taken_before ps qs k n lt front j taken =
-    let here = ap (λ xs. get_or xs j vacant) front in
-    let taken' : get_or (take n (set ps k vacant)) j vacant ≢ vacant = λ e. taken (here ∙ e) in
-    let inside = within (take n (set ps k vacant)) j taken' in
-    let below : j < n = omega (arith, length-take n (set ps k vacant)) in
-    let at = get_or-take n (set ps k vacant) j vacant below in
-    let other : j ≢ k = λ e. taken' (at ∙ ap (λ i. get_or (set ps k vacant) i vacant) e ∙ get_or-set_same ps k vacant vacant lt) in
-    (other, here ∙ at ∙ get_or-set_other ps k j vacant vacant other)
+-- an index goes down over empty places
+pub order_carried : (ps : List ℕ) (to from x : ℕ) → to ≤ from → ((k : ℕ) → to ≤ k → k < from → get_or ps k vacant ≡ vacant) → get_or ps from vacant ≡ x → x ≢ vacant → order (set (set ps from vacant) to x) ≡ order ps
+order_carried ps to from x le gap there named =
+    let taken : get_or ps from vacant ≢ vacant = λ e. named (sym there ∙ e) in
+    let below : from < length ps = within ps from taken in
+    let ps₁ : List ℕ = set ps from vacant in
+    let ps₂ : List ℕ = set ps₁ to x in
+    let len₁ : length ps₁ ≡ length ps = length-set ps from vacant in
+    let here : get_or ps₂ to vacant ≡ x = get_or-set_same ps₁ to x vacant (omega arith) in
+    let front : take to ps₂ ≡ take to ps = take-set-le to ps₁ to x (omega arith) ∙ take-set-le to ps from vacant le in
+    let empty : (k : ℕ) → to + 1 ≤ k → k < from + 1 → get_or ps₂ k vacant ≡ vacant = λ k low high. get_or-set_other ps₁ to k x vacant (omega arith) ∙ elim (cases_eq k from) [
+      | inl e ↦ ap (λ i. get_or ps₁ i vacant) e ∙ get_or-set_same ps from vacant vacant below
+      | inr d ↦ get_or-set_other ps from k vacant vacant d ∙ gap k (omega arith) (omega arith)
+    ] in
+    let back : drop (from + 1) ps₂ ≡ drop (from + 1) ps = drop-set-lt (from + 1) ps₁ to x (omega arith) ∙ drop-set-lt (from + 1) ps from vacant (omega arith) in
+    let new : order ps₂ ≡ order (take to ps) ++ x ∷ order (drop (from + 1) ps) = order_split ps₂ to ∙ ap (λ r. order r ++ order (drop to ps₂)) front ∙ ap (λ r. order (take to ps) ++ r) (order_drop_some ps₂ to (λ e. named (sym here ∙ e)) ∙ ap (λ y. y ∷ order (drop (to + 1) ps₂)) here ∙ ap (λ r. x ∷ r) (order_skip ps₂ (to + 1) (from + 1) (omega arith) empty ∙ ap order back)) in
+    let old : order ps ≡ order (take to ps) ++ x ∷ order (drop (from + 1) ps) = order_split ps to ∙ ap (λ r. order (take to ps) ++ r) (order_skip ps to from le gap ∙ order_drop_some ps from taken ∙ ap (λ y. y ∷ order (drop (from + 1) ps)) there) in
+    new ∙ sym old

@@ -3,11 +3,11 @@ ghost use Rattle.std.specs.Prelude.{◌≡◌, ◌≢◌, ℕ, ◌+◌, ◌-◌,
 ghost use Rattle.std.specs.Borrow.{sem};
 ghost use Rattle.std.specs.Fn.{FnReturnsAt};
 ghost use Rattle.policy_queue.specs.Queue.{find, from_id, head, final, tail, to_give, cursor_past, Leaves, Pushes, Stays, refused_element, RefusedWell, MovesToBack, AreNamed, StaysStale, TheName, WalksOnce, IsFirstThat, NonePasses};
-ghost use Rattle.policy_queue.specs.Places.{order};
+ghost use Rattle.policy_queue.specs.Indices.{order};
 
+use crate::index_queue::IndexQueue;
 use crate::places::{
-    Cursor, Seat, attach, cursor_from, cursor_leaving, detach, element_at, element_from,
-    first_live, has_next, id_from, make_room, place_of, walk_place,
+    Cursor, cursor_leaving, cursor_to, element_of, holds, id_of, make_room, walk_slot,
 };
 use policy_base::{CacheRegion, Cells, NodeId};
 use std::alloc::Global;
@@ -41,11 +41,10 @@ pub enum ReserveError {
 #[derive(Drop)]
 pub struct Deque<T> {
     region: CacheRegion,
-    // The slots of the nodes, from front to back, with empty places between them.
-    places: Vec<u32>,
-    // The nodes, each with its place.
-    nodes: Cells<u32, Seat<T>>,
-    front: usize,
+    // The slots of the nodes, from front to back.
+    slots: IndexQueue,
+    // The nodes, each with its serial.
+    nodes: Cells<u64, T>,
     cursor: Cursor,
     next_serial: u64,
 }
@@ -55,18 +54,17 @@ impl<T> Model for Deque<T> {
 
     ghost Value = { Queue T };
 
-    ghost use Rattle.std.specs.Prelude.{vec_capacity};
-    ghost use Rattle.policy_queue.specs.Places.{order, nodes_of, room_of, IsQueue};
+    ghost use Rattle.policy_queue.specs.Places.{nodes_of, room_of, IsQueue};
 
     ghost view = { λ d. record {
       region = d.region;
-      nodes = nodes_of d.region d.nodes (order d.places.items);
+      nodes = nodes_of d.region d.nodes d.slots.indices;
       cursor = d.cursor;
       next_serial = d.next_serial;
-      room = room_of (vec_capacity d.places) d.nodes d.next_serial;
+      room = room_of d.slots d.nodes d.next_serial;
     } };
 
-    ghost invariant = { λ d. IsQueue d.region d.places.items (vec_capacity d.places) d.nodes d.front d.next_serial };
+    ghost invariant = { λ d. IsQueue d.region d.slots d.nodes d.next_serial };
 }
 
 impl<T: Drop> Deque<T> {
@@ -81,9 +79,8 @@ impl<T: Drop> Deque<T> {
     {
         Deque {
             region,
-            places: Vec::new(alloc),
+            slots: IndexQueue::new(alloc),
             nodes: Cells::new(alloc),
-            front: 0,
             cursor: Cursor::Unstarted,
             next_serial: 0,
         }
@@ -93,17 +90,14 @@ impl<T: Drop> Deque<T> {
     pub fn len(&self) -> usize
         ensures { result ≡ length self.now.nodes }
     {
-        self.nodes.len()
+        self.slots.len()
     }
 
     /// Whether the queue has the node.
     pub fn contains(&self, id: NodeId) -> bool
         ensures { IsTrue result ↔ IsSome (find id self.now.nodes) }
     {
-        match place_of(self.region, self.places.as_slice(), &self.nodes, id) {
-            Some(_) => true,
-            None => false,
-        }
+        holds(self.region, &self.slots, &self.nodes, id)
     }
 
     /// The queue's region.
@@ -117,27 +111,30 @@ impl<T: Drop> Deque<T> {
     pub fn peek_front(&self) -> Option<&T>
         ensures { option_copied result ≡ option_map (λ n. n.element) (head self.now.nodes) }
     {
-        if self.places.len() == 0 {
-            return None;
+        match self.slots.first() {
+            Some(slot) => Some(element_of(&self.nodes, slot)),
+            None => None,
         }
-        Some(element_at(self.places.as_slice(), &self.nodes, self.front))
     }
 
     /// The name of the first node.
     pub fn peek_front_ptr(&self) -> Option<NodeId>
         ensures { result ≡ option_map (λ n. n.id) (head self.now.nodes) }
     {
-        id_from(self.region, self.places.as_slice(), &self.nodes, self.front)
+        match self.slots.first() {
+            Some(slot) => Some(id_of(self.region, &self.nodes, slot)),
+            None => None,
+        }
     }
 
     /// The last element.
     pub fn peek_back(&self) -> Option<&T>
         ensures { option_copied result ≡ option_map (λ n. n.element) (final self.now.nodes) }
     {
-        if self.places.len() == 0 {
-            return None;
+        match self.slots.last() {
+            Some(slot) => Some(element_of(&self.nodes, slot)),
+            None => None,
         }
-        Some(element_at(self.places.as_slice(), &self.nodes, self.places.len() - 1))
     }
 
     /// The first element that passes a test, from the front on. It asks about no element behind that one.
@@ -146,14 +143,13 @@ impl<T: Drop> Deque<T> {
         ensures found { IfSome result (λ element. IsFirstThat (FnReturnsAt F.Fn passes) self.now.nodes element.now) }
         ensures none { IfNone result (NonePasses (FnReturnsAt F.Fn passes) self.now.nodes) }
     {
-        let places = self.places.as_slice();
-        let mut k = first_live(places, self.front);
-        while k < places.len() {
-            let element = element_at(places, &self.nodes, k);
+        let mut next = self.slots.first();
+        while let Some(slot) = next {
+            let element = element_of(&self.nodes, slot);
             if passes(element) {
                 return Some(element);
             }
-            k = first_live(places, k + 1);
+            next = self.slots.behind(slot);
         }
         None
     }
@@ -171,7 +167,7 @@ impl<T: Drop> Deque<T> {
         if n == 0 {
             return Ok(());
         }
-        if make_room(&mut self.places, &mut self.nodes, n).is_err() {
+        if make_room(&mut self.slots, &mut self.nodes, n).is_err() {
             return Err(ReserveError::OutOfMemory);
         }
         Ok(())
@@ -189,13 +185,13 @@ impl<T: Drop> Deque<T> {
         if self.next_serial == u64::MAX {
             return Err(PushError::UsedUp(element));
         }
-        match make_room(&mut self.places, &mut self.nodes, 1) {
+        match make_room(&mut self.slots, &mut self.nodes, 1) {
             Ok(()) => {}
             Err(_) => return Err(PushError::OutOfMemory(element)),
         }
         let serial = self.next_serial;
-        let slot = self.nodes.insert_reserved(0, Seat { serial, element });
-        attach(&mut self.places, &mut self.nodes, &mut self.front, slot);
+        let slot = self.nodes.insert_reserved(serial, element);
+        self.slots.push_back(slot);
         self.next_serial += 1;
         Ok(NodeId {
             serial,
@@ -210,23 +206,20 @@ impl<T: Drop> Deque<T> {
         ensures leaves { OnOk result (Leaves self.old self.new id) }
         ensures stale { OnErr result (self.new ≡ self.old) }
     {
-        match place_of(self.region, self.places.as_slice(), &self.nodes, id) {
-            None => Err(Stale),
-            Some(k) => {
-                self.cursor = cursor_leaving(
-                    self.cursor,
-                    id,
-                    self.region,
-                    self.places.as_slice(),
-                    &self.nodes,
-                    k,
-                );
-                detach(&mut self.places, &mut self.front, k);
-                let (_, seat) = self.nodes.remove(id.slot);
-                let Seat { serial: _, element } = seat;
-                Ok(element)
-            }
+        if !holds(self.region, &self.slots, &self.nodes, id) {
+            return Err(Stale);
         }
+        self.cursor = cursor_leaving(
+            self.cursor,
+            id,
+            Cursor::Done,
+            self.region,
+            &self.slots,
+            &self.nodes,
+        );
+        self.slots.remove(id.slot);
+        let (_, element) = self.nodes.remove(id.slot);
+        Ok(element)
     }
 
     /// Takes a node out and drops its element.
@@ -247,24 +240,19 @@ impl<T: Drop> Deque<T> {
         ensures moves { OnOk result (MovesToBack self.old self.new id) }
         ensures stale { OnErr result (self.new ≡ self.old) }
     {
-        match place_of(self.region, self.places.as_slice(), &self.nodes, id) {
-            None => Err(Stale),
-            Some(k) => {
-                if has_next(self.places.as_slice(), k) {
-                    self.cursor = cursor_leaving(
-                        self.cursor,
-                        id,
-                        self.region,
-                        self.places.as_slice(),
-                        &self.nodes,
-                        k,
-                    );
-                    detach(&mut self.places, &mut self.front, k);
-                    attach(&mut self.places, &mut self.nodes, &mut self.front, id.slot);
-                }
-                Ok(())
-            }
+        if !holds(self.region, &self.slots, &self.nodes, id) {
+            return Err(Stale);
         }
+        self.cursor = cursor_leaving(
+            self.cursor,
+            id,
+            self.cursor,
+            self.region,
+            &self.slots,
+            &self.nodes,
+        );
+        self.slots.move_to_back(id.slot);
+        Ok(())
     }
 
     /// Takes the first node out.
@@ -306,27 +294,28 @@ impl<T: Drop> Deque<T> {
         ensures* stays { sem 𝓛 (walks T.row self.entry) }
         ensures value { option_copied result ≡ option_map (λ n. n.element) (head (to_give self.old.cursor self.old.nodes)) }
     {
-        let k = walk_place(
-            self.cursor,
-            self.region,
-            self.places.as_slice(),
-            &self.nodes,
-        );
-        if k == self.places.len() {
-            self.cursor = Cursor::Unstarted;
-            return None;
+        match walk_slot(self.cursor, self.region, &self.slots, &self.nodes) {
+            Some(slot) => {
+                self.cursor = cursor_to(self.region, &self.nodes, self.slots.behind(slot));
+                Some(element_of(&self.nodes, slot))
+            }
+            None => {
+                self.cursor = Cursor::Unstarted;
+                None
+            }
         }
-        self.cursor = cursor_from(self.region, self.places.as_slice(), &self.nodes, k + 1);
-        Some(element_at(self.places.as_slice(), &self.nodes, k))
     }
 
     /// The name of the node behind this one.
     pub fn next_node_ptr(&self, id: NodeId) -> Result<Option<NodeId>, Stale>
         ensures { MatchResult result (λ next. IsSome (find id self.now.nodes) × (next ≡ option_map (λ n. n.id) (head (tail (from_id id self.now.nodes))))) (λ _. find id self.now.nodes ≡ None) }
     {
-        match place_of(self.region, self.places.as_slice(), &self.nodes, id) {
-            None => Err(Stale),
-            Some(k) => Ok(id_from(self.region, self.places.as_slice(), &self.nodes, k + 1)),
+        if !holds(self.region, &self.slots, &self.nodes, id) {
+            return Err(Stale);
+        }
+        match self.slots.behind(id.slot) {
+            Some(slot) => Ok(Some(id_of(self.region, &self.nodes, slot))),
+            None => Ok(None),
         }
     }
 
@@ -334,10 +323,12 @@ impl<T: Drop> Deque<T> {
     pub fn peek_behind(&self, id: NodeId) -> Option<&T>
         ensures { option_copied result ≡ option_map (λ n. n.element) (head (tail (from_id id self.now.nodes))) }
     {
-        let places = self.places.as_slice();
-        match place_of(self.region, places, &self.nodes, id) {
+        if !holds(self.region, &self.slots, &self.nodes, id) {
+            return None;
+        }
+        match self.slots.behind(id.slot) {
+            Some(slot) => Some(element_of(&self.nodes, slot)),
             None => None,
-            Some(at) => element_from(self.region, places, &self.nodes, at + 1),
         }
     }
 
@@ -346,18 +337,16 @@ impl<T: Drop> Deque<T> {
         ensures value { result ≡ option_map (λ n. n.id) (head (to_give self.old.cursor self.old.nodes)) }
         ensures cursor { self.new ≡ record self.old { cursor = cursor_past (to_give self.old.cursor self.old.nodes) } }
     {
-        let k = walk_place(
-            self.cursor,
-            self.region,
-            self.places.as_slice(),
-            &self.nodes,
-        );
-        if k == self.places.len() {
-            self.cursor = Cursor::Unstarted;
-            return None;
+        match walk_slot(self.cursor, self.region, &self.slots, &self.nodes) {
+            Some(slot) => {
+                self.cursor = cursor_to(self.region, &self.nodes, self.slots.behind(slot));
+                Some(id_of(self.region, &self.nodes, slot))
+            }
+            None => {
+                self.cursor = Cursor::Unstarted;
+                None
+            }
         }
-        self.cursor = cursor_from(self.region, self.places.as_slice(), &self.nodes, k + 1);
-        id_from(self.region, self.places.as_slice(), &self.nodes, k)
     }
 }
 
@@ -365,26 +354,26 @@ impl<T: Drop> Deque<T> {
 pub fn names_stand<T>(queue: &Deque<T>)
     ensures { AreNamed queue.now.region queue.now.next_serial queue.now.nodes }
 {
-    let _ = &queue.places;
+    let _ = &queue.slots;
 }
 
 /// A node that left is stale from then on: no later push, which gives the next serial, brings its name back.
 pub fn stale_names_stay_stale<T>(queue: &Deque<T>)
     ensures { (id : TheName) → StaysStale id queue.now.next_serial queue.now.nodes }
 {
-    let _ = &queue.places;
+    let _ = &queue.slots;
 }
 
 /// The array behind a queue: the slots of its nodes from front to back, and `u32::MAX` in its empty places.
 pub fn places_of<T>(queue: &Deque<T>) -> &[u32]
     ensures { order result.now ≡ map (λ n. n.id.slot) queue.now.nodes }
 {
-    queue.places.as_slice()
+    queue.slots.places()
 }
 
 /// A walk of a queue that does not change gives each node once, in order, then ends, and starts again.
 pub fn walks_give_each_once<T>(queue: &Deque<T>)
     ensures { WalksOnce queue.now.nodes }
 {
-    let _ = &queue.places;
+    let _ = &queue.slots;
 }

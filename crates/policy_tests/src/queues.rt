@@ -28,6 +28,8 @@ enum Act {
     Move(usize, bool),
     /// The nodes 0, 1, 2, .. are there, and are moved one after the other.
     MoveUpTo(usize),
+    /// These nodes are there, and are moved one after the other.
+    Moves(&'static [usize]),
     /// Whether there was such a node to unlink.
     Unlink(usize, bool),
     /// The first node is moved so often.
@@ -39,6 +41,8 @@ enum Act {
     Front(Option<u64>),
     Back(Option<u64>),
     Len(usize),
+    /// A walk gives these.
+    Walk(&'static [u64]),
     /// The first element of at least so much.
     FirstFrom(u64, Option<u64>),
     /// The node at a place of the array, if there is one, and nothing behind its end.
@@ -144,6 +148,25 @@ fn move_up_to(queue: &mut Queue, end: usize) -> bool {
     true
 }
 
+fn move_all(queue: &mut Queue, numbers: &[usize]) -> bool {
+    for number in numbers {
+        if !move_node(queue, *number) {
+            return false;
+        }
+    }
+    true
+}
+
+/// Whether a walk gives these and no more.
+fn walks_so(deque: &mut Deque<u64>, elements: &[u64]) -> bool {
+    for element in elements {
+        if deque.next().copied() != Some(*element) {
+            return false;
+        }
+    }
+    deque.next().is_none()
+}
+
 fn move_front(deque: &mut Deque<u64>, times: u32) {
     for _ in 0..times {
         deque.move_front_to_back();
@@ -182,6 +205,7 @@ fn changes_so(queue: &mut Queue, act: Act) -> bool {
         Act::PushReservedUpTo(end) => push_reserved_up_to(queue, end),
         Act::Move(number, was_there) => move_node(queue, number) == was_there,
         Act::MoveUpTo(end) => move_up_to(queue, end),
+        Act::Moves(numbers) => move_all(queue, numbers),
         Act::Unlink(number, was_there) => unlink_node(queue, number) == was_there,
         Act::MoveFront(times) => {
             move_front(&mut queue.deque, times);
@@ -205,6 +229,7 @@ fn shows_so(deque: &mut Deque<u64>, act: Act) -> bool {
         Act::PopUpTo(end) => pop_up_to(deque, end),
         Act::Front(wanted) => deque.peek_front().copied() == wanted,
         Act::Back(wanted) => deque.peek_back().copied() == wanted,
+        Act::Walk(elements) => walks_so(deque, elements),
         Act::Len(wanted) => deque.len() == wanted,
         Act::FirstFrom(least, wanted) => first_from(deque, least) == wanted,
         _ => false,
@@ -282,6 +307,26 @@ const CASES: &[&[Act]] = &[
         Act::Len(1000),
         Act::MoveUpTo(1000),
         Act::Front(Some(0)),
+    ],
+    // nodes move, leave and come while empty places are closed up
+    &[
+        Act::Reserve(10),
+        Act::PushReservedUpTo(10),
+        Act::Moves(&[
+            1, 3, 5, 0, 6, 5, 5, 7, 7, 6, 1, 1, 1, 1, 6, 9, 3, 0, 7, 4, 8, 1, 4,
+        ]),
+        Act::Unlink(8, true),
+        Act::PushReserved(10),
+        Act::Moves(&[5, 3, 10, 10, 9, 2, 10, 2, 1]),
+        Act::Unlink(0, true),
+        Act::PushReserved(11),
+        Act::Moves(&[2, 10, 5, 9, 2, 9, 10]),
+        Act::Unlink(7, true),
+        Act::PushReserved(12),
+        Act::Moves(&[
+            3, 9, 6, 11, 1, 9, 9, 9, 2, 6, 6, 12, 4, 3, 6, 5, 12, 10, 11, 9, 2, 5, 1, 12, 9,
+        ]),
+        Act::Walk(&[4, 3, 6, 10, 11, 2, 5, 1, 12, 9]),
     ],
     // a move empties one place and takes another
     &[

@@ -5,12 +5,12 @@ use Rattle.std.proofs.lemmas.Nat.{div_below}
 use Rattle.std.proofs.Math.Nat.{mul-lt-mul_of_pos_right}
 use Rattle.engine_cells.specs.Keys.Slots.{home_of, steps_on, steps_to}
 
-pub scaled : (x many : ℕ) → x < 2 ^ 64 → 0 < many → x * many / 2 ^ 64 < many
-scaled x many less some = div_below (x * many) (2 ^ 64) many (omega arith) (omega (arith, mul-lt-mul_of_pos_right {m = x} {n = 2 ^ 64} {k = many} less some))
+pub scaled : (x many : ℕ) → x < 2 ^ 32 → 0 < many → x * many / 2 ^ 32 < many
+scaled x many less some = div_below (x * many) (2 ^ 32) many (omega arith) (omega (arith, mul-lt-mul_of_pos_right {m = x} {n = 2 ^ 32} {k = many} less some))
 
-pub home-below : (hash many : ℕ) → 0 < many → home_of hash many < many
+pub home-below : (tag many : ℕ) → 0 < many → home_of tag many < many
 unfolding home_of
-home-below hash many some = scaled (hash * 0x9E37_79B9_7F4A_7C15 % 2 ^ 64) many (omega arith) some
+home-below tag many some = scaled (tag % 2 ^ 32) many (omega arith) some
 
 -- how many steps lead from a slot to one before it, and to one that is not
 pub to_before : (many from to : ℕ) → to < from → steps_to many from to ≡ many - from + to

@@ -12,7 +12,7 @@ pub record AreMoved (old now : List Slot) (from hole steps : ℕ) : Type 0 where
   pub before : steps_to (length old) from hole < steps
   pub seen : (k : ℕ) → k < length old → steps_to (length old) from k < steps → IsTaken now k
   pub behind : (k : ℕ) → k < length old → steps_to (length old) from hole < steps_to (length old) from k → steps_to (length old) from k < steps
-      → IsOnWay (length old) (slot_at now k).hash k hole → ⊥
+      → IsOnWay (length old) (slot_at now k).tag k hole → ⊥
 
 pub moved-init : (old : List Slot) (from : ℕ) → IsTaken old from → AreFound old → AreMoved old old from from 1
 moved-init old from there found =
@@ -44,7 +44,7 @@ module _ (old now : List Slot) (from hole steps at : ℕ) (f : from < length old
   ]
 
   -- the place of the next slot stays where it is
-  pub moved-stays : IsTaken now at → (IsOnWay (length old) (slot_at now at).hash at hole → ⊥) → AreMoved old now from hole (steps + 1)
+  pub moved-stays : IsTaken now at → (IsOnWay (length old) (slot_at now at).tag at hole → ⊥) → AreMoved old now from hole (steps + 1)
   moved-stays taken off = record {
     holed = moved.holed;
     before = omega (arith, moved.before);
@@ -53,7 +53,7 @@ module _ (old now : List Slot) (from hole steps at : ℕ) (f : from < length old
       | inr ne ↦ moved.seen k less (other-slot k less near ne)
     ];
     behind = λ k less far near way. elim (cases_eq k at) [
-      | inl e ↦ off (subst (λ i. IsOnWay (length old) (slot_at now i).hash i hole) e way)
+      | inl e ↦ off (subst (λ i. IsOnWay (length old) (slot_at now i).tag i hole) e way)
       | inr ne ↦ moved.behind k less far (other-slot k less near ne) way
     ];
   }
@@ -62,7 +62,7 @@ module _ (old now : List Slot) (from hole steps at : ℕ) (f : from < length old
   apart e = absurd (omega (arith, moved.before, ap (λ k. steps_to (length old) from k) e))
 
   -- or moves up into the free one, and its own is the free one then
-  module _ (taken : IsTaken now at) (way : IsOnWay (length old) (slot_at now at).hash at hole) where
+  module _ (taken : IsTaken now at) (way : IsOnWay (length old) (slot_at now at).tag at hole) where
     new : List Slot
     new = set now hole (slot_at now at)
 
@@ -113,12 +113,12 @@ module _ (old now : List Slot) (from hole steps at : ℕ) (f : from < length old
         reached = λ k x ne t less w. stays x (
             elim (cases_eq k hole) [
               | inl e ↦
-                  let hash : (slot_at (set now hole (slot_at now at)) k).hash ≡ (slot_at now at).hash = ap (λ i. (slot_at (set now hole (slot_at now at)) i).hash) e ∙ ap (λ s. s.hash) here in
-                  let w' : IsOnWay (length old) (slot_at now at).hash hole x = subst (λ i. IsOnWay (length old) (slot_at now at).hash i x) e (subst (λ h. IsOnWay (length old) h k x) hash w) in
+                  let tag : (slot_at (set now hole (slot_at now at)) k).tag ≡ (slot_at now at).tag = ap (λ i. (slot_at (set now hole (slot_at now at)) i).tag) e ∙ ap (λ s. s.tag) here in
+                  let w' : IsOnWay (length old) (slot_at now at).tag hole x = subst (λ i. IsOnWay (length old) (slot_at now at).tag i x) e (subst (λ h. IsOnWay (length old) h k x) tag w) in
                   moved.holed.reached at x apart taken less (omega (arith, w', way))
               | inr other ↦
-                  let hash : (slot_at (set now hole (slot_at now at)) k).hash ≡ (slot_at now k).hash = ap (λ s. s.hash) (off k other) in
-                  moved.holed.reached k x other (along now (set now hole (slot_at now at)) k k (sym (off k other)) t) less (subst (λ h. IsOnWay (length old) h k x) hash w)
+                  let tag : (slot_at (set now hole (slot_at now at)) k).tag ≡ (slot_at now k).tag = ap (λ s. s.tag) (off k other) in
+                  moved.holed.reached k x other (along now (set now hole (slot_at now at)) k k (sym (off k other)) t) less (subst (λ h. IsOnWay (length old) h k x) tag w)
             ]
             );
       };
@@ -137,13 +137,13 @@ module _ (old now : List Slot) (from hole steps at : ℕ) (f : from < length old
     next-taken : IsTaken now at
     next-taken = omega (arith, ap (λ s. s.place) is_read)
 
-    pub moved-yes : IsOnWay n x.hash at hole → AreMoved old (set now hole x) from at (steps + 1)
+    pub moved-yes : IsOnWay n x.tag at hole → AreMoved old (set now hole x) from at (steps + 1)
     moved-yes way = subst (λ s. AreMoved old (set now hole s) from at (steps + 1)) (sym is_read) (
-        moved-up next-taken (subst (λ k. IsOnWay k (slot_at now at).hash at hole) many (subst (λ s. IsOnWay n s.hash at hole) is_read way))
+        moved-up next-taken (subst (λ k. IsOnWay k (slot_at now at).tag at hole) many (subst (λ s. IsOnWay n s.tag at hole) is_read way))
         )
 
-    pub moved-no : (IsOnWay n x.hash at hole → ⊥) → AreMoved old now from hole (steps + 1)
-    moved-no off_way = moved-stays next-taken (λ way. off_way (subst (λ s. IsOnWay n s.hash at hole) (sym is_read) (subst (λ k. IsOnWay k (slot_at now at).hash at hole) (sym many) way)))
+    pub moved-no : (IsOnWay n x.tag at hole → ⊥) → AreMoved old now from hole (steps + 1)
+    moved-no off_way = moved-stays next-taken (λ way. off_way (subst (λ s. IsOnWay n s.tag at hole) (sym is_read) (subst (λ k. IsOnWay k (slot_at now at).tag at hole) (sym many) way)))
 
   farther : (k : ℕ) → k < length old → (k ≡ hole → ⊥) → steps_to (length old) from hole ≤ steps_to (length old) from k → steps_to (length old) from hole < steps_to (length old) from k
   farther k less other late = elim (cases_eq (steps_to (length old) from k) (steps_to (length old) from hole)) [
@@ -155,9 +155,9 @@ module _ (old now : List Slot) (from hole steps at : ℕ) (f : from < length old
   pub moved-end : nowhere ≤ (slot_at now at).place → LeavesOut now hole
   moved-end none k ne t w0 =
       let less : k < length old = omega (arith, taken-within now k t, moved.holed.long) in
-      let h : ℕ = home_of (slot_at now k).hash (length old) in
-      let hb : h < length old = home-below (slot_at now k).hash (length old) (omega arith) in
-      let w : IsOnWay (length old) (slot_at now k).hash k hole = subst (λ n. IsOnWay n (slot_at now k).hash k hole) moved.holed.long w0 in
+      let h : ℕ = home_of (slot_at now k).tag (length old) in
+      let hb : h < length old = home-below (slot_at now k).tag (length old) (omega arith) in
+      let w : IsOnWay (length old) (slot_at now k).tag k hole = subst (λ n. IsOnWay n (slot_at now k).tag k hole) moved.holed.long w0 in
       let in_hole = moved.holed.within in
       let before = moved.before in
       let reached : steps_to (length old) hole at ≤ steps_to (length old) hole k → ⊥ = λ le.
@@ -201,9 +201,9 @@ module _ (old now : List Slot) (from hole : ℕ) (there : IsTaken old from) (fou
     reached = λ k x t less w.
         let s = stood k t in
         let t' = along now (set now hole vacant) k k (sym s.1) t in
-        let w' : IsOnWay (length now) (slot_at now k).hash k x = subst (λ h. IsOnWay (length now) h k x) (ap (λ q. q.hash) s.1) w in
-        let r = holed.reached k x s.0 t' (omega (arith, holed.long)) (subst (λ n. IsOnWay n (slot_at now k).hash k x) holed.long w') in
-        let ne : x ≢ hole = λ e. leaves k s.0 t' (subst (λ i. IsOnWay (length now) (slot_at now k).hash k i) e w') in
+        let w' : IsOnWay (length now) (slot_at now k).tag k x = subst (λ h. IsOnWay (length now) h k x) (ap (λ q. q.tag) s.1) w in
+        let r = holed.reached k x s.0 t' (omega (arith, holed.long)) (subst (λ n. IsOnWay n (slot_at now k).tag k x) holed.long w') in
+        let ne : x ≢ hole = λ e. leaves k s.0 t' (subst (λ i. IsOnWay (length now) (slot_at now k).tag k i) e w') in
         along (set now hole vacant) now x x (off-set now hole x vacant ne) r;
     once = λ k j t same.
         let a = stood k t in

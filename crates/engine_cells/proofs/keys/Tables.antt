@@ -62,21 +62,21 @@ vacant-there (suc n) (suc k) = vacant-there n k
 pub has-among : (xs : List Slot) (h p : ℕ) → Has xs h p → IsAmong (entries_in xs) h p
 has-among xs h p (k, at, less) = go xs k at
   where
-    here : (b : Bool) (x : Slot) (xs : List Slot) → b ≡ true → x ≡ record { hash = h; place = p } → IsAmong (cond b ((x.hash, x.place) ∷ entries_in xs) (entries_in xs)) h p
-    here true x xs e is = inl (ap (λ s. s.hash) is, ap (λ s. s.place) is)
+    here : (b : Bool) (x : Slot) (xs : List Slot) → b ≡ true → x ≡ record { tag = h; place = p } → IsAmong (cond b ((x.tag, x.place) ∷ entries_in xs) (entries_in xs)) h p
+    here true x xs e is = inl (ap (λ s. s.tag) is, ap (λ s. s.place) is)
     here false x xs e is = absurd (cc)
 
-    later : (b : Bool) (x : Slot) (xs : List Slot) → IsAmong (entries_in xs) h p → IsAmong (cond b ((x.hash, x.place) ∷ entries_in xs) (entries_in xs)) h p
+    later : (b : Bool) (x : Slot) (xs : List Slot) → IsAmong (entries_in xs) h p → IsAmong (cond b ((x.tag, x.place) ∷ entries_in xs) (entries_in xs)) h p
     later true x xs h = inr h
     later false x xs h = h
 
-    go : (xs : List Slot) (k : ℕ) → slot_at xs k ≡ record { hash = h; place = p } → IsAmong (entries_in xs) h p
+    go : (xs : List Slot) (k : ℕ) → slot_at xs k ≡ record { tag = h; place = p } → IsAmong (entries_in xs) h p
     go [] k at = absurd (omega (arith, ap (λ s. s.place) at))
     go (x ∷ xs) zero at = here (nat_lt x.place nowhere) x xs (lt-ltb x.place nowhere (omega (arith, ap (λ s. s.place) at))) at
     go (x ∷ xs) (suc k) at = later (nat_lt x.place nowhere) x xs (go xs k at)
 
-pub both : (x : Slot) (h p : ℕ) → x.hash ≡ h → x.place ≡ p → x ≡ record { hash = h; place = p }
-both x h p a b = ap (λ n. record x { hash = n }) a ∙ ap (λ n. record x { hash = h; place = n }) b
+pub both : (x : Slot) (h p : ℕ) → x.tag ≡ h → x.place ≡ p → x ≡ record { tag = h; place = p }
+both x h p a b = ap (λ n. record x { tag = n }) a ∙ ap (λ n. record x { tag = h; place = n }) b
 
 pub among-has : (xs : List Slot) (h p : ℕ) → IsAmong (entries_in xs) h p → Has xs h p
 among-has [] h p u = absurd u
@@ -85,7 +85,7 @@ among-has (x ∷ xs) h p u = go (nat_lt x.place nowhere) refl (among-has xs h p)
     behind : Has xs h p → Has (x ∷ xs) h p
     behind (k, at, less) = (suc k, at, less)
 
-    go : (b : Bool) → nat_lt x.place nowhere ≡ b → (IsAmong (entries_in xs) h p → Has xs h p) → IsAmong (cond b ((x.hash, x.place) ∷ entries_in xs) (entries_in xs)) h p → Has (x ∷ xs) h p
+    go : (b : Bool) → nat_lt x.place nowhere ≡ b → (IsAmong (entries_in xs) h p → Has xs h p) → IsAmong (cond b ((x.tag, x.place) ∷ entries_in xs) (entries_in xs)) h p → Has (x ∷ xs) h p
     go false e later u = behind (later u)
     go true e later (inl same) = (zero, both x h p same.0 same.1, omega (arith, ltb-true x.place nowhere e, same.1))
     go true e later (inr u) = behind (later u)

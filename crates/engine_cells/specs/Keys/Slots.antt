@@ -1,14 +1,14 @@
--- How places lie in memory: a table of slots, in which a place is looked for from its hash's home on, around the end, up to
+-- How places lie in memory: a table of slots, in which a place is looked for from its tag's home on, around the end, up to
 -- a vacant slot. No public clause cites this module.
 use Rattle.std.specs.Prelude.{◌≡◌, ◌≢◌, ℕ, ◌+◌, ◌-◌, ◌*◌, ◌/◌, ◌%◌, ◌^◌, ◌<◌, ◌≤◌, nat_lt, if◌then◌else◌, List, [], ◌∷◌, length, slice_index_or, slice_set, count_by}
 use Rattle.engine_cells.specs.declared.keys.Slot.{Slot}
 
 -- what a vacant slot has in place of a place
 abbrev pub nowhere : ℕ
-nowhere = 18446744073709551615
+nowhere = 4294967295
 
 abbrev pub vacant : Slot
-vacant = record { hash = 0; place = nowhere }
+vacant = record { tag = 0; place = nowhere }
 
 -- what stands in a slot
 abbrev pub slot_at : List Slot → ℕ → Slot
@@ -22,18 +22,18 @@ IsTaken slots k = (slot_at slots k).place < nowhere
 abbrev pub taken_in : List Slot → ℕ
 taken_in slots = count_by (λ s. nat_lt s.place nowhere) slots
 
--- the hashes with their places
+-- the tags with their places
 abbrev pub entries_in : List Slot → List (ℕ × ℕ)
 entries_in [] = []
-entries_in (s ∷ rest) = if nat_lt s.place nowhere then (s.hash, s.place) ∷ entries_in rest else entries_in rest
+entries_in (s ∷ rest) = if nat_lt s.place nowhere then (s.tag, s.place) ∷ entries_in rest else entries_in rest
 
 -- how many places stand in so many slots at most
 abbrev pub most_in : ℕ → ℕ
-most_in many = many / 3 * 2
+most_in many = many / 2
 
--- the slot in which a hash is looked for first, of so many
+-- the slot in which a tag is looked for first, of so many
 unfoldable pub home_of : ℕ → ℕ → ℕ
-home_of hash many = hash * 0x9E37_79B9_7F4A_7C15 % 2 ^ 64 * many / 2 ^ 64
+home_of tag many = tag % 2 ^ 32 * many / 2 ^ 32
 
 -- the slot to which so many steps lead
 abbrev pub steps_on : ℕ → ℕ → ℕ → ℕ
@@ -43,40 +43,40 @@ steps_on many from steps = if nat_lt steps (many - from) then from + steps else 
 abbrev pub steps_to : ℕ → ℕ → ℕ → ℕ
 steps_to many from to = if nat_lt to from then many - from + to else to - from
 
--- a slot is on the way from a hash's home to another, or is that one
+-- a slot is on the way from a tag's home to another, or is that one
 abbrev pub IsOnWay : ℕ → ℕ → ℕ → ℕ → Type 0
-IsOnWay many hash to at = steps_to many (home_of hash many) at ≤ steps_to many (home_of hash many) to
+IsOnWay many tag to at = steps_to many (home_of tag many) at ≤ steps_to many (home_of tag many) to
 
--- a place stands under a hash
+-- a place stands under a tag
 abbrev pub Has : List Slot → ℕ → ℕ → Type 0
-Has slots hash place = (k : ℕ) × (slot_at slots k ≡ record { hash = hash; place = place }) × (place < nowhere)
+Has slots tag place = (k : ℕ) × (slot_at slots k ≡ record { tag = tag; place = place }) × (place < nowhere)
 
--- the same places stand under the same hashes
+-- the same places stand under the same tags
 pub record HasAll (old new : List Slot) : Type 0 where
-  pub others : (h p : ℕ) → Has old h p → Has new h p
-  pub only : (h p : ℕ) → Has new h p → Has old h p
+  pub others : (t p : ℕ) → Has old t p → Has new t p
+  pub only : (t p : ℕ) → Has new t p → Has old t p
 
 -- of so many slots, each that is on a place's way is taken, and no place stands in two
 pub record AreFoundIn (many : ℕ) (slots : List Slot) : Type 0 where
-  pub reached : (k at : ℕ) → IsTaken slots k → at < many → IsOnWay many (slot_at slots k).hash k at → IsTaken slots at
+  pub reached : (k at : ℕ) → IsTaken slots k → at < many → IsOnWay many (slot_at slots k).tag k at → IsTaken slots at
   pub once : (k at : ℕ) → IsTaken slots k → slot_at slots at ≡ slot_at slots k → at ≡ k
 
--- each place is found from its hash's home on
+-- each place is found from its tag's home on
 abbrev pub AreFound : List Slot → Type 0
 AreFound slots = AreFoundIn (length slots) slots
 
--- a slot is the first vacant one from a hash's home on
-pub record IsFirstVacant (slots : List Slot) (hash result : ℕ) : Type 0 where
+-- a slot is the first vacant one from a tag's home on
+pub record IsFirstVacant (slots : List Slot) (tag result : ℕ) : Type 0 where
   pub within : result < length slots
   pub vacant : nowhere ≤ (slot_at slots result).place
-  pub before : (at : ℕ) → at < length slots → steps_to (length slots) (home_of hash (length slots)) at < steps_to (length slots) (home_of hash (length slots)) result → IsTaken slots at
+  pub before : (at : ℕ) → at < length slots → steps_to (length slots) (home_of tag (length slots)) at < steps_to (length slots) (home_of tag (length slots)) result → IsTaken slots at
 
 -- a place came into a slot that was vacant
-pub record Adds (old new : List Slot) (hash place : ℕ) : Type 0 where
+pub record Adds (old new : List Slot) (tag place : ℕ) : Type 0 where
   pub at : ℕ
   pub within : at < length old
   pub was : nowhere ≤ (slot_at old at).place
-  pub is : new ≡ slice_set old at (record { hash = hash; place = place })
+  pub is : new ≡ slice_set old at (record { tag = tag; place = place })
 
 -- the place of a slot is to go: the others stand apart from one slot, which may be another
 pub record IsHoled (old new : List Slot) (from hole : ℕ) : Type 0 where
@@ -87,11 +87,11 @@ pub record IsHoled (old new : List Slot) (from hole : ℕ) : Type 0 where
   pub others : (k : ℕ) → IsTaken old k → k ≢ from → (j : ℕ) × (j ≢ hole) × (slot_at new j ≡ slot_at old k)
   pub only : (j : ℕ) → j ≢ hole → IsTaken new j → (k : ℕ) × (k ≢ from) × (slot_at old k ≡ slot_at new j)
   pub once : (k j : ℕ) → k ≢ hole → j ≢ hole → IsTaken new k → slot_at new j ≡ slot_at new k → j ≡ k
-  pub reached : (k at : ℕ) → k ≢ hole → IsTaken new k → at < length old → IsOnWay (length old) (slot_at new k).hash k at → IsTaken new at
+  pub reached : (k at : ℕ) → k ≢ hole → IsTaken new k → at < length old → IsOnWay (length old) (slot_at new k).tag k at → IsTaken new at
 
 -- a slot is on no other place's way
 abbrev pub LeavesOut : List Slot → ℕ → Type 0
-LeavesOut slots hole = (k : ℕ) → k ≢ hole → IsTaken slots k → IsOnWay (length slots) (slot_at slots k).hash k hole → ⊥
+LeavesOut slots hole = (k : ℕ) → k ≢ hole → IsTaken slots k → IsOnWay (length slots) (slot_at slots k).tag k hole → ⊥
 
 -- the place of a slot went, and the others may stand in other slots
 pub record Loses (old new : List Slot) (from : ℕ) : Type 0 where

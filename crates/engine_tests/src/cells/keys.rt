@@ -61,6 +61,7 @@ fn count_found(keys: &Keys, many: usize, hashes: u64, shift: u32) -> usize
 fn put_many(keys: &mut Keys, many: usize, hashes: u64, shift: u32) -> bool
     requires hashes { 0 < hashes }
     requires shift { shift < 64 }
+    requires few { many < 2 ^ 32 }
     requires none { (hash place : ℕ) → IsUnder keys.old hash place → ⊥ }
 {
     for place in 0..many {
@@ -75,7 +76,7 @@ fn put_many(keys: &mut Keys, many: usize, hashes: u64, shift: u32) -> bool
 /// Takes a place where it stands, and puts it where it does not; answers whether it stands then, or
 /// nothing where memory is refused.
 fn turn(keys: &mut Keys, hash: u64, place: usize) -> Option<bool>
-    requires { place < 2 ^ 64 - 1 }
+    requires { place < 2 ^ 32 - 1 }
 {
     if let Some(at) = keys.get(hash, |at| at == place) {
         keys.take(hash, at);
@@ -90,6 +91,7 @@ fn turn(keys: &mut Keys, hash: u64, place: usize) -> Option<bool>
 
 /// How many of the places below `many` are found, and how many once each second one is taken.
 fn found_of_many(alloc: Global, many: usize, hashes: u64, shift: u32) -> Option<(usize, usize)>
+    requires few { many < 2 ^ 32 }
     requires hashes { 0 < hashes }
     requires shift { shift < 64 }
 {
@@ -160,7 +162,9 @@ fn places_that_come_and_go_at_random_stand_where_they_do(rt: HostRuntime) {
 
 /// How many places come under one hash without memory, once there is room for them, and whether
 /// more than can be are refused.
-fn found_in_room(alloc: Global, many: usize) -> Option<(usize, bool)> {
+fn found_in_room(alloc: Global, many: usize) -> Option<(usize, bool)>
+    requires { many < 2 ^ 32 }
+{
     let mut keys = Keys::new(alloc);
     if !makes_room(&mut keys, many) {
         return None;

@@ -23,6 +23,7 @@ impl<K: Eq + Hash, V, S: BuildHasher, R: Rules<K, V>> BaseCache<K, V, S, R> {
         ensures drawn { IfOk result (λ id. Draws (G.stream generator.old) (G.stream generator.new) (is_registered self.old.predicates) id) }
         ensures err { OnErr result (self.new ≡ self.old) }
         ensures takes { OnOk result (self.old.settings.takes_predicates ≡ true) }
+        ensures first { self.old.settings.takes_predicates ≡ false → IsErrOf result Refusal.InvalidationClosuresDisabled }
         ensures refused { IfErr result (IsCauseToRegister self.old (G.stream generator.old) (G.stream generator.new)) }
     {
         invalidate(&mut self.tables, predicate, step, generator)
@@ -34,6 +35,7 @@ impl<K: Eq + Hash, V, S: BuildHasher, R: Rules<K, V>> BaseCache<K, V, S, R> {
         ensures drawn { IfOk result (λ id. Draws (G.stream generator.old) (G.stream generator.new) (is_registered self.old.predicates) id) }
         ensures err { OnErr result (self.new ≡ self.old) }
         ensures takes { OnOk result (self.old.settings.takes_predicates ≡ true) }
+        ensures first { self.old.settings.takes_predicates ≡ false → IsErrOf result Refusal.InvalidationClosuresDisabled }
         ensures refused { IfErr result (IsCauseToRegister self.old (G.stream generator.old) (G.stream generator.new)) }
     {
         prepare(&mut self.tables, generator)
@@ -44,6 +46,7 @@ impl<K: Eq + Hash, V, S: BuildHasher, R: Rules<K, V>> BaseCache<K, V, S, R> {
         ensures ok { OnOk result (self.new ≡ with_room self.old) }
         ensures err { OnErr result (self.new ≡ self.old) }
         ensures takes { OnOk result (self.old.settings.takes_predicates ≡ true) }
+        ensures first { self.old.settings.takes_predicates ≡ false → IsErrOf result Refusal.InvalidationClosuresDisabled }
         ensures disabled { IsErrOf result Refusal.InvalidationClosuresDisabled → self.old.settings.takes_predicates ≡ false }
         ensures used_up { IsErrOf result Refusal.UsedUp → 2 ^ 64 ≤ self.old.next_ticket + self.old.reserved + 1 }
         ensures kinds { OnErr result ((IsErrOf result Refusal.OutOfMemory) ⊎ ((IsErrOf result Refusal.InvalidationClosuresDisabled) ⊎ (IsErrOf result Refusal.UsedUp))) }

@@ -4,4 +4,4 @@ use Rattle.engine_cells.proofs.keys.find.Given as goal
 
 abbrev pub invariant-loop-steps : goal.invariant-loop-steps
 invariant-loop-steps g l =
-    (t : ℕ) → t < l.steps → IsTaken l.slots.items (steps_on l.many l.home t) × ((slot_at l.slots.items (steps_on l.many l.home t)).hash ≡ l.hash → goal.F-post g l.is_sought (slot_at l.slots.items (steps_on l.many l.home t)).place false)
+    (t : ℕ) → t < l.steps → IsTaken l.slots.items (steps_on l.many l.home t) × ((slot_at l.slots.items (steps_on l.many l.home t)).tag ≡ l.tag → goal.F-post g l.is_sought (slot_at l.slots.items (steps_on l.many l.home t)).place false)

@@ -34,7 +34,7 @@ loop-steps-preserved c =
           (moved-yes old now c.args.from c.loop-steps.hole c.loop-steps.steps c.steps_on-at.result f c.loop-steps.invariant at.0 at.1 c.index-slot.result.now c.len-many.result slot place many way)
           )
       | else-is_on_way w ↦
-          let off : IsOnWay c.len-many.result c.index-slot.result.now.hash c.steps_on-at.result c.loop-steps.hole → ⊥ = λ way. true≢false (sym (c.is_on_way.ensures.1 way) ∙ w.if-is_on_way.false) in
+          let off : IsOnWay c.len-many.result c.index-slot.result.now.tag c.steps_on-at.result c.loop-steps.hole → ⊥ = λ way. true≢false (sym (c.is_on_way.ensures.1 way) ∙ w.if-is_on_way.false) in
           subst (λ (v : List Slot). AreMoved old v c.args.from c.if-is_on_way.hole (c.loop-steps.steps + 1)) (sym (ap (λ v. v.items) w.slots-is)) (
           subst (λ h. AreMoved old now c.args.from h (c.loop-steps.steps + 1)) (sym w.hole-is)
           (moved-no old now c.args.from c.loop-steps.hole c.loop-steps.steps c.steps_on-at.result f c.loop-steps.invariant at.0 at.1 c.index-slot.result.now c.len-many.result slot place many off)

@@ -116,4 +116,4 @@ put-requires-clause-absent g c u =
     cc
 
 pub put-requires-clause-place : goal.put-requires-clause-place
-put-requires-clause-place g c = omega (arith, c.insert_reserved-place.ensures.key_in_range, c.insert_reserved-place.ensures.capacity, c.capacity-many.ensures.value, c.capacity-many.type_inv)
+put-requires-clause-place g c = omega (arith, c.insert_reserved-place.ensures.key_in_range, c.insert_reserved-place.ensures.capacity, c.capacity-many.ensures.value, c.capacity-many.ensures.fits)

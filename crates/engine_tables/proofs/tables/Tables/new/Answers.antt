@@ -22,25 +22,25 @@ none-tallied = record { held = refl; weight = refl; number = refl; light = λ i 
 
 pub invariant_of-result : goal.invariant_of-result
 invariant_of-result g c =
-    let none : slab_len c.new-2.result ≡ 0 = ap (λ l. count_by is_some l) c.new-2.ensures.empty in
-    let waits : unqueued c.new-2.result.slots ≡ 0 = ap (λ l. unqueued l) c.new-2.ensures.empty in
-    let order_waits : unqueued (all_turned c.new-2.result.slots) ≡ 0 = ap (λ l. unqueued (all_turned l)) c.new-2.ensures.empty in
+    let none : slab_len c.new-2.result ≡ 0 = ap (λ l. count_by is_some l) c.new-2.ensures in
+    let waits : unqueued c.new-2.result.slots ≡ 0 = ap (λ l. unqueued l) c.new-2.ensures in
+    let order_waits : unqueued (all_turned c.new-2.result.slots) ≡ 0 = ap (λ l. unqueued (all_turned l)) c.new-2.ensures in
     let u = c.in_ok-backlog.ensures in
     let reserved = u.reserved in
     let ticket = u.next_ticket in
     record {
-      kept = rw (c.new-2.ensures.empty, c.new-3.ensures.nodes) none-queued;
-      listed = rw (c.new-2.ensures.empty, c.new-4.ensures.nodes) none-queued;
+      kept = rw (c.new-2.ensures, c.new-3.ensures.nodes) none-queued;
+      listed = rw (c.new-2.ensures, c.new-4.ensures.nodes) none-queued;
       cells = omega (arith, none, reserved);
       access = omega (arith, waits, reserved);
       order = omega (arith, order_waits, reserved);
       notices = omega (arith, none, reserved);
-      tallied = rw c.new-2.ensures.empty none-tallied;
+      tallied = rw c.new-2.ensures none-tallied;
       aimed = rw (u.reads, u.writes, u.unsent) (record { reads_are = tt; writes_are = tt; unsent_are = tt });
       tickets = omega (arith, reserved, ticket);
       numbers = omega arith;
-      spotted = rw c.new-2.ensures.empty (none-spotted g.K.PartialEq.eq c.new-5.result c.new-5.ensures);
-      hashed = rw c.new-2.ensures.empty (λ i c at held. absurd (cc));
+      spotted = rw c.new-2.ensures (none-spotted g.K.PartialEq.eq c.new-5.result c.new-5.ensures);
+      hashed = rw c.new-2.ensures (λ i c at held. absurd (cc));
       keys = omega (arith, reserved);
-      awaited = rw c.new-2.ensures.empty (∣ (λ i c at held. absurd (cc)) ∣₁);
+      awaited = rw c.new-2.ensures (∣ (λ i c at held. absurd (cc)) ∣₁);
     }

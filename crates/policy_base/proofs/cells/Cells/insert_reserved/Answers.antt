@@ -1,5 +1,5 @@
 use Rattle.std.proofs.Common.{refl, sym, ◌∙◌, arith}
-use Rattle.policy_base.proofs.Sound.{full, before_end, next_not_taken, next_vacant, pushed, filled, filled_len, updated, added}
+use Rattle.policy_base.proofs.Sound.{full, before_end, next_not_taken, next_vacant, pushed, pushed_slots, filled, filled_len, updated, added}
 use Rattle.policy_base.proofs.cells.Cells.insert_reserved.Goals as goal
 
 pub push_reserved-requires : goal.push_reserved-requires
@@ -46,3 +46,10 @@ returns-clause-len g c = rw (← c.self.view_is, c.replace.ensures.after) (fille
 
 pub returns-clause-key_in_range : goal.returns-clause-key_in_range
 returns-clause-key_in_range g c = let fits = c.self.invariant.fits in omega (arith, before_end _ _ _ c.self.invariant (λ e. omega arith))
+
+pub returns-then-key-len-clause-slots : goal.returns-then-key-len-clause-slots
+returns-then-key-len-clause-slots g c =
+    let room = rw (← c.self.view_is) at c.requires in
+    let all = full _ _ _ c.self.invariant (omega arith) in
+    let counted = c.self.invariant.sound.counted in
+    rw c.push_reserved.ensures.items (pushed_slots _ _ _ c.self.invariant c.args.first c.args.second _ (omega arith) (omega arith))

@@ -1,24 +1,28 @@
-use Rattle.std.proofs.Common.{is_some, ap, arith}
-use Rattle.policy_queue.proofs.Moves.{found, found-behind, place_within}
+use Rattle.std.proofs.Common.{sym, ap, ◌∙◌, is_some, option_map}
+use Rattle.policy_queue.specs.declared.places.Node.{Node}
+use Rattle.policy_queue.specs.Queue.{head}
+use Rattle.policy_queue.proofs.Standing.{found_at, found, has_found, found-behind, slots_behind, taken_behind, taken_head, head_id, nodes_none, not_some}
 use Rattle.policy_queue.proofs.deque.Deque.next_node_ptr.Goals as goal
 
-pub place_of-requires : goal.place_of-requires
-place_of-requires g c = rw c.as_slice.ensures.value c.self.invariant.arranged.stored
+pub behind-requires : goal.behind-requires
+behind-requires g c = has_found c.self.inside.region c.self.inside.nodes c.self.inside.slots.indices c.args.id (found_at c.self.inside.region c.self.inside.nodes c.self.inside.slots.indices c.args.id c.self.invariant.taken (sym c.holds.ensures ∙ c.if-not-holds.false))
 
-pub overflow_add-k : goal.overflow_add-k
-overflow_add-k g c = let lt = place_within c.self.inside.region c.as_slice.result.now c.self.inside.nodes c.in-Some.k c.args.id (rw c.as_slice.ensures.value c.self.invariant.arranged.stored) c.in-Some.ensures in omega arith
+pub id_of-requires : goal.id_of-requires
+id_of-requires g c =
+    let f = found_at c.self.inside.region c.self.inside.nodes c.self.inside.slots.indices c.args.id c.self.invariant.taken (sym c.holds.ensures ∙ c.if-not-holds.false) in
+    taken_head c.self.inside.nodes f.behind c.in-Some.slot (taken_behind c.self.inside.region c.self.inside.nodes c.self.inside.slots.indices c.args.id f c.self.invariant.taken) (ap head (sym (slots_behind c.self.inside.region c.self.inside.nodes c.self.inside.slots.indices c.args.id f)) ∙ sym c.in-Some.ensures)
 
-pub id_from-requires-clause-place : goal.id_from-requires-clause-place
-id_from-requires-clause-place g c = rw c.as_slice-in-Some.ensures.value (let lt = place_within c.self.inside.region c.self.inside.places.items c.self.inside.nodes c.in-Some.k c.args.id c.self.invariant.arranged.stored (rw c.as_slice.ensures.value at c.in-Some.ensures) in omega arith)
-
-pub id_from-requires-clause-stored : goal.id_from-requires-clause-stored
-id_from-requires-clause-stored g c = rw c.as_slice-in-Some.ensures.value c.self.invariant.arranged.stored
+pub returns-then-not-holds : goal.returns-then-not-holds
+returns-then-not-holds g c = rw (← c.self.view_is) (not_some _ (sym c.holds.ensures ∙ c.if-not-holds.true))
 
 pub returns-in-Some : goal.returns-in-Some
 returns-in-Some g c =
-    let at = rw c.as_slice.ensures.value at c.in-Some.ensures in
-    let behind = found-behind c.self.inside.region c.self.inside.places.items c.self.inside.nodes c.in-Some.k c.args.id c.self.invariant.arranged.stored at in
-    rw (← c.self.view_is) (ap is_some (found c.self.inside.region c.self.inside.places.items c.self.inside.nodes c.in-Some.k c.args.id c.self.invariant.arranged.stored at), rw (behind) (rw c.as_slice-in-Some.ensures.value at c.id_from.ensures))
+    let f = found_at c.self.inside.region c.self.inside.nodes c.self.inside.slots.indices c.args.id c.self.invariant.taken (sym c.holds.ensures ∙ c.if-not-holds.false) in
+    let first = ap head (sym (slots_behind c.self.inside.region c.self.inside.nodes c.self.inside.slots.indices c.args.id f)) ∙ sym c.in-Some.ensures in
+    rw (← c.self.view_is) (ap is_some (found c.self.inside.region c.self.inside.nodes c.self.inside.slots.indices c.args.id f), sym (ap (λ ns. option_map (λ (n : Node g.row.T.Denot). n.id) (head ns)) (found-behind c.self.inside.region c.self.inside.nodes c.self.inside.slots.indices c.args.id f) ∙ head_id c.self.inside.region c.self.inside.nodes f.behind c.in-Some.slot first (taken_behind c.self.inside.region c.self.inside.nodes c.self.inside.slots.indices c.args.id f c.self.invariant.taken) ∙ c.id_of.ensures))
 
 pub returns-in-None : goal.returns-in-None
-returns-in-None g c = rw (← c.self.view_is) (rw c.as_slice.ensures.value at c.in-None.ensures)
+returns-in-None g c =
+    let f = found_at c.self.inside.region c.self.inside.nodes c.self.inside.slots.indices c.args.id c.self.invariant.taken (sym c.holds.ensures ∙ c.if-not-holds.false) in
+    let none = nodes_none c.self.inside.region c.self.inside.nodes f.behind (ap head (sym (slots_behind c.self.inside.region c.self.inside.nodes c.self.inside.slots.indices c.args.id f)) ∙ sym c.in-None.ensures) in
+    rw (← c.self.view_is) (ap is_some (found c.self.inside.region c.self.inside.nodes c.self.inside.slots.indices c.args.id f), sym (ap (λ ns. option_map (λ (n : Node g.row.T.Denot). n.id) (head ns)) (found-behind c.self.inside.region c.self.inside.nodes c.self.inside.slots.indices c.args.id f ∙ none)))

@@ -1,25 +1,14 @@
-use Rattle.std.proofs.Common.{ap, ◌∙◌, option_map, sym, ◌<◌, arith, length}
+use Rattle.std.proofs.Common.{sym, ap, ◌∙◌, option_map}
 use Rattle.policy_queue.specs.declared.places.Node.{Node}
 use Rattle.policy_queue.specs.Queue.{final}
-use Rattle.policy_queue.proofs.Moves.{final_at, nodes_none}
+use Rattle.policy_queue.proofs.Standing.{final_element, final_none, taken_final}
 use Rattle.policy_queue.proofs.deque.Deque.peek_back.Goals as goal
 
-pub returns-then-len-eq0 : goal.returns-then-len-eq0
-returns-then-len-eq0 g c =
-    let ps = c.self.inside.places in
-    rw (← c.self.view_is) (sym (ap (λ ns. option_map (λ (n : Node g.row.T.Denot). n.element) (final ns)) (nodes_none c.self.inside.region c.self.inside.places.items c.self.inside.nodes (omega (arith, c.if-len-eq0.true, c.len.ensures, ps.ok.0)))))
+pub element_of-requires : goal.element_of-requires
+element_of-requires g c = taken_final c.self.inside.nodes c.self.inside.slots.indices c.in-Some.slot c.self.invariant.taken (sym c.in-Some.ensures)
 
-pub element_at-requires-clause-there : goal.element_at-requires-clause-there
-element_at-requires-clause-there g c =
-    let ps = c.self.inside.places in
-    rw (c.as_slice.ensures.value, c.len-2.ensures, ps.ok.0) (c.self.invariant.arranged.ends.last (omega (arith, c.if-len-eq0.false, c.len.ensures, ps.ok.0)))
+pub returns-in-Some : goal.returns-in-Some
+returns-in-Some g c = rw (← c.self.view_is) (sym (final_element c.self.inside.region c.self.inside.nodes c.self.inside.slots.indices c.in-Some.slot (sym c.in-Some.ensures) c.self.invariant.taken ∙ c.element_of.ensures))
 
-pub element_at-requires-clause-stored : goal.element_at-requires-clause-stored
-element_at-requires-clause-stored g c = rw c.as_slice.ensures.value c.self.invariant.arranged.stored
-
-pub returns : goal.returns
-returns g c =
-    let ps = c.self.inside.places in
-    let some : 0 < length ps.items = omega (arith, c.if-len-eq0.false, c.len.ensures, ps.ok.0) in
-    let there = rw (c.as_slice.ensures.value, c.len-2.ensures, ps.ok.0) at c.element_at.ensures in
-    rw (← c.self.view_is) (sym there ∙ sym (final_at c.self.inside.region c.self.inside.places.items c.self.inside.nodes c.self.inside.front c.self.invariant.arranged.stored c.self.invariant.arranged.ends some))
+pub returns-in-None : goal.returns-in-None
+returns-in-None g c = rw (← c.self.view_is) (sym (ap (λ ns. option_map (λ (n : Node g.row.T.Denot). n.element) (final ns)) (final_none c.self.inside.region c.self.inside.nodes c.self.inside.slots.indices (sym c.in-None.ensures))))

@@ -1,27 +1,29 @@
-use Rattle.std.proofs.Common.{refl, arith}
+use Rattle.std.proofs.Common.{refl, sym, ap, ◌∙◌, option_map}
+use Rattle.policy_queue.specs.declared.places.Node.{Node}
+use Rattle.policy_queue.specs.Queue.{head}
 use Rattle.policy_queue.proofs.Live.{from_none}
-use Rattle.policy_queue.proofs.Moves.{found-behind, place_within}
+use Rattle.policy_queue.proofs.Standing.{found_at, has_found, found-behind, slots_behind, taken_behind, taken_head, head_element, nodes_none, not_some}
 use Rattle.policy_queue.proofs.deque.Deque.peek_behind.Goals as goal
 
-pub place_of-requires : goal.place_of-requires
-place_of-requires g c = rw c.as_slice-places.ensures.value c.self.invariant.arranged.stored
+pub behind-requires : goal.behind-requires
+behind-requires g c = has_found c.self.inside.region c.self.inside.nodes c.self.inside.slots.indices c.args.id (found_at c.self.inside.region c.self.inside.nodes c.self.inside.slots.indices c.args.id c.self.invariant.taken (sym c.holds.ensures ∙ c.if-not-holds.false))
 
-pub overflow_add-at : goal.overflow_add-at
-overflow_add-at g c = let lt = place_within c.self.inside.region c.as_slice-places.result.now c.self.inside.nodes c.in-Some.at c.args.id (rw c.as_slice-places.ensures.value c.self.invariant.arranged.stored) c.in-Some.ensures in omega arith
+pub element_of-requires : goal.element_of-requires
+element_of-requires g c =
+    let f = found_at c.self.inside.region c.self.inside.nodes c.self.inside.slots.indices c.args.id c.self.invariant.taken (sym c.holds.ensures ∙ c.if-not-holds.false) in
+    taken_head c.self.inside.nodes f.behind c.in-Some.slot (taken_behind c.self.inside.region c.self.inside.nodes c.self.inside.slots.indices c.args.id f c.self.invariant.taken) (ap head (sym (slots_behind c.self.inside.region c.self.inside.nodes c.self.inside.slots.indices c.args.id f)) ∙ sym c.in-Some.ensures)
 
-pub element_from-requires-clause-place : goal.element_from-requires-clause-place
-element_from-requires-clause-place g c = rw c.as_slice-places.ensures.value (let lt = place_within c.self.inside.region c.self.inside.places.items c.self.inside.nodes c.in-Some.at c.args.id c.self.invariant.arranged.stored (rw c.as_slice-places.ensures.value at c.in-Some.ensures) in omega arith)
-
-pub element_from-requires-clause-stored : goal.element_from-requires-clause-stored
-element_from-requires-clause-stored g c = rw c.as_slice-places.ensures.value c.self.invariant.arranged.stored
+pub returns-then-not-holds : goal.returns-then-not-holds
+returns-then-not-holds g c = rw (← c.self.view_is, from_none c.args.id _ (not_some _ (sym c.holds.ensures ∙ c.if-not-holds.true))) refl
 
 pub returns-in-Some : goal.returns-in-Some
 returns-in-Some g c =
-    let at = rw c.as_slice-places.ensures.value at c.in-Some.ensures in
-    let behind = found-behind c.self.inside.region c.self.inside.places.items c.self.inside.nodes c.in-Some.at c.args.id c.self.invariant.arranged.stored at in
-    rw (← c.self.view_is) (rw behind (rw c.as_slice-places.ensures.value at c.element_from.ensures))
+    let f = found_at c.self.inside.region c.self.inside.nodes c.self.inside.slots.indices c.args.id c.self.invariant.taken (sym c.holds.ensures ∙ c.if-not-holds.false) in
+    let first = ap head (sym (slots_behind c.self.inside.region c.self.inside.nodes c.self.inside.slots.indices c.args.id f)) ∙ sym c.in-Some.ensures in
+    rw (← c.self.view_is) (sym (ap (λ ns. option_map (λ (n : Node g.row.T.Denot). n.element) (head ns)) (found-behind c.self.inside.region c.self.inside.nodes c.self.inside.slots.indices c.args.id f) ∙ head_element c.self.inside.region c.self.inside.nodes f.behind c.in-Some.slot first (taken_behind c.self.inside.region c.self.inside.nodes c.self.inside.slots.indices c.args.id f c.self.invariant.taken) ∙ c.element_of.ensures))
 
 pub returns-in-None : goal.returns-in-None
 returns-in-None g c =
-    let none = rw c.as_slice-places.ensures.value at c.in-None.ensures in
-    rw (← c.self.view_is, from_none c.args.id _ none) refl
+    let f = found_at c.self.inside.region c.self.inside.nodes c.self.inside.slots.indices c.args.id c.self.invariant.taken (sym c.holds.ensures ∙ c.if-not-holds.false) in
+    let none = nodes_none c.self.inside.region c.self.inside.nodes f.behind (ap head (sym (slots_behind c.self.inside.region c.self.inside.nodes c.self.inside.slots.indices c.args.id f)) ∙ sym c.in-None.ensures) in
+    rw (← c.self.view_is) (sym (ap (λ ns. option_map (λ (n : Node g.row.T.Denot). n.element) (head ns)) (found-behind c.self.inside.region c.self.inside.nodes c.self.inside.slots.indices c.args.id f ∙ none)))

@@ -1,80 +1,46 @@
-use Rattle.std.proofs.Common.{◌≡◌, ◌+◌, refl, sym, ap, ◌∙◌, option_map, Some, arith, length, drop}
+use Rattle.std.proofs.Common.{◌≡◌, refl, sym, ap, ◌∙◌, option_map, Some, arith}
 use Rattle.std.proofs.lemmas.Option.{same_Some}
-use Rattle.policy_queue.specs.declared.places.Seat.{Seat}
-use Rattle.policy_queue.specs.Places.{order, nodes_of, nodes_for}
-use Rattle.policy_queue.specs.Queue.{cursor_moved}
-use Rattle.policy_queue.proofs.Names.{AreNamed-remove}
-use Rattle.policy_queue.proofs.Order.{length-emptied}
-use Rattle.policy_queue.proofs.Moves.{found, found-without, found-cursor, split, taken, place_within, unplaced, lacks_emptied, nodes_left, IsStored-emptied, IsStored-other}
+use Rattle.policy_queue.specs.declared.places.Node.{Node}
+use Rattle.policy_queue.proofs.Standing.{found_at, found, found-without, has_found, found_there, nodes_left, off_leaving, not_some}
+use Rattle.policy_queue.proofs.Queues.{IsQueue-left}
 use Rattle.policy_queue.proofs.deque.Deque.unlink.Goals as goal
 
-pub place_of-requires : goal.place_of-requires
-place_of-requires g c = rw c.as_slice.ensures.value c.self.invariant.arranged.stored
+pub holds-requires : goal.holds-requires
+holds-requires g c = c.self.invariant.taken
 
-pub cursor_leaving-self-inside-requires-clause-place : goal.cursor_leaving-self-inside-requires-clause-place
-cursor_leaving-self-inside-requires-clause-place g c = rw c.as_slice-in-Some.ensures.value (place_within c.self.inside.region c.self.inside.places.items c.self.inside.nodes c.in-Some.k c.args.id c.self.invariant.arranged.stored (rw c.as_slice.ensures.value at c.in-Some.ensures))
+pub cursor_leaving-self-inside-requires-clause-taken : goal.cursor_leaving-self-inside-requires-clause-taken
+cursor_leaving-self-inside-requires-clause-taken g c = c.self.invariant.taken
 
-pub cursor_leaving-self-inside-requires-clause-stored : goal.cursor_leaving-self-inside-requires-clause-stored
-cursor_leaving-self-inside-requires-clause-stored g c = rw c.as_slice-in-Some.ensures.value c.self.invariant.arranged.stored
+pub cursor_leaving-self-inside-requires-clause-there : goal.cursor_leaving-self-inside-requires-clause-there
+cursor_leaving-self-inside-requires-clause-there g c = sym c.holds.ensures ∙ c.if-not-holds.false
 
-pub detach-requires-clause-ends : goal.detach-requires-clause-ends
-detach-requires-clause-ends g c = c.self.invariant.arranged.ends
+pub remove-requires : goal.remove-requires
+remove-requires g c = has_found c.self.inside.region c.self.inside.nodes c.self.inside.slots.indices c.args.id (found_at c.self.inside.region c.self.inside.nodes c.self.inside.slots.indices c.args.id c.self.invariant.taken (sym c.holds.ensures ∙ c.if-not-holds.false))
 
-pub detach-requires-clause-there : goal.detach-requires-clause-there
-detach-requires-clause-there g c = taken c.self.inside.region c.self.inside.places.items c.self.inside.nodes c.in-Some.k c.args.id c.self.invariant.arranged.stored (rw c.as_slice.ensures.value at c.in-Some.ensures)
-
-pub remove-seat-requires : goal.remove-seat-requires
-remove-seat-requires g c = (unplaced c.self.inside.region c.self.inside.places.items c.self.inside.nodes c.in-Some.k c.args.id c.self.invariant.arranged.stored (rw c.as_slice.ensures.value at c.in-Some.ensures) c.detach.new.places.items c.detach.ensures.emptied).there
+pub remove-element-requires : goal.remove-element-requires
+remove-element-requires g c = found_there c.self.inside.region c.self.inside.nodes c.self.inside.slots.indices c.args.id (found_at c.self.inside.region c.self.inside.nodes c.self.inside.slots.indices c.args.id c.self.invariant.taken (sym c.holds.ensures ∙ c.if-not-holds.false))
 
 pub invariant_of-self : goal.invariant_of-self
-invariant_of-self g c =
-    let at = (rw c.as_slice.ensures.value at c.in-Some.ensures) in
-    let gone = lacks_emptied c.self.inside.region c.self.inside.places.items c.self.inside.nodes c.in-Some.k c.args.id c.self.invariant.arranged.stored at c.detach.new.places.items c.detach.ensures.emptied in
-    let fewer = length-emptied c.self.inside.places.items c.in-Some.k (taken c.self.inside.region c.self.inside.places.items c.self.inside.nodes c.in-Some.k c.args.id c.self.invariant.arranged.stored at) in
-    let now = ap length c.detach.ensures.emptied in
-    let less = c.remove-seat.ensures.len in
-    let was = c.self.invariant.counted in
-    let enough = c.self.invariant.enough in
-    let kept = c.detach.ensures.capacity in
-    let fits = c.self.invariant.arranged.fits in
-    let shorter = c.detach.ensures.fewer in
-    let old = c.self.inside.places.ok.0 in
-    let new = c.detach.new.places.ok.0 in
-    record {
-      arranged = record {
-        stored = IsStored-other c.detach.new.places.items c.self.inside.nodes c.remove-seat.new.self c.args.id.slot _ (IsStored-emptied c.self.inside.places.items c.detach.new.places.items c.self.inside.nodes c.in-Some.k c.self.invariant.arranged.stored c.detach.ensures.others) gone c.remove-seat.ensures.updates;
-        ends = c.detach.ensures.ends;
-        fits = omega arith;
-      };
-      counted = omega arith;
-      named = rw (nodes_left c.self.inside.region c.self.inside.places.items c.self.inside.nodes c.in-Some.k c.args.id c.self.invariant.arranged.stored at c.detach.new.places.items c.detach.ensures.emptied c.remove-seat.new.self c.remove-seat.ensures.updates) (AreNamed-remove _ _ _ _ _ (rw (split c.self.inside.region c.self.inside.places.items c.self.inside.nodes c.in-Some.k c.args.id c.self.invariant.arranged.stored at) at c.self.invariant.named));
-      enough = omega arith;
-    }
+invariant_of-self g c = rw c.remove.ensures (IsQueue-left c.self.inside.region c.self.inside.slots c.self.inside.nodes c.self.inside.next_serial c.args.id c.self.invariant (found_at c.self.inside.region c.self.inside.nodes c.self.inside.slots.indices c.args.id c.self.invariant.taken (sym c.holds.ensures ∙ c.if-not-holds.false)) c.remove-element.new.self _ c.remove-element.ensures.updates c.remove-element.ensures.len c.remove-element.ensures.slots)
 
-pub returns-in-None-clause-value : goal.returns-in-None-clause-value
-returns-in-None-clause-value g c = rw (← c.self.view_is) (rw c.as_slice.ensures.value at c.in-None.ensures)
+pub returns-then-not-holds-clause-value : goal.returns-then-not-holds-clause-value
+returns-then-not-holds-clause-value g c = rw (← c.self.view_is) (not_some _ (sym c.holds.ensures ∙ c.if-not-holds.true))
 
-pub returns-in-None-clause-stale : goal.returns-in-None-clause-stale
-returns-in-None-clause-stale g c = refl
+pub returns-clause-value : goal.returns-clause-value
+returns-clause-value g c =
+    let f = found_at c.self.inside.region c.self.inside.nodes c.self.inside.slots.indices c.args.id c.self.invariant.taken (sym c.holds.ensures ∙ c.if-not-holds.false) in
+    let one : f.value ≡ c.remove-element.result = same_Some _ _ (sym f.there ∙ c.remove-element.ensures.value) in
+    rw (← c.self.view_is) (ap (option_map (λ (n : Node g.row.T.Denot). n.element)) (found c.self.inside.region c.self.inside.nodes c.self.inside.slots.indices c.args.id f) ∙ ap (λ v. Some v.1) one)
 
-pub returns-in-Some-clause-value : goal.returns-in-Some-clause-value
-returns-in-Some-clause-value g c =
-    let at = (rw c.as_slice.ensures.value at c.in-Some.ensures) in
-    let one : at.seat ≡ c.remove-seat.result.1 = same_Some _ _ (sym at.there ∙ ap (λ o. option_map (λ v. v.1) o) c.remove-seat.ensures.value) in
-    rw (← c.self.view_is, found c.self.inside.region c.self.inside.places.items c.self.inside.nodes c.in-Some.k c.args.id c.self.invariant.arranged.stored at) (ap (λ (x : Seat g.row.T.Denot). Some x.element) one)
-
-pub returns-in-Some-clause-leaves : goal.returns-in-Some-clause-leaves
-returns-in-Some-clause-leaves g c =
-    let at = (rw c.as_slice.ensures.value at c.in-Some.ensures) in
+pub returns-clause-leaves : goal.returns-clause-leaves
+returns-clause-leaves g c =
+    let f = found_at c.self.inside.region c.self.inside.nodes c.self.inside.slots.indices c.args.id c.self.invariant.taken (sym c.holds.ensures ∙ c.if-not-holds.false) in
+    let less = c.remove-element.ensures.len in
+    let cells = c.remove-element.ensures.capacity in
     rw (← c.self.view_is) (record {
-      nodes = nodes_left c.self.inside.region c.self.inside.places.items c.self.inside.nodes c.in-Some.k c.args.id c.self.invariant.arranged.stored at c.detach.new.places.items c.detach.ensures.emptied c.remove-seat.new.self c.remove-seat.ensures.updates ∙ sym (found-without c.self.inside.region c.self.inside.places.items c.self.inside.nodes c.in-Some.k c.args.id c.self.invariant.arranged.stored at);
-      cursor = c.cursor_leaving-self-inside.ensures ∙ ap (λ r. cursor_moved c.self.inside.cursor c.args.id (nodes_of c.self.inside.region c.self.inside.nodes (order (drop (c.in-Some.k + 1) r)))) c.as_slice-in-Some.ensures.value ∙ sym (found-cursor c.self.inside.region c.self.inside.places.items c.self.inside.nodes c.in-Some.k c.args.id c.self.invariant.arranged.stored at c.self.inside.cursor);
+      nodes = rw c.remove.ensures (nodes_left c.self.inside.region c.self.inside.nodes c.self.inside.slots.indices c.args.id f c.self.invariant.taken c.self.inside.next_serial c.self.invariant.named c.remove-element.new.self c.remove-element.ensures.updates ∙ sym (found-without c.self.inside.region c.self.inside.nodes c.self.inside.slots.indices c.args.id f));
+      cursor = c.cursor_leaving-self-inside.ensures ∙ off_leaving c.self.inside.cursor c.args.id _;
       region = refl;
       next_serial = refl;
-      room =
-          let less = c.remove-seat.ensures.len in
-          let room = c.remove-seat.ensures.capacity in
-          let same = c.detach.ensures.capacity in
-          let fits = ap nodes_for same in
-          omega arith;
+      room = rw c.remove.ensures (omega arith);
     })

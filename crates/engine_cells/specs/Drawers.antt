@@ -1,0 +1,22 @@
+-- How the values of a slab lie in memory. No public clause cites this module.
+use Rattle.std.specs.Prelude.{ℕ, ◌-◌, ◌≤◌, ◌^◌, List, map, length, Option}
+use Rattle.slab.specs.declared.Entry.{Entry}
+use Rattle.slab.specs.declared.Entry.TheVariants.{Vacant, Occupied}
+use Rattle.slab.specs.Entry.{value_of, IsSound}
+use Rattle.engine_cells.specs.declared.cell_slab.Drawer.{Drawer}
+use Rattle.engine_cells.specs.declared.cell_slab.Drawer.TheVariants as drawer
+
+module _ {T : Type 0} where
+  -- a drawer, as the kit's slab has its entries
+  abbrev pub entry_of : Drawer T → Entry T
+  entry_of (drawer.Vacant next) = Vacant next
+  entry_of (drawer.Taken value) = Occupied value
+
+  -- the value of a drawer, if it has one
+  abbrev pub value_in : Drawer T → Option T
+  value_in d = value_of (entry_of d)
+
+  -- the drawers are those of a sound slab, and their keys have 32 bits
+  pub record AreSound (drawers : List (Drawer T)) (len next : ℕ) : Type 0 where
+    pub sound : IsSound (map entry_of drawers) len next
+    pub fits : length drawers ≤ 2 ^ 32 - 1

@@ -1,0 +1,419 @@
+//! A queue of indices in one array of places, front to back. A move empties a place and takes another at the end; the
+//! empty places are closed up step by step, a few places with each push or move.
+ghost use Rattle.std.specs.Prelude.{◌≡◌, ◌≢◌, ℕ, ◌+◌, ◌-◌, ◌*◌, ◌^◌, ◌<◌, ◌≤◌, true, false, List, [], ◌∷◌, ◌++◌, length, drop, take, min, max, IsOk, OnOk, IsTrue, slice_index_or, vec_len, vec_capacity};
+ghost use Rattle.policy_queue.specs.Queue.{head, tail, final};
+ghost use Rattle.policy_queue.specs.Indices.{vacant, order, has_index, without_index, from_index, index_moved_to_back, OnlyGainsPlaces, Lacks, AreApart, Ends, EndsBut, AreSeated, AreEmpty, AreArranged, IsSeatedAt, IsCutShort, Trims, Carries};
+
+use std::alloc::{AllocError, Global};
+use std::marker::Model;
+
+/// What an empty place has in place of an index, and the seat of an index that is not there in place of a place.
+const EMPTY: u32 = u32::MAX;
+
+/// How many places there may be, since each has a number of 32 bits.
+const MOST_PLACES: usize = 0xFFFF_FFFF;
+
+/// How many indices there may be.
+const MOST_INDICES: usize = 0xFFFF_FFFE;
+
+/// How many places a push or a move carries.
+const STEP: usize = 8;
+
+/// A queue of indices, each in it once at most.
+#[derive(Drop)]
+pub struct IndexQueue {
+    // The indices, front to back, with empty places between them.
+    places: Vec<u32>,
+    // The place of each index, or `EMPTY`.
+    seats: Vec<u32>,
+    // How many indices there are.
+    len: usize,
+    cursors: Cursors,
+}
+
+/// Where the first index stands, and how far closing up has come: the places from `carried` up to `unread` are empty.
+/// While nothing is closed up, both are 0.
+#[derive(Clone, Copy)]
+struct Cursors {
+    front: usize,
+    carried: usize,
+    unread: usize,
+}
+
+impl Model for IndexQueue {
+    ghost use Rattle.policy_queue.specs.Indices.{Indices};
+
+    ghost Value = { Indices };
+
+    ghost use Rattle.std.specs.Prelude.{length, vec_capacity, ◌-◌};
+    ghost use Rattle.policy_queue.specs.Indices.{order, indices_for, IsIndexed};
+
+    ghost view = { λ q. record {
+      indices = order q.places.items;
+      room = indices_for (vec_capacity q.places) - q.len;
+      bound = length q.seats.items;
+    } };
+
+    ghost invariant = { λ q. IsIndexed q.places.items (vec_capacity q.places) q.seats.items q.len q.cursors };
+}
+
+impl IndexQueue {
+    /// An empty queue, which takes no memory.
+    pub fn new(alloc: Global) -> Self
+        ensures indices { result.indices ≡ [] }
+        ensures bound { result.bound ≡ 0 }
+    {
+        IndexQueue {
+            places: Vec::new(alloc),
+            seats: Vec::new(alloc),
+            len: 0,
+            cursors: Cursors {
+                front: 0,
+                carried: 0,
+                unread: 0,
+            },
+        }
+    }
+
+    /// How many indices the queue has.
+    pub fn len(&self) -> usize
+        ensures { result ≡ length self.now.indices }
+    {
+        self.len
+    }
+
+    /// Whether the queue has the index.
+    pub fn contains(&self, index: u32) -> bool
+        ensures { result ≡ has_index index self.now.indices }
+    {
+        match self.seats.get(index as usize) {
+            Some(seat) => *seat != EMPTY,
+            None => false,
+        }
+    }
+
+    /// The first index.
+    pub fn first(&self) -> Option<u32>
+        ensures { result ≡ head self.now.indices }
+    {
+        if self.places.len() == 0 {
+            return None;
+        }
+        Some(self.places[self.cursors.front])
+    }
+
+    /// The last index.
+    pub fn last(&self) -> Option<u32>
+        ensures { result ≡ final self.now.indices }
+    {
+        if self.places.len() == 0 {
+            return None;
+        }
+        Some(self.places[self.places.len() - 1])
+    }
+
+    /// The index behind this one, which is there.
+    pub fn behind(&self, index: u32) -> Option<u32>
+        requires { IsTrue (has_index index self.now.indices) }
+        ensures { result ≡ head (tail (from_index index self.now.indices)) }
+    {
+        let from = self.seats[index as usize] as usize + 1;
+        let next = next_taken(self.places.as_slice(), self.cursors, from);
+        if next == self.places.len() {
+            return None;
+        }
+        Some(self.places[next])
+    }
+
+    /// The places, front to back, with `u32::MAX` in the empty ones.
+    pub(crate) fn places(&self) -> &[u32]
+        ensures { order result.now ≡ self.now.indices }
+    {
+        self.places.as_slice()
+    }
+
+    /// Makes room for `n` more indices, each below `bound`: their pushes then need no memory.
+    pub fn reserve(&mut self, n: usize, bound: u32) -> Result<(), AllocError>
+        ensures room { OnOk result (n ≤ self.new.room) }
+        ensures bound { OnOk result (bound ≤ self.new.bound) }
+        ensures had_room { n ≤ self.old.room → bound ≤ self.old.bound → IsOk result }
+        ensures stays { OnlyGainsPlaces self.old self.new }
+    {
+        if n > MOST_INDICES - self.len {
+            return Err(AllocError);
+        }
+        reserve_places(&mut self.places, (2 * (self.len + n)).min(MOST_PLACES))?;
+        reserve_seats(&mut self.seats, bound as usize)
+    }
+
+    /// Puts an index that is not there behind all others.
+    pub fn push_back(&mut self, index: u32)
+        requires new { has_index index self.old.indices ≡ false }
+        requires bound { index < self.old.bound }
+        requires room { 0 < self.old.room }
+        ensures { self.new ≡ record self.old { indices = self.old.indices ++ index ∷ []; room = self.old.room - 1 } }
+    {
+        attach(&mut self.places, &mut self.seats, &mut self.cursors, index);
+        self.len += 1;
+    }
+
+    /// Puts an index that is there behind all others.
+    pub fn move_to_back(&mut self, index: u32)
+        requires { IsTrue (has_index index self.old.indices) }
+        ensures { self.new ≡ record self.old { indices = index_moved_to_back index self.old.indices } }
+    {
+        let k = self.seats[index as usize] as usize;
+        if k + 1 < self.places.len() {
+            detach(
+                &mut self.places,
+                &mut self.seats,
+                &mut self.cursors,
+                index,
+                k,
+            );
+            attach(&mut self.places, &mut self.seats, &mut self.cursors, index);
+        }
+    }
+
+    /// Takes an index out, which is there.
+    pub fn remove(&mut self, index: u32)
+        requires { IsTrue (has_index index self.old.indices) }
+        ensures { self.new ≡ record self.old { indices = without_index index self.old.indices; room = self.old.room + 1 } }
+    {
+        let k = self.seats[index as usize] as usize;
+        detach(
+            &mut self.places,
+            &mut self.seats,
+            &mut self.cursors,
+            index,
+            k,
+        );
+        self.len -= 1;
+    }
+}
+
+/// The indices of a queue differ from one another.
+pub fn indices_are_apart(queue: &IndexQueue)
+    ensures { AreApart queue.now.indices }
+{
+    let _ = &queue.places;
+}
+
+/// Makes room for so many places in all.
+fn reserve_places(places: &mut Vec<u32>, wanted: usize) -> Result<(), AllocError>
+    ensures same { places.new.items ≡ places.old.items }
+    ensures room { OnOk result (wanted ≤ vec_capacity places.new) }
+    ensures had_room { wanted ≤ vec_capacity places.old → IsOk result }
+    ensures capacity { vec_capacity places.old ≤ vec_capacity places.new }
+{
+    if wanted <= places.capacity() {
+        return Ok(());
+    }
+    places.reserve(wanted - places.len())
+}
+
+/// Makes so many seats in all. New ones are vacant.
+fn reserve_seats(seats: &mut Vec<u32>, bound: usize) -> Result<(), AllocError>
+    ensures same { (index : ℕ) → slice_index_or seats.new.items index vacant ≡ slice_index_or seats.old.items index vacant }
+    ensures room { OnOk result (bound ≤ vec_len seats.new) }
+    ensures had_room { bound ≤ vec_len seats.old → IsOk result }
+    ensures more { vec_len seats.old ≤ vec_len seats.new }
+    ensures few { vec_len seats.new ≤ max (vec_len seats.old) bound }
+{
+    if bound <= seats.len() {
+        return Ok(());
+    }
+    seats.resize(bound, EMPTY)
+}
+
+/// The first place from `from` up to `end` that is not empty, or `end`.
+fn first_taken(places: &[u32], from: usize, end: usize) -> usize
+    requires low { from ≤ end }
+    requires high { end ≤ length places.now }
+    ensures empty { (j : ℕ) → from ≤ j → j < result → slice_index_or places.now j vacant ≡ vacant }
+    ensures first { result < end → slice_index_or places.now result vacant ≢ vacant }
+    ensures low { from ≤ result }
+    ensures high { result ≤ end }
+{
+    for k in from..end {
+        if places[k] != EMPTY {
+            return k;
+        }
+    }
+    end
+}
+
+/// The first place from `from` on that is not empty, or the number of places. It jumps over those that closing up has
+/// emptied.
+fn next_taken(places: &[u32], cursors: Cursors, from: usize) -> usize
+    requires low { from ≤ length places.now }
+    requires gap { (j : ℕ) → cursors.carried ≤ j → j < cursors.unread → slice_index_or places.now j vacant ≡ vacant }
+    requires within { (cursors.carried ≤ cursors.unread) × (cursors.unread ≤ length places.now) }
+    ensures empty { (j : ℕ) → from ≤ j → j < result → slice_index_or places.now j vacant ≡ vacant }
+    ensures first { result < length places.now → slice_index_or places.now result vacant ≢ vacant }
+    ensures low { from ≤ result }
+    ensures high { result ≤ length places.now }
+{
+    if from <= cursors.carried {
+        let k = first_taken(places, from, cursors.carried);
+        if k < cursors.carried {
+            return k;
+        }
+        return first_taken(places, cursors.unread, places.len());
+    }
+    first_taken(places, from, places.len())
+}
+
+/// How many places there are up to the last one that is not empty.
+fn occupied_len(places: &[u32]) -> usize
+    ensures empty { (j : ℕ) → result ≤ j → slice_index_or places.now j vacant ≡ vacant }
+    ensures last { 0 < result → slice_index_or places.now (result - 1) vacant ≢ vacant }
+    ensures high { result ≤ length places.now }
+{
+    let mut len = places.len();
+    while len > 0 && places[len - 1] == EMPTY {
+        len -= 1;
+    }
+    len
+}
+
+/// Gives up the empty places behind the last index. Closing up is done where they reach the carried ones.
+fn trim(places: &mut Vec<u32>, cursors: &mut Cursors)
+    requires { EndsBut places.old.items cursors.old.front (vec_len places.old - 1) }
+    ensures same { Trims places.old.items places.new.items }
+    ensures ends { Ends places.new.items cursors.new.front }
+    ensures cursors { IsCutShort (vec_len places.new) cursors.old cursors.new }
+    ensures fewer { vec_len places.new ≤ vec_len places.old }
+    ensures capacity { vec_capacity places.new ≡ vec_capacity places.old }
+{
+    let len = occupied_len(places.as_slice());
+    places.truncate(len);
+    cursors.front = cursors.front.min(len);
+    if len <= cursors.unread {
+        cursors.carried = 0;
+        cursors.unread = 0;
+    }
+}
+
+/// Takes an index out of its place, k.
+fn detach(places: &mut Vec<u32>, seats: &mut Vec<u32>, cursors: &mut Cursors, index: u32, k: usize)
+    requires arranged { AreArranged places.old.items seats.old.items cursors.old }
+    requires there { IsSeatedAt places.old.items seats.old.items index k }
+    ensures arranged { AreArranged places.new.items seats.new.items cursors.new }
+    ensures emptied { order places.new.items ≡ order (take k places.old.items) ++ order (drop (k + 1) places.old.items) }
+    ensures bound { vec_len seats.new ≡ vec_len seats.old }
+    ensures capacity { vec_capacity places.new ≡ vec_capacity places.old }
+{
+    seats[index as usize] = EMPTY;
+    places[k] = EMPTY;
+    if k + 1 == places.len() {
+        trim(places, cursors);
+    } else if k == cursors.front {
+        cursors.front = next_taken(places.as_slice(), *cursors, k + 1);
+    }
+}
+
+/// Carries the indices in the places from `from` up to `end` down to the empty ones from `to` on, in their order, and
+/// answers where they end.
+fn carry(places: &mut Vec<u32>, seats: &mut Vec<u32>, to: usize, from: usize, end: usize) -> usize
+    requires seated { AreSeated places.old.items seats.old.items }
+    requires gap { AreEmpty places.old.items to from }
+    requires places { (to ≤ from) × (from ≤ end) × (end ≤ vec_len places.old) }
+    requires fits { (vec_len places.old ≤ 2 ^ 32 - 1) × (vec_len seats.old ≤ 2 ^ 32 - 1) }
+    ensures carries { Carries places.old.items places.new.items seats.new.items to from end result }
+    ensures bound { vec_len seats.new ≡ vec_len seats.old }
+    ensures len { vec_len places.new ≡ vec_len places.old }
+    ensures capacity { vec_capacity places.new ≡ vec_capacity places.old }
+{
+    let mut next = to;
+    for k in from..end {
+        let index = places[k];
+        if index != EMPTY {
+            places[k] = EMPTY;
+            places[next] = index;
+            seats[index as usize] = next as u32;
+            next += 1;
+        }
+    }
+    next
+}
+
+/// Carries so many places that were not read yet. Behind the last one, closing up is done.
+fn close_some(places: &mut Vec<u32>, seats: &mut Vec<u32>, cursors: &mut Cursors, many: usize)
+    requires arranged { AreArranged places.old.items seats.old.items cursors.old }
+    requires some { 0 < vec_len places.old }
+    requires many { (0 < many) × (many ≤ 2 ^ 32) }
+    ensures same { order places.new.items ≡ order places.old.items }
+    ensures arranged { AreArranged places.new.items seats.new.items cursors.new }
+    ensures closed { cursors.old.carried ≡ 0 → vec_len places.old ≤ many → vec_len places.new ≡ length (order places.old.items) }
+    ensures bound { vec_len seats.new ≡ vec_len seats.old }
+    ensures capacity { vec_capacity places.new ≡ vec_capacity places.old }
+{
+    let to = cursors.carried;
+    let from = cursors.unread.max(cursors.front);
+    let end = (from + many).min(places.len());
+    let next = carry(places, seats, to, from, end);
+    if cursors.front == from {
+        cursors.front = to;
+    }
+    if end == places.len() {
+        places.truncate(next);
+        cursors.carried = 0;
+        cursors.unread = 0;
+    } else {
+        cursors.carried = next;
+        cursors.unread = end;
+    }
+}
+
+/// Carries the next places, while closing up is under way; it begins once the free places at the end are few against
+/// those that are to be read, and ends before they are used up.
+fn step(places: &mut Vec<u32>, seats: &mut Vec<u32>, cursors: &mut Cursors)
+    requires arranged { AreArranged places.old.items seats.old.items cursors.old }
+    requires some { (0 < vec_len places.old) × (vec_len places.old ≤ vec_capacity places.old) }
+    ensures same { order places.new.items ≡ order places.old.items }
+    ensures arranged { AreArranged places.new.items seats.new.items cursors.new }
+    ensures bound { vec_len seats.new ≡ vec_len seats.old }
+    ensures capacity { vec_capacity places.new ≡ vec_capacity places.old }
+{
+    let unread = places.len() - cursors.unread.max(cursors.front);
+    let free = places.capacity().min(MOST_PLACES) - places.len();
+    if cursors.unread > 0 || unread > (STEP - 1) * free {
+        close_some(places, seats, cursors, STEP);
+    }
+}
+
+/// Closes up all empty places where no place is free at the end.
+fn free_place(places: &mut Vec<u32>, seats: &mut Vec<u32>, cursors: &mut Cursors)
+    requires arranged { AreArranged places.old.items seats.old.items cursors.old }
+    requires place { length (order places.old.items) < min (vec_capacity places.old) (2 ^ 32 - 1) }
+    ensures same { order places.new.items ≡ order places.old.items }
+    ensures free { vec_len places.new < min (vec_capacity places.new) (2 ^ 32 - 1) }
+    ensures arranged { AreArranged places.new.items seats.new.items cursors.new }
+    ensures bound { vec_len seats.new ≡ vec_len seats.old }
+    ensures capacity { vec_capacity places.new ≡ vec_capacity places.old }
+{
+    if places.len() == places.capacity().min(MOST_PLACES) {
+        cursors.carried = 0;
+        cursors.unread = 0;
+        let all = places.len();
+        close_some(places, seats, cursors, all);
+    }
+}
+
+/// Puts an index that is not there behind all others. There is room.
+fn attach(places: &mut Vec<u32>, seats: &mut Vec<u32>, cursors: &mut Cursors, index: u32)
+    requires arranged { AreArranged places.old.items seats.old.items cursors.old }
+    requires place { length (order places.old.items) < min (vec_capacity places.old) (2 ^ 32 - 1) }
+    requires apart { Lacks index (order places.old.items) }
+    requires seat { index < vec_len seats.old }
+    ensures pushed { order places.new.items ≡ order places.old.items ++ index ∷ [] }
+    ensures arranged { AreArranged places.new.items seats.new.items cursors.new }
+    ensures bound { vec_len seats.new ≡ vec_len seats.old }
+    ensures capacity { vec_capacity places.new ≡ vec_capacity places.old }
+{
+    free_place(places, seats, cursors);
+    seats[index as usize] = places.len() as u32;
+    places.push_reserved(index);
+    step(places, seats, cursors);
+}
