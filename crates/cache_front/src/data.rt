@@ -9,13 +9,13 @@ use audit_model::{Key, Weight};
 pub use calling::{clear, cover, insert, invalidate, prepare};
 pub use draining::{drain, note_of};
 use front_reference::Shared;
-pub use front_state::{LentState, Notice};
+pub use front_state::{LentState, Notice, Segmented};
 pub use listing::write_keys;
 pub use making::{bits_of, settings_of};
 use std::collections::VecDeque;
 
 /// The front, whose keys this hashes.
-pub type Front<S> = LentState<Key, StoredValue, S, Weight>;
+pub type Front<S> = LentState<Key, StoredValue, S, Weight, Segmented>;
 
 /// Notices that a front told.
 pub type Notices = VecDeque<Notice<Shared<Key>, StoredValue>>;

@@ -10,8 +10,8 @@ pub mod laws;
 pub mod store;
 
 pub use data::{
-    Front, LentState, Notice, Notices, bits_of, clear, cover, drain, insert, invalidate, note_of,
-    prepare, settings_of, write_keys,
+    Front, LentState, Notice, Notices, Segmented, bits_of, clear, cover, drain, insert, invalidate,
+    note_of, prepare, settings_of, write_keys,
 };
 pub use entries::{KeyedHasher, StoredValue, WordBuilder, WordHasher};
 pub use store::FrontStore;

@@ -47,8 +47,7 @@ pub fn run<R: Read, W: Write, C: Clock, L: Loader>(
     ensures write { IsErrOf result RunError.Write → Fails writer.old writer.new }
     ensures moment { IsErrOf result RunError.Moment → HasToldLate C.reads clock.new }
 
-    // Turns are used up only where the reader failed, or where as many bytes were read, or the loader was asked as often, as turns are
-    // counted.
+    // Turns are used up only where the bytes read, the loads asked for and the reader's failures together reach 2^64 - 1.
     ensures used_up { IsErrOf result RunError.UsedUp → RunsOut R.remaining L.loads reader.old reader.new loader.old loader.new }
 {
     let mut host = Lent;

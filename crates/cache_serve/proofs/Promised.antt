@@ -369,9 +369,9 @@ module _ {C L R W K D : Type 0} {G : Ledgers L} (spaces : C → List Shown) (eve
       (around remaining contents reader' writer' clock' middle) loader' t (subst (λ conn. sitting.Opens spaces events untaken keeps namespace conn p start) (sym same) opened) ended comes
       (subst (λ (o : Result (Unit {0}) RunError). ClosesAfter (sitting.Closes spaces events untaken keeps) (sitting.Drops spaces events untaken keeps) loads o t m q middle loader') is closes) in
       subst Promises (sym (so ∙ is)) (record {
-        wrote = drove-wrote keeps (HadGoneOut spaces events) (IsUnfit spaces events) spaces events untaken tally reads loads namespace p q a b (outcome_by ended) drives;
-        asked = drove-asked keeps (HadGoneOut spaces events) (IsUnfit spaces events) (sitting.IsReply spaces events untaken) tally reads loads namespace p q a b (outcome_by ended) drives;
-        loaded = drove-loaded keeps (HadGoneOut spaces events) (IsUnfit spaces events) (sitting.IsReply spaces events untaken) tally reads loads namespace p q a b (outcome_by ended) drives;
+        wrote = drove-wrote keeps (HadGoneOut spaces events) IsUnfit spaces events untaken tally reads loads namespace p q a b (outcome_by ended) drives;
+        asked = drove-asked keeps (HadGoneOut spaces events) IsUnfit (sitting.IsReply spaces events untaken) tally reads loads namespace p q a b (outcome_by ended) drives;
+        loaded = drove-loaded keeps (HadGoneOut spaces events) IsUnfit (sitting.IsReply spaces events untaken) tally reads loads namespace p q a b (outcome_by ended) drives;
       })
 
 -- ---- causes

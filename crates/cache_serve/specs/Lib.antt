@@ -2,7 +2,6 @@ pub mod Out
 pub mod Served
 pub mod Unfit
 pub mod Asked
-pub mod Full
 pub mod Seated
 pub mod Sitting
 pub mod Written

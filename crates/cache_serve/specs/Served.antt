@@ -43,6 +43,6 @@ abbrev pub AsksAll : {C L R K D X E : Type 0} → {G : Ledgers L} → (keeps : B
 AsksAll keeps spaces events remaining reads loads namespace result seat seat' reader reader' k l d e =
     keeps ≡ true
     → MatchResult result
-    (λ x. (conn : Conn) × ServesConnection (HadGoneOut spaces events) (IsUnfit spaces events) reads loads seat.receipts.items seat'.receipts.items (remaining (device reader)) (remaining (device reader')) k l d e namespace conn [])
+    (λ x. (conn : Conn) × ServesConnection (HadGoneOut spaces events) IsUnfit reads loads seat.receipts.items seat'.receipts.items (remaining (device reader)) (remaining (device reader')) k l d e namespace conn [])
     (λ err. (conn : Conn)
-    × ServesConnectionOrNot (HadGoneOut spaces events) (IsUnfit spaces events) reads loads seat.receipts.items seat'.receipts.items (remaining (device reader)) (remaining (device reader')) k l d e namespace conn)
+    × ServesConnectionOrNot (HadGoneOut spaces events) IsUnfit reads loads seat.receipts.items seat'.receipts.items (remaining (device reader)) (remaining (device reader')) k l d e namespace conn)

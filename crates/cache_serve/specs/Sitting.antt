@@ -61,21 +61,21 @@ module _ {C : Type 0} (spaces : C → List Shown) (events : C → ℕ) (untaken 
   module _ {L : Type 0} {G : Ledgers L} (keeps : Bool) where
     -- in the words of a seat
     abbrev pub Opens : ℕ → Conn → Seat L G → Seat L G → Type 0
-    Opens namespace conn p q = SeatOpens keeps (HadGoneOut spaces events) (IsUnfit spaces events) IsReply namespace conn (tally p) (tally q)
+    Opens namespace conn p q = SeatOpens keeps (HadGoneOut spaces events) IsUnfit IsReply namespace conn (tally p) (tally q)
 
     abbrev pub Comes : Conn → Seat L G → Exchange → Seat L G → Type 0
-    Comes conn p exchange q = SeatComes keeps (HadGoneOut spaces events) (IsUnfit spaces events) IsReply conn (tally p) exchange (tally q)
+    Comes conn p exchange q = SeatComes keeps (HadGoneOut spaces events) IsUnfit IsReply conn (tally p) exchange (tally q)
 
     abbrev pub Closes : Conn → Seat L G → Seat L G → Type 0
-    Closes conn p q = SeatCloses keeps (HadGoneOut spaces events) (IsUnfit spaces events) IsReply conn (tally p) (tally q)
+    Closes conn p q = SeatCloses keeps (HadGoneOut spaces events) IsUnfit IsReply conn (tally p) (tally q)
 
     abbrev pub Drops : Conn → Outs → Seat L G → List Asking → Seat L G → Type 0
-    Drops conn hand p askings q = SeatDrops keeps (HadGoneOut spaces events) (IsUnfit spaces events) IsReply conn hand (tally p) askings (tally q)
+    Drops conn hand p askings q = SeatDrops keeps (HadGoneOut spaces events) IsUnfit IsReply conn hand (tally p) askings (tally q)
 
     -- whatever the key, a load was settled by what the loader said
     abbrev pub Settles : ℕ → ℕ → Option Outcome → ℕ → Seat L G → Seat L G → Type 0
     Settles namespace load said moment p q =
-        (key : List ℕ) → SeatSettles keeps (HadGoneOut spaces events) (IsUnfit spaces events) IsReply namespace moment load (record { key = key; answer = said }) (tally p) (tally q)
+        (key : List ℕ) → SeatSettles keeps (HadGoneOut spaces events) IsUnfit IsReply namespace moment load (record { key = key; answer = said }) (tally p) (tally q)
 
     -- so it was at moment 0, whatever the service refuses
     abbrev pub SettlesLate : ℕ → ℕ → Option Outcome → Seat L G → Seat L G → Type 0

@@ -17,7 +17,8 @@ pub struct Hosted<L: Seating> {
     /// The seats, in no order; one serves many connections, one after another. One that no memory could keep is missing, so that
     /// `SharedService::finish` then hands all back.
     pub seats: Vec<Seat<L>>,
-    /// Whether an accept failed while nobody was connected, or there was no memory to begin with, which ended it early.
+    /// Whether an accept failed while nobody was connected, and not for want of descriptors or memory, or there was no memory to begin
+    /// with, which ended it early.
     pub failed: bool,
 }
 
@@ -62,7 +63,8 @@ impl<L: Seating, C: Takings, K: Clock + Drop, D: Loader + Drop, T: Teller> Work<
 /// devices and a seat of its own; `limit` of them, or without one 2^64 - 1; and joins the threads.
 ///
 /// An accept whose client has gone already is tried again. One that fails otherwise, as where no descriptor is free, waits until a
-/// connection has ended, and is tried again; while nobody is connected it ends the host early.
+/// connection has ended, and is tried again. While nobody is connected, one for which descriptors or memory are wanting, which other
+/// namespaces may have, is tried again each millisecond, and any other ends the host early.
 ///
 /// Where devices, seat or memory cannot be had, that connection alone is closed; where no thread can be made, it is served here.
 pub fn host<L, C, D, R>(

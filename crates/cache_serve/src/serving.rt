@@ -4,7 +4,6 @@ ghost use Rattle.cache_run.specs.Devices.Failures.{HasFailed};
 ghost use Rattle.cache_run.specs.Devices.Watched.{failures};
 ghost use Rattle.cache_run.specs.Devices.Sources.{HasToldLate};
 ghost use Rattle.cache_serve.specs.Asked.{HasAskedSome};
-ghost use Rattle.cache_serve.specs.Full.{HasUsedUp};
 ghost use Rattle.cache_serve.specs.Served.{AsksAll, WritesAll};
 
 use crate::devices::{Teller, Untold};
@@ -67,7 +66,6 @@ pub fn serve<L: Seating, C: Takings, I: Read, O: Write, K: Clock, D: Loader, R: 
     ensures count { seat.old.count ≤ seat.new.count }
     ensures read { IsErrOf result RunError.Read → HasFailed (failures reader.old) (failures reader.new) }
     ensures write { IsErrOf result RunError.Write → HasFailed (failures writer.old) (failures writer.new) }
-    ensures used_up { IsErrOf result RunError.UsedUp → HasUsedUp C.events seat.old.count seat.new.count }
     ensures moment { IsErrOf result RunError.Moment → HasToldLate K.reads clock.new }
     ensures loader { HasAskedSome D.loads loader.old loader.new }
 {
@@ -113,7 +111,6 @@ pub fn serve_and_tell<
     ensures count { seat.old.count ≤ seat.new.count }
     ensures read { IsErrOf result RunError.Read → HasFailed (failures reader.old) (failures reader.new) }
     ensures write { IsErrOf result RunError.Write → HasFailed (failures writer.old) (failures writer.new) }
-    ensures used_up { IsErrOf result RunError.UsedUp → HasUsedUp C.events seat.old.count seat.new.count }
     ensures moment { IsErrOf result RunError.Moment → HasToldLate K.reads clock.new }
     ensures loader { HasAskedSome D.loads loader.old loader.new }
 {

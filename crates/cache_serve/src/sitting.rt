@@ -1,13 +1,12 @@
 //! The host of a connection that has a seat of a service which threads share.
-ghost use Rattle.std.specs.Prelude.{◌≡◌, ◌≤◌, ◌^◌, ℕ, false, None, IfOk, IfErr, IfSome, OnOk, OnErr};
+ghost use Rattle.std.specs.Prelude.{◌≡◌, ◌≤◌, ◌^◌, ℕ, true, false, None, IfOk, IfErr, IfSome, OnOk, OnErr};
 ghost use Rattle.std.specs.Option.{ForSome, option_map};
 ghost use Rattle.audit_model.specs.declared.input.Conn.{Conn};
 ghost use Rattle.cache_run.specs.Driver.Hosting.{Stops};
 ghost use Rattle.cache_serve.specs.Asked.{feed_input, give_up_input};
-ghost use Rattle.cache_serve.specs.Full.{HasUsedUp, used-up-within};
 ghost use Rattle.cache_serve.specs.Out.{AreOut};
 ghost use Rattle.cache_serve.specs.Sitting.{Closes, Comes, Drops, DropsBy, DropsOne, Gives, IsReply, IsShortPiece, Opens, SeatRests, SeatTakes, Settles, SettlesLate, TakesIfGiven, closes-behind, none-short, tally};
-ghost use Rattle.cache_shared.specs.Events.{IsLate, WasRefused, WasUsedUp};
+ghost use Rattle.cache_shared.specs.Events.{IsLate, IsUnfitAnswer, is_of_outcome};
 
 use crate::cutting::{Pace, length_of_cut};
 use crate::devices::Teller;
@@ -127,9 +126,8 @@ impl<L: Seating, C: Takings, T: Teller, R: Wait> Sitting<'_, L, C, T, R> {
         ensures taken { OnOk result (SeatTakes C.KEEPS input (tally seat.old) (tally seat.new)) }
         ensures given { IfOk result (Gives C.spaces C.events C.untaken conn wants_loads) }
         ensures rests { OnErr result (SeatRests (tally seat.old) (tally seat.new)) }
-        ensures refused { IfErr result (λ e. ∥ WasRefused C.spaces C.events input e seat.old.count ∥₁) }
         ensures late { IfErr result (λ e. e ≡ ServiceError.Moment → IsLate input) }
-        ensures used_up { IfErr result (λ e. e ≡ ServiceError.UsedUp → WasUsedUp C.events seat.old.count) }
+        ensures unfit { IfErr result (λ e. is_of_outcome e ≡ true → IsUnfitAnswer input) }
     {
         let turn = match self
             .shared
@@ -169,7 +167,7 @@ impl<L: Seating, C: Takings, T: Teller, R: Wait> Sitting<'_, L, C, T, R> {
     ) -> Result<Option<Given>, RunError>
         ensures taken { TakesIfGiven C.KEEPS (give_up_input conn.namespace moment load) result (tally seat.old) (tally seat.new) }
         ensures given { IfOk result (λ given. IfSome given (Gives C.spaces C.events C.untaken conn wants_loads)) }
-        ensures why { IfErr result (Stops (HasUsedUp C.events seat.old.count seat.new.count) (2 ^ 63 ≤ moment)) }
+        ensures why { IfErr result (Stops (Unit {0}) (2 ^ 63 ≤ moment)) }
     {
         for _try in self.rt.forever() {
             let input = Input::GiveUp {
@@ -205,7 +203,7 @@ impl<L: Seating, C: Takings, T: Teller, R: Wait> Sitting<'_, L, C, T, R> {
         ensures settled { Settles C.spaces C.events C.untaken C.KEEPS conn.namespace load said moment seat.old seat.new }
         ensures rests { OnErr result (SeatRests (tally seat.old) (tally seat.new)) }
         ensures given { IfOk result (λ given. IfSome given (Gives C.spaces C.events C.untaken conn wants_loads)) }
-        ensures why { IfErr result (Stops (HasUsedUp C.events seat.old.count seat.new.count) (2 ^ 63 ≤ moment)) }
+        ensures why { IfErr result (Stops (Unit {0}) (2 ^ 63 ≤ moment)) }
     {
         let outcome = match said {
             Some(outcome) => outcome,
@@ -290,7 +288,7 @@ impl<L: Seating, C: Takings, T: Teller, R: Wait> Sitting<'_, L, C, T, R> {
     fn open_connection(&mut self, seat: &mut Seat<L>, namespace: u64) -> Result<Conn, RunError>
         ensures opens { IfOk result (λ conn. Opens C.spaces C.events C.untaken C.KEEPS namespace conn seat.old seat.new) }
         ensures rests { OnErr result (SeatRests (tally seat.old) (tally seat.new)) }
-        ensures why { IfErr result (Stops (HasUsedUp C.events seat.old.count seat.new.count) ⊥) }
+        ensures why { IfErr result (Stops (Unit {0}) ⊥) }
     {
         match self.shared.step(self.rt, seat, Input::Open { namespace }) {
             Ok(Output::Opened { conn }) => Ok(conn),
@@ -310,7 +308,7 @@ impl<L: Seating, C: Takings, T: Teller, R: Wait> Sitting<'_, L, C, T, R> {
     ) -> Result<Option<Given>, RunError>
         ensures taken { TakesIfGiven C.KEEPS (feed_input conn (record { bytes = piece.now; moment = moment })) result (tally seat.old) (tally seat.new) }
         ensures given { IfOk result (λ given. IfSome given (Gives C.spaces C.events C.untaken conn wants_loads)) }
-        ensures why { IfErr result (Stops (HasUsedUp C.events seat.old.count seat.new.count) (2 ^ 63 ≤ moment)) }
+        ensures why { IfErr result (Stops (Unit {0}) (2 ^ 63 ≤ moment)) }
     {
         let Ok(copy) = Vec::from_slice(self.alloc, piece) else {
             return Err(RunError::OutOfMemory);
@@ -340,7 +338,7 @@ impl<L: Seating, C: Takings, T: Teller, R: Wait> Sitting<'_, L, C, T, R> {
         ensures settled { Settles C.spaces C.events C.untaken C.KEEPS conn.namespace load said moment seat.old seat.new }
         ensures rests { OnErr result (SeatRests (tally seat.old) (tally seat.new)) }
         ensures given { IfOk result (Gives C.spaces C.events C.untaken conn wants_loads) }
-        ensures why { IfErr result (Stops (HasUsedUp C.events seat.old.count seat.new.count) (2 ^ 63 ≤ moment)) }
+        ensures why { IfErr result (Stops (Unit {0}) (2 ^ 63 ≤ moment)) }
     {
         match self.settle_load(seat, conn, load, said, moment, wants_loads) {
             Ok(Some(given)) => Ok(given),
@@ -406,7 +404,7 @@ impl<L: Seating, C: Takings, T: Teller, R: Wait> Host for Sitting<'_, L, C, T, R
 
     ghost counted = { λ seat. seat.count };
 
-    ghost exhausts = { HasUsedUp C.events };
+    ghost exhausts = { λ before after. Unit {0} };
 
     ghost closes = { Closes C.spaces C.events C.untaken C.KEEPS };
 
@@ -468,7 +466,7 @@ impl<L: Seating, C: Takings, T: Teller, R: Wait> Host for Sitting<'_, L, C, T, R
 
     ghost fits_none = { none-short };
 
-    ghost exhausts_within = { used-up-within C.events };
+    ghost exhausts_within = { λ i j k l below above used. used };
 
     ghost closes_behind = { λ conn p q r rests closes. closes-behind conn (tally p) (tally q) (tally r) rests closes };
 }

@@ -1,8 +1,10 @@
 //! The threads that serve connections, and the seats that they give back.
 
+use crate::pausing::pause;
 use cache_shared::{Seat, Seating, SharedService, Takings};
 use slab::Slab;
 use std::alloc::{AllocError, Global};
+use std::io;
 use std::io::ErrorKind;
 use std::net::{TcpListener, TcpStream};
 use std::sync::{Arc, Condvar, Mutex, Wait};
@@ -70,6 +72,15 @@ fn is_of_client(kind: ErrorKind) -> bool {
     )
 }
 
+/// Whether an accept failed for want of memory (12, 105) or of descriptors, of the process or of the machine (24, 23), by the numbers of
+/// Linux.
+fn is_of_want(error: &io::Error) -> bool {
+    match error.raw_os_error() {
+        Some(code) => code == 12 || code == 23 || code == 24 || code == 105,
+        None => false,
+    }
+}
+
 /// Threads that serve a connection each, by their places, and the seats that no thread has.
 #[derive(Drop)]
 pub struct Workers<L: Seating> {
@@ -126,7 +137,9 @@ impl<L: Seating + Send + Sync + 'static> Workers<L> {
         let _ = self.seats.push(seat);
     }
 
-    /// The next connection; meanwhile threads that are done are joined. None where accepting fails while nobody is connected.
+    /// The next connection; meanwhile threads that are done are joined. Where descriptors or memory are wanting it waits until a connection
+    /// ends, or, while nobody is connected, a millisecond: others have them then. None where accepting fails otherwise while nobody is
+    /// connected.
     pub fn accept<R: Threads + Wait>(
         &mut self,
         rt: &R,
@@ -138,11 +151,15 @@ impl<L: Seating + Send + Sync + 'static> Workers<L> {
                 Ok((stream, _)) => return Some(stream),
                 Err(error) => error,
             };
-            if !is_of_client(error.kind()) {
-                if self.running.is_empty() {
-                    return None;
-                }
+            if is_of_client(error.kind()) {
+                continue;
+            }
+            if !self.running.is_empty() {
                 self.join_next(rt);
+            } else if is_of_want(&error) {
+                pause(rt);
+            } else {
+                return None;
             }
         }
         unreachable!()

@@ -6,6 +6,7 @@
 
 pub mod model;
 
+pub use audit_laws::Receipt;
 pub use cache_run::{Clock, Loader, RunError, Watched, run};
 pub use cache_serve::{Devices, Hosted, Teller, Untold, host, serve, serve_and_tell};
 pub use cache_shared::{

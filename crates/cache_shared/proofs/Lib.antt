@@ -9,3 +9,4 @@ pub mod Marked
 mod Moving
 pub mod Performing
 mod Recording
+mod Unfitting

@@ -17,7 +17,7 @@ use Rattle.cache_spaces.proofs.Putting.{at-others}
 use Rattle.cache_spaces.proofs.Reading.{same-conn}
 use Rattle.cache_spaces.proofs.Showing.{in-shown, refuses-shown}
 use Rattle.cache_spaces.specs.Bares.{BareSpace, bare_tape}
-use Rattle.cache_spaces.specs.Calls.{At, InSpace, IsOpened, IsUnknown, Refuses, TakesNotice, TakesOutput}
+use Rattle.cache_spaces.specs.Calls.{At, InSpace, IsOpened, IsUnknown, Refuses, RefusesCopy, TakesNotice, TakesOutput}
 use Rattle.cache_spaces.specs.Spaces.{notices_of, shown, untaken_output}
 
 module _ {X : Type 0} (of : BareSpace → List X) {F : BareSpace → BareSpace → Type 0} (old new : List BareSpace) (k : ℕ) (a : At old new k F) where
@@ -103,9 +103,9 @@ module _ (conn : Conn) (old new : List BareSpace) where
   untaken-known (Err e) taken = taken
 
 pub untaken-refused : (conn : Conn) (old : List BareSpace) (r : Result (Vec ℕ Global) ServiceError) → IfErr r (λ e. Refuses old conn.namespace e (λ was. IsUnknown was conn.number e))
-    → IfErr r (λ e. (e ≡ error.OutOfMemory) ⊎ Refuses (map (shown bare_tape) old) conn.namespace e (λ space. IsUnknown space conn.number e))
+    → IfErr r (λ e. Refuses (map (shown bare_tape) old) conn.namespace e (λ space. RefusesCopy space conn.number e))
 untaken-refused conn old (Ok text) refused = refused
-untaken-refused conn old (Err e) refused = inr (refuses-shown (shown bare_tape) old conn.namespace e (λ x u. record { unknown = u.unknown; error = u.error }) refused)
+untaken-refused conn old (Err e) refused = refuses-shown (shown bare_tape) old conn.namespace e (λ x u. inl (record { unknown = u.unknown; error = u.error })) refused
 
 -- ---- notes
 
@@ -139,6 +139,6 @@ module _ (n : ℕ) (old new : List BareSpace) where
   untold-kept (Err e) same = ap (λ l. untold_of l n) same
 
 pub untold-refused : (n : ℕ) (old : List BareSpace) (r : Result (Option Note) ServiceError) → IfErr r (λ e. (e ≡ error.NoNamespace) × (length old ≤ n))
-    → IfErr r (λ e. (e ≡ error.OutOfMemory) ⊎ ((e ≡ error.NoNamespace) × (length (map (shown bare_tape) old) ≤ n)))
+    → IfErr r (λ e. Refuses (map (shown bare_tape) old) n e (λ space. e ≡ error.OutOfMemory))
 untold-refused n old (Ok told) refused = refused
-untold-refused n old (Err e) refused = inr (refused.0, subst (λ k. k ≤ n) (sym (length-map old (shown bare_tape))) refused.1)
+untold-refused n old (Err e) refused = inl (refused.0, subst (λ k. k ≤ n) (sym (length-map old (shown bare_tape))) refused.1)

@@ -1,5 +1,5 @@
 -- What a service does with an input, as its namespaces are seen whatever their tapes are.
-use Rattle.std.proofs.Common.{◌⊎◌, ◌≡◌, ℕ, ◌+◌, ◌≤◌, List, [], ◌∷◌, length, length-append, map, Option, Some, refl, sym, ap, ◌∙◌, subst, arith, inl, inr, Vec, Global}
+use Rattle.std.proofs.Common.{◌≡◌, ℕ, ◌+◌, ◌≤◌, List, [], ◌∷◌, length, length-append, map, Option, Some, refl, sym, ap, ◌∙◌, subst, arith, inl, inr, Vec, Global}
 use Rattle.std.specs.Prelude.{slice_set, Result, Ok, Err, OnOk, OnErr, IfOk, IfErr}
 use Rattle.std.proofs.Math.Logic.{∥∥₁_elim}
 use Rattle.std.proofs.Props.{props}
@@ -16,7 +16,7 @@ use Rattle.audit_laws.specs.declared.receipts.output.Output.{Output}
 use Rattle.cache_core.proofs.connections.Getting.{found-at, set-same}
 use Rattle.cache_spaces.proofs.Journaling.{journal-at, mapped, were-journals, were-led}
 use Rattle.cache_spaces.proofs.Showing.{at-shown, in-shown, performs-shown, refused-shown, refuses-shown}
-use Rattle.cache_spaces.specs.Calls.{At, InSpace, IsOpened, IsUnknown, Refuses, TakesLoads}
+use Rattle.cache_spaces.specs.Calls.{At, InSpace, IsOpened, IsUnknown, Refuses, RefusesCopy, TakesLoads}
 use Rattle.cache_spaces.specs.Inputs.{Performs, RefusedInput, namespace_of}
 use Rattle.cache_spaces.specs.Journals.{journals_of, kept_by}
 use Rattle.cache_spaces.specs.Played.{WerePlayed, journal_of}
@@ -56,11 +56,10 @@ module _ {T : Type 0} (tape : T → Option Taped) where
   none-shown n old (Ok a) cause = cause
   none-shown n old (Err e) cause = (cause.0, subst (λ k. k ≤ n) (sym (length-map old (shown tape))) cause.1)
 
-  pub none-or-full : {A : Type 0} (n : ℕ) (old : List (Space T)) (r : Result A ServiceError) → IfErr r (λ e. (e ≡ error.OutOfMemory) ⊎ ((e ≡ error.NoNamespace) × (length old ≤ n)))
-      → IfErr r (λ e. (e ≡ error.OutOfMemory) ⊎ ((e ≡ error.NoNamespace) × (length (map (shown tape) old) ≤ n)))
+  pub none-or-full : {A : Type 0} (n : ℕ) (old : List (Space T)) (r : Result A ServiceError) → IfErr r (λ e. Refuses old n e (λ space. e ≡ error.OutOfMemory))
+      → IfErr r (λ e. Refuses (map (shown tape) old) n e (λ space. e ≡ error.OutOfMemory))
   none-or-full n old (Ok a) cause = cause
-  none-or-full n old (Err e) (inl full) = inl full
-  none-or-full n old (Err e) (inr cause) = inr (cause.0, subst (λ k. k ≤ n) (sym (length-map old (shown tape))) cause.1)
+  none-or-full n old (Err e) cause = refuses-shown (shown tape) old n e (λ x full. full) cause
 
   pub look-shown : {A : Type 0} (of : Space T → A) (seen : Shown → A) (n number : ℕ) (spaces : List (Space T)) (r : Result A ServiceError) → ((x : Space T) → seen (shown tape x) ≡ of x)
       → IfOk r (λ a. InSpace spaces n (λ space. IsOpened space number × (a ≡ of space))) → IfOk r (λ a. InSpace (map (shown tape) spaces) n (λ space. a ≡ seen space))
@@ -76,11 +75,14 @@ module _ {T : Type 0} (tape : T → Option Taped) where
   unknown-shown n number spaces (Ok a) cause = cause
   unknown-shown n number spaces (Err e) cause = refuses-shown (shown tape) spaces n e (λ x u. record { unknown = u.unknown; error = u.error }) cause
 
-  pub unknown-or-full : {A : Type 0} (n number : ℕ) (spaces : List (Space T)) (r : Result A ServiceError) → IfErr r (λ e. (e ≡ error.OutOfMemory) ⊎ Refuses spaces n e (λ space. IsUnknown space number e))
-      → IfErr r (λ e. (e ≡ error.OutOfMemory) ⊎ Refuses (map (shown tape) spaces) n e (λ space. IsUnknown space number e))
+  copy-shown : (x : Space T) (number : ℕ) (e : ServiceError) → RefusesCopy x number e → RefusesCopy (shown tape x) number e
+  copy-shown x number e (inl u) = inl (record { unknown = u.unknown; error = u.error })
+  copy-shown x number e (inr full) = inr full
+
+  pub unknown-or-full : {A : Type 0} (n number : ℕ) (spaces : List (Space T)) (r : Result A ServiceError) → IfErr r (λ e. Refuses spaces n e (λ space. RefusesCopy space number e))
+      → IfErr r (λ e. Refuses (map (shown tape) spaces) n e (λ space. RefusesCopy space number e))
   unknown-or-full n number spaces (Ok a) cause = cause
-  unknown-or-full n number spaces (Err e) (inl full) = inl full
-  unknown-or-full n number spaces (Err e) (inr cause) = inr (refuses-shown (shown tape) spaces n e (λ x u. record { unknown = u.unknown; error = u.error }) cause)
+  unknown-or-full n number spaces (Err e) cause = refuses-shown (shown tape) spaces n e (λ x c. copy-shown x number e c) cause
 
 counts-one : (i : Input) (output : Output) (old new : List (Space Taped)) → WerePlayed old → At old new (namespace_of i) (Performs kept_by i output) → record_count (journals_of new) ≡ record_count (journals_of old) + 1
 counts-one i output old new w a =

@@ -1,9 +1,11 @@
 -- What inputs do to a service, and where it has come to.
-use Rattle.std.specs.Prelude.{◌≡◌, ℕ, ◌^◌, ◌-◌, ◌≤◌, ◌==◌, Bool, true, false, List, [], length, Some, sum_by, ◌⊎◌}
+use Rattle.std.specs.Prelude.{◌≡◌, ℕ, ◌^◌, ◌-◌, ◌≤◌, ◌==◌, Bool, true, false, List, [], length, Some, is_some, sum_by, ◌⊎◌}
 use Rattle.std.specs.List.{slice_get}
-use Rattle.audit_model.specs.Belongs.{IsAdmitted}
+use Rattle.audit_model.specs.Belongs.{IsAdmitted, refusal_of_outcome}
 use Rattle.audit_model.specs.Obeys.{Obeys}
+use Rattle.audit_model.specs.declared.config.Config.{Config}
 use Rattle.audit_model.specs.declared.event.Instant.{Instant}
+use Rattle.audit_model.specs.declared.event.Outcome.{Outcome}
 use Rattle.audit_model.specs.declared.input.Input.{Input}
 use Rattle.audit_model.specs.declared.input.Input.TheVariants as input
 use Rattle.audit_model.specs.declared.input.ServiceError.{ServiceError}
@@ -63,12 +65,6 @@ RefusesEvent i e events spaces = ((e ≡ error.UsedUp) × (events ≡ 2 ^ 64 - 1
 abbrev pub RefusesStep : Input → ServiceError → ℕ → ℕ → List Shown → Type 0
 RefusesStep i e count events spaces = ((e ≡ error.UsedUp) × (count ≡ 2 ^ 64 - 1)) ⊎ ((e ≡ error.OutOfMemory) ⊎ RefusesEvent i e events spaces)
 
--- at some moment, in a service to which some journals that obey lead, the step was refused so
-pub record WasRefused {C : Type 0} (spaces : C → List Shown) (events : C → ℕ) (i : Input) (e : ServiceError) (count : ℕ) : Type 0 where
-  pub core : C
-  pub reached : ∥ IsReached (spaces core) (events core) ∥₁
-  pub refuses : RefusesStep i e count (events core) (spaces core)
-
 -- it comes with a moment of 2 ^ 63 nanoseconds or more
 abbrev pub IsLate : Input → Type 0
 IsLate (input.Open namespace) = ⊥
@@ -77,13 +73,24 @@ IsLate (input.Feed conn piece moment) = 2 ^ 63 ≤ moment.nanos
 IsLate (input.Answer load outcome moment) = 2 ^ 63 ≤ moment.nanos
 IsLate (input.GiveUp load moment) = 2 ^ 63 ≤ moment.nanos
 
--- the count of a seat, or of all inputs, is used up
-abbrev pub IsUsedUp : ℕ → ℕ → Type 0
-IsUsedUp count events = (count ≡ 2 ^ 64 - 1) ⊎ (events ≡ 2 ^ 64 - 1)
+-- an outcome is refused so, for its bytes or its time
+abbrev pub is_of_outcome : ServiceError → Bool
+is_of_outcome error.LineEnd = true
+is_of_outcome error.TooLong = true
+is_of_outcome error.Deadline = true
+is_of_outcome e = false
 
--- so it was of a service that some inputs had come to
-abbrev pub WasUsedUp : {C : Type 0} → (C → ℕ) → ℕ → Type 0
-WasUsedUp {C} events count = (core : C) × IsUsedUp count (events core)
+-- some configuration refuses the outcome: it has a line end or too many bytes, or is to live for some time
+abbrev pub IsUnfit : Outcome → Type 0
+IsUnfit outcome = (config : Config) × (is_some (refusal_of_outcome config outcome) ≡ true)
+
+-- it is an answer with such an outcome
+abbrev pub IsUnfitAnswer : Input → Type 0
+IsUnfitAnswer (input.Open namespace) = ⊥
+IsUnfitAnswer (input.Close conn) = ⊥
+IsUnfitAnswer (input.Feed conn piece moment) = ⊥
+IsUnfitAnswer (input.Answer load outcome moment) = IsUnfit outcome
+IsUnfitAnswer (input.GiveUp load moment) = ⊥
 
 -- an opening comes to a connection of its namespace
 abbrev pub is_opened : ℕ → Output → Bool

@@ -1,8 +1,8 @@
 //! Replies that were taken.
-ghost use Rattle.std.specs.Prelude.{◌≡◌, ◌⊎◌, IfErr, IfOk};
+ghost use Rattle.std.specs.Prelude.{◌≡◌, IfErr, IfOk};
 ghost use Rattle.cache_shared.specs.Looked.{HeldAtSomeMoment};
 ghost use Rattle.cache_shared.specs.Untaken.{WereUntaken};
-ghost use Rattle.cache_spaces.specs.Calls.{IsUnknown, Refuses};
+ghost use Rattle.cache_spaces.specs.Calls.{Refuses, RefusesCopy};
 
 use crate::service_core::Takings;
 use audit_model::{Conn, ServiceError};
@@ -37,7 +37,7 @@ impl<C: Takings> Replies<C> {
 /// Takes the replies of a connection.
 pub fn take_replies<C: Takings>(core: &mut C, conn: Conn) -> Result<Replies<C>, ServiceError>
     ensures conn { IfOk result (λ replies. replies.conn ≡ conn) }
-    ensures refused { IfErr result (λ e. (e ≡ ServiceError.OutOfMemory) ⊎ HeldAtSomeMoment C.spaces C.events (λ spaces. Refuses spaces conn.namespace e (λ space. IsUnknown space conn.number e))) }
+    ensures refused { IfErr result (λ e. HeldAtSomeMoment C.spaces C.events (λ spaces. Refuses spaces conn.namespace e (λ space. RefusesCopy space conn.number e))) }
     ensures events { C.events core.new ≡ C.events core.old }
 {
     core.stands();

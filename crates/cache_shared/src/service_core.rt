@@ -1,12 +1,12 @@
 //! What a shared service needs of the service under its lock.
-ghost use Rattle.std.specs.Prelude.{◌≡◌, ◌≢◌, ℕ, ◌+◌, ◌++◌, ◌<◌, ◌≤◌, ◌⊎◌, Bool, true, List, [], Some, length, IsNone, IfOk, IfErr, OnOk, OnErr};
+ghost use Rattle.std.specs.Prelude.{◌≡◌, ◌≢◌, ℕ, ◌+◌, ◌++◌, ◌<◌, ◌≤◌, Bool, true, List, [], Some, length, IsNone, IfOk, IfErr, OnOk, OnErr};
 ghost use Rattle.std.specs.List.{slice_get};
 ghost use Rattle.std.specs.Option.{option_to_list};
 ghost use Rattle.audit_model.specs.declared.input.Conn.{Conn};
 ghost use Rattle.audit_model.specs.declared.transcript.Note.{Note as Told};
 ghost use Rattle.audit_model.specs.declared.transcript.Transcript.{Transcript};
 ghost use Rattle.cache_shared.specs.Events.{IsReached, Performs, RefusesEvent, TakesNothing};
-ghost use Rattle.cache_spaces.specs.Calls.{At, InSpace, IsOpened, IsUnknown, Refuses, TakesLoads};
+ghost use Rattle.cache_spaces.specs.Calls.{At, InSpace, IsOpened, IsUnknown, Refuses, RefusesCopy, TakesLoads};
 ghost use Rattle.cache_spaces.specs.Spaces.{Shown, closing_of, is_waiting_for};
 
 use audit_model::{Bytes, Closing, Conn, Input, LoadId, Note, ServiceError, Transcript};
@@ -59,23 +59,23 @@ pub trait Takings: Stepping {
     /// The notes of a namespace that were told and not taken, in order.
     ghost untold: { Self → ℕ → List Told };
 
-    /// The reply bytes of a connection since the last taking, moved out. Others' stay. Refused with `NoNamespace`, `NoConnection`, and with
-    /// `OutOfMemory` where a taking needs memory; then they come with the next taking.
+    /// The reply bytes of a connection since the last taking, moved out. Others' stay. Refused with `NoNamespace`, then with `NoConnection`,
+    /// then with `OutOfMemory` where a taking needs memory; then they come with the next taking.
     fn take_output(&mut self, conn: Conn) -> Result<Vec<u8>, ServiceError>
         ensures taken { IfOk result (λ text. text.items ≡ untaken self.old conn) }
         ensures known { OnOk result (InSpace (Self.spaces self.old) conn.namespace (λ space. IsOpened space conn.number)) }
         ensures none { OnOk result (untaken self.new conn ≡ []) }
         ensures others { (other : Conn) → 0 < other.number → other ≢ conn → untaken self.new other ≡ untaken self.old other }
-        ensures refused { IfErr result (λ e. (e ≡ ServiceError.OutOfMemory) ⊎ Refuses (Self.spaces self.old) conn.namespace e (λ space. IsUnknown space conn.number e)) }
+        ensures refused { IfErr result (λ e. Refuses (Self.spaces self.old) conn.namespace e (λ space. RefusesCopy space conn.number e)) }
         ensures kept { OnErr result (untaken self.new conn ≡ untaken self.old conn) }
         ensures events { Self.events self.new ≡ Self.events self.old };
 
     /// The oldest note of a namespace that was told and not taken; none where there is none. Other namespaces' stay. Refused with
-    /// `NoNamespace`, and with `OutOfMemory` where a taking needs memory; then it comes with the next taking.
+    /// `NoNamespace`, then with `OutOfMemory` where a taking needs memory; then it comes with the next taking.
     fn next_notice(&mut self, namespace: u64) -> Result<Option<Note>, ServiceError>
         ensures note { IfOk result (λ note. untold self.old namespace ≡ option_to_list note ++ untold self.new namespace) }
         ensures none { IfOk result (λ note. IsNone note → untold self.old namespace ≡ []) }
-        ensures refused { IfErr result (λ e. (e ≡ ServiceError.OutOfMemory) ⊎ ((e ≡ ServiceError.NoNamespace) × (length (Self.spaces self.old) ≤ namespace))) }
+        ensures refused { IfErr result (λ e. Refuses (Self.spaces self.old) namespace e (λ space. e ≡ ServiceError.OutOfMemory)) }
         ensures kept { OnErr result (untold self.new namespace ≡ untold self.old namespace) }
         ensures others { (other : ℕ) → other ≢ namespace → untold self.new other ≡ untold self.old other }
         ensures events { Self.events self.new ≡ Self.events self.old };

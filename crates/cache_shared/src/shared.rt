@@ -1,10 +1,10 @@
 //! The shared form.
-ghost use Rattle.std.specs.Prelude.{◌≡◌, ◌≤◌, ◌⊎◌, [], length, map, sum_by, IfOk, IfErr, IsSome, OnErr};
+ghost use Rattle.std.specs.Prelude.{◌≡◌, ◌≤◌, ◌⊎◌, [], length, map, sum_by, true, IfOk, IfErr, IsSome, OnErr};
 ghost use Rattle.std.specs.Arc.{arc_value};
-ghost use Rattle.cache_shared.specs.Events.{IsLate, IsReached, WasRefused, WasUsedUp};
+ghost use Rattle.cache_shared.specs.Events.{IsLate, IsReached, IsUnfitAnswer, is_of_outcome};
 ghost use Rattle.cache_shared.specs.Looked.{WasOldestNote, HeldAtSomeMoment, WereMoved};
 ghost use Rattle.cache_shared.specs.Seats.{AgreeAll, Counts, SameReceipts};
-ghost use Rattle.cache_spaces.specs.Calls.{InSpace, IsUnknown, Refuses};
+ghost use Rattle.cache_spaces.specs.Calls.{InSpace, IsUnknown, Refuses, RefusesCopy};
 ghost use Rattle.cache_spaces.specs.Spaces.{closing_of, is_waiting_for};
 
 use crate::booked::{BookedService, Finished};
@@ -101,11 +101,10 @@ impl<L: Seating, C: Stepping> SharedService<L, C> {
     /// of all inputs is at 2^64 - 1.
     pub fn step(&self, rt: &impl Wait, seat: &mut Seat<L>, input: Input) -> Result<Output, Refusal>
         ensures counted { IfOk result (λ output. Counts C.KEEPS input output seat.old.count seat.new.count seat.old.receipts.items seat.new.receipts.items) }
-        ensures refused { IfErr result (λ refusal. ∥ WasRefused C.spaces C.events input refusal.error seat.old.count ∥₁) }
         ensures back { IfErr result (λ refusal. refusal.input ≡ input) }
         ensures unchanged { OnErr result ((seat.new.count ≡ seat.old.count) × SameReceipts seat.old.receipts.items seat.new.receipts.items) }
         ensures late { IfErr result (λ refusal. refusal.error ≡ ServiceError.Moment → IsLate input) }
-        ensures used_up { IfErr result (λ refusal. refusal.error ≡ ServiceError.UsedUp → WasUsedUp C.events seat.old.count) }
+        ensures unfit { IfErr result (λ refusal. is_of_outcome refusal.error ≡ true → IsUnfitAnswer input) }
     {
         let inner = self.inner();
         let mut guard = inner.booked.lock(rt);
@@ -147,11 +146,11 @@ impl<L: Seating, C: Stepping> SharedService<L, C> {
 
 impl<L: Seating, C: Takings> SharedService<L, C> {
     /// The reply bytes of a connection since the last taking, moved out, in one hold of the lock. It is no event, and leaves no receipt.
-    /// Refused with `NoNamespace`, then with `NoConnection`, and with `OutOfMemory` where the core copies replies; then they come with the
+    /// Refused with `NoNamespace`, then with `NoConnection`, then with `OutOfMemory` where the core copies replies; then they come with the
     /// next taking.
     pub fn take_output(&self, rt: &impl Wait, conn: Conn) -> Result<Replies<C>, ServiceError>
         ensures conn { IfOk result (λ replies. replies.conn ≡ conn) }
-        ensures refused { IfErr result (λ e. (e ≡ ServiceError.OutOfMemory) ⊎ HeldAtSomeMoment C.spaces C.events (λ spaces. Refuses spaces conn.namespace e (λ space. IsUnknown space conn.number e))) }
+        ensures refused { IfErr result (λ e. HeldAtSomeMoment C.spaces C.events (λ spaces. Refuses spaces conn.namespace e (λ space. RefusesCopy space conn.number e))) }
     {
         let mut guard = self.inner().booked.lock(rt);
         let booked = &mut *guard;
@@ -174,11 +173,10 @@ impl<L: Seating, C: Takings> SharedService<L, C> {
     ) -> Result<Turn<C>, Refusal>
         ensures counted { IfOk result (λ turn. Counts C.KEEPS input turn.output seat.old.count seat.new.count seat.old.receipts.items seat.new.receipts.items) }
         ensures conn { IfOk result (λ turn. turn.owed.conn ≡ conn) }
-        ensures refused { IfErr result (λ refusal. ∥ WasRefused C.spaces C.events input refusal.error seat.old.count ∥₁) }
         ensures back { IfErr result (λ refusal. refusal.input ≡ input) }
         ensures unchanged { OnErr result ((seat.new.count ≡ seat.old.count) × SameReceipts seat.old.receipts.items seat.new.receipts.items) }
         ensures late { IfErr result (λ refusal. refusal.error ≡ ServiceError.Moment → IsLate input) }
-        ensures used_up { IfErr result (λ refusal. refusal.error ≡ ServiceError.UsedUp → WasUsedUp C.events seat.old.count) }
+        ensures unfit { IfErr result (λ refusal. is_of_outcome refusal.error ≡ true → IsUnfitAnswer input) }
         ensures moved { WereMoved C.spaces C.events C.untold conn.namespace notes.old.items notes.new.items }
     {
         let inner = self.inner();
@@ -237,10 +235,10 @@ impl<L: Seating, C: Takings> SharedService<L, C> {
     }
 
     /// The oldest note of a namespace that was told and not taken, or none, in one hold of the lock. It is no event, and leaves no receipt.
-    /// Refused with `NoNamespace`, and with `OutOfMemory` where the core copies notes; then it comes with the next taking.
+    /// Refused with `NoNamespace`, then with `OutOfMemory` where the core copies notes; then it comes with the next taking.
     pub fn next_notice(&self, rt: &impl Wait, namespace: u64) -> Result<Option<Note>, ServiceError>
         ensures note { IfOk result (λ note. WasOldestNote C.spaces C.events C.untold namespace note) }
-        ensures refused { IfErr result (λ e. (e ≡ ServiceError.OutOfMemory) ⊎ HeldAtSomeMoment C.spaces C.events (λ spaces. (e ≡ ServiceError.NoNamespace) × (length spaces ≤ namespace))) }
+        ensures refused { IfErr result (λ e. HeldAtSomeMoment C.spaces C.events (λ spaces. Refuses spaces namespace e (λ space. e ≡ ServiceError.OutOfMemory))) }
     {
         let mut guard = self.inner().booked.lock(rt);
         let booked = &mut *guard;

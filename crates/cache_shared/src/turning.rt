@@ -1,6 +1,6 @@
 //! Turns: an input, and all that its connection is owed behind it, in one hold of the lock.
-ghost use Rattle.std.specs.Prelude.{◌≡◌, ◌⊎◌, IfOk, IfErr, OnErr};
-ghost use Rattle.cache_shared.specs.Events.{IsLate, WasRefused, WasUsedUp};
+ghost use Rattle.std.specs.Prelude.{◌≡◌, ◌⊎◌, true, IfOk, IfErr, OnErr};
+ghost use Rattle.cache_shared.specs.Events.{IsLate, IsUnfitAnswer, is_of_outcome};
 ghost use Rattle.cache_shared.specs.Looked.{WereMoved};
 ghost use Rattle.cache_shared.specs.Seats.{Counts, SameReceipts};
 
@@ -36,11 +36,10 @@ impl<L: Seating, C: Takings> BookedService<L, C> {
     ) -> Result<Turn<C>, Refusal>
         ensures counted { IfOk result (λ turn. Counts C.KEEPS input turn.output seat.old.count seat.new.count seat.old.receipts.items seat.new.receipts.items) }
         ensures conn { IfOk result (λ turn. turn.owed.conn ≡ conn) }
-        ensures refused { IfErr result (λ refusal. ∥ WasRefused C.spaces C.events input refusal.error seat.old.count ∥₁) }
         ensures back { IfErr result (λ refusal. refusal.input ≡ input) }
         ensures unchanged { OnErr result ((seat.new.count ≡ seat.old.count) × SameReceipts seat.old.receipts.items seat.new.receipts.items) }
         ensures late { IfErr result (λ refusal. refusal.error ≡ ServiceError.Moment → IsLate input) }
-        ensures used_up { IfErr result (λ refusal. refusal.error ≡ ServiceError.UsedUp → WasUsedUp C.events seat.old.count) }
+        ensures unfit { IfErr result (λ refusal. is_of_outcome refusal.error ≡ true → IsUnfitAnswer input) }
         ensures moved { WereMoved C.spaces C.events C.untold conn.namespace notes.old.items notes.new.items }
     {
         self.core.stands();

@@ -274,7 +274,7 @@ step-length n old new (Ok a) Fact taken same = at-length old new n taken
 step-length n old new (Err e) Fact taken same = ap length same
 
 -- what was played in the namespace at a place
-abbrev were-at : (spaces : List (Space Taped)) (k : ℕ) (space : Space Taped) → (w : WerePlayed spaces) → slice_get spaces k ≡ Some space → HasPlayed (config_of space) k w.moment w.inputs space
+abbrev pub were-at : (spaces : List (Space Taped)) (k : ℕ) (space : Space Taped) → (w : WerePlayed spaces) → slice_get spaces k ≡ Some space → HasPlayed (config_of space) k w.moment w.inputs space
 were-at spaces k space w s =
     let lt = slice_get_within spaces k space s in
     let config = found-at w.configs k (let e = w.played.count in omega arith) in

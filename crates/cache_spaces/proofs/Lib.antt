@@ -10,3 +10,4 @@ pub mod Showing
 mod Noting
 pub mod Reading
 mod Taking
+mod Gaining

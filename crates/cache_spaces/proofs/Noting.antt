@@ -1,15 +1,17 @@
 -- Notes in lists of records.
-use Rattle.std.proofs.Common.{◌≡◌, ℕ, zero, suc, ◌+◌, ◌≤◌, List, [], ◌∷◌, ◌++◌, length, get_or, take, drop, map, Some, None, refl, sym, ap, ◌∙◌, arith, add-one}
+use Rattle.std.proofs.Common.{◌≡◌, ℕ, zero, suc, ◌+◌, ◌<◌, ◌≤◌, List, [], ◌∷◌, ◌++◌, length, get_or, take, drop, map, Some, None, refl, sym, ap, ◌∙◌, inl, inr, arith, add-one}
+use Rattle.std.specs.Prelude.{◌⊎◌}
 use Rattle.std.specs.List.{slice_get}
 use Rattle.std.proofs.Math.ListN.{drop_of_length-le}
-use Rattle.std.proofs.Math.Seq.{drop-nil}
-use Rattle.std.proofs.lemmas.List.{append_assoc, append_cancel_right, take-append-drop}
+use Rattle.std.proofs.Math.Seq.{drop-append_seam, drop-nil}
+use Rattle.std.proofs.lemmas.Bool.{cases_lt}
+use Rattle.std.proofs.lemmas.List.{append_assoc, append_cancel_right, drop-append-le, length-append, take-append-drop}
 use Rattle.std.proofs.lemmas.List.Concat.{flat_map-append}
 use Rattle.std.proofs.lemmas.Option.{none-some, same_Some}
 use Rattle.audit_model.specs.declared.transcript.Note.{Note}
 use Rattle.audit_model.specs.declared.transcript.Record.{Record}
 use Rattle.audit_model.specs.declared.transcript.Step.{Step}
-use Rattle.cache_spaces.specs.Notes.{before_in, lists_joined, lists_of, notes_before, notes_of_records, rest_in, lists_at, notes_from}
+use Rattle.cache_spaces.specs.Notes.{IsPlaceIn, before_in, lists_joined, lists_of, notes_before, notes_of_records, rest_in, lists_at, notes_from}
 use Rattle.cache_spaces.specs.declared.told.Told.{Told}
 
 module _ {X : Type 0} where
@@ -106,3 +108,48 @@ pub told-grows : (records : List Record) (was is : Told) (given : List Note) →
 told-grows records was is given e =
     append_cancel_right (notes_before records is) (notes_before records was ++ given) (notes_from records is)
     (sym (all-notes records is) ∙ all-notes records was ∙ ap (λ l. notes_before records was ++ l) e ∙ sym (append_assoc (notes_before records was) given (notes_from records is)))
+
+-- ---- records that are added
+
+lists-added : (records added : List Record) (k : ℕ) → k < length records → lists_at (records ++ added) k ≡ lists_at records k
+lists-added [] added k lt = absurd (omega arith)
+lists-added (x ∷ xs) added zero lt = refl
+lists-added (x ∷ xs) added (suc k) lt = lists-added xs added k (omega arith)
+
+-- the notes of the records from one on
+notes-behind : (records : List Record) (k : ℕ) → notes_from records (record { entry = k; list = 0; note = 0 }) ≡ notes_of_records (drop k records)
+notes-behind records k = ap (λ m. rest_in (lists_at records k) 0 0 ++ notes_of_records (drop m records)) (add-one k) ∙ sym (records-from records k)
+
+same-told : (told : Told) (k : ℕ) → told.entry ≡ k → told.list ≡ 0 → told.note ≡ 0 → told ≡ record { entry = k; list = 0; note = 0 }
+same-told told k e f g =
+    let first : told ≡ record { entry = k; list = told.list; note = told.note } = ap (λ n. record { entry = n; list = told.list; note = told.note }) e in
+    let second : record { entry = k; list = told.list; note = told.note } ≡ record { entry = k; list = 0; note = told.note } = ap (λ n. record { entry = k; list = n; note = told.note }) f in
+    let third : record { entry = k; list = 0; note = told.note } ≡ record { entry = k; list = 0; note = 0 } = ap (λ n. record { entry = k; list = 0; note = n }) g in
+    first ∙ second ∙ third
+
+-- those from a place on, and then the added records'
+pub notes-added : (records added : List Record) (told : Told) → IsPlaceIn records told → notes_from (records ++ added) told ≡ notes_from records told ++ notes_of_records added
+notes-added records added told place = go (cases_lt told.entry (length records))
+  where
+    k : ℕ
+    k = told.entry
+
+    go : (k < length records) ⊎ (length records ≤ k) → notes_from (records ++ added) told ≡ notes_from records told ++ notes_of_records added
+    go (inl lt) =
+        let here = rest_in (lists_at records k) told.list told.note in
+        ap (λ ls. rest_in ls told.list told.note ++ notes_of_records (drop (k + 1) (records ++ added))) (lists-added records added k lt)
+        ∙ ap (λ rs. here ++ notes_of_records rs) (drop-append-le (k + 1) records added (omega arith))
+        ∙ ap (λ ns. here ++ ns) (flat_map-append (λ (entry : Record). lists_joined (lists_of entry)) (drop (k + 1) records) added)
+        ∙ sym (append_assoc here (notes_of_records (drop (k + 1) records)) (notes_of_records added))
+    go (inr over) =
+        let end = place.behind over in
+        let at : told ≡ record { entry = length records; list = 0; note = 0 } = same-told told (length records) (let within = place.within in omega (arith, within, over)) end.0 end.1 in
+        ap (notes_from (records ++ added)) at ∙ notes-behind (records ++ added) (length records) ∙ ap notes_of_records (drop-append_seam records added)
+        ∙ ap (λ ns. ns ++ notes_of_records added) (sym (no-record records told over))
+
+-- it is a place in them too
+pub place-added : (records added : List Record) (told : Told) → IsPlaceIn records told → IsPlaceIn (records ++ added) told
+place-added records added told place = record {
+  within = let e = length-append records added in let w = place.within in omega (arith, e, w);
+  behind = λ over. place.behind (let e = length-append records added in omega (arith, e, over));
+}

@@ -1,6 +1,6 @@
 -- How far journals were read.
-use Rattle.std.proofs.Common.{◌≡◌, ◌≢◌, ℕ, zero, suc, ◌+◌, ◌<◌, List, [], ◌∷◌, ◌++◌, length, get_or, drop, map, slice_set, Option, Some, refl, sym, ap, ◌∙◌, subst, inl, inr, arith}
-use Rattle.std.specs.Prelude.{◌⊎◌, IsNone}
+use Rattle.std.proofs.Common.{◌≡◌, ◌≢◌, ℕ, zero, suc, ◌+◌, ◌<◌, ◌≤◌, List, [], ◌∷◌, ◌++◌, length, get_or, drop, map, slice_set, Option, Some, Vec, Global, refl, sym, ap, ◌∙◌, subst, inl, inr, arith}
+use Rattle.std.specs.Prelude.{◌⊎◌, IsNone, Result, Ok, Err, OnErr, OnOk}
 use Rattle.std.specs.List.{slice_get}
 use Rattle.std.specs.Option.{option_map_or, option_to_list}
 use Rattle.std.proofs.Math.ListN.{drop_of_length-le}
@@ -13,8 +13,8 @@ use Rattle.audit_model.specs.declared.transcript.Note.{Note}
 use Rattle.audit_model.specs.declared.transcript.Transcript.{Transcript}
 use Rattle.cache_spaces.specs.Calls.{InSpace, IsOpened}
 use Rattle.cache_spaces.specs.Journals.{journals_of}
-use Rattle.cache_spaces.specs.Notes.{TakesFrom, notes_before, notes_from}
-use Rattle.cache_spaces.specs.Recorded.{AreAtStart, Cursor, Recorded, TakesNote, TakesReplies, cursor_at_start, cursor_in, cursor_of, records_in, recorded_of, untaken_in}
+use Rattle.cache_spaces.specs.Notes.{IsPlaceIn, TakesFrom, notes_before, notes_from}
+use Rattle.cache_spaces.specs.Recorded.{AreAtStart, Cursor, ReadsJournals, ReadsWithin, Recorded, TakesNote, TakesReplies, cursor_at_start, cursor_in, cursor_of, records_in, recorded_of, untaken_in}
 use Rattle.cache_spaces.specs.Replies.{replies_for}
 use Rattle.cache_spaces.specs.Spaces.{Space}
 use Rattle.cache_spaces.specs.declared.cursors.Cursors.{Cursors}
@@ -79,6 +79,7 @@ module _ (spaces : List (Space Taped)) (read : List Cursors) (namespace : ℕ) (
           ∙ ap (λ c. replies_for number (drop (get_or c.replies number 0) journal.records)) is-there
           ∙ ap (λ n. replies_for number (drop n journal.records)) cursor
           ∙ ap (replies_for number) (drop_of_length-le journal.records (omega arith));
+      reached = ap (λ (c : Cursor). get_or c.replies number 0) is-there ∙ cursor ∙ ap length (sym records-are);
       others = λ other ne. other-replies other ne (cases_eq other.namespace namespace);
       notes = λ n. let e = same-seen (λ c. c.notes) notes n in (ap (notes_before (records_in was n)) e, ap (notes_from (records_in was n)) e);
       spaces = refl;
@@ -96,8 +97,8 @@ module _ (spaces : List (Space Taped)) (read : List Cursors) (namespace : ℕ) (
 
     -- what a taking of a note leaves
     pub takes-note : (note : Option Note) → TakesFrom journal.records here.notes is.notes note → (IsNone note → notes_from journal.records here.notes ≡ [])
-        → is.replies.items ≡ here.replies.items → TakesNote was now namespace note
-    takes-note note takes none replies =
+        → IsPlaceIn journal.records is.notes → is.replies.items ≡ here.replies.items → TakesNote was now namespace note
+    takes-note note takes none place replies =
         let before : (r : Cursors) (c : Cursor) → c ≡ cursor_of r → notes_before (records_in was namespace) c.notes ≡ notes_before journal.records r.notes =
         λ r c e. ap (λ rs. notes_before rs c.notes) records-are ∙ ap (λ (d : Cursor). notes_before journal.records d.notes) e in
         let from : (r : Cursors) (c : Cursor) → c ≡ cursor_of r → notes_from (records_in was namespace) c.notes ≡ notes_from journal.records r.notes =
@@ -107,11 +108,57 @@ module _ (spaces : List (Space Taped)) (read : List Cursors) (namespace : ℕ) (
               ∙ ap (λ l. l ++ option_to_list note) (sym (before here (cursor_in was namespace) was-there));
           left = from here (cursor_in was namespace) was-there ∙ takes ∙ ap (λ l. option_to_list note ++ l) (sym (from is (cursor_in now namespace) is-there));
           none = λ no. from here (cursor_in was namespace) was-there ∙ none no;
+          place = subst (λ rs. IsPlaceIn rs (cursor_in now namespace).notes) (sym records-are) (subst (λ (c : Cursor). IsPlaceIn journal.records c.notes) (sym is-there) place);
           all = all-notes (records_in now namespace) (cursor_in now namespace).notes;
           others = λ other ne. let e = is-elsewhere other ne in (ap (λ (c : Cursor). notes_before (records_in was other) c.notes) e, ap (λ (c : Cursor). notes_from (records_in was other) c.notes) e);
           replies = λ conn. ap (λ l. replies_for conn.number (drop (get_or l conn.number 0) (records_in was conn.namespace))) (same-seen (λ c. c.replies) replies conn.namespace);
           spaces = refl;
         }
+
+    -- what is read stands in the journals, where what is read of this one does
+    reads-here : ReadsJournals was → ReadsWithin journal.records (cursor_of here)
+    reads-here reads = subst (λ rs. ReadsWithin rs (cursor_of here)) records-are (subst (ReadsWithin (records_in was namespace)) was-there (reads namespace))
+
+    reads-now : ReadsJournals was → ReadsWithin journal.records (cursor_of is) → ReadsJournals now
+    reads-now reads within other = go (cases_eq other namespace)
+      where
+        go : (other ≡ namespace) ⊎ (other ≢ namespace) → ReadsWithin (records_in now other) (cursor_in now other)
+        go (inl same) =
+            subst (λ n. ReadsWithin (records_in now n) (cursor_in now n)) (sym same)
+            (subst (λ rs. ReadsWithin rs (cursor_in now namespace)) (sym records-are) (subst (ReadsWithin journal.records) (sym is-there) within))
+        go (inr ne) = subst (ReadsWithin (records_in was other)) (sym (is-elsewhere other ne)) (reads other)
+
+    -- after a taking of replies, or one that was refused
+    pub replies-read : (number : ℕ) {A E : Type 0} (r : Result A E) → OnOk r (get_or is.replies.items number 0 ≡ length journal.records)
+        → ((other : ℕ) → other ≢ number → get_or is.replies.items other 0 ≡ get_or here.replies.items other 0)
+        → is.notes ≡ here.notes → OnErr r (is.replies.items ≡ here.replies.items) → ReadsJournals was → ReadsJournals now
+    replies-read number r cursor others notes same reads = reads-now reads (record {
+      replies = λ other. go r cursor same other (cases_eq other number);
+      notes = subst (IsPlaceIn journal.records) (sym notes) before.notes;
+    })
+      where
+        before : ReadsWithin journal.records (cursor_of here)
+        before = reads-here reads
+
+        go : {A E : Type 0} (r : Result A E) → OnOk r (get_or is.replies.items number 0 ≡ length journal.records) → OnErr r (is.replies.items ≡ here.replies.items)
+            → (other : ℕ) → (other ≡ number) ⊎ (other ≢ number) → get_or is.replies.items other 0 ≤ length journal.records
+        go (Ok a) cursor same other (inl e) = let at : get_or is.replies.items other 0 ≡ length journal.records = ap (λ n. get_or is.replies.items n 0) e ∙ cursor in omega (arith, at)
+        go (Err e) cursor same other (inl at) = subst (λ l. get_or l other 0 ≤ length journal.records) (sym same) (before.replies other)
+        go r cursor same other (inr ne) = subst (λ n. n ≤ length journal.records) (sym (others other ne)) (before.replies other)
+
+    -- after a taking of a note, or one that was refused
+    pub notes-read : {A E : Type 0} (r : Result A E) → OnOk r (IsPlaceIn journal.records is.notes) → is.replies ≡ here.replies → OnErr r (is ≡ here) → ReadsJournals was → ReadsJournals now
+    notes-read r place replies same reads = reads-now reads (record {
+      replies = λ other. subst (λ (v : Vec ℕ Global). get_or v.items other 0 ≤ length journal.records) (sym replies) (before.replies other);
+      notes = go r place same;
+    })
+      where
+        before : ReadsWithin journal.records (cursor_of here)
+        before = reads-here reads
+
+        go : {A E : Type 0} (r : Result A E) → OnOk r (IsPlaceIn journal.records is.notes) → OnErr r (is ≡ here) → IsPlaceIn journal.records is.notes
+        go (Ok a) place same = place
+        go (Err e) place same = subst (λ (c : Cursors). IsPlaceIn journal.records c.notes) (sym same) before.notes
 
 -- ---- a taking that is refused
 
@@ -167,3 +214,14 @@ start-more read fresh count s e = record {
     at-start [] (suc n) h = refl
     at-start (r ∷ rs) zero h = h
     at-start (r ∷ rs) (suc n) h = at-start rs n h
+
+-- what was not read stands in the journals
+pub start-reads : (spaces : List (Space Taped)) (read : List Cursors) (count : ℕ) → AreAtStart read count → ReadsJournals (recorded_of spaces read)
+start-reads spaces read count s n = subst (ReadsWithin (records_in (recorded_of spaces read) n)) (sym (s.each n)) (record {
+  replies = λ number. none number;
+  notes = record { within = omega arith; behind = λ over. (refl, refl) };
+})
+  where
+    none : (number : ℕ) → get_or [] number 0 ≤ length (records_in (recorded_of spaces read) n)
+    none zero = omega arith
+    none (suc number) = omega arith

@@ -80,6 +80,10 @@ module _ {T : Type 0} where
     pub unknown : was_opened space number ≡ false
     pub error : e ≡ error.NoConnection
 
+  -- it never was; or it was, and there is no memory for a copy
+  abbrev pub RefusesCopy : Space T → ℕ → ServiceError → Type 0
+  RefusesCopy space number e = IsUnknown space number e ⊎ (IsOpened space number × (e ≡ error.OutOfMemory))
+
   -- the replies of a connection that was opened are moved out, and nothing else changes
   pub record TakesOutput (was is : Space T) (number : ℕ) (text : List ℕ) : Type 0 where
     pub opened : IsOpened was number

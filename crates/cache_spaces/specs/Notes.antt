@@ -1,5 +1,5 @@
 -- The notes that records hold, and those that were not taken.
-use Rattle.std.specs.Prelude.{◌≡◌, ℕ, ◌+◌, Option, List, [], ◌∷◌, ◌++◌, map, get_or, take, drop}
+use Rattle.std.specs.Prelude.{◌≡◌, ℕ, ◌+◌, ◌≤◌, Option, List, [], ◌∷◌, ◌++◌, length, map, get_or, take, drop}
 use Rattle.std.specs.List.{flat_map, slice_get}
 use Rattle.std.specs.Option.{option_map_or, option_to_list}
 use Rattle.audit_model.specs.declared.transcript.Note.{Note}
@@ -38,6 +38,11 @@ notes_before records told = notes_of_records (take told.entry records) ++ before
 -- the notes from a place on
 abbrev pub notes_from : List Record → Told → List Note
 notes_from records told = rest_in (lists_at records told.entry) told.list told.note ++ notes_of_records (drop (told.entry + 1) records)
+
+-- a place stands in the records, or right behind them: the notes of each record that is added stand behind it
+pub record IsPlaceIn (records : List Record) (told : Told) : Type 0 where
+  pub within : told.entry ≤ length records
+  pub behind : length records ≤ told.entry → (told.list ≡ 0) × (told.note ≡ 0)
 
 -- the first of the notes from one place on is taken, if there is one, and those from another place on are left
 abbrev pub TakesFrom : List Record → Told → Told → Option Note → Type 0

@@ -1,12 +1,12 @@
 -- A recording service, and how far it was read.
-use Rattle.std.specs.Prelude.{◌≡◌, ◌≢◌, ℕ, ◌++◌, Option, List, [], drop, get_or, length, map, IsNone}
+use Rattle.std.specs.Prelude.{◌≡◌, ◌≢◌, ℕ, ◌≤◌, ◌==◌, ◌++◌, Option, List, [], drop, get_or, length, map, IsNone, if◌then◌else◌}
 use Rattle.std.specs.Option.{option_to_list}
 use Rattle.audit_model.specs.declared.input.Conn.{Conn}
 use Rattle.audit_model.specs.declared.transcript.Note.{Note}
 use Rattle.audit_model.specs.declared.transcript.Record.{Record}
 use Rattle.cache_spaces.specs.Calls.{InSpace, IsOpened}
 use Rattle.cache_spaces.specs.Journals.{journals_of}
-use Rattle.cache_spaces.specs.Notes.{notes_before, notes_from, notes_of_records}
+use Rattle.cache_spaces.specs.Notes.{IsPlaceIn, notes_before, notes_from, notes_of_records}
 use Rattle.cache_spaces.specs.Replies.{records_at, replies_for}
 use Rattle.cache_spaces.specs.Spaces.{Space}
 use Rattle.cache_spaces.specs.declared.cursors.Cursors.{Cursors}
@@ -57,11 +57,33 @@ untold_in recorded namespace = notes_from (records_in recorded namespace) (curso
 abbrev pub IsUnread : Recorded → Type 0
 IsUnread recorded = (namespace : ℕ) → cursor_in recorded namespace ≡ cursor_at_start
 
--- the replies of a connection that was opened were taken, which are those since the last taking; nothing else changed
+-- nothing was read that does not stand in the records
+pub record ReadsWithin (records : List Record) (cursor : Cursor) : Type 0 where
+  pub replies : (number : ℕ) → get_or cursor.replies number 0 ≤ length records
+  pub notes : IsPlaceIn records cursor.notes
+
+-- so of each namespace and its journal
+abbrev pub ReadsJournals : Recorded → Type 0
+ReadsJournals recorded = (namespace : ℕ) → ReadsWithin (records_in recorded namespace) (cursor_in recorded namespace)
+
+-- the records that a namespace's journal gained
+abbrev pub gained_in : Recorded → Recorded → ℕ → List Record
+gained_in was is namespace = drop (length (records_in was namespace)) (records_in is namespace)
+
+-- The journal of that namespace gained a record, and no other did. Of each connection, the replies that it gained stand behind those that were
+-- not taken; of each namespace, the notes; and nothing else is left to be taken, also of a connection that is not open yet.
+pub record GainsRecord (namespace : ℕ) (was is : Recorded) : Type 0 where
+  pub one : (other : ℕ) → length (gained_in was is other) ≡ (if other == namespace then 1 else 0)
+  pub journals : (other : ℕ) → records_in is other ≡ records_in was other ++ gained_in was is other
+  pub replies : (conn : Conn) → untaken_in is conn ≡ untaken_in was conn ++ replies_for conn.number (gained_in was is conn.namespace)
+  pub notes : (other : ℕ) → untold_in is other ≡ untold_in was other ++ notes_of_records (gained_in was is other)
+
+-- the replies of a connection that was opened were taken, which are those since the last taking, to the journal's end; nothing else changed
 pub record TakesReplies (was is : Recorded) (conn : Conn) (text : List ℕ) : Type 0 where
   pub known : InSpace was.spaces conn.namespace (λ space. IsOpened space conn.number)
   pub text_is : text ≡ untaken_in was conn
   pub none : untaken_in is conn ≡ []
+  pub reached : get_or (cursor_in is conn.namespace).replies conn.number 0 ≡ length (records_in is conn.namespace)
   pub others : (other : Conn) → other ≢ conn → untaken_in is other ≡ untaken_in was other
   pub notes : (namespace : ℕ) → (notes_taken is namespace ≡ notes_taken was namespace) × (untold_in is namespace ≡ untold_in was namespace)
   pub spaces : is.spaces ≡ was.spaces
@@ -72,6 +94,7 @@ pub record TakesNote (was is : Recorded) (namespace : ℕ) (note : Option Note) 
   pub grows : notes_taken is namespace ≡ notes_taken was namespace ++ option_to_list note
   pub left : untold_in was namespace ≡ option_to_list note ++ untold_in is namespace
   pub none : IsNone note → untold_in was namespace ≡ []
+  pub place : IsPlaceIn (records_in is namespace) (cursor_in is namespace).notes
   pub all : notes_of_records (records_in is namespace) ≡ notes_taken is namespace ++ untold_in is namespace
   pub others : (other : ℕ) → other ≢ namespace → (notes_taken is other ≡ notes_taken was other) × (untold_in is other ≡ untold_in was other)
   pub replies : (conn : Conn) → untaken_in is conn ≡ untaken_in was conn

@@ -8,7 +8,7 @@ use Rattle.audit_model.specs.Situation.{empty_situation}
 use Rattle.audit_model.specs.declared.config.Config.{Config}
 use Rattle.audit_model.specs.declared.event.Instant.{Instant}
 use Rattle.cache_spaces.specs.Served.{is_served}
-use Rattle.cache_spaces.specs.Spaces.{HasItsParts, Space, StandsFor, config_of, generator_of, made_of, notices_of, part_in, recency_of}
+use Rattle.cache_spaces.specs.Spaces.{HasItsParts, Space, StandsFor, config_of, generator_of, identifiers_of, made_of, notices_of, part_in, recency_of}
 use Rattle.cache_spaces.specs.declared.service.Fed.{Fed}
 use Rattle.cache_spaces.specs.declared.service.Fed.TheVariants.{All, Held}
 use Rattle.cache_lines.specs.Tape.Taped.{Taped}
@@ -31,6 +31,7 @@ module _ {T : Type 0} (tape : T → Option Taped) (blank : Option Taped) where
     pub recency : recency_of space true []
     pub served : IsTrue (is_served config)
     pub forked : generator_of space ≡ generator
+    pub unregistered : (part : ℕ) (id : List ℕ) → (identifiers_of space).registered part id ≡ false
     pub notices : notices_of space ≡ []
     pub state_is : space ≡ record { store = space.store; tape = space.tape; latest = made; connections = []; closings = []; outputs = []; sent = 0; pending = []; outgoing = []; namespace = namespace }
     pub taped : tape space.tape ≡ blank

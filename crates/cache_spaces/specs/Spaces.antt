@@ -14,6 +14,7 @@ use Rattle.cache_front.specs.declared.entries.hasher.KeyedHasher.{KeyedHasher}
 use Rattle.cache_front.specs.declared.entries.hasher.WordBuilder.{WordBuilder}
 use Rattle.cache_front.specs.Store.Data.{StoreData}
 use Rattle.cache_spaces.specs.Stores.{shown_of}
+use Rattle.cache_lines.specs.Drawing.{Identifiers, identifiers_in}
 use Rattle.cache_lines.specs.Tape.Taped.{Taped}
 
 -- a namespace of a service, over such a tape
@@ -27,6 +28,10 @@ module _ {T : Type 0} where
   -- the state of its generator
   abbrev pub generator_of : Space T → List ℕ
   generator_of space = space.store.generator
+
+  -- the identifiers that its generator will give, and which are registered in each part: by these every event draws
+  abbrev pub identifiers_of : Space T → Identifiers
+  identifiers_of space = identifiers_in (shown_of space.store)
 
   -- the moment of its making
   abbrev pub made_of : Space T → ℕ

@@ -1,6 +1,6 @@
 //! How far the replies and notes that journals hold were taken.
 ghost use Rattle.std.specs.Prelude.{◌≡◌, ◌≢◌, ◌<◌, ◌+◌, ℕ, [], drop, get_or, length, vec_len, IsNone, IfOk, OnOk, OnErr};
-ghost use Rattle.cache_spaces.specs.Notes.{TakesFrom, notes_from};
+ghost use Rattle.cache_spaces.specs.Notes.{IsPlaceIn, TakesFrom, notes_from};
 ghost use Rattle.cache_spaces.specs.Replies.{AddsZeros, replies_for};
 
 use crate::replies::gather_from;
@@ -59,6 +59,7 @@ impl Cursors {
     ) -> Result<Option<Note>, AllocError>
         ensures note { IfOk result (TakesFrom records.now self.old.notes self.new.notes) }
         ensures none { IfOk result (λ note. IsNone note → notes_from records.now self.old.notes ≡ []) }
+        ensures place { OnOk result (IsPlaceIn records.now self.new.notes) }
         ensures replies { self.new.replies ≡ self.old.replies }
         ensures unchanged { OnErr result (self.new ≡ self.old) }
     {

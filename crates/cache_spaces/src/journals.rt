@@ -1,11 +1,11 @@
 //! A service that keeps its journals.
-ghost use Rattle.std.specs.Prelude.{◌≡◌, ℕ, ◌≤◌, ◌<◌, ◌^◌, ◌↔◌, ◌⊎◌, Some, false, IfOk, IfErr, OnErr, IsErrOf, length};
+ghost use Rattle.std.specs.Prelude.{◌≡◌, ℕ, ◌≤◌, ◌<◌, ◌^◌, ◌↔◌, ◌⊎◌, Some, false, IfOk, IfErr, OnErr, OnOk, IsErrOf, length};
 ghost use Rattle.std.specs.List.{slice_get};
-ghost use Rattle.cache_spaces.specs.Calls.{At, IsUnknown, Refuses, TakesLoads};
+ghost use Rattle.cache_spaces.specs.Calls.{At, Refuses, RefusesCopy, TakesLoads};
 ghost use Rattle.cache_spaces.specs.Inputs.{Performs, RefusedInput, namespace_of};
 ghost use Rattle.cache_spaces.specs.Journals.{IsJournalOf, IsSoOfEach, journals_of, kept_by};
 ghost use Rattle.cache_spaces.specs.Played.{WerePlayed};
-ghost use Rattle.cache_spaces.specs.Recorded.{AreAtStart, IsUnread, TakesNote, TakesReplies};
+ghost use Rattle.cache_spaces.specs.Recorded.{AreAtStart, GainsRecord, IsUnread, TakesNote, TakesReplies};
 ghost use Rattle.cache_spaces.specs.Services.{AreNew, are_taken, blank_tape};
 
 use crate::cursors::Cursors;
@@ -35,13 +35,13 @@ pub struct RecordedService {
 impl Model for RecordedService {
     ghost use Rattle.std.specs.Prelude.{◌≡◌, ◌≤◌, [], length, vec_capacity};
     ghost use Rattle.cache_spaces.specs.Played.{WerePlayed};
-    ghost use Rattle.cache_spaces.specs.Recorded.{Recorded, recorded_of};
+    ghost use Rattle.cache_spaces.specs.Recorded.{ReadsJournals, Recorded, recorded_of};
 
     ghost Value = { Recorded };
 
     ghost view = { λ r. recorded_of r.core r.read.items };
 
-    ghost invariant = { λ r. ∥ WerePlayed r.core ∥₁ × (r.room.items ≡ []) × (length r.core ≤ vec_capacity r.room) × (length r.read.items ≡ length r.core) };
+    ghost invariant = { λ r. ∥ WerePlayed r.core ∥₁ × (r.room.items ≡ []) × (length r.core ≤ vec_capacity r.room) × (length r.read.items ≡ length r.core) × ReadsJournals (recorded_of r.core r.read.items) };
 }
 
 impl RecordedService {
@@ -80,6 +80,8 @@ impl RecordedService {
     /// before `OutOfMemory`, which may be for its record, for a closing and a give-up too. Then nothing has changed, and no record is added.
     pub fn step(&mut self, input: Input) -> Result<Output, Refusal>
         ensures performed { IfOk result (λ output. At self.old.spaces self.new.spaces (namespace_of input) (Performs kept_by input output)) }
+        // what is left to be taken gained its replies and notes, and nothing else
+        ensures gained { OnOk result (GainsRecord (namespace_of input) self.old self.new) }
         ensures cursors { self.new.cursors ≡ self.old.cursors }
         ensures refused { IfErr result (λ refusal. Refuses self.old.spaces (namespace_of input) refusal.error (RefusedInput input refusal.error)) }
         ensures back { IfErr result (λ refusal. refusal.input ≡ input) }
@@ -115,7 +117,7 @@ impl RecordedService {
     /// changed.
     pub fn take_output(&mut self, conn: Conn) -> Result<Vec<u8>, ServiceError>
         ensures taken { IfOk result (λ text. TakesReplies self.old self.new conn text.items) }
-        ensures refused { IfErr result (λ e. (e ≡ ServiceError.OutOfMemory) ⊎ Refuses self.old.spaces conn.namespace e (λ space. IsUnknown space conn.number e)) }
+        ensures refused { IfErr result (λ e. Refuses self.old.spaces conn.namespace e (λ space. RefusesCopy space conn.number e)) }
         ensures unchanged { OnErr result (self.new ≡ self.old) }
     {
         match self.core.closed(conn) {
@@ -150,7 +152,7 @@ impl RecordedService {
     /// Refused with `NoNamespace`, then with `OutOfMemory` where there is no memory for the copy; then nothing has changed.
     pub fn next_notice(&mut self, namespace: u64) -> Result<Option<Note>, ServiceError>
         ensures taken { IfOk result (TakesNote self.old self.new namespace) }
-        ensures refused { IfErr result (λ e. (e ≡ ServiceError.OutOfMemory) ⊎ ((e ≡ ServiceError.NoNamespace) × (length self.old.spaces ≤ namespace))) }
+        ensures refused { IfErr result (λ e. Refuses self.old.spaces namespace e (λ space. e ≡ ServiceError.OutOfMemory)) }
         ensures unchanged { OnErr result (self.new ≡ self.old) }
     {
         let RecordedService { core, read, .. } = self;

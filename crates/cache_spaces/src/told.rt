@@ -1,5 +1,5 @@
 //! Notes, found in records.
-ghost use Rattle.std.specs.Prelude.{◌≡◌, ◌∷◌, [], get_or, IfOk, MatchOption};
+ghost use Rattle.std.specs.Prelude.{◌≡◌, ◌<◌, ◌∷◌, [], get_or, length, IfOk, IfSome, MatchOption};
 ghost use Rattle.cache_spaces.specs.Notes.{lists_of, notes_from, rest_in};
 
 use audit_model::{Note, Record, copy_bytes};
@@ -16,7 +16,8 @@ pub struct Told {
 
 /// The first note from there on, and the place behind it.
 pub fn find_note(records: &[Record], told: Told) -> Option<(&Note, Told)>
-    ensures { MatchOption result (notes_from records.now told ≡ []) (λ found. notes_from records.now told ≡ found.0.now ∷ notes_from records.now found.1) }
+    ensures first { MatchOption result (notes_from records.now told ≡ []) (λ found. notes_from records.now told ≡ found.0.now ∷ notes_from records.now found.1) }
+    ensures within { IfSome result (λ found. found.1.entry < length records.now) }
 {
     let mut list = told.list;
     let mut note = told.note;

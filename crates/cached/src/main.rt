@@ -28,7 +28,7 @@ fn main(rt: HostRuntime) -> ExitCode {
             &mut reader,
             &mut writer,
             &mut errors,
-            rt.stdout(),
+            (rt.stdout(), rt.stderr()),
         )),
         Err(error) => ExitCode::from(without_words(error.kind(), &mut errors)),
     }

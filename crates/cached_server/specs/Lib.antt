@@ -1,4 +1,4 @@
-pub mod Config
 pub mod Script
 pub mod Lines
+pub mod Outbox
 pub mod Loads

@@ -1,7 +1,6 @@
 -- The lines that a server writes.
 use Rattle.std.specs.Prelude.{ℕ, List, [], ◌∷◌, ◌++◌, codes}
 use Rattle.std.specs.Fmt.{decimal}
-use Rattle.std.specs.List.{flat_map}
 use Rattle.audit_model.specs.declared.transcript.Note.{Note}
 use Rattle.cached_server.specs.Script.Notes.{note_text}
 
@@ -9,10 +8,10 @@ use Rattle.cached_server.specs.Script.Notes.{note_text}
 abbrev pub named_note_line : List ℕ → Note → List ℕ
 named_note_line name note = name ++ 32 ∷ [] ++ note_text note
 
--- notes, one line behind the other
-abbrev pub named_note_lines : List ℕ → List Note → List ℕ
-named_note_lines name notes = flat_map (named_note_line name) notes
-
 -- a namespace that is served, with its port
 abbrev pub listening_line : List ℕ → ℕ → List ℕ
 listening_line name port = codes "listening " ++ name ++ codes " 127.0.0.1:" ++ decimal port ++ 10 ∷ []
+
+-- how many notices were lost
+abbrev pub lost_line : ℕ → List ℕ
+lost_line lost = codes "cached: " ++ decimal lost ++ codes " notices lost\n"

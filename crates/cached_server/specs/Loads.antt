@@ -3,7 +3,7 @@ use Rattle.std.specs.Prelude.{◌≡◌, ◌⊎◌, ℕ, List, [], ◌∷◌, Op
 use Rattle.audit_model.specs.Bytewise.{same}
 use Rattle.audit_model.specs.declared.event.Outcome.{Outcome}
 use Rattle.audit_model.specs.declared.event.Outcome.TheVariants as outcome
-use Rattle.cached_server.specs.declared.config.listed.Listed.{Listed}
+use Rattle.cached_config.specs.declared.listed.Listed.{Listed}
 
 -- the value that a key is listed with, first of all, without a deadline; a key that is not listed has none
 abbrev pub listed_outcome : List Listed → List ℕ → Outcome

@@ -1,65 +1,208 @@
-//! Notes of a namespace, told as lines on a writer that all namespaces share.
-use crate::config::Listed;
+//! Notes of all namespaces, told as lines by a thread of their own.
+ghost use Rattle.std.specs.Prelude.{◌≡◌, ◌≤◌, [], vec_capacity};
+
 use crate::devices::{ListLoader, StartClock};
 use crate::lines::Lines;
+use crate::outbox::{Outbox, ROOM};
 use audit_model::{Bytes, Note};
 use cache_serve::{Devices, Teller};
-use std::alloc::Global;
+use cached_config::Listed;
+use std::alloc::{AllocError, Global};
 use std::io::Write;
-use std::sync::{Arc, Mutex, Wait};
+use std::sync::{Arc, Condvar, Mutex, Wait};
+use std::thread::Parker;
 use std::time;
-use std::time::Instant;
+use std::time::{Duration, Instant};
 
-/// The writer of all lines, which threads share.
-pub type SharedLines<W> = Arc<Mutex<Lines<W>>>;
+/// How many seconds a note waits for room, where lines are read.
+const PATIENCE: u64 = 1;
 
-/// Tells notes as lines, those that come together in one hold of the writer's lock. Once a line could not be written whole, no more are told.
+/// What threads that have notes share with the one that writes them.
+///
+/// Lines wait in an `Outbox`. Where it is full, whoever has a note waits for room, a second at most; then notes are counted as lost, and
+/// nobody waits again, until lines are read. So a reader that stops reading stops no namespace.
 #[derive(Drop)]
-pub struct Announcer<W: Write + Drop> {
-    name: Arc<Bytes>,
-    lines: SharedLines<W>,
+pub struct Outlet {
+    outbox: Mutex<Outbox>,
+    // lines wait, or no more will come
+    filled: Condvar,
+    // lines were taken
+    emptied: Condvar,
 }
 
-impl<W: Write + Drop> Teller for Announcer<W> {
+impl Outlet {
+    /// One in which nothing waits.
+    pub fn new(alloc: Global) -> Result<Arc<Outlet>, AllocError> {
+        let outlet = Outlet {
+            outbox: Mutex::new(Outbox::new(alloc)?),
+            filled: Condvar::new(),
+            emptied: Condvar::new(),
+        };
+        Ok(Arc::new(alloc, outlet)?)
+    }
+
+    /// Puts the line of a note, unless it has to wait for room; says whether it had not to.
+    fn put_at_once(&self, rt: &impl Wait, name: &[u8], note: &Note) -> bool {
+        let mut outbox = self.outbox.lock(rt);
+        if outbox.waits_for_room(name, note) {
+            return false;
+        }
+        outbox.put(name, note);
+        true
+    }
+
+    /// Puts the line of a note once there is room, or a second has passed.
+    fn put_in_time<R: Wait + time::Clock>(&self, rt: &R, name: &[u8], note: &Note) {
+        self.filled.notify_one();
+        let patience = Duration::from_secs(PATIENCE);
+        let outbox = self.outbox.lock(rt);
+        let (mut outbox, waited) = self
+            .emptied
+            .wait_timeout_while(rt, outbox, patience, |outbox| {
+                outbox.waits_for_room(name, note)
+            });
+        if waited.timed_out() {
+            outbox.stall();
+        }
+        outbox.put(name, note);
+    }
+
+    /// Tells notes of a namespace.
+    pub fn tell<R: Wait + time::Clock>(&self, rt: &R, name: &[u8], notes: &[Note]) {
+        for note in notes {
+            if !self.put_at_once(rt, name, note) {
+                self.put_in_time(rt, name, note);
+            }
+        }
+        self.filled.notify_one();
+    }
+
+    /// Says that no more notes will come.
+    pub fn end(&self, rt: &impl Wait) {
+        self.outbox.lock(rt).end();
+        self.filled.notify_one();
+    }
+
+    /// Says that nobody reads what is written.
+    fn close(&self, rt: &impl Wait) {
+        self.outbox.lock(rt).close();
+        self.emptied.notify_all();
+    }
+
+    /// Takes the lines that wait, once there are some, or no more will come. Answers how many notes were lost, and whether no more will come.
+    fn take(&self, rt: &impl Wait, lines: &mut Vec<u8>) -> (u64, bool)
+        requires empty { lines.old.items ≡ [] }
+        requires room { 1048576 ≤ vec_capacity lines.old }
+        ensures room { 1048576 ≤ vec_capacity lines.new }
+    {
+        let mut outbox = self
+            .filled
+            .wait_while(rt, self.outbox.lock(rt), |outbox| outbox.is_idle());
+        let lost = outbox.take(lines);
+        let is_over = outbox.is_over();
+        drop(outbox);
+        self.emptied.notify_all();
+        (lost, is_over)
+    }
+}
+
+/// Tells notes of one namespace.
+#[derive(Drop)]
+pub struct Announcer<R: time::Clock + Wait + Copy> {
+    rt: R,
+    name: Arc<Bytes>,
+    outlet: Arc<Outlet>,
+}
+
+impl<R: time::Clock + Wait + Copy> Teller for Announcer<R> {
     fn is_told(&self) -> bool {
         true
     }
 
-    fn tell<R: Wait>(&mut self, rt: &R, notes: &[Note]) {
-        let mut lines = self.lines.lock(rt);
-        let _ = lines.tell(self.name.as_slice(), notes);
+    fn tell<Q: Wait>(&mut self, rt: &Q, notes: &[Note]) {
+        let _rt = rt;
+        self.outlet.tell(&self.rt, self.name.as_slice(), notes);
     }
 }
 
 /// What the connections of one namespace are served with.
 #[derive(Drop)]
-pub struct Site<W: Write + Drop, R: time::Clock + Copy> {
+pub struct Site<R: time::Clock + Wait + Copy> {
     pub rt: R,
     pub start: Instant,
     pub name: Arc<Bytes>,
     pub loads: Arc<Vec<Listed>>,
-    pub lines: SharedLines<W>,
+    pub outlet: Arc<Outlet>,
 }
 
-impl<W, R> Devices for Site<W, R>
+impl<R> Devices for Site<R>
 where
-    W: Write + Drop + Send + 'static,
-    R: time::Clock + Copy + Send + 'static,
+    R: time::Clock + Wait + Copy + Send + 'static,
 {
     type Clock = StartClock<R>;
 
     type Loader = ListLoader;
 
-    type Teller = Announcer<W>;
+    type Teller = Announcer<R>;
 
-    fn make(&self, alloc: Global) -> Option<(StartClock<R>, ListLoader, Announcer<W>)> {
+    fn make(&self, alloc: Global) -> Option<(StartClock<R>, ListLoader, Announcer<R>)> {
         let loads = Arc::try_clone(&self.loads).ok()?;
         let name = Arc::try_clone(&self.name).ok()?;
-        let lines = Arc::try_clone(&self.lines).ok()?;
+        let outlet = Arc::try_clone(&self.outlet).ok()?;
+        let rt = self.rt;
         Some((
-            StartClock::new(self.rt, self.start),
+            StartClock::new(rt, self.start),
             ListLoader { alloc, loads },
-            Announcer { name, lines },
+            Announcer { rt, name, outlet },
         ))
+    }
+}
+
+/// The writer of what namespaces tell, and where it is said what was lost.
+#[derive(Drop)]
+pub struct Scribe<W: Write + Drop, E: Write + Drop> {
+    lines: Lines<W>,
+    alarms: Lines<E>,
+    taken: Vec<u8>,
+    ghost empty: { taken.items ≡ [] },
+    ghost room: { 1048576 ≤ vec_capacity taken },
+}
+
+impl<W: Write + Drop, E: Write + Drop> Scribe<W, E> {
+    /// One that writes lines, and on another writer how many notices were lost.
+    pub fn new(alloc: Global, lines: Lines<W>, alarms: E) -> Result<Scribe<W, E>, AllocError> {
+        let alarms = Lines::new(alloc, alarms)?;
+        let taken = Vec::with_capacity(alloc, ROOM)?;
+        Ok(Scribe {
+            lines,
+            alarms,
+            taken,
+        })
+    }
+
+    /// Writes what an outlet takes in until no more will come, or it cannot be written.
+    pub fn write_all(self, rt: &impl Wait, outlet: &Outlet) {
+        let Scribe {
+            mut lines,
+            mut alarms,
+            mut taken,
+        } = self;
+        for _ in rt.forever() {
+            let (lost, is_over) = outlet.take(rt, &mut taken);
+            if lines.send(&taken).is_err() {
+                outlet.close(rt);
+                let _ = alarms.send(b"cached: notices cannot be written\n");
+                return;
+            }
+            taken.clear();
+            if lost > 0 {
+                let _ = alarms.show_lost(lost);
+            }
+            if is_over {
+                return;
+            }
+            // What comes within a millisecond is written at once, so that a busy server wakes this thread a thousand times a second at most.
+            Parker::new().park_timeout(rt, Duration::from_millis(1));
+        }
     }
 }

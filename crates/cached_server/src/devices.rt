@@ -3,9 +3,9 @@ ghost use Rattle.std.specs.Prelude.{◌≡◌, ◌≤◌, ◌⊎◌, Some, None,
 ghost use Rattle.std.specs.Arc.{arc_value};
 ghost use Rattle.cached_server.specs.Loads.{listed_outcome};
 
-use crate::config::Listed;
 use audit_model::{Outcome, Seq};
 use cache_run::{Clock, Loader};
+use cached_config::Listed;
 use std::alloc::Global;
 use std::sync::Arc;
 use std::time;

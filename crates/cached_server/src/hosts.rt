@@ -1,12 +1,12 @@
-//! A thread for each namespace.
+//! A thread for each namespace, and one that writes what they tell.
 ghost use Rattle.std.specs.Prelude.{◌≡◌, ◌⊎◌, IfOk, IfErr};
 
-use crate::announcing::{SharedLines, Site};
-use crate::config::HostedNamespace;
+use crate::announcing::{Outlet, Scribe, Site};
 use crate::script::Fault;
 use audit_model::{Config, Instant};
 use cache_serve::host;
 use cache_shared::{LiveService, Seating, SharedService};
+use cached_config::HostedNamespace;
 use rand_core::SeedableRng;
 use rand_xoshiro::Xoshiro256PlusPlus;
 use std::alloc::Global;
@@ -59,19 +59,18 @@ impl Board {
 
 /// What one namespace is hosted with.
 #[derive(Drop)]
-struct Post<L: Seating, W: Write + Drop, R: time::Clock + Copy> {
+struct Post<L: Seating, R: time::Clock + Wait + Copy> {
     shared: SharedService<L, LiveService>,
     namespace: u64,
     listener: TcpListener,
-    site: Site<W, R>,
+    site: Site<R>,
     limit: Option<u64>,
     board: Arc<Board>,
 }
 
-impl<L, W, R> Post<L, W, R>
+impl<L, R> Post<L, R>
 where
     L: Seating + Send + Sync + 'static,
-    W: Write + Drop + Send + 'static,
     R: time::Clock + Threads + Wait + Copy + Send + Sync + 'static,
 {
     /// Hosts the namespace, and says when that has ended.
@@ -90,15 +89,14 @@ where
 }
 
 /// Starts the thread of a namespace.
-fn start<L, W, R>(
+fn start<L, R>(
     rt: R,
     alloc: Global,
-    post: Post<L, W, R>,
+    post: Post<L, R>,
     threads: &mut Vec<JoinHandle<()>>,
 ) -> Result<(), Fault>
 where
     L: Seating + Send + Sync + 'static,
-    W: Write + Drop + Send + 'static,
     R: time::Clock + Threads + Wait + Copy + Send + Sync + 'static,
     ensures { IfErr result (λ e. e ≡ Fault.OutOfMemory) }
 {
@@ -115,21 +113,20 @@ where
 }
 
 /// What a namespace is hosted with. None without memory.
-fn make_post<L, W, R>(
+fn make_post<L, R>(
     rt: R,
     alloc: Global,
     shared: &SharedService<L, LiveService>,
     namespace: u64,
     space: HostedNamespace,
     listener: TcpListener,
-    lines: &SharedLines<W>,
+    outlet: &Arc<Outlet>,
     start: time::Instant,
     limit: Option<u64>,
     board: &Arc<Board>,
-) -> Option<Post<L, W, R>>
+) -> Option<Post<L, R>>
 where
     L: Seating + Send + Sync + 'static,
-    W: Write + Drop + Send + 'static,
     R: time::Clock + Threads + Wait + Copy + Send + Sync + 'static,
 {
     let shared: Result<_, _> = shared.clone();
@@ -138,7 +135,7 @@ where
         start,
         name: Arc::new(alloc, space.name).ok()?,
         loads: Arc::new(alloc, space.loads).ok()?,
-        lines: Arc::try_clone(lines).ok()?,
+        outlet: Arc::try_clone(outlet).ok()?,
     };
     Some(Post {
         shared: shared.ok()?,
@@ -152,7 +149,7 @@ where
 
 /// Hosts each namespace on a thread of its own. It ends once one of them cannot go on, or each has served as many connections as the
 /// limit says.
-fn host_all<L, W, R>(
+fn host_all<L, W, E, R>(
     rt: R,
     alloc: Global,
     core: LiveService,
@@ -160,13 +157,14 @@ fn host_all<L, W, R>(
     parts: u64,
     spaces: Vec<HostedNamespace>,
     listeners: Vec<TcpListener>,
-    lines: &SharedLines<W>,
+    scribe: Scribe<W, E>,
     begun: time::Instant,
     limit: Option<u64>,
 ) -> Result<(), Fault>
 where
     L: Seating + Send + Sync + 'static,
     W: Write + Drop + Send + 'static,
+    E: Write + Drop + Send + 'static,
     R: time::Clock + Threads + Wait + Copy + Send + Sync + 'static,
     requires empty { core.events ≡ 0 }
     requires name { blank.name ≡ L.name }
@@ -191,6 +189,13 @@ where
     ) else {
         return Err(Fault::OutOfMemory);
     };
+    let Ok(outlet) = Outlet::new(alloc) else {
+        return Err(Fault::OutOfMemory);
+    };
+    let writing = match start_scribe(rt, scribe, &outlet) {
+        Ok(writing) => writing,
+        Err(fault) => return Err(fault),
+    };
     let all = listeners.len() as u64;
     let mut threads = Vec::new(alloc);
     for (namespace, (space, listener)) in spaces.into_iter().zip(listeners).enumerate() {
@@ -201,7 +206,7 @@ where
             namespace as u64,
             space,
             listener,
-            lines,
+            &outlet,
             begun,
             limit,
             &board,
@@ -217,7 +222,30 @@ where
         return Err(Fault::CannotListen);
     }
     join_all(&rt, threads);
+    outlet.end(&rt);
+    writing.join(&rt);
     Ok(())
+}
+
+/// Starts the thread that writes what the namespaces tell.
+fn start_scribe<W, E, R>(
+    rt: R,
+    scribe: Scribe<W, E>,
+    outlet: &Arc<Outlet>,
+) -> Result<JoinHandle<()>, Fault>
+where
+    W: Write + Drop + Send + 'static,
+    E: Write + Drop + Send + 'static,
+    R: Threads + Wait + Copy + Send + Sync + 'static,
+    ensures { IfErr result (λ e. e ≡ Fault.OutOfMemory) }
+{
+    let Ok(outlet) = Arc::try_clone(outlet) else {
+        return Err(Fault::OutOfMemory);
+    };
+    match thread::spawn(&rt, move || scribe.write_all(&rt, &outlet)) {
+        Ok(writing) => Ok(writing),
+        Err(_) => Err(Fault::OutOfMemory),
+    }
 }
 
 /// Joins the threads.
@@ -266,17 +294,18 @@ fn make_core(
 }
 
 /// Serves namespaces at their listeners.
-pub fn serve_spaces<W, R>(
+pub fn serve_spaces<W, E, R>(
     rt: R,
     alloc: Global,
     spaces: Vec<HostedNamespace>,
     listeners: Vec<TcpListener>,
-    lines: &SharedLines<W>,
+    scribe: Scribe<W, E>,
     begun: time::Instant,
     limit: Option<u64>,
 ) -> Result<(), Fault>
 where
     W: Write + Drop + Send + 'static,
+    E: Write + Drop + Send + 'static,
     R: time::Clock + RandomSource + Threads + Wait + Copy + Send + Sync + 'static,
     ensures { IfErr result (λ e. (e ≡ Fault.CannotListen) ⊎ (e ≡ Fault.OutOfMemory)) }
 {
@@ -288,7 +317,7 @@ where
         Ok(core) => core,
         Err(fault) => return Err(fault),
     };
-    host_all::<Brand, W, R>(
+    host_all::<Brand, W, E, R>(
         rt,
         alloc,
         core,
@@ -296,7 +325,7 @@ where
         SEATS,
         spaces,
         listeners,
-        lines,
+        scribe,
         begun,
         limit,
     )

@@ -2,17 +2,18 @@
 #![tactic(auto)]
 
 mod announcing;
-pub mod config;
 mod devices;
 mod hosts;
 mod lines;
 mod listening;
+mod outbox;
 mod program;
 mod reading;
 pub mod script;
 
-pub use config::{ConfigError, HostedNamespace, Listed, read_config};
+pub use announcing::Outlet;
 pub use lines::Lines;
+pub use outbox::{Outbox, ROOM};
 pub use program::{cached, serve_config, serve_text};
 pub use script::{
     Chosen, Fault, WordsError, fail, fail_words, fault_of, put, run_script, take_words,

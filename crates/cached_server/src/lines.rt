@@ -4,12 +4,10 @@ ghost use Rattle.std.specs.Io.KnownBytes.{Appends};
 ghost use Rattle.cache_run.specs.Devices.Failures.{HasFailed};
 ghost use Rattle.cache_run.specs.Devices.Watched.{device, failures};
 ghost use Rattle.cached_server.specs.Script.Gathering.{Gathers};
-ghost use Rattle.cached_server.specs.Script.Notes.{note_text};
-ghost use Rattle.cached_server.specs.Lines.{listening_line, named_note_line, named_note_lines};
+ghost use Rattle.cached_server.specs.Lines.{listening_line, lost_line};
 
-use crate::script::{put, write_note, write_out};
-use audit_model::Note;
-use cache_run::{RunError, Watched};
+use crate::script::{put, write_out};
+use cache_run::{RunError, Watched, send};
 use itoa::Buffer;
 use std::alloc::{AllocError, Global};
 use std::io::Write;
@@ -38,9 +36,9 @@ impl<W: Write + Drop> Lines<W> {
         })
     }
 
-    /// Writes the lines of some notes of a namespace of that name, one behind the other. Takes no memory.
-    pub fn tell(&mut self, name: &[u8], notes: &[Note]) -> Result<(), RunError>
-        ensures ok { OnOk result (Appends (W.contents (device self.old.writer)) (W.contents (device self.new.writer)) (named_note_lines name.now notes.now)) }
+    /// Writes a text of whole lines. Takes no memory.
+    pub fn send(&mut self, text: &[u8]) -> Result<(), RunError>
+        ensures ok { OnOk result (Appends (W.contents (device self.old.writer)) (W.contents (device self.new.writer)) text.now) }
         ensures whole { OnOk result (self.new.is_cut ≡ self.old.is_cut) }
         ensures cut { OnErr result (self.new.is_cut ≡ true) }
         ensures still { self.old.is_cut ≡ true → (self.new ≡ self.old) × IsErr result }
@@ -48,15 +46,10 @@ impl<W: Write + Drop> Lines<W> {
         if self.is_cut {
             return Err(RunError::Write);
         }
-        let Lines {
-            gathered,
-            writer,
-            is_cut,
-        } = self;
-        match write_note_lines(name, notes, gathered, writer) {
+        match send(text, &mut self.writer) {
             Ok(()) => Ok(()),
             Err(error) => {
-                *is_cut = true;
+                self.is_cut = true;
                 Err(error)
             }
         }
@@ -85,42 +78,30 @@ impl<W: Write + Drop> Lines<W> {
             }
         }
     }
-}
 
-/// Gathers the line of a note of a namespace.
-fn put_note_line<W: Write>(
-    name: &[u8],
-    note: &Note,
-    gathered: &mut Vec<u8>,
-    writer: &mut Watched<W>,
-) -> Result<(), RunError>
-    ensures ok { OnOk result (Gathers (W.contents (device writer.old)) gathered.old.items (named_note_line name.now note.now) (W.contents (device writer.new)) gathered.new.items) }
-    ensures cause { IfErr result (λ e. (e ≡ RunError.Write) × HasFailed (failures writer.old) (failures writer.new)) }
-    ensures count { failures writer.old ≤ failures writer.new }
-{
-    put(gathered, name, writer)?;
-    put(gathered, b" ", writer)?;
-    match write_note(note, gathered, writer) {
-        Ok(()) => Ok(()),
-        Err(error) => Err(error),
+    /// Writes how many notices were lost, in one piece. Takes no memory.
+    pub fn show_lost(&mut self, lost: u64) -> Result<(), RunError>
+        ensures ok { OnOk result (Appends (W.contents (device self.old.writer)) (W.contents (device self.new.writer)) (lost_line lost)) }
+        ensures whole { OnOk result (self.new.is_cut ≡ self.old.is_cut) }
+        ensures cut { OnErr result (self.new.is_cut ≡ true) }
+        ensures still { self.old.is_cut ≡ true → (self.new ≡ self.old) × IsErr result }
+    {
+        if self.is_cut {
+            return Err(RunError::Write);
+        }
+        let Lines {
+            gathered,
+            writer,
+            is_cut,
+        } = self;
+        match write_lost_line(lost, gathered, writer) {
+            Ok(()) => Ok(()),
+            Err(error) => {
+                *is_cut = true;
+                Err(error)
+            }
+        }
     }
-}
-
-/// Writes notes of a namespace as lines.
-fn write_note_lines<W: Write>(
-    name: &[u8],
-    notes: &[Note],
-    gathered: &mut Vec<u8>,
-    writer: &mut Watched<W>,
-) -> Result<(), RunError>
-    ensures ok { OnOk result (Appends (W.contents (device writer.old)) (W.contents (device writer.new)) (named_note_lines name.now notes.now)) }
-    ensures cause { IfErr result (λ e. (e ≡ RunError.Write) × HasFailed (failures writer.old) (failures writer.new)) }
-{
-    gathered.clear();
-    for note in notes {
-        put_note_line(name, note, gathered, writer)?;
-    }
-    write_out(gathered, writer)
 }
 
 /// Writes as a line that a namespace is served.
@@ -137,14 +118,30 @@ fn write_listening_line<W: Write>(
     put(gathered, b"listening ", writer)?;
     put(gathered, name, writer)?;
     put(gathered, b" 127.0.0.1:", writer)?;
-    put_number(port, gathered, writer)?;
+    put_number(port as u64, gathered, writer)?;
     put(gathered, b"\n", writer)?;
+    write_out(gathered, writer)
+}
+
+/// Writes as a line how many notices were lost.
+fn write_lost_line<W: Write>(
+    lost: u64,
+    gathered: &mut Vec<u8>,
+    writer: &mut Watched<W>,
+) -> Result<(), RunError>
+    ensures ok { OnOk result (Appends (W.contents (device writer.old)) (W.contents (device writer.new)) (lost_line lost)) }
+    ensures cause { IfErr result (λ e. (e ≡ RunError.Write) × HasFailed (failures writer.old) (failures writer.new)) }
+{
+    gathered.clear();
+    put(gathered, b"cached: ", writer)?;
+    put_number(lost, gathered, writer)?;
+    put(gathered, b" notices lost\n", writer)?;
     write_out(gathered, writer)
 }
 
 /// Gathers a number.
 fn put_number<W: Write>(
-    number: u16,
+    number: u64,
     gathered: &mut Vec<u8>,
     writer: &mut Watched<W>,
 ) -> Result<(), RunError>

@@ -1,13 +1,12 @@
 //! Listeners, and the lines that say of them.
 ghost use Rattle.std.specs.Prelude.{◌≡◌, ◌⊎◌, IfErr};
 
-use crate::announcing::SharedLines;
-use crate::config::HostedNamespace;
+use crate::lines::Lines;
 use crate::script::Fault;
+use cached_config::HostedNamespace;
 use std::alloc::Global;
 use std::io::Write;
 use std::net::{Ipv4Addr, Net, SocketAddr, TcpListener, TcpStream};
-use std::sync::Wait;
 
 /// A listener on 127.0.0.1 for each namespace, in their order.
 pub fn listen<R: Net<Listener = TcpListener, Stream = TcpStream>>(
@@ -32,13 +31,11 @@ pub fn listen<R: Net<Listener = TcpListener, Stream = TcpStream>>(
 
 /// Says of each namespace where it is served, in their order.
 pub fn show_all<W: Write + Drop>(
-    rt: &impl Wait,
-    lines: &SharedLines<W>,
+    lines: &mut Lines<W>,
     spaces: &[HostedNamespace],
 ) -> Result<(), Fault>
     ensures { IfErr result (λ e. e ≡ Fault.Write) }
 {
-    let mut lines = lines.lock(rt);
     for space in spaces {
         if lines.show(space.name.as_slice(), space.port).is_err() {
             return Err(Fault::Write);

@@ -5,6 +5,7 @@ ghost use Rattle.cache_run.specs.Devices.Watched.{device, failures};
 ghost use Rattle.cached_server.specs.Script.Faults.{Tells, fault_message, usage_text};
 ghost use Rattle.cached_server.specs.Script.Scripts.{ServesStreams};
 
+use crate::announcing::Scribe;
 use crate::hosts::serve_spaces;
 use crate::lines::Lines;
 use crate::listening::{listen, show_all};
@@ -17,7 +18,7 @@ use std::io::{Read, Write};
 use std::net::{Net, TcpListener, TcpStream};
 use std::random::RandomSource;
 use std::rt::Files;
-use std::sync::{Arc, Mutex, Wait};
+use std::sync::Wait;
 use std::thread::Threads;
 use std::time;
 use std::time::Instant;
@@ -28,19 +29,21 @@ use std::time::Instant;
 /// `--script`: at 0 the replies of the script's lines stand on `writer`, and its notes on `errors`. An error's text follows the notes;
 /// what cannot be written to `errors` is lost.
 ///
-/// `--config FILE`: serves what the file says, until that is no longer possible. `shown` is standard output as well, as a value that threads
-/// share: there it says where each namespace is served, and then tells notes.
-pub fn cached<S: AsStr, I: Read, O: Write, E: Write, W, R>(
+/// `--config FILE`: serves what the file says, until that is no longer possible. `shown` is standard output and standard error as well, as
+/// values that threads share: on the first it says where each namespace is served, and then tells notices, by a thread of its own; on the
+/// second, how many notices were lost, because the first was not read for more than a second and a mebibyte of them waited.
+pub fn cached<S: AsStr, I: Read, O: Write, E: Write, W, V, R>(
     rt: R,
     alloc: Global,
     words: &[S],
     reader: &mut Watched<I>,
     writer: &mut Watched<O>,
     errors: &mut Watched<E>,
-    shown: W,
+    shown: (W, V),
 ) -> u8
 where
     W: Write + Drop + Send + 'static,
+    V: Write + Drop + Send + 'static,
     R: Net<Listener = TcpListener, Stream = TcpStream>
         + Files
         + AllocGlobal
@@ -67,15 +70,16 @@ where
 
 /// Serves what the configuration file at a path says, until that is no longer possible. Then the text of what was wrong is written, and
 /// the status is 1.
-pub fn serve_config<E: Write, W, R>(
+pub fn serve_config<E: Write, W, V, R>(
     rt: R,
     alloc: Global,
     path: &str,
-    shown: W,
+    shown: (W, V),
     errors: &mut Watched<E>,
 ) -> u8
 where
     W: Write + Drop + Send + 'static,
+    V: Write + Drop + Send + 'static,
     R: Net<Listener = TcpListener, Stream = TcpStream>
         + Files
         + AllocGlobal
@@ -103,17 +107,18 @@ where
 }
 
 /// Serves what the text of a configuration file says: without end, or until each namespace has served as many connections as the limit
-/// says. `shown` says where each namespace is served, and then tells notes. The clock of each connection counts from `begun` on.
-pub fn serve_text<W, R>(
+/// says. The first of `shown` says where each namespace is served, and then tells notices, the second how many were lost. The clock of each connection counts from `begun` on.
+pub fn serve_text<W, V, R>(
     rt: R,
     alloc: Global,
     text: &str,
     begun: Instant,
-    shown: W,
+    shown: (W, V),
     limit: Option<u64>,
 ) -> Result<(), Fault>
 where
     W: Write + Drop + Send + 'static,
+    V: Write + Drop + Send + 'static,
     R: Net<Listener = TcpListener, Stream = TcpStream>
         + time::Clock
         + RandomSource
@@ -135,16 +140,18 @@ where
         Ok(listeners) => listeners,
         Err(fault) => return Err(fault),
     };
-    let lines = match Lines::new(alloc, shown) {
+    let (shown, alarms) = shown;
+    let mut lines = match Lines::new(alloc, shown) {
         Ok(lines) => lines,
         Err(_) => return Err(Fault::OutOfMemory),
     };
-    let Ok(lines) = Arc::new(alloc, Mutex::new(lines)) else {
-        return Err(Fault::OutOfMemory);
-    };
-    match show_all(&rt, &lines, &spaces) {
+    match show_all(&mut lines, &spaces) {
         Ok(()) => {}
         Err(fault) => return Err(fault),
     }
-    serve_spaces(rt, alloc, spaces, listeners, &lines, begun, limit)
+    let scribe = match Scribe::new(alloc, lines, alarms) {
+        Ok(scribe) => scribe,
+        Err(_) => return Err(Fault::OutOfMemory),
+    };
+    serve_spaces(rt, alloc, spaces, listeners, scribe, begun, limit)
 }

@@ -1,10 +1,10 @@
 //! The namespaces of a configuration file.
 ghost use Rattle.std.specs.Prelude.{◌≡◌, ◌⊎◌, None, IsErr, IsTrue, IfOk, IfErr};
 ghost use Rattle.toml.specs.Parse.{parse_document};
-ghost use Rattle.cached_server.specs.Config.Good.{are_good};
+ghost use Rattle.cached_config.specs.Good.{are_good};
 
-use crate::config::{ConfigError, HostedNamespace, read_config};
 use crate::script::Fault;
+use cached_config::{ConfigError, HostedNamespace, read_config};
 use std::alloc::Global;
 use std::fs;
 use std::io::ErrorKind;

@@ -1,8 +1,8 @@
 //! What is read from a configuration.
 use crate::texts::{Lines, text_of};
 use audit_model::{Config, EvictionPolicy, Weight};
-use cached_server::{ConfigError, HostedNamespace, Listed, read_config};
-use std::alloc::Global;
+use cached_config::{ConfigError, HostedNamespace, Listed, check_config, read_config};
+use std::alloc::{AllocError, Global};
 
 /// A namespace that is read: its name, its port, its configuration, and the key and the value of its one load, if it has one.
 type Space<'a> = (&'a [u8], u16, Config, Option<(&'a [u8], &'a [u8])>);
@@ -274,4 +274,60 @@ fn first_wrong(alloc: Global) -> Option<usize> {
 #[test]
 fn files_are_read(rt: HostRuntime) {
     assert_eq!(rt; first_wrong(rt.alloc()), None);
+}
+
+/// The text of a file, and its faults, a line each.
+const FAULTS: &[(&str, &str)] = &[
+    ("[[namespace]]\nname = \"a\"\nport = 1\n", ""),
+    (
+        "[[namespace]]\nname = \"main\"\ncapacty = 1000\nport = 7411\n",
+        "3: unknown key capacty\n",
+    ),
+    ("", "1: there is no [[namespace]]\n"),
+    (
+        "other = 1\n",
+        "1: unknown key other\n1: there is no [[namespace]]\n",
+    ),
+    (
+        "[[namespace]]\nname = \"A\"\nport = 0\nparts = 257\n",
+        "2: name is a text of 1 to 32 of a to z, 0 to 9, - and _\n3: port is a number from 1 to 65535\n4: parts is a number from 1 to 256\n",
+    ),
+    (
+        "[[namespace]]\nname = \"a\"\nport = 1\n\n[[namespace]]\nname = \"a\"\nport = 1\n",
+        "6: name is that of another namespace\n7: port is that of another namespace\n",
+    ),
+    (
+        "[[namespace]]\nname = \"a\"\nport = 1\npolicy = \"fifo\"\nlive_ms = 5\ndeadlines = true\n",
+        "4: policy is \"tinylfu\" or \"lru\"\n6: deadlines does not go with live_ms\n",
+    ),
+    (
+        "[[namespace]]\nname = \"a\"\nport = 1\nidle_ms = 0\ncapacity = -1\n[namespace.loads]\nk = 1\nl = \"a\\nb\"\n",
+        "5: capacity is a number from 0 on\n4: idle_ms is a number of milliseconds from 1 to 999999999999\n7: k is a text\n8: l has a line end\n",
+    ),
+];
+
+/// The faults of a text, a line each.
+fn faults_of(alloc: Global, text: &str) -> Result<String, AllocError> {
+    let mut told = String::new(alloc);
+    for fault in &check_config(alloc, text)? {
+        let line = format!(in alloc; "{}: {}\n", fault.line, fault.what)?;
+        told.push_str(line.as_str())?;
+    }
+    Ok(told)
+}
+
+/// Whether each file has its faults.
+fn all_are_told(alloc: Global) -> Result<bool, AllocError> {
+    for (text, faults) in FAULTS {
+        if faults_of(alloc, text)?.as_str() != *faults {
+            return Ok(false);
+        }
+    }
+    let broken = faults_of(alloc, "[[namespace]]\nname = \"a\n")?;
+    Ok(broken.as_str().starts_with("2: "))
+}
+
+#[test]
+fn faults_are_told_by_lines(rt: HostRuntime) {
+    assert_eq!(rt; all_are_told(rt.alloc()), Ok(true));
 }

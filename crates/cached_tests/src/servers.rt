@@ -25,6 +25,8 @@ pub struct Row<'a> {
     pub shown: &'a [&'a str],
     /// What is told behind those.
     pub told: &'a str,
+    /// What it says of notices that were lost.
+    pub alarm: &'a str,
     /// Whether the server's writer has room for just that.
     pub is_cut: bool,
     pub ended: Result<(), Fault>,
@@ -41,6 +43,7 @@ pub const NOBODY: Row<'static> = Row {
     replies: (b"", b""),
     shown: &[],
     told: "",
+    alarm: "",
     is_cut: false,
     ended: Ok(()),
 };
@@ -50,7 +53,8 @@ fn is_so(served: &Served, row: &Row<'_>, shown: &str) -> bool {
     served.ended == row.ended
         && served.replies.0.as_slice() == row.replies.0
         && served.replies.1.as_slice() == row.replies.1
-        && served.shown.as_slice() == shown.as_bytes()
+        && served.shown.0.as_slice() == shown.as_bytes()
+        && served.shown.1.as_slice() == row.alarm.as_bytes()
 }
 
 /// Whether a server on two ports comes to what its row says.
@@ -194,6 +198,7 @@ const ROWS: &[Row<'static>] = &[
         texts: (b"SET a - 1\nDEL a\nSET a - 2\nDEL a\nGET a\nQUIT\n", b""),
         replies: (b"OK\nOK\nOK\nOK\nNONE\nOK\n", b""),
         shown: &["listening m 127.0.0.1:#\n", "m NOT"],
+        alarm: "cached: notices cannot be written\n",
         is_cut: true,
         ..NOBODY
     },
@@ -235,6 +240,7 @@ where
         replies: (read.as_bytes(), b""),
         shown: &["listening m 127.0.0.1:#\n"],
         told: notes.as_str(),
+        alarm: "",
         ..NOBODY
     };
     Some(serves(rt, alloc, &row))

@@ -15,8 +15,8 @@ use std::time::{Clock, Instant};
 pub struct Served {
     /// What the clients read.
     pub replies: (Vec<u8>, Vec<u8>),
-    /// What the server wrote.
-    pub shown: Vec<u8>,
+    /// What the server wrote, and what it said of notices that were lost.
+    pub shown: (Vec<u8>, Vec<u8>),
     /// How it ended.
     pub ended: Result<(), Fault>,
 }
@@ -108,7 +108,13 @@ fn play_badly<R: Net<Listener = TcpListener, Stream = TcpStream> + Clock>(
 }
 
 /// Serves what a text configures, each namespace as often as the clients need.
-fn serve_cast<R>(rt: R, alloc: Global, config: &str, cast: Cast, sink: Sink<R>) -> Result<(), Fault>
+fn serve_cast<R>(
+    rt: R,
+    alloc: Global,
+    config: &str,
+    cast: Cast,
+    sinks: (Sink<R>, Sink<R>),
+) -> Result<(), Fault>
 where
     R: Net<Listener = TcpListener, Stream = TcpStream>
         + Clock
@@ -122,7 +128,7 @@ where
 {
     let limit = u64::from(counts_of(cast).0.max(1));
     match Instant::now(&rt) {
-        Ok(begun) => serve_text(rt, alloc, config, begun, sink, Some(limit)),
+        Ok(begun) => serve_text(rt, alloc, config, begun, sinks, Some(limit)),
         Err(_) => Err(Fault::Read),
     }
 }
@@ -149,13 +155,17 @@ where
         + 'static,
 {
     let (sink, written) = make_sink(rt, alloc, room).ok()?;
+    let (alarm, alarmed) = make_sink(rt, alloc, 1000).ok()?;
     let lent = &rt;
     let (replies, ended) = thread::join(
         lent,
         move || play_and_end(lent, alloc, cast, ports, texts),
-        move || serve_cast(rt, alloc, config, cast, sink),
+        move || serve_cast(rt, alloc, config, cast, (sink, alarm)),
     );
-    let shown = read_back(&rt, alloc, &written);
+    let shown = (
+        read_back(&rt, alloc, &written),
+        read_back(&rt, alloc, &alarmed),
+    );
     Some(Served {
         replies,
         shown,

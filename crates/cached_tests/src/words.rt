@@ -34,13 +34,17 @@ where
         + Sync
         + 'static,
 {
-    let Ok((sink, written)) = make_sink(rt, alloc, 1000) else {
+    let (Ok((sink, written)), Ok((alarm, _))) = (
+        make_sink(rt, alloc, 1000),
+        make_sink(rt, alloc, 1000),
+    ) else {
         return false;
     };
     let mut reader = Watched::new(b"SET a - 1\nDEL a\n".as_slice());
     let mut writer = Watched::new(Vec::new(alloc));
     let mut told = Watched::new(Vec::new(alloc));
-    cached(rt, alloc, words, &mut reader, &mut writer, &mut told, sink) == status
+    let shown = (sink, alarm);
+    cached(rt, alloc, words, &mut reader, &mut writer, &mut told, shown) == status
         && writer.inner().as_slice() == output
         && told.inner().as_slice() == errors
         && read_back(&rt, alloc, &written).is_empty()

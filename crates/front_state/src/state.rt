@@ -5,6 +5,7 @@ ghost use Rattle.engine_reference.specs.Calls.{cleared_by, removal_rooms};
 ghost use Rattle.engine_reference.specs.Asking.{answers_of};
 ghost use Rattle.front_reference.specs.Fronts.{CallsAll, ComesAfter};
 ghost use Rattle.front_reference.specs.Wholes.{RunsPart};
+ghost use Rattle.front_reference.specs.declared.errors.CacheError.TheVariants as errors;
 ghost use Rattle.front_parts.specs.Places.Calls.{CoalescesBy, ComputesIn, InsertsIn, IsCauseIn, LooksUpIn, TakesOutIn, hash_in, held_value_in, visible_in, ways_by};
 
 use engine_reference::{Names, Rules, Settings};
@@ -37,9 +38,12 @@ pub struct Single;
 #[derive(Clone, Copy, Debug, PartialEq, Eq, Drop)]
 pub struct Segmented;
 
+/// What names a predicate: the hyphenated lower-case text of a version 4 UUID, 36 bytes.
+pub type PredicateId = String;
+
 /// A cache of 2^bits parts that is lent by `&mut`, so that each call is alone. Each key belongs to the part that the upper bits of its hash say.
 /// Each call is told its moment and its step, neither of which falls. A clear and a predicate come at a later step than any call before, as they cover what was written at earlier steps. A call that is refused has changed nothing, its moment and step included.
-/// The form says by which `new` and `builder` it goes, and nothing else: each has the same calls, and any number of parts.
+/// The form says by which `new` and `builder` it goes, what a predicate is answered, and whether it has `get_or_insert_with` and `get_or_try_insert_with`. All else is the same, and either may have any number of parts.
 #[derive(Drop)]
 pub struct LentState<K: Eq + Hash, V, S: BuildHasher, R: Rules<K, V>, C = Single> {
     alloc: Global,
@@ -103,14 +107,14 @@ impl<K: Eq + Hash, V, S: BuildHasher, R: Rules<K, V>, C> LentState<K, V, S, R, C
     }
 
     /// A clone of the visible value of a key, of which it is a use.
-    /// A use makes its record young for eviction and puts its idle deadline off; a miss is counted for TinyLFU, too. Maintenance that is due comes between the answer and the use: at 64 calls that wait for it, or 300 ms after the last run. To look without a use there are `peek` and `contains_key`.
+    /// A use makes its record young for eviction and puts its idle deadline off; a miss is counted for TinyLFU, too. Only the clone may be refused, for want of memory. Maintenance that is due comes between the answer and the use: at 64 calls that wait for it, or 300 ms after the last run. To look without a use there are `peek` and `contains_key`.
     /// ```
     /// match cache.get(&7, at)? {
     ///     Some(value) => Ok(value),
     ///     None => read_slowly(7),
     /// }
     /// ```
-    pub fn get(&mut self, key: &K, at: At) -> Result<Option<V>, AllocError>
+    pub fn get(&mut self, key: &K, at: At) -> Result<Option<V>, CacheError>
     where
         K: Drop,
         V: Clone + Drop,
@@ -119,6 +123,7 @@ impl<K: Eq + Hash, V, S: BuildHasher, R: Rules<K, V>, C> LentState<K, V, S, R, C
         ensures found { IfOk result (λ found. found ≡ visible_in (ways_by R.Rules K.eq K.hash_input S.BuildHasher S.Hasher.Hasher) self.old at.now key.now) }
         ensures used { OnOk result (LooksUpIn (ways_by R.Rules K.eq K.hash_input S.BuildHasher S.Hasher.Hasher) key.now at self.old self.new) }
         ensures err { OnErr result (self.new ≡ self.old) }
+        ensures cause { IfErr result (λ e. e ≡ errors.OutOfMemory) }
     {
         let At { now, step } = at;
         let hash = hash_key(&self.hasher, key);

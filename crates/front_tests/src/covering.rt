@@ -76,12 +76,6 @@ const EACH_KEEPS: &[(u64, Call)] = &[
     (3, Call::NoneTold),
 ];
 
-/// The identifier of one part, drawn from bytes of 0: a UUID of version 4.
-const FIRST_ID: &[(u64, Call)] = &[(
-    0,
-    Call::CoverNamed(1, 2, 4, Ok("00000000-0000-4000-8000-000000000000")),
-)];
-
 const CASES: &[Case<'static>] = &[
     Case {
         form: COVERED,
@@ -98,10 +92,6 @@ const CASES: &[Case<'static>] = &[
     Case {
         form: COVERED_HALVES,
         calls: EACH_KEEPS,
-    },
-    Case {
-        form: COVERED,
-        calls: FIRST_ID,
     },
 ];
 

@@ -24,10 +24,10 @@ const TURNS: &[(u64, Call)] = &[
     (3, Call::Finish(0, 3, UNKNOWN)),
     (3, Call::Abandon(1, Ok(()))),
     (3, Call::Abandon(1, UNKNOWN)),
-    (4, Call::BeginCompute(7, Start::Lead(2))),
-    (4, Call::BeginCompute(7, Start::Wait(2))),
+    (4, Call::Begin(TurnKind::Compute, 7, Start::Lead(2))),
+    (4, Call::Begin(TurnKind::Compute, 7, Start::Wait(2))),
     (4, Call::Abandon(2, Ok(()))),
-    (4, Call::BeginCompute(7, Start::Lead(3))),
+    (4, Call::Begin(TurnKind::Compute, 7, Start::Lead(3))),
 ];
 
 /// Values come, are used, leave, and are counted after a run.

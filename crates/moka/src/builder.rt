@@ -9,7 +9,7 @@ use engine_reference::{
     Bundle, EvictionPolicy, ExpirationPolicy, Expiry, NoExpiry, NoPredicate, Predicate, Settings,
     WeighOne, Weigher,
 };
-use front_state::LentState;
+use front_state::{LentState, Segmented, Single};
 use policy_base::Instant;
 use std::alloc::Global;
 use std::hash::{BuildHasher, Hash};
@@ -30,12 +30,13 @@ pub struct Plan {
 }
 
 /// What a cache is to be made with. At first nothing is set: no capacity, no times, TinyLFU, one segment, each value weighs one and does not expire by itself, removals are not told, and no predicates are taken.
+/// The last parameter is the form of what it builds: `Single`, a cache made by its capacity alone, or after `segments` `Segmented`.
 #[derive(Drop)]
-pub struct CacheBuilder<X, W, P, F> {
+pub struct CacheBuilder<X, W, P, F, C = Single> {
     plan: Plan,
     expiry: X,
     weigher: W,
-    parts: PhantomData<(P, F)>,
+    parts: PhantomData<(P, F, C)>,
 }
 
 impl CacheBuilder<NoExpiry, WeighOne, NoPredicate, ()> {
@@ -76,6 +77,28 @@ impl Default for CacheBuilder<NoExpiry, WeighOne, NoPredicate, ()> {
 }
 
 impl<X, W, P, F> CacheBuilder<X, W, P, F> {
+    /// A cache of segments, each with its share of the capacity: so many, or the next power of two. From 1 to 65,536.
+    /// A segment's share is the capacity divided by their number, rounded up, so together they may hold a little more.
+    /// ```
+    /// let cache: SegmentedState<u64, u64> = CacheBuilder::new(1000).segments(4).build_state(alloc, hasher, moment)?;
+    /// ```
+    pub fn segments(self, segments: usize) -> CacheBuilder<X, W, P, F, Segmented>
+        ensures plan { result.plan ≡ record self.plan { segments = segments } }
+        ensures expiry { result.expiry ≡ self.expiry }
+        ensures weigher { result.weigher ≡ self.weigher }
+    {
+        let mut plan = self.plan;
+        plan.segments = segments;
+        CacheBuilder {
+            plan,
+            expiry: self.expiry,
+            weigher: self.weigher,
+            parts: PhantomData,
+        }
+    }
+}
+
+impl<X, W, P, F, C> CacheBuilder<X, W, P, F, C> {
     /// What the cache is called.
     /// ```
     /// let builder = CacheBuilder::new(1000).name(name);
@@ -107,18 +130,6 @@ impl<X, W, P, F> CacheBuilder<X, W, P, F> {
         ensures { result ≡ record self { plan = record self.plan { initial_capacity = number_of_entries } } }
     {
         self.plan.initial_capacity = number_of_entries;
-        self
-    }
-
-    /// Of how many segments the cache is made, each with its share of the capacity: so many, or the next power of two. From 1 to 65,536.
-    /// A segment's share is the capacity divided by their number, rounded up, so together they may hold a little more.
-    /// ```
-    /// let cache: SegmentedState<u64, u64> = CacheBuilder::new(1000).segments(4).build_state(alloc, hasher, moment)?;
-    /// ```
-    pub fn segments(mut self, segments: usize) -> Self
-        ensures { result ≡ record self { plan = record self.plan { segments = segments } } }
-    {
-        self.plan.segments = segments;
         self
     }
 
@@ -174,7 +185,7 @@ impl<X, W, P, F> CacheBuilder<X, W, P, F> {
     /// ```
     /// let builder = CacheBuilder::new(1000).expire_after(OwnTime);
     /// ```
-    pub fn expire_after<Y>(self, expiry: Y) -> CacheBuilder<Y, W, P, F>
+    pub fn expire_after<Y>(self, expiry: Y) -> CacheBuilder<Y, W, P, F, C>
     where
         X: Drop,
         ensures plan { result.plan ≡ self.plan }
@@ -194,7 +205,7 @@ impl<X, W, P, F> CacheBuilder<X, W, P, F> {
     /// ```
     /// let builder = CacheBuilder::new(1_000_000).weigher(ByLength);
     /// ```
-    pub fn weigher<U>(self, weigher: U) -> CacheBuilder<X, U, P, F>
+    pub fn weigher<U>(self, weigher: U) -> CacheBuilder<X, U, P, F, C>
     where
         W: Drop,
         ensures plan { result.plan ≡ self.plan }
@@ -213,7 +224,7 @@ impl<X, W, P, F> CacheBuilder<X, W, P, F> {
     /// ```
     /// let builder = CacheBuilder::new(1000).support_invalidation_closures::<OlderThan>();
     /// ```
-    pub fn support_invalidation_closures<Q>(self) -> CacheBuilder<X, W, Q, F>
+    pub fn support_invalidation_closures<Q>(self) -> CacheBuilder<X, W, Q, F, C>
         ensures plan { result.plan ≡ record self.plan { takes_predicates = true } }
         ensures expiry { result.expiry ≡ self.expiry }
         ensures weigher { result.weigher ≡ self.weigher }
@@ -232,7 +243,7 @@ impl<X, W, P, F> CacheBuilder<X, W, P, F> {
     /// ```
     /// let builder = CacheBuilder::new(1000).faults::<ReadError>();
     /// ```
-    pub fn faults<G>(self) -> CacheBuilder<X, W, P, G>
+    pub fn faults<G>(self) -> CacheBuilder<X, W, P, G, C>
         ensures plan { result.plan ≡ self.plan }
         ensures expiry { result.expiry ≡ self.expiry }
         ensures weigher { result.weigher ≡ self.weigher }
@@ -252,7 +263,7 @@ impl<X, W, P, F> CacheBuilder<X, W, P, F> {
     ///     .time_to_live(Duration::from_secs(60))
     ///     .build_state(alloc, StdHasher::new(), moment)?;
     /// ```
-    pub fn build_state<K: Eq + Hash + Drop, V: Drop, S: BuildHasher + Drop, C>(
+    pub fn build_state<K: Eq + Hash + Drop, V: Drop, S: BuildHasher + Drop>(
         self,
         alloc: Global,
         hasher: S,

@@ -7,16 +7,16 @@ use thiserror::Error;
 #[derive(Clone, Copy, Debug, PartialEq, Eq, Drop, Error)]
 pub enum BuildError {
     /// The time to live is longer than 1000 years of 365 days.
-    #[error("the time to live is longer than 1000 years")]
+    #[error("time_to_live is longer than 1000 years")]
     TimeToLiveTooLong,
     /// The time to idle is longer than 1000 years of 365 days.
-    #[error("the time to idle is longer than 1000 years")]
+    #[error("time_to_idle is longer than 1000 years")]
     TimeToIdleTooLong,
     /// A cache has at least one segment.
     #[error("no segments")]
     NoSegments,
     /// A cache has at most 65,536 segments.
-    #[error("more than 65536 segments")]
+    #[error("too many segments")]
     TooManySegments,
     /// There was no memory.
     #[error("out of memory")]

@@ -2,11 +2,14 @@
 #![tactic(auto)]
 
 mod builder;
+mod calling;
 mod errors;
+mod ready;
 mod settling;
 mod states;
 
 pub use builder::CacheBuilder;
+pub use calling::next_call;
 pub use errors::BuildError;
 pub use front_parts::{
     Access, CompResult, Entry, EntrySelector, Iter, OwnedKeyEntrySelector, RefKeyEntrySelector,
@@ -16,12 +19,13 @@ pub use front_reference::{
     At, CacheError, ClonedKey, Computed, IntoKey, LentKey, Made, Op, OpenTurn, OwnedKey, Shared,
     TurnKind, TurnStart,
 };
-pub use front_state::{LentState, Segmented, Single};
+pub use front_state::{LentState, PredicateId, Segmented, Single};
 pub use moka_engine::{
     Bundle, EvictionPolicy, Expiration, ExpirationPolicy, Expiry, Instant, Names, NoExpiry,
     NoPredicate, Notice, Policy, Predicate, PredicateError, RemovalCause, Rules, Settings,
     WeighOne, Weigher,
 };
+pub use ready::{ByCreation, KeyPrefix, Lifetime, WeighBytes};
 pub use states::{
     CacheState, NewSegmentedState, NewState, PlainBuilder, PlainRules, SegmentedState, StdHasher,
 };

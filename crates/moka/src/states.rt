@@ -17,8 +17,8 @@ pub type StdHasher = BuildHasherDefault<FoldHasher>;
 /// The rules of a cache of which none was set: each value weighs one and does not expire by itself; no predicates, and faults that say nothing.
 pub type PlainRules = Bundle<NoExpiry, WeighOne, NoPredicate, ()>;
 
-/// A builder of a cache with such rules.
-pub type PlainBuilder = CacheBuilder<NoExpiry, WeighOne, NoPredicate, ()>;
+/// A builder of a cache with such rules, of either form.
+pub type PlainBuilder<C = Single> = CacheBuilder<NoExpiry, WeighOne, NoPredicate, (), C>;
 
 /// A cache that is lent, and made by its capacity alone.
 pub type CacheState<K, V, S = StdHasher, R = PlainRules> = LentState<K, V, S, R, Single>;
@@ -70,7 +70,7 @@ pub trait NewSegmentedState: Sized {
     /// ```
     /// let builder = SegmentedState::<u64, u64>::builder(4).max_capacity(1000);
     /// ```
-    fn builder(segments: usize) -> PlainBuilder
+    fn builder(segments: usize) -> PlainBuilder<Segmented>
         ensures { result.plan ≡ record blank { segments = segments } };
 }
 
@@ -105,7 +105,7 @@ impl<K: Eq + Hash + Drop, V: Drop> NewSegmentedState
             .build_state(alloc, BuildHasherDefault::new(), moment)
     }
 
-    fn builder(segments: usize) -> PlainBuilder {
+    fn builder(segments: usize) -> PlainBuilder<Segmented> {
         CacheBuilder::default().segments(segments)
     }
 }

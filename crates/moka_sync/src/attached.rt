@@ -2,26 +2,28 @@
 ghost use Rattle.std.specs.Prelude.{◌≡◌, Ok, IfOk, IfErr, OnErr};
 ghost use Rattle.front_parts.specs.Access.Answering.{Suits};
 ghost use Rattle.front_reference.specs.declared.data.Made.{Made};
+ghost use Rattle.front_reference.specs.declared.errors.CacheError.TheVariants as errors;
 ghost use Rattle.moka_sync.specs.Accessing.{GivesFresh, IsMakingRefusal};
 ghost use Rattle.sync_desk.specs.Slots.Refusals.{IsEndRefusal};
 ghost use Rattle.moka_sync.specs.Turning.{DoesAsDecided};
 ghost use Rattle.std.specs.Fn.{FnOnceReturnsAt};
 
-use crate::cache::Cache;
+use crate::cache::SharedCache;
 use crate::iterator::Iter;
 use engine_reference::Rules;
 use front_parts::{Access, OwnedKeyEntrySelector, RefKeyEntrySelector};
 use front_reference::{CacheError, Computed, Made, Op, Shared, TurnKind};
+use front_state::Single;
 use std::alloc::AllocError;
 use std::fmt::{self, Debug, Formatter, Write};
 use std::hash::{BuildHasher, Hash};
 use std::sync::Wait;
 use sync_desk::{Env, SharedName};
 
-/// A handle of a cache that threads share, with what lets its calls wait for the lock. Selectors are made of it, it is gone over, and printed.
+/// A handle of a cache that threads share, with what lets its calls wait for the lock, for what takes no `rt` itself: selectors (`entry`), loops over its entries, and `{:?}`, which prints a map of its entries and fails where a clone finds no memory.
 #[derive(Drop)]
-pub struct Attached<K: Eq + Hash, V: Clone, S: BuildHasher, R: Rules<K, V>, E, H> {
-    cache: Cache<K, V, S, R, E>,
+pub struct Attached<K: Eq + Hash, V: Clone, S: BuildHasher, R: Rules<K, V>, E, H, C = Single> {
+    cache: SharedCache<K, V, S, R, E, C>,
     rt: H,
     ghost exact: { (x y : V) → V.is_clone x y → y ≡ x },
 }
@@ -32,9 +34,10 @@ impl<
     S: BuildHasher + Drop,
     R: Rules<K, V> + Drop,
     E: Env + Drop,
-> Cache<K, V, S, R, E> {
-    /// This handle of the cache, with what lets its calls wait.
-    pub fn attach<H: Wait>(self, rt: H) -> Attached<K, V, S, R, E, H>
+    C: Drop,
+> SharedCache<K, V, S, R, E, C> {
+    /// This handle of the cache, with what lets its calls wait. `cache.clone()?.attach(rt)` keeps the other.
+    pub fn attach<H: Wait>(self, rt: H) -> Attached<K, V, S, R, E, H, C>
         requires exact { (x y : V) → V.is_clone x y → y ≡ x }
     {
         Attached { cache: self, rt }
@@ -48,8 +51,10 @@ impl<
     R: Rules<K, V> + Drop,
     E: Env + Drop,
     H: Wait,
-> Attached<K, V, S, R, E, H> {
-    /// A selector of the entry of a key. Of its calls one can be made.
+    C: Drop,
+> Attached<K, V, S, R, E, H, C> {
+    /// A selector of the entry of a key, of whose calls one can be made: `or_insert`, `or_insert_with`, `and_compute_with` and so on. What each answers is refused as the cache's own call of its kind is.
+    /// `or_insert_with_if` asks `replace_if` once, without the lock, of the value that is visible as it comes; a value that is written after that is not replaced.
     pub fn entry<'b>(&'b mut self, key: K) -> OwnedKeyEntrySelector<'b, K, Self, ()>
         ensures key { result.key ≡ key }
     {
@@ -57,22 +62,23 @@ impl<
         OwnedKeyEntrySelector::new(self, key, (), alloc)
     }
 
-    /// The same by a key that is lent, which is cloned.
+    /// The same by a key that is lent, which is cloned at once: refused where that finds no memory.
     pub fn entry_by_ref<'b>(
         &'b mut self,
         key: &K,
-    ) -> Result<RefKeyEntrySelector<'b, K, Self, ()>, AllocError>
+    ) -> Result<RefKeyEntrySelector<'b, K, Self, ()>, CacheError>
     where
         K: Clone,
         requires exact_key { (x y : K) → K.is_clone x y → y ≡ x }
         ensures key { IfOk result (λ s. s.key ≡ key.now) }
+        ensures cause { IfErr result (λ e. e ≡ errors.OutOfMemory) }
     {
         let alloc = self.cache.alloc;
         let own = key.clone()?;
         Ok(RefKeyEntrySelector::new(self, own, (), alloc))
     }
 
-    /// A call that makes a value, of a kind, for which others are waited, or of none.
+    /// A call that makes a value, of a kind, for which others are waited, or of none. One of no kind runs both closures under the lock.
     fn coalesce_at<
         P: FnOnce(&V) -> bool + Drop,
         M: FnOnce() -> Result<Made<V, Shared<R::Fault>>, AllocError> + Drop,
@@ -118,8 +124,8 @@ impl<
         self.cache.inner.desk.compute(&self.rt, &key, decide)
     }
 
-    /// An iterator over the visible keys with clones of their values. It holds the lock for the keys of one segment, and then for an item at a time. To look is no use of a value.
-    pub fn iter(&self) -> Iter<'_, K, V, S, R, E, H> {
+    /// An iterator over the visible keys, each once, in any order, with clones of their values. It holds the lock while it clones the keys of one segment, and then for an item at a time, so it gives no value that was removed before its turn. No item is a use.
+    pub fn iter(&self) -> Iter<'_, K, V, S, R, E, H, C> {
         Iter::new(&self.cache, &self.rt)
     }
 }
@@ -131,7 +137,8 @@ impl<
     R: Rules<K, V> + Drop,
     E: Env + Drop,
     H: Wait,
-> Debug for Attached<K, V, S, R, E, H> {
+    C: Drop,
+> Debug for Attached<K, V, S, R, E, H, C> {
     fn fmt<W: Write>(&self, f: &mut Formatter<W>) -> fmt::Result {
         let mut out = f.debug_map();
         for item in self.iter() {
@@ -154,12 +161,13 @@ impl<
     R: Rules<K, V> + Drop,
     E: Env + Drop,
     H: Wait,
-> IntoIterator for &'b Attached<K, V, S, R, E, H> {
+    C: Drop,
+> IntoIterator for &'b Attached<K, V, S, R, E, H, C> {
     type Item = Result<(Shared<K>, V), CacheError>;
 
-    type IntoIter = Iter<'b, K, V, S, R, E, H>;
+    type IntoIter = Iter<'b, K, V, S, R, E, H, C>;
 
-    fn into_iter(self) -> Iter<'b, K, V, S, R, E, H> {
+    fn into_iter(self) -> Iter<'b, K, V, S, R, E, H, C> {
         self.iter()
     }
 }
@@ -171,7 +179,8 @@ impl<
     R: Rules<K, V> + Drop,
     E: Env + Drop,
     H: Wait,
-> Access<K, V> for Attached<K, V, S, R, E, H> {
+    C: Drop,
+> Access<K, V> for Attached<K, V, S, R, E, H, C> {
     ghost use Rattle.moka_sync.specs.Accessing.{IsMakingRefusal};
     ghost use Rattle.sync_desk.specs.Slots.Refusals.{IsEndRefusal};
 

@@ -6,7 +6,7 @@ ghost use Rattle.sync_desk.specs.Slots.Refusals.{IsShortage};
 use crate::shared::SharedDesk;
 use engine_reference::{Policy, Rules};
 use front_reference::CacheError;
-use front_state::LentState;
+use front_state::{LentState, Segmented, Single};
 use std::alloc::{AllocError, Global};
 use std::hash::{BuildHasher, Hash};
 use std::sync::{Arc, Wait};
@@ -14,26 +14,51 @@ use sync_desk::Env;
 
 /// What is under the lock, and what of a cache never changes.
 #[derive(Drop)]
-pub(crate) struct Inner<K: Eq + Hash, V, S: BuildHasher, R: Rules<K, V>, E> {
-    pub(crate) desk: SharedDesk<K, V, S, R, E>,
+pub(crate) struct Inner<K: Eq + Hash, V, S: BuildHasher, R: Rules<K, V>, E, C> {
+    pub(crate) desk: SharedDesk<K, V, S, R, E, C>,
     name: Option<String>,
     policy: Policy,
 }
 
-/// A cache that threads share; a clone is another handle of the same one. Whenever its lock is taken, what it guards keeps what a cache that is lent keeps between calls.
+/// A cache of one segment that threads share: see `SharedCache`, which has its calls.
+/// ```
+/// let cache: PlainCache<u64, u64, MachineEnv<C, G>> = Cache::new(alloc, 10_000, env)?;
+/// cache.insert(&rt, 7, 49)?;
+/// let square = cache.get(&rt, &7)?;
+/// ```
+pub type Cache<K, V, S, R, E> = SharedCache<K, V, S, R, E, Single>;
+
+/// A cache of several segments that threads share, each with its share of the capacity: see `SharedCache`, which has its calls.
+/// It is made with the number of its segments; a predicate answers `()` in place of an identifier; and it has `get_or_insert_with` and `get_or_try_insert_with` besides.
+/// ```
+/// let cache: SegmentedCache<u64, u64, StdHasher, PlainRules, MachineEnv<C, G>> =
+///     SegmentedCache::new(alloc, 10_000, 4, env)?;
+/// ```
+pub type SegmentedCache<K, V, S, R, E> = SharedCache<K, V, S, R, E, Segmented>;
+
+/// A cache that threads share, in one of two forms: `Cache` and `SegmentedCache`. A clone is another handle of the same cache.
 ///
-/// Each call may wait for the lock, and is one hold of it; a call that makes a value or computes is a few, and its closure runs between them. Each draws its moment, the greater of the environment's and the last call's, and the next step.
+/// Each call takes the handle `rt` by which it may wait for the lock, and is one hold of it; a call that makes a value or computes is a few, and its closures run between them, so they may use the same cache. Each call comes at a moment, the later of the environment's and the last call's, and at the next step. Whenever the lock is taken, what it guards keeps what a cache that is lent keeps between calls.
 /// A call of one hold that is refused has changed nothing.
+///
+/// **Clones, comparisons and hashes of keys and values run under the lock, and so do the rules (`Expiry`, `Weigher`, `Predicate`) and the `Env`: none of them must call the cache, or it waits for itself for ever.**
 #[derive(Drop)]
-pub struct Cache<K: Eq + Hash, V, S: BuildHasher, R: Rules<K, V>, E> {
-    pub(crate) inner: Arc<Inner<K, V, S, R, E>>,
+pub struct SharedCache<K: Eq + Hash, V, S: BuildHasher, R: Rules<K, V>, E, C = Single> {
+    pub(crate) inner: Arc<Inner<K, V, S, R, E, C>>,
     pub(crate) alloc: Global,
 }
 
-impl<K: Eq + Hash + Drop, V: Drop, S: BuildHasher + Drop, R: Rules<K, V> + Drop, E: Drop> Clone
-    for Cache<K, V, S, R, E> {
+/// Another handle of the same cache.
+impl<
+    K: Eq + Hash + Drop,
+    V: Drop,
+    S: BuildHasher + Drop,
+    R: Rules<K, V> + Drop,
+    E: Drop,
+    C: Drop,
+> Clone for SharedCache<K, V, S, R, E, C> {
     fn clone(&self) -> Result<Self, AllocError> {
-        Ok(Cache {
+        Ok(SharedCache {
             inner: Arc::try_clone(&self.inner)?,
             alloc: self.alloc,
         })
@@ -54,11 +79,12 @@ impl<
     S: BuildHasher + Drop,
     R: Rules<K, V> + Drop,
     E: Env + Drop,
-> Cache<K, V, S, R, E> {
+    C: Drop,
+> SharedCache<K, V, S, R, E, C> {
     /// A shared form of a cache that was lent.
     pub(crate) fn over(
         alloc: Global,
-        state: LentState<K, V, S, R>,
+        state: LentState<K, V, S, R, C>,
         env: E,
     ) -> Result<Self, AllocError> {
         let name = copy_name(alloc, state.name())?;
@@ -71,7 +97,7 @@ impl<
                 policy,
             },
         )?;
-        Ok(Cache { inner, alloc })
+        Ok(SharedCache { inner, alloc })
     }
 
     /// What the cache is called, if it was given a name.
@@ -82,24 +108,25 @@ impl<
         }
     }
 
-    /// The wanted capacity, the number of segments, and the times that the cache was made with, up to the last moment that there is.
+    /// What the cache was made with: the wanted capacity of all segments together, the number of segments (a power of two), and the times to live and to idle, each at most 2^64 - 2 nanoseconds.
     pub fn policy(&self) -> Policy {
         self.inner.policy
     }
 
-    /// How many entries there are, as of the last run of each segment, up to 2^64 - 1.
+    /// How many entries there are, as of each segment's last run of maintenance, up to 2^64 - 1. After `run_pending_tasks` it is exact.
     pub fn entry_count(&self, rt: &impl Wait) -> u64 {
         let guard = self.inner.desk.lock(rt);
         guard.entry_count()
     }
 
-    /// What they weigh, as of the last run of each segment, up to 2^64 - 1.
+    /// What the entries weigh in all, as of each segment's last run of maintenance, up to 2^64 - 1. After `run_pending_tasks` it is exact.
     pub fn weighted_size(&self, rt: &impl Wait) -> u64 {
         let guard = self.inner.desk.lock(rt);
         guard.weighted_size()
     }
 
-    /// A clone of the visible value of a key, of which it is a use.
+    /// A clone of the value of a key, or `None` where none is visible. It is a use of the value: it puts its idle time off, and counts for eviction.
+    /// Refused where the clone finds no memory, or where 2^64 - 1 calls were made.
     pub fn get(&self, rt: &impl Wait, key: &K) -> Result<Option<V>, CacheError>
         requires exact { (x y : V) → V.is_clone x y → y ≡ x }
         ensures cause { IfErr result IsShortage }
@@ -109,14 +136,15 @@ impl<
         desk.get(key)
     }
 
-    /// Whether a key has a visible value. It is no use of it.
+    /// Whether a key has a visible value: one that is neither expired nor invalidated. It is no use of it, and is never refused.
     pub fn contains_key(&self, rt: &impl Wait, key: &K) -> bool {
         let mut guard = self.inner.desk.lock(rt);
         let desk = &mut *guard;
         desk.contains_key(key)
     }
 
-    /// Inserts a value. A cache of capacity 0 takes none.
+    /// Inserts a value, in the place of the one that the key may have. It is visible at once, also above the capacity; maintenance decides what stays. A cache of capacity 0 takes none, and answers `Ok`.
+    /// Refused where there is no memory for it, or where 2^64 - 1 calls were made.
     pub fn insert(&self, rt: &impl Wait, key: K, value: V) -> Result<(), CacheError>
         ensures cause { IfErr result IsShortage }
     {
@@ -125,7 +153,7 @@ impl<
         desk.insert(key, value)
     }
 
-    /// Removes a key, whether its deadline has come or not, and answers its value.
+    /// Removes a key, and answers a clone of its value, also of one that has expired or was invalidated and is still held; `None` where there is none.
     pub fn remove(&self, rt: &impl Wait, key: &K) -> Result<Option<V>, CacheError>
         requires exact { (x y : V) → V.is_clone x y → y ≡ x }
         ensures cause { IfErr result IsShortage }
@@ -135,7 +163,7 @@ impl<
         desk.remove(key)
     }
 
-    /// Removes a key, whether its deadline has come or not.
+    /// Removes a key, as `remove` does, and answers nothing of its value.
     pub fn invalidate(&self, rt: &impl Wait, key: &K) -> Result<(), CacheError>
         requires exact { (x y : V) → V.is_clone x y → y ≡ x }
         ensures cause { IfErr result IsShortage }
@@ -145,7 +173,7 @@ impl<
         desk.invalidate(key)
     }
 
-    /// Covers every value that was written before.
+    /// Invalidates every value that was written before. They are invisible at once; maintenance removes them later. It takes no memory.
     pub fn invalidate_all(&self, rt: &impl Wait) -> Result<(), CacheError>
         ensures cause { IfErr result (λ e. e ≡ errors.UsedUp) }
     {
@@ -154,7 +182,7 @@ impl<
         desk.invalidate_all()
     }
 
-    /// Runs maintenance to its end, after which the counts are exact.
+    /// Runs the maintenance of every segment to its end: it removes what has expired or was invalidated, and evicts what is above the capacity. After it the counts are exact. Calls do so by themselves where it is due: at 64 reads or writes of a segment, or 300 milliseconds after its last run.
     pub fn run_pending_tasks(&self, rt: &impl Wait) -> Result<(), CacheError>
         ensures cause { IfErr result (λ e. e ≡ errors.UsedUp) }
     {

@@ -21,7 +21,8 @@ impl<
     S: BuildHasher + Drop,
     R: Rules<K, V> + Drop,
     E: Env + Drop,
-> Lead<'a, K, V, S, R, E> {
+    C: Drop,
+> Lead<'a, K, V, S, R, E, C> {
     /// Ends a compute turn by putting a value, or gives it up where that is refused.
     fn put(self, rt: &impl Wait, value: V) -> Result<(), CacheError>
         ensures { IfErr result IsEndRefusal }
@@ -138,7 +139,8 @@ impl<
     S: BuildHasher + Drop,
     R: Rules<K, V> + Drop,
     E: Env + Drop,
-> SharedDesk<K, V, S, R, E> {
+    C: Drop,
+> SharedDesk<K, V, S, R, E, C> {
     /// Leads the compute turn of a key, once no other does; with the visible value, of which it is a use.
     fn lead_compute<H: Wait>(&self, rt: &H, key: &Shared<K>) -> Result<(u64, Option<V>), CacheError>
         requires exact { (x y : V) → V.is_clone x y → y ≡ x }

@@ -4,9 +4,10 @@ ghost use Rattle.std.specs.Iterator.{at_most};
 ghost use Rattle.front_reference.specs.declared.errors.CacheError.TheVariants as errors;
 ghost use Rattle.std.specs.Sync.Forever.{forever_left};
 
-use crate::cache::Cache;
+use crate::cache::SharedCache;
 use engine_reference::Rules;
 use front_reference::{CacheError, Shared};
+use front_state::Single;
 use std::hash::{BuildHasher, Hash};
 use std::sync::{Forever, Wait};
 use sync_desk::Env;
@@ -14,8 +15,17 @@ use sync_desk::Env;
 /// The visible keys of a cache that threads share, each once, with clones of their values. What is removed before its turn is not given.
 /// Each item is a pair of a key and a value, or a refusal for want of memory, after which the next call tries the same place again.
 #[derive(Drop)]
-pub struct Iter<'a, K: Eq + Hash, V: Clone, S: BuildHasher, R: Rules<K, V>, E, H: Wait> {
-    cache: &'a Cache<K, V, S, R, E>,
+pub struct Iter<
+    'a,
+    K: Eq + Hash,
+    V: Clone,
+    S: BuildHasher,
+    R: Rules<K, V>,
+    E,
+    H: Wait,
+    C = Single,
+> {
+    cache: &'a SharedCache<K, V, S, R, E, C>,
     rt: &'a H,
     // How many calls there may still be.
     turns: Forever<'a, H>,
@@ -31,7 +41,8 @@ impl<
     S: BuildHasher + Drop,
     R: Rules<K, V> + Drop,
     E: Env + Drop,
-> Cache<K, V, S, R, E> {
+    C: Drop,
+> SharedCache<K, V, S, R, E, C> {
     /// The keys of a segment.
     fn keys_of<H: Wait>(&self, rt: &H, segment: usize) -> Result<Vec<Shared<K>>, CacheError>
         requires exact { (x y : V) → V.is_clone x y → y ≡ x }
@@ -51,7 +62,7 @@ impl<
     {
         let mut guard = self.inner.desk.lock(rt);
         let desk = &mut *guard;
-        desk.scan(key)
+        desk.scan(&**key)
     }
 
     /// The value of the last key, which is then taken away.
@@ -126,9 +137,10 @@ impl<
     R: Rules<K, V> + Drop,
     E: Env + Drop,
     H: Wait,
-> Iter<'a, K, V, S, R, E, H> {
+    C: Drop,
+> Iter<'a, K, V, S, R, E, H, C> {
     /// An iterator that gave nothing. It takes no memory, its items do.
-    pub(crate) fn new(cache: &'a Cache<K, V, S, R, E>, rt: &'a H) -> Self
+    pub(crate) fn new(cache: &'a SharedCache<K, V, S, R, E, C>, rt: &'a H) -> Self
         requires exact { (x y : V) → V.is_clone x y → y ≡ x }
     {
         Iter {
@@ -149,7 +161,8 @@ impl<
     R: Rules<K, V> + Drop,
     E: Env + Drop,
     H: Wait,
-> Iterator for Iter<'a, K, V, S, R, E, H> {
+    C: Drop,
+> Iterator for Iter<'a, K, V, S, R, E, H, C> {
     type Item = Result<(Shared<K>, V), CacheError>;
 
     ghost remaining = { λ it. at_most (forever_left it.turns) };

@@ -8,17 +8,22 @@ mod coalescing;
 mod computing;
 mod iterator;
 mod making;
+mod refusable;
 mod shared;
 mod turns;
 mod wholes;
 
 pub use attached::Attached;
-pub use building::{Build, PlainRules, StdHasher};
-pub use cache::Cache;
+pub use building::{Build, PlainCache};
+pub use cache::{Cache, SegmentedCache, SharedCache};
 pub use iterator::Iter;
+pub use moka::{
+    Access, BuildError, Bundle, ByCreation, CacheBuilder, CacheError, CompResult, Computed, Entry,
+    EntrySelector, EvictionPolicy, Expiration, ExpirationPolicy, Expiry, Instant, KeyPrefix,
+    Lifetime, Made, Names, NoExpiry, NoPredicate, Notice, Op, OwnedKeyEntrySelector, PlainBuilder,
+    PlainRules, Policy, Predicate, PredicateError, PredicateId, RefKeyEntrySelector, RemovalCause,
+    Rules, Segmented, Shared, Single, StdHasher, TurnKind, WeighBytes, WeighOne, Weigher,
+};
 pub use shared::SharedDesk;
 pub use sync_desk::{Dial, DialEnv, Ending as WaiterValue, Env, MachineEnv};
 pub use wholes::ConcurrentCacheExt;
-
-/// A cache that threads share, of several segments. It is the same type: how many segments there are is said where it is built.
-pub type SegmentedCache<K, V, S, R, E> = Cache<K, V, S, R, E>;

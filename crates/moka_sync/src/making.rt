@@ -5,7 +5,7 @@ ghost use Rattle.sync_desk.specs.Slots.Endings.{suits};
 ghost use Rattle.sync_desk.specs.Slots.Refusals.{IsTurnRefusal};
 
 use crate::shared::SharedDesk;
-use crate::turns::BEGINNINGS;
+use crate::turns::Passing;
 use engine_reference::Rules;
 use front_parts::{option_made, result_made, value_made};
 use front_reference::{CacheError, Made, Shared, TurnKind};
@@ -20,15 +20,15 @@ impl<
     S: BuildHasher + Drop,
     R: Rules<K, V> + Drop,
     E: Env + Drop,
-> SharedDesk<K, V, S, R, E> {
+    C: Drop,
+> SharedDesk<K, V, S, R, E, C> {
     /// The visible value that is not passed over, or the one that is made.
-    pub fn make_value<H: Wait, A: Asked<K>, P: Fn(&V) -> bool + Drop, M: FnOnce() -> V + Drop>(
-        &self,
-        rt: &H,
-        asked: A,
-        replace_if: P,
-        make: M,
-    ) -> Result<V, CacheError>
+    pub(crate) fn make_value<
+        H: Wait,
+        A: Asked<K>,
+        P: Fn(&V) -> bool + Drop,
+        M: FnOnce() -> V + Drop,
+    >(&self, rt: &H, asked: A, passing: Passing, replace_if: P, make: M) -> Result<V, CacheError>
         requires becomes { (a : A) → A.can_become a }
         requires exact { (x y : V) → V.is_clone x y → y ≡ x }
         requires callable { P.IsAlwaysCallable replace_if × M.IsAlwaysCallable make }
@@ -38,12 +38,12 @@ impl<
             rt,
             TurnKind::With,
             asked,
+            passing,
             replace_if,
             || -> Result<Made<V, Shared<R::Fault>>, AllocError>
                 requires { M.IsAlwaysCallable make }
                 ensures { IfOk result (λ made. suits turns.With made ≡ true) }
             { Ok(Made::Value(make())) },
-            BEGINNINGS,
         )?;
         Ok(value_made(made))
     }
@@ -64,6 +64,7 @@ impl<
             rt,
             TurnKind::Optionally,
             asked,
+            Passing::Never,
             |_: &V| -> bool { false },
             || -> Result<Made<V, Shared<R::Fault>>, AllocError>
                 requires { M.IsAlwaysCallable make }
@@ -74,7 +75,6 @@ impl<
                     None => Ok(Made::Nothing),
                 }
             },
-            BEGINNINGS,
         )?;
         Ok(option_made(made))
     }
@@ -96,6 +96,7 @@ impl<
             rt,
             TurnKind::Try,
             asked,
+            Passing::Never,
             |_: &V| -> bool { false },
             || -> Result<Made<V, Shared<R::Fault>>, AllocError>
                 requires { M.IsAlwaysCallable make }
@@ -106,7 +107,6 @@ impl<
                     Err(fault) => Ok(Made::Fault(Shared::new(alloc, fault)?)),
                 }
             },
-            BEGINNINGS,
         )?;
         Ok(result_made(made))
     }

@@ -1,7 +1,7 @@
 //! The lock.
 
 use engine_reference::Rules;
-use front_state::LentState;
+use front_state::{LentState, Single};
 use std::alloc::Global;
 use std::hash::{BuildHasher, Hash};
 use std::sync::{Condvar, Mutex, MutexGuard, Wait};
@@ -9,9 +9,9 @@ use sync_desk::{Desk, Env};
 
 /// What threads share of a cache: a desk under one lock, and what tells those that wait for a turn that one ended. Whenever the lock is taken, what it guards keeps what a cache that is lent keeps between calls.
 #[derive(Drop)]
-pub struct SharedDesk<K: Eq + Hash, V, S: BuildHasher, R: Rules<K, V>, E> {
+pub struct SharedDesk<K: Eq + Hash, V, S: BuildHasher, R: Rules<K, V>, E, C = Single> {
     pub(crate) alloc: Global,
-    desk: Mutex<Desk<K, V, S, R, E>>,
+    desk: Mutex<Desk<K, V, S, R, E, C>>,
     pub(crate) changed: Condvar,
 }
 
@@ -21,9 +21,10 @@ impl<
     S: BuildHasher + Drop,
     R: Rules<K, V> + Drop,
     E: Env + Drop,
-> SharedDesk<K, V, S, R, E> {
+    C: Drop,
+> SharedDesk<K, V, S, R, E, C> {
     /// A cache that was lent, of whose turns none is under way, with what its moments come from.
-    pub fn new(alloc: Global, state: LentState<K, V, S, R>, env: E) -> Self {
+    pub fn new(alloc: Global, state: LentState<K, V, S, R, C>, env: E) -> Self {
         SharedDesk {
             alloc,
             desk: Mutex::new(Desk::new(alloc, state, env)),
@@ -32,7 +33,7 @@ impl<
     }
 
     /// Takes the lock, which is let go where the guard is. May wait for it.
-    pub fn lock<H: Wait>(&self, rt: &H) -> MutexGuard<'_, Desk<K, V, S, R, E>> {
+    pub fn lock<H: Wait>(&self, rt: &H) -> MutexGuard<'_, Desk<K, V, S, R, E, C>> {
         self.desk.lock(rt)
     }
 }

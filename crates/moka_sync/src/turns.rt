@@ -18,10 +18,31 @@ use sync_desk::{Asked, Desk, Ending, Env, Start, copy_made};
 pub(crate) const BEGINNINGS: u32 = 200;
 
 /// A turn that the caller leads. It can't be dropped, so each path ends it or gives it up.
-pub(crate) struct Lead<'a, K: Eq + Hash, V, S: BuildHasher, R: Rules<K, V>, E> {
-    pub(crate) shared: &'a SharedDesk<K, V, S, R, E>,
+pub(crate) struct Lead<'a, K: Eq + Hash, V, S: BuildHasher, R: Rules<K, V>, E, C> {
+    pub(crate) shared: &'a SharedDesk<K, V, S, R, E, C>,
     pub(crate) kind: TurnKind,
     pub(crate) number: u64,
+}
+
+/// Whether a visible value is passed over, as far as that is known.
+#[derive(Clone, Copy)]
+pub(crate) enum Passing {
+    /// None is.
+    Never,
+    /// `replace_if` is to say it.
+    Unasked,
+    /// It said so of the value that was visible when the last write of its key was at this step.
+    Said(u64, bool),
+}
+
+impl Passing {
+    /// What was said of the visible value, where it was last written at this step.
+    fn said(&self, written: u64) -> Option<bool> {
+        match self {
+            Passing::Said(step, is_passed_over) if *step == written => Some(*is_passed_over),
+            _ => None,
+        }
+    }
 }
 
 /// What a call that makes a value comes to.
@@ -41,9 +62,10 @@ impl<
     S: BuildHasher + Drop,
     R: Rules<K, V> + Drop,
     E: Env + Drop,
-> Lead<'a, K, V, S, R, E> {
+    C: Drop,
+> Lead<'a, K, V, S, R, E, C> {
     /// A turn that began.
-    pub(crate) fn new(shared: &'a SharedDesk<K, V, S, R, E>, kind: TurnKind, number: u64) -> Self
+    pub(crate) fn new(shared: &'a SharedDesk<K, V, S, R, E, C>, kind: TurnKind, number: u64) -> Self
         ensures { result.kind ≡ kind }
     {
         Lead {
@@ -136,10 +158,11 @@ fn make_fresh<
     S: BuildHasher + Drop,
     R: Rules<K, V> + Drop,
     E: Env + Drop,
+    C: Drop,
     H: Wait,
     M: FnOnce() -> Result<Made<V, Shared<R::Fault>>, AllocError> + Drop,
 >(
-    lead: Lead<'_, K, V, S, R, E>,
+    lead: Lead<'_, K, V, S, R, E, C>,
     rt: &H,
     make: M,
 ) -> Result<(Made<V, Shared<R::Fault>>, bool), CacheError>
@@ -160,12 +183,13 @@ impl<
     S: BuildHasher + Drop,
     R: Rules<K, V> + Drop,
     E: Env + Drop,
-> SharedDesk<K, V, S, R, E> {
+    C: Drop,
+> SharedDesk<K, V, S, R, E, C> {
     /// Waits for a turn to end: what it ended with, or nothing where it was given up. The lock is let go while it waits.
     pub(crate) fn wait_for<H: Wait>(
         &self,
         rt: &H,
-        guard: MutexGuard<'_, Desk<K, V, S, R, E>>,
+        guard: MutexGuard<'_, Desk<K, V, S, R, E, C>>,
         kind: TurnKind,
         number: u64,
     ) -> Result<Option<Made<V, Shared<R::Fault>>>, CacheError>
@@ -184,23 +208,23 @@ impl<
         unreachable!()
     }
 
-    /// Begins a call that makes a value, and waits where another leads its turn. All but the waiting is one hold of the lock.
-    fn take_turn<H: Wait, A: Asked<K>, P: FnOnce(&V) -> bool + Drop>(
+    /// Begins a call that makes a value, under the lock, and waits where another leads its turn. The lock is let go while it waits.
+    fn take_turn<H: Wait, A: Asked<K>>(
         &self,
         rt: &H,
+        guard: MutexGuard<'_, Desk<K, V, S, R, E, C>>,
         kind: TurnKind,
         asked: A,
-        replace_if: P,
+        is_passed_over: bool,
     ) -> Result<MakingStart<A, V, Shared<R::Fault>>, CacheError>
         requires becomes { (a : A) → A.can_become a }
         requires exact { (x y : V) → V.is_clone x y → y ≡ x }
-        requires callable { P.IsAlwaysCallable replace_if }
         ensures answers { IfOk result (HasAnswer kind) }
         ensures cause { IfErr result IsShortage }
     {
-        let mut guard = self.lock(rt);
+        let mut guard = guard;
         let desk = &mut *guard;
-        match desk.begin(kind, asked, replace_if)? {
+        match desk.begin(kind, asked, |_: &V| -> bool { is_passed_over })? {
             Start::Found(value) => Ok(MakingStart::Answered(Made::Value(value))),
             Start::Lead(number) => Ok(MakingStart::Led(number)),
             Start::Wait(number, asked) => match self.wait_for(rt, guard, kind, number)? {
@@ -210,8 +234,42 @@ impl<
         }
     }
 
-    /// The visible value of a key of which `replace_if` does not say yes, or what another made meanwhile, and false; or what `make` makes, and true. A value that was made is kept.
-    /// Of several callers for the key one makes it, without the lock, and the others wait for it. Where each of so many turns that it waited for was given up, so is the call.
+    /// Takes the lock, and knows whether the value that is visible then is passed over. `replace_if` is asked without the lock, of a clone, and again where a value of the key was written meanwhile.
+    fn ask<H: Wait, P: Fn(&V) -> bool>(
+        &self,
+        rt: &H,
+        key: &K,
+        passing: &mut Passing,
+        replace_if: &P,
+    ) -> Result<(MutexGuard<'_, Desk<K, V, S, R, E, C>>, bool), CacheError>
+        requires exact { (x y : V) → V.is_clone x y → y ≡ x }
+        requires callable { P.IsAlwaysCallable replace_if.now }
+        ensures cause { IfErr result IsShortage }
+    {
+        if matches!(passing, Passing::Never) {
+            return Ok((self.lock(rt), false));
+        }
+        for _ in rt.forever() {
+            let mut guard = self.lock(rt);
+            let desk = &mut *guard;
+            let written = desk.last_write(key);
+            if let Some(is_passed_over) = passing.said(written) {
+                return Ok((guard, is_passed_over));
+            }
+            match desk.scan(key)? {
+                Some(value) => {
+                    drop(guard);
+                    let is_passed_over = replace_if(&value);
+                    *passing = Passing::Said(written, is_passed_over);
+                }
+                None => return Ok((guard, false)),
+            }
+        }
+        unreachable!()
+    }
+
+    /// The visible value of a key that is not passed over, or what another made meanwhile, and false; or what `make` makes, and true. A value that was made is kept.
+    /// Of several callers for the key one makes it, without the lock, and the others wait for it. Where each of 200 turns that it waited for was given up, so is the call.
     pub(crate) fn coalesce<
         H: Wait,
         A: Asked<K>,
@@ -222,9 +280,9 @@ impl<
         rt: &H,
         kind: TurnKind,
         asked: A,
+        passing: Passing,
         replace_if: P,
         make: M,
-        times: u32,
     ) -> Result<(Made<V, Shared<R::Fault>>, bool), CacheError>
         requires becomes { (a : A) → A.can_become a }
         requires exact { (x y : V) → V.is_clone x y → y ≡ x }
@@ -234,8 +292,18 @@ impl<
         ensures cause { IfErr result IsTurnRefusal }
     {
         let mut asked = asked;
-        for _ in 0..times {
-            match self.take_turn(rt, kind, asked, |value: &V| -> bool { replace_if(value) }) {
+        let mut passing = passing;
+        for _ in 0..BEGINNINGS {
+            let (guard, is_passed_over) = match self.ask(
+                rt,
+                asked.key(),
+                &mut passing,
+                &replace_if,
+            ) {
+                Ok(known) => known,
+                Err(refused) => return Err(refused),
+            };
+            match self.take_turn(rt, guard, kind, asked, is_passed_over) {
                 Ok(MakingStart::Answered(made)) => return Ok((made, false)),
                 Ok(MakingStart::Led(number)) => {
                     return make_fresh(Lead::new(self, kind, number), rt, make);
@@ -247,7 +315,30 @@ impl<
         Err(CacheError::Abandoned)
     }
 
-    /// The same with a closure that is asked once. Where the turn that was waited for is given up, what it said serves for what is visible then.
+    /// What a closure that can be asked once says of the visible value of a key, without the lock.
+    fn ask_once<H: Wait, P: FnOnce(&V) -> bool + Drop>(
+        &self,
+        rt: &H,
+        key: &K,
+        replace_if: P,
+    ) -> Result<Passing, CacheError>
+        requires exact { (x y : V) → V.is_clone x y → y ≡ x }
+        requires callable { P.IsAlwaysCallable replace_if }
+        ensures cause { IfErr result IsShortage }
+    {
+        let mut guard = self.lock(rt);
+        let desk = &mut *guard;
+        let written = desk.last_write(key);
+        match desk.scan(key)? {
+            Some(value) => {
+                drop(guard);
+                Ok(Passing::Said(written, replace_if(&value)))
+            }
+            None => Ok(Passing::Never),
+        }
+    }
+
+    /// `coalesce` with a closure that is asked once, of the value that is visible as the call comes. A value that is written after that is not passed over.
     pub fn coalesce_asking_once<
         H: Wait,
         A: Asked<K>,
@@ -268,26 +359,15 @@ impl<
         ensures answer { IfOk result (λ a. IsAnswer kind (M.post make) a.0 a.1) }
         ensures cause { IfErr result IsTurnRefusal }
     {
-        let mut was_passed_over = false;
-        match self.take_turn(rt, kind, asked, |value: &V| -> bool {
-            was_passed_over = replace_if(value);
-            was_passed_over
-        }) {
-            Ok(MakingStart::Answered(made)) => Ok((made, false)),
-            Ok(MakingStart::Led(number)) => make_fresh(Lead::new(self, kind, number), rt, make),
-            Ok(MakingStart::GivenUp(again)) => self.coalesce(
-                rt,
-                kind,
-                again,
-                |_: &V| -> bool { was_passed_over },
-                make,
-                BEGINNINGS - 1,
-            ),
+        match self.ask_once(rt, asked.key(), replace_if) {
+            Ok(passing) => {
+                self.coalesce(rt, kind, asked, passing, |_: &V| -> bool { false }, make)
+            }
             Err(refused) => Err(refused),
         }
     }
 
-    /// The visible value of a key, unless `replace_if` says yes of it, and false; or what `make` makes, and true. All is done in one hold of the lock, and nobody is waited for.
+    /// The visible value of a key, unless `replace_if` says yes of it, and false; or what `make` makes, and true. All is done in one hold of the lock, and nobody is waited for: **both closures run under the lock, and must not call the cache.**
     pub fn coalesce_now<
         H: Wait,
         P: FnOnce(&V) -> bool + Drop,

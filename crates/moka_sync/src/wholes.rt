@@ -3,10 +3,10 @@ ghost use Rattle.std.specs.Prelude.{◌≡◌, IfErr};
 ghost use Rattle.front_reference.specs.declared.errors.CacheError.TheVariants as errors;
 ghost use Rattle.sync_desk.specs.Slots.Refusals.{IsCoverRefusal};
 
-use crate::cache::Cache;
+use crate::cache::SharedCache;
 use engine_reference::Rules;
 use front_reference::{CacheError, Shared};
-use front_state::Notice;
+use front_state::{Notice, PredicateId, Segmented, Single};
 use std::hash::{BuildHasher, Hash};
 use std::sync::Wait;
 use sync_desk::Env;
@@ -24,7 +24,8 @@ impl<
     S: BuildHasher + Drop,
     R: Rules<K, V> + Drop,
     E: Env + Drop,
-> ConcurrentCacheExt for Cache<K, V, S, R, E> {
+    C: Drop,
+> ConcurrentCacheExt for SharedCache<K, V, S, R, E, C> {
     fn sync(&self, rt: &impl Wait) -> Result<(), CacheError> {
         self.run_pending_tasks(rt)
     }
@@ -36,21 +37,53 @@ impl<
     S: BuildHasher + Drop,
     R: Rules<K, V> + Drop,
     E: Env + Drop,
-> Cache<K, V, S, R, E> {
-    /// Covers the values that were written before of which a predicate says yes, in all segments or, where it is refused, in none. Its identifier is answered, in its hyphenated form of 36 bytes in lower case.
+> SharedCache<K, V, S, R, E, Single> {
+    /// Invalidates the values that were written before and of which a predicate says yes. Answers what names the predicate.
+    /// Refused with `InvalidationClosuresDisabled` where the builder was not told `support_invalidation_closures`; with `IdsInUse` where each of a thousand identifiers that were drawn is registered; else for want of memory or numbers.
     pub fn invalidate_entries_if(
         &self,
         rt: &impl Wait,
         predicate: R::Predicate,
-    ) -> Result<String, CacheError>
+    ) -> Result<PredicateId, CacheError>
         ensures cause { IfErr result IsCoverRefusal }
     {
         let mut guard = self.inner.desk.lock(rt);
         let desk = &mut *guard;
         desk.invalidate_entries_if(predicate)
     }
+}
 
-    /// Takes the oldest notice of the first segment that has one.
+impl<
+    K: Eq + Hash + Drop,
+    V: Clone + Drop,
+    S: BuildHasher + Drop,
+    R: Rules<K, V> + Drop,
+    E: Env + Drop,
+> SharedCache<K, V, S, R, E, Segmented> {
+    /// Invalidates the values that were written before and of which a predicate says yes, in all segments or, where it is refused, in none.
+    /// Refused with `InvalidationClosuresDisabled` where the builder was not told `support_invalidation_closures`; with `IdsInUse` where each of a thousand identifiers that were drawn for a segment is registered there; else for want of memory or numbers.
+    pub fn invalidate_entries_if(
+        &self,
+        rt: &impl Wait,
+        predicate: R::Predicate,
+    ) -> Result<(), CacheError>
+        ensures cause { IfErr result IsCoverRefusal }
+    {
+        let mut guard = self.inner.desk.lock(rt);
+        let desk = &mut *guard;
+        desk.invalidate_entries_if(predicate)
+    }
+}
+
+impl<
+    K: Eq + Hash + Drop,
+    V: Clone + Drop,
+    S: BuildHasher + Drop,
+    R: Rules<K, V> + Drop,
+    E: Env + Drop,
+    C: Drop,
+> SharedCache<K, V, S, R, E, C> {
+    /// Takes the oldest notice of the first segment that has one: a key, its value, and why it left. Only a cache whose builder was told `eviction_listener` has any; they wait until they are taken.
     pub fn next_notice(&self, rt: &impl Wait) -> Option<Notice<Shared<K>, V>> {
         let mut guard = self.inner.desk.lock(rt);
         let desk = &mut *guard;

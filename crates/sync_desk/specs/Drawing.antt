@@ -7,7 +7,8 @@ use Rattle.front_reference.specs.declared.data.TurnKind.{TurnKind}
 use Rattle.front_reference.specs.declared.data.TurnStart.{TurnStart}
 use Rattle.front_reference.specs.declared.data.TurnStart.TheVariants as state
 use Rattle.front_state.specs.Calls.{InsertsIn, LooksUpIn, Ways, hash_in, visible_in}
-use Rattle.front_state.specs.Turning.{BeginsIn, FinishesBy}
+use Rattle.front_state.specs.Beginning.{BeginsBy}
+use Rattle.front_state.specs.Turning.{FinishesBy}
 use Rattle.sync_desk.specs.declared.turns.Start.{Start}
 use Rattle.sync_desk.specs.declared.turns.Start.TheVariants.{Found, Wait, Lead}
 
@@ -30,9 +31,9 @@ module _ {K V P S R : Type 0} (ways : Ways K V P S R) where
   abbrev pub InsertsAsDrawn : K → V → Front K V P S R → Front K V P S R → Type 0
   InsertsAsDrawn key value old new = (at : At) × IsDrawn old at × InsertsIn ways key value at old new
 
-  -- a call that makes a value begins
+  -- a call of a kind begins
   abbrev pub BeginsAsDrawn : {A : Type 0} → TurnKind → K → (Ignores : V → Bool → Type 0) → Front K V P S R → Front K V P S R → Start A V → Type 0
-  BeginsAsDrawn kind key Ignores old new start = (at : At) × IsDrawn old at × BeginsIn ways kind key (hash_in ways old key) at Ignores old new (state_start start)
+  BeginsAsDrawn kind key Ignores old new start = (at : At) × IsDrawn old at × BeginsBy ways kind key (hash_in ways old key) at Ignores old new (state_start start)
 
   -- the turn of a number ends with what was made
   abbrev pub FinishesAsDrawn : {F : Type 0} → (number : ℕ) → Made V F → Front K V P S R → Front K V P S R → Type 0

@@ -8,7 +8,7 @@ ghost use Rattle.sync_desk.specs.Slots.Refusals.{IsShortage};
 use crate::desk::Desk;
 use crate::env::Env;
 use engine_reference::Rules;
-use front_reference::CacheError;
+use front_reference::{At, CacheError, OwnedKey};
 use std::hash::{BuildHasher, Hash};
 
 /// What a call of the state is refused for: memory, or else numbers.
@@ -27,7 +27,8 @@ impl<
     S: BuildHasher + Drop,
     R: Rules<K, V> + Drop,
     E: Env + Drop,
-> Desk<K, V, S, R, E> {
+    C: Drop,
+> Desk<K, V, S, R, E, C> {
     /// A clone of the visible value of a key, of which it is a use.
     pub fn get(&mut self, key: &K) -> Result<Option<V>, CacheError>
         requires exact { (x y : V) → V.is_clone x y → y ≡ x }
@@ -61,8 +62,17 @@ impl<
         let Some(at) = self.draw() else {
             return Err(CacheError::UsedUp);
         };
-        match self.state.insert(key, value, at) {
-            Ok(()) => Ok(()),
+        let At { now, step } = at;
+        let hash = self.state.hash(&key);
+        let alloc = self.alloc;
+        match self
+            .state
+            .insert_with_hash(OwnedKey { key, alloc }, hash, value, At { now, step })
+        {
+            Ok(()) => {
+                self.writes.note(hash, step);
+                Ok(())
+            }
             Err(refused) => Err(shortage_of(refused)),
         }
     }

@@ -6,18 +6,20 @@ ghost use Rattle.sync_desk.specs.Drawing.{IsDrawn};
 
 use crate::env::Env;
 use crate::slots::Slots;
+use crate::writes::Writes;
 use engine_reference::Rules;
 use front_reference::{At, Shared};
-use front_state::LentState;
+use front_state::{LentState, Single};
 use std::alloc::Global;
 use std::hash::{BuildHasher, Hash};
 
 /// A cache's state with what its calls' moments come from, and the turns that are led or waited for. Each call draws its moment and its step: the greater of the environment's moment and the state's, and the step after the state's.
 #[derive(Drop)]
-pub struct Desk<K: Eq + Hash, V, S: BuildHasher, R: Rules<K, V>, E> {
+pub struct Desk<K: Eq + Hash, V, S: BuildHasher, R: Rules<K, V>, E, C = Single> {
     pub(crate) alloc: Global,
-    pub(crate) state: LentState<K, V, S, R>,
+    pub(crate) state: LentState<K, V, S, R, C>,
     pub(crate) slots: Slots<V, Shared<R::Fault>>,
+    pub(crate) writes: Writes,
     pub(crate) env: E,
 }
 
@@ -27,15 +29,17 @@ impl<
     S: BuildHasher + Drop,
     R: Rules<K, V> + Drop,
     E: Env + Drop,
-> Desk<K, V, S, R, E> {
+    C: Drop,
+> Desk<K, V, S, R, E, C> {
     /// A state, of whose turns none is under way, with what its moments come from.
-    pub fn new(alloc: Global, state: LentState<K, V, S, R>, env: E) -> Self
+    pub fn new(alloc: Global, state: LentState<K, V, S, R, C>, env: E) -> Self
         ensures { result.state ≡ state }
     {
         Desk {
             alloc,
             state,
             slots: Slots::new(alloc),
+            writes: Writes::new(),
             env,
         }
     }
@@ -51,6 +55,11 @@ impl<
         let now = self.env.now().max(last.now);
         let step = last.step.checked_add(1)?;
         Some(At { now, step })
+    }
+
+    /// The step at which a value of a key was last written, or of another key that shares its place. Where it is the same as before, the visible value is too, or there is none any more.
+    pub fn last_write(&self, key: &K) -> u64 {
+        self.writes.last(self.state.hash(key))
     }
 
     /// How many entries there are, as of the last run of each part.

@@ -7,6 +7,7 @@ pub mod env;
 pub mod slots;
 mod turns;
 mod wholes;
+mod writes;
 
 pub use desk::Desk;
 pub use env::{Dial, DialEnv, Env, MachineEnv};

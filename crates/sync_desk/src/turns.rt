@@ -13,7 +13,7 @@ use crate::desk::Desk;
 use crate::env::Env;
 use crate::slots::{Asked, Ending, SharedName, WaitingName, copy_made};
 use engine_reference::Rules;
-use front_reference::{CacheError, IntoKey, Made, Shared, TurnKind, TurnStart};
+use front_reference::{At, CacheError, IntoKey, Made, Shared, TurnKind, TurnStart};
 use std::alloc::AllocError;
 use std::hash::{BuildHasher, Hash};
 
@@ -43,8 +43,9 @@ impl<
     S: BuildHasher + Drop,
     R: Rules<K, V> + Drop,
     E: Env + Drop,
-> Desk<K, V, S, R, E> {
-    /// Begins a call that makes a value: the visible value, of which it is a use; or the turn of this kind and key that is under way, for which the caller waits from now on; or a new one. A visible value of which `replace_if` says yes counts as none.
+    C: Drop,
+> Desk<K, V, S, R, E, C> {
+    /// Begins a call that makes a value: the visible value, of which it is a use; or the turn of this kind and key that is under way, for which the caller waits from now on; or a new one. A visible value of which `replace_if` says yes counts as none; it is asked here, so under the lock.
     /// The key is made only where a turn begins, and waiting takes no memory.
     pub fn begin<A: Asked<K>, P: FnOnce(&V) -> bool + Drop>(
         &mut self,
@@ -89,7 +90,7 @@ impl<
         match self.state.begin(kind, asked, hash, at, replace_if) {
             Ok(TurnStart::Found(value)) => Ok(Start::Found(value)),
             Ok(TurnStart::Lead(number)) => {
-                self.slots.open(kind, number);
+                self.slots.open(kind, number, hash);
                 Ok(Start::Lead(number))
             }
             Ok(TurnStart::Wait(_)) => unreachable!(),
@@ -141,9 +142,15 @@ impl<
             return Err(CacheError::OutOfMemory);
         };
         let hash = self.state.hash(&**key);
-        match self.state.begin_compute(SharedName { key }, hash, at) {
+        match self.state.begin(
+            TurnKind::Compute,
+            SharedName { key },
+            hash,
+            at,
+            |_: &V| -> bool { false },
+        ) {
             Ok(TurnStart::Lead(number)) => {
-                self.slots.open(TurnKind::Compute, number);
+                self.slots.open(TurnKind::Compute, number, hash);
                 self.lead_compute(number, &**key)
             }
             Ok(TurnStart::Wait(number)) => match self.slots.join(TurnKind::Compute, number) {
@@ -240,13 +247,24 @@ impl<
     {
         match self.end_state(number, made) {
             Ok(()) => {
-                self.slots.end(kind, number, ending);
+                self.end_slot(kind, number, ending);
                 Ok(())
             }
             Err(refused) => {
                 self.abandon(kind, number);
                 Err(refused)
             }
+        }
+    }
+
+    /// Shows those that wait how the turn ended, and notes that its key may have been written.
+    fn end_slot(&mut self, kind: TurnKind, number: u64, ending: Ending<V, Shared<R::Fault>>)
+        requires { fits kind ending ≡ true }
+        ensures { self.new.state ≡ self.old.state }
+    {
+        if let Some(hash) = self.slots.end(kind, number, ending) {
+            let At { step, .. } = self.state.last_call();
+            self.writes.note(hash, step);
         }
     }
 
@@ -275,7 +293,7 @@ impl<
         if let Some(at) = self.draw() {
             let _known = self.state.abandon(number, at);
         }
-        self.slots.end(kind, number, Ending::GivenUp);
+        let _hash = self.slots.end(kind, number, Ending::GivenUp);
     }
 
     /// Ends the compute turn that the caller leads by putting a value. Where it is refused the turn is given up.
@@ -319,12 +337,13 @@ impl<
         let Some(at) = self.draw() else {
             return Err(CacheError::UsedUp);
         };
+        let At { now, step } = at;
         let hash = self.state.hash(&**key);
-        match self
-            .state
-            .coalesce(SharedName { key }, hash, at, replace_if, make)
-        {
-            Ok(answer) => Ok(answer),
+        match self.state.coalesce(SharedName { key }, hash, At { now, step }, replace_if, make) {
+            Ok(answer) => {
+                self.writes.note(hash, step);
+                Ok(answer)
+            }
             Err(refused) => Err(shortage_of(refused)),
         }
     }

@@ -1,7 +1,8 @@
 //! Calls on all segments: predicates, notices, and what iterators look at.
-ghost use Rattle.std.specs.Prelude.{◌≡◌, true, IfErr, OnOk, OnErr};
+ghost use Rattle.std.specs.Prelude.{◌≡◌, ◌≤◌, ℕ, true, IfErr, IfOk, OnOk, OnErr};
 ghost use Rattle.front_reference.specs.declared.errors.CacheError.TheVariants as errors;
 ghost use Rattle.front_reference.specs.Wholes.{next_told, without_told};
+ghost use Rattle.front_state.specs.Calls.{visible_in, ways_by};
 ghost use Rattle.sync_desk.specs.Slots.Refusals.{IsCoverRefusal};
 
 use crate::desk::Desk;
@@ -9,6 +10,7 @@ use crate::env::Env;
 use engine_reference::Rules;
 use front_parts::ScanningGet;
 use front_reference::{CacheError, Shared};
+use front_state::{PredicateId, Segmented, Single};
 use moka_engine::Notice;
 use std::hash::{BuildHasher, Hash};
 
@@ -30,9 +32,12 @@ impl<
     S: BuildHasher + Drop,
     R: Rules<K, V> + Drop,
     E: Env + Drop,
-> Desk<K, V, S, R, E> {
+> Desk<K, V, S, R, E, Single> {
     /// Covers the values that were written before of which a predicate says yes, in all segments or, where it is refused, in none. Its identifier is answered, in its hyphenated form of 36 bytes in lower case.
-    pub fn invalidate_entries_if(&mut self, predicate: R::Predicate) -> Result<String, CacheError>
+    pub fn invalidate_entries_if(
+        &mut self,
+        predicate: R::Predicate,
+    ) -> Result<PredicateId, CacheError>
         ensures takes { OnOk result (self.old.state.common.settings.takes_predicates ≡ true) }
         ensures err { OnErr result (self.new.state ≡ self.old.state) }
         ensures cause { IfErr result IsCoverRefusal }
@@ -46,7 +51,40 @@ impl<
             Err(refused) => Err(cover_refusal_of(refused)),
         }
     }
+}
 
+impl<
+    K: Eq + Hash + Drop,
+    V: Clone + Drop,
+    S: BuildHasher + Drop,
+    R: Rules<K, V> + Drop,
+    E: Env + Drop,
+> Desk<K, V, S, R, E, Segmented> {
+    /// Covers the values that were written before of which a predicate says yes, in all segments or, where it is refused, in none.
+    pub fn invalidate_entries_if(&mut self, predicate: R::Predicate) -> Result<(), CacheError>
+        ensures takes { OnOk result (self.old.state.common.settings.takes_predicates ≡ true) }
+        ensures err { OnErr result (self.new.state ≡ self.old.state) }
+        ensures cause { IfErr result IsCoverRefusal }
+    {
+        let Some(at) = self.draw() else {
+            return Err(CacheError::UsedUp);
+        };
+        let Desk { state, env, .. } = self;
+        match state.invalidate_entries_if(predicate, env, at) {
+            Ok(()) => Ok(()),
+            Err(refused) => Err(cover_refusal_of(refused)),
+        }
+    }
+}
+
+impl<
+    K: Eq + Hash + Drop,
+    V: Clone + Drop,
+    S: BuildHasher + Drop,
+    R: Rules<K, V> + Drop,
+    E: Env + Drop,
+    C: Drop,
+> Desk<K, V, S, R, E, C> {
     /// Takes the oldest notice of the first segment that has one.
     pub fn next_notice(&mut self) -> Option<Notice<Shared<K>, V>>
         ensures notice { result ≡ next_told self.old.state.parts }
@@ -66,15 +104,19 @@ impl<
     }
 
     /// A clone of the visible value of a key. It is no use of it, and no call that changes anything.
-    pub fn scan(&mut self, key: &Shared<K>) -> Result<Option<V>, CacheError>
+    pub fn scan(&mut self, key: &K) -> Result<Option<V>, CacheError>
         requires exact { (x y : V) → V.is_clone x y → y ≡ x }
+        ensures found { IfOk result (λ found. (now : ℕ) × (self.old.state.moment ≤ now) × (found ≡ visible_in (ways_by R.Rules K.eq K.hash_input S.BuildHasher S.Hasher.Hasher) self.old.state now key.now)) }
         ensures state { self.new.state ≡ self.old.state }
         ensures cause { IfErr result (λ e. e ≡ errors.OutOfMemory) }
     {
         let now = self.env.now().max(self.state.last_call().now);
-        match self.state.scanning_get(key, now) {
-            Ok(found) => Ok(found),
-            Err(_) => Err(CacheError::OutOfMemory),
+        match self.state.peek(key, now) {
+            Some(value) => match value.clone() {
+                Ok(found) => Ok(Some(found)),
+                Err(_) => Err(CacheError::OutOfMemory),
+            },
+            None => Ok(None),
         }
     }
 }

@@ -1,5 +1,6 @@
 //! Calls of one thread.
-use crate::caches::{Numbers, make_dialled};
+use crate::caches::{Numbers, make_dialled, make_four};
+use moka_sync::Segmented;
 use std::alloc::Global;
 use std::sync::Wait;
 
@@ -44,7 +45,7 @@ const CALLS: [Call; 20] = [
 ];
 
 /// Whether a call answers what it is to.
-fn is_so<H: Wait>(rt: &H, cache: &Numbers, call: Call) -> bool {
+fn is_so<H: Wait, C: Drop>(rt: &H, cache: &Numbers<C>, call: Call) -> bool {
     match call {
         Call::Insert(key, value) => cache.insert(rt, key, value) == Ok(()),
         Call::Get(key, value) => cache.get(rt, &key) == Ok(value),
@@ -62,7 +63,7 @@ fn is_so<H: Wait>(rt: &H, cache: &Numbers, call: Call) -> bool {
 }
 
 /// Whether each call answers what it is to. Where it was refused for memory it is made once more.
-fn are_so<H: Wait>(rt: &H, cache: &Numbers) -> bool {
+fn are_so<H: Wait, C: Drop>(rt: &H, cache: &Numbers<C>) -> bool {
     for call in &CALLS {
         if !is_so(rt, cache, *call) && !is_so(rt, cache, *call) {
             return false;
@@ -71,20 +72,40 @@ fn are_so<H: Wait>(rt: &H, cache: &Numbers) -> bool {
     true
 }
 
-/// The same of a cache of so many segments.
-fn are_right<H: Wait>(rt: &H, alloc: Global, segments: usize) -> bool {
-    match make_dialled(alloc, segments) {
+/// The same of a new cache of one segment.
+fn are_right<H: Wait>(rt: &H, alloc: Global) -> bool {
+    match make_dialled(alloc) {
         Some(shared) => are_so(rt, &shared.cache),
         None => false,
     }
 }
 
+/// The same of one of four segments, which makes a value by two names more, once for both.
+fn are_right_in_four<H: Wait>(rt: &H, alloc: Global) -> bool {
+    match make_four(alloc) {
+        Some(shared) => {
+            are_so(rt, &shared.cache)
+                && shared.cache.get_or_insert_with(rt, 8, || 80) == Ok(80)
+                && is_tried(rt, &shared.cache)
+        }
+        None => false,
+    }
+}
+
+/// Whether a value that is there is not made again, by the name of segments.
+fn is_tried<H: Wait>(rt: &H, cache: &Numbers<Segmented>) -> bool {
+    match cache.get_or_try_insert_with(rt, 8, || -> Result<u64, u64> { Err(7) }) {
+        Ok(Ok(value)) => value == 80,
+        _ => false,
+    }
+}
+
 #[test]
 fn calls_of_one_segment(rt: HostRuntime) {
-    assert!(rt; are_right(&rt, rt.alloc(), 1));
+    assert!(rt; are_right(&rt, rt.alloc()));
 }
 
 #[test]
 fn calls_of_four_segments(rt: HostRuntime) {
-    assert!(rt; are_right(&rt, rt.alloc(), 4));
+    assert!(rt; are_right_in_four(&rt, rt.alloc()));
 }

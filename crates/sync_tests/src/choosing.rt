@@ -2,11 +2,11 @@
 ghost use Rattle.std.specs.Prelude.{◌==◌};
 
 use crate::caches::{Dialled, Moments, make_dialled, make_moments};
-use engine_reference::{Bundle, NoExpiry, NoPredicate, Predicate, WeighOne};
-use front_parts::{CompResult, Entry};
-use front_reference::{CacheError, Op};
-use moka::{BuildError, CacheBuilder};
-use moka_sync::{Attached, Build, Cache, ConcurrentCacheExt, StdHasher};
+use moka_sync::{
+    Attached, Build, BuildError, Bundle, CacheBuilder, CacheError, CompResult, ConcurrentCacheExt,
+    Entry, NoExpiry, NoPredicate, Op, Predicate, Segmented, SharedCache, Single, StdHasher,
+    WeighOne,
+};
 use std::alloc::Global;
 use std::sync::Wait;
 
@@ -22,17 +22,29 @@ impl Predicate<u64, u64> for Is {
     }
 }
 
-type Covered = Cache<u64, u64, StdHasher, Bundle<NoExpiry, WeighOne, Is, ()>, Moments>;
+/// A cache that takes such predicates.
+type Covered<C> = SharedCache<u64, u64, StdHasher, Bundle<NoExpiry, WeighOne, Is, ()>, Moments, C>;
 
-fn make_covered(alloc: Global) -> Result<Covered, BuildError> {
+fn make_covered(alloc: Global) -> Result<Covered<Single>, BuildError> {
+    CacheBuilder::new(100)
+        .support_invalidation_closures()
+        .build(alloc, make_moments(alloc)?)
+}
+
+fn make_covered_segments(alloc: Global) -> Result<Covered<Segmented>, BuildError> {
     CacheBuilder::new(100)
         .segments(2)
         .support_invalidation_closures()
         .build(alloc, make_moments(alloc)?)
 }
 
+/// Whether two values are written.
+fn fills<H: Wait, C: Drop>(rt: &H, cache: &Covered<C>) -> bool {
+    cache.insert(rt, 1, 10) == Ok(()) && cache.insert(rt, 2, 20) == Ok(())
+}
+
 /// Whether a predicate is taken, and its identifier has 36 bytes.
-fn is_named<H: Wait>(rt: &H, cache: &Covered) -> bool {
+fn is_named<H: Wait>(rt: &H, cache: &Covered<Single>) -> bool {
     match cache.invalidate_entries_if(rt, Is(10)) {
         Ok(id) => id.len() == 36,
         Err(_) => false,
@@ -40,11 +52,8 @@ fn is_named<H: Wait>(rt: &H, cache: &Covered) -> bool {
 }
 
 /// Whether what a predicate covers is gone, and what is written after it is not covered.
-fn covers<H: Wait>(rt: &H, cache: &Covered) -> bool {
-    cache.insert(rt, 1, 10) == Ok(())
-        && cache.insert(rt, 2, 20) == Ok(())
-        && is_named(rt, cache)
-        && cache.insert(rt, 3, 10) == Ok(())
+fn is_covered<H: Wait, C: Drop>(rt: &H, cache: &Covered<C>) -> bool {
+    cache.insert(rt, 3, 10) == Ok(())
         && cache.sync(rt) == Ok(())
         && cache.get(rt, &1) == Ok(None)
         && cache.get(rt, &2) == Ok(Some(20))
@@ -52,9 +61,22 @@ fn covers<H: Wait>(rt: &H, cache: &Covered) -> bool {
         && cache.entry_count(rt) == 2
 }
 
-fn covers_anew<H: Wait>(rt: &H, alloc: Global) -> bool {
+/// A predicate on one segment is answered by its identifier.
+fn covers<H: Wait>(rt: &H, alloc: Global) -> bool {
     match make_covered(alloc) {
-        Ok(cache) => covers(rt, &cache),
+        Ok(cache) => fills(rt, &cache) && is_named(rt, &cache) && is_covered(rt, &cache),
+        Err(_) => false,
+    }
+}
+
+/// One on two segments by nothing.
+fn covers_segments<H: Wait>(rt: &H, alloc: Global) -> bool {
+    match make_covered_segments(alloc) {
+        Ok(cache) => {
+            fills(rt, &cache)
+                && cache.invalidate_entries_if(rt, Is(10)) == Ok(())
+                && is_covered(rt, &cache)
+        }
         Err(_) => false,
     }
 }
@@ -119,7 +141,7 @@ fn decides<H: Wait>(attached: &mut Handle<H>) -> bool {
 
 /// Whether both do on a handle of a new cache.
 fn chooses<H: Wait + Copy>(rt: &H, alloc: Global) -> bool {
-    match make_dialled(alloc, 1) {
+    match make_dialled(alloc) {
         Some(
             Dialled {
                 cache,
@@ -136,7 +158,8 @@ fn chooses<H: Wait + Copy>(rt: &H, alloc: Global) -> bool {
 
 #[test]
 fn predicates_cover(rt: HostRuntime) {
-    assert!(rt; covers_anew(&rt, rt.alloc()));
+    assert!(rt; covers(&rt, rt.alloc()));
+    assert!(rt; covers_segments(&rt, rt.alloc()));
 }
 
 #[test]

@@ -1,7 +1,6 @@
 //! Calls of four threads.
 use crate::caches::{Dialled, Numbers, each_says_yes, make_dialled, wait_for_readings};
-use front_parts::Entry;
-use front_reference::Op;
+use moka_sync::{Entry, Op};
 use std::alloc::Global;
 use std::sync::Wait;
 use std::sync::atomic::Ordering;
@@ -107,7 +106,7 @@ fn are_right<R: Threads + Wait + Sync + Copy>(rt: &R, alloc: Global, shared: &Di
 
 /// The same of a new cache.
 fn are_right_anew<R: Threads + Wait + Sync + Copy>(rt: &R, alloc: Global) -> bool {
-    match make_dialled(alloc, 1) {
+    match make_dialled(alloc) {
         Some(shared) => are_right(rt, alloc, &shared),
         None => false,
     }

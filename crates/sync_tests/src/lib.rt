@@ -12,10 +12,14 @@ mod crowds;
 #[cfg(test)]
 mod refusing;
 #[cfg(test)]
+mod replacing;
+#[cfg(test)]
 mod resolver;
 #[cfg(test)]
 mod resolving;
 #[cfg(test)]
 mod turns;
+#[cfg(test)]
+mod uses;
 #[cfg(test)]
 mod wholes;

@@ -2,9 +2,7 @@
 ghost use Rattle.std.specs.Prelude.{◌≡◌};
 
 use crate::caches::{Moments, moments_of, wait_for_readings};
-use front_reference::CacheError;
-use moka::CacheBuilder;
-use moka_sync::{Build, Cache, Dial, PlainRules, StdHasher};
+use moka_sync::{Build, CacheBuilder, CacheError, Dial, PlainCache};
 use std::alloc::{AllocError, Global};
 use std::sync::{Arc, Wait};
 use std::thread;
@@ -29,7 +27,7 @@ impl Clone for Fussy {
 /// A cache with the dial that gives it its moments.
 #[derive(Drop)]
 struct Fussies {
-    cache: Cache<u64, Fussy, StdHasher, PlainRules, Moments>,
+    cache: PlainCache<u64, Fussy, Moments>,
     dial: Arc<Dial>,
 }
 

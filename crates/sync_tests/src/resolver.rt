@@ -1,11 +1,11 @@
 //! A resolver of names.
 ghost use Rattle.std.specs.Prelude.{◌≡◌, IfErr};
-ghost use Rattle.sync_desk.specs.Slots.Refusals.{IsTurnRefusal};
+ghost use Rattle.moka_sync.specs.Refusals.{IsTurnRefusal};
 
-use engine_reference::{Bundle, NoExpiry, NoPredicate, WeighOne};
-use front_reference::CacheError;
-use moka::{BuildError, CacheBuilder};
-use moka_sync::{Build, Cache, Env, StdHasher};
+use moka_sync::{
+    Build, BuildError, Bundle, Cache, CacheBuilder, CacheError, Env, NoExpiry, NoPredicate,
+    StdHasher, WeighOne,
+};
 use std::alloc::Global;
 use std::sync::{Arc, Wait};
 use std::time::Duration;

@@ -1,6 +1,6 @@
 //! Calls that make a value, by two threads that gates hold.
 use crate::caches::{Dialled, make_dialled, wait_for_readings};
-use front_reference::TurnKind;
+use moka_sync::TurnKind;
 use std::alloc::Global;
 use std::sync::Wait;
 use std::sync::atomic::Ordering;
@@ -146,7 +146,7 @@ fn are_right<R: Threads + Wait + Sync>(rt: &R, shared: &Dialled) -> bool {
 
 /// The same of a new cache.
 fn are_right_anew<R: Threads + Wait + Sync>(rt: &R, alloc: Global) -> bool {
-    match make_dialled(alloc, 1) {
+    match make_dialled(alloc) {
         Some(shared) => are_right(rt, &shared),
         None => false,
     }

@@ -1,16 +1,23 @@
 //! Whole caches: iterators beside writers, evictions that are told, printed text, what builders make.
 use crate::caches::{Moments, each_says_yes, make_moments};
-use engine_reference::RemovalCause;
-use front_reference::{CacheError, Shared};
-use moka::{BuildError, CacheBuilder};
-use moka_sync::{Build, Cache, PlainRules, StdHasher};
+use moka_sync::{
+    Build, BuildError, CacheBuilder, CacheError, Made, PlainCache, PlainRules, RemovalCause,
+    SegmentedCache, Shared, SharedCache, StdHasher, WaiterValue,
+};
 use std::alloc::{AllocError, Global};
 use std::fmt::Write;
 use std::sync::Wait;
 use std::thread;
 use std::thread::Threads;
 
-type Plain<K, V> = Cache<K, V, StdHasher, PlainRules, Moments>;
+/// A cache of plain rules, of either form.
+type PlainForm<K, V, C> = SharedCache<K, V, StdHasher, PlainRules, Moments, C>;
+
+/// One of one segment.
+type Plain<K, V> = PlainCache<K, V, Moments>;
+
+/// One of several.
+type PlainSegments<K, V> = SegmentedCache<K, V, StdHasher, PlainRules, Moments>;
 
 /// What is done with a key.
 #[derive(Clone, Copy)]
@@ -23,7 +30,7 @@ enum Deed {
 }
 
 /// Whether that is done.
-fn does<H: Wait>(rt: &H, cache: &Plain<u64, u64>, deed: Deed, key: u64) -> bool {
+fn does<H: Wait, C: Drop>(rt: &H, cache: &PlainForm<u64, u64, C>, deed: Deed, key: u64) -> bool {
     match deed {
         Deed::Insert => cache.insert(rt, key, key.wrapping_mul(2)).is_ok(),
         Deed::InsertAndRun => {
@@ -35,7 +42,12 @@ fn does<H: Wait>(rt: &H, cache: &Plain<u64, u64>, deed: Deed, key: u64) -> bool 
 }
 
 /// Whether it is done with each of so many keys.
-fn does_all<H: Wait>(rt: &H, cache: &Plain<u64, u64>, deed: Deed, keys: u64) -> bool {
+fn does_all<H: Wait, C: Drop>(
+    rt: &H,
+    cache: &PlainForm<u64, u64, C>,
+    deed: Deed,
+    keys: u64,
+) -> bool {
     for key in 0..keys {
         if !does(rt, cache, deed, key) {
             return false;
@@ -66,7 +78,7 @@ fn is_new_item(seen: &mut Vec<bool>, item: Result<(Shared<u64>, u64), CacheError
 /// How many keys come, if each comes once.
 fn count_seen<H: Wait + Copy>(
     rt: &H,
-    cache: Plain<u64, u64>,
+    cache: PlainSegments<u64, u64>,
     seen: &mut Vec<bool>,
 ) -> Option<usize> {
     let mut count: usize = 0;
@@ -84,7 +96,7 @@ fn count_seen<H: Wait + Copy>(
 fn sees_each_once<H: Wait + Copy>(
     rt: &H,
     alloc: Global,
-    cache: &Plain<u64, u64>,
+    cache: &PlainSegments<u64, u64>,
     keys: usize,
 ) -> Result<bool, AllocError> {
     let cache = cache.clone()?;
@@ -96,7 +108,7 @@ fn sees_each_once<H: Wait + Copy>(
 fn writes_or_sees<H: Wait + Copy>(
     rt: &H,
     alloc: Global,
-    cache: &Plain<u64, u64>,
+    cache: &PlainSegments<u64, u64>,
     number: usize,
 ) -> bool {
     if number < 8 {
@@ -110,7 +122,7 @@ fn writes_or_sees<H: Wait + Copy>(
 fn all_see<R: Threads + Wait + Sync + Copy>(
     rt: &R,
     alloc: Global,
-    cache: &Plain<u64, u64>,
+    cache: &PlainSegments<u64, u64>,
 ) -> bool {
     does_all(rt, cache, Deed::Insert, 1024)
         && each_says_yes(thread::map_indices(
@@ -126,7 +138,7 @@ fn all_see_anew<R: Threads + Wait + Sync + Copy>(
     rt: &R,
     alloc: Global,
 ) -> Result<bool, BuildError> {
-    let cache = Plain::with_segments(alloc, 2048, 4, make_moments(alloc)?)?;
+    let cache = PlainSegments::new(alloc, 2048, 4, make_moments(alloc)?)?;
     Ok(all_see(rt, alloc, &cache))
 }
 
@@ -168,14 +180,19 @@ fn six_hundred_into_five_hundred(rt: HostRuntime) {
     assert!(rt; tells_each_anew(&rt, rt.alloc()) == Ok(true));
 }
 
+/// A name, to be shared.
+fn make_name(alloc: Global, name: &str) -> Result<Shared<String>, CacheError> {
+    Ok(Shared::new(alloc, String::from_str(alloc, name)?)?)
+}
+
 /// Two names, printed.
 fn print_names<H: Wait + Copy>(
     rt: &H,
     alloc: Global,
-    cache: Plain<char, Shared<u64>>,
+    cache: Plain<char, Shared<String>>,
 ) -> Result<String, CacheError> {
-    cache.insert(rt, 'a', Shared::new(alloc, 1)?)?;
-    cache.insert(rt, 'b', Shared::new(alloc, 2)?)?;
+    cache.insert(rt, 'a', make_name(alloc, "alice")?)?;
+    cache.insert(rt, 'b', make_name(alloc, "bob")?)?;
     let mut text = String::new(alloc);
     let attached = cache.attach(*rt);
     match write!(text, "{attached:?}") {
@@ -188,7 +205,10 @@ fn print_names<H: Wait + Copy>(
 fn prints_pairs<H: Wait + Copy>(rt: &H, alloc: Global) -> Result<bool, BuildError> {
     let cache = Plain::new(alloc, 10, make_moments(alloc)?)?;
     match print_names(rt, alloc, cache) {
-        Ok(text) => Ok(matches!(text.as_str(), "{'a': 1, 'b': 2}" | "{'b': 2, 'a': 1}")),
+        Ok(text) => Ok(matches!(
+            text.as_str(),
+            "{'a': \"alice\", 'b': \"bob\"}" | "{'b': \"bob\", 'a': \"alice\"}"
+        )),
         Err(_) => Ok(false),
     }
 }
@@ -198,10 +218,25 @@ fn prints_as_map(rt: HostRuntime) {
     assert!(rt; prints_pairs(&rt, rt.alloc()) == Ok(true));
 }
 
+/// What those that wait see of a turn, as it is printed.
+fn shows(alloc: Global, seen: &WaiterValue<u64, u64>, text: &str) -> Result<bool, AllocError> {
+    Ok(format!(in alloc; "{seen:?}")?.as_str() == text)
+}
+
+#[test]
+fn turns_have_words(rt: HostRuntime) {
+    let value = WaiterValue::Done(Made::Value(7));
+    let nothing = WaiterValue::Done(Made::Nothing);
+    assert!(rt; shows(rt.alloc(), &WaiterValue::Underway, "Computing") == Ok(true));
+    assert!(rt; shows(rt.alloc(), &value, "Ready") == Ok(true));
+    assert!(rt; shows(rt.alloc(), &nothing, "ReadyNone") == Ok(true));
+    assert!(rt; shows(rt.alloc(), &WaiterValue::GivenUp, "InitFuturePanicked") == Ok(true));
+}
+
 /// 24 wanted segments are 32; the capacity is the wanted one, and the name is kept.
 fn shows_what_is_set(alloc: Global) -> Result<bool, BuildError> {
     let name = String::from_str(alloc, "tracked")?;
-    let cache: Plain<u64, u64> = CacheBuilder::new(400)
+    let cache: PlainSegments<u64, u64> = CacheBuilder::new(400)
         .name(name)
         .segments(24)
         .build(alloc, make_moments(alloc)?)?;
@@ -216,7 +251,7 @@ fn shows_what_is_set(alloc: Global) -> Result<bool, BuildError> {
 /// Segments are refused by their number alone.
 fn refuses_segments(alloc: Global, segments: usize) -> Option<BuildError> {
     match make_moments(alloc) {
-        Ok(moments) => Plain::<u64, u64>::with_segments(alloc, 1, segments, moments).err(),
+        Ok(moments) => PlainSegments::<u64, u64>::new(alloc, 1, segments, moments).err(),
         Err(_) => None,
     }
 }

@@ -11,6 +11,7 @@ use Rattle.cache_parts.specs.Parts.{IsBrief, Part, settings_of}
 use Rattle.cache_store.specs.Promises.{Frame}
 use Rattle.cache_parts_store.specs.View.{StoreOfParts, view}
 use Rattle.cache_parts_store.proofs.Settling.{made, sound}
+use Rattle.cache_parts_store.proofs.parts_kept.Identifying.{released}
 use Rattle.cache_front.specs.Laws.Laws.{Lent}
 use Rattle.cache_front.specs.Laws.State.{IsFit, store_of}
 use Rattle.engine_reference.specs.Calls.{IsNew}
@@ -56,6 +57,7 @@ new_over {S} hash config since bits hasher stream f room m counts few words brie
         untaken = refl;
         used = t.2;
         stream_is = refl;
+        unregistered = released f.parts (λ place s there. (m.new.parts place s there).predicates);
       },
     )
   where

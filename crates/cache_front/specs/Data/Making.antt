@@ -12,7 +12,7 @@ use Rattle.front_reference.specs.Fronts.{part_of}
 abbrev pub whole_settings : Config → (made : ℕ) → Settings
 whole_settings config made = record (settings_of config made) { capacity = config.capacity }
 
--- it holds nothing and told nothing; a key's part is the upper bits of its hash
+-- it holds nothing and told nothing, and no identifier is registered; a key's part is the upper bits of its hash
 pub record IsJustMade (config : Config) (hash : List ℕ → ℕ) (made : ℕ) (stream : Stream) (v : Values) : Type 0 where
   pub bits : ℕ
   pub counts : 2 ^ bits ≡ part_count config
@@ -21,3 +21,4 @@ pub record IsJustMade (config : Config) (hash : List ℕ → ℕ) (made : ℕ) (
   pub untaken : v.untaken ≡ []
   pub used : v.Used true []
   pub stream_is : v.stream ≡ stream
+  pub unregistered : (part : ℕ) (id : List ℕ) → v.registered part id ≡ false

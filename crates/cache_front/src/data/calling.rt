@@ -154,7 +154,7 @@ pub fn cover<S: BuildHasher, R: Rng>(
         now: Instant::from_nanos(now),
         step,
     };
-    match front.invalidate_segments_if(predicate, generator, at) {
+    match front.invalidate_entries_if(predicate, generator, at) {
         Ok(()) => Ok(true),
         Err(error) => lacks_or_refused(error),
     }

@@ -5,8 +5,8 @@ ghost use Rattle.cache_front.specs.Data.Data.{shown_by, word_of};
 ghost use Rattle.cache_front.specs.Data.Making.{IsJustMade};
 
 use crate::data::{
-    LentState, Notice, bits_of, clear, cover, drain, insert, invalidate, note_of, prepare,
-    settings_of, write_keys,
+    LentState, Notice, Segmented, bits_of, clear, cover, drain, insert, invalidate, note_of,
+    prepare, settings_of, write_keys,
 };
 use crate::entries::{StoredValue, WordBuilder};
 use audit_model::{Config, Key, Note, Weight};
@@ -30,7 +30,7 @@ pub struct FrontStore<R: Rng + Drop, S: BuildHasher + Drop> {
     made: u64,
     // whether a `DROPIF` was accepted
     dropped: bool,
-    front: LentState<Key, StoredValue, WordBuilder<S>, Weight>,
+    front: LentState<Key, StoredValue, WordBuilder<S>, Weight, Segmented>,
     notices: VecDeque<Notice<Shared<Key>, StoredValue>>,
     // how many values are held
     count: usize,

@@ -1,14 +1,13 @@
 -- A connection that goes on: what was read is fed, and more is read.
 use Rattle.std.proofs.Common.{◌≡◌, ◌≢◌, ℕ, ◌+◌, ◌≤◌, ◌^◌, ◌-◌, ◌⊎◌, Bool, true, false, List, [], ◌++◌, length, Option, None, Some, refl, sym, ap, ◌∙◌, subst, append_assoc, arith, inl, inr}
 use Rattle.std.specs.Prelude.{Result, Ok, Err, IfOk}
-use Rattle.std.proofs.lemmas.Bool.Decides.{leb_tells}
+use Rattle.std.proofs.lemmas.Bool.{cases_lt}
 use Rattle.std.specs.Option.{option_map}
 use Rattle.std.specs.Io.KnownBytes.{Consumes, IsAtEnd}
 use Rattle.std.proofs.lemmas.List.{append-nil, length-append}
 use Rattle.audit_model.specs.declared.event.Outcome.{Outcome}
 use Rattle.audit_model.specs.declared.input.Conn.{Conn}
 use Rattle.cache_run.proofs.devices.Reading.{askings_more, consumes_more, same_consumes}
-use Rattle.cache_run.proofs.devices.Sending.{failed_after, failed_before}
 use Rattle.cache_run.specs.Devices.Watched.{device, failures}
 use Rattle.cache_run.specs.declared.devices.errors.RunError.{RunError}
 use Rattle.cache_run.specs.declared.devices.errors.RunError.TheVariants.{Read}
@@ -27,29 +26,34 @@ use Rattle.cache_run.proofs.driver.Talking.{talks-more}
 module _ {R D : Type 0} (remaining : R → Option (List ℕ)) (loads : D → List ℕ → Option Outcome → D → Type 0) where
   -- a turn that read where all was fed
   pub read-runs : (old new : List ℕ) (was is : Watched R) (l : D) → Reads remaining old new was is → GoesOn remaining old new was is true → old ≡ [] → RunsFor 1 remaining loads was is l l
-  read-runs old new was is l reads (inl failed) empty = inl failed
-  read-runs old new was is l reads (inr some) empty = let all = ap length (reads.whole ∙ ap (λ z. z ++ reads.piece) empty) in inr (reads.piece, [], reads.bytes, refl, omega (arith, all, some))
+  read-runs old new was is l reads (inl failed) empty =
+      let later = reads.later in
+      (reads.piece, [], 1, reads.bytes, refl, elim (cases_lt (failures was) (2 ^ 64 - 1)) [ inl below ↦ omega (arith, failed below) | inr full ↦ omega (arith, later, full) ], omega arith)
+  read-runs old new was is l reads (inr some) empty =
+      let all = ap length (reads.whole ∙ ap (λ z. z ++ reads.piece) empty) in
+      let later = reads.later in (reads.piece, [], 0, reads.bytes, refl, omega (arith, later), omega (arith, all, some))
 
   -- a turn in which the loader was asked
   pub asked-runs : (was : Watched R) (l m : D) (turns : ℕ) → HasAsked loads l turns m → RunsFor turns remaining loads was was l m
-  asked-runs was l m turns asked = inr ([], asked.0, same_consumes (remaining (device was)), asked.1, omega (arith, asked.2))
+  asked-runs was l m turns asked = ([], asked.0, 0, same_consumes (remaining (device was)), asked.1, omega arith, omega (arith, asked.2))
 
   -- a turn more
-  pub runs-more : (was mid is : Watched R) (l m n : D) (turns : ℕ) → failures was ≤ failures mid → failures mid ≤ failures is → RunsFor turns remaining loads was mid l m → RunsFor 1 remaining loads mid is m n → RunsFor (turns + 1) remaining loads was is l n
-  runs-more was mid is l m n turns early late (inl x) y = inl (failed_before (failures was) (failures mid) (failures is) x late)
-  runs-more was mid is l m n turns early late (inr x) (inl y) = inl (failed_after (failures was) (failures mid) (failures is) early late y)
-  runs-more was mid is l m n turns early late (inr x) (inr y) =
+  pub runs-more : (was mid is : Watched R) (l m n : D) (turns : ℕ) → RunsFor turns remaining loads was mid l m → RunsFor 1 remaining loads mid is m n → RunsFor (turns + 1) remaining loads was is l n
+  runs-more was mid is l m n turns x y =
       let bytes = length-append x.0 y.0 in
-      let asks = length-append x.1 y.1 in
-      inr (x.0 ++ y.0, x.1 ++ y.1, consumes_more (remaining (device was)) (remaining (device mid)) (remaining (device is)) x.0 y.0 x.2 y.2, askings_more loads l x.1 m y.1 n x.3 y.3, omega (arith, bytes, asks, x.4, y.4))
+      let asks = length-append x.1 y.1 in (
+        x.0 ++ y.0,
+        x.1 ++ y.1,
+        x.2 + y.2,
+        consumes_more (remaining (device was)) (remaining (device mid)) (remaining (device is)) x.0 y.0 x.3 y.3,
+        askings_more loads l x.1 m y.1 n x.4 y.4,
+        omega (arith, x.5, y.5),
+        omega (arith, bytes, asks, x.6, y.6),
+      )
 
   -- as many turns as are counted
   pub runs-all : (was is : Watched R) (l m : D) (turns : ℕ) → 2 ^ 128 - 1 ≤ turns → RunsFor turns remaining loads was is l m → RunsOut remaining loads was is l m
-  runs-all was is l m turns all (inl x) = inl x
-  runs-all was is l m turns all (inr x) = elim (leb_tells (2 ^ 64 - 1) (length x.0)) [
-    | inl some ↦ inr (inl (x.0, x.2, some.1))
-    | inr few ↦ inr (inr (x.1, x.3, omega (arith, few.1, all, x.4)))
-  ]
+  runs-all was is l m turns all x = (x.0, x.1, x.3, x.4, omega (arith, all, x.5, x.6))
 
 -- whatever it comes to
 pub ok-all : {X E : Type 0} {P : X → Type 0} (r : Result X E) → ((x : X) → P x) → IfOk r P

@@ -1,5 +1,5 @@
 -- Why a driver stops.
-use Rattle.std.specs.Prelude.{◌≤◌, ◌+◌, ◌^◌, ◌-◌, ◌⊎◌, ℕ, List, length, Option}
+use Rattle.std.specs.Prelude.{◌≤◌, ◌+◌, ◌^◌, ◌-◌, ℕ, List, length, min, Option}
 use Rattle.std.specs.Io.KnownBytes.{Consumes}
 use Rattle.audit_model.specs.declared.event.Outcome.{Outcome}
 use Rattle.cache_run.specs.Devices.Failures.{HasFailed}
@@ -21,20 +21,17 @@ Because read write used_up late Moment = late
 abbrev pub Fails : {T : Type 0} → (was is : Watched T) → Type 0
 Fails was is = HasFailed (failures was) (failures is)
 
--- at least so many bytes were read
-abbrev pub HasRead : Option (List ℕ) → Option (List ℕ) → ℕ → Type 0
-HasRead before after count = (bytes : List ℕ) × Consumes before after bytes × (count ≤ length bytes)
-
 -- the loader was asked at least so often
 abbrev pub HasAsked : {L : Type 0} → (L → List ℕ → Option Outcome → L → Type 0) → L → ℕ → L → Type 0
 HasAsked loads before count after = (askings : List Asking) × Askings loads before askings after × (count ≤ length askings)
 
--- the reader failed, or at least so many bytes were read and loads asked for
+-- so many bytes were read, loads asked for, and calls of the reader failed, of which at most 2 ^ 64 - 1 are counted, together at least
 abbrev pub RunsFor : {R L : Type 0} → ℕ → (R → Option (List ℕ)) → (L → List ℕ → Option Outcome → L → Type 0) → Watched R → Watched R → L → L → Type 0
 RunsFor turns remaining loads reader reader' loader loader' =
-    Fails reader reader' ⊎ ((bytes : List ℕ) × (askings : List Asking) × Consumes (remaining (device reader)) (remaining (device reader')) bytes × Askings loads loader askings loader' × (turns ≤ length bytes + length askings))
+    (bytes : List ℕ) × (askings : List Asking) × (failed : ℕ) × Consumes (remaining (device reader)) (remaining (device reader')) bytes × Askings loads loader askings loader'
+    × (min (failures reader + failed) (2 ^ 64 - 1) ≤ failures reader') × (turns ≤ length bytes + length askings + failed)
 
--- the reader failed, or as many bytes were read, or the loader was asked as often, as turns are counted
+-- the bytes that were read, the loads asked for, and the reader's failures, which its count has at the end, together reach 2 ^ 64 - 1
 abbrev pub RunsOut : {R L : Type 0} → (R → Option (List ℕ)) → (L → List ℕ → Option Outcome → L → Type 0) → Watched R → Watched R → L → L → Type 0
 RunsOut remaining loads reader reader' loader loader' =
-    Fails reader reader' ⊎ (HasRead (remaining (device reader)) (remaining (device reader')) (2 ^ 64 - 1) ⊎ HasAsked loads loader (2 ^ 64 - 1) loader')
+    (bytes : List ℕ) × (askings : List Asking) × Consumes (remaining (device reader)) (remaining (device reader')) bytes × Askings loads loader askings loader' × (2 ^ 64 - 1 ≤ length bytes + length askings + failures reader')

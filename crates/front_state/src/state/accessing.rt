@@ -5,6 +5,7 @@ ghost use Rattle.engine_reference.specs.Calls.{removal_rooms};
 ghost use Rattle.front_parts.specs.Access.Answering.{Suits};
 ghost use Rattle.front_reference.specs.declared.data.Made.{Made};
 ghost use Rattle.front_reference.specs.declared.data.TurnKind.TheVariants as turns;
+ghost use Rattle.front_reference.specs.declared.errors.CacheError.TheVariants as errors;
 ghost use Rattle.front_state.specs.Accessing.{DecidesIn, GivesIn, MayCall};
 ghost use Rattle.front_parts.specs.Places.Calls.{IsCauseIn, ways_by};
 
@@ -106,7 +107,7 @@ impl<K: Eq + Hash, V, S: BuildHasher, R: Rules<K, V>, C> LentState<K, V, S, R, C
         &'a mut self,
         key: &K,
         at: At,
-    ) -> Result<RefKeyEntrySelector<'a, K, Self, At>, AllocError>
+    ) -> Result<RefKeyEntrySelector<'a, K, Self, At>, CacheError>
     where
         K: Clone,
         requires exact_key { (x y : K) → K.is_clone x y → y ≡ x }
@@ -114,6 +115,7 @@ impl<K: Eq + Hash, V, S: BuildHasher, R: Rules<K, V>, C> LentState<K, V, S, R, C
         ensures owner { IfOk result (λ s. s.owner.now ≡ self.old) }
         ensures key { IfOk result (λ s. s.key ≡ key.now) }
         ensures when { IfOk result (λ s. s.when ≡ at) }
+        ensures cause { IfErr result (λ e. e ≡ errors.OutOfMemory) }
     {
         let alloc = self.alloc;
         let own = key.clone()?;

@@ -10,7 +10,7 @@ ghost use Rattle.front_reference.specs.declared.data.TurnKind.TheVariants as tur
 ghost use Rattle.front_state.specs.Accessing.{GetsIn, GetsOptionIn, GetsResultIn, MayCall};
 ghost use Rattle.front_parts.specs.Places.Calls.{IsCauseIn, hash_in, ways_by};
 
-use crate::state::LentState;
+use crate::state::{LentState, Segmented};
 use engine_reference::Rules;
 use front_parts::{option_made, result_made, value_made};
 use front_reference::{At, CacheError, ClonedKey, IntoKey, Made, OwnedKey, Shared};
@@ -315,7 +315,15 @@ impl<K: Eq + Hash + Drop, V: Clone + Drop, S: BuildHasher, R: Rules<K, V>, C> Le
         };
         self.make_result(name, hash, make, at)
     }
+}
 
+impl<K: Eq + Hash + Drop, V: Clone + Drop, S: BuildHasher, R: Rules<K, V>> LentState<
+    K,
+    V,
+    S,
+    R,
+    Segmented,
+> {
     /// The same as `get_with`, under the name that a cache of segments has for it.
     /// ```
     /// let square = cache.get_or_insert_with(7, || 49, at)?;

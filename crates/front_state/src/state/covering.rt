@@ -1,5 +1,6 @@
 //! Calls on all parts of a cache: predicates, notices, the iterator; and the part of a key.
-ghost use Rattle.std.specs.Prelude.{◌≡◌, ◌≢◌, ◌<◌, ℕ, true, IfOk, IfErr, OnOk, OnErr, length};
+ghost use Rattle.std.specs.Prelude.{◌≡◌, ◌≢◌, ◌<◌, ℕ, true, false, IfOk, IfErr, OnOk, OnErr, length};
+ghost use Rattle.std.specs.Result.{IsErrOf};
 ghost use Rattle.std.specs.String.{string_bytes};
 ghost use Rattle.front_reference.specs.Fronts.{ComesAfter, part_of};
 ghost use Rattle.front_reference.specs.Wholes.{next_told, without_told};
@@ -8,7 +9,7 @@ ghost use Rattle.front_reference.specs.declared.errors.CacheError.TheVariants as
 ghost use Rattle.front_state.specs.Covering.{CoversAll, GivesVisible, IsCauseToCover, keys_in};
 ghost use Rattle.front_parts.specs.Wholes.Covering.{id_text};
 
-use crate::state::LentState;
+use crate::state::{LentState, PredicateId, Segmented, Single};
 use engine_reference::Rules;
 use front_parts::{
     Iter, Notice, ScanningGet, clone_each, cover_all, hash_key, keys_at, next_notice, place_of,
@@ -85,9 +86,11 @@ impl<K: Eq + Hash, V, S: BuildHasher, R: Rules<K, V>, C> LentState<K, V, S, R, C
             Err(refused) => Err(refused),
         }
     }
+}
 
+impl<K: Eq + Hash, V, S: BuildHasher, R: Rules<K, V>> LentState<K, V, S, R, Single> {
     /// Covers the values of earlier steps of which a predicate says yes, in all parts or, where it is refused, in none. It comes at a later step than any call before. An identifier is drawn for each part, and that of the first one is answered, in its hyphenated form of 36 bytes in lower case.
-    /// Only a cache that was made to take predicates takes one. A refusal for want of memory or of tickets draws nothing.
+    /// A cache that was not made to take predicates refuses with `InvalidationClosuresDisabled`, and for nothing else. A refusal for want of memory or of tickets draws nothing.
     /// ```
     /// let id = cache.invalidate_entries_if(OlderThan(30), &mut generator, at)?;
     /// ```
@@ -96,11 +99,12 @@ impl<K: Eq + Hash, V, S: BuildHasher, R: Rules<K, V>, C> LentState<K, V, S, R, C
         predicate: R::Predicate,
         generator: &mut G,
         at: At,
-    ) -> Result<String, CacheError>
+    ) -> Result<PredicateId, CacheError>
         requires follows { ComesAfter at.now at.step self.old }
         requires rises { self.old.step < at.step }
         ensures covers { IfOk result (λ text. (id : ℕ) × (string_bytes text ≡ id_text id) × CoversAll predicate at (G.stream generator.old) (G.stream generator.new) id self.old self.new) }
         ensures takes { OnOk result (self.old.common.settings.takes_predicates ≡ true) }
+        ensures first { self.old.common.settings.takes_predicates ≡ false → IsErrOf result errors.InvalidationClosuresDisabled }
         ensures err { OnErr result (self.new ≡ self.old) }
         ensures cause { IfErr result (IsCauseToCover self.old (G.stream generator.old) (G.stream generator.new)) }
         ensures undrawn { IfErr result (λ e. e ≢ errors.IdsInUse → generator.new ≡ generator.old) }
@@ -113,12 +117,15 @@ impl<K: Eq + Hash, V, S: BuildHasher, R: Rules<K, V>, C> LentState<K, V, S, R, C
         write_id(&mut text, id);
         Ok(text)
     }
+}
 
-    /// `invalidate_entries_if` without an identifier, as several segments have it.
+impl<K: Eq + Hash, V, S: BuildHasher, R: Rules<K, V>> LentState<K, V, S, R, Segmented> {
+    /// Covers the values of earlier steps of which a predicate says yes, in all segments or, where it is refused, in none. It comes at a later step than any call before, and an identifier is drawn for each segment.
+    /// A cache that was not made to take predicates refuses with `InvalidationClosuresDisabled`, and for nothing else. A refusal for want of memory or of tickets draws nothing.
     /// ```
-    /// cache.invalidate_segments_if(OlderThan(30), &mut generator, at)?;
+    /// cache.invalidate_entries_if(OlderThan(30), &mut generator, at)?;
     /// ```
-    pub fn invalidate_segments_if<G: Rng>(
+    pub fn invalidate_entries_if<G: Rng>(
         &mut self,
         predicate: R::Predicate,
         generator: &mut G,
@@ -128,6 +135,7 @@ impl<K: Eq + Hash, V, S: BuildHasher, R: Rules<K, V>, C> LentState<K, V, S, R, C
         requires rises { self.old.step < at.step }
         ensures covers { OnOk result ((id : ℕ) × CoversAll predicate at (G.stream generator.old) (G.stream generator.new) id self.old self.new) }
         ensures takes { OnOk result (self.old.common.settings.takes_predicates ≡ true) }
+        ensures first { self.old.common.settings.takes_predicates ≡ false → IsErrOf result errors.InvalidationClosuresDisabled }
         ensures err { OnErr result (self.new ≡ self.old) }
         ensures cause { IfErr result (IsCauseToCover self.old (G.stream generator.old) (G.stream generator.new)) }
         ensures undrawn { IfErr result (λ e. e ≢ errors.IdsInUse → generator.new ≡ generator.old) }

@@ -11,6 +11,7 @@ ghost use Rattle.front_reference.specs.declared.data.TurnKind.TheVariants as tur
 ghost use Rattle.front_reference.specs.declared.errors.CacheError.TheVariants.{UnknownTurn};
 ghost use Rattle.front_parts.specs.Places.Calls.{IsAskedFirst, hash_in, seen_of, ways_by};
 ghost use Rattle.front_parts.specs.Places.Turning.{BeginsIn, EndsTurnAt, FinishesBy, IsCauseAt, IsFinishCause, IsTurnCause, IsTurnPlace, Leads, WaitsOrLeads};
+ghost use Rattle.front_state.specs.Beginning.{BeginsBy};
 
 use crate::state::LentState;
 use engine_reference::{Names, Rules};
@@ -142,16 +143,8 @@ impl<K: Eq + Hash, V, S: BuildHasher, R: Rules<K, V>, C> LentState<K, V, S, R, C
         }
     }
 
-    /// Begins a call that makes a value: the visible value, of which it is a use; or the turn of this kind and key that is under way; or a new one, which the caller leads. A visible value of which `replace_if` says yes counts as none.
-    /// The key is made only where a turn begins.
-    /// ```
-    /// match cache.begin(TurnKind::With, OwnedKey { key: 7, alloc }, hash, at, |_| false)? {
-    ///     TurnStart::Found(value) => show(value),
-    ///     TurnStart::Wait(turn) => wait_for(turn),
-    ///     TurnStart::Lead(turn) => load(turn),
-    /// }
-    /// ```
-    pub fn begin<Q: IntoKey<Shared<K>>, P: FnOnce(&V) -> bool + Drop>(
+    /// Begins a call that makes a value: it looks up, and where nothing is found it waits or leads.
+    fn begin_making<Q: IntoKey<Shared<K>>, P: FnOnce(&V) -> bool + Drop>(
         &mut self,
         kind: TurnKind,
         name: Q,
@@ -219,11 +212,8 @@ impl<K: Eq + Hash, V, S: BuildHasher, R: Rules<K, V>, C> LentState<K, V, S, R, C
         Ok(number)
     }
 
-    /// Begins a compute call, which looks nothing up: the turn of this key that is under way, or a new one, which the caller leads.
-    /// ```
-    /// let start = cache.begin_compute(OwnedKey { key: 7, alloc }, hash, at)?;
-    /// ```
-    pub fn begin_compute<Q: IntoKey<Shared<K>>>(
+    /// Begins a compute call, which looks nothing up.
+    fn begin_compute<Q: IntoKey<Shared<K>>>(
         &mut self,
         name: Q,
         hash: u64,
@@ -247,6 +237,41 @@ impl<K: Eq + Hash, V, S: BuildHasher, R: Rules<K, V>, C> LentState<K, V, S, R, C
                 Ok(number) => Ok(TurnStart::Lead(number)),
                 Err(refused) => Err(refused),
             },
+        }
+    }
+
+    /// Begins a call that waits for others of its kind and key. One that makes a value is answered the visible value, of which it is a use, unless `replace_if` says yes of it; else, and where it is a compute call, which looks nothing up, the turn of its kind and key that is under way, or a new one, which the caller leads.
+    /// The key is made only where a turn begins. A compute call never asks `replace_if`.
+    /// ```
+    /// match cache.begin(TurnKind::With, OwnedKey { key: 7, alloc }, hash, at, |_| false)? {
+    ///     TurnStart::Found(value) => show(value),
+    ///     TurnStart::Wait(turn) => wait_for(turn),
+    ///     TurnStart::Lead(turn) => load(turn),
+    /// }
+    /// ```
+    pub fn begin<Q: IntoKey<Shared<K>>, P: FnOnce(&V) -> bool + Drop>(
+        &mut self,
+        kind: TurnKind,
+        name: Q,
+        hash: u64,
+        at: At,
+        replace_if: P,
+    ) -> Result<TurnStart<V>, CacheError>
+    where
+        K: Drop,
+        V: Clone + Drop,
+        requires hashed { hash ≡ hash_in (ways_by R.Rules K.eq K.hash_input S.BuildHasher S.Hasher.Hasher) self.old (Q.named_key name) }
+        requires becomes { Q.can_become name }
+        requires exact { (x y : V) → V.is_clone x y → y ≡ x }
+        requires callable { P.IsAlwaysCallable replace_if }
+        requires follows { ComesAfter at.now at.step self.old }
+        ensures begins { IfOk result (BeginsBy (ways_by R.Rules K.eq K.hash_input S.BuildHasher S.Hasher.Hasher) kind (Q.named_key name) hash at (FnOnceReturnsAt P.FnOnce replace_if) self.old self.new) }
+        ensures err { OnErr result (self.new ≡ self.old) }
+        ensures cause { IfErr result (IsTurnCause self.old.next_turn) }
+    {
+        match kind {
+            TurnKind::Compute => self.begin_compute(name, hash, at),
+            _ => self.begin_making(kind, name, hash, at, replace_if),
         }
     }
 

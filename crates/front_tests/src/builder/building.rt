@@ -1,19 +1,11 @@
 //! What builders make, and what they refuse.
-use engine_reference::{Bundle, NoExpiry, NoPredicate, WeighOne};
-use front_state::LentState;
-use moka::{BuildError, CacheBuilder};
+use moka::{BuildError, CacheBuilder, SegmentedState, StdHasher};
 use policy_base::Instant;
-use std::alloc::{AllocError, Global};
-use std::hash::{BuildHasherDefault, FoldHasher};
+use std::alloc::Global;
 use std::time::Duration;
 
 /// A cache of numbers by std's fixed hasher.
-type Numbers = LentState<
-    u64,
-    u64,
-    BuildHasherDefault<FoldHasher>,
-    Bundle<NoExpiry, WeighOne, NoPredicate, ()>,
->;
+type Numbers = SegmentedState<u64, u64>;
 
 /// A thousand years of 365 days, in seconds.
 const LONGEST: u64 = 31_536_000_000;
@@ -90,7 +82,7 @@ fn build(alloc: Global, live: u64, idle: u64, segments: usize) -> Result<Numbers
         .time_to_live(Duration::from_secs(live))
         .time_to_idle(Duration::from_secs(idle))
         .segments(segments)
-        .build_state(alloc, BuildHasherDefault::new(), Instant::from_nanos(5))
+        .build_state(alloc, StdHasher::new(), Instant::from_nanos(5))
 }
 
 /// How many segments a cache of these settings shows, or why it is not built.
@@ -141,18 +133,4 @@ fn is_shown(alloc: Global) -> bool {
 #[test]
 fn a_cache_shows_its_settings(rt: HostRuntime) {
     assert!(rt; is_shown(rt.alloc()) || is_shown(rt.alloc()));
-}
-
-fn has_text(alloc: Global, refused: BuildError, text: &str) -> Result<bool, AllocError> {
-    Ok(format!(in alloc; "{refused}")?.as_str() == text)
-}
-
-#[test]
-fn a_refusal_has_a_text(rt: HostRuntime) {
-    let text = "the time to live is longer than 1000 years";
-    let fault = BuildError::TimeToLiveTooLong;
-    assert!(rt;
-        has_text(rt.alloc(), fault, text) == Ok(true)
-            || has_text(rt.alloc(), fault, text) == Ok(true)
-    );
 }

@@ -9,15 +9,14 @@ use crate::playing::selecting::Select;
 use crate::playing::turning::Turning;
 use engine_reference::{Bundle, EvictionPolicy, NoExpiry, RemovalCause, WeighOne};
 use front_reference::{At, CacheError, ClonedKey, Made, OwnedKey, TurnKind, TurnStart};
-use front_state::LentState;
-use moka::{BuildError, CacheBuilder};
+use moka::{BuildError, CacheBuilder, SegmentedState};
 use policy_base::Instant;
 use std::alloc::{AllocError, Global};
 use std::process::Abort;
 use std::time::Duration;
 
 /// A cache of numbers.
-pub type Numbers = LentState<u64, u64, Times, Bundle<NoExpiry, WeighOne, IsEither, ()>>;
+pub type Numbers = SegmentedState<u64, u64, Times, Bundle<NoExpiry, WeighOne, IsEither, ()>>;
 
 /// How a row's cache is made.
 #[derive(Clone, Copy)]
@@ -89,10 +88,8 @@ pub enum Call {
     Count(u64),
     /// The value of a key or this one, and whether it was made now.
     OrInsert(u64, u64, (u64, bool)),
-    /// A call that makes a value begins, of a kind, for a key.
+    /// A call of a kind begins, for a key.
     Begin(TurnKind, u64, Start),
-    /// A compute call begins, for a key.
-    BeginCompute(u64, Start),
     /// The turn of this number ends with a value.
     Finish(u64, u64, Result<(), CacheError>),
     /// The turn of this number is given up.
@@ -108,8 +105,6 @@ pub enum Call {
     /// A predicate on two values is registered in all segments; its identifiers are drawn from so
     /// many words of 0, and then of all ones.
     Cover(u64, u64, u32, Result<(), CacheError>),
-    /// The same in a cache of one segment, which answers the identifier.
-    CoverNamed(u64, u64, u32, Result<&'static str, CacheError>),
     /// A call with a closure.
     With(Closure),
 }
@@ -244,7 +239,6 @@ fn perform_turn(alloc: Global, state: &mut Numbers, at: At, call: Call) -> Resul
         Call::InsertNamed(key, value) => insert_named(alloc, state, at, key, value),
         Call::OrInsert(key, value, answer) => or_insert(alloc, state, at, key, value, answer),
         Call::Begin(kind, key, start) => begin(alloc, state, at, kind, key, start),
-        Call::BeginCompute(key, start) => begin_compute(alloc, state, at, key, start),
         Call::Finish(number, value, answer) => {
             let made: Made<u64, ()> = Made::Value(value);
             match state.finish(number, made, at) {
@@ -312,43 +306,20 @@ fn begin(
     Ok(start_of(answer) == start)
 }
 
-fn begin_compute(
-    alloc: Global,
+/// What comes of a predicate.
+fn cover(
     state: &mut Numbers,
     at: At,
-    key: u64,
-    start: Start,
+    covers: IsEither,
+    zeros: u32,
+    answer: Result<(), CacheError>,
 ) -> Result<bool, CacheError>
-    requires { ComesAfter at.now at.step state.old }
-{
-    let hash = state.hash(&key);
-    let name = OwnedKey { key, alloc };
-    let answer = state.begin_compute(name, hash, at)?;
-    Ok(start_of(answer) == start)
-}
-
-/// What comes of a predicate.
-fn perform_cover(state: &mut Numbers, at: At, call: Call) -> Result<bool, CacheError>
     requires follows { ComesAfter at.now at.step state.old }
     requires rises { state.old.step < at.step }
 {
-    match call {
-        Call::Cover(first, second, zeros, answer) => {
-            let covers = IsEither(first, second);
-            match state.invalidate_segments_if(covers, &mut Turning(zeros), at) {
-                Err(CacheError::OutOfMemory) => Err(CacheError::OutOfMemory),
-                given => Ok(given == answer),
-            }
-        }
-        Call::CoverNamed(first, second, zeros, answer) => {
-            let covers = IsEither(first, second);
-            match state.invalidate_entries_if(covers, &mut Turning(zeros), at) {
-                Ok(id) => Ok(answer == Ok(id.as_str())),
-                Err(CacheError::OutOfMemory) => Err(CacheError::OutOfMemory),
-                Err(refused) => Ok(answer == Err(refused)),
-            }
-        }
-        _ => Ok(false),
+    match state.invalidate_entries_if(covers, &mut Turning(zeros), at) {
+        Err(CacheError::OutOfMemory) => Err(CacheError::OutOfMemory),
+        given => Ok(given == answer),
     }
 }
 
@@ -389,7 +360,9 @@ fn perform(alloc: Global, state: &mut Numbers, nanos: u64, call: Call) -> Result
         Call::Told(key, cause) => Ok(is_told(state, key, key, cause)),
         Call::ToldEither(first, second, cause) => Ok(is_told(state, first, second, cause)),
         Call::NoneTold => Ok(state.next_notice().is_none()),
-        Call::Cover(..) | Call::CoverNamed(..) => { perform_cover(state, at, call) }
+        Call::Cover(first, second, zeros, answer) => {
+            cover(state, at, IsEither(first, second), zeros, answer)
+        }
         _ => perform_turn(alloc, state, at, call),
     }
 }

@@ -208,5 +208,8 @@ fn put(state: &mut Numbers, at: At, key: u64, value: u64) -> Result<bool, CacheE
     let done = state
         .entry(key, at)
         .and_compute_with(move |_seen: Option<Entry<u64, u64>>| Op::Put(value))?;
-    Ok(!done.is_still_none() && done.into_entry().map(shown) == Some((value, true)))
+    if done.is_still_none() {
+        return Ok(false);
+    }
+    Ok(shown(done.unwrap()) == (value, true))
 }

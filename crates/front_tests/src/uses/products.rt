@@ -1,8 +1,8 @@
 //! Rows of a table, read through a cache.
 ghost use Rattle.std.specs.Prelude.{◌≡◌, [], IfOk};
 
-use crate::uses::reading::{next_call, read_through};
-use moka::{BuildError, CacheBuilder, CacheError, CacheState, Instant, StdHasher};
+use crate::uses::reading::read_through;
+use moka::{BuildError, CacheBuilder, CacheError, CacheState, Instant, StdHasher, next_call};
 use sqlite::{Alter, Connection, Error, params};
 use std::alloc::Global;
 use std::sync::Arc;

@@ -1,30 +1,11 @@
-//! Reading through a cache, by a clock.
-ghost use Rattle.std.specs.Prelude.{◌≡◌, [], Some, None, Ok, IfOk, IfErr, OnErr};
-ghost use Rattle.front_reference.specs.Fronts.{ComesAfter};
-ghost use Rattle.front_state.specs.Calls.{visible_in, ways_by};
+//! Reading through a cache.
+ghost use Rattle.std.specs.Prelude.{◌≡◌, [], Some, None, Ok, IfOk, OnErr};
+ghost use Rattle.moka.specs.Calls.{visible_in, ways_by};
+ghost use Rattle.moka.specs.Fronts.{ComesAfter};
 
-use moka::{At, CacheError, Instant, LentState, Rules};
+use moka::{At, CacheError, LentState, Rules};
 use std::hash::{BuildHasher, Hash};
 use std::sync::Arc;
-
-/// When the next call of a cache comes by a clock: at its moment, or at that of the last call where
-/// the clock went back. There are 2^64 steps.
-pub fn next_call<K: Eq + Hash, V, S: BuildHasher, R: Rules<K, V>>(
-    cache: &LentState<K, V, S, R>,
-    clock: Instant,
-) -> Result<At, CacheError>
-    ensures follows { IfOk result (λ at. ComesAfter at.now at.step cache.now) }
-    ensures cause { IfErr result (λ e. (e ≡ CacheError.UsedUp) × (cache.now.step ≡ 18446744073709551615)) }
-{
-    let last = cache.last_call();
-    match last.step.checked_add(1) {
-        Some(step) => Ok(At {
-            now: clock.max(last.now),
-            step,
-        }),
-        None => Err(CacheError::UsedUp),
-    }
-}
 
 /// A value by its key: the one that the cache shows, or what `read` reads, which the cache then
 /// keeps.

@@ -1,10 +1,9 @@
 //! Sessions that end by themselves.
 ghost use Rattle.std.specs.Prelude.{◌≡◌, OnErr};
 
-use crate::uses::reading::next_call;
 use moka::{
     BuildError, Bundle, CacheBuilder, CacheError, CacheState, Expiry, Instant, NoPredicate,
-    WeighOne,
+    WeighOne, next_call,
 };
 use std::alloc::Global;
 use std::hash::BuildHasher;

@@ -32,6 +32,7 @@ impl<V, F> Debug for Ending<V, F> {
 pub(crate) struct TurnSlot<V, F> {
     pub(crate) kind: TurnKind,
     pub(crate) number: u64,
+    pub(crate) hash: u64,
     pub(crate) waiting: u64,
     pub(crate) ending: Ending<V, F>,
     ghost fitting: { fits kind ending ≡ true },

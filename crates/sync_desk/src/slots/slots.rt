@@ -11,7 +11,7 @@ use crate::slots::slot::{Ending, TurnSlot};
 use front_reference::{CacheError, Made, TurnKind};
 use std::alloc::{AllocError, Global};
 
-/// All of them.
+/// The turns that are led, or that some still wait for.
 #[derive(Drop)]
 pub struct Slots<V, F> {
     pub(crate) slots: Vec<TurnSlot<V, F>>,
@@ -112,14 +112,15 @@ impl<V: Drop, F: Drop> Slots<V, F> {
         self.slots.reserve(1)
     }
 
-    /// A turn begins, in room that was made.
-    pub fn open(&mut self, kind: TurnKind, number: u64)
+    /// A turn of a key of this hash begins, in room that was made.
+    pub fn open(&mut self, kind: TurnKind, number: u64, hash: u64)
         requires room { vec_len self.old.slots < vec_capacity self.old.slots }
         ensures opens { OpensAtEnd kind number self.old.slots.items self.new.slots.items }
     {
         self.slots.push_reserved(TurnSlot {
             kind,
             number,
+            hash,
             waiting: 0,
             ending: Ending::Underway,
         });
@@ -149,20 +150,22 @@ impl<V: Drop, F: Drop> Slots<V, F> {
             .any(|slot| slot.is(kind, number) && 0 < slot.waiting)
     }
 
-    /// A turn ends, and is kept only where some wait for it.
-    pub fn end(&mut self, kind: TurnKind, number: u64, ending: Ending<V, F>)
+    /// A turn ends, and is kept only where some wait for it. Answers the hash of its key, if it was under way.
+    pub fn end(&mut self, kind: TurnKind, number: u64, ending: Ending<V, F>) -> Option<u64>
         requires { fits kind ending ≡ true }
     {
         for place in 0..self.slots.len() {
             let slot = &mut self.slots[place];
             if slot.is(kind, number) {
+                let hash = slot.hash;
                 slot.end(ending);
                 if slot.waiting == 0 {
                     let _ended = self.slots.swap_remove(place);
                 }
-                return;
+                return Some(hash);
             }
         }
+        None
     }
 }
 

@@ -3,8 +3,7 @@ use Rattle.cache_run.proofs.devices.Sending.{failed_after}
 use Rattle.cache_run.specs.Driver.Driven.{around}
 use Rattle.cache_run.specs.declared.driver.driving.Progress.TheVariants.{More}
 use Rattle.cache_run.proofs.driver.Whole.{fresh-underway}
-use Rattle.cache_run.specs.declared.devices.errors.RunError.TheVariants.{Read, Write, UsedUp, Moment}
-use Rattle.cache_serve.specs.Full.{used-up-within}
+use Rattle.cache_run.specs.declared.devices.errors.RunError.TheVariants.{Read, Write, Moment}
 use Rattle.cache_serve.specs.Sitting.{Closes, Comes, Drops, Opens, tally}
 use Rattle.cache_serve.proofs.Promised.{attended, ended-because, rested, rested-wrote}
 use Rattle.cache_serve.proofs.serving.serve_and_tell.Goals as goal
@@ -54,14 +53,13 @@ returns-in-loop-turn g c =
     let counts : c.args.seat.now.count ≤ c.close.new.place.count = omega arith in
     let over : c.converse-ended.result ≢ Ok More = λ is. let no : true ≡ false = sym (c.is_more.ensures.1 is) ∙ c.if-is_more.false in cc in
     let why = ended-because c.converse-ended.result c.close.result (c.close.ensures.same ∙ c.outcome_of.ensures) over (failed_after _ _ _ i.reads c.converse-ended.ensures.forward.0) (failed_after _ _ _ i.writes c.converse-ended.ensures.forward.1)
-    (used-up-within g.C.Stepping.events _ _ _ _ (omega arith) (omega arith)) (λ late. late) c.converse-ended.ensures.why in
+    (λ used. used) (λ late. late) c.converse-ended.ensures.why in
     record {
       wrote = all.wrote;
       asked = all.asked;
       count = counts;
       read = why Read;
       write = why Write;
-      used_up = why UsedUp;
       moment = why Moment;
       loader = all.loaded;
     }

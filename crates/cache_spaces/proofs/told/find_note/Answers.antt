@@ -13,6 +13,6 @@ loop-entry-preserved c =
     let e = lists-there c.args.records.now k c.index-records-entry.result at in
     c.loop-entry.invariant ∙ next-record c.args.records.now k c.loop-entry.list c.loop-entry.note (ap (λ l. rest_in l c.loop-entry.list c.loop-entry.note) e ∙ c.in-None.ensures)
 
-pub returns : goal.returns
-returns c =
+pub returns-clause-first : goal.returns-clause-first
+returns-clause-first c =
     c.loop-entry.invariant ∙ no-record c.args.records.now (record { entry = c.loop-entry.entry; list = c.loop-entry.list; note = c.loop-entry.note }) (omega arith)

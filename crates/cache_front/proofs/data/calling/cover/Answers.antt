@@ -6,7 +6,7 @@ pub returns-in-Err : goal.returns-in-Err
 returns-in-Err g c =
     let f = c.args.front.now in
     let drawn = g.R.Rng.stream c.args.generator.now in
-    let left = g.R.Rng.stream c.invalidate_segments_if.new.generator in
+    let left = g.R.Rng.stream c.invalidate_entries_if.new.generator in
     let e = c.in-Err.error in
     let cause = c.in-Err.ensures.cause in
     let r = c.lacks_or_refused.result in

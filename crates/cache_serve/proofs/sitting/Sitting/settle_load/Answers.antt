@@ -1,5 +1,5 @@
 use Rattle.std.proofs.Common.{None, Some}
-use Rattle.cache_serve.proofs.Refusing.{unfit}
+use Rattle.cache_serve.proofs.Refusing.{of_outcome}
 use Rattle.cache_serve.proofs.Seating.{settles-answer, settles-give-up, settles-none, settles-said, takes-behind}
 use Rattle.cache_serve.proofs.sitting.Sitting.settle_load.Goals as goal
 
@@ -12,7 +12,7 @@ returns-in-Ok-clause-settled g c = λ key. settles-said c.in-Some.is (settles-an
 pub returns-in-LineEnd-clause-settled : goal.returns-in-LineEnd-clause-settled
 returns-in-LineEnd-clause-settled g c = λ key.
     settles-said c.in-Some.is
-    (settles-give-up c.give_up-in-LineEnd.result (record { key = key; answer = Some c.in-Some.outcome }) (unfit g.C.Stepping.spaces g.C.Stepping.events _ _ _ _ _ c.in-LineEnd.is c.in-Err.ensures.refused)
+    (settles-give-up c.give_up-in-LineEnd.result (record { key = key; answer = Some c.in-Some.outcome }) (c.in-Err.ensures.unfit (of_outcome _ c.in-LineEnd.is))
     (takes-behind _ _ _ _ _ c.give_up-in-LineEnd.result c.in-Err.ensures.rests c.give_up-in-LineEnd.ensures.taken))
 
 pub returns-in-OutOfMemory-clause-settled : goal.returns-in-OutOfMemory-clause-settled

@@ -1,5 +1,6 @@
 use Rattle.std.proofs.Common.{arith}
 use Rattle.cache_spaces.proofs.Journaling.{were-none}
+use Rattle.cache_spaces.proofs.Reading.{start-reads}
 use Rattle.cache_spaces.proofs.journals.RecordedService.new.Goals as goal
 
 pub invariant_of-result : goal.invariant_of-result
@@ -8,4 +9,5 @@ invariant_of-result c = (
   c.in-Ok-with_capacity.ensures.items,
   let count = c.in-Ok.ensures.made.count in let capacity = c.in-Ok-with_capacity.ensures.capacity in omega (arith, count, capacity),
   let count = c.in-Ok.ensures.made.count in let counted = c.in-Ok-new_cursors.ensures.counted in omega (arith, count, counted),
+  start-reads c.in-Ok.core c.in-Ok-new_cursors.read.items _ c.in-Ok-new_cursors.ensures,
 )

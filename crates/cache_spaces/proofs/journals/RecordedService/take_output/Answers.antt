@@ -1,7 +1,8 @@
 use Rattle.std.proofs.Common.{◌∙◌, slice_set, subst, sym}
 use Rattle.std.specs.Prelude.{IfOk, OnErr, ◌≡◌}
 use Rattle.cache_spaces.specs.Recorded.{Recorded, TakesReplies, recorded_of}
-use Rattle.cache_spaces.proofs.Reading.{read-there, same-read, takes-replies}
+use Rattle.std.proofs.lemmas.List.{length-set}
+use Rattle.cache_spaces.proofs.Reading.{read-there, replies-read, same-read, takes-replies}
 use Rattle.cache_spaces.proofs.journals.RecordedService.take_output.Goals as goal
 use Rattle.cache_spaces.proofs.journals.RecordedService.take_output.Goals.{in-Ok-take_replies, in-Err-take_replies}
 
@@ -36,3 +37,19 @@ returns-clause-unchanged c =
           subst (λ r. OnErr r (now ≡ c.args.self.now)) (sym w.result-is)
           (same-read core read c.args.conn.namespace c.index_mut-cursors.result.now c.take_replies.new.self c.index_mut-cursors.ensures.value e.unchanged e.notes ∙ c.self.view_is)
     ]
+
+pub invariant_of-self : goal.invariant_of-self
+invariant_of-self c =
+    let core = c.self.inside.core in
+    let read = c.self.inside.read.items in
+    let conn = c.args.conn in
+    let journal = c.in-Ok-journal_in.journal.now in
+    let lt = read-there core read conn.namespace journal c.in-Ok-journal_in.ensures.journal c.self.invariant.3 in
+    let e = c.take_replies.ensures in (
+      c.self.invariant.0,
+      c.self.invariant.1,
+      c.self.invariant.2,
+      length-set read conn.namespace c.take_replies.new.self ∙ c.self.invariant.3,
+      replies-read core read conn.namespace c.index_mut-cursors.result.now c.take_replies.new.self lt c.index_mut-cursors.ensures.value journal c.in-Ok-journal_in.ensures.journal
+          conn.number c.take_replies.result (rw c.as_slice.ensures at e.cursor) e.others e.notes e.unchanged c.self.invariant.4,
+    )

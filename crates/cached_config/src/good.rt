@@ -1,0 +1,125 @@
+//! What a file may say.
+ghost use Rattle.std.specs.Prelude.{◌≡◌, true, take, drop};
+ghost use Rattle.std.specs.List.{list_all};
+ghost use Rattle.audit_model.specs.Grammar.{is_value};
+ghost use Rattle.cached_config.specs.Good.{are_distinct, are_good, is_apart, is_good_namespace, is_loadable, is_name, is_name_byte};
+
+use crate::listed::{HostedNamespace, Listed};
+
+/// The most namespaces.
+const MOST: usize = 16;
+
+/// The most bytes of a value that is loaded.
+const MOST_BYTES: usize = 8192;
+
+/// Whether a file may have these namespaces: 1 to 16, each as it should be, all names and all ports different.
+pub fn are_good(spaces: &[HostedNamespace]) -> bool
+    ensures { result ≡ are_good spaces.now }
+{
+    !spaces.is_empty() && spaces.len() <= MOST && are_all_good(spaces) && are_distinct(spaces)
+}
+
+/// Whether each is as it should be.
+fn are_all_good(spaces: &[HostedNamespace]) -> bool
+    ensures { result ≡ list_all is_good_namespace spaces.now }
+{
+    for space in spaces {
+        if !is_good(space) {
+            return false;
+        }
+    }
+    true
+}
+
+/// Whether no two have the same name or the same port.
+fn are_distinct(spaces: &[HostedNamespace]) -> bool
+    ensures { result ≡ are_distinct spaces.now }
+{
+    let mut rest = spaces;
+    while let [space, others @ ..] = rest {
+        if !is_apart(space, others) {
+            return false;
+        }
+        rest = others;
+    }
+    true
+}
+
+/// Whether none of the others has its name or its port.
+fn is_apart(space: &HostedNamespace, others: &[HostedNamespace]) -> bool
+    ensures { result ≡ list_all (is_apart space.now) others.now }
+{
+    for other in others {
+        if other.name.as_slice() == space.name.as_slice() || other.port == space.port {
+            return false;
+        }
+    }
+    true
+}
+
+/// Whether a namespace is as it should be.
+fn is_good(space: &HostedNamespace) -> bool
+    ensures { result ≡ is_good_namespace space.now }
+{
+    is_name(space.name.as_slice())
+        && space.port >= 1
+        && space.config.is_valid()
+        && are_loadable(&space.loads)
+}
+
+/// Whether a name has 1 to 32 bytes, each of which a name may have.
+pub fn is_name(name: &[u8]) -> bool
+    ensures { result ≡ is_name name.now }
+{
+    !name.is_empty() && name.len() <= 32 && are_name_bytes(name)
+}
+
+/// Whether a name may have each of these bytes.
+fn are_name_bytes(name: &[u8]) -> bool
+    ensures { result ≡ list_all is_name_byte name.now }
+{
+    for byte in name {
+        if !is_name_byte(*byte) {
+            return false;
+        }
+    }
+    true
+}
+
+/// Whether a byte is one of `a` to `z`, `0` to `9`, `-` and `_`.
+fn is_name_byte(byte: u8) -> bool
+    ensures { result ≡ is_name_byte byte }
+{
+    (97 <= byte && byte <= 122) || (48 <= byte && byte <= 57) || byte == 45 || byte == 95
+}
+
+/// Whether each value may be loaded.
+fn are_loadable(loads: &[Listed]) -> bool
+    ensures { result ≡ list_all is_loadable loads.now }
+{
+    for listed in loads {
+        if !is_loadable(listed) {
+            return false;
+        }
+    }
+    true
+}
+
+/// Whether a value has no line end, and at most 8192 bytes.
+fn is_loadable(listed: &Listed) -> bool
+    ensures { result ≡ is_loadable listed.now }
+{
+    listed.value.len() <= MOST_BYTES && is_value(listed.value.as_slice())
+}
+
+/// Whether the bytes have no line end.
+pub fn is_value(bytes: &[u8]) -> bool
+    ensures { result ≡ is_value bytes.now }
+{
+    for byte in bytes {
+        if *byte == 10 || *byte == 13 {
+            return false;
+        }
+    }
+    true
+}

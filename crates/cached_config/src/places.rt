@@ -1,0 +1,83 @@
+//! On which line of a configuration file a key stands.
+ghost use Rattle.std.specs.Prelude.{◌≡◌};
+
+/// Where a key stands in the table of a namespace.
+#[derive(Clone, Copy, PartialEq, Eq, Drop)]
+pub enum Part {
+    /// In the table itself.
+    Own,
+    /// In its table `loads`.
+    Loads,
+}
+
+/// The line of the header with which the table of that number begins, from 1 on; 1 where there is none.
+pub fn line_of_header(text: &str, place: usize) -> usize {
+    let mut begun = 0usize;
+    for (index, line) in text.lines().enumerate() {
+        if line.trim().starts_with("[[") {
+            if begun == place {
+                return index.saturating_add(1);
+            }
+            begun = begun.saturating_add(1);
+        }
+    }
+    1
+}
+
+/// The line of a key in the table of that number; that of the table's header where it does not begin a line.
+pub fn line_of_key(text: &str, place: usize, part: Part, key: &str) -> usize {
+    let mut begun = 0usize;
+    let mut within = Part::Own;
+    for (index, line) in text.lines().enumerate() {
+        let line = line.trim();
+        if line.starts_with("[[") {
+            begun = begun.saturating_add(1);
+            within = Part::Own;
+        } else if line.starts_with("[") {
+            within = Part::Loads;
+        } else if begun == place.saturating_add(1) && within == part && sets(line, key) {
+            return index.saturating_add(1);
+        }
+    }
+    line_of_header(text, place)
+}
+
+/// The line of a key, or of a table of that name, outside all namespaces; 1 where there is none.
+pub fn line_outside(text: &str, key: &str) -> usize {
+    for (index, line) in text.lines().enumerate() {
+        let line = line.trim();
+        if sets(line, key) || is_header(line, key) {
+            return index.saturating_add(1);
+        }
+    }
+    1
+}
+
+/// The line in which the byte of that number stands, from 1 on.
+pub fn line_at(text: &str, byte: usize) -> usize {
+    let mut line = 1usize;
+    for (index, found) in text.as_bytes().iter().enumerate() {
+        if index < byte && *found == b'\n' {
+            line = line.saturating_add(1);
+        }
+    }
+    line
+}
+
+/// Whether a line gives a value to a key, bare or in quotes.
+fn sets(line: &str, key: &str) -> bool {
+    match line.split_once("=") {
+        Some((left, _)) => bare(left) == key,
+        None => false,
+    }
+}
+
+/// Whether a line begins a table of that name.
+fn is_header(line: &str, key: &str) -> bool {
+    line.starts_with("[") && bare(line.trim_start_matches("[").trim_end_matches("]")) == key
+}
+
+/// A key without the spaces and quotes around it.
+fn bare(key: &str) -> &str {
+    key.trim().trim_matches("\"").trim_matches("'")
+}

@@ -1,0 +1,32 @@
+//! When calls come.
+ghost use Rattle.std.specs.Prelude.{◌≡◌, ◌<◌, IfOk, IfErr};
+ghost use Rattle.front_reference.specs.Fronts.{ComesAfter};
+
+use engine_reference::Rules;
+use front_reference::{At, CacheError};
+use front_state::LentState;
+use policy_base::Instant;
+use std::hash::{BuildHasher, Hash};
+
+/// When the next call of a cache comes by a clock: at its moment, or at that of the last call where the clock went back, and at the next step. Refused with `UsedUp` where 2^64 - 1 steps were taken.
+/// ```
+/// let at = next_call(&cache, clock)?;
+/// cache.insert(7, 49, at)?;
+/// ```
+pub fn next_call<K: Eq + Hash, V, S: BuildHasher, R: Rules<K, V>, C>(
+    cache: &LentState<K, V, S, R, C>,
+    clock: Instant,
+) -> Result<At, CacheError>
+    ensures follows { IfOk result (λ at. ComesAfter at.now at.step cache.now) }
+    ensures rises { IfOk result (λ at. cache.now.step < at.step) }
+    ensures cause { IfErr result (λ e. (e ≡ CacheError.UsedUp) × (cache.now.step ≡ 18446744073709551615)) }
+{
+    let last = cache.last_call();
+    match last.step.checked_add(1) {
+        Some(step) => Ok(At {
+            now: clock.max(last.now),
+            step,
+        }),
+        None => Err(CacheError::UsedUp),
+    }
+}

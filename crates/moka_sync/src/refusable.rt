@@ -1,0 +1,56 @@
+//! A call that makes a value for which memory may be refused.
+ghost use Rattle.std.specs.Prelude.{◌≡◌, true, IfOk, IfErr};
+ghost use Rattle.front_reference.specs.declared.data.TurnKind.TheVariants as turns;
+ghost use Rattle.sync_desk.specs.Slots.Endings.{suits};
+ghost use Rattle.sync_desk.specs.Slots.Refusals.{IsTurnRefusal};
+
+use crate::cache::SharedCache;
+use crate::turns::Passing;
+use engine_reference::Rules;
+use front_parts::value_made;
+use front_reference::{CacheError, Made, OwnedKey, Shared, TurnKind};
+use std::alloc::AllocError;
+use std::hash::{BuildHasher, Hash};
+use std::sync::Wait;
+use sync_desk::Env;
+
+impl<
+    K: Eq + Hash + Drop,
+    V: Clone + Drop,
+    S: BuildHasher + Drop,
+    R: Rules<K, V> + Drop,
+    E: Env + Drop,
+    C: Drop,
+> SharedCache<K, V, S, R, E, C> {
+    /// The same as `get_with`, and coalesced with it, where `make` may be refused memory. Then its turn is given up, so that those that wait begin again, and the call answers `OutOfMemory`.
+    /// ```
+    /// let text = cache.get_with_alloc(&rt, key, || Shared::new(alloc, String::from_str(alloc, "seven")?))?;
+    /// ```
+    pub fn get_with_alloc<H: Wait, M: FnOnce() -> Result<V, AllocError> + Drop>(
+        &self,
+        rt: &H,
+        key: K,
+        make: M,
+    ) -> Result<V, CacheError>
+        requires exact { (x y : V) → V.is_clone x y → y ≡ x }
+        requires callable { M.IsAlwaysCallable make }
+        ensures cause { IfErr result IsTurnRefusal }
+    {
+        let asked = OwnedKey {
+            key,
+            alloc: self.alloc,
+        };
+        let (made, _is_fresh) = self.inner.desk.coalesce(
+            rt,
+            TurnKind::With,
+            asked,
+            Passing::Never,
+            |_: &V| -> bool { false },
+            || -> Result<Made<V, Shared<R::Fault>>, AllocError>
+                requires { M.IsAlwaysCallable make }
+                ensures { IfOk result (λ made. suits turns.With made ≡ true) }
+            { Ok(Made::Value(make()?)) },
+        )?;
+        Ok(value_made(made))
+    }
+}

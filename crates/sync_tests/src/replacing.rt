@@ -1,0 +1,74 @@
+//! Closures that say which values are replaced, and look into the same cache.
+use crate::caches::{Dialled, make_dialled, wait_for_readings};
+use std::alloc::Global;
+use std::sync::Wait;
+use std::sync::atomic::Ordering;
+use std::thread;
+use std::thread::Threads;
+
+/// Whether the value that is asked about is the one that the same cache shows, and is 5. Counts how often it is asked.
+fn is_five<H: Wait>(rt: &H, shared: &Dialled, seen: u64) -> bool {
+    shared.runs.fetch_add(1, Ordering::SeqCst);
+    shared.cache.get(rt, &1) == Ok(Some(seen)) && seen == 5
+}
+
+/// Whether a value that is not to be replaced stays, and one that is to be is made anew; each is asked about once.
+fn looks<H: Wait>(rt: &H, shared: &Dialled) -> bool {
+    shared.cache.insert(rt, 1, 4) == Ok(())
+        && shared
+            .cache
+            .get_with_if(rt, 1, || 6, |seen: &u64| is_five(rt, shared, *seen))
+            == Ok(4)
+        && shared.cache.insert(rt, 1, 5) == Ok(())
+        && shared
+            .cache
+            .get_with_if(rt, 1, || 6, |seen: &u64| is_five(rt, shared, *seen))
+            == Ok(6)
+        && shared.runs.load(Ordering::SeqCst) == 2
+}
+
+/// Says yes of 7 alone, once another has written meanwhile.
+fn is_seven(shared: &Dialled, seen: u64, readings: u64) -> bool {
+    shared.runs.fetch_add(1, Ordering::SeqCst);
+    wait_for_readings(&shared.dial, readings) && seen == 7
+}
+
+/// Whether 8 is kept, once it is asked about.
+fn keeps_eight<H: Wait>(rt: &H, shared: &Dialled, before: u64) -> bool {
+    let readings = before.saturating_add(2);
+    shared.cache.get_with_if(rt, 1, || 9, |seen: &u64| is_seven(shared, *seen, readings)) == Ok(8)
+}
+
+/// Whether 8 is written, once 7 is asked about.
+fn writes_eight<H: Wait>(rt: &H, shared: &Dialled, before: u64) -> bool {
+    wait_for_readings(&shared.dial, before.saturating_add(1))
+        && shared.cache.insert(rt, 1, 8) == Ok(())
+}
+
+/// Whether a value that is written while the closure is asked is asked about in its place.
+fn asks_again<R: Threads + Wait + Sync>(rt: &R, shared: &Dialled) -> bool {
+    if shared.cache.insert(rt, 1, 7) != Ok(()) {
+        return false;
+    }
+    let before = shared.dial.readings();
+    let asked = shared.runs.load(Ordering::SeqCst);
+    let (kept, written) = thread::join(
+        rt,
+        || keeps_eight(rt, shared, before),
+        || writes_eight(rt, shared, before),
+    );
+    kept && written && shared.runs.load(Ordering::SeqCst) == asked.saturating_add(2)
+}
+
+/// The same of a new cache.
+fn are_right<R: Threads + Wait + Sync>(rt: &R, alloc: Global) -> bool {
+    match make_dialled(alloc) {
+        Some(shared) => looks(rt, &shared) && asks_again(rt, &shared),
+        None => false,
+    }
+}
+
+#[test]
+fn closures_look_into_the_cache(rt: HostRuntime) {
+    assert!(rt; are_right(&rt, rt.alloc()));
+}

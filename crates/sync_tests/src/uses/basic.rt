@@ -1,0 +1,81 @@
+//! One cache, which two threads fill.
+use moka_sync::{BuildError, Cache, CacheError, Env, MachineEnv, PlainCache};
+use rand_core::SeedableRng;
+use rand_xoshiro::Xoshiro256PlusPlus;
+use std::alloc::Global;
+use std::sync::Wait;
+use std::thread::Threads;
+use std::time::Clock;
+use std::{io, thread};
+
+// example: basic
+/// Prices by the number of their article.
+type Prices<E> = PlainCache<u64, u64, E>;
+
+/// The machine's clock, and a generator of random words.
+type Machine<C> = MachineEnv<C, Xoshiro256PlusPlus>;
+
+/// What gives a cache its moments and random words.
+fn make_env<C: Clock + Drop>(clock: C, seed: u64) -> io::Result<Machine<C>> {
+    MachineEnv::new(clock, Xoshiro256PlusPlus::seed_from_u64(seed))
+}
+
+/// An empty cache of at most five thousand prices.
+fn make_prices<E: Env + Drop>(alloc: Global, env: E) -> Result<Prices<E>, BuildError> {
+    Cache::new(alloc, 5_000, env)
+}
+
+/// Writes the prices of some articles.
+fn fill<H: Wait, E: Env + Drop>(
+    rt: &H,
+    prices: &Prices<E>,
+    articles: &[u64],
+) -> Result<(), CacheError> {
+    for article in articles {
+        prices.insert(rt, *article, 100)?;
+    }
+    Ok(())
+}
+
+/// Two threads write at the same time. Then a price is taken back.
+fn fill_twice<R: Threads + Wait + Sync, E: Env + Drop + Send>(
+    rt: &R,
+    prices: &Prices<E>,
+) -> Result<(), CacheError> {
+    let (low, high) = thread::join(
+        rt,
+        || fill(rt, prices, &[1, 2, 3]),
+        || fill(rt, prices, &[4, 5, 6]),
+    );
+    low?;
+    high?;
+    prices.invalidate(rt, &1)
+}
+// end
+
+/// Whether the prices that were written can be read, but for the one that was taken back.
+fn is_filled<R: Threads + Wait + Sync, E: Env + Drop + Send>(rt: &R, prices: &Prices<E>) -> bool {
+    fill_twice(rt, prices) == Ok(())
+        && prices.get(rt, &1) == Ok(None)
+        && prices.get(rt, &2) == Ok(Some(100))
+        && prices.get(rt, &6) == Ok(Some(100))
+}
+
+/// The same of a new cache, by the machine's clock.
+fn is_filled_anew<R: Threads + Wait + Sync + Clock + Copy + Drop + Send>(
+    rt: &R,
+    alloc: Global,
+) -> bool {
+    match make_env(*rt, 7) {
+        Ok(env) => match make_prices(alloc, env) {
+            Ok(prices) => is_filled(rt, &prices),
+            Err(_) => false,
+        },
+        Err(_) => false,
+    }
+}
+
+#[test]
+fn two_threads_fill(rt: HostRuntime) {
+    assert!(rt; is_filled_anew(&rt, rt.alloc()));
+}

@@ -1,0 +1,152 @@
+//! A weigher, an expiry and a predicate of one's own, to copy.
+ghost use Rattle.std.specs.Prelude.{◌==◌};
+
+use crate::caches::{make_dial, moments_of};
+use moka_sync::{
+    Build, BuildError, Bundle, Cache, CacheBuilder, Dial, Env, Expiry, Instant, Predicate,
+    StdHasher, Weigher,
+};
+use std::alloc::Global;
+use std::sync::{Arc, Wait};
+use std::time::Duration;
+
+// example: template
+/// A document: who wrote it, how many bytes it has, and how long it is fresh.
+#[derive(Clone, Copy, Debug, PartialEq, Eq, Drop)]
+struct Document {
+    author: u64,
+    bytes: u32,
+    fresh: Duration,
+}
+
+/// A document weighs its bytes.
+#[derive(Drop)]
+struct BySize;
+
+impl Weigher<u64, Document> for BySize {
+    // A ghost member is for contracts alone, and does not run: it says what the function below it answers.
+    // Its arguments are the weigher, the key and the value.
+    ghost weight_of = { λ _ _ document. document.bytes };
+
+    fn weigh(&self, _number: &u64, document: &Document) -> u32 {
+        document.bytes
+    }
+}
+
+/// A document lives as long as it is fresh, from when it was written or written anew. A read changes nothing.
+#[derive(Drop)]
+struct Freshness;
+
+impl Expiry<u64, Document> for Freshness {
+    // What an `impl` of a trait of another crate says in its ghost members it imports for itself.
+    ghost use Rattle.std.specs.Prelude.{Some};
+    ghost use Rattle.std.specs.Duration.{as_nanos};
+
+    // Times are in nanoseconds. The arguments: expiry, key, value, moment.
+    ghost created = { λ _ _ document _. Some (as_nanos document.fresh) };
+
+    // Expiry, key, value, moment, what is left, the moment of the write.
+    ghost read = { λ _ _ _ _ left _. left };
+
+    // Expiry, key, value, moment, what is left.
+    ghost updated = { λ _ _ document _ _. Some (as_nanos document.fresh) };
+
+    fn expire_after_create(
+        &self,
+        _number: &u64,
+        document: &Document,
+        _created_at: Instant,
+    ) -> Option<Duration> {
+        Some(document.fresh)
+    }
+
+    fn expire_after_read(
+        &self,
+        _number: &u64,
+        _document: &Document,
+        _read_at: Instant,
+        remaining: Option<Duration>,
+        _last_modified_at: Instant,
+    ) -> Option<Duration> {
+        remaining
+    }
+
+    fn expire_after_update(
+        &self,
+        _number: &u64,
+        document: &Document,
+        _updated_at: Instant,
+        _remaining: Option<Duration>,
+    ) -> Option<Duration> {
+        Some(document.fresh)
+    }
+}
+
+/// Covers the documents of an author.
+#[derive(Drop)]
+struct WrittenBy(u64);
+
+impl Predicate<u64, Document> for WrittenBy {
+    // Predicate, key, value. `==` is a test, as in Rust.
+    ghost covers = { λ predicate _ document. document.author == predicate.0 };
+
+    fn is_match(&self, _number: &u64, document: &Document) -> bool {
+        document.author == self.0
+    }
+}
+
+/// The rules of a cache of documents: when they expire, what they weigh, what covers them, what their making may fail with.
+type DocumentRules = Bundle<Freshness, BySize, WrittenBy, ()>;
+
+/// Documents by their number.
+type Documents<E> = Cache<u64, Document, StdHasher, DocumentRules, E>;
+
+/// An empty cache of documents.
+fn make_documents<E: Env + Drop>(alloc: Global, env: E) -> Result<Documents<E>, BuildError> {
+    CacheBuilder::new(1 << 20)
+        .expire_after(Freshness)
+        .weigher(BySize)
+        .support_invalidation_closures::<WrittenBy>()
+        .build(alloc, env)
+}
+// end
+
+/// A document of an author.
+fn document_of(author: u64, seconds: u64) -> Document {
+    Document {
+        author,
+        bytes: 100,
+        fresh: Duration::from_secs(seconds),
+    }
+}
+
+/// Whether three documents weigh three times a hundred.
+fn weighs<H: Wait, E: Env + Drop>(rt: &H, documents: &Documents<E>) -> bool {
+    documents.insert(rt, 1, document_of(5, 10)) == Ok(())
+        && documents.insert(rt, 2, document_of(5, 20)) == Ok(())
+        && documents.insert(rt, 3, document_of(6, 20)) == Ok(())
+        && documents.run_pending_tasks(rt) == Ok(())
+        && documents.weighted_size(rt) == 300
+}
+
+/// Whether of them the first expires first, and the second is covered.
+fn ends<H: Wait, E: Env + Drop>(rt: &H, dial: &Dial, documents: &Documents<E>) -> bool {
+    dial.set(15_000_000_000);
+    !documents.contains_key(rt, &1)
+        && documents.contains_key(rt, &2)
+        && documents.invalidate_entries_if(rt, WrittenBy(5)).is_ok()
+        && !documents.contains_key(rt, &2)
+        && documents.get(rt, &3) == Ok(Some(document_of(6, 20)))
+}
+
+/// The same of a new cache.
+fn follows_rules<H: Wait>(rt: &H, alloc: Global) -> Result<bool, BuildError> {
+    let dial = make_dial(alloc)?;
+    let documents = make_documents(alloc, moments_of(Arc::try_clone(&dial)?))?;
+    Ok(weighs(rt, &documents) && ends(rt, &dial, &documents))
+}
+
+#[test]
+fn documents_follow_their_rules(rt: HostRuntime) {
+    assert!(rt; follows_rules(&rt, rt.alloc()) == Ok(true));
+}
