@@ -2,31 +2,40 @@
 """Drives the proved server `cached --config` over loopback by clients of its own, and ends by itself.
 
     python3 benches/connections.py          requests a second, and the server's processor time a request, by connections and depth
-    python3 benches/connections.py redis    the same requests to `redis-server`, where that is on the path, to compare with
+    python3 benches/connections.py NAME     the same requests to `redis` or `memcached`, where they are on the path, or to `plain` (plain_server)
+    python3 benches/connections.py beside   all of these that are there, three rounds in turn, medians; fills figures.json
     python3 benches/connections.py soak     a million requests over 200 connections, with the server's memory on the way
     python3 benches/connections.py memory   what the server holds for each of a million values
 
-Build the server first: in crates/cached, `rt run` leaves the program at out/cached. Half of the requests are SET, half GET, with
+Build the server first: in crates/cached, `rt run` leaves the program at out/cached; CACHED names another. Half of the requests are SET, half GET, with
 keys of 16 bytes and values of 32. Each connection has keys of its own, so a GET answers what the same connection stored last, or
 NONE where that was evicted: each reply is compared, a stale value ends the run with an error.
 """
+import contextlib
 import multiprocessing
+import os
 import pathlib
 import random
 import selectors
+import shutil
 import socket
+import statistics
 import subprocess
 import sys
 import tempfile
 import threading
 import time
 
-PROGRAM = pathlib.Path(__file__).resolve().parent.parent / "crates/cached/out/cached"
+import figures
+import progress
+
+PROGRAM = pathlib.Path(os.environ.get("CACHED", pathlib.Path(__file__).resolve().parent.parent / "crates/cached/out/cached"))
 HOST = "127.0.0.1"
 KEYS = 10_000
 CAPACITY = 1_000
 CONNECTIONS = (1, 16, 64)
 DEPTHS = {1: 60_000, 32: 600_000}
+ROUNDS = 3
 SOAK_CONNECTIONS, SOAK_REQUESTS, SOAK_DEPTH = 200, 1_000_000, 8
 CLIENT_PROCESSES = 3
 ANSWER_SECONDS = 30
@@ -59,11 +68,31 @@ class Bulks:
         return request, [(b"$-1\r",)] if value is None else [(b"$%d\r" % len(value),), (value + b"\r",)]
 
 
+class Texts:
+    """Those of memcached."""
+
+    @staticmethod
+    def put(key, value):
+        return b"set %b 0 0 %d\r\n%b\r\n" % (key, len(value), value), [(b"STORED\r",)]
+
+    @staticmethod
+    def get(key, value):
+        wanted = [] if value is None else [(b"VALUE %b 0 %d\r" % (key, len(value)),), (value + b"\r",)]
+        return b"get %b\r\n" % key, [*wanted, (b"END\r",)]
+
+
+def free_ports(count):
+    """So many ports that nobody listens on now."""
+    with contextlib.ExitStack() as probes:
+        bound = [probes.enter_context(socket.socket()) for _ in range(count)]
+        for probe in bound:
+            probe.bind((HOST, 0))
+        return [probe.getsockname()[1] for probe in bound]
+
+
 def free_port():
     """A port that nobody listens on now."""
-    with socket.socket() as probe:
-        probe.bind((HOST, 0))
-        return probe.getsockname()[1]
+    return free_ports(1)[0]
 
 
 class Server:
@@ -73,12 +102,17 @@ class Server:
 
     def __init__(self, capacity):
         self.port = free_port()
+        self.start([f'name = "main"\nport = {self.port}\ncapacity = {capacity}\npolicy = "lru"\n'])
+
+    def start(self, namespaces):
+        """Starts the program with these tables as its configuration."""
         self.folder = tempfile.TemporaryDirectory()
         file = pathlib.Path(self.folder.name, "cached.toml")
-        file.write_text(f'[[namespace]]\nname = "main"\nport = {self.port}\ncapacity = {capacity}\npolicy = "lru"\n')
+        file.write_text("".join(f"[[namespace]]\n{namespace}" for namespace in namespaces))
         self.process = subprocess.Popen([PROGRAM, "--config", file], stdout=subprocess.PIPE, stdin=subprocess.DEVNULL)
-        if not self.process.stdout.readline().startswith(b"listening main "):
-            sys.exit("the server does not listen")
+        for _ in namespaces:
+            if not self.process.stdout.readline().startswith(b"listening "):
+                sys.exit("the server does not listen")
         threading.Thread(target=self.drop_output, daemon=True).start()
 
     def drop_output(self):
@@ -101,16 +135,13 @@ class Server:
         self.folder.cleanup()
 
 
-class Redis(Server):
-    """`redis-server`, which keeps nothing on disk and evicts nothing."""
-
-    dialect = Bulks
+class Other(Server):
+    """A server that is started by words, and says nothing that is read."""
 
     def __init__(self, _capacity):
         self.port = free_port()
         self.folder = tempfile.TemporaryDirectory()
-        words = ["redis-server", "--port", str(self.port), "--bind", HOST, "--save", "", "--appendonly", "no", "--dir", self.folder.name]
-        self.process = subprocess.Popen(words, stdout=subprocess.PIPE, stdin=subprocess.DEVNULL)
+        self.process = subprocess.Popen(self.words(), stdout=subprocess.PIPE, stdin=subprocess.DEVNULL)
         threading.Thread(target=self.drop_output, daemon=True).start()
         for _ in range(100):
             try:
@@ -118,7 +149,39 @@ class Redis(Server):
                 return
             except ConnectionRefusedError:
                 time.sleep(0.05)
-        sys.exit("redis-server does not listen")
+        sys.exit(f"{self.words()[0]} does not listen")
+
+    @classmethod
+    def is_there(cls):
+        return shutil.which(cls.program) is not None
+
+
+class Redis(Other):
+    """`redis-server`, which keeps nothing on disk and evicts nothing."""
+
+    dialect, program = Bulks, "redis-server"
+
+    def words(self):
+        return [self.program, "--port", str(self.port), "--bind", HOST, "--save", "", "--appendonly", "no", "--dir", self.folder.name]
+
+
+class Memcached(Other):
+    """`memcached` with 64 MB, of which these keys fill little."""
+
+    dialect, program = Texts, "memcached"
+
+    def words(self):
+        return [self.program, "-l", HOST, "-p", str(self.port), "-U", "0", "-u", "nobody"]
+
+
+class Plain(Other):
+    """`plain_server`, as `cargo build --release` leaves it."""
+
+    program = str(pathlib.Path(__file__).resolve().parent / "plain_server/target/release/plain_server")
+    dialect = Lines
+
+    def words(self):
+        return [self.program, "--port", str(self.port), str(KEYS)]
 
 
 class Client:
@@ -215,22 +278,53 @@ def run(server, connections, depth, requests, watch=None):
     return connections * depth * batches, seconds, used
 
 
-def bench(make):
-    print("connections  depth  requests a second  processor microseconds a request")
+def round_of(name, make):
+    """Rows of connections, depth, requests a second and processor microseconds a request, as each is measured."""
     for connections in CONNECTIONS:
         for depth, requests in DEPTHS.items():
+            progress.show(f"{name}: {connections} connections at depth {depth}")
             server = make(KEYS)
             done, seconds, used = run(server, connections, depth, requests)
             server.stop()
-            print(f"{connections:11} {depth:6} {done / seconds:18.0f} {used / done * 1e6:33.2f}", flush=True)
+            yield connections, depth, done / seconds, used / done * 1e6
+
+
+def bench(name):
+    print("connections  depth  requests a second  processor microseconds a request")
+    for connections, depth, rate, micros in round_of(name, SERVERS[name]):
+        progress.clear()
+        print(f"{connections:11} {depth:6} {rate:18.0f} {micros:33.2f}", flush=True)
+
+
+def beside():
+    """All servers that are there, in turn."""
+    makes = {name: make for name, make in SERVERS.items() if make is Server or make.is_there()}
+    taken = {}
+    for _ in range(ROUNDS):
+        for name, make in makes.items():
+            for connections, depth, _, micros in round_of(name, make):
+                taken.setdefault((connections, depth), {}).setdefault(name, []).append(micros)
+    progress.clear()
+    print("processor microseconds a request: medians, least and greatest")
+    for (connections, depth), row in taken.items():
+        medians = {name: round(statistics.median(all_micros), 2) for name, all_micros in row.items()}
+        texts = [f"{name} {medians[name]} ({min(row[name]):.1f} to {max(row[name]):.1f})" for name in row]
+        print(f"{connections:3} connections, depth {depth:2}: {', '.join(texts)}", flush=True)
+        figures.keep("requests", {f"{connections} {depth}": medians})
 
 
 def soak():
     """The cache is full after a few thousand requests; from a quarter of the run on memory has to stay as it is."""
     server = Server(CAPACITY)
     memory = []
-    done, seconds, _ = run(server, SOAK_CONNECTIONS, SOAK_DEPTH, SOAK_REQUESTS, lambda: memory.append(server.resident_kibibytes()))
+
+    def watch():
+        memory.append(server.resident_kibibytes())
+        progress.show(f"{server.processor_seconds():.0f} s of processor time, {memory[-1]} KiB")
+
+    done, seconds, _ = run(server, SOAK_CONNECTIONS, SOAK_DEPTH, SOAK_REQUESTS, watch)
     server.stop()
+    progress.clear()
     quarter, last = max(memory[: len(memory) // 4 + 1]), max(memory[len(memory) * 3 // 4 :])
     print(f"{done} requests over {SOAK_CONNECTIONS} connections in {seconds:.1f} s; at most {quarter} KiB in the first quarter, {last} KiB in the last")
     sys.exit(last > quarter * 1.1)
@@ -246,15 +340,22 @@ def memory():
             left = 3000
             while left:
                 left -= len(client.recv(left))
+            progress.show(f"{first:,} of {HELD:,} values")
+        progress.clear()
         used = (server.resident_kibibytes() - before) * 1024
     server.stop()
     print(f"{HELD} values of 32 bytes by keys of 16: {used / HELD - 48:.0f} bytes a value above key and value")
 
 
+SERVERS = {"cached": Server, "redis": Redis, "memcached": Memcached, "plain": Plain}
+KINDS = {"soak": soak, "memory": memory, "beside": beside}
+
+
 if __name__ == "__main__":
-    if sys.argv[1:] == ["soak"]:
-        soak()
-    elif sys.argv[1:] == ["memory"]:
-        memory()
+    word = sys.argv[1] if len(sys.argv) > 1 else "cached"
+    if len(sys.argv) > 2 or word not in [*SERVERS, *KINDS]:
+        sys.exit(__doc__)
+    elif word in KINDS:
+        KINDS[word]()
     else:
-        bench(Redis if sys.argv[1:] == ["redis"] else Server)
+        bench(word)

@@ -24,6 +24,7 @@ import sys
 import tempfile
 
 import connections
+import progress
 
 HERE = pathlib.Path(__file__).resolve().parent
 KEYS = 10_000
@@ -112,7 +113,9 @@ def main():
     for number in range(SERVER_RUNS):
         for name, run in runs.items():
             if number < SCRIPT_RUNS or name.startswith("server"):
+                progress.show(f"round {number + 1} of {SERVER_RUNS}: {name}")
                 seconds[name].append(run())
+    progress.clear()
     count = KEYS * (1 + ROUNDS)
     medians = {name: statistics.median(spent) / count * 1e6 for name, spent in seconds.items()}
     for name, spent in seconds.items():

@@ -5,15 +5,19 @@ Build the program first: in crates/bench, `rt run` leaves it at out/bench. Each 
 runs of one round, one of which fills the same cache, draws keys the same way and goes through them without a call, by the
 processor time. A factor compares runs of one round; what is printed are medians over the rounds, and the least and the greatest
 factor. Memory is the most that a run had resident, less that of a run of one value.
-It needs GNU `time`. `engine.py SIZE..` takes these sizes in place of 1,000, 100,000 and 1,000,000. Ends with status 1 where at 100,000 a look-up
-takes more than 4 times `LruCache`'s, an insert more than 3 times its `put`, or a value more than 260 bytes above its key and
-itself, where the space was made at once.
+It needs GNU `time`. Where Debian's packages are there (caffeine/run.sh), Caffeine's calls are timed beside, keys by Zipf's law as here.
+Figures go into figures.json. CORE in the environment is the number of a core that all runs on. `engine.py SIZE..` takes these sizes in
+place of 1,000, 100,000 and 1,000,000. Ends with status 1 where at 100,000 a look-up takes more than 4 times `LruCache`'s, an insert more
+than 3 times its `put`, or a value more than 260 bytes above its key and itself, where the space was made at once.
 """
 import os
 import pathlib
 import statistics
 import subprocess
 import sys
+
+import figures
+import progress
 
 PROGRAM = pathlib.Path(__file__).resolve().parent.parent / "crates/bench/out/bench"
 CACHES = ["tiny_lfu", "lru_cache"]
@@ -23,9 +27,13 @@ DRAWN = 1_000_000
 PASSES = 2
 ROUNDS = 5
 PAIR_BYTES = 16
+CAFFEINE = pathlib.Path(__file__).resolve().parent / "caffeine/run.sh"
+NO_PACKAGE = 3
+WORKS_OF = {"get": "gets", "put": "writes", "fetch": "fetches"}
 GET_BOUND = 4.0
 INSERT_BOUND = 3.0
 BYTES_BOUND = 260
+LEAST_WEIGHED = 100_000
 
 
 def words_of(cache, work, draws, size, drawn, passes):
@@ -56,9 +64,15 @@ def kinds_of_round():
     return kinds
 
 
-def round_of(size):
+def timed(kind, size, number):
+    """The processor seconds of one run of a round."""
+    progress.show(f"{size:,}, round {number + 1} of {ROUNDS}: {' '.join(kind)}")
+    return spent_by(*kind, size, DRAWN, PASSES)
+
+
+def round_of(size, number):
     """By cache, work and draws the nanoseconds of a call, and how many times `LruCache`'s that is, in one round."""
-    spent = {kind: spent_by(*kind, size, DRAWN, PASSES) for kind in kinds_of_round()}
+    spent = {kind: timed(kind, size, number) for kind in kinds_of_round()}
     nanos = {(cache, work, draws): (seconds - spent[cache, "loops", draws]) / (DRAWN * PASSES) * 1e9
              for (cache, work, draws), seconds in spent.items() if work != "loops"}
     factors = {(cache, work, draws): once / nanos["lru_cache", work, draws] for (cache, work, draws), once in nanos.items()}
@@ -67,15 +81,42 @@ def round_of(size):
 
 def print_times(size):
     """Prints what the calls take at a size, and answers by work and draws how many times `LruCache`'s the engine's take: medians over the rounds."""
-    rounds = [round_of(size) for _ in range(ROUNDS)]
-    medians = {}
+    rounds = [round_of(size, number) for number in range(ROUNDS)]
+    progress.clear()
+    medians, kept = {}, {}
     for kind in rounds[0][0]:
         once = statistics.median(nanos[kind] for nanos, _ in rounds)
+        kept[f"{kind[0]} {kind[1]} {kind[2]}"] = round(once)
         factors = [factors[kind] for _, factors in rounds]
         medians[kind] = statistics.median(factors)
         cache, work, draws = kind
         print(f"{size:,}: {work} {draws}: {cache} {once:.0f} ns, {medians[kind]:.1f} times lru_cache ({min(factors):.1f} to {max(factors):.1f})", flush=True)
+    figures.keep("calls", {str(size): kept})
     return medians
+
+
+def by_caffeine(*words):
+    """The lines that Caffeine's program prints, each as its words; none where it is not there."""
+    run = subprocess.run([CAFFEINE, *words], capture_output=True, text=True)
+    if run.returncode == NO_PACKAGE:
+        return []
+    run.check_returncode()
+    return [line.split() for line in run.stdout.splitlines()]
+
+
+def print_caffeine(size):
+    """Prints what Caffeine's calls take at a size, and what a value takes of its heap."""
+    progress.show(f"{size:,}: Caffeine")
+    kept = {}
+    for _, work, median, least, greatest in by_caffeine("times", "1", str(size)):
+        progress.clear()
+        print(f"{size:,}: {work} zipf: caffeine {float(median):.0f} ns ({float(least):.0f} to {float(greatest):.0f})", flush=True)
+        kept[f"caffeine {WORKS_OF[work]} zipf"] = round(float(median))
+    for _, taken in by_caffeine("memory", str(size)) if size >= LEAST_WEIGHED else []:
+        print(f"{size:,}: bytes a value above key and value: caffeine {taken}", flush=True)
+        kept["caffeine bytes"] = int(taken)
+    if kept:
+        figures.keep("calls", {str(size): kept})
 
 
 def bytes_a_value(cache, work, size):
@@ -90,15 +131,19 @@ def print_bytes(size):
     for work, making in [("grows", "grown"), ("loops", "made with its space")]:
         taken = {cache: bytes_a_value(cache, work, size) for cache in CACHES}
         words = ", ".join(f"{cache} {taken[cache]:.0f}" for cache in CACHES)
+        figures.keep("calls", {str(size): {f"{cache} bytes": round(taken[cache]) for cache in CACHES}})
         print(f"{size:,}: bytes a value above key and value, {making}: {words}", flush=True)
     return taken["tiny_lfu"]
 
 
 def main():
     are_met = True
+    if "CORE" in os.environ:
+        os.sched_setaffinity(0, {int(os.environ["CORE"])})
     for size in [int(word) for word in sys.argv[1:]] or SIZES:
         factors = print_times(size)
-        taken = print_bytes(size) if size >= 100_000 else 0
+        print_caffeine(size)
+        taken = print_bytes(size) if size >= LEAST_WEIGHED else 0
         if size == 100_000:
             looked_up = max(factors["tiny_lfu", "gets", draws] for draws in ["uniform", "zipf"])
             inserted = max(factors[cache, "inserts", "uniform"] for cache in ["tiny_lfu", "lru"])

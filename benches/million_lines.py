@@ -14,6 +14,8 @@ import subprocess
 import sys
 import tempfile
 
+import progress
+
 LINES = 1_000_000
 KEYS = 100_000
 SYNC_EACH = 1_000
@@ -43,8 +45,9 @@ def make_lines():
     return b"".join(lines), b"".join(replies)
 
 
-def run_once(input_path, output_path):
+def run_once(number, input_path, output_path):
     """The processor seconds of one run from a file to a file."""
+    progress.show(f"run {number + 1} of {RUNS}")
     with open(input_path, "rb") as source, open(output_path, "wb") as sink:
         before = os.times()
         subprocess.run([PROGRAM, "--script"], stdin=source, stdout=sink, stderr=subprocess.DEVNULL, check=True)
@@ -53,11 +56,13 @@ def run_once(input_path, output_path):
 
 
 def main():
+    progress.show("making the lines")
     text, replies = make_lines()
     with tempfile.TemporaryDirectory() as folder:
         input_path, output_path = pathlib.Path(folder, "input"), pathlib.Path(folder, "output")
         input_path.write_bytes(text)
-        spent = [run_once(input_path, output_path) for _ in range(RUNS)]
+        spent = [run_once(number, input_path, output_path) for number in range(RUNS)]
+        progress.clear()
         if output_path.read_bytes() != replies:
             sys.exit("wrong replies")
     median = statistics.median(spent)

@@ -11,6 +11,8 @@ import pathlib
 import subprocess
 import sys
 
+import progress
+
 PROGRAM = pathlib.Path(__file__).resolve().parent.parent / "crates/bench/out/bench"
 MOST_GROWTH = 3.0
 
@@ -18,12 +20,14 @@ MOST_GROWTH = 3.0
 def seconds_of(what, size, rounds):
     """The processor seconds of the best of three runs."""
     best = None
+    progress.show(f"{what} of {size:,}, {rounds:,} rounds")
     for _ in range(3):
         before = os.times()
         subprocess.run([PROGRAM, "policy", what, str(size), str(rounds)], stdout=subprocess.DEVNULL, check=True)
         after = os.times()
         spent = after.children_user + after.children_system - before.children_user - before.children_system
         best = spent if best is None else min(best, spent)
+    progress.clear()
     return best
 
 

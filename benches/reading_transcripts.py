@@ -12,6 +12,8 @@ import sys
 import tempfile
 import time
 
+import progress
+
 RECORDS = 500_000
 LIMIT_SECONDS = 10.0
 PROGRAM = pathlib.Path(__file__).resolve().parent.parent / "crates/transcript/out/transcript"
@@ -31,8 +33,9 @@ def make_journal():
     return lines
 
 
-def run_once(path, status):
+def run_once(path, status, shown):
     """The seconds of one run over a file, and what it printed."""
+    progress.show(shown)
     with open(path, "rb") as source:
         start = time.perf_counter()
         done = subprocess.run([PROGRAM, "audit"], stdin=source, capture_output=True)
@@ -43,20 +46,22 @@ def run_once(path, status):
 
 
 def main():
+    progress.show("making the journal")
     lines = make_journal()
     with tempfile.TemporaryDirectory() as folder:
         path = pathlib.Path(folder, "journal")
         path.write_bytes(b"".join(lines))
         size = path.stat().st_size
-        runs = [run_once(path, 3) for _ in range(3)]
+        runs = [run_once(path, 3, f"run {number + 1} of 3") for number in range(3)]
         if any(printed != b"verdict breaks 1\n" for _, printed in runs):
             sys.exit(f"printed {runs[0][1]!r}")
         middle = len(lines) // 2
         lines[middle] = lines[middle].replace(b" ", b"  ", 1)
         path.write_bytes(b"".join(lines))
-        _, printed = run_once(path, 1)
+        _, printed = run_once(path, 1, "a spoilt line")
         if printed != b"transcript: bad input, line %d\n" % (middle + 2):
             sys.exit(f"printed {printed!r}")
+    progress.clear()
     best = min(seconds for seconds, _ in runs)
     print(f"{2 * RECORDS} steps, {size / 1e6:.0f} MB, read in {best:.2f} s (at most {LIMIT_SECONDS} s wanted)")
     sys.exit(best > LIMIT_SECONDS)

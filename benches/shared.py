@@ -12,6 +12,8 @@ import statistics
 import subprocess
 import sys
 
+import progress
+
 PROGRAM = pathlib.Path(__file__).resolve().parent.parent / "crates/bench/out/bench"
 CACHES = ["loops", "moka", "lru"]
 THREADS = [1, 2, 4]
@@ -25,6 +27,7 @@ BOUND = 4.0
 def spent_by(cache, threads):
     """The processor seconds of one run."""
     words = [str(PROGRAM), "sync", cache, str(threads), str(SIZE), str(DRAWN), str(CALLS)]
+    progress.show(" ".join(words[1:4]))
     process = subprocess.Popen(words, stdout=subprocess.DEVNULL)
     _, status, usage = os.wait4(process.pid, 0)
     process.returncode = os.waitstatus_to_exitcode(status)
@@ -48,6 +51,7 @@ def main():
         factors = sorted(nanos["moka"] / nanos["lru"] for nanos in rounds)
         factor = statistics.median(factors)
         are_met = are_met and factor <= BOUND
+        progress.clear()
         print(
             f"{threads} threads: moka {moka:.0f} ns a call, lru {lru:.0f} ns, "
             f"{factor:.1f} times ({factors[0]:.1f} to {factors[-1]:.1f})",

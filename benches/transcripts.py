@@ -19,6 +19,8 @@ import resource
 import subprocess
 import sys
 
+import progress
+
 PROGRAM = pathlib.Path(__file__).resolve().parent.parent / "crates/transcript/out/transcript"
 LIMIT_SECONDS = 600
 
@@ -131,8 +133,11 @@ def values_of(steps, keys, kinds):
 def main():
     words = sys.argv[1:] + ["1000000", "10000", "-"][len(sys.argv) - 1 :]
     steps, keys, capacity, kinds = int(words[0]), int(words[1]), words[2], " ".join(words[3:])
+    progress.show("making the transcript")
     text = ("\n".join(lines_of(steps, keys, capacity, kinds)) + "\n").encode()
+    progress.show("judging it")
     run = subprocess.run([PROGRAM, "audit"], input=text, capture_output=True, timeout=LIMIT_SECONDS)
+    progress.clear()
     if run.stdout != b"verdict yes\n" or run.returncode != 0:
         sys.exit(f"wrong verdict: {run.stdout[:100]} {run.stderr[:100]}")
     used = resource.getrusage(resource.RUSAGE_CHILDREN)

@@ -31,3 +31,20 @@ same "docs/PROTOCOL.md's example and crates/cached/stdin" \
     "$(sed -n 's/^> //p' <<<"$example")" "$(cat crates/cached/stdin)"
 same "docs/PROTOCOL.md's example and crates/cached/stdout" \
     "$(sed -n 's/^< //p' <<<"$example")" "$(cat crates/cached/stdout)"
+
+# The sample configuration is README's: what stands behind its `cat`, up to the next command.
+same "README.md's configuration and docs/cached.toml" \
+    "$(awk '/^\$ cat docs\/cached.toml$/ { open = 1; next } open && /^\$ / { exit } open' README.md)" "$(cat docs/cached.toml)"
+
+# Coming from moka: each of our examples is a region of a module that crates/sync_tests proves and runs, and each region is shown.
+uses=crates/sync_tests/src/uses
+region() { # name
+    awk -v head="// example: $1" '$0 == head { on = 1; next } $0 == "// end" { on = 0 } on' "$uses"/*.rt
+}
+shown=$(sed -n 's/^<!-- example: \(.*\) -->$/\1/p' docs/FROM_MOKA.md)
+same "the names of docs/FROM_MOKA.md's examples and of $uses's regions" \
+    "$(sort <<<"$shown")" "$(sed -n 's|^// example: ||p' "$uses"/*.rt | sort)"
+for name in $shown; do
+    same "docs/FROM_MOKA.md's example $name and its region in $uses" \
+        "$(block docs/FROM_MOKA.md "<!-- example: $name -->" '```rust')" "$(region "$name")"
+done

@@ -1,8 +1,9 @@
 """Runs the gate, and prints what it cost: minutes, processor minutes, what the host took away, processor seconds by crate.
 
-usage: python3 tools/gate_times.py [COMMAND ..]     without a command: rt ci
+usage: python3 tools/gate_times.py [--then FILE] [COMMAND ..]     without a command: rt ci
 
-The command's output goes through, but for its last line, which comes last here too. Of a crate, `build` is its proof, `tests` the proof of its
+The command's output goes through, but for its last line, which comes last here too. FILE is a program that runs behind a command that
+passed; where it fails, so does this. Of a crate, `build` is its proof, `tests` the proof of its
 tests, `check` its must-fail edits. Each process of the prover is looked at every two seconds; what it used after the last look is not counted.
 """
 
@@ -68,7 +69,10 @@ def pass_on(output, last):
 
 
 def main():
-    command = sys.argv[1:] or ["rt", "ci"]
+    words, then = sys.argv[1:], []
+    if words[:1] == ["--then"] and len(words) > 1:
+        then, words = words[1:2], words[2:]
+    command = words or ["rt", "ci"]
     used, last = {}, []
     start, taken = time.time(), stolen()
     gate = subprocess.Popen(command, cwd=ROOT, stdout=subprocess.PIPE, stderr=subprocess.STDOUT, text=True, errors="replace")
@@ -87,8 +91,12 @@ def main():
     for (crate, kind), seconds in sums.most_common():
         if seconds >= 20:
             print(f"{seconds:6.0f} {kind:6} {crate}")
+    status = gate.returncode
+    sys.stdout.flush()
+    if then and status == 0:
+        status = subprocess.run(then, cwd=ROOT, stdin=subprocess.DEVNULL, check=False).returncode
     print(*last, sep="", end="", flush=True)
-    sys.exit(gate.returncode)
+    sys.exit(status)
 
 
 if __name__ == "__main__":

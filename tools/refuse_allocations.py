@@ -1,100 +1,239 @@
-"""Runs the tests of a crate, each with its first allocation refused, then with its second, and so on to the last.
+#!/usr/bin/env python3
+"""Runs tests with allocations refused, and the programs over their stored runs. Each has to go on as where there is memory.
 
-usage: python3 tools/refuse_allocations.py CRATE [WORD]     after `rt test` in crates/CRATE; WORD: only tests whose names contain it
-       python3 tools/refuse_allocations.py cached           after `rt run` in crates/cached: the program over its stored first run
+    python3 tools/refuse_allocations.py [--folder FOLDER] [--way alone | following] [--jobs N] [--most N] [CRATE [WORD]]
 
-A test that is meant for it (it tries what was refused a second time) has to pass each time. The program has to end with status 0 and the right texts, or with status 1 and a text on standard error, and
-then what it wrote is a beginning of the right replies.
+Without a CRATE it goes over all crates of tests that `rt test` (or the gate) has built under FOLDER, this repository where none is
+given, and over the programs that `rt run` left there; a CRATE is one of them. WORD: only tests whose names contain it.
+
+It refuses in two ways, and of each test the first allocation, then the second, and so on to the last:
+
+    alone        that one alone
+    following    that one and all that follow, until code of the tests runs again: so a call that was refused gets nothing
+                 while it goes back, and the test's second try gets all. Of the programs, all to the end
+
+Of a test that asks for more allocations than --most (2,000 where it is not given), so many are tried, spread evenly.
+
+A test has to pass each time: it tries what was refused a second time. Those that do not, by their nature, stand in SECOND_TRY_LACKS
+with the reason, and are told and not run. A program has to end with status 0 and the right texts, or with status 1 and a text on
+standard error, and then what it wrote is a beginning of the right replies.
+
+The table has a row a crate: its tests, the allocations that were refused (behind a `+` those that followed), and how many tests
+failed. The status is 0 where none did.
 """
-
+import argparse
+import collections
+import concurrent.futures
 import os
+import pathlib
+import shutil
 import subprocess
 import sys
 import tempfile
 
-HERE = os.path.dirname(os.path.abspath(__file__))
-CRATES = os.path.join(os.path.dirname(HERE), "crates")
+ROOT = pathlib.Path(__file__).resolve().parent.parent
+# A replay holds lines back where memory is refused, so it prints other transcripts: tools/random_use.py has these judged.
+PROGRAMS = {"cached": "--script", "transcript": "audit"}
+WAYS = ("alone", "following")
+SECONDS = 120
+# Tests that take no second try, by crate and the beginning of their names: why.
+SECOND_TRY_LACKS = {}
 
 
-def preloaded(folder):
-    """The library that refuses an allocation of the program that loads it."""
-    library = os.path.join(folder, "refuse_allocation.so")
-    source = os.path.join(HERE, "refuse_allocation.c")
-    subprocess.run(["cc", "-shared", "-fPIC", "-O1", "-o", library, source], check=True)
-    return library
+class Refuser:
+    """The library that refuses, and what runs came to."""
+
+    def __init__(self, folder):
+        self.folder = folder
+        self.library = os.path.join(folder, "refuse_allocation.so")
+        subprocess.run(["cc", "-shared", "-fPIC", "-O1", "-o", self.library, ROOT / "tools/refuse_allocation.c"], check=True)
+
+    def run(self, words, given=b"", **how):
+        """Runs a program so; answers how it ended, and how many allocations it asked for, were refused, and followed."""
+        descriptor, count = tempfile.mkstemp(dir=self.folder)
+        os.close(descriptor)
+        changed = {f"REFUSE_{word}".upper().rstrip("_"): str(it) for word, it in how.items()}
+        changed.update(LD_PRELOAD=self.library, REFUSE_COUNT=count)
+        try:
+            ran = subprocess.run(words, input=given, capture_output=True, env={**os.environ, **changed}, timeout=SECONDS, check=False)
+        except subprocess.TimeoutExpired:
+            ran = subprocess.CompletedProcess(words, None, b"", b"it does not end")
+        text = pathlib.Path(count).read_text(encoding="ascii").split()
+        os.remove(count)
+        return ran, [int(it) for it in text] if len(text) == 3 else [0, 1, 0]
 
 
-def run(words, library, number, mark, given=b""):
-    """Runs a program with that allocation refused, and tells whether it came so far."""
-    if os.path.exists(mark):
-        os.remove(mark)
-    changed = {"LD_PRELOAD": library, "REFUSE": str(number), "REFUSE_MARK": mark}
-    ran = subprocess.run(
-        words, input=given, capture_output=True, env={**os.environ, **changed}, timeout=120
-    )
-    return ran, os.path.exists(mark)
+def own_places(program, crate, folder):
+    """A file with the places of a crate's own functions in its program; None where the program has no names."""
+    listed = subprocess.run(["nm", "--defined-only", "-S", program], capture_output=True, text=True, check=False).stdout
+    places = []
+    for line in listed.split("\n"):
+        words = line.split(" ", 3)
+        if len(words) == 4 and words[2] in "tT" and words[3].startswith(crate + "::"):
+            places.append((int(words[0], 16), int(words[0], 16) + int(words[1], 16)))
+    if not places:
+        return None
+    file = os.path.join(folder, crate + ".places")
+    with open(file, "w", encoding="ascii") as it:
+        it.writelines(f"{low:x} {high:x}\n" for low, high in sorted(places))
+    return file
 
 
-def sweep(words, library, mark, passes, given=b""):
-    """Refuses each allocation in turn, and gives their number and those at which it did not pass."""
-    number, wrong = 0, []
-    while True:
-        number += 1
-        ran, refused = run(words, library, number, mark, given)
-        if not passes(ran):
-            wrong.append(number)
-        if not refused:
-            return number - 1, wrong
+def numbers(count, most):
+    """Which allocations are refused: all, or so many of them."""
+    if count <= most:
+        return range(1, count + 1)
+    return sorted({1 + number * (count - 1) // (most - 1) for number in range(most)})
 
 
-def told(count, wrong):
-    """The line of a sweep, with at most ten of the allocations at which it failed."""
-    if not wrong:
-        return f"{count} allocations, ok"
-    return f"{count} allocations, failed at {len(wrong)}: {wrong[:10]}"
+def cause_of(ran):
+    """Why a run failed, in a line."""
+    said = (ran.stderr + ran.stdout).decode(errors="replace").strip().split("\n")
+    status = "no end" if ran.returncode is None else f"status {ran.returncode}"
+    return f"{status}: {said[-1][:120]}"
 
 
-def sweep_tests(crate, word, library, mark):
-    program = os.path.join(CRATES, crate, "out", f"{crate}_tests")
-    listed = subprocess.run([program, "--list"], capture_output=True, check=True).stdout.decode()
-    failed = 0
-    for line in listed.splitlines():
-        name = line.removesuffix(": test")
-        if name == line or word not in name:
-            continue
-        count, wrong = sweep(
-            [program, name], library, mark, lambda ran: ran.returncode == 0
-        )
-        print(f"{name}: {told(count, wrong)}")
-        failed += bool(wrong)
-    return failed
+class Swept:
+    """What refusing each allocation of one test, or one program, came to."""
+
+    def __init__(self):
+        self.asked = self.refused = self.following = 0
+        self.failed = []
+
+    def take(self, number, counts, passed, ran):
+        self.refused += min(counts[1], 1)
+        self.following += counts[2]
+        if not passed:
+            self.failed.append((number, cause_of(ran)))
+
+    def told(self):
+        if not self.failed:
+            return ""
+        places = ", ".join(str(number) for number, _ in self.failed[:10])
+        return f"failed at {len(self.failed)} of {self.refused}, at {places}: {self.failed[0][1]}"
 
 
-def sweep_program(library, mark):
-    folder = os.path.join(CRATES, "cached")
-    program = os.path.join(folder, "out", "cached")
-    with open(os.path.join(folder, "stdin"), "rb") as it:
-        given = it.read()
-    right = subprocess.run([program, "--script"], input=given, capture_output=True, check=True)
+def sweep(refuser, words, most, passes, how_of, given=b""):
+    """Refuses each allocation in turn."""
+    _, (count, _, _) = refuser.run(words, given)
+    swept = Swept()
+    swept.asked = count
+    for number in numbers(count, most):
+        ran, counts = refuser.run(words, given, **how_of(number))
+        swept.take(number, counts, passes(ran), ran)
+    return swept
 
-    def passes(ran):
-        if ran.returncode == 0:
-            return (ran.stdout, ran.stderr) == (right.stdout, right.stderr)
-        return ran.returncode == 1 and ran.stderr and right.stdout.startswith(ran.stdout)
 
-    count, wrong = sweep([program, "--script"], library, mark, passes, given)
-    print(f"cached --script: {told(count, wrong)}")
-    return bool(wrong)
+def tests_of(program, word):
+    listed = subprocess.run([program, "--list"], capture_output=True, text=True, check=True).stdout
+    names = [line.removesuffix(": test") for line in listed.split("\n") if line.endswith(": test")]
+    return [name for name in names if word in name]
+
+
+def lacks_second_try(crate, name):
+    """Why a test takes no second try, if it does not."""
+    return next((why for (of, begin), why in SECOND_TRY_LACKS.items() if of == crate and name.startswith(begin)), None)
+
+
+class Table:
+    """Rows, one a crate."""
+
+    def __init__(self, words, folder):
+        self.words, self.refuser, self.failed = words, Refuser(folder), 0
+        self.out = pathlib.Path(words.folder)
+        self.ways = [words.way] if words.way else list(WAYS)
+        head = "".join(f"{way:>20} {'failed':>6}" for way in self.ways)
+        print(f"{'crate':20} {'tests':>5} {'lack':>4}{head}", flush=True)
+
+    def row(self, crate, tests, lacking, swept):
+        """A crate's row, and behind it what failed, and which tests lack a second try."""
+        cells, below = "", []
+        for way in self.ways:
+            of = swept.get(way, {})
+            failed = [(name, it) for name, it in of.items() if it.failed]
+            cells += f"{sum(it.refused for it in of.values()):>11} +{sum(it.following for it in of.values()):>7} {len(failed):>6}"
+            below += [f"    {way}: {name} {it.told()}" for name, it in failed]
+            self.failed += len(failed)
+        print(f"{crate:20} {tests:>5} {len(lacking):>4}{cells}", flush=True)
+        for why, names in lacking_by_reason(lacking):
+            print(f"    no second try: {', '.join(names)}: {why}")
+        print("\n".join(below) + "\n" if below else "", end="", flush=True)
+
+    def tests(self, crate, program):
+        # (where it lies it may be built anew meanwhile)
+        copy = os.path.join(self.refuser.folder, crate)
+        shutil.copy(program, copy)
+        names = tests_of(copy, self.words.word)
+        lacking = {name: why for name in names if (why := lacks_second_try(crate, name))}
+        names = [name for name in names if name not in lacking]
+        swept = collections.defaultdict(dict)
+        own = own_places(copy, crate, self.refuser.folder)
+        if own is None and "following" in self.ways:
+            print(f"{crate}: its program has no names, so only one allocation at a time is refused", flush=True)
+        hows = {"alone": lambda number: {"": number}, "following": lambda number: {"": number, "own": own}}
+
+        def one(way, name):
+            swept[way][name] = sweep(self.refuser, [copy, name], self.words.most, lambda ran: ran.returncode == 0, hows[way])
+
+        with concurrent.futures.ThreadPoolExecutor(self.words.jobs) as pool:
+            list(pool.map(lambda it: one(*it), [(way, name) for way in self.ways if way == "alone" or own for name in names]))
+        self.row(crate, len(names) + len(lacking), lacking, swept)
+        os.remove(copy)
+
+    def program(self, crate, program):
+        """A program over its stored run."""
+        words = [str(program), PROGRAMS[crate]]
+        given = (ROOT / "crates" / crate / "stdin").read_bytes()
+        if crate == "transcript":
+            given = (ROOT / "crates" / crate / "stdout").read_bytes().split(b"namespace ")[1].split(b"\n", 1)[1]
+        right = subprocess.run(words, input=given, capture_output=True, check=True)
+
+        def passes(ran):
+            if ran.returncode == 0:
+                return (ran.stdout, ran.stderr) == (right.stdout, right.stderr)
+            return ran.returncode == 1 and bool(ran.stderr) and right.stdout.startswith(ran.stdout)
+
+        hows = {"alone": lambda number: {"": number}, "following": lambda number: {"from": number, "to": 1 << 60, "one_in": 1}}
+        swept = {way: {crate: sweep(self.refuser, words, self.words.most, passes, hows[way], given)} for way in self.ways}
+        self.row(crate, 1, {}, swept)
+
+    def run(self):
+        found = False
+        for program in sorted(self.out.glob("crates/*_tests/out/*_tests")):
+            crate = program.parent.parent.name
+            if program.name == crate + "_tests" and self.words.crate in (None, crate):
+                found = True
+                self.tests(crate, program)
+        for crate in PROGRAMS:
+            program = self.out / "crates" / crate / "out" / crate
+            if program.is_file() and self.words.crate in (None, crate):
+                found = True
+                self.program(crate, program)
+        if not found:
+            sys.exit(f"under {self.out} nothing is built: `rt test` in a crate of tests leaves its program in the crate's out/")
+
+
+def lacking_by_reason(lacking):
+    by = collections.defaultdict(list)
+    for name, why in lacking.items():
+        by[why].append(name)
+    return by.items()
 
 
 def main():
-    if len(sys.argv) not in (2, 3):
-        sys.exit(__doc__)
-    with tempfile.TemporaryDirectory() as folder:
-        library, mark = preloaded(folder), os.path.join(folder, "refused")
-        if sys.argv[1] == "cached":
-            sys.exit(sweep_program(library, mark))
-        sys.exit(min(sweep_tests(sys.argv[1], (sys.argv[2:] or [""])[0], library, mark), 1))
+    words = argparse.ArgumentParser(description=__doc__, formatter_class=argparse.RawDescriptionHelpFormatter, add_help=False)
+    words.add_argument("-h", "--help", action="help", help=argparse.SUPPRESS)
+    words.add_argument("--folder", type=pathlib.Path, default=ROOT, help=argparse.SUPPRESS)
+    words.add_argument("--way", choices=WAYS, help=argparse.SUPPRESS)
+    words.add_argument("--jobs", type=int, default=os.cpu_count(), help=argparse.SUPPRESS)
+    words.add_argument("--most", type=int, default=2000, help=argparse.SUPPRESS)
+    words.add_argument("crate", nargs="?", help=argparse.SUPPRESS)
+    words.add_argument("word", nargs="?", default="", help=argparse.SUPPRESS)
+    with tempfile.TemporaryDirectory(prefix="refusals-") as folder:
+        table = Table(words.parse_args(), folder)
+        table.run()
+    sys.exit(1 if table.failed else 0)
 
 
-main()
+if __name__ == "__main__":
+    main()

@@ -164,10 +164,17 @@ class Runs(unittest.TestCase):
         self.addCleanup(process.kill)
         return process
 
+    def next_row(self, process, name):
+        """What the next table says of a namespace, behind its port."""
+        for line in process.stdout:
+            if line.startswith(name + " "):
+                return line.split()[2:]
+        raise AssertionError("it ended early")
+
     def rows(self, process, name):
-        """What each table says of a namespace, behind its port."""
-        told, _ = process.communicate(timeout=PATIENCE)
-        self.assertEqual(process.returncode, 0)
+        """What each table that is left says of it, to the end."""
+        told = process.stdout.read()
+        self.assertEqual(process.wait(PATIENCE), 0)
         return [line.split()[2:] for line in told.splitlines() if line.startswith(name + " ")]
 
     def test_a_pipe(self):
@@ -176,13 +183,13 @@ class Runs(unittest.TestCase):
         process = self.start("--interval", 0.5, "--html", page, stdin=begins)
         os.close(begins)
         os.write(ends, b"listening main 127.0.0.1:%d\nmain NOTE Size" % self.server.port)
-        time.sleep(1.2)
+        first = self.next_row(process, "main")
         os.write(ends, b" k v\n" + b"main NOTE Expired k v\n" * 9)
-        time.sleep(0.8)
+        rows = [first, self.next_row(process, "main"), self.next_row(process, "main")]
         os.close(ends)
-        rows = self.rows(process, "main")
+        rows += self.rows(process, "main")
         self.assertEqual(rows[-1][:2], ["3", "7"])
-        self.assertTrue(any(float(row[2]) > 5 for row in rows if row[2] != "-"), rows)
+        self.assertTrue(any(float(row[2]) > 1 for row in rows if row[2] != "-"), rows)
         read = Page(page.read_text(encoding="utf-8"))
         self.assertEqual(read.open, [])
         self.assertEqual(len(read.lines), 5)
@@ -193,13 +200,13 @@ class Runs(unittest.TestCase):
         log = self.folder / "log"
         log.write_bytes(b"listening main 127.0.0.1:%d\n" % self.server.port)
         process = self.start("--log", log, "--interval", 0.5, "--seconds", 2.5)
-        time.sleep(1.2)
+        first = self.next_row(process, "main")
+        self.assertEqual(first, ["3", "7", "-", "-", "-", "-"])
         with log.open("ab") as file:
             file.write(b"main NOTE Replaced k v\n" * 50)
         rows = self.rows(process, "main")
-        self.assertEqual(rows[0], ["3", "7", "-", "-", "-", "-"])
-        self.assertTrue(3 <= len(rows) <= 7, rows)
-        self.assertTrue(any(float(row[4]) > 20 for row in rows[1:]), rows)
+        self.assertTrue(1 <= len(rows) <= 6, rows)
+        self.assertTrue(any(float(row[4]) > 5 for row in rows), rows)
 
     def test_a_server_that_is_gone(self):
         self.server.listener.close()

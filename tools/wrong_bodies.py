@@ -1,21 +1,29 @@
 """Tries wrong bodies: edits of a crate's code that the prover must refuse.
 
-usage: python3 tools/wrong_bodies.py [--jobs N] [CRATE | CRATE/NAME ..]     with `rt` on the path; without a name, all
+usage: python3 tools/wrong_bodies.py [--jobs N] [--anew] [--list] [CRATE | CRATE/NAME ..]     with `rt` on the path; without a name, all
 
 The bodies of tools/wrong_bodies/CRATE are tried, and those in crates/CRATE/must-fail, which the gate tries too. Both
 have one form: a line `file: PATH`, then pairs of lines `old: TEXT` and `new: TEXT`, where TEXT stands once in the file.
 
 Each is tried in a copy of the tree, over what `rt check` kept in the crate's out/: prove the crates first, then a body
-takes 10 to 30 seconds. As many run side by side as --jobs says, or as there are processors. What a row says:
+takes 10 to 30 seconds. As many run side by side as --jobs says, or as there are processors. A body has a row as soon as
+it was tried, with the seconds that it took:
 
   goal      refused at a goal: a contract is not met
   name      refused where a proof names what the body took away: this says little of the contract
   PASSED    the crate is proved with it: the contract is too weak
   BAD       it cannot be applied, or the check ended without a verdict
 
-The last line counts them. The status is 0 where each is refused.
+What was learned is kept in out/wrong_bodies, by a checksum of the body, of its crate and the crates below it, and of the
+kit. So a run that was ended goes on where it stopped; a row that was kept says so in place of the seconds. `--anew` tries
+all again, `--list` tries none and tells which would be tried. What is BAD is not kept.
+
+At the end stands a table by crate, and a last line of sums. The status is 0 where each body is refused.
 """
 
+import collections
+import functools
+import hashlib
 import os
 import queue
 import re
@@ -28,8 +36,71 @@ import time
 
 ROOT = os.path.dirname(os.path.dirname(os.path.abspath(__file__)))
 BODIES = os.path.join(ROOT, "tools", "wrong_bodies")
+KEPT = os.path.join(ROOT, "out", "wrong_bodies")
+WORDS = ("goal", "name", "PASSED", "BAD")
 # What a proof says that names something which is gone.
 LOST_NAME = re.compile(r"(\./)?proofs/.*(has no field|is not in scope|has no `|was not admitted)")
+
+
+@functools.cache
+def stands_on():
+    """The crates on which each crate of crates.txt stands, and its line."""
+    found = {}
+    with open(os.path.join(ROOT, "crates.txt"), encoding="utf-8") as file:
+        for line in file:
+            head, _, below = line.partition("#")[0].partition(":")
+            if head.strip():
+                found[head.split()[0]] = (below.split(), line)
+    return found
+
+
+@functools.cache
+def kit():
+    return subprocess.run(["rt", "version"], capture_output=True, check=True).stdout
+
+
+@functools.cache
+def checksum_of(crate):
+    """A checksum of all that a check of the crate reads."""
+    below, line = stands_on().get(crate, ([], ""))
+    it = hashlib.sha256(kit() + line.encode())
+    for name in sorted(below):
+        if os.path.isdir(os.path.join(ROOT, "crates", name)):
+            it.update(checksum_of(name).encode())
+    for part in ("src", "specs", "proofs"):
+        for folder, folders, files in os.walk(os.path.join(ROOT, "crates", crate, part)):
+            folders.sort()
+            for name in sorted(files):
+                path = os.path.join(folder, name)
+                with open(path, "rb") as file:
+                    text = file.read()
+                it.update(f"{os.path.relpath(path, ROOT)} {len(text)} ".encode() + text)
+    return it.hexdigest()
+
+
+def checksum_of_body(crate, body):
+    with open(body, "rb") as file:
+        return hashlib.sha256(checksum_of(crate).encode() + file.read()).hexdigest()
+
+
+class Kept:
+    """What earlier runs learned: a line a body, `CHECKSUM WORD CRATE/NAME: LINE`, written as soon as it is known."""
+
+    def __init__(self):
+        os.makedirs(os.path.dirname(KEPT), exist_ok=True)
+        self.found = {}
+        if os.path.exists(KEPT):
+            with open(KEPT, encoding="utf-8", errors="replace") as file:
+                for line in file:
+                    checksum, word, *rest = line.rstrip("\n").split(" ", 2)
+                    # (a line that was cut has no end)
+                    if line.endswith("\n") and len(checksum) == 64 and word in WORDS and rest:
+                        self.found[checksum] = (word, rest[0].partition(": ")[2])
+
+    def add(self, checksum, word, name, line):
+        if word != "BAD":
+            with open(KEPT, "a", encoding="utf-8") as file:
+                file.write(f"{checksum} {word} {name}: {line}\n")
 
 
 def bodies_of(crate):
@@ -137,7 +208,11 @@ class Lane:
             file.write(text)
 
 
-def work(wanted, told, lock):
+def show(crate, name, word, line, took):
+    print(f"{word:6} {took:>7}  {crate}/{name}{': ' + line if line else ''}", flush=True)
+
+
+def work(wanted, told, lock, kept):
     """Takes crates off a queue, and tries their bodies."""
     with tempfile.TemporaryDirectory(prefix="bodies-") as room:
         lane = Lane(room)
@@ -150,8 +225,9 @@ def work(wanted, told, lock):
                 start = time.time()
                 word, line = lane.tried(crate, body)
                 with lock:
-                    told[crate, name] = word
-                    print(f"{word:6} {time.time() - start:4.0f} s  {crate}/{name}{': ' + line if line else ''}", flush=True)
+                    told[crate, name] = (word, time.time() - start)
+                    kept.add(checksum_of_body(crate, body), word, f"{crate}/{name}", line)
+                    show(crate, name, word, line, f"{time.time() - start:.0f} s")
             lane.leave(crate)
 
 
@@ -166,28 +242,76 @@ def chosen(names):
     return found
 
 
+def read_words():
+    """The names, how many run side by side, whether what was kept counts, and whether bodies are only listed."""
+    words, jobs, anew, only_list = sys.argv[1:], os.cpu_count(), False, False
+    while words and words[0].startswith("-"):
+        if words[0] == "--jobs" and len(words) > 1 and words[1].isdigit():
+            jobs = max(1, int(words.pop(1)))
+        elif words[0] == "--anew":
+            anew = True
+        elif words[0] == "--list":
+            only_list = True
+        else:
+            sys.exit(__doc__)
+        words.pop(0)
+    return {*words}, jobs, anew, only_list
+
+
+def known_of(found, kept, told):
+    """Takes what earlier runs learned, and gives what is left to be tried."""
+    left = []
+    for crate, bodies in found:
+        still = []
+        for name, body in bodies:
+            word, line = kept.found.get(checksum_of_body(crate, body), (None, ""))
+            if word is None:
+                still.append((name, body))
+            else:
+                told[crate, name] = (word, 0)
+                show(crate, name, word, line, "kept")
+        if still:
+            left.append((crate, still))
+    return left
+
+
+def summed(told):
+    """Sums by crate, and of all."""
+    sums, seconds = collections.defaultdict(collections.Counter), collections.Counter()
+    for (crate, _), (word, took) in told.items():
+        sums[crate][word] += 1
+        seconds[crate] += took
+    print(f"{'crate':20} {'bodies':>6}" + "".join(f" {word:>6}" for word in WORDS) + "  seconds")
+    for crate, counts in sorted(sums.items()):
+        print(f"{crate:20} {sum(counts.values()):>6}" + "".join(f" {counts[word]:>6}" for word in WORDS) + f" {seconds[crate]:>8.0f}")
+    counts = sum(sums.values(), collections.Counter())
+    print(f"{len(told)} wrong bodies: {counts['goal']} refused at a goal, {counts['name']} at a name, {counts['PASSED']} passed, {counts['BAD']} bad")
+    return 1 if counts["PASSED"] or counts["BAD"] else 0
+
+
 def main():
-    words, jobs = sys.argv[1:], os.cpu_count()
-    if words[:1] == ["--jobs"] and len(words) > 1 and words[1].isdigit():
-        jobs, words = int(words[1]), words[2:]
-    if any(word.startswith("-") for word in words):
-        sys.exit(__doc__)
-    found = chosen({*words})
+    names, jobs, anew, only_list = read_words()
+    found = chosen(names)
     if not found:
         sys.exit("no such wrong body")
-    wanted, told, lock = queue.Queue(), {}, threading.Lock()
+    wanted, told, lock, kept = queue.Queue(), {}, threading.Lock(), Kept()
+    if not anew:
+        found = known_of(found, kept, told)
+    if only_list:
+        for crate, bodies in found:
+            for name, _ in bodies:
+                show(crate, name, "-", "", "to try")
+        return 0
     # (those of the largest crates first, a few at a time, so that none is left alone at the end)
     for crate, bodies in sorted(found, key=lambda it: -len(it[1])):
         for at in range(0, len(bodies), 8):
             wanted.put((crate, bodies[at:at + 8]))
-    lanes = [threading.Thread(target=work, args=(wanted, told, lock)) for _ in range(jobs)]
+    lanes = [threading.Thread(target=work, args=(wanted, told, lock, kept)) for _ in range(min(jobs, wanted.qsize()))]
     for lane in lanes:
         lane.start()
     for lane in lanes:
         lane.join()
-    counts = {word: sum(it == word for it in told.values()) for word in ("goal", "name", "PASSED", "BAD")}
-    print(f"{len(told)} wrong bodies: {counts['goal']} refused at a goal, {counts['name']} at a name, {counts['PASSED']} passed, {counts['BAD']} bad")
-    return 1 if counts["PASSED"] or counts["BAD"] else 0
+    return summed(told)
 
 
 if __name__ == "__main__":

@@ -1,0 +1,208 @@
+#!/usr/bin/env python3
+"""Draws the figures of figures.json into docs/*.svg, by Python's standard library alone.
+
+    python3 benches/plots.py            draws all
+    python3 benches/plots.py ratios     prints the hit ratios as the tables of docs/CHOOSING.md
+"""
+import html
+import math
+import pathlib
+import sys
+
+import figures
+
+DOCS = pathlib.Path(__file__).resolve().parent.parent / "docs"
+INK, SOFT, LINE, PAGE = "#1c1c1c", "#5c5c5c", "#dcdcdc", "#ffffff"
+COLOURS = {
+    "TinyLFU": "#0072b2",
+    "LRU": "#e69f00",
+    "Caffeine": "#009e73",
+    "plain LRU": "#8a8a8a",
+    "cached": "#0072b2",
+    "Redis": "#d55e00",
+    "memcached": "#009e73",
+    "plain server": "#8a8a8a",
+    "the cache of one part": "#0072b2",
+    "LruCache": "#8a8a8a",
+}
+FONT = "font-family='Helvetica, Arial, sans-serif'"
+
+
+class Picture:
+    """Shapes on a page of so many points."""
+
+    def __init__(self, width, height, title):
+        self.width, self.height, self.title, self.shapes = width, height, title, []
+
+    def text(self, x, y, text, size=13, anchor="start", colour=INK, weight="normal", turn=None):
+        turned = f" transform='rotate({turn} {x:.1f} {y:.1f})'" if turn else ""
+        self.shapes.append(
+            f"<text x='{x:.1f}' y='{y:.1f}' font-size='{size}' text-anchor='{anchor}' fill='{colour}' "
+            f"font-weight='{weight}'{turned}>{html.escape(text)}</text>"
+        )
+
+    def line(self, x1, y1, x2, y2, colour=LINE, width=1.0):
+        self.shapes.append(
+            f"<line x1='{x1:.1f}' y1='{y1:.1f}' x2='{x2:.1f}' y2='{y2:.1f}' stroke='{colour}' stroke-width='{width}'/>"
+        )
+
+    def bar(self, x, y, width, height, colour):
+        self.shapes.append(f"<rect x='{x:.1f}' y='{y:.1f}' width='{width:.1f}' height='{max(height, 0.5):.1f}' fill='{colour}'/>")
+
+    def keys(self, x, y, names):
+        """The colours' names, side by side."""
+        for name in names:
+            self.bar(x, y - 9, 12, 10, COLOURS[name])
+            self.text(x + 17, y, name)
+            x += 17 + 7.2 * len(name) + 18
+
+    def save(self, name, measured):
+        """Writes the picture, with when it was measured below."""
+        self.text(self.width - 24, self.height - 10, measured, 11, "end", SOFT)
+        head = f"<svg xmlns='http://www.w3.org/2000/svg' viewBox='0 0 {self.width} {self.height}' width='{self.width}' {FONT}>"
+        title = f"<title>{html.escape(self.title)}</title>"
+        page = f"<rect width='{self.width}' height='{self.height}' fill='{PAGE}'/>"
+        text = "\n".join([head, title, page, *self.shapes, "</svg>"])
+        (DOCS / name).write_text(text + "\n", encoding="utf-8")
+
+
+class Panel:
+    """A part of a picture with an axis from 0 up."""
+
+    def __init__(self, picture, left, top, width, height, most, unit=""):
+        self.picture, self.left, self.top, self.width, self.height = picture, left, top, width, height
+        self.most, self.unit = most, unit
+
+    def y(self, value):
+        return self.top + self.height * (1 - min(value, self.most) / self.most)
+
+    def axis(self, steps):
+        for step in range(steps + 1):
+            value = self.most * step / steps
+            self.picture.line(self.left, self.y(value), self.left + self.width, self.y(value))
+            self.picture.text(self.left - 7, self.y(value) + 4, f"{value:g}{self.unit}", 12, "end", SOFT)
+
+    def groups(self, rows, series, label):
+        """For each row a group of bars, one a series that has a value there, each with its value as `label` says it."""
+        room = self.width / len(rows)
+        for place, (name, values) in enumerate(rows):
+            shown = [(kind, values[kind]) for kind in series if values.get(kind) is not None]
+            wide = room * 0.78 / max(1, len(series))
+            first = self.left + room * place + (room - wide * len(shown)) / 2
+            for number, (kind, value) in enumerate(shown):
+                x = first + wide * number
+                self.picture.bar(x, self.y(value), wide - 1.5, self.top + self.height - self.y(value), COLOURS[kind])
+                self.picture.text(x + wide / 2 - 0.75, self.y(value) - 4, label(value), 11, "middle", SOFT)
+            self.picture.text(self.left + room * (place + 0.5), self.top + self.height + 17, name, 12.5, "middle")
+        self.picture.line(self.left, self.top + self.height, self.left + self.width, self.top + self.height, SOFT)
+
+
+def most_of(values, steps=5):
+    """A round number above all values that parts into so many round steps."""
+    most = max(values)
+    power = 10 ** math.floor(math.log10(most / steps))
+    step = next(factor * power for factor in (1, 2, 2.5, 4, 5, 10) if factor * power * steps >= most)
+    return step * steps
+
+
+RATIO_NAMES = {"tinylfu": "TinyLFU", "lru": "LRU", "caffeine": "Caffeine", "plain lru": "plain LRU"}
+
+
+def ratios_at(row, capacity):
+    return {shown: row.get(f"{name} {capacity}") for name, shown in RATIO_NAMES.items()}
+
+
+def draw_ratios(kept, measured):
+    """Hit ratios by trace, a panel a capacity."""
+    capacities = sorted({int(name.split()[-1]) for row in kept.values() for name in row})
+    series = ["TinyLFU", "LRU", "Caffeine"]
+    picture = Picture(980, 100 + 262 * len(capacities), "Hit ratios by trace")
+    picture.text(24, 34, "Hit ratios by trace", 19, weight="bold")
+    picture.keys(24, 62, series)
+    for place, capacity in enumerate(capacities):
+        top = 112 + 262 * place
+        picture.text(24, top - 18, f"capacity {capacity:,}", 14, weight="bold")
+        panel = Panel(picture, 62, top, 894, 186, 100, " %")
+        panel.axis(4)
+        panel.groups([(name, ratios_at(row, capacity)) for name, row in kept.items()], series, lambda value: f"{value:.0f}")
+    picture.save("hit_ratios.svg", f"200,000 requests a trace; measured {measured}")
+
+
+SERVER_NAMES = {"cached": "cached", "redis": "Redis", "memcached": "memcached", "plain": "plain server"}
+
+
+def draw_requests(kept, measured):
+    """Processor time a request by connections, a panel a depth."""
+    series = [shown for name, shown in SERVER_NAMES.items() if any(name in row for row in kept.values())]
+    picture = Picture(980, 394, "Processor time a request")
+    picture.text(24, 34, "Processor microseconds a request, half SET, half GET", 19, weight="bold")
+    picture.keys(24, 62, series)
+    for place, (depth, about) in enumerate([(1, "one request at a time"), (32, "32 requests at a time")]):
+        rows = [
+            (f"{name.split()[0]} connection{'s' if name.split()[0] != '1' else ''}", {shown: row.get(known) for known, shown in SERVER_NAMES.items()})
+            for name, row in kept.items()
+            if name.split()[1] == str(depth)
+        ]
+        left = 52 + 480 * place
+        most = most_of([value for _, row in rows for value in row.values() if value is not None])
+        picture.text(left - 28, 98, about, 14, weight="bold")
+        panel = Panel(picture, left, 118, 420, 220, most)
+        panel.axis(5)
+        panel.groups(rows, series, lambda value: f"{value:.1f}")
+    picture.save("requests.svg", f"the kernel's part included; measured {measured}")
+
+
+CACHE_NAMES = {"tiny_lfu": "the cache of one part", "caffeine": "Caffeine", "lru_cache": "LruCache"}
+CALL_PANELS = [("look-up, ns", "gets zipf"), ("write over, ns", "writes zipf"), ("fetch, ns", "fetches zipf")]
+
+
+def calls_by_size(kept, work):
+    """For each number of values what a call takes, where any of the caches has a figure."""
+    rows = [(f"{int(size):,}", {shown: kept[size].get(f"{name} {work}") for name, shown in CACHE_NAMES.items()}) for size in sorted(kept, key=int)]
+    return [(size, row) for size, row in rows if any(value is not None for value in row.values())]
+
+
+def draw_calls(kept, measured):
+    """Nanoseconds a call by the number of values, a panel a call; then bytes a value."""
+    panels = [(about, calls_by_size(kept, work)) for about, work in [*CALL_PANELS, ("bytes a value", "bytes")]]
+    panels = [(about, rows) for about, rows in panels if rows]
+    series = [shown for shown in CACHE_NAMES.values() if any(row[shown] is not None for _, rows in panels for _, row in rows)]
+    picture = Picture(980, 112 + 264 * math.ceil(len(panels) / 2), "Time a call and bytes a value")
+    picture.text(24, 34, "Nanoseconds a call, and bytes a value above key and value, by the number of values", 19, weight="bold")
+    picture.keys(24, 62, series)
+    for place, (about, rows) in enumerate(panels):
+        left, top = 52 + 480 * (place % 2), 122 + 264 * (place // 2)
+        picture.text(left - 28, top - 20, about, 14, weight="bold")
+        panel = Panel(picture, left, top, 420, 186, most_of([value for _, row in rows for value in row.values() if value is not None]))
+        panel.axis(5)
+        panel.groups(rows, series, lambda value: f"{value:.0f}")
+    picture.save("calls.svg", f"one thread, keys by Zipf's law, key and value of 8 bytes; measured {measured}")
+
+
+TABLE_NAMES = {"tinylfu": "TinyLFU", "lru": "LRU", "plain lru": "plain LRU", "caffeine": "Caffeine", "corrected": "TinyLFU, odd counts"}
+
+
+def print_ratios(kept):
+    """For each capacity a table in Markdown."""
+    for capacity in sorted({int(name.split()[-1]) for row in kept.values() for name in row}):
+        print("|", " | ".join([f"{capacity:,} values", *TABLE_NAMES.values()]), "|")
+        print("|-" * (len(TABLE_NAMES) + 1) + "|")
+        for trace, row in kept.items():
+            print("|", " | ".join([trace, *(f"{row[f'{name} {capacity}']:.1f}" for name in TABLE_NAMES)]), "|")
+        print()
+
+
+def main():
+    kept = figures.all_figures()
+    if sys.argv[1:] == ["ratios"]:
+        print_ratios(kept["hit_ratios"])
+        return
+    if sys.argv[1:]:
+        sys.exit(__doc__)
+    for kind, draw in {"hit_ratios": draw_ratios, "requests": draw_requests, "calls": draw_calls}.items():
+        if kept.get(kind):
+            draw(kept[kind], kept["measured"][kind])
+
+
+if __name__ == "__main__":
+    main()
