@@ -1,5 +1,5 @@
 -- Why a predicate is refused.
-use Rattle.std.specs.Prelude.{◌≡◌, ℕ, ◌+◌, ◌≤◌, ◌^◌, false}
+use Rattle.std.specs.Prelude.{◌≡◌, ◌+◌, ◌≤◌, ◌^◌, false}
 use Rattle.rand_core.specs.Stream.{Stream}
 use Rattle.engine_reference.specs.declared.rules.refusal.Refusal.{Refusal}
 use Rattle.engine_reference.specs.declared.rules.refusal.Refusal.TheVariants as refusal

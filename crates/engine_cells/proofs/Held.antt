@@ -5,8 +5,7 @@ use Rattle.std.proofs.lemmas.Bool.{and_parts}
 use Rattle.engine_cells.specs.Keys.Spots.{Spots, IsUnder}
 use Rattle.engine_reference.specs.declared.data.Record.{Record}
 use Rattle.engine_reference.specs.Records.{held_at}
-use Rattle.engine_cells.specs.declared.cell.Cell.{Cell}
-use Rattle.engine_cells.specs.Cells.{cell_at, put_among, records_by_number, record_in}
+use Rattle.engine_cells.specs.Cells.{cell_at, put_among, records_by_number}
 use Rattle.engine_cells.specs.Spotted.{is_match, AreSpotted, HaveHash}
 
 module _ {K V : Type 0} (eq : K → K → Bool) where
@@ -29,37 +28,37 @@ module _ {K V : Type 0} (eq : K → K → Bool) where
       go true false e n later = ap (λ b. cond b (Some r) (held_at eq (x ∷ xs) key)) h
       go false false e n later = ap (λ b. cond b (Some x) (held_at eq (put_among r xs) key)) e ∙ later n
 
-  pub held-none : (cells : List (Option (Cell K V))) (key : K) → ((i : ℕ) → is_match eq key (cell_at cells i) ≡ false) → held_at eq (records_by_number cells) key ≡ None
+  pub held-none : (cells : List (Option (Record K V))) (key : K) → ((i : ℕ) → is_match eq key (cell_at cells i) ≡ false) → held_at eq (records_by_number cells) key ≡ None
   held-none [] key h = refl
   held-none (None ∷ cells) key h = held-none cells key (λ i. h (suc i))
-  held-none (Some x ∷ cells) key h = held-placed_other key x.item (records_by_number cells) (h zero) ∙ held-none cells key (λ i. h (suc i))
+  held-none (Some x ∷ cells) key h = held-placed_other key x (records_by_number cells) (h zero) ∙ held-none cells key (λ i. h (suc i))
 
-  pub held-there : (cells : List (Option (Cell K V))) (i : ℕ) (key : K) → is_match eq key (cell_at cells i) ≡ true → ((j : ℕ) → is_match eq key (cell_at cells j) ≡ true → i ≡ j) → held_at eq (records_by_number cells) key ≡ record_in cells i
+  pub held-there : (cells : List (Option (Record K V))) (i : ℕ) (key : K) → is_match eq key (cell_at cells i) ≡ true → ((j : ℕ) → is_match eq key (cell_at cells j) ≡ true → i ≡ j) → held_at eq (records_by_number cells) key ≡ cell_at cells i
   held-there [] i key h alone = absurd (cc)
   held-there (None ∷ cells) zero key h alone = absurd (cc)
-  held-there (Some x ∷ cells) zero key h alone = held-placed_here key x.item (records_by_number cells) h (held-none cells key (λ j. by j (is_match eq key (cell_at cells j)) refl))
+  held-there (Some x ∷ cells) zero key h alone = held-placed_here key x (records_by_number cells) h (held-none cells key (λ j. by j (is_match eq key (cell_at cells j)) refl))
     where
       by : (j : ℕ) (b : Bool) → is_match eq key (cell_at cells j) ≡ b → is_match eq key (cell_at cells j) ≡ false
       by j true e = absurd (let k : zero ≡ suc j = alone (suc j) e in omega arith)
       by j false e = e
   held-there (None ∷ cells) (suc i) key h alone = held-there cells i key h (λ j e. let k : suc i ≡ suc j = alone (suc j) e in omega arith)
   held-there (Some x ∷ cells) (suc i) key h alone =
-      held-placed_other key x.item (records_by_number cells) (by (x.item.is_held && eq key x.item.entry.key) refl)
+      held-placed_other key x (records_by_number cells) (by (x.is_held && eq key x.entry.key) refl)
       ∙ held-there cells i key h (λ j e. let k : suc i ≡ suc j = alone (suc j) e in omega arith)
     where
-      by : (b : Bool) → (x.item.is_held && eq key x.item.entry.key) ≡ b → (x.item.is_held && eq key x.item.entry.key) ≡ false
+      by : (b : Bool) → (x.is_held && eq key x.entry.key) ≡ b → (x.is_held && eq key x.entry.key) ≡ false
       by true e = absurd (let k : suc i ≡ zero = alone zero e in omega arith)
       by false e = e
 
   -- a key none of whose hash's places has its record is not held
-  pub none-under : (cells : List (Option (Cell K V))) (spots : Spots) (key : K) (hash : ℕ) → AreSpotted eq cells spots → HaveHash eq key hash cells → ((i : ℕ) → IsUnder spots hash i → is_match eq key (cell_at cells i) ≡ false)
+  pub none-under : (cells : List (Option (Record K V))) (spots : Spots) (key : K) (hash : ℕ) → AreSpotted eq cells spots → HaveHash eq key hash cells → ((i : ℕ) → IsUnder spots hash i → is_match eq key (cell_at cells i) ≡ false)
       → held_at eq (records_by_number cells) key ≡ None
   none-under cells spots key hash h hashed none = held-none cells key (λ i. by i (cell_at cells i) refl)
     where
-      matches : (i : ℕ) (c : Cell K V) → cell_at cells i ≡ Some c → (b : Bool) → is_match eq key (Some c) ≡ b → is_match eq key (cell_at cells i) ≡ false
+      matches : (i : ℕ) (c : Record K V) → cell_at cells i ≡ Some c → (b : Bool) → is_match eq key (Some c) ≡ b → is_match eq key (cell_at cells i) ≡ false
       matches i c at true e = none i (subst (λ x. IsUnder spots x i) (hashed i c at e) (h.spotted i c at (and_parts _ _ e).0))
       matches i c at false e = ap (is_match eq key) at ∙ e
 
-      by : (i : ℕ) (o : Option (Cell K V)) → cell_at cells i ≡ o → is_match eq key (cell_at cells i) ≡ false
+      by : (i : ℕ) (o : Option (Record K V)) → cell_at cells i ≡ o → is_match eq key (cell_at cells i) ≡ false
       by i None at = ap (is_match eq key) at
       by i (Some c) at = matches i c at (is_match eq key (Some c)) refl

@@ -12,7 +12,6 @@ use Rattle.engine_reference.specs.declared.data.Entry.{Entry}
 use Rattle.engine_reference.specs.declared.data.Record.{Record}
 use Rattle.engine_reference.specs.Records.{record_at, held_entries}
 use Rattle.engine_reference.specs.Scanning.{held_keys}
-use Rattle.engine_cells.specs.declared.cell.Cell.{Cell}
 use Rattle.engine_cells.specs.declared.listing.Stand.{Stand}
 use Rattle.engine_cells.specs.Cells.{cell_at, records_by_number, HaveOwnNumbers}
 use Rattle.engine_cells.specs.Listing.{stand_of, stands_from, key_of, keys_in}
@@ -38,19 +37,19 @@ listed-counted n (s ∷ ss) = ap (λ m. cond (eqb s.number n) 1 0 + m) (listed-c
 module _ {K V : Type 0} where
   -- ---- one place after another
 
-  step : (cells : List (Option (Cell K V))) (k i : ℕ) → stand_of k (cell_at cells i) ++ stands_from (k + 1) (drop (suc i) cells) ≡ stands_from k (drop i cells)
+  step : (cells : List (Option (Record K V))) (k i : ℕ) → stand_of k (cell_at cells i) ++ stands_from (k + 1) (drop (suc i) cells) ≡ stands_from k (drop i cells)
   step [] k zero = refl
   step [] k (suc i) = refl
   step (o ∷ cells) k zero = refl
   step (o ∷ cells) k (suc i) = step cells k i
 
-  pub stands-next : (found : List Stand) (cells : List (Option (Cell K V))) (i : ℕ) → (found ++ stand_of i (cell_at cells i)) ++ stands_from (i + 1) (drop (i + 1) cells) ≡ found ++ stands_from i (drop i cells)
+  pub stands-next : (found : List Stand) (cells : List (Option (Record K V))) (i : ℕ) → (found ++ stand_of i (cell_at cells i)) ++ stands_from (i + 1) (drop (i + 1) cells) ≡ found ++ stands_from i (drop i cells)
   stands-next found cells i =
       append_assoc found (stand_of i (cell_at cells i)) (stands_from (i + 1) (drop (i + 1) cells))
       ∙ ap (λ n. found ++ (stand_of i (cell_at cells i) ++ stands_from (i + 1) (drop n cells))) (one-more i)
       ∙ ap (λ l. found ++ l) (step cells i i)
 
-  pub keys-next : (keys : List K) (cells : List (Option (Cell K V))) (ss : List Stand) (s : Stand) (i : ℕ) → drop i ss ≡ s ∷ drop (i + 1) ss
+  pub keys-next : (keys : List K) (cells : List (Option (Record K V))) (ss : List Stand) (s : Stand) (i : ℕ) → drop i ss ≡ s ∷ drop (i + 1) ss
       → (keys ++ key_of (cell_at cells s.place)) ++ keys_in cells (drop (i + 1) ss) ≡ keys ++ keys_in cells (drop i ss)
   keys-next keys cells ss s i e = append_assoc keys (key_of (cell_at cells s.place)) (keys_in cells (drop (i + 1) ss)) ∙ ap (λ l. keys ++ keys_in cells l) (sym e)
 
@@ -71,14 +70,14 @@ module _ {K V : Type 0} where
       go true later = ap (λ m. cond (eqb r.number n) 1 0 + m) later
       go false later = omega arith
 
-  stands-counted : (n k : ℕ) (cells : List (Option (Cell K V))) → count n (map (λ s. s.number) (stands_from k cells)) ≡ sum_over (part n) cells
+  stands-counted : (n k : ℕ) (cells : List (Option (Record K V))) → count n (map (λ s. s.number) (stands_from k cells)) ≡ sum_over (part n) cells
   stands-counted n k [] = refl
   stands-counted n k (None ∷ cells) = stands-counted n (k + 1) cells
-  stands-counted n k (Some c ∷ cells) = go c.item.is_held (stands-counted n (k + 1) cells)
+  stands-counted n k (Some c ∷ cells) = go c.is_held (stands-counted n (k + 1) cells)
     where
       go : (b : Bool) → count n (map (λ s. s.number) (stands_from (k + 1) cells)) ≡ sum_over (part n) cells
-          → count n (map (λ (s : Stand). s.number) (cond b ((record { number = c.item.number; place = k }) ∷ []) [] ++ stands_from (k + 1) cells)) ≡ cond b (cond (eqb c.item.number n) 1 0) 0 + sum_over (part n) cells
-      go true later = ap (λ m. cond (eqb c.item.number n) 1 0 + m) later
+          → count n (map (λ (s : Stand). s.number) (cond b ((record { number = c.number; place = k }) ∷ []) [] ++ stands_from (k + 1) cells)) ≡ cond b (cond (eqb c.number n) 1 0) 0 + sum_over (part n) cells
+      go true later = ap (λ m. cond (eqb c.number n) 1 0 + m) later
       go false later = omega arith
 
   numbers-above : (x : ℕ) (rs : List (Record K V)) → AllAbove x rs → AllFrom x (held_numbers rs)
@@ -98,7 +97,7 @@ module _ {K V : Type 0} where
       go false later = later
 
   -- what was sorted has the numbers of the held records
-  numbers-sorted : (cells : List (Option (Cell K V))) (ss : List Stand) → HaveOwnNumbers cells → IsPermutation (stands_from 0 cells) ss → IsNonDecreasingBy (λ s. s.number) ss → map (λ s. s.number) ss ≡ held_numbers (records_by_number cells)
+  numbers-sorted : (cells : List (Option (Record K V))) (ss : List Stand) → HaveOwnNumbers cells → IsPermutation (stands_from 0 cells) ss → IsNonDecreasingBy (λ s. s.number) ss → map (λ s. s.number) ss ≡ held_numbers (records_by_number cells)
   numbers-sorted cells ss apart same sorted =
       same-counts (map (λ s. s.number) ss) (held_numbers (records_by_number cells)) (sorted-never_falls (λ s. s.number) ss sorted) (numbers-rise (records_by_number cells) (records-rising cells apart)) (λ n.
       listed-counted n ss
@@ -141,26 +140,26 @@ module _ {K V : Type 0} where
       go false later = later
 
   -- a stand leads to the record of its number
-  abbrev Leads : List (Option (Cell K V)) → Stand → Type 0
+  abbrev Leads : List (Option (Record K V)) → Stand → Type 0
   Leads cells s = key_of (cell_at cells s.place) ≡ key_at (record_at (records_by_number cells) s.number)
 
-  all-lead : (whole : List (Option (Cell K V))) (k : ℕ) (cells : List (Option (Cell K V))) → HaveOwnNumbers whole → ((i : ℕ) → cell_at whole (k + i) ≡ cell_at cells i) → AllByRecursion (Leads whole) (stands_from k cells)
+  all-lead : (whole : List (Option (Record K V))) (k : ℕ) (cells : List (Option (Record K V))) → HaveOwnNumbers whole → ((i : ℕ) → cell_at whole (k + i) ≡ cell_at cells i) → AllByRecursion (Leads whole) (stands_from k cells)
   all-lead whole k [] apart at = tt
   all-lead whole k (None ∷ cells) apart at = all-lead whole (k + 1) cells apart (λ i. ap (λ n. cell_at whole n) (let e : k + 1 + i ≡ k + suc i = omega arith in e) ∙ at (suc i))
-  all-lead whole k (Some c ∷ cells) apart at = go c.item.is_held (all-lead whole (k + 1) cells apart (λ i. ap (λ n. cell_at whole n) (let e : k + 1 + i ≡ k + suc i = omega arith in e) ∙ at (suc i)))
+  all-lead whole k (Some c ∷ cells) apart at = go c.is_held (all-lead whole (k + 1) cells apart (λ i. ap (λ n. cell_at whole n) (let e : k + 1 + i ≡ k + suc i = omega arith in e) ∙ at (suc i)))
     where
       here : cell_at whole k ≡ Some c
       here = ap (λ n. cell_at whole n) (let e : k ≡ k + zero = omega arith in e) ∙ at zero
 
-      go : (b : Bool) → AllByRecursion (Leads whole) (stands_from (k + 1) cells) → AllByRecursion (Leads whole) (cond b ((record { number = c.item.number; place = k }) ∷ []) [] ++ stands_from (k + 1) cells)
+      go : (b : Bool) → AllByRecursion (Leads whole) (stands_from (k + 1) cells) → AllByRecursion (Leads whole) (cond b ((record { number = c.number; place = k }) ∷ []) [] ++ stands_from (k + 1) cells)
       go true later = (ap (λ o. key_of o) here ∙ sym (ap (λ o. key_at o) (record_at-there whole k c apart here)), later)
       go false later = later
 
-  keys-lead : (cells : List (Option (Cell K V))) (ss : List Stand) → AllByRecursion (Leads cells) ss → keys_in cells ss ≡ keys_by (records_by_number cells) (map (λ s. s.number) ss)
+  keys-lead : (cells : List (Option (Record K V))) (ss : List Stand) → AllByRecursion (Leads cells) ss → keys_in cells ss ≡ keys_by (records_by_number cells) (map (λ s. s.number) ss)
   keys-lead cells [] h = refl
   keys-lead cells (s ∷ ss) h = ap (λ l. l ++ keys_in cells ss) h.0 ∙ ap (λ l. key_at (record_at (records_by_number cells) s.number) ++ l) (keys-lead cells ss h.1)
 
-  pub keys-sorted : (cells : List (Option (Cell K V))) (ss : List Stand) → HaveOwnNumbers cells → IsPermutation (stands_from 0 cells) ss → IsNonDecreasingBy (λ s. s.number) ss → keys_in cells ss ≡ held_keys (records_by_number cells)
+  pub keys-sorted : (cells : List (Option (Record K V))) (ss : List Stand) → HaveOwnNumbers cells → IsPermutation (stands_from 0 cells) ss → IsNonDecreasingBy (λ s. s.number) ss → keys_in cells ss ≡ held_keys (records_by_number cells)
   keys-sorted cells ss apart same sorted =
       keys-lead cells ss (recursion_from_All (Leads cells) ss (All-permutation (Leads cells) (stands_from 0 cells) ss same (All-from_recursion (Leads cells) (stands_from 0 cells) (all-lead cells 0 cells apart (λ i. ap (λ n. cell_at cells n) (let e : 0 + i ≡ i = omega arith in e))))))
       ∙ ap (λ ns. keys_by (records_by_number cells) ns) (numbers-sorted cells ss apart same sorted)

@@ -1,14 +1,13 @@
 pub mod Drawers
 pub mod Placed
 pub mod Listed
-pub mod Access
+pub mod Indexed
 pub mod Views
 pub mod Changes
 pub mod Held
 pub mod Pointing
 pub mod Counting
 pub mod Totals
-pub mod Turned
 pub mod Walking
 pub mod Settling
 pub mod Spotting

@@ -12,7 +12,6 @@ use Rattle.engine_reference.specs.Records.{held_at, held_entries}
 use Rattle.engine_reference.specs.Scanning.{held_keys, visible_keys}
 use Rattle.engine_reference.specs.State.{State, Answers}
 use Rattle.engine_reference.specs.Visible.{is_visible, passing, visible_value}
-use Rattle.engine_cells.specs.declared.cell.Cell.{Cell}
 use Rattle.engine_cells.specs.Cells.{cell_at, records_by_number}
 use Rattle.engine_cells.specs.Showing.{shown_part}
 use Rattle.engine_cells.specs.Spotted.{is_match}
@@ -46,12 +45,12 @@ module _ {K V : Type 0} (test : K → Bool) where
 
 module _ {K V : Type 0} where
   -- two sums of parts that are alike in each cell
-  sum_over-alike : (f g : Record K V → ℕ) (cells : List (Option (Cell K V))) → ((i : ℕ) (c : Cell K V) → cell_at cells i ≡ Some c → f c.item ≡ g c.item) → sum_over f cells ≡ sum_over g cells
+  sum_over-alike : (f g : Record K V → ℕ) (cells : List (Option (Record K V))) → ((i : ℕ) (c : Record K V) → cell_at cells i ≡ Some c → f c ≡ g c) → sum_over f cells ≡ sum_over g cells
   sum_over-alike f g [] h = refl
   sum_over-alike f g (None ∷ cells) h = sum_over-alike f g cells (λ i. h (suc i))
-  sum_over-alike f g (Some c ∷ cells) h = ap (λ n. n + sum_over f cells) (h zero c refl) ∙ ap (λ n. g c.item + n) (sum_over-alike f g cells (λ i. h (suc i)))
+  sum_over-alike f g (Some c ∷ cells) h = ap (λ n. n + sum_over f cells) (h zero c refl) ∙ ap (λ n. g c + n) (sum_over-alike f g cells (λ i. h (suc i)))
 
-module _ {K V O W P S R : Type 0} (read_of : O → Read) (write_of : W → Write) (answers : Answers K V P R) (eq : K → K → Bool) (now : ℕ) (p : Pending K V O W P S R) (cells : List (Option (Cell K V))) (access order : List ℕ) (next : ℕ) where
+module _ {K V O W P S R : Type 0} (read_of : O → Read) (write_of : W → Write) (answers : Answers K V P R) (eq : K → K → Bool) (now : ℕ) (p : Pending K V O W P S R) (cells : List (Option (Record K V))) (access order : List ℕ) (next : ℕ) where
   abbrev state : State K V P S R
   state = whole read_of write_of (records_by_number cells) access order next p
 
@@ -61,26 +60,26 @@ module _ {K V O W P S R : Type 0} (read_of : O → Read) (write_of : W → Write
   pub shown-is : ((key : K) → eq key key ≡ true) → ((key : K) (i j : ℕ) → is_match eq key (cell_at cells i) ≡ true → is_match eq key (cell_at cells j) ≡ true → i ≡ j)
       → sum_over (shown_part answers.covers p now) cells ≡ length (visible_keys answers eq state now)
   shown-is same single =
-      sum_over-alike (shown_part answers.covers p now) (keyed_part has_value) cells (λ i c there. go i c there c.item.is_held refl)
+      sum_over-alike (shown_part answers.covers p now) (keyed_part has_value) cells (λ i c there. go i c there c.is_held refl)
       ∙ sym (sum_over-is (keyed_part has_value) cells)
       ∙ sym (keys-counted has_value (records_by_number cells))
     where
-      at-own : (i : ℕ) (c : Cell K V) → cell_at cells i ≡ Some c → c.item.is_held ≡ true → held_at eq (records_by_number cells) c.item.entry.key ≡ Some c.item
+      at-own : (i : ℕ) (c : Record K V) → cell_at cells i ≡ Some c → c.is_held ≡ true → held_at eq (records_by_number cells) c.entry.key ≡ Some c
       at-own i c there held =
-          let key = c.item.entry.key in
+          let key = c.entry.key in
           let mine : is_match eq key (cell_at cells i) ≡ true = ap (is_match eq key) there ∙ and_from _ _ held (same key) in
-          held-there eq cells i key mine (λ j other. single key i j mine other) ∙ ap (λ o. option_map (λ x. x.item) o) there
+          held-there eq cells i key mine (λ j other. single key i j mine other) ∙ there
 
-      go : (i : ℕ) (c : Cell K V) → cell_at cells i ≡ Some c → (b : Bool) → c.item.is_held ≡ b → shown_part answers.covers p now c.item ≡ keyed_part has_value c.item
+      go : (i : ℕ) (c : Record K V) → cell_at cells i ≡ Some c → (b : Bool) → c.is_held ≡ b → shown_part answers.covers p now c ≡ keyed_part has_value c
       go i c there true held =
-          let seen : Bool = is_visible answers state now c.item.entry in
+          let seen : Bool = is_visible answers state now c.entry in
           ap (λ b. cond {A = ℕ} (b && seen) 1 0) held
           ∙ ap (λ b. cond {A = ℕ} b 1 0) (sym (ap (λ o. is_some (option_map (λ e. e.value) (option_map (λ r. r.entry) (passing (λ r. is_visible answers state now r.entry) o)))) (at-own i c there held) ∙ twice seen))
-          ∙ sym (ap (λ b. cond {A = ℕ} b (cond {A = ℕ} (has_value c.item.entry.key) 1 0) 0) held)
+          ∙ sym (ap (λ b. cond {A = ℕ} b (cond {A = ℕ} (has_value c.entry.key) 1 0) 0) held)
         where
-          twice : (b : Bool) → is_some (option_map (λ e. e.value) (option_map (λ r. r.entry) (cond b (Some c.item) None))) ≡ b
+          twice : (b : Bool) → is_some (option_map (λ e. e.value) (option_map (λ r. r.entry) (cond b (Some c) None))) ≡ b
           twice true = refl
           twice false = refl
       go i c there false held =
-          ap (λ b. cond {A = ℕ} (b && is_visible answers state now c.item.entry) 1 0) held
-          ∙ sym (ap (λ b. cond {A = ℕ} b (cond {A = ℕ} (has_value c.item.entry.key) 1 0) 0) held)
+          ap (λ b. cond {A = ℕ} (b && is_visible answers state now c.entry) 1 0) held
+          ∙ sym (ap (λ b. cond {A = ℕ} b (cond {A = ℕ} (has_value c.entry.key) 1 0) 0) held)

@@ -3,7 +3,6 @@ use Rattle.std.proofs.Common.{◌≡◌, refl, sym, ◌∙◌, ℕ, ◌<◌, zer
 use Rattle.std.specs.Prelude.{IfSome, IfNone, OnOk, OnErr, Result, Ok, Err, option_map, is_some}
 use Rattle.engine_reference.specs.declared.data.Record.{Record}
 use Rattle.engine_reference.specs.Records.{record_at}
-use Rattle.engine_cells.specs.declared.cell.Cell.{Cell}
 use Rattle.engine_cells.specs.Cells.{cell_at, records_by_number, numbers_of, HaveOwnNumbers}
 use Rattle.engine_cells.proofs.Listed.{apart-later, first-alone}
 use Rattle.engine_cells.proofs.Placed.{record_at-put_among}
@@ -39,30 +38,30 @@ none-map P Q f (Some i) h = tt
 
 module _ {K V : Type 0} where
   -- a record among the records of cells stands in a place
-  pub record Stands (cells : List (Option (Cell K V))) (r : Record K V) : Type 0 where
+  pub record Stands (cells : List (Option (Record K V))) (r : Record K V) : Type 0 where
     pub place : ℕ
-    pub cell : Cell K V
+    pub cell : Record K V
     pub there : cell_at cells place ≡ Some cell
-    pub is : cell.item ≡ r
+    pub is : cell ≡ r
 
-  later_place : (o : Option (Cell K V)) (cells : List (Option (Cell K V))) (r : Record K V) → Stands cells r → Stands (o ∷ cells) r
+  later_place : (o : Option (Record K V)) (cells : List (Option (Record K V))) (r : Record K V) → Stands cells r → Stands (o ∷ cells) r
   later_place o cells r p = record { place = suc p.place; cell = p.cell; there = p.there; is = p.is }
 
-  pub place-there : (cells : List (Option (Cell K V))) (n : ℕ) (r : Record K V) → HaveOwnNumbers cells → record_at (records_by_number cells) n ≡ Some r → Stands cells r
+  pub place-there : (cells : List (Option (Record K V))) (n : ℕ) (r : Record K V) → HaveOwnNumbers cells → record_at (records_by_number cells) n ≡ Some r → Stands cells r
   place-there [] n r apart h = absurd (cc)
   place-there (None ∷ cells) n r apart h = later_place None cells r (place-there cells n r (apart-later None cells apart) h)
-  place-there (Some c ∷ cells) n r apart h = go (eqb c.item.number n) (sym (record_at-put_among c.item (records_by_number cells) n (first-alone c cells apart)) ∙ h) (place-there cells n r (apart-later (Some c) cells apart))
+  place-there (Some c ∷ cells) n r apart h = go (eqb c.number n) (sym (record_at-put_among c (records_by_number cells) n (first-alone c cells apart)) ∙ h) (place-there cells n r (apart-later (Some c) cells apart))
     where
-      go : (b : Bool) → cond b (Some c.item) (record_at (records_by_number cells) n) ≡ Some r → (record_at (records_by_number cells) n ≡ Some r → Stands cells r) → Stands (Some c ∷ cells) r
+      go : (b : Bool) → cond b (Some c) (record_at (records_by_number cells) n) ≡ Some r → (record_at (records_by_number cells) n ≡ Some r → Stands cells r) → Stands (Some c ∷ cells) r
       go true e later = record { place = zero; cell = c; there = refl; is = cc }
       go false e later = later_place (Some c) cells r (later e)
 
   -- each cell has its number
-  pub many-numbers : (cells : List (Option (Cell K V))) → length (numbers_of cells) ≡ length cells
+  pub many-numbers : (cells : List (Option (Record K V))) → length (numbers_of cells) ≡ length cells
   many-numbers [] = refl
   many-numbers (o ∷ cells) = let later = many-numbers cells in omega (arith, later)
 
-  pub numbers-within : (cells : List (Option (Cell K V))) (i : ℕ) (c : Cell K V) → cell_at cells i ≡ Some c → i < length (numbers_of cells)
+  pub numbers-within : (cells : List (Option (Record K V))) (i : ℕ) (c : Record K V) → cell_at cells i ≡ Some c → i < length (numbers_of cells)
   numbers-within [] i c h = absurd (cc)
   numbers-within (o ∷ cells) zero c h = omega arith
   numbers-within (o ∷ cells) (suc i) c h = let later = numbers-within cells i c h in omega (arith, later)

@@ -1,36 +1,26 @@
--- Cells and a queue.
-use Rattle.std.specs.Prelude.{◌≡◌, ℕ, ◌+◌, ◌<◌, cond, List, [], ◌∷◌, Option, Some, None, is_some, IsSome}
-use Rattle.policy_base.specs.declared.name.NodeId.{NodeId}
-use Rattle.policy_base.specs.declared.records.KeyHashDate.{KeyHashDate}
-use Rattle.policy_queue.specs.Queue.{Queue, Leaves, MovesToBack, Pushes, find}
-use Rattle.engine_cells.specs.declared.cell.Cell.{Cell}
-use Rattle.engine_cells.specs.Cells.{AreQueued}
+-- Cells and a queue of their places.
+use Rattle.std.specs.Prelude.{◌≡◌, ℕ, ◌+◌, ◌<◌, ◌≤◌, false, length, if◌then◌else◌}
+use Rattle.slab.specs.Slab.{Slab, slab_len}
+use Rattle.policy_queue.specs.Indices.{Indices, has_index, without_index, index_moved_to_back}
 
-abbrev pub FitsQueue : {K V : Type 0} → List (Option (Cell K V)) → Queue KeyHashDate → ℕ → Type 0
-FitsQueue cells queue next = AreQueued cells queue.nodes next
+-- a queue in which so many records stand has room for the others, and for `more` that come
+pub record HasPlacesFor {X : Type 0} (cells : Slab X) (number more : ℕ) (queue : Indices) : Type 0 where
+  pub room : slab_len cells + more ≤ number + queue.room
+  pub taken : length cells.slots ≤ queue.bound
+  pub coming : slab_len cells + more ≤ queue.bound
 
--- how many cells stand in no queue
-abbrev pub unqueued : {K V : Type 0} → List (Option (Cell K V)) → ℕ
-unqueued [] = 0
-unqueued (None ∷ cells) = unqueued cells
-unqueued (Some c ∷ cells) = cond (is_some c.nodes.access_queue) 0 1 + unqueued cells
+-- a place, if it stood in the queue, left it
+pub record StepsOut (place : ℕ) (old new : Indices) : Type 0 where
+  pub indices : new.indices ≡ without_index place old.indices
+  pub room : new.room ≡ old.room + (if has_index place old.indices then 1 else 0)
+  pub bound : new.bound ≡ old.bound
 
--- a node, if there is one, is in this queue
-abbrev pub StandsIn : Option NodeId → Queue KeyHashDate → Type 0
-StandsIn None queue = Unit {0}
-StandsIn (Some id) queue = IsSome (find id queue.nodes)
+-- a place stands in the queue, or there is room for it
+abbrev pub HasPlaceFor : ℕ → Indices → Type 0
+HasPlaceFor place queue = has_index place queue.indices ≡ false → (0 < queue.room) × (place < queue.bound)
 
--- a node, if there is one, left this queue
-abbrev pub StepsOut : Option NodeId → Queue KeyHashDate → Queue KeyHashDate → Type 0
-StepsOut None old new = new ≡ old
-StepsOut (Some id) old new = Leaves old new id
-
--- there is a node, or room for one
-abbrev pub HasPlaceFor : Option NodeId → Queue KeyHashDate → Type 0
-HasPlaceFor None queue = 0 < queue.room
-HasPlaceFor (Some id) queue = Unit {0}
-
--- a node, if there was one, went to the back; else one for the place came there
-abbrev pub ComesLast : Option NodeId → ℕ → NodeId → Queue KeyHashDate → Queue KeyHashDate → Type 0
-ComesLast None place id old new = Pushes old new id (record { entry = place })
-ComesLast (Some node) place id old new = (id ≡ node) × MovesToBack old new node
+-- a place went to the back, or came there
+pub record ComesLast (place : ℕ) (old new : Indices) : Type 0 where
+  pub indices : new.indices ≡ index_moved_to_back place old.indices
+  pub room : new.room + (if has_index place old.indices then 0 else 1) ≡ old.room
+  pub bound : new.bound ≡ old.bound

@@ -1,13 +1,10 @@
 -- What walks over cells look for.
 use Rattle.std.specs.Prelude.{◌≡◌, ℕ, ◌==◌, Bool, false, ◌&&◌, if◌then◌else◌, List, [], ◌∷◌, Option, Some, None}
 use Rattle.engine_reference.specs.declared.data.Record.{Record}
-use Rattle.policy_base.specs.declared.records.KeyHashDate.{KeyHashDate}
-use Rattle.policy_queue.specs.declared.places.Node.{Node}
 use Rattle.engine_reference.specs.Records.{is_settled, settled_in}
 use Rattle.engine_reference.specs.Runs.{first_of}
 use Rattle.engine_reference.specs.Times.{is_reached}
-use Rattle.engine_cells.specs.declared.cell.Cell.{Cell}
-use Rattle.engine_cells.specs.Cells.{record_in, records_by_number, numbers_in}
+use Rattle.engine_cells.specs.Cells.{cell_at, records_by_number, numbers_in}
 
 -- the numbers of a list behind one of them
 abbrev pub behind : ℕ → List ℕ → List ℕ
@@ -24,6 +21,6 @@ module _ {K V : Type 0} where
   is_settled_as None = false
   is_settled_as (Some r) = is_settled r
 
-  -- a place has the first settled record of a list, whose nodes these are
-  abbrev pub HasFirstSettled : List (Option (Cell K V)) → List (Node KeyHashDate) → ℕ → Type 0
-  HasFirstSettled cells nodes place = (r : Record K V) × (record_in cells place ≡ Some r) × (first_of (settled_in (records_by_number cells) (numbers_in cells nodes)) ≡ Some r)
+  -- a place has the first settled record of a list, for which these places stand
+  abbrev pub HasFirstSettled : List (Option (Record K V)) → List ℕ → ℕ → Type 0
+  HasFirstSettled cells places place = (r : Record K V) × (cell_at cells place ≡ Some r) × (first_of (settled_in (records_by_number cells) (numbers_in cells places)) ≡ Some r)

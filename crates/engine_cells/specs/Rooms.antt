@@ -1,10 +1,8 @@
 -- Room for writes.
-use Rattle.std.specs.Prelude.{◌≡◌, ℕ, ◌+◌, ◌≤◌}
+use Rattle.std.specs.Prelude.{◌≡◌, ℕ, ◌+◌, ◌≤◌, length}
 use Rattle.slab.specs.Slab.{Slab, slab_len}
-use Rattle.policy_base.specs.declared.records.KeyHashDate.{KeyHashDate}
-use Rattle.policy_queue.specs.Queue.{Queue}
+use Rattle.policy_queue.specs.Indices.{Indices}
 use Rattle.engine_cells.specs.Keys.Spots.{Spots}
-use Rattle.engine_cells.specs.declared.cell.Cell.{Cell}
 
 -- nothing changed, but that more cells may fit
 pub record OnlyMoreCells {X : Type 0} (old new : Slab X) : Type 0 where
@@ -12,8 +10,11 @@ pub record OnlyMoreCells {X : Type 0} (old new : Slab X) : Type 0 where
   pub capacity : old.capacity ≤ new.capacity
 
 -- there is room for `more` records, where `waiting` of those that are there stand in no queue
-pub record HasRooms {K V : Type 0} (cells : Slab (Cell K V)) (access order : Queue KeyHashDate) (keys : Spots) (more waiting : ℕ) : Type 0 where
+pub record HasRooms {X : Type 0} (cells : Slab X) (access order : Indices) (keys : Spots) (more waiting : ℕ) : Type 0 where
   pub cells_fit : slab_len cells + more ≤ cells.capacity
+  pub places_fit : length cells.slots ≤ cells.capacity
   pub access_fits : waiting + more ≤ access.room
+  pub access_reaches : cells.capacity ≤ access.bound
   pub order_fits : waiting + more ≤ order.room
+  pub order_reaches : cells.capacity ≤ order.bound
   pub keys_fit : more ≤ keys.space

@@ -3,7 +3,6 @@ use Rattle.std.specs.Prelude.{ℕ, Bool, not, ◌&&◌, if◌then◌else◌, Opt
 use Rattle.engine_pending.specs.Pending.{Pending, stands_over}
 use Rattle.engine_reference.specs.declared.data.Record.{Record}
 use Rattle.engine_reference.specs.Times.{has_come}
-use Rattle.engine_cells.specs.declared.cell.Cell.{Cell}
 
 module _ {K V O W P S R : Type 0} (covers : R → P → K → V → Bool) (p : Pending K V O W P S R) (now : ℕ) where
   -- a record is held, its deadline lies after the moment, and nothing stands over its entry
@@ -14,6 +13,6 @@ module _ {K V O W P S R : Type 0} (covers : R → P → K → V → Bool) (p : P
   abbrev pub shown_part : Record K V → ℕ
   shown_part r = if shows_value r then 1 else 0
 
-  abbrev pub shown_in : Option (Cell K V) → ℕ
+  abbrev pub shown_in : Option (Record K V) → ℕ
   shown_in None = 0
-  shown_in (Some c) = shown_part c.item
+  shown_in (Some c) = shown_part c

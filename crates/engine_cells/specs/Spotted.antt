@@ -1,30 +1,30 @@
 -- Cells and the spots of their keys' hashes.
 use Rattle.std.specs.Prelude.{◌≡◌, ℕ, ◌==◌, Bool, true, false, ◌&&◌, List, Option, Some, None}
 use Rattle.engine_cells.specs.Keys.Spots.{tag_of, Spots, IsUnder, LeavesFrom}
-use Rattle.engine_cells.specs.declared.cell.Cell.{Cell}
+use Rattle.engine_reference.specs.declared.data.Record.{Record}
 use Rattle.engine_cells.specs.Cells.{cell_at}
 
 module _ {K V : Type 0} where
   -- a place has a held record under a hash
-  pub record HoldsAt (cells : List (Option (Cell K V))) (hash place : ℕ) : Type 0 where
-    pub cell : Cell K V
+  pub record HoldsAt (cells : List (Option (Record K V))) (hash place : ℕ) : Type 0 where
+    pub cell : Record K V
     pub there : cell_at cells place ≡ Some cell
-    pub held : cell.item.is_held ≡ true
-    pub tag_is : tag_of cell.item.hash ≡ tag_of hash
+    pub held : cell.is_held ≡ true
+    pub tag_is : tag_of cell.hash ≡ tag_of hash
 
   -- the hash of each held record is that of its key
-  abbrev pub AreHashed : (K → ℕ) → List (Option (Cell K V)) → Type 0
-  AreHashed hash_of cells = (i : ℕ) (c : Cell K V) → cell_at cells i ≡ Some c → c.item.is_held ≡ true → c.item.hash ≡ hash_of c.item.entry.key
+  abbrev pub AreHashed : (K → ℕ) → List (Option (Record K V)) → Type 0
+  AreHashed hash_of cells = (i : ℕ) (c : Record K V) → cell_at cells i ≡ Some c → c.is_held ≡ true → c.hash ≡ hash_of c.entry.key
 
 module _ {K V : Type 0} where
   -- there is a cell, and its record has this number
-  abbrev pub is_numbered : ℕ → Option (Cell K V) → Bool
+  abbrev pub is_numbered : ℕ → Option (Record K V) → Bool
   is_numbered number None = false
-  is_numbered number (Some c) = c.item.number == number
+  is_numbered number (Some c) = c.number == number
 
   -- the record of a number, where it is there, is held and has this hash
-  abbrev pub IsHeldUnder : ℕ → ℕ → List (Option (Cell K V)) → Type 0
-  IsHeldUnder number hash cells = (i : ℕ) (c : Cell K V) → cell_at cells i ≡ Some c → is_numbered number (Some c) ≡ true → (c.item.is_held ≡ true) × (c.item.hash ≡ hash)
+  abbrev pub IsHeldUnder : ℕ → ℕ → List (Option (Record K V)) → Type 0
+  IsHeldUnder number hash cells = (i : ℕ) (c : Record K V) → cell_at cells i ≡ Some c → is_numbered number (Some c) ≡ true → (c.is_held ≡ true) × (c.hash ≡ hash)
 
 -- a place leaves from under a hash, where it is to
 abbrev pub LeavesIf : Bool → Spots → Spots → ℕ → ℕ → Type 0
@@ -33,16 +33,16 @@ LeavesIf false old new hash place = new ≡ old
 
 module _ {K V : Type 0} (eq : K → K → Bool) where
   -- a cell's record is held, and its key compares alike
-  abbrev pub is_match : K → Option (Cell K V) → Bool
+  abbrev pub is_match : K → Option (Record K V) → Bool
   is_match key None = false
-  is_match key (Some c) = c.item.is_held && eq key c.item.entry.key
+  is_match key (Some c) = c.is_held && eq key c.entry.key
 
   -- each held record's place stands under its hash, and nothing else does, and no two held records have keys alike
-  pub record AreSpotted (cells : List (Option (Cell K V))) (spots : Spots) : Type 0 where
-    pub spotted : (i : ℕ) (c : Cell K V) → cell_at cells i ≡ Some c → c.item.is_held ≡ true → IsUnder spots c.item.hash i
+  pub record AreSpotted (cells : List (Option (Record K V))) (spots : Spots) : Type 0 where
+    pub spotted : (i : ℕ) (c : Record K V) → cell_at cells i ≡ Some c → c.is_held ≡ true → IsUnder spots c.hash i
     pub only : (hash i : ℕ) → IsUnder spots hash i → HoldsAt cells hash i
     pub single : (key : K) (i j : ℕ) → is_match key (cell_at cells i) ≡ true → is_match key (cell_at cells j) ≡ true → i ≡ j
 
   -- held records with keys alike have this hash
-  abbrev pub HaveHash : K → ℕ → List (Option (Cell K V)) → Type 0
-  HaveHash key hash cells = (i : ℕ) (c : Cell K V) → cell_at cells i ≡ Some c → is_match key (Some c) ≡ true → c.item.hash ≡ hash
+  abbrev pub HaveHash : K → ℕ → List (Option (Record K V)) → Type 0
+  HaveHash key hash cells = (i : ℕ) (c : Record K V) → cell_at cells i ≡ Some c → is_match key (Some c) ≡ true → c.hash ≡ hash

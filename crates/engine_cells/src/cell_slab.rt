@@ -2,7 +2,7 @@
 //!
 //! It does what the kit's `slab` does, and contracts see it as they see that; but its keys are below 2^32 - 1, and it
 //! refuses room for more.
-ghost use Rattle.std.specs.Prelude.{◌≡◌, ◌+◌, ◌-◌, ◌<◌, ◌≤◌, ◌^◌, [], length, IsOk, OnOk, IsSome, None, Some, option_copied, slice_set};
+ghost use Rattle.std.specs.Prelude.{◌≡◌, ◌+◌, ◌-◌, ◌<◌, ◌≤◌, ◌^◌, [], length, max, IsOk, OnOk, IsSome, None, Some, option_copied, slice_set};
 ghost use Rattle.std.specs.Borrow.{Lends, sem};
 ghost use Rattle.slab.specs.Slab.{get, ContainsKey, slab_len, HasRoomFor, Updates};
 ghost use Rattle.engine_cells.specs.Drawers.{value_in};
@@ -118,6 +118,7 @@ impl<T> CellSlab<T> {
         ensures was_vacant { get self.old result ≡ None }
         ensures updates { Updates self.old self.new result (Some value) }
         ensures len { slab_len self.new ≡ slab_len self.old + 1 }
+        ensures slots { length self.new.slots ≤ max (length self.old.slots) (slab_len self.old + 1) }
         ensures key_in_range { result < self.new.capacity }
         ensures capacity { self.new.capacity ≡ self.old.capacity }
     {
@@ -166,6 +167,16 @@ impl<T> CellSlab<T> {
             Some(Drawer::Vacant(_)) => None,
             None => None,
         }
+    }
+
+    /// A key that has a value, in 32 bits.
+    pub fn index_of(&self, key: usize) -> u32
+        requires { ContainsKey self.now key }
+        ensures is { result ≡ key }
+        ensures within { result < length self.now.slots }
+    {
+        let _many = self.drawers.len();
+        key as u32
     }
 
     fn value_mut(&mut self, key: usize) -> &mut T

@@ -2,20 +2,19 @@
 ghost use Rattle.std.specs.Prelude.{◌≡◌, ◌≤◌, ℕ, true, false, Some, None, IfSome, IfNone, is_some};
 ghost use Rattle.engine_reference.specs.Records.{held_at};
 ghost use Rattle.engine_cells.specs.Keys.Spots.{IsUnder};
-ghost use Rattle.engine_cells.specs.Cells.{cell_at, record_in, records_by_number};
+ghost use Rattle.engine_cells.specs.Cells.{cell_at, records_by_number};
 ghost use Rattle.engine_cells.specs.Spotted.{is_match, is_numbered, AreSpotted, HaveHash, IsHeldUnder, LeavesIf};
 
-use crate::cell::Cell;
 use crate::cell_slab::CellSlab;
 use crate::keys::Keys;
-use engine_reference::Names;
+use engine_reference::{Names, Record};
 
 /// Whether the record in a place is held under a key.
-fn is_match<K: Eq, Q: Names<K>, V>(cells: &CellSlab<Cell<K, V>>, place: usize, key: &Q) -> bool
+fn is_match<K: Eq, Q: Names<K>, V>(cells: &CellSlab<Record<K, V>>, place: usize, key: &Q) -> bool
     ensures { result ≡ is_match K.eq (Q.named_key key.now) (cell_at cells.now.slots place) }
 {
     match cells.get(place) {
-        Some(cell) => cell.item.is_held && key.is_name_of(&cell.item.entry.key),
+        Some(cell) => cell.is_held && key.is_name_of(&cell.entry.key),
         None => false,
     }
 }
@@ -32,14 +31,14 @@ pub fn take_if(keys: &mut Keys, goes: bool, hash: u64, place: usize)
 
 /// The place of a key's record, where it is held, by the key's hash.
 pub fn find_held<K: Eq, Q: Names<K>, V>(
-    cells: &CellSlab<Cell<K, V>>,
+    cells: &CellSlab<Record<K, V>>,
     keys: &Keys,
     key: &Q,
     hash: u64,
 ) -> Option<usize>
     requires spotted { AreSpotted K.eq cells.now.slots keys.now }
     requires hashed { HaveHash K.eq (Q.named_key key.now) hash cells.now.slots }
-    ensures found { IfSome result (λ i. held_at K.eq (records_by_number cells.now.slots) (Q.named_key key.now) ≡ record_in cells.now.slots i) }
+    ensures found { IfSome result (λ i. held_at K.eq (records_by_number cells.now.slots) (Q.named_key key.now) ≡ cell_at cells.now.slots i) }
     ensures matched { IfSome result (λ i. is_match K.eq (Q.named_key key.now) (cell_at cells.now.slots i) ≡ true) }
     ensures there { IfSome result (λ i. is_some (cell_at cells.now.slots i) ≡ true) }
     ensures none { IfNone result (held_at K.eq (records_by_number cells.now.slots) (Q.named_key key.now) ≡ None) }
@@ -48,18 +47,18 @@ pub fn find_held<K: Eq, Q: Names<K>, V>(
 }
 
 /// Whether a place has the record of a number.
-fn is_numbered<K, V>(cells: &CellSlab<Cell<K, V>>, place: usize, number: u64) -> bool
+fn is_numbered<K, V>(cells: &CellSlab<Record<K, V>>, place: usize, number: u64) -> bool
     ensures { result ≡ is_numbered number (cell_at cells.now.slots place) }
 {
     match cells.get(place) {
-        Some(cell) => cell.item.number == number,
+        Some(cell) => cell.number == number,
         None => false,
     }
 }
 
 /// The place of the record of a number, which is held under this hash where it is there.
 pub fn find_number<K: Eq, V>(
-    cells: &CellSlab<Cell<K, V>>,
+    cells: &CellSlab<Record<K, V>>,
     keys: &Keys,
     number: u64,
     hash: u64,

@@ -1,17 +1,16 @@
 //! Walks over cells and the access queue.
 ghost use Rattle.std.specs.Prelude.{◌≡◌, ◌≤◌, ℕ, true, false, [], Some, None, IfSome, IfNone, is_some, if◌then◌else◌};
 ghost use Rattle.engine_reference.specs.Records.{settled_in};
-ghost use Rattle.engine_cells.specs.Cells.{cell_at, record_in, records_by_number, numbers_in, HaveOwnNumbers, AreLinked};
+ghost use Rattle.engine_cells.specs.Cells.{cell_at, records_by_number, numbers_in, HaveOwnNumbers, AreListed};
 ghost use Rattle.engine_cells.specs.Awaiting.{AreAwaited};
 ghost use Rattle.engine_cells.specs.Looking.{is_expired, is_settled_as, HasFirstSettled};
-ghost use Rattle.engine_cells.specs.declared.cell.Cell.{Cell};
+ghost use Rattle.engine_reference.specs.declared.data.Record.{Record};
 
-use crate::cell::Cell;
 use crate::cell_slab::CellSlab;
 use engine_pending::Expirations;
 use engine_reference::Record;
-use policy_base::{Instant, KeyHashDate, MAX_NANOS};
-use policy_queue::Deque;
+use policy_base::{Instant, MAX_NANOS};
+use policy_queue::IndexQueue;
 
 /// Whether a record is held, and its own expiration was reached.
 fn is_expired<K, V>(found: &Record<K, V>, now: u64) -> bool
@@ -24,20 +23,20 @@ fn is_expired<K, V>(found: &Record<K, V>, now: u64) -> bool
 }
 
 /// Whether a place has a held record whose own expiration was reached.
-fn is_expired_at<K, V>(cells: &CellSlab<Cell<K, V>>, place: usize, now: u64) -> bool
-    ensures due { result ≡ true → (c : Cell K V) × (cell_at cells.now.slots place ≡ Some c) × (is_expired now c.item ≡ true) }
-    ensures not { result ≡ false → (c : Cell K V) → cell_at cells.now.slots place ≡ Some c → is_expired now c.item ≡ false }
+fn is_expired_at<K, V>(cells: &CellSlab<Record<K, V>>, place: usize, now: u64) -> bool
+    ensures due { result ≡ true → (c : Record K V) × (cell_at cells.now.slots place ≡ Some c) × (is_expired now c ≡ true) }
+    ensures not { result ≡ false → (c : Record K V) → cell_at cells.now.slots place ≡ Some c → is_expired now c ≡ false }
 {
     match cells.get(place) {
-        Some(cell) => is_expired(&cell.item, now),
+        Some(cell) => is_expired(cell, now),
         None => false,
     }
 }
 
 /// The place of a held record whose own expiration was reached, by a look at every record.
-fn first_due<K, V>(cells: &CellSlab<Cell<K, V>>, now: u64) -> Option<usize>
-    ensures found { IfSome result (λ i. (c : Cell K V) × (cell_at cells.now.slots i ≡ Some c) × (is_expired now c.item ≡ true)) }
-    ensures none { IfNone result ((i : ℕ) (c : Cell K V) → cell_at cells.now.slots i ≡ Some c → is_expired now c.item ≡ false) }
+fn first_due<K, V>(cells: &CellSlab<Record<K, V>>, now: u64) -> Option<usize>
+    ensures found { IfSome result (λ i. (c : Record K V) × (cell_at cells.now.slots i ≡ Some c) × (is_expired now c ≡ true)) }
+    ensures none { IfNone result ((i : ℕ) (c : Record K V) → cell_at cells.now.slots i ≡ Some c → is_expired now c ≡ false) }
 {
     for place in 0..cells.capacity() {
         if is_expired_at(cells, place, now) {
@@ -50,13 +49,13 @@ fn first_due<K, V>(cells: &CellSlab<Cell<K, V>>, now: u64) -> Option<usize>
 /// The place of a held record whose own expiration was reached, by the first timer. Every record is looked at only where
 /// there was no memory for a timer.
 pub fn first_expired<K, V>(
-    cells: &CellSlab<Cell<K, V>>,
+    cells: &CellSlab<Record<K, V>>,
     expirations: &Expirations,
     now: u64,
 ) -> Option<usize>
     requires { ∥ AreAwaited cells.now.slots expirations.now ∥₁ }
-    ensures found { IfSome result (λ i. (c : Cell K V) × (cell_at cells.now.slots i ≡ Some c) × (is_expired now c.item ≡ true)) }
-    ensures none { IfNone result ((i : ℕ) (c : Cell K V) → cell_at cells.now.slots i ≡ Some c → is_expired now c.item ≡ false) }
+    ensures found { IfSome result (λ i. (c : Record K V) × (cell_at cells.now.slots i ≡ Some c) × (is_expired now c ≡ true)) }
+    ensures none { IfNone result ((i : ℕ) (c : Record K V) → cell_at cells.now.slots i ≡ Some c → is_expired now c ≡ false) }
 {
     if MAX_NANOS < now {
         return first_due(cells, now);
@@ -78,27 +77,28 @@ pub fn first_expired<K, V>(
 }
 
 /// Whether the record in a place is settled.
-fn is_settled_at<K, V>(cells: &CellSlab<Cell<K, V>>, place: usize) -> bool
-    ensures { result ≡ is_settled_as (record_in cells.now.slots place) }
+fn is_settled_at<K, V>(cells: &CellSlab<Record<K, V>>, place: usize) -> bool
+    ensures { result ≡ is_settled_as (cell_at cells.now.slots place) }
 {
     match cells.get(place) {
-        Some(cell) => cell.item.writes == cell.item.applied,
+        Some(cell) => cell.writes == cell.applied,
         None => false,
     }
 }
 
-/// The place of the first settled record of the access list, whose nodes stand in this queue.
-pub fn first_settled<K, V>(
-    cells: &CellSlab<Cell<K, V>>,
-    queue: &Deque<KeyHashDate>,
-) -> Option<usize>
+/// The place of the first settled record of a list, whose places stand in this queue.
+pub fn first_settled<K, V>(cells: &CellSlab<Record<K, V>>, queue: &IndexQueue) -> Option<usize>
     requires apart { HaveOwnNumbers cells.now.slots }
-    requires linked { AreLinked cells.now.slots queue.now.nodes }
-    ensures found { IfSome result (HasFirstSettled cells.now.slots queue.now.nodes) }
-    ensures none { IfNone result (settled_in (records_by_number cells.now.slots) (numbers_in cells.now.slots queue.now.nodes) ≡ []) }
+    requires listed { AreListed cells.now.slots queue.now.indices }
+    ensures found { IfSome result (HasFirstSettled cells.now.slots queue.now.indices) }
+    ensures none { IfNone result (settled_in (records_by_number cells.now.slots) (numbers_in cells.now.slots queue.now.indices) ≡ []) }
 {
-    match queue.first_where(|date| is_settled_at(cells, date.entry)) {
-        Some(date) => Some(date.entry),
-        None => None,
+    let mut next = queue.first();
+    while let Some(index) = next {
+        if is_settled_at(cells, index as usize) {
+            return Some(index as usize);
+        }
+        next = queue.behind(index);
     }
+    None
 }

@@ -4,8 +4,8 @@ ghost use Rattle.engine_cells.specs.Cells.{cell_at};
 ghost use Rattle.engine_cells.specs.Showing.{shows_value, shown_in, shown_part};
 ghost use Rattle.engine_cells.specs.Tallying.{sum_over};
 
-use crate::cell::{Cell, Noted, PlacedWrite};
 use crate::cell_slab::CellSlab;
+use crate::noting::{Noted, PlacedWrite};
 use engine_pending::{Backlog, is_dead};
 use engine_reference::{Record, Rules};
 
@@ -24,7 +24,7 @@ fn shows_value<K, V, S, R: Rules<K, V>>(
 
 /// 1 where the record in a place shows a value, and else 0.
 fn shown_at<K, V, S, R: Rules<K, V>>(
-    cells: &CellSlab<Cell<K, V>>,
+    cells: &CellSlab<Record<K, V>>,
     place: usize,
     backlog: &Backlog<K, V, Noted, PlacedWrite, S, R>,
     now: u64,
@@ -33,14 +33,14 @@ fn shown_at<K, V, S, R: Rules<K, V>>(
     ensures most { result ≤ 1 }
 {
     match cells.get(place) {
-        Some(cell) => usize::from(shows_value(&cell.item, backlog, now)),
+        Some(cell) => usize::from(shows_value(cell, backlog, now)),
         None => 0,
     }
 }
 
 /// How many records show a value, by a look at every one.
 pub fn count_shown<K, V, S, R: Rules<K, V>>(
-    cells: &CellSlab<Cell<K, V>>,
+    cells: &CellSlab<Record<K, V>>,
     backlog: &Backlog<K, V, Noted, PlacedWrite, S, R>,
     now: u64,
 ) -> usize

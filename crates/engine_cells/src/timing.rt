@@ -3,11 +3,11 @@ ghost use Rattle.std.specs.Prelude.{◌≡◌, ◌+◌, ◌<◌, ◌≤◌, ℕ,
 ghost use Rattle.engine_pending.specs.Timers.Awaited.{IsSet, KeepsOthers};
 ghost use Rattle.engine_cells.specs.Awaiting.{AreAwaited};
 ghost use Rattle.engine_cells.specs.Cells.{cell_at};
-ghost use Rattle.engine_cells.specs.declared.cell.Cell.{Cell};
+ghost use Rattle.engine_reference.specs.declared.data.Record.{Record};
 
-use crate::cell::Cell;
 use crate::cell_slab::CellSlab;
 use engine_pending::Expirations;
+use engine_reference::Record;
 
 /// A place expires at another moment than before, if it does.
 pub fn set_changed(
@@ -26,13 +26,13 @@ pub fn set_changed(
 }
 
 /// When the record in a place expires by itself, where it is held.
-fn expiration_at<K, V>(cells: &CellSlab<Cell<K, V>>, place: usize) -> Option<u64>
-    ensures { (c : Cell K V) → cell_at cells.now.slots place ≡ Some c → c.item.is_held ≡ true → result ≡ c.item.entry.expires }
+fn expiration_at<K, V>(cells: &CellSlab<Record<K, V>>, place: usize) -> Option<u64>
+    ensures { (c : Record K V) → cell_at cells.now.slots place ≡ Some c → c.is_held ≡ true → result ≡ c.entry.expires }
 {
     match cells.get(place) {
         Some(cell) => {
-            if cell.item.is_held {
-                cell.item.entry.expires
+            if cell.is_held {
+                cell.entry.expires
             } else {
                 None
             }
@@ -42,17 +42,17 @@ fn expiration_at<K, V>(cells: &CellSlab<Cell<K, V>>, place: usize) -> Option<u64
 }
 
 /// A place gets the timer that it is to have.
-fn time_place<K, V>(cells: &CellSlab<Cell<K, V>>, place: usize, expirations: &mut Expirations)
+fn time_place<K, V>(cells: &CellSlab<Record<K, V>>, place: usize, expirations: &mut Expirations)
     ensures others { KeepsOthers place expirations.old.timers expirations.new.timers }
     ensures whole { expirations.new.is_whole ≡ true → expirations.old.is_whole ≡ true }
-    ensures set { (c : Cell K V) → cell_at cells.now.slots place ≡ Some c → c.item.is_held ≡ true → IsSet expirations.new place c.item.entry.expires }
+    ensures set { (c : Record K V) → cell_at cells.now.slots place ≡ Some c → c.is_held ≡ true → IsSet expirations.new place c.entry.expires }
 {
     let expires = expiration_at(cells, place);
     expirations.set(place, expires);
 }
 
 /// Each place gets the timer that it is to have, whatever there was memory for before.
-pub fn time_all<K, V>(cells: &CellSlab<Cell<K, V>>, expirations: &mut Expirations)
+pub fn time_all<K, V>(cells: &CellSlab<Record<K, V>>, expirations: &mut Expirations)
     ensures { AreAwaited cells.now.slots expirations.new }
 {
     expirations.start_again();

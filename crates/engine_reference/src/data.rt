@@ -2,25 +2,25 @@
 
 use crate::rules::{EvictionPolicy, RemovalCause};
 
-/// What a cache was made with.
+/// The settings of a cache.
 #[derive(Clone, Copy)]
 pub struct Settings {
-    /// The weight that it is to hold at most.
+    /// The maximum weight.
     pub capacity: Option<u64>,
-    /// How long a value lives after its write.
+    /// How long a value lives after it was written.
     pub live: Option<u64>,
     /// How long a value lives after its last use.
     pub idle: Option<u64>,
     pub policy: EvictionPolicy,
-    /// Whether removals are told.
+    /// Whether removals are reported.
     pub tells: bool,
-    /// Whether predicates are taken.
+    /// Whether predicates are accepted.
     pub takes_predicates: bool,
-    /// The moment at which it was made.
+    /// The moment of creation.
     pub made: u64,
 }
 
-/// A key with its value, and all that decides whether it is visible.
+/// A key with its value, and everything that decides whether it is visible.
 #[derive(Drop)]
 pub struct Entry<K, V> {
     pub key: K,
@@ -29,27 +29,27 @@ pub struct Entry<K, V> {
     pub step: u64,
     /// The moment of the last write.
     pub written: u64,
-    /// The moment of the last use, which is a write or a look-up that found it.
+    /// The moment of the last use, which is a write or a look-up that found the entry.
     pub used: u64,
     /// When it expires by itself.
     pub expires: Option<u64>,
     pub weight: u32,
 }
 
-/// An entry with what maintenance knows of it. It stays while an operation on it may come.
+/// An entry with what maintenance knows about it. It stays while an operation on it may come.
 #[derive(Drop)]
 pub struct Record<K, V> {
-    /// A number that no other record of the cache had or has.
+    /// A number that no other record of the cache ever had.
     pub number: u64,
     pub hash: u64,
     pub entry: Entry<K, V>,
-    /// False once the key was removed.
+    /// False after the key was removed.
     pub is_held: bool,
     /// How many times it was written or removed.
     pub writes: u64,
     /// The latest of these that maintenance has applied, or 0.
     pub applied: u64,
-    /// The weight at which it counts, where it is admitted.
+    /// The weight with which it counts, if it is admitted.
     pub counts: Option<u32>,
 }
 
@@ -84,14 +84,14 @@ pub enum Read {
     Miss(u64),
 }
 
-/// A write that was made and not sent to maintenance yet, under its ticket.
+/// A write that was made and not yet sent to maintenance, with its ticket.
 #[derive(Clone, Copy)]
 pub struct Unsent {
     pub ticket: u64,
     pub write: Write,
 }
 
-/// A predicate under its identifier: it covers what was written at earlier steps.
+/// A predicate with its identifier: it covers what was written at earlier steps.
 #[derive(Drop)]
 pub struct Registered<P> {
     pub id: u128,
@@ -99,7 +99,7 @@ pub struct Registered<P> {
     pub step: u64,
 }
 
-/// What is told of a value that left.
+/// The report of a value that left.
 #[derive(Drop)]
 pub struct Notice<K, V> {
     pub cause: RemovalCause,

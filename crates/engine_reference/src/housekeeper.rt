@@ -1,4 +1,4 @@
-//! When the maintenance of a cache is due, and who makes it run.
+//! When the maintenance of a cache is due, and running it.
 ghost use Rattle.std.specs.Prelude.{◌≡◌, ◌≤◌, ℕ, true};
 ghost use Rattle.engine_reference.specs.Housekeeper.Waiting.{due_after, is_wanted};
 
@@ -7,12 +7,12 @@ use policy_base::{HousekeeperConfig, Instant, MAX_NANOS};
 /// How long after a run the next one is due, in nanoseconds.
 const RUN_INTERVAL: u64 = 300_000_000;
 
-/// How many reads, or how many writes, may wait until a run is due.
+/// How many reads, or how many writes, may wait before a run is due.
 const FLUSH_POINT: usize = 64;
 
-/// A cache whose maintenance a housekeeper makes run.
+/// A cache whose maintenance a housekeeper runs.
 pub trait InnerSync {
-    /// What a run at a moment makes of the cache.
+    /// What a run at a moment does to the cache.
     ghost housekept: { ℕ → Self → Self → Type 0 };
 
     /// Runs maintenance to its end.
@@ -20,8 +20,8 @@ pub trait InnerSync {
         ensures { housekept now self.old self.new };
 }
 
-/// Says when the maintenance of a cache is due, and makes it run. Moments are handed in, and the cache has one owner: so each
-/// run goes to its end, and no time limit, repeat or batch of the configuration cuts it.
+/// Decides when the maintenance of a cache is due, and runs it. Moments are arguments, and the cache has one owner: so each
+/// run goes to its end, and no time limit, repeat or batch of the configuration cuts it short.
 #[derive(Clone, Copy, Debug, PartialEq, Eq)]
 pub struct Housekeeper {
     config: HousekeeperConfig,
@@ -30,7 +30,7 @@ pub struct Housekeeper {
 }
 
 impl Housekeeper {
-    /// The housekeeper of a cache that was made at this moment.
+    /// Creates the housekeeper of a cache that was created at this moment.
     pub fn new(config: HousekeeperConfig, now: Instant) -> Self
         ensures config { result.config ≡ config }
         ensures due { result.due ≡ due_after now }
@@ -41,21 +41,21 @@ impl Housekeeper {
         }
     }
 
-    /// What it was made with.
+    /// Returns the configuration.
     pub fn config(&self) -> HousekeeperConfig
         ensures { result ≡ self.now.config }
     {
         self.config
     }
 
-    /// Whether a run is due where so many reads wait.
+    /// Returns whether a run is due if this many reads wait.
     pub fn should_apply_reads(&self, waiting: usize, now: Instant) -> bool
         ensures { result ≡ is_wanted waiting self.now.due now }
     {
         self.should_apply(waiting, now)
     }
 
-    /// Whether a run is due where so many writes wait.
+    /// Returns whether a run is due if this many writes wait.
     pub fn should_apply_writes(&self, waiting: usize, now: Instant) -> bool
         ensures { result ≡ is_wanted waiting self.now.due now }
     {
@@ -68,7 +68,7 @@ impl Housekeeper {
         FLUSH_POINT <= waiting || self.due <= now.as_nanos()
     }
 
-    /// Makes the cache run maintenance. The next run is due 300 milliseconds later, or where 64 operations wait.
+    /// Runs the maintenance of the cache. The next run is due 300 milliseconds later, or when 64 operations wait.
     pub fn run_pending_tasks<T: InnerSync>(&mut self, cache: &mut T, now: Instant)
         ensures run { T.housekept now cache.old cache.new }
         ensures due { self.new.due ≡ due_after now }
@@ -78,7 +78,7 @@ impl Housekeeper {
         cache.run_pending_tasks(now);
     }
 
-    /// The same. It answers yes, since no other owner runs maintenance meanwhile.
+    /// The same. It returns true, since no other owner runs maintenance in the meantime.
     pub fn try_run_pending_tasks<T: InnerSync>(&mut self, cache: &mut T, now: Instant) -> bool
         ensures yes { result ≡ true }
         ensures run { T.housekept now cache.old cache.new }
@@ -90,7 +90,7 @@ impl Housekeeper {
     }
 }
 
-/// The moment from which a run is due for the time that passed since this one.
+/// The moment from which the next run is due by the time passed since this one.
 fn after(now: Instant) -> u64
     ensures { result ≡ due_after now }
 {

@@ -8,7 +8,7 @@ use crate::Registered;
 use rand_core::Rng;
 use uuid::Uuid;
 
-/// Whether a predicate is registered under an identifier.
+/// Returns whether a predicate is registered under an identifier.
 pub fn is_registered<P>(registered: &[Registered<P>], id: u128) -> bool
     ensures { result ≡ is_registered registered.now id }
 {
@@ -38,7 +38,7 @@ fn draw_one<G: Rng>(generator: &mut G) -> Uuid
     drawn
 }
 
-/// Draws identifiers until one is not registered, a thousand at most. They are UUIDs of version 4.
+/// Draws identifiers until one is not registered, at most a thousand. They are UUIDs of version 4.
 pub fn draw<G: Rng, P>(generator: &mut G, registered: &[Registered<P>]) -> Option<u128>
     ensures some { IfSome result (λ id. Draws (G.stream generator.old) (G.stream generator.new) (is_registered registered.now) id) }
     ensures none { result ≡ None → AreInUse (G.stream generator.old) (G.stream generator.new) (is_registered registered.now) }

@@ -1,27 +1,28 @@
 //! Laws of the reference cache. Each function does nothing: its contract is the law.
 ghost use Rattle.engine_reference.specs.Laws.{StepsTell, RunsTell, NothingTakenForSize, RunsKeepVisible, CountsAreKept, NameIsKept, RunsKeepRest, HalvesAreWhole, SendingKeepsVisible, CoverShowsNothing, UnappliedStay, CallsStaySound, RunsStaySound, CountsAreExact, EvictsShortestFront};
 
-/// A step of a run tells what it takes away once, and takes for weight only where a running weight is above the capacity.
+/// A step of a run reports what it removes once, and removes for weight only if a running weight is above the capacity.
 pub fn steps_tell<K, V, P, S, R>()
     ensures { StepsTell K V P S R }
 {}
 
-/// A run tells all that it takes away once, where removals are told, and nothing else; the other entries stay.
+/// A run reports everything that it removes once, if removals are reported, and nothing else; the other entries stay.
 pub fn runs_tell<K, V, P, S, R>()
     ensures { RunsTell K V P S R }
 {}
 
-/// Without a capacity a run takes nothing for weight.
+/// Without a capacity a run removes nothing for weight.
 pub fn nothing_taken_for_size<K, V, P, S, R>()
     ensures { NothingTakenForSize K V P S R }
 {}
 
-/// What was visible and was not taken away by a run stays visible, and nothing else becomes visible.
+/// What was visible and was not removed by a run stays visible, and nothing else becomes visible.
 pub fn runs_keep_visible<K, V, P, S, R>()
     ensures { RunsKeepVisible K V P S R }
 {}
 
-/// No write, removal, clear, predicate or eviction changes how often hashes count as asked for: a run changes it only where it counts a read or makes the table.
+/// No write, removal, clear, predicate or eviction changes the counts of requests for hashes: a run changes them only if it counts a read
+/// or creates the table.
 pub fn counts_are_kept<K, V, P, S, R>()
     ensures { CountsAreKept K V P S R }
 {}
@@ -31,12 +32,13 @@ pub fn runs_keep_rest<K, V, P, S, R>()
     ensures { RunsKeepRest K V P S R }
 {}
 
-/// No write, look-up, removal, clear, predicate, notice or run changes what the cache is called.
+/// No write, look-up, removal, clear, predicate, notice or run changes the name of the cache.
 pub fn name_is_kept<K, V, P, S, R>()
     ensures { NameIsKept K V P S R }
 {}
 
-/// A predicate that is registered in the room that was made for it, and a removal in its room, are the same as in one call; and room that is given up is as if it had never been made.
+/// Registering a predicate in room that was made for it, and a removal in its room, are the same as in one call; and giving up room is the
+/// same as never having made it.
 pub fn halves_are_whole<K, V, P, S, R>()
     ensures { HalvesAreWhole K V P S R }
 {}
@@ -46,7 +48,7 @@ pub fn sending_keeps_visible<K, V, P, S, R>()
     ensures { SendingKeepsVisible K V P S R }
 {}
 
-/// A clear and a predicate show nothing that was not visible.
+/// A clear and a predicate make nothing visible that was not.
 pub fn cover_shows_nothing<K, V, P, S, R>()
     ensures { CoverShowsNothing K V P S R }
 {}
@@ -71,7 +73,8 @@ pub fn counts_are_exact<K, V, P, S, R>()
     ensures { CountsAreExact K V P S R }
 {}
 
-/// What is evicted until the weight is within the capacity is the shortest front of the settled records of the access list that reaches the excess.
+/// What evictions remove until the weight is within the capacity is the shortest front of the settled records of the access list that
+/// reaches the excess.
 pub fn evicts_shortest_front<K, V, P, S, R>()
     ensures { EvictsShortestFront K V P S R }
 {}

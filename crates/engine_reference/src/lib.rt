@@ -1,4 +1,4 @@
-//! The reference cache: what a cache of one part is, said by definitions, and the laws that hold of them.
+//! The reference cache: definitions of a cache of one part, and their laws.
 #![tactic(auto)]
 
 mod data;

@@ -1,5 +1,4 @@
-//! What a cache is told beside its keys and values: how much a value weighs, how long it lives, what a predicate covers,
-//! who is evicted, and why a value left.
+//! The rules of a cache: how much a value weighs, how long it lives, what a predicate covers, what is evicted, and why a value left.
 mod causes;
 mod expiry;
 mod names;

@@ -8,7 +8,7 @@ ghost use Rattle.engine_reference.specs.Admission.{is_above};
 ghost use Rattle.engine_reference.specs.declared.data.Record.{Record};
 ghost use Rattle.engine_reference.specs.Visible.{told, is_covered};
 ghost use Rattle.engine_reference.specs.State.{Answers};
-ghost use Rattle.engine_cells.specs.Fitting.{StandsIn, HasPlaceFor, StepsOut, ComesLast};
+ghost use Rattle.engine_cells.specs.Fitting.{HasPlaceFor, StepsOut, ComesLast};
 ghost use Rattle.engine_cells.specs.Noting.{read_of, write_of, number_written, AimsRight, AimsOnlyAt};
 ghost use Rattle.engine_reference.specs.Runs.{after_hit, after_read, after_removal, next_to_evict, is_due};
 ghost use Rattle.engine_reference.specs.Calls.{IsNew, without_room, without_notice, cleared_by, registered, sent, unsent_at, is_full};
@@ -22,15 +22,15 @@ ghost use Rattle.engine_tables.specs.Changing.{ChangesAt, GoesToBack, IsWrittenO
 ghost use Rattle.engine_cells.specs.Kept.{numbered_at, kept_at, StandsFirst, is_admitted_as, is_removed_as};
 
 use engine_cells::{
-    Cell, CellSlab, Keys, NodeName, Noted, PlacedWrite, QueueNodes, Tally, find_held,
-    first_expired, first_settled, grow, set_changed, take_if, time_all,
+    CellSlab, Keys, Noted, PlacedWrite, Tally, find_held, first_expired, first_settled, grow,
+    set_changed, take_if, time_all,
 };
 use engine_pending::{Backlog, Expirations};
 use engine_reference::{
     Entry, Names, Notice, Record, Refusal, Registered, RemovalCause, Rules, Settings, Upsert, Write,
 };
-use policy_base::{CacheRegion, FrequencySketch, KeyHashDate, NodeId};
-use policy_queue::{Deque, names_stand};
+use policy_base::FrequencySketch;
+use policy_queue::IndexQueue;
 use std::alloc::{AllocError, Global};
 use std::hash::{BuildHasher, Hash, Hasher};
 use std::marker::Model;
@@ -38,25 +38,31 @@ use std::mem;
 
 mod again;
 
+/// For how many writes more than those asked for room is made, so that most writes find it made.
+const SPARE: u64 = 16;
+
 /// The tables of a cache of one part. Each method that changes them makes one change, for which there is room.
 #[derive(Drop)]
 pub struct Tables<K: Eq + Hash, V, S: BuildHasher, R: Rules<K, V>> {
-    cells: CellSlab<Cell<K, V>>,
-    access: Deque<KeyHashDate>,
-    order: Deque<KeyHashDate>,
+    cells: CellSlab<Record<K, V>>,
+    // The places of the admitted records, by their last uses and by their last writes.
+    access: IndexQueue,
+    order: IndexQueue,
     tally: Tally,
     next_number: u64,
     keys: Keys,
     expirations: Expirations,
     backlog: Backlog<K, V, Noted, PlacedWrite, S, R>,
+    // For how many writes or predicates room was asked for. The backlog's room is for these, and for some to come.
+    reserved: u64,
 }
 
 impl<K: Eq + Hash, V, S: BuildHasher, R: Rules<K, V>> Model for Tables<K, V, S, R> {
     ghost use Rattle.std.specs.Prelude.{ℕ, ◌+◌, ◌≤◌, ◌<◌, ◌^◌};
     ghost use Rattle.slab.specs.Slab.{slab_len};
     ghost use Rattle.engine_pending.specs.Whole.{whole};
-    ghost use Rattle.engine_cells.specs.Cells.{records_by_number, numbers_in, numbers_of, all_turned};
-    ghost use Rattle.engine_cells.specs.Fitting.{FitsQueue, unqueued};
+    ghost use Rattle.engine_cells.specs.Cells.{records_by_number, numbers_in, numbers_of, AreNumbered, AreListed};
+    ghost use Rattle.engine_cells.specs.Fitting.{HasPlacesFor};
     ghost use Rattle.engine_cells.specs.Noting.{read_of, write_of, AreAllAimed};
     ghost use Rattle.engine_cells.specs.Kept.{Kept};
     ghost use Rattle.engine_cells.specs.Tallying.{IsTallied};
@@ -67,20 +73,22 @@ impl<K: Eq + Hash, V, S: BuildHasher, R: Rules<K, V>> Model for Tables<K, V, S, 
     ghost Value = { Kept K V R.Predicate S R };
 
     ghost view = { λ c. record {
-      state = whole read_of write_of (records_by_number c.cells.slots) (numbers_in c.cells.slots c.access.nodes) (numbers_in c.cells.slots c.order.nodes) c.next_number c.backlog;
+      state = whole read_of write_of (records_by_number c.cells.slots) (numbers_in c.cells.slots c.access.indices) (numbers_in c.cells.slots c.order.indices) c.next_number (record c.backlog { reserved = c.reserved });
       numbers = numbers_of c.cells.slots;
     } };
 
-    // cells and queues fit together; each record has room in both queues and for its notice, and what is reserved serves a write; what waits, and the hashes of keys, lead to their records; what expires has a timer
+    // the queues have the places of the admitted records; each record has room in both and for its notice, and what is reserved serves a write; what waits, and the hashes of keys, lead to their records; what expires has a timer
     ghost invariant = { λ c. record {
-      kept : FitsQueue c.cells.slots c.access c.next_number;
-      listed : FitsQueue (all_turned c.cells.slots) c.order c.next_number;
+      kept : AreNumbered c.cells.slots c.next_number;
+      used : AreListed c.cells.slots c.access.indices;
+      written : AreListed c.cells.slots c.order.indices;
       cells : slab_len c.cells + c.backlog.reserved ≤ c.cells.capacity;
-      access : unqueued c.cells.slots + c.backlog.reserved ≤ c.access.room;
-      order : unqueued (all_turned c.cells.slots) + c.backlog.reserved ≤ c.order.room;
+      access : HasPlacesFor c.cells c.tally.number c.backlog.reserved c.access;
+      order : HasPlacesFor c.cells c.tally.number c.backlog.reserved c.order;
       notices : slab_len c.cells + c.backlog.reserved ≤ c.backlog.notice_room;
       tallied : IsTallied c.cells.slots c.tally;
       aimed : AreAllAimed c.cells.slots c.next_number c.backlog.reads c.backlog.writes c.backlog.unsent;
+      reserved : c.reserved ≤ c.backlog.reserved;
       tickets : c.backlog.next_ticket + c.backlog.reserved < 2 ^ 64;
       numbers : c.next_number ≤ c.backlog.next_ticket;
       spotted : AreSpotted K.eq c.cells.slots c.keys;
@@ -107,8 +115,8 @@ impl<K: Eq + Hash, V, S: BuildHasher, R: Rules<K, V>> Tables<K, V, S, R> {
         let backlog = Backlog::new(alloc, name, settings, hasher, rules)?;
         Ok(Tables {
             cells: CellSlab::new(alloc),
-            access: Deque::new(alloc, CacheRegion::MainProbation),
-            order: Deque::new(alloc, CacheRegion::Other),
+            access: IndexQueue::new(alloc),
+            order: IndexQueue::new(alloc),
             tally: Tally {
                 held: 0,
                 weight: 0,
@@ -118,6 +126,7 @@ impl<K: Eq + Hash, V, S: BuildHasher, R: Rules<K, V>> Tables<K, V, S, R> {
             keys: Keys::new(alloc),
             expirations: Expirations::new(alloc),
             backlog,
+            reserved: 0,
         })
     }
 
@@ -130,25 +139,46 @@ impl<K: Eq + Hash, V, S: BuildHasher, R: Rules<K, V>> Tables<K, V, S, R> {
         ensures used_up { (result ≡ Err Refusal.UsedUp) ↔ (2 ^ 64 ≤ self.old.state.next_ticket + self.old.state.reserved + by) }
         ensures only { OnErr result ((IsErrOf result Refusal.OutOfMemory) ⊎ (IsErrOf result Refusal.UsedUp)) }
     {
-        let reserved = self.backlog.reserved();
-        let free = (u64::MAX - self.backlog.next_ticket()).saturating_sub(reserved);
+        if by <= self.backlog.reserved() - self.reserved {
+            self.reserved += by;
+            return Ok(());
+        }
+        self.make_more_room(by)
+    }
+
+    /// Makes room for `by` more writes or predicates, and for some to come, by memory.
+    fn make_more_room(&mut self, by: u64) -> Result<(), Refusal>
+        ensures ok { OnOk result (self.new ≡ record self.old { state = record self.old.state { reserved = self.old.state.reserved + by } }) }
+        ensures err { OnErr result (self.new ≡ self.old) }
+        ensures used_up { (result ≡ Err Refusal.UsedUp) ↔ (2 ^ 64 ≤ self.old.state.next_ticket + self.old.state.reserved + by) }
+        ensures only { OnErr result ((IsErrOf result Refusal.OutOfMemory) ⊎ (IsErrOf result Refusal.UsedUp)) }
+    {
+        let free = (u64::MAX - self.backlog.next_ticket()).saturating_sub(self.reserved);
         if free < by {
             return Err(Refusal::UsedUp);
         }
-        let more = reserved + by;
+        let there = self.backlog.reserved();
+        let wanted = self.reserved + by.saturating_add(SPARE).min(free);
+        let more = wanted.saturating_sub(there);
         let waiting = self.cells.len() - self.tally.number as usize;
         let has_grown = grow(
             &mut self.cells,
             &mut self.access,
             &mut self.order,
             &mut self.keys,
-            more as usize,
+            (there + more) as usize,
             waiting,
         );
         if !has_grown {
             return Err(Refusal::OutOfMemory);
         }
-        self.backlog.make_room(by, self.cells.len())
+        match self.backlog.make_room(more, self.cells.len()) {
+            Ok(()) => {
+                self.reserved += by;
+                Ok(())
+            }
+            Err(_) => Err(Refusal::OutOfMemory),
+        }
     }
 
     /// Gives up the room of one write or predicate.
@@ -156,7 +186,8 @@ impl<K: Eq + Hash, V, S: BuildHasher, R: Rules<K, V>> Tables<K, V, S, R> {
         requires { 0 < self.old.state.reserved }
         ensures { self.new ≡ record self.old { state = without_room self.old.state } }
     {
-        self.backlog.release_room();
+        let _ = &self.backlog;
+        self.reserved -= 1;
     }
 
     // ---- clears and predicates
@@ -174,6 +205,7 @@ impl<K: Eq + Hash, V, S: BuildHasher, R: Rules<K, V>> Tables<K, V, S, R> {
         ensures { self.new ≡ record self.old { state = registered predicate self.old.state } }
     {
         self.backlog.register(predicate);
+        self.reserved -= 1;
     }
 
     /// The predicate at a place of them goes.
@@ -204,10 +236,7 @@ impl<K: Eq + Hash, V, S: BuildHasher, R: Rules<K, V>> Tables<K, V, S, R> {
     pub fn record(&self, place: usize) -> Option<&Record<K, V>>
         ensures { option_copied result ≡ kept_at self.now place }
     {
-        match self.cells.get(place) {
-            Some(cell) => Some(&cell.item),
-            None => None,
-        }
+        self.cells.get(place)
     }
 
     /// The record in a place that has one.
@@ -245,9 +274,9 @@ impl<K: Eq + Hash, V, S: BuildHasher, R: Rules<K, V>> Tables<K, V, S, R> {
         ensures { ChangesAt (λ x. record x { entry = record x.entry { used = used; expires = expires } }) place self.old self.new }
     {
         let cell = &mut self.cells[place];
-        cell.item.entry.used = used;
-        let before = cell.item.entry.expires;
-        cell.item.entry.expires = expires;
+        cell.entry.used = used;
+        let before = cell.entry.expires;
+        cell.entry.expires = expires;
         set_changed(&mut self.expirations, place, before, expires);
     }
 
@@ -256,12 +285,9 @@ impl<K: Eq + Hash, V, S: BuildHasher, R: Rules<K, V>> Tables<K, V, S, R> {
         requires { is_some (kept_at self.old place) ≡ true }
         ensures { GoesToBack place self.old self.new }
     {
-        names_stand(&self.access);
-        if let Some(id) = self.cells[place].nodes.access_queue.get() {
-            match self.access.move_to_back(id) {
-                Ok(()) => {}
-                Err(_) => unreachable!(),
-            }
+        let index = self.cells.index_of(place);
+        if self.access.contains(index) {
+            self.access.move_to_back(index);
         }
     }
 
@@ -279,11 +305,11 @@ impl<K: Eq + Hash, V, S: BuildHasher, R: Rules<K, V>> Tables<K, V, S, R> {
         let write = put_of(&added, self.tally.held);
         let hash = added.hash;
         let expires = added.entry.expires;
-        let nodes = QueueNodes::nowhere();
-        let place = self.cells.insert_reserved(Cell { item: added, nodes });
+        let place = self.cells.insert_reserved(added);
         self.keys.put(hash, place);
-        self.expirations.set(place, expires);
+        set_changed(&mut self.expirations, place, None, expires);
         self.backlog.add_write(PlacedWrite { place, write });
+        self.reserved -= 1;
         self.next_number += 1;
         place
     }
@@ -303,15 +329,16 @@ impl<K: Eq + Hash, V, S: BuildHasher, R: Rules<K, V>> Tables<K, V, S, R> {
         let _many = self.cells.len();
         let expires = entry.expires;
         let cell = &mut self.cells[place];
-        let others = self.tally.without(&cell.item);
-        let before = cell.item.entry.expires;
-        let replaced = mem::replace(&mut cell.item.entry, entry);
-        cell.item.writes += 1;
-        self.tally = others.with(&cell.item);
-        let write = put_of(&cell.item, self.tally.held);
+        let others = self.tally.without(cell);
+        let before = cell.entry.expires;
+        let replaced = mem::replace(&mut cell.entry, entry);
+        cell.writes += 1;
+        self.tally = others.with(cell);
+        let write = put_of(cell, self.tally.held);
         set_changed(&mut self.expirations, place, before, expires);
         self.backlog.tell(true, cause, replaced);
         self.backlog.add_write(PlacedWrite { place, write });
+        self.reserved -= 1;
     }
 
     /// The record in a place is no longer held, and its removal waits to be sent, for which there is room.
@@ -323,17 +350,19 @@ impl<K: Eq + Hash, V, S: BuildHasher, R: Rules<K, V>> Tables<K, V, S, R> {
     {
         let _many = self.cells.len();
         let cell = &mut self.cells[place];
-        let number = cell.item.number;
-        let hash = cell.item.hash;
-        let was_held = cell.item.is_held;
-        let others = self.tally.without(&cell.item);
-        cell.item.is_held = false;
-        cell.item.writes += 1;
-        self.tally = others.with(&cell.item);
+        let number = cell.number;
+        let hash = cell.hash;
+        let was_held = cell.is_held;
+        let expires = cell.entry.expires;
+        let others = self.tally.without(cell);
+        cell.is_held = false;
+        cell.writes += 1;
+        self.tally = others.with(cell);
         take_if(&mut self.keys, was_held, hash, place);
-        self.expirations.set(place, None);
+        set_changed(&mut self.expirations, place, expires, None);
         let write = Write::Removed(number);
         self.backlog.add_write(PlacedWrite { place, write });
+        self.reserved -= 1;
     }
 
     /// A write of the record in a place is applied, and the record stays as it is otherwise, not admitted where it was not.
@@ -342,7 +371,7 @@ impl<K: Eq + Hash, V, S: BuildHasher, R: Rules<K, V>> Tables<K, V, S, R> {
         ensures { ChangesAt (λ x. record x { applied = write }) place self.old self.new }
     {
         let cell = &mut self.cells[place];
-        cell.item.applied = write;
+        cell.applied = write;
     }
 
     /// The record in a place, which is not held, goes. It was told when it was removed.
@@ -366,6 +395,7 @@ impl<K: Eq + Hash, V, S: BuildHasher, R: Rules<K, V>> Tables<K, V, S, R> {
         ensures { self.new ≡ record self.old { state = record self.old.state { notices = told self.old.state.settings.tells cause entry self.old.state.notices; reserved = self.old.state.reserved - 1 } } }
     {
         self.backlog.tell_removed(cause, entry);
+        self.reserved -= 1;
     }
 
     /// The removal of the record of a number is applied: it goes, where it is there and not held. It can only stand in this place.
@@ -387,7 +417,7 @@ impl<K: Eq + Hash, V, S: BuildHasher, R: Rules<K, V>> Tables<K, V, S, R> {
         ensures { result ≡ is_removed_as number (kept_at self.now place) }
     {
         match self.cells.get(place) {
-            Some(cell) => is_removed_as(&cell.item, number),
+            Some(cell) => is_removed_as(cell, number),
             None => false,
         }
     }
@@ -424,15 +454,14 @@ impl<K: Eq + Hash, V, S: BuildHasher, R: Rules<K, V>> Tables<K, V, S, R> {
         requires { is_some (kept_at self.old place) ≡ true }
         ensures { LeavesAt cause place self.old self.new }
     {
-        names_stand(&self.access);
-        names_stand(&self.order);
-        let Cell { item, nodes } = self.cells.remove(place);
-        self.tally = self.tally.without(&item);
-        take_off(&mut self.access, &nodes.access_queue);
-        take_off(&mut self.order, &nodes.write_queue);
-        take_if(&mut self.keys, item.is_held, item.hash, place);
-        self.expirations.set(place, None);
-        self.backlog.tell(item.is_held, cause, item.entry);
+        let index = self.cells.index_of(place);
+        let gone = self.cells.remove(place);
+        self.tally = self.tally.without(&gone);
+        take_off(&mut self.access, index);
+        take_off(&mut self.order, index);
+        take_if(&mut self.keys, gone.is_held, gone.hash, place);
+        set_changed(&mut self.expirations, place, gone.entry.expires, None);
+        self.backlog.tell(gone.is_held, cause, gone.entry);
     }
 
     /// The place of the record used longest ago.
@@ -440,10 +469,7 @@ impl<K: Eq + Hash, V, S: BuildHasher, R: Rules<K, V>> Tables<K, V, S, R> {
         ensures first { IfSome result (λ i. (r : Record K V) × (kept_at self.now i ≡ Some r) × (slice_get self.now.state.access 0 ≡ Some r.number) × (is_some r.counts ≡ true)) }
         ensures none { IfNone result (self.now.state.access ≡ []) }
     {
-        match self.access.peek_front() {
-            Some(date) => Some(date.entry),
-            None => None,
-        }
+        place_at(self.access.first())
     }
 
     /// The place of the record behind that of a place on the access list.
@@ -452,13 +478,8 @@ impl<K: Eq + Hash, V, S: BuildHasher, R: Rules<K, V>> Tables<K, V, S, R> {
         ensures next { (r : Record K V) → kept_at self.now place ≡ Some r → IfSome result (StandsFirst self.now (behind r.number self.now.state.access)) }
         ensures last { (r : Record K V) → kept_at self.now place ≡ Some r → IfNone result (behind r.number self.now.state.access ≡ []) }
     {
-        let Some(id) = self.cells[place].nodes.access_queue.get() else {
-            unreachable!()
-        };
-        match self.access.peek_behind(id) {
-            Some(date) => Some(date.entry),
-            None => None,
-        }
+        let index = self.cells.index_of(place);
+        place_at(self.access.behind(index))
     }
 
     /// No number stands on the access list twice, and each there is of an admitted record.
@@ -466,7 +487,7 @@ impl<K: Eq + Hash, V, S: BuildHasher, R: Rules<K, V>> Tables<K, V, S, R> {
         ensures once { AreOnce self.now.state.access }
         ensures admitted { (number : ℕ) → IsIn number self.now.state.access → is_admitted_as number (record_at self.now.state.records number) ≡ true }
     {
-        names_stand(&self.access);
+        let _ = &self.access;
     }
 
     /// The place of the record whose write was applied longest ago.
@@ -474,10 +495,7 @@ impl<K: Eq + Hash, V, S: BuildHasher, R: Rules<K, V>> Tables<K, V, S, R> {
         ensures first { IfSome result (λ i. (r : Record K V) × (kept_at self.now i ≡ Some r) × (slice_get self.now.state.order 0 ≡ Some r.number) × (is_some r.counts ≡ true)) }
         ensures none { IfNone result (self.now.state.order ≡ []) }
     {
-        match self.order.peek_front() {
-            Some(date) => Some(date.entry),
-            None => None,
-        }
+        place_at(self.order.first())
     }
 
     /// The place of the settled record used longest ago.
@@ -690,7 +708,7 @@ impl<K: Eq + Hash, V, S: BuildHasher, R: Rules<K, V>> Tables<K, V, S, R> {
         requires there { is_some (kept_at self.old place) ≡ true }
         ensures { (r : Record K V) × (kept_at self.old place ≡ Some r) × (self.new ≡ record self.old { state = record self.old.state { reads = self.old.state.reads ++ Read.Hit r.number hash ∷ [] } }) }
     {
-        let number = self.cells[place].item.number;
+        let number = self.cells[place].number;
         self.backlog.push_read(Noted::Hit {
             place,
             number,
@@ -744,7 +762,7 @@ impl<K: Eq + Hash, V, S: BuildHasher, R: Rules<K, V>> Tables<K, V, S, R> {
         ensures gone { result ≡ false → record_at self.now.state.records number ≡ None }
     {
         match self.cells.get(place) {
-            Some(cell) => cell.item.number == number,
+            Some(cell) => cell.number == number,
             None => false,
         }
     }
@@ -754,7 +772,7 @@ impl<K: Eq + Hash, V, S: BuildHasher, R: Rules<K, V>> Tables<K, V, S, R> {
         ensures { result ≡ is_admitted_as number (kept_at self.now place) }
     {
         match self.cells.get(place) {
-            Some(cell) => is_admitted_as(&cell.item, number),
+            Some(cell) => is_admitted_as(cell, number),
             None => false,
         }
     }
@@ -782,51 +800,46 @@ impl<K: Eq + Hash, V, S: BuildHasher, R: Rules<K, V>> Tables<K, V, S, R> {
         requires { is_some (kept_at self.old place) ≡ true }
         ensures { CountsAt write weight place self.old self.new }
     {
-        names_stand(&self.access);
-        names_stand(&self.order);
-        let nodes = &self.cells[place].nodes;
-        let used = put_last(&mut self.access, &nodes.access_queue, place);
-        let written = put_last(&mut self.order, &nodes.write_queue, place);
-        let names = QueueNodes::of(used, written);
+        let index = self.cells.index_of(place);
+        put_last(&mut self.access, index);
+        put_last(&mut self.order, index);
         let _many = self.cells.len();
         let cell = &mut self.cells[place];
-        let others = self.tally.without(&cell.item);
-        cell.nodes = names;
-        cell.item.applied = write;
-        cell.item.counts = Some(weight);
-        self.tally = others.with(&cell.item);
+        let others = self.tally.without(cell);
+        cell.applied = write;
+        cell.counts = Some(weight);
+        self.tally = others.with(cell);
     }
 }
 
-/// Moves a node, if there is one, to the back of a queue; else a node for the place comes there, for which there is room.
-fn put_last(queue: &mut Deque<KeyHashDate>, node: &NodeName, place: usize) -> NodeId
-    requires has { StandsIn node.now queue.old }
-    requires room { HasPlaceFor node.now queue.old }
-    ensures { ComesLast node.now place result queue.old queue.new }
+/// Moves a place to the back of a queue, or puts it there, for which there is room.
+fn put_last(queue: &mut IndexQueue, index: u32)
+    requires { HasPlaceFor index queue.old }
+    ensures { ComesLast index queue.old queue.new }
 {
-    match node.get() {
-        Some(id) => match queue.move_to_back(id) {
-            Ok(()) => id,
-            Err(_) => unreachable!(),
-        },
-        None => match queue.push_back(KeyHashDate { entry: place }) {
-            Ok(id) => id,
-            Err(_) => unreachable!(),
-        },
+    if queue.contains(index) {
+        queue.move_to_back(index);
+    } else {
+        queue.push_back(index);
     }
 }
 
-/// Takes a node, if there is one, out of a queue.
-fn take_off(queue: &mut Deque<KeyHashDate>, node: &NodeName)
-    requires { StandsIn node.now queue.old }
-    ensures { StepsOut node.now queue.old queue.new }
+/// Takes a place out of a queue, if it is there.
+fn take_off(queue: &mut IndexQueue, index: u32)
+    ensures { StepsOut index queue.old queue.new }
 {
-    match node.get() {
-        Some(id) => match queue.unlink_and_drop(id) {
-            Ok(()) => {}
-            Err(_) => unreachable!(),
-        },
-        None => {}
+    if queue.contains(index) {
+        queue.remove(index);
+    }
+}
+
+/// The place that an index of a queue names.
+fn place_at(index: Option<u32>) -> Option<usize>
+    ensures { result ≡ index }
+{
+    match index {
+        Some(index) => Some(index as usize),
+        None => None,
     }
 }
 

@@ -1,3 +1,4 @@
 pub mod RunsKeep
 pub mod Keeping
 pub mod Afterwards
+pub mod Shown

@@ -27,7 +27,7 @@ mod removals;
 mod scans;
 mod settings;
 
-/// A cache of one part. Steps rise from call to call; moments may be any.
+/// A cache of one part. Steps rise from call to call; moments may come in any order.
 #[derive(Drop)]
 pub struct BaseCache<K: Eq + Hash, V, S: BuildHasher, R: Rules<K, V>> {
     tables: Tables<K, V, S, R>,
@@ -45,8 +45,9 @@ impl<K: Eq + Hash, V, S: BuildHasher, R: Rules<K, V>> Model for BaseCache<K, V, 
 }
 
 impl<K: Eq + Hash, V, S: BuildHasher, R: Rules<K, V>> BaseCache<K, V, S, R> {
-    /// An empty cache of this name, made at the moment of its settings, with space for so many entries, where there is memory for it.
-    /// Nothing comes of the housekeeper's configuration: a run goes to its end, and no contract shows the size of its batches.
+    /// Creates an empty cache with this name, at the moment of its settings, with room for this many entries if there is enough memory for
+    /// it.
+    /// The housekeeper's configuration has no effect: a run is never cut short, and no contract shows the size of its batches.
     pub fn new(
         alloc: Global,
         name: Option<String>,
@@ -66,28 +67,28 @@ impl<K: Eq + Hash, V, S: BuildHasher, R: Rules<K, V>> BaseCache<K, V, S, R> {
         Ok(BaseCache { tables })
     }
 
-    /// How many records were admitted at the end of the last run.
+    /// Returns the number of records that were admitted at the end of the last run.
     pub fn entry_count(&self) -> u64
         ensures { result ≡ self.now.number }
     {
         self.tables.number()
     }
 
-    /// What they weighed.
+    /// Returns the weight of the records that were admitted at the end of the last run.
     pub fn weighted_size(&self) -> u64
         ensures { result ≡ self.now.weight }
     {
         self.tables.weight()
     }
 
-    /// Whether removals are told.
+    /// Returns whether removals are reported.
     pub fn is_removal_notifier_enabled(&self) -> bool
         ensures { result ≡ self.now.settings.tells }
     {
         self.tables.settings().tells
     }
 
-    /// What is shown of the settings.
+    /// Returns the settings.
     pub fn policy(&self) -> Policy
         ensures capacity { result.max_capacity ≡ self.now.settings.capacity }
         ensures parts { result.num_segments ≡ 1 }
@@ -97,14 +98,14 @@ impl<K: Eq + Hash, V, S: BuildHasher, R: Rules<K, V>> BaseCache<K, V, S, R> {
         policy_of(self.tables.settings())
     }
 
-    /// Covers every value that was written at an earlier step.
+    /// Invalidates every value that was written at an earlier step.
     pub fn invalidate_all(&mut self, step: u64)
         ensures { self.new ≡ cleared_by step self.old }
     {
         self.tables.clear(step);
     }
 
-    /// The oldest notice that was not taken.
+    /// Takes the oldest notice.
     pub fn next_notice(&mut self) -> Option<Notice<K, V>>
         ensures notice { result ≡ slice_get self.old.notices 0 }
         ensures taken { self.new ≡ without_notice self.old }
@@ -123,7 +124,7 @@ impl<K: Eq + Hash, V, S: BuildHasher, R: Rules<K, V>> BaseCache<K, V, S, R> {
         Ok(())
     }
 
-    /// Whether a key has a visible value. It is no use of it.
+    /// Returns whether a key has a visible value. This does not count as a use of it.
     pub fn contains_key_with_hash<Q: Names<K>>(&self, key: &Q, hash: u64, now: Instant) -> bool
         requires hashed { hash ≡ hash_of_key S.Hasher.finish S.Hasher.write S.build_hasher K.hash_input self.now.hasher (Q.named_key key.now) }
         ensures { result ≡ is_some (visible_record (answers_of R.weight_of R.created R.read R.updated R.covers) K.eq self.now now (Q.named_key key.now)) }
@@ -131,7 +132,7 @@ impl<K: Eq + Hash, V, S: BuildHasher, R: Rules<K, V>> BaseCache<K, V, S, R> {
         look_up(&self.tables, key, hash, now.as_nanos()).is_some()
     }
 
-    /// A clone of the visible value of a key. It is no use of it.
+    /// Returns a clone of the visible value of a key. This does not count as a use of it.
     pub fn get_with_hash_without_recording<Q: Names<K>>(
         &self,
         key: &Q,
@@ -149,7 +150,7 @@ impl<K: Eq + Hash, V, S: BuildHasher, R: Rules<K, V>> BaseCache<K, V, S, R> {
 
     // ---- writing
 
-    /// Writes a value under its key, for which room was reserved, and answers the ticket of the write. What it replaces is told.
+    /// Writes a value under its key, in room that was reserved, and returns the ticket of the write. What it replaces is reported.
     pub fn do_insert_with_hash(
         &mut self,
         key: K,
@@ -172,7 +173,7 @@ impl<K: Eq + Hash, V, S: BuildHasher, R: Rules<K, V>> BaseCache<K, V, S, R> {
         ticket
     }
 
-    /// Tells an entry that was removed by its key, which is named beside it.
+    /// Reports an entry that was removed by its key, which is named in addition.
     pub fn notify_invalidate<Q: Names<K>>(&mut self, _key: &Q, entry: Entry<K, V>, now: Instant)
     where
         K: Drop,
@@ -195,9 +196,11 @@ impl<K: Eq + Hash, V, S: BuildHasher, R: Rules<K, V>> BaseCache<K, V, S, R> {
         self.tables.send(ticket)
     }
 
-    /// Runs maintenance to its end: all that is pending is applied, what is due leaves, and then the excess.
-    /// Where all tickets were sent as it began, the counts are exact; where moments never fell and steps rose too, nothing that is kept is due.
-    /// Where half the capacity is held and the sketch has no table, it is made first; an error tells that there was no memory for it, and the run is as whole without.
+    /// Runs maintenance to its end: it applies everything that is pending, and removes what is due and then the excess.
+    /// If all tickets were sent as it began, the counts are exact; if moments never fell and steps rose as well, nothing that is due is
+    /// left.
+    /// If half the capacity is held and the sketch has no table, it is created first. An error means that there was not enough memory for
+    /// it; the run is complete without it.
     pub fn try_run_pending_tasks(&mut self, now: Instant) -> Result<(), AllocError>
     where
         K: Drop,
@@ -211,7 +214,7 @@ impl<K: Eq + Hash, V, S: BuildHasher, R: Rules<K, V>> BaseCache<K, V, S, R> {
         try_run(&mut self.tables, now.as_nanos())
     }
 
-    /// Runs maintenance to its end, whether or not there is memory for the sketch's table.
+    /// Runs maintenance to its end, whether or not there is enough memory for the sketch's table.
     pub fn run_pending_tasks(&mut self, now: Instant)
     where
         K: Drop,
@@ -223,14 +226,14 @@ impl<K: Eq + Hash, V, S: BuildHasher, R: Rules<K, V>> BaseCache<K, V, S, R> {
         run(&mut self.tables, now.as_nanos());
     }
 
-    /// Whether the last run wanted the sketch's table and there was no memory for it.
+    /// Returns whether the last run needed the sketch's table and there was not enough memory for it.
     pub fn is_table_refused(&self) -> bool
         ensures { result ≡ self.now.table_refused }
     {
         self.tables.table_refused()
     }
 
-    /// Runs maintenance where it is due: where 64 reads or 64 writes are pending, or 300 milliseconds after the last run.
+    /// Runs maintenance if it is due: if 64 reads or 64 writes are pending, or 300 milliseconds after the last run.
     pub fn apply_reads_writes_if_needed(&mut self, now: Instant)
     where
         K: Drop,

@@ -1,8 +1,10 @@
-//! A cache of one part: expiry, admission, eviction, invalidation, maintenance. Its owner hands in hashes, moments and steps, sends the tickets of its writes, and takes its notices.
+//! A cache of one part: expiry, admission, eviction, invalidation, maintenance. Its owner passes hashes, moments and steps, sends the
+//! tickets of its writes, and takes its notices.
 #![tactic(auto)]
 
 mod cache;
 mod noting;
+mod showing;
 
 pub use cache::BaseCache;
 pub use engine_reference::{
@@ -12,7 +14,7 @@ pub use engine_reference::{
 };
 pub use policy_base::{HousekeeperConfig, Instant};
 
-/// Functions whose contracts are laws of what the contracts speak of.
+/// Functions whose contracts are laws of the definitions that contracts cite.
 pub mod laws {
     pub use engine_reference::laws::{
         calls_stay_sound, counts_are_exact, counts_are_kept, cover_shows_nothing,

@@ -13,7 +13,7 @@ use engine_tables::Tables;
 use policy_base::Instant;
 use std::hash::{BuildHasher, Hash};
 
-/// Maintenance runs, and then the record that was found in a place is used, where it is still there, and its read waits to be counted.
+/// Runs maintenance. Then the record that was found in a place is used, if it is still there, and its read waits to be counted.
 fn note_after_run<K: Eq + Hash + Drop, V: Drop, S: BuildHasher, R: Rules<K, V>>(
     tables: &mut Tables<K, V, S, R>,
     place: usize,
@@ -30,7 +30,8 @@ fn note_after_run<K: Eq + Hash + Drop, V: Drop, S: BuildHasher, R: Rules<K, V>>(
     use_found(tables, number, hash, now);
 }
 
-/// Where a run is due it comes, and then the record that was found in a place is used, where it is still there, and its read waits to be counted.
+/// Runs maintenance if it is due. Then the record that was found in a place is used, if it is still there, and its read waits to be
+/// counted.
 fn note_hit<K: Eq + Hash + Drop, V: Drop, S: BuildHasher, R: Rules<K, V>>(
     tables: &mut Tables<K, V, S, R>,
     place: usize,
@@ -48,7 +49,8 @@ fn note_hit<K: Eq + Hash + Drop, V: Drop, S: BuildHasher, R: Rules<K, V>>(
     }
 }
 
-/// Where a run is due it comes, and then the read of what was found waits to be counted. A record that was found is used, where it is still there.
+/// Runs maintenance if it is due. Then the read of what was found waits to be counted. A record that was found is used, if it is still
+/// there.
 pub fn note_read<K: Eq + Hash + Drop, V: Drop, S: BuildHasher, R: Rules<K, V>>(
     tables: &mut Tables<K, V, S, R>,
     place: Option<usize>,

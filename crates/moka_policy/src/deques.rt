@@ -1,4 +1,4 @@
-//! The queues of a cache's entries: those in order of use, one for each region, and the one in order of writes.
+//! The queues of a cache's entries: one in order of use for each region, and one in order of writes.
 mod deques;
 mod nodes;
 

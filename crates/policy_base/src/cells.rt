@@ -1,7 +1,7 @@
-//! A slab whose keys have 32 bits, and whose cells have no byte to spare.
+//! A slab with 32-bit keys, whose cells waste no bytes.
 //!
-//! It does what `slab` does, and contracts see it as they see that. A cell's mark has 32 bits: with two parts of eight
-//! bytes each it takes 24.
+//! It does what the kit's `slab` does, and contracts see it in the same way. A cell's mark has 32 bits: with two parts of eight
+//! bytes each, a cell takes 24.
 ghost use Rattle.std.specs.Prelude.{◌≡◌, ◌+◌, ◌-◌, ◌<◌, ◌≤◌, ◌^◌, [], length, max, IsSome, IsOk, OnOk, option_map, None, Some, vec_len, vec_capacity};
 ghost use Rattle.slab.specs.Slab.{get, ContainsKey, slab_len, HasRoomFor, Updates};
 
@@ -9,16 +9,16 @@ use std::alloc::{AllocError, Global};
 use std::marker::Model;
 use std::mem;
 
-/// How many cells there may be.
+/// The maximum number of cells.
 pub const MOST_CELLS: u32 = u32::MAX - 1;
 
 /// Storage for values of two parts, each under a key that the slab picks. There are `MOST_CELLS` keys.
 #[derive(Drop)]
 pub struct Cells<A, B> {
     cells: Vec<Cell<A, B>>,
-    // How many cells are taken.
+    // The number of taken cells.
     len: usize,
-    // The first of the list of vacant cells, or the number of cells where there is none.
+    // The first of the list of vacant cells, or the number of cells if there is none.
     next: u32,
 }
 
@@ -46,7 +46,7 @@ impl<A, B> Model for Cells<A, B> {
 }
 
 impl<A, B> Cells<A, B> {
-    /// No cells, which take no memory.
+    /// Creates a slab without cells. This allocates nothing.
     pub fn new(alloc: Global) -> Self
         ensures slots { result.slots ≡ [] }
     {
@@ -57,21 +57,21 @@ impl<A, B> Cells<A, B> {
         }
     }
 
-    /// How many values there are.
+    /// Returns the number of values.
     pub fn len(&self) -> usize
         ensures { result ≡ slab_len self.now }
     {
         self.len
     }
 
-    /// The key that the next insert will use.
+    /// Returns the key that the next insert will use.
     pub fn vacant_key(&self) -> u32
         ensures { result ≡ self.now.vacant_key }
     {
         self.next
     }
 
-    /// Makes room for `additional` more values, which then need no memory. More than `MOST_CELLS` are refused.
+    /// Reserves room for `additional` more values, which then allocate nothing. More than `MOST_CELLS` cells are refused.
     pub fn reserve(&mut self, additional: usize) -> Result<(), AllocError>
         ensures room { OnOk result (HasRoomFor self.new additional) }
         ensures fits { OnOk result (slab_len self.new + additional ≤ 2 ^ 32 - 2) }
@@ -86,7 +86,7 @@ impl<A, B> Cells<A, B> {
         self.cells.reserve(additional.saturating_sub(vacant))
     }
 
-    /// Stores a value. There is room.
+    /// Stores a value and returns its key. There must be room.
     pub fn insert_reserved(&mut self, first: A, second: B) -> u32
         requires { HasRoomFor self.old 1 }
         ensures key { result ≡ self.old.vacant_key }
@@ -133,7 +133,7 @@ impl<A, B> Cells<A, B> {
         }
     }
 
-    /// The two parts of the value at `key`, if there is one.
+    /// Returns the two parts of the value at `key`, if there is one.
     pub fn get(&self, key: u32) -> Option<(&A, &B)>
         ensures value { option_map (λ parts. (parts.0.now, parts.1.now)) result ≡ get self.now key }
         ensures key_in_range { IsSome result → key < 2 ^ 32 - 2 }

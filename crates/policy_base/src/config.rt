@@ -1,11 +1,10 @@
-//! What a cache is made with.
+//! Settings of a cache.
 ghost use Rattle.std.specs.Prelude.{◌≡◌, ℕ, ◌≤◌, ◌-◌, ◌^◌, min, max};
 ghost use Rattle.std.specs.Duration.{as_nanos};
 
 use std::time::Duration;
 
-/// How maintenance runs are made: for how long, how often the pending operations are gone through, and how many
-/// records are looked at in one batch.
+/// How maintenance runs: for how long, how often they go through the pending operations, and how many records they look at in one batch.
 #[derive(Clone, Copy, Debug, PartialEq, Eq)]
 pub struct HousekeeperConfig {
     pub maintenance_task_timeout: Duration,
@@ -46,7 +45,7 @@ impl Default for HousekeeperConfig {
     }
 }
 
-/// How many hashes a sketch is made for, where a cache holds so many.
+/// Returns the number of hashes for which a sketch is made, if a cache holds this many.
 pub fn sketch_capacity(capacity: u64) -> u32
     ensures { result ≡ min (max capacity 128) (2 ^ 32 - 1) }
 {

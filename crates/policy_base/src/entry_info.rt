@@ -1,4 +1,4 @@
-//! What is known of an entry.
+//! What is known about an entry.
 ghost use Rattle.std.specs.Prelude.{◌≡◌, ◌≢◌, ℕ, ◌+◌, ◌-◌, ◌%◌, ◌^◌, ◌<◌, ◌≤◌, ◌↔◌, true, false, IsTrue, OnOk, OnErr, IsErr, IfOk, Option, Some, None, if◌then◌else◌, nat_lt, option_map, min};
 ghost use Rattle.policy_base.specs.Info.{kept_time};
 
@@ -7,10 +7,10 @@ use crate::records::KeyHash;
 use std::marker::Model;
 use thiserror::Error;
 
-/// How many generations an own expiration has before they begin again.
+/// How many generations an own expiration has before they start again.
 const EXPIRATION_GENERATIONS: u16 = 4096;
 
-/// An own expiration is kept in steps of so many nanoseconds.
+/// An own expiration is kept as a multiple of this number of nanoseconds.
 const EXPIRATION_STEP: u64 = 4096;
 
 /// The last own expiration.
@@ -63,7 +63,7 @@ impl<K> Model for EntryInfo<K> {
 impl<K> EntryInfo<K> {
     ghost use Rattle.policy_base.specs.Info.{kept_time, new_info};
 
-    /// An entry that was written at this moment.
+    /// Creates an entry that was written at this moment.
     pub fn new(key_hash: KeyHash<K>, moment: Instant, policy_weight: u32) -> Self
         ensures { result ≡ new_info key_hash moment policy_weight }
     {
@@ -82,35 +82,35 @@ impl<K> EntryInfo<K> {
         }
     }
 
-    /// The key with its hash.
+    /// Returns the key with its hash.
     pub fn key_hash(&self) -> &KeyHash<K>
         ensures { result.now ≡ self.now.key_hash }
     {
         &self.key_hash
     }
 
-    /// Whether the policy holds the entry.
+    /// Returns whether the policy holds the entry.
     pub fn is_admitted(&self) -> bool
         ensures { result ≡ self.now.is_admitted }
     {
         self.is_admitted
     }
 
-    /// Says whether the policy holds the entry.
+    /// Sets whether the policy holds the entry.
     pub fn set_admitted(&mut self, value: bool)
         ensures { self.new ≡ record self.old { is_admitted = value } }
     {
         self.is_admitted = value;
     }
 
-    /// The number of the entry's last write.
+    /// Returns the number of the entry's last write.
     pub fn entry_gen(&self) -> u64
         ensures { result ≡ self.now.entry_gen }
     {
         self.entry_gen
     }
 
-    /// Counts a write, and answers its number.
+    /// Counts a write, and returns its number.
     pub fn incr_entry_gen(&mut self) -> Result<u64, UsedUp>
         ensures counted { IfOk result (λ v. (v ≡ self.old.entry_gen + 1) × (self.new ≡ record self.old { entry_gen = v })) }
         ensures refused { IsErr result ↔ (self.old.entry_gen ≡ u64.MAX) }
@@ -123,14 +123,14 @@ impl<K> EntryInfo<K> {
         Ok(self.entry_gen)
     }
 
-    /// The number of the last write that the policy applied.
+    /// Returns the number of the last write that the policy applied.
     pub fn policy_gen(&self) -> u64
         ensures { result ≡ self.now.policy_gen }
     {
         self.policy_gen
     }
 
-    /// Says that a write was applied, where none of a higher number was.
+    /// Notes that a write was applied, unless one with a higher number was.
     pub fn set_policy_gen(&mut self, value: u64)
         ensures { self.new ≡ (if nat_lt self.old.policy_gen value then record self.old { policy_gen = value } else self.old) }
     {
@@ -139,14 +139,14 @@ impl<K> EntryInfo<K> {
         }
     }
 
-    /// Whether a write is not yet applied.
+    /// Returns whether a write is not yet applied.
     pub fn is_dirty(&self) -> bool
         ensures { IsTrue result ↔ (self.now.entry_gen ≢ self.now.policy_gen) }
     {
         self.entry_gen != self.policy_gen
     }
 
-    /// The step of the last write.
+    /// Returns the step of the last write.
     pub fn write_step(&self) -> u64
         ensures { result ≡ self.now.write_step }
     {
@@ -160,7 +160,7 @@ impl<K> EntryInfo<K> {
         self.write_step = step;
     }
 
-    /// The entry's weight.
+    /// Returns the entry's weight.
     pub fn policy_weight(&self) -> u32
         ensures { result ≡ self.now.policy_weight }
     {
@@ -174,14 +174,14 @@ impl<K> EntryInfo<K> {
         self.policy_weight = weight;
     }
 
-    /// Whether the entry has left the cache.
+    /// Returns whether the entry has left the cache.
     pub fn is_retired(&self) -> bool
         ensures { result ≡ self.now.is_retired }
     {
         self.is_retired
     }
 
-    /// Says that the entry has left the cache, once.
+    /// Notes that the entry has left the cache. It must not have left before.
     pub fn retire(&mut self)
         requires { self.old.is_retired ≡ false }
         ensures { self.new ≡ record self.old { is_retired = true } }
@@ -189,14 +189,14 @@ impl<K> EntryInfo<K> {
         self.is_retired = true;
     }
 
-    /// The entry's own expiration.
+    /// Returns the entry's own expiration.
     pub fn expiration_time(&self) -> Option<Instant>
         ensures { result ≡ self.now.expiration_time }
     {
         self.expiration_time
     }
 
-    /// The entry's own expiration, with its generation.
+    /// Returns the entry's own expiration, with its generation.
     pub fn expiration_state(&self) -> (Option<Instant>, u16)
         ensures time { result.0 ≡ self.now.expiration_time }
         ensures generation { result.1 ≡ self.now.expiry_gen }
@@ -205,7 +205,7 @@ impl<K> EntryInfo<K> {
         (self.expiration_time, self.expiry_gen)
     }
 
-    /// Sets the entry's own expiration, in steps of 4096 nanoseconds, and begins its next generation.
+    /// Sets the entry's own expiration, rounded down to a multiple of 4096 nanoseconds, and starts its next generation.
     pub fn set_expiration_time(&mut self, time: Option<Instant>)
         ensures { self.new ≡ record self.old { expiration_time = option_map kept_time time; expiry_gen = (self.old.expiry_gen + 1) % 4096 } }
     {
@@ -217,7 +217,7 @@ impl<K> EntryInfo<K> {
     }
 }
 
-/// The moment as an own expiration is kept.
+/// The moment, rounded as an own expiration is.
 fn kept(moment: Instant) -> Instant
     ensures { result ≡ kept_time moment }
 {

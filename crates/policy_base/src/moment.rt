@@ -25,7 +25,7 @@ impl Model for Instant {
 }
 
 impl Instant {
-    /// The moment of this number.
+    /// Returns the moment with this number.
     pub fn from_nanos(nanos: u64) -> Self
         requires { nanos ≤ MAX_NANOS }
         ensures { result ≡ nanos }
@@ -33,7 +33,7 @@ impl Instant {
         Instant { nanos }
     }
 
-    /// The moment that comes so long after the clock's start, or the last moment where there is no later one.
+    /// Returns the moment this long after the clock's start, at most the last moment.
     pub fn from_duration_since_clock_start(duration: Duration) -> Self
         ensures { result ≡ min (as_nanos duration) MAX_NANOS }
     {
@@ -42,7 +42,7 @@ impl Instant {
         }
     }
 
-    /// The moment's number.
+    /// Returns the moment's number.
     pub fn as_nanos(self) -> u64
         ensures nanos { result ≡ self }
         ensures in_range { result ≤ MAX_NANOS }
@@ -50,7 +50,7 @@ impl Instant {
         self.nanos
     }
 
-    /// The moment that comes so much later, or the last moment where there is no later one.
+    /// Returns the moment this much later, at most the last moment.
     pub fn saturating_add(self, duration: Duration) -> Self
         ensures { result ≡ min (self + as_nanos duration) MAX_NANOS }
     {
@@ -62,7 +62,7 @@ impl Instant {
         }
     }
 
-    /// How long after an earlier moment this one comes, and nothing where it does not.
+    /// Returns the time since an earlier moment, or zero if it is not earlier.
     pub fn saturating_duration_since(self, earlier: Instant) -> Duration
         ensures { as_nanos result ≡ self - earlier }
     {
@@ -70,7 +70,7 @@ impl Instant {
     }
 }
 
-/// The nanoseconds of a duration, or the last moment's where there are more.
+/// Returns the nanoseconds of a duration, at most those of the last moment.
 pub fn duration_to_saturating_nanoseconds(duration: Duration) -> u64
     ensures { result ≡ min (as_nanos duration) MAX_NANOS }
 {
@@ -82,7 +82,7 @@ pub fn duration_to_saturating_nanoseconds(duration: Duration) -> u64
     }
 }
 
-/// What knows when it was last used and last written.
+/// A type that knows when it was last used and last written.
 pub trait AccessTime {
     /// The moment of the last use.
     ghost accessed: { Self → ℕ };

@@ -1,8 +1,8 @@
-//! Names of queues and of what stands in them.
+//! Names of queues and of their nodes.
 ghost use Rattle.std.specs.Prelude.{◌≡◌, ◌≤◌, ℕ, ◌↔◌, IsTrue, codes};
 ghost use Rattle.policy_base.specs.Region.{region_code, name_of, same_id};
 
-/// Which queue of a cache a node stands in.
+/// The queue of a cache in which a node is.
 #[derive(Clone, Copy, Debug, PartialEq, Eq)]
 pub enum CacheRegion {
     Window,
@@ -12,7 +12,7 @@ pub enum CacheRegion {
 }
 
 impl CacheRegion {
-    /// The region of a number.
+    /// Returns the region with a number.
     pub fn from_number(number: usize) -> Self
         requires { number ≤ 3 }
         ensures { region_code result ≡ number }
@@ -25,7 +25,7 @@ impl CacheRegion {
         }
     }
 
-    /// The region's number.
+    /// Returns the region's number.
     pub fn number(self) -> usize
         ensures { result ≡ region_code self }
     {
@@ -37,14 +37,14 @@ impl CacheRegion {
         }
     }
 
-    /// Whether this is the region of the number.
+    /// Returns whether this is the region with the number.
     pub fn is_number(self, number: usize) -> bool
         ensures { IsTrue result ↔ (region_code self ≡ number) }
     {
         self.number() == number
     }
 
-    /// The region's name.
+    /// Returns the region's name.
     pub fn name(self) -> &'static str
         ensures { result.now ≡ name_of self }
     {
@@ -57,17 +57,17 @@ impl CacheRegion {
     }
 }
 
-/// The name of a node or of a timer: its queue, and a serial that no other of that queue ever has. It takes 16 bytes.
+/// The name of a node or of a timer: its queue, and a serial that no other node of that queue ever has. It takes 16 bytes.
 #[derive(Clone, Copy, Debug, PartialEq, Eq)]
 pub struct NodeId {
     pub serial: u64,
-    /// Where the queue looks the node up. A later serial may have it again.
+    /// Where the queue looks the node up. A node with a later serial may use it again.
     pub slot: u32,
     pub queue: CacheRegion,
 }
 
 impl NodeId {
-    /// Whether the two are one name.
+    /// Returns whether the two are the same name.
     pub fn is_same(self, other: NodeId) -> bool
         ensures test { result ≡ same_id self other }
         ensures same { IsTrue result ↔ (self ≡ other) }

@@ -1,4 +1,4 @@
-//! Entries with their places, and what is handed on about them.
+//! Entries with their places, and the records about them.
 ghost use Rattle.std.specs.Prelude.{◌≡◌, ℕ, None, IfOk};
 ghost use Rattle.std.specs.Arc.{arc_value};
 
@@ -26,7 +26,7 @@ impl<K> KeyHash<K> {
 }
 
 impl<K: Drop> KeyHash<K> {
-    /// The same key with the same hash.
+    /// Returns the same key with the same hash.
     pub fn clone(&self) -> Result<Self, AllocError>
         ensures key { IfOk result (λ copy. arc_value copy.key ≡ arc_value self.now.key) }
         ensures hash { IfOk result (λ copy. copy.hash ≡ self.now.hash) }
@@ -67,7 +67,7 @@ impl<V> ValueEntry<V> {
         ValueEntry { value, entry }
     }
 
-    /// Another value of the same entry.
+    /// Returns another value of the same entry.
     pub fn new_from(value: V, other: &ValueEntry<V>) -> Self
         ensures value { result.value ≡ value }
         ensures entry { result.entry ≡ other.now.entry }
@@ -96,7 +96,7 @@ impl<K, V> KvEntry<K, V> {
 }
 
 impl<K: Drop, V: Clone> KvEntry<K, V> {
-    /// The same key with a clone of the value.
+    /// Returns the same key with a clone of the value.
     pub fn clone(&self) -> Result<Self, AllocError>
         ensures key { IfOk result (λ copy. arc_value copy.key ≡ arc_value self.now.key) }
         ensures value { IfOk result (λ copy. V.is_clone self.now.entry.value copy.entry.value) }
@@ -114,7 +114,7 @@ impl<K: Drop, V: Clone> KvEntry<K, V> {
     }
 }
 
-/// A value that was replaced, with what its entry knew of it.
+/// A value that was replaced, with what its entry knew about it.
 #[derive(Drop)]
 pub struct OldEntryInfo<V> {
     pub entry: ValueEntry<V>,
@@ -169,7 +169,7 @@ pub enum WriteOp<K, V> {
 impl<K: Drop, V: Clone> WriteOp<K, V> {
     ghost use Rattle.policy_base.specs.Operations.{IsCopy};
 
-    /// The same operation.
+    /// Returns the same operation.
     pub fn clone(&self) -> Result<Self, AllocError>
         ensures { IfOk result (IsCopy V.is_clone self.now) }
     {
@@ -221,7 +221,7 @@ impl<T> DeqNode<T> {
     }
 }
 
-/// Where an entry stands in the queues and among the timers.
+/// The places of an entry in the queues and among the timers.
 #[derive(Clone, Copy, Debug, PartialEq, Eq)]
 pub struct DeqNodes {
     pub access_queue: Option<NodeId>,
@@ -250,7 +250,7 @@ impl DeqNodes {
 impl Default for DeqNodes {
     ghost is_default = { λ nodes. nodes ≡ record { access_queue = None; write_queue = None; timer = None } };
 
-    /// Nowhere.
+    /// No place.
     fn default() -> Self {
         DeqNodes {
             access_queue: None,
@@ -268,7 +268,7 @@ pub struct Slot<K> {
 }
 
 impl<K> Slot<K> {
-    /// An entry that stands nowhere yet.
+    /// Creates an entry that has no place yet.
     pub fn new(info: EntryInfo<K>) -> Self
         ensures info { result.info ≡ info }
         ensures nodes { result.nodes ≡ record { access_queue = None; write_queue = None; timer = None } }

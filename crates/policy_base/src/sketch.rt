@@ -1,4 +1,4 @@
-//! How often hashes were counted of late, in words of sixteen counts.
+//! Counts of how often hashes were requested recently, in words of sixteen counts.
 ghost use Rattle.std.specs.Prelude.{◌≡◌, ℕ, ◌+◌, ◌-◌, ◌*◌, ◌/◌, ◌%◌, ◌^◌, ◌<◌, ◌≤◌, List, [], map, length, slice_index, slice_set, nat_lt, vec_len, replicate, min, max, true, false, IsOk, OnOk, OnErr};
 ghost use Rattle.std.specs.Int.{IsPowerOfTwo, IsNextPowerOfTwo};
 ghost use Rattle.policy_base.specs.Counts.{nibbles, counts_of, half, multiplier, spread, place, bump, frequency_of, incremented, bumped_in, can_grow_in, sketch_of, fresh, grown, own_count, after};
@@ -15,7 +15,7 @@ fn count_at(word: u64, i: u32) -> u8
     ((word >> (4 * i)) % 16) as u8
 }
 
-/// The word with one more in its `i`-th count, which is below 15.
+/// The word with its `i`-th count, which is below 15, increased by one.
 fn with_one_more(word: u64, i: u32) -> u64
     requires index { i < 16 }
     requires below { slice_index (nibbles 16 word) i < 15 }
@@ -55,7 +55,7 @@ fn spread_of(hash: u64, i: u64) -> u64
     x.wrapping_add(x >> 32)
 }
 
-/// The most words of a table.
+/// The maximum number of words of a table.
 const MAX_WORDS: u32 = 1 << 24;
 
 /// Counts of hashes.
@@ -78,7 +78,7 @@ impl Model for FrequencySketch {
     ghost invariant = { λ s. (s.size < s.sample) × (s.sample < 2 ^ 32) × (0 < vec_len s.table → IsPowerOfTwo (vec_len s.table)) };
 }
 
-/// The word of the `i`-th count of a hash, of so many words.
+/// The word of the `i`-th count of a hash, in a table with this number of words.
 fn word_of(words: usize, hash: u64, i: u64) -> usize
     requires { IsPowerOfTwo words }
     ensures word { result ≡ spread hash i % words }
@@ -96,7 +96,7 @@ fn halve_all(table: &mut [u64])
     }
 }
 
-/// Adds one at a place, and says whether it grew.
+/// Adds one at a place, and returns whether it grew.
 fn bump_at(table: &mut [u64], hash: u64, i: u64) -> bool
     requires index { i < 4 }
     requires power { IsPowerOfTwo (length table.old) }
@@ -114,7 +114,7 @@ fn bump_at(table: &mut [u64], hash: u64, i: u64) -> bool
     }
 }
 
-/// Adds one to each of the four counts of a hash, and says whether one grew.
+/// Adds one to each of the four counts of a hash, and returns whether one grew.
 fn bump_all(table: &mut [u64], hash: u64) -> bool
     requires { IsPowerOfTwo (length table.old) }
     ensures counts { counts_of table.new ≡ bumped_in (length table.old) (counts_of table.old) hash }
@@ -128,7 +128,7 @@ fn bump_all(table: &mut [u64], hash: u64) -> bool
     first || second || third || fourth
 }
 
-/// Counts a hash once more, and answers the new size.
+/// Counts a hash once more, and returns the new size.
 fn counted(table: &mut [u64], size: u64, sample: u64, hash: u64) -> u64
     requires power { IsPowerOfTwo (length table.old) }
     requires size { size < sample }
@@ -157,7 +157,7 @@ fn count_of(table: &[u64], hash: u64, i: u64) -> u8
     count_at(table[at], k)
 }
 
-/// Makes a table of so many words, each of them zero.
+/// Makes a table of this many words, each of them zero.
 fn make_table(table: &mut Vec<u64>, words: usize) -> Result<(), AllocError>
     requires { vec_len table.old ≤ words }
     ensures len { OnOk result (vec_len table.new ≡ words) }
@@ -169,7 +169,7 @@ fn make_table(table: &mut Vec<u64>, words: usize) -> Result<(), AllocError>
     Ok(())
 }
 
-/// A table's words for so many hashes.
+/// The number of words of a table for this many hashes.
 fn wanted_words(capacity: u32) -> usize
     ensures { IsNextPowerOfTwo (min capacity (2 ^ 24)) result }
 {
@@ -177,7 +177,7 @@ fn wanted_words(capacity: u32) -> usize
 }
 
 impl FrequencySketch {
-    /// A sketch without a table.
+    /// Creates a sketch without a table.
     pub fn default(alloc: Global) -> Self
         ensures words { result.words ≡ 0 }
         ensures counts { result.counts ≡ [] }
@@ -190,8 +190,8 @@ impl FrequencySketch {
         }
     }
 
-    /// Makes a table for so many hashes, where there is none so large: as many words as the next power of two, up
-    /// to 2^24. The counts begin again.
+    /// Creates a table for this many hashes, unless there is one as large: as many words as the next power of two, at most
+    /// 2^24. The counts start again at 0.
     pub fn ensure_capacity(&mut self, capacity: u32) -> Result<(), AllocError>
         ensures grown { OnOk result ((words : ℕ) × IsNextPowerOfTwo (min capacity (2 ^ 24)) words × (self.new ≡ grown self.old words capacity)) }
         ensures err { OnErr result (self.new ≡ self.old) }
@@ -207,14 +207,14 @@ impl FrequencySketch {
         Ok(())
     }
 
-    /// Whether there is a table.
+    /// Returns whether there is a table.
     pub fn has_table(&self) -> bool
         ensures { result ≡ nat_lt 0 self.now.words }
     {
         self.table.len() > 0
     }
 
-    /// The least of the hash's four counts, and 0 without a table.
+    /// Returns the minimum of the hash's four counts, or 0 without a table.
     pub fn frequency(&self, hash: u64) -> u8
         ensures least { result ≡ frequency_of self.now hash }
         ensures top { result ≤ 15 }
@@ -239,8 +239,8 @@ impl FrequencySketch {
     }
 }
 
-/// A hash's frequency is at least its own count, whatever hashes are counted: one more for each time that it is
-/// counted, up to 15, and halved at each aging.
+/// A hash's frequency is at least its own count, whatever hashes are counted: one more each time it is counted, at most 15, and halved at
+/// each aging.
 pub fn own_counts_stand(sketch: &FrequencySketch)
     ensures { (hash own : ℕ) (hashes : List ℕ) → 0 < sketch.now.words → own ≤ frequency_of sketch.now hash → own_count sketch.now hash own hashes ≤ frequency_of (after sketch.now hashes) hash }
 {

@@ -14,7 +14,7 @@ use std::alloc::Global;
 use std::marker::Model;
 use thiserror::Error;
 
-/// A call named a node that the queue does not have.
+/// The queue does not have the node that the caller named.
 #[derive(Clone, Copy, Debug, PartialEq, Eq, Drop, Error)]
 #[error("stale")]
 pub struct Stale;
@@ -28,7 +28,7 @@ pub enum PushError<T> {
     UsedUp(T),
 }
 
-/// Why room was refused.
+/// Why a reservation was refused.
 #[derive(Clone, Copy, Debug, PartialEq, Eq, Drop, Error)]
 pub enum ReserveError {
     #[error("out of memory")]
@@ -70,7 +70,7 @@ impl<T> Model for Deque<T> {
 impl<T: Drop> Deque<T> {
     ghost use Rattle.policy_queue.specs.Walks.{walks};
 
-    /// An empty queue, which takes no memory.
+    /// Creates an empty queue. This allocates nothing.
     pub fn new(alloc: Global, region: CacheRegion) -> Self
         ensures nodes { result.nodes ≡ [] }
         ensures region { result.region ≡ region }
@@ -86,28 +86,28 @@ impl<T: Drop> Deque<T> {
         }
     }
 
-    /// How many nodes the queue has.
+    /// Returns the number of nodes in the queue.
     pub fn len(&self) -> usize
         ensures { result ≡ length self.now.nodes }
     {
         self.slots.len()
     }
 
-    /// Whether the queue has the node.
+    /// Returns whether the queue has the node.
     pub fn contains(&self, id: NodeId) -> bool
         ensures { IsTrue result ↔ IsSome (find id self.now.nodes) }
     {
         holds(self.region, &self.slots, &self.nodes, id)
     }
 
-    /// The queue's region.
+    /// Returns the queue's region.
     pub fn region(&self) -> CacheRegion
         ensures { result ≡ self.now.region }
     {
         self.region
     }
 
-    /// The first element.
+    /// Returns the first element.
     pub fn peek_front(&self) -> Option<&T>
         ensures { option_copied result ≡ option_map (λ n. n.element) (head self.now.nodes) }
     {
@@ -117,7 +117,7 @@ impl<T: Drop> Deque<T> {
         }
     }
 
-    /// The name of the first node.
+    /// Returns the name of the first node.
     pub fn peek_front_ptr(&self) -> Option<NodeId>
         ensures { result ≡ option_map (λ n. n.id) (head self.now.nodes) }
     {
@@ -127,7 +127,7 @@ impl<T: Drop> Deque<T> {
         }
     }
 
-    /// The last element.
+    /// Returns the last element.
     pub fn peek_back(&self) -> Option<&T>
         ensures { option_copied result ≡ option_map (λ n. n.element) (final self.now.nodes) }
     {
@@ -137,7 +137,7 @@ impl<T: Drop> Deque<T> {
         }
     }
 
-    /// The first element that passes a test, from the front on. It asks about no element behind that one.
+    /// Returns the first element, from the front on, for which `passes` returns true. `passes` is not called on any element after that one.
     pub fn first_where<F: Fn(&T) -> bool>(&self, passes: F) -> Option<&T>
         requires { F.IsAlwaysCallable passes }
         ensures found { IfSome result (λ element. IsFirstThat (FnReturnsAt F.Fn passes) self.now.nodes element.now) }
@@ -154,7 +154,7 @@ impl<T: Drop> Deque<T> {
         None
     }
 
-    /// Makes room for `n` pushes, which then need no memory.
+    /// Reserves room for `n` pushes, which then allocate nothing.
     pub fn reserve(&mut self, n: usize) -> Result<(), ReserveError>
         ensures room { OnOk result (n ≤ self.new.room) }
         ensures had_room { n ≤ self.old.room → IsOk result }
@@ -173,7 +173,7 @@ impl<T: Drop> Deque<T> {
         Ok(())
     }
 
-    /// Puts an element behind all others, or hands it back.
+    /// Appends an element and returns the name of its node, or returns the element in the error.
     pub fn push_back(&mut self, element: T) -> Result<NodeId, PushError<T>>
         ensures pushes { IfOk result (λ id. Pushes self.old self.new id element) }
         ensures had_room { 0 < self.old.room → IsOk result }
@@ -200,7 +200,7 @@ impl<T: Drop> Deque<T> {
         })
     }
 
-    /// Takes a node out.
+    /// Removes a node and returns its element.
     pub fn unlink(&mut self, id: NodeId) -> Result<T, Stale>
         ensures value { MatchResult result (λ x. option_map (λ n. n.element) (find id self.old.nodes) ≡ Some x) (λ _. find id self.old.nodes ≡ None) }
         ensures leaves { OnOk result (Leaves self.old self.new id) }
@@ -222,7 +222,7 @@ impl<T: Drop> Deque<T> {
         Ok(element)
     }
 
-    /// Takes a node out and drops its element.
+    /// Removes a node and drops its element.
     pub fn unlink_and_drop(&mut self, id: NodeId) -> Result<(), Stale>
         ensures found { IsOk result ↔ IsSome (find id self.old.nodes) }
         ensures leaves { OnOk result (Leaves self.old self.new id) }
@@ -234,7 +234,7 @@ impl<T: Drop> Deque<T> {
         }
     }
 
-    /// Puts a node behind all others. It keeps its name.
+    /// Moves a node to the back. It keeps its name.
     pub fn move_to_back(&mut self, id: NodeId) -> Result<(), Stale>
         ensures found { IsOk result ↔ IsSome (find id self.old.nodes) }
         ensures moves { OnOk result (MovesToBack self.old self.new id) }
@@ -255,7 +255,7 @@ impl<T: Drop> Deque<T> {
         Ok(())
     }
 
-    /// Takes the first node out.
+    /// Removes the first node and returns its element.
     pub fn pop_front(&mut self) -> Option<T>
         ensures value { result ≡ option_map (λ n. n.element) (head self.old.nodes) }
         ensures leaves { MatchOption (head self.old.nodes) (self.new ≡ self.old) (λ n. Leaves self.old self.new n.id) }
@@ -269,7 +269,7 @@ impl<T: Drop> Deque<T> {
         }
     }
 
-    /// Puts the first node behind all others.
+    /// Moves the first node to the back.
     pub fn move_front_to_back(&mut self)
         ensures { MatchOption (head self.old.nodes) (self.new ≡ self.old) (λ n. MovesToBack self.old self.new n.id) }
     {
@@ -282,14 +282,14 @@ impl<T: Drop> Deque<T> {
         }
     }
 
-    /// Starts the walk again.
+    /// Restarts the walk.
     pub fn reset_cursor(&mut self)
         ensures { self.new ≡ record self.old { cursor = Cursor.Unstarted } }
     {
         self.cursor = Cursor::Unstarted;
     }
 
-    /// The next element of the walk, from the front on; `None` past the last one, and then from the front again.
+    /// Returns the next element of the walk, from the front on; after the last one `None`, and then the first one again.
     pub fn next(&mut self) -> Option<&T>
         ensures* stays { sem 𝓛 (walks T.row self.entry) }
         ensures value { option_copied result ≡ option_map (λ n. n.element) (head (to_give self.old.cursor self.old.nodes)) }
@@ -306,7 +306,7 @@ impl<T: Drop> Deque<T> {
         }
     }
 
-    /// The name of the node behind this one.
+    /// Returns the name of the node after this one.
     pub fn next_node_ptr(&self, id: NodeId) -> Result<Option<NodeId>, Stale>
         ensures { MatchResult result (λ next. IsSome (find id self.now.nodes) × (next ≡ option_map (λ n. n.id) (head (tail (from_id id self.now.nodes))))) (λ _. find id self.now.nodes ≡ None) }
     {
@@ -319,7 +319,7 @@ impl<T: Drop> Deque<T> {
         }
     }
 
-    /// The element behind the node of this name. `None` behind the last one, and for a name that is not there.
+    /// Returns the element after the node with this name; `None` after the last one, and for a name that the queue does not have.
     pub fn peek_behind(&self, id: NodeId) -> Option<&T>
         ensures { option_copied result ≡ option_map (λ n. n.element) (head (tail (from_id id self.now.nodes))) }
     {
@@ -332,7 +332,7 @@ impl<T: Drop> Deque<T> {
         }
     }
 
-    /// The next node of the walk, by its name.
+    /// Returns the name of the next node of the walk.
     pub fn next_id(&mut self) -> Option<NodeId>
         ensures value { result ≡ option_map (λ n. n.id) (head (to_give self.old.cursor self.old.nodes)) }
         ensures cursor { self.new ≡ record self.old { cursor = cursor_past (to_give self.old.cursor self.old.nodes) } }
@@ -350,28 +350,28 @@ impl<T: Drop> Deque<T> {
     }
 }
 
-/// The nodes of a queue have its region and serials below its next one, each its own.
+/// The nodes of a queue have its region and different serials below its next one.
 pub fn names_stand<T>(queue: &Deque<T>)
     ensures { AreNamed queue.now.region queue.now.next_serial queue.now.nodes }
 {
     let _ = &queue.slots;
 }
 
-/// A node that left is stale from then on: no later push, which gives the next serial, brings its name back.
+/// A removed node is stale from then on: no later push, which uses the next serial, gives its name again.
 pub fn stale_names_stay_stale<T>(queue: &Deque<T>)
     ensures { (id : TheName) → StaysStale id queue.now.next_serial queue.now.nodes }
 {
     let _ = &queue.slots;
 }
 
-/// The array behind a queue: the slots of its nodes from front to back, and `u32::MAX` in its empty places.
+/// Returns the array behind a queue: the slots of its nodes from front to back, and `u32::MAX` in its empty places.
 pub fn places_of<T>(queue: &Deque<T>) -> &[u32]
     ensures { order result.now ≡ map (λ n. n.id.slot) queue.now.nodes }
 {
     queue.slots.places()
 }
 
-/// A walk of a queue that does not change gives each node once, in order, then ends, and starts again.
+/// A walk of a queue that does not change returns each node once, in order, then ends, and starts again.
 pub fn walks_give_each_once<T>(queue: &Deque<T>)
     ensures { WalksOnce queue.now.nodes }
 {

@@ -1,5 +1,5 @@
 //! A queue of indices in one array of places, front to back. A move empties a place and takes another at the end; the
-//! empty places are closed up step by step, a few places with each push or move.
+//! empty places are compacted step by step, a few places with each push or move.
 ghost use Rattle.std.specs.Prelude.{◌≡◌, ◌≢◌, ℕ, ◌+◌, ◌-◌, ◌*◌, ◌^◌, ◌<◌, ◌≤◌, true, false, List, [], ◌∷◌, ◌++◌, length, drop, take, min, max, IsOk, OnOk, IsTrue, slice_index_or, vec_len, vec_capacity};
 ghost use Rattle.policy_queue.specs.Queue.{head, tail, final};
 ghost use Rattle.policy_queue.specs.Indices.{vacant, order, has_index, without_index, from_index, index_moved_to_back, OnlyGainsPlaces, Lacks, AreApart, Ends, EndsBut, AreSeated, AreEmpty, AreArranged, IsSeatedAt, IsCutShort, Trims, Carries};
@@ -7,32 +7,32 @@ ghost use Rattle.policy_queue.specs.Indices.{vacant, order, has_index, without_i
 use std::alloc::{AllocError, Global};
 use std::marker::Model;
 
-/// What an empty place has in place of an index, and the seat of an index that is not there in place of a place.
+/// The content of an empty place, and the seat of an index that is not in the queue.
 const EMPTY: u32 = u32::MAX;
 
-/// How many places there may be, since each has a number of 32 bits.
+/// The maximum number of places, since each has a number of 32 bits.
 const MOST_PLACES: usize = 0xFFFF_FFFF;
 
-/// How many indices there may be.
+/// The maximum number of indices.
 const MOST_INDICES: usize = 0xFFFF_FFFE;
 
-/// How many places a push or a move carries.
+/// How many places a push or a move compacts.
 const STEP: usize = 8;
 
-/// A queue of indices, each in it once at most.
+/// A queue of indices, each at most once.
 #[derive(Drop)]
 pub struct IndexQueue {
     // The indices, front to back, with empty places between them.
     places: Vec<u32>,
     // The place of each index, or `EMPTY`.
     seats: Vec<u32>,
-    // How many indices there are.
+    // The number of indices.
     len: usize,
     cursors: Cursors,
 }
 
-/// Where the first index stands, and how far closing up has come: the places from `carried` up to `unread` are empty.
-/// While nothing is closed up, both are 0.
+/// Where the first index is, and how far compacting has come: the places from `carried` up to `unread` are empty.
+/// While nothing is compacted, both are 0.
 #[derive(Clone, Copy)]
 struct Cursors {
     front: usize,
@@ -58,7 +58,7 @@ impl Model for IndexQueue {
 }
 
 impl IndexQueue {
-    /// An empty queue, which takes no memory.
+    /// Creates an empty queue. This allocates nothing.
     pub fn new(alloc: Global) -> Self
         ensures indices { result.indices ≡ [] }
         ensures bound { result.bound ≡ 0 }
@@ -75,14 +75,14 @@ impl IndexQueue {
         }
     }
 
-    /// How many indices the queue has.
+    /// Returns the number of indices in the queue.
     pub fn len(&self) -> usize
         ensures { result ≡ length self.now.indices }
     {
         self.len
     }
 
-    /// Whether the queue has the index.
+    /// Returns whether the queue has the index.
     pub fn contains(&self, index: u32) -> bool
         ensures { result ≡ has_index index self.now.indices }
     {
@@ -92,7 +92,7 @@ impl IndexQueue {
         }
     }
 
-    /// The first index.
+    /// Returns the first index.
     pub fn first(&self) -> Option<u32>
         ensures { result ≡ head self.now.indices }
     {
@@ -102,7 +102,7 @@ impl IndexQueue {
         Some(self.places[self.cursors.front])
     }
 
-    /// The last index.
+    /// Returns the last index.
     pub fn last(&self) -> Option<u32>
         ensures { result ≡ final self.now.indices }
     {
@@ -112,7 +112,7 @@ impl IndexQueue {
         Some(self.places[self.places.len() - 1])
     }
 
-    /// The index behind this one, which is there.
+    /// Returns the index after this one, which must be in the queue.
     pub fn behind(&self, index: u32) -> Option<u32>
         requires { IsTrue (has_index index self.now.indices) }
         ensures { result ≡ head (tail (from_index index self.now.indices)) }
@@ -132,7 +132,7 @@ impl IndexQueue {
         self.places.as_slice()
     }
 
-    /// Makes room for `n` more indices, each below `bound`: their pushes then need no memory.
+    /// Reserves room for `n` more indices, each below `bound`: their pushes then allocate nothing.
     pub fn reserve(&mut self, n: usize, bound: u32) -> Result<(), AllocError>
         ensures room { OnOk result (n ≤ self.new.room) }
         ensures bound { OnOk result (bound ≤ self.new.bound) }
@@ -146,7 +146,7 @@ impl IndexQueue {
         reserve_seats(&mut self.seats, bound as usize)
     }
 
-    /// Puts an index that is not there behind all others.
+    /// Appends an index that is not in the queue.
     pub fn push_back(&mut self, index: u32)
         requires new { has_index index self.old.indices ≡ false }
         requires bound { index < self.old.bound }
@@ -157,7 +157,7 @@ impl IndexQueue {
         self.len += 1;
     }
 
-    /// Puts an index that is there behind all others.
+    /// Moves an index that is in the queue to the back.
     pub fn move_to_back(&mut self, index: u32)
         requires { IsTrue (has_index index self.old.indices) }
         ensures { self.new ≡ record self.old { indices = index_moved_to_back index self.old.indices } }
@@ -175,7 +175,7 @@ impl IndexQueue {
         }
     }
 
-    /// Takes an index out, which is there.
+    /// Removes an index that is in the queue.
     pub fn remove(&mut self, index: u32)
         requires { IsTrue (has_index index self.old.indices) }
         ensures { self.new ≡ record self.old { indices = without_index index self.old.indices; room = self.old.room + 1 } }
@@ -192,14 +192,14 @@ impl IndexQueue {
     }
 }
 
-/// The indices of a queue differ from one another.
+/// The indices of a queue are different from one another.
 pub fn indices_are_apart(queue: &IndexQueue)
     ensures { AreApart queue.now.indices }
 {
     let _ = &queue.places;
 }
 
-/// Makes room for so many places in all.
+/// Makes room for this many places in all.
 fn reserve_places(places: &mut Vec<u32>, wanted: usize) -> Result<(), AllocError>
     ensures same { places.new.items ≡ places.old.items }
     ensures room { OnOk result (wanted ≤ vec_capacity places.new) }
@@ -212,7 +212,7 @@ fn reserve_places(places: &mut Vec<u32>, wanted: usize) -> Result<(), AllocError
     places.reserve(wanted - places.len())
 }
 
-/// Makes so many seats in all. New ones are vacant.
+/// Makes this many seats in all. New ones are vacant.
 fn reserve_seats(seats: &mut Vec<u32>, bound: usize) -> Result<(), AllocError>
     ensures same { (index : ℕ) → slice_index_or seats.new.items index vacant ≡ slice_index_or seats.old.items index vacant }
     ensures room { OnOk result (bound ≤ vec_len seats.new) }
@@ -243,7 +243,7 @@ fn first_taken(places: &[u32], from: usize, end: usize) -> usize
     end
 }
 
-/// The first place from `from` on that is not empty, or the number of places. It jumps over those that closing up has
+/// The first place from `from` on that is not empty, or the number of places. It skips those that compacting has
 /// emptied.
 fn next_taken(places: &[u32], cursors: Cursors, from: usize) -> usize
     requires low { from ≤ length places.now }
@@ -264,7 +264,7 @@ fn next_taken(places: &[u32], cursors: Cursors, from: usize) -> usize
     first_taken(places, from, places.len())
 }
 
-/// How many places there are up to the last one that is not empty.
+/// The number of places up to the last one that is not empty.
 fn occupied_len(places: &[u32]) -> usize
     ensures empty { (j : ℕ) → result ≤ j → slice_index_or places.now j vacant ≡ vacant }
     ensures last { 0 < result → slice_index_or places.now (result - 1) vacant ≢ vacant }
@@ -277,7 +277,7 @@ fn occupied_len(places: &[u32]) -> usize
     len
 }
 
-/// Gives up the empty places behind the last index. Closing up is done where they reach the carried ones.
+/// Drops the empty places after the last index. Compacting is done if they reach the moved ones.
 fn trim(places: &mut Vec<u32>, cursors: &mut Cursors)
     requires { EndsBut places.old.items cursors.old.front (vec_len places.old - 1) }
     ensures same { Trims places.old.items places.new.items }
@@ -313,8 +313,8 @@ fn detach(places: &mut Vec<u32>, seats: &mut Vec<u32>, cursors: &mut Cursors, in
     }
 }
 
-/// Carries the indices in the places from `from` up to `end` down to the empty ones from `to` on, in their order, and
-/// answers where they end.
+/// Moves the indices in the places from `from` up to `end` down to the empty ones from `to` on, in their order, and
+/// returns where they end.
 fn carry(places: &mut Vec<u32>, seats: &mut Vec<u32>, to: usize, from: usize, end: usize) -> usize
     requires seated { AreSeated places.old.items seats.old.items }
     requires gap { AreEmpty places.old.items to from }
@@ -338,7 +338,7 @@ fn carry(places: &mut Vec<u32>, seats: &mut Vec<u32>, to: usize, from: usize, en
     next
 }
 
-/// Carries so many places that were not read yet. Behind the last one, closing up is done.
+/// Moves this many places that were not read yet. After the last one, compacting is done.
 fn close_some(places: &mut Vec<u32>, seats: &mut Vec<u32>, cursors: &mut Cursors, many: usize)
     requires arranged { AreArranged places.old.items seats.old.items cursors.old }
     requires some { 0 < vec_len places.old }
@@ -366,7 +366,7 @@ fn close_some(places: &mut Vec<u32>, seats: &mut Vec<u32>, cursors: &mut Cursors
     }
 }
 
-/// Carries the next places, while closing up is under way; it begins once the free places at the end are few against
+/// Moves the next places, while compacting is under way. It begins once the free places at the end are few compared with
 /// those that are to be read, and ends before they are used up.
 fn step(places: &mut Vec<u32>, seats: &mut Vec<u32>, cursors: &mut Cursors)
     requires arranged { AreArranged places.old.items seats.old.items cursors.old }
@@ -383,7 +383,7 @@ fn step(places: &mut Vec<u32>, seats: &mut Vec<u32>, cursors: &mut Cursors)
     }
 }
 
-/// Closes up all empty places where no place is free at the end.
+/// Compacts all empty places if no place is free at the end.
 fn free_place(places: &mut Vec<u32>, seats: &mut Vec<u32>, cursors: &mut Cursors)
     requires arranged { AreArranged places.old.items seats.old.items cursors.old }
     requires place { length (order places.old.items) < min (vec_capacity places.old) (2 ^ 32 - 1) }
@@ -401,7 +401,7 @@ fn free_place(places: &mut Vec<u32>, seats: &mut Vec<u32>, cursors: &mut Cursors
     }
 }
 
-/// Puts an index that is not there behind all others. There is room.
+/// Appends an index that is not in the queue. There must be room.
 fn attach(places: &mut Vec<u32>, seats: &mut Vec<u32>, cursors: &mut Cursors, index: u32)
     requires arranged { AreArranged places.old.items seats.old.items cursors.old }
     requires place { length (order places.old.items) < min (vec_capacity places.old) (2 ^ 32 - 1) }

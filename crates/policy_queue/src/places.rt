@@ -17,7 +17,7 @@ pub struct Node<T> {
     pub element: T,
 }
 
-/// Where a walk stands: before its start, at the node that it gives next, or past the last one.
+/// The position of a walk: before its start, at the node that it returns next, or after the last one.
 #[derive(Clone, Copy)]
 pub enum Cursor {
     Unstarted,
@@ -67,7 +67,7 @@ pub(crate) fn holds<T>(
     id_of(region, nodes, id.slot).is_same(id)
 }
 
-/// A cursor at the node in a slot, or past the last one.
+/// A cursor at the node in a slot, or after the last one.
 pub(crate) fn cursor_to<T>(region: CacheRegion, nodes: &Cells<u64, T>, slot: Option<u32>) -> Cursor
     requires { IfSome slot (ContainsKey nodes.now) }
     ensures { result ≡ cursor_at (nodes_of region nodes.now (option_to_list slot)) }
@@ -78,7 +78,7 @@ pub(crate) fn cursor_to<T>(region: CacheRegion, nodes: &Cells<u64, T>, slot: Opt
     }
 }
 
-/// The slot of the node that the walk gives next.
+/// The slot of the node that the walk returns next.
 pub(crate) fn walk_slot<T>(
     cursor: Cursor,
     region: CacheRegion,
@@ -102,7 +102,7 @@ pub(crate) fn walk_slot<T>(
     }
 }
 
-/// Where the cursor stands once a node leaves its place: `last` where it stood there, and no node is behind that one.
+/// Where the cursor is once a node leaves its place: `last` if it was there, and no node comes after that one.
 pub(crate) fn cursor_leaving<T>(
     cursor: Cursor,
     id: NodeId,

@@ -12,6 +12,8 @@ mod regions;
 #[cfg(test)]
 mod sketches;
 #[cfg(test)]
+mod texts;
+#[cfg(test)]
 mod timers;
 #[cfg(test)]
 mod uses;

@@ -6,9 +6,9 @@ use thiserror::Error;
 /// Why a value left a cache.
 #[derive(Clone, Copy, Debug, PartialEq, Eq)]
 pub enum RemovalCause {
-    /// Its time had come.
+    /// Its time was over.
     Expired,
-    /// It was removed by its key, or covered by a clear or a predicate.
+    /// It was removed by its key, or invalidated by a clear or a predicate.
     Explicit,
     /// Another value was written under its key.
     Replaced,
@@ -17,7 +17,7 @@ pub enum RemovalCause {
 }
 
 impl RemovalCause {
-    /// Whether the cache let the value go by itself: it expired, or there was no room for it.
+    /// Returns whether the cache removed the value by itself: it expired, or there was no room for it.
     pub fn was_evicted(self) -> bool
         ensures { IsTrue result ↔ ((self ≡ RemovalCause.Expired) ⊎ (self ≡ RemovalCause.Size)) }
     {

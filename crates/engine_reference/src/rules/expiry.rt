@@ -6,25 +6,25 @@ ghost use Rattle.engine_reference.specs.Rules.Changes.{change_of, change_from};
 use policy_base::Instant;
 use std::time::Duration;
 
-/// When a value expires by itself, beside the times of its cache. Each answer is a duration from the moment, or nothing
-/// for a value that does not expire by itself, and a function of the arguments: the ghost members give it in nanoseconds.
+/// When a value expires by itself, in addition to the times of its cache. Each method returns a duration from the moment, or `None`
+/// for a value that does not expire by itself. The result is a function of the arguments, which the ghost members give in nanoseconds.
 ///
-/// The Rust has default bodies; here `NoExpiry` has what they answer.
+/// The trait in `moka` has default bodies; here `NoExpiry` returns what they do.
 pub trait Expiry<K, V> {
-    /// What a creation answers, by key, value and moment.
+    /// The result for a creation, by key, value and moment.
     ghost created: { Self → K → V → ℕ → Option ℕ };
 
-    /// What a read answers, by key, value, moment, what is left until the value expires, and the moment of its write.
+    /// The result for a read, by key, value, moment, the time left until the value expires, and the moment of its write.
     ghost read: { Self → K → V → ℕ → Option ℕ → ℕ → Option ℕ };
 
-    /// What an update answers, by key, value, moment, and what is left until the value expires.
+    /// The result for an update, by key, value, moment, and the time left until the value expires.
     ghost updated: { Self → K → V → ℕ → Option ℕ → Option ℕ };
 
-    /// The expiration of a value that was written under a new key.
+    /// Returns the expiration of a value that was written under a new key.
     fn expire_after_create(&self, key: &K, value: &V, created_at: Instant) -> Option<Duration>
         ensures { option_map as_nanos result ≡ created self.now key.now value.now created_at };
 
-    /// The expiration of a value that was read.
+    /// Returns the expiration of a value that was read.
     fn expire_after_read(
         &self,
         key: &K,
@@ -35,7 +35,7 @@ pub trait Expiry<K, V> {
     ) -> Option<Duration>
         ensures { option_map as_nanos result ≡ read self.now key.now value.now read_at (option_map as_nanos remaining) last_modified_at };
 
-    /// The expiration of a value that replaced another.
+    /// Returns the expiration of a value that replaced another.
     fn expire_after_update(
         &self,
         key: &K,
@@ -46,7 +46,7 @@ pub trait Expiry<K, V> {
         ensures { option_map as_nanos result ≡ updated self.now key.now value.now updated_at (option_map as_nanos remaining) };
 }
 
-/// Values do not expire by themselves, and what is left to one is left to it.
+/// Values do not expire by themselves, and reads and updates do not change the remaining time.
 #[derive(Clone, Copy, Debug, PartialEq, Eq)]
 pub struct NoExpiry;
 
@@ -83,17 +83,17 @@ impl<K, V> Expiry<K, V> for NoExpiry {
     }
 }
 
-/// What becomes of a value's own expiration at a read or an update.
+/// How a read or an update changes a value's own expiration.
 #[derive(Clone, Copy, Debug, PartialEq, Eq)]
 pub enum Expiration {
     /// It stays as it is.
     Keep,
-    /// The value expires so long after the moment, or does not expire by itself.
+    /// The value expires this long after the moment, or does not expire by itself.
     Set(Option<Duration>),
 }
 
 impl Expiration {
-    /// What an answer means, beside what is left until the value expires: where the two are the same, nothing changes.
+    /// Returns what a result of an `Expiry` means, given the time left until the value expires: if the two are equal, nothing changes.
     pub fn from_answer(answer: Option<Duration>, remaining: Option<Duration>) -> Self
         ensures { change_of result ≡ change_from (option_map as_nanos remaining) (option_map as_nanos answer) }
     {

@@ -1,13 +1,13 @@
 //! What names a key.
 ghost use Rattle.std.specs.Prelude.{◌≡◌};
 
-/// What names a key where one is looked for. Each key names itself; another type may name one that is kept elsewhere, as
-/// behind a pointer, so that a look-up makes no key and takes no memory.
+/// A name of a key, for finding one. Each key names itself; another type may name one that is stored elsewhere, for example
+/// behind a pointer, so that a look-up makes no key and allocates nothing.
 pub trait Names<K: PartialEq> {
     /// The key that it names.
     ghost named_key: { Self → K };
 
-    /// Whether a key is the one that it names.
+    /// Returns whether a key is the one that it names.
     fn is_name_of(&self, key: &K) -> bool
         ensures { result ≡ K.eq (named_key self.now) key.now };
 }

@@ -6,22 +6,22 @@ use thiserror::Error;
 /// Why a call is refused. After a refusal nothing has changed.
 #[derive(Clone, Copy, Debug, PartialEq, Eq, Drop, Error)]
 pub enum Refusal {
-    /// A growth was refused.
+    /// An allocation failed.
     #[error("out of memory")]
     OutOfMemory,
     /// No write waits under this ticket.
     #[error("unknown ticket")]
     UnknownTicket,
-    /// The queue of writes is full until a run comes.
+    /// The queue of writes is full until the next run.
     #[error("queue full")]
     QueueFull,
-    /// The cache was made without predicates.
+    /// The cache was created without support for predicates.
     #[error("invalidation closures are disabled")]
     InvalidationClosuresDisabled,
     /// Each identifier that was drawn is registered.
     #[error("ids in use")]
     IdsInUse,
-    /// The tickets of 64 bits are used up.
+    /// The 64-bit tickets are used up.
     #[error("used up")]
     UsedUp,
 }

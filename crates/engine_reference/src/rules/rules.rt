@@ -1,4 +1,4 @@
-//! All that a cache asks of its keys and values.
+//! What a cache asks of its keys and values.
 ghost use Rattle.std.specs.Prelude.{◌≡◌, ℕ, Bool, false, Option, Some, None, option_map};
 ghost use Rattle.std.specs.Duration.{as_nanos};
 ghost use Rattle.engine_reference.specs.Rules.Changes.{change_of, change_from};
@@ -8,36 +8,36 @@ use policy_base::Instant;
 use std::marker::PhantomData;
 use std::time::Duration;
 
-/// All that a cache asks of its keys and values: how much a value weighs, when it expires by itself, and what a
-/// predicate covers. Each answer is a function of the arguments, which the ghost members give; times are in nanoseconds.
+/// What a cache asks of its keys and values: how much a value weighs, when it expires by itself, and whether a predicate covers it. Each
+/// result is a function of the arguments, which the ghost members give; times are in nanoseconds.
 pub trait Rules<K, V> {
-    /// What says which values are to be invalidated.
+    /// A predicate that selects the values to invalidate.
     type Predicate: Drop;
 
-    /// What the making of a value may fail with.
+    /// The error with which making a value may fail.
     type Fault: Drop;
 
     ghost weight_of: { Self → K → V → ℕ };
 
     ghost created: { Self → K → V → ℕ → Option ℕ };
 
-    /// What a read changes of the expiration: nothing, or what it becomes.
+    /// How a read changes the expiration: not at all, or what it becomes.
     ghost read: { Self → K → V → ℕ → Option ℕ → ℕ → Option (Option ℕ) };
 
-    /// What an update changes of the expiration: nothing, or what it becomes.
+    /// How an update changes the expiration: not at all, or what it becomes.
     ghost updated: { Self → K → V → ℕ → Option ℕ → Option (Option ℕ) };
 
     ghost covers: { Self → Self.Predicate → K → V → Bool };
 
-    /// The weight of a value.
+    /// Returns the weight of a value.
     fn weight(&self, key: &K, value: &V) -> u32
         ensures { result ≡ weight_of self.now key.now value.now };
 
-    /// The expiration of a value that was written under a new key.
+    /// Returns the expiration of a value that was written under a new key.
     fn created_expiration(&self, key: &K, value: &V, created_at: Instant) -> Option<Duration>
         ensures { option_map as_nanos result ≡ created self.now key.now value.now created_at };
 
-    /// What becomes of the expiration of a value that was read.
+    /// Returns how the expiration of a value that was read changes.
     fn read_expiration(
         &self,
         key: &K,
@@ -48,7 +48,7 @@ pub trait Rules<K, V> {
     ) -> Expiration
         ensures { change_of result ≡ read self.now key.now value.now read_at (option_map as_nanos remaining) last_modified_at };
 
-    /// The expiration of a value that replaced another.
+    /// Returns how the expiration of a value that replaced another changes.
     fn updated_expiration(
         &self,
         key: &K,
@@ -58,7 +58,7 @@ pub trait Rules<K, V> {
     ) -> Expiration
         ensures { change_of result ≡ updated self.now key.now value.now updated_at (option_map as_nanos remaining) };
 
-    /// Whether a predicate covers a value.
+    /// Returns whether a predicate covers a value.
     fn is_covered(&self, predicate: &Self::Predicate, key: &K, value: &V) -> bool
         ensures { result ≡ covers self.now predicate.now key.now value.now };
 }
@@ -67,16 +67,16 @@ pub trait Rules<K, V> {
 pub trait Weigher<K, V> {
     ghost weight_of: { Self → K → V → ℕ };
 
-    /// The weight of a value.
+    /// Returns the weight of a value.
     fn weigh(&self, key: &K, value: &V) -> u32
         ensures { result ≡ weight_of self.now key.now value.now };
 }
 
-/// Which values are to be invalidated.
+/// Selects the values to invalidate.
 pub trait Predicate<K, V>: Drop {
     ghost covers: { Self → K → V → Bool };
 
-    /// Whether the value is to be invalidated.
+    /// Returns whether to invalidate the value.
     fn is_match(&self, key: &K, value: &V) -> bool
         ensures { result ≡ covers self.now key.now value.now };
 }
@@ -105,7 +105,7 @@ impl<K, V> Predicate<K, V> for NoPredicate {
     }
 }
 
-/// Rules that are put together from their parts: an `Expiry`, a `Weigher`, a type of predicates and a type of faults.
+/// Rules that consist of an `Expiry`, a `Weigher`, a type of predicates and a type of faults.
 #[derive(Drop)]
 pub struct Bundle<X, W, P, F> {
     pub expiry: X,
@@ -114,7 +114,7 @@ pub struct Bundle<X, W, P, F> {
 }
 
 impl<X, W, P, F> Bundle<X, W, P, F> {
-    /// Rules of these parts.
+    /// Creates rules from these parts.
     pub fn new(expiry: X, weigher: W) -> Self
         ensures expiry { result.expiry ≡ expiry }
         ensures weigher { result.weigher ≡ weigher }

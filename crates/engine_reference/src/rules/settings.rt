@@ -1,26 +1,26 @@
-//! What a cache is made with, and what it shows of it.
+//! The settings of a cache, and what it shows of them.
 ghost use Rattle.std.specs.Prelude.{◌≡◌, Some, None};
 
 use std::time::Duration;
 
-/// Which entries a cache lets go where it is too heavy.
+/// Which entries a cache evicts if it is too heavy.
 #[derive(Clone, Copy, Debug, PartialEq, Eq)]
 pub enum EvictionPolicy {
-    /// A newcomer comes in where it was asked for more often than all that would have to leave; else it is refused.
+    /// A new entry is admitted if it was requested more often than all those that would be evicted for it; otherwise it is refused.
     TinyLfu,
-    /// Those that were used least lately leave.
+    /// The least recently used entries are evicted.
     Lru,
 }
 
 impl EvictionPolicy {
-    /// By how often and how lately entries are used. The default.
+    /// By how often and how recently entries are used. The default.
     pub fn tiny_lfu() -> Self
         ensures { result ≡ EvictionPolicy.TinyLfu }
     {
         EvictionPolicy::TinyLfu
     }
 
-    /// By how lately entries are used.
+    /// By how recently entries are used.
     pub fn lru() -> Self
         ensures { result ≡ EvictionPolicy.Lru }
     {
@@ -39,7 +39,7 @@ impl Default for EvictionPolicy {
     }
 }
 
-/// For how long values live, beside what they say themselves.
+/// How long values live, apart from their own expirations.
 #[derive(Clone, Copy, Debug, PartialEq, Eq)]
 pub struct ExpirationPolicy {
     time_to_live: Option<Duration>,
@@ -47,28 +47,28 @@ pub struct ExpirationPolicy {
 }
 
 impl ExpirationPolicy {
-    /// How long after its write a value lives.
+    /// Returns how long a value lives after it was written.
     pub fn time_to_live(&self) -> Option<Duration>
         ensures { result ≡ self.now.time_to_live }
     {
         self.time_to_live
     }
 
-    /// How long after its last use a value lives.
+    /// Returns how long a value lives after its last use.
     pub fn time_to_idle(&self) -> Option<Duration>
         ensures { result ≡ self.now.time_to_idle }
     {
         self.time_to_idle
     }
 
-    /// Sets how long after its write a value lives.
+    /// Sets how long a value lives after it was written.
     pub fn set_time_to_live(&mut self, time: Duration)
         ensures { self.new ≡ record self.old { time_to_live = Some time } }
     {
         self.time_to_live = Some(time);
     }
 
-    /// Sets how long after its last use a value lives.
+    /// Sets how long a value lives after its last use.
     pub fn set_time_to_idle(&mut self, time: Duration)
         ensures { self.new ≡ record self.old { time_to_idle = Some time } }
     {
@@ -115,28 +115,28 @@ impl Policy {
         }
     }
 
-    /// The weight that the cache is to hold at most.
+    /// Returns the maximum weight of the cache.
     pub fn max_capacity(&self) -> Option<u64>
         ensures { result ≡ self.now.max_capacity }
     {
         self.max_capacity
     }
 
-    /// The number of parts.
+    /// Returns the number of parts.
     pub fn num_segments(&self) -> usize
         ensures { result ≡ self.now.num_segments }
     {
         self.num_segments
     }
 
-    /// How long after its write a value lives.
+    /// Returns how long a value lives after it was written.
     pub fn time_to_live(&self) -> Option<Duration>
         ensures { result ≡ self.now.time_to_live }
     {
         self.time_to_live
     }
 
-    /// How long after its last use a value lives.
+    /// Returns how long a value lives after its last use.
     pub fn time_to_idle(&self) -> Option<Duration>
         ensures { result ≡ self.now.time_to_idle }
     {

@@ -5,37 +5,46 @@ ghost use Rattle.engine_reference.specs.RunLaws.Points.{SizeHasPoint, CallsStayI
 ghost use Rattle.engine_reference.specs.RunLaws.Sweeping.{RunsLeaveOrder, UncutRunsLeaveNoneDue, UncutRunsStayTimely, LookingAtAllSweeps, CallsStayTimely};
 ghost use Rattle.engine_reference.specs.RunLaws.Showing.{OnlyWritesShow, CallsKeepApart};
 
-/// Where tickets were sent in the order in which they were made, each removal within a run is just: told `Expired` of an entry whose deadline has come, `Explicit` of one that is covered, and `Size` of one that has a *point* (`size_has_point`); and what stays stood there before it.
+/// If tickets were sent in the order in which they were made, each removal within a run is justified: reported as `Expired` for an entry
+/// whose deadline has come, as `Explicit` for one that is covered, and as `Size` for one that has a *point* (`size_has_point`); and what
+/// stays was there before it.
 pub fn run_tells_justly<K, V, P, S, R>()
     ensures { RunTellsJustly K V P S R }
 {}
 
-/// Where tickets were sent in the order in which they were made, each removal for weight within a run has a capacity and a *point*: a write that was in the queue as the run began, made not before the last write of the removed record, right after which all that was held weighed more than the capacity.
+/// If tickets were sent in the order in which they were made, each removal for weight within a run has a capacity and a *point*: a write
+/// that was in the queue as the run began, made not before the last write of the removed record, right after which everything held weighed
+/// more than the capacity.
 pub fn size_has_point<K, V, P, S, R>()
     ensures { SizeHasPoint K V P S R }
 {}
 
-/// An empty cache is in order, and each call keeps it so, where the ticket that is sent is the oldest.
+/// An empty cache is in order, and each call keeps it so, if the ticket that is sent is the oldest.
 pub fn calls_stay_in_order<K, V, P, S, R>()
     ensures { CallsStayInOrder K V P S R }
 {}
 
-/// An uncut run that began with all tickets sent leaves a cache in order, where a cache of capacity 0 has no records.
+/// An uncut run that began with all tickets sent leaves a cache in order, if a cache of capacity 0 has no records.
 pub fn runs_stay_in_order<K, V, P, S, R>()
     ensures { RunsStayInOrder K V P S R }
 {}
 
-/// From wherever in a run all that was pending is applied and nothing that is held is dead or covered, what the rest of the run takes is the shortest front of the settled records of the access list that reaches the excess; it is told `Size`, in this order, and nothing else is told.
+/// From any point in a run at which everything pending is applied and nothing held is expired or covered, what the rest of the run removes
+/// is the shortest front of the settled records of the access list that reaches the excess; it is reported as `Size`, in this order, and
+/// nothing else is reported.
 pub fn runs_evict_shortest_front<K, V, P, S, R>()
     ensures { RunsEvictShortestFront K V P S R }
 {}
 
-/// A run leaves the write list in order of steps and moments, where the writes of a record are applied in the order in which they were made; whichever tickets wait.
+/// A run leaves the write list in order of steps and moments, if the writes of a record are applied in the order in which they were made;
+/// whichever tickets wait.
 pub fn runs_leave_order<K, V, P, S, R>()
     ensures { RunsLeaveOrder K V P S R }
 {}
 
-/// After an uncut run none is at or past its write plus the live time, none is covered by a clear, and none has an own expiration in an earlier tick; nor is any 300 milliseconds or more past its last use plus the idle time, where the access list has none that was used so long before one in front of it. Moments never fell or passed 2^63 - 1, and each ticket was sent before the next write or run.
+/// After an uncut run, nothing is at or past its write plus the live time, covered by a clear, or has an own expiration in an earlier tick;
+/// nor is anything 300 milliseconds or more past its last use plus the idle time, if no record on the access list was used that long before
+/// one in front of it. The premises: moments never fell or passed 2^63 - 1, and each ticket was sent before the next write or run.
 pub fn uncut_runs_leave_none_due<K, V, P, S, R>()
     ensures { UncutRunsLeaveNoneDue K V P S R }
 {}
@@ -45,22 +54,24 @@ pub fn uncut_runs_stay_timely<K, V, P, S, R>()
     ensures { UncutRunsStayTimely K V P S R }
 {}
 
-/// A run that began with all tickets sent and leaves nothing dead or covered has looked at times and clears as an uncut run does.
+/// A run that began with all tickets sent and leaves nothing expired or covered has looked at times and clears as an uncut run does.
 pub fn looking_at_all_sweeps<K, V, P, S, R>()
     ensures { LookingAtAllSweeps K V P S R }
 {}
 
-/// An empty cache is timely, and each call at a moment and a step not before the last keeps it so, where its ticket is sent at once.
+/// An empty cache is timely, and each call at a moment and a step not before the last keeps it so, if its ticket is sent at once.
 pub fn calls_stay_timely<K, V, P, S, R>()
     ensures { CallsStayTimely K V P S R }
 {}
 
-/// Nothing becomes visible but by a write of its key: a write changes no look-up of another key, a removal and a look-up show nothing that was not visible, and room, notices and what is told change no look-up. (`engine_reference` has the same of sending, clears, predicates and runs.)
+/// Nothing becomes visible except by a write of its key: a write changes no look-up of another key, a removal and a look-up make nothing
+/// visible that was not, and room, notices and reports change no look-up. (`engine_reference::laws` has the same for sending, clears,
+/// predicates and runs.)
 pub fn only_writes_show<K, V, P, S, R>()
     ensures { OnlyWritesShow K V P S R }
 {}
 
-/// No call makes two entries whose keys compare alike.
+/// No call makes two entries whose keys compare equal.
 pub fn calls_keep_apart<K, V, P, S, R>()
     ensures { CallsKeepApart K V P S R }
 {}

@@ -1,4 +1,4 @@
-//! Maintenance that a housekeeper makes run.
+//! Maintenance that a housekeeper runs.
 ghost use Rattle.engine_reference.specs.Asking.{answers_of};
 ghost use Rattle.engine_reference.specs.Runs.{RunsToEnd};
 

@@ -1,14 +1,15 @@
 //! Look-ups that are uses, and their second half.
-ghost use Rattle.std.specs.Prelude.{◌≡◌, ◌<◌, ℕ, Option, length, IfOk, OnOk, OnErr, option_map};
+ghost use Rattle.std.specs.Prelude.{◌≡◌, ◌<◌, Option, false, IfOk, OnOk, OnErr};
 ghost use Rattle.engine_reference.specs.Asking.{answers_of};
 ghost use Rattle.engine_reference.specs.Rules.Hashing.{hash_of_key};
-ghost use Rattle.engine_reference.specs.Calls.{LooksUp, with_read};
-ghost use Rattle.engine_reference.specs.Scanning.{NotesLookUp, past};
-ghost use Rattle.engine_reference.specs.Visible.{visible_record, visible_value};
-ghost use Rattle.engine_reference.specs.declared.data.Record.{Record};
+ghost use Rattle.engine_reference.specs.Calls.{LooksUp};
+ghost use Rattle.engine_reference.specs.Scanning.{NotesLookUp};
+ghost use Rattle.engine_reference.specs.Visible.{visible_value};
+ghost use Rattle.moka_engine.specs.Showing.{IsShown};
 
 use crate::cache::BaseCache;
 use crate::noting::note_read;
+use crate::showing::{show, value_in};
 use engine_calls::{clone_found, find, find_unless};
 use engine_reference::{Names, Rules};
 use policy_base::Instant;
@@ -16,7 +17,8 @@ use std::alloc::AllocError;
 use std::hash::{BuildHasher, Hash, Hasher};
 
 impl<K: Eq + Hash, V, S: BuildHasher, R: Rules<K, V>> BaseCache<K, V, S, R> {
-    /// The second half of a look-up, which is not refused: maintenance runs where it is due, and then the read of what was visible is noted. Where that was passed over it is not used, and counts as not found.
+    /// The second half of a look-up, which is never refused: runs maintenance if it is due, and then notes the read of what was visible. If
+    /// that was passed over, it is not used, and counts as not found.
     pub fn note_look_up<Q: Names<K>>(&mut self, key: &Q, hash: u64, now: Instant, ignored: bool)
     where
         K: Drop,
@@ -28,7 +30,8 @@ impl<K: Eq + Hash, V, S: BuildHasher, R: Rules<K, V>> BaseCache<K, V, S, R> {
         note_read(&mut self.tables, found, hash, now);
     }
 
-    /// A clone of the visible value of a key, of which it is a use. Maintenance runs where it is due, after the look.
+    /// Returns a clone of the visible value of a key, which counts as a use of it. Maintenance runs if it is due, after the value is looked
+    /// up.
     pub fn get_with_hash<Q: Names<K>>(
         &mut self,
         key: &Q,
@@ -48,5 +51,32 @@ impl<K: Eq + Hash, V, S: BuildHasher, R: Rules<K, V>> BaseCache<K, V, S, R> {
         let value = clone_found(&self.tables, found)?;
         note_read(&mut self.tables, found, hash, now);
         Ok(value)
+    }
+
+    /// A look-up without a clone: `see` is handed the visible value of a key, if there is one, and what is behind `output`. Where it answers `Ok` this is a use of the value, and maintenance runs before it where it is due. An `Err` changes nothing.
+    pub fn look_up_with_hash<
+        Q: Names<K>,
+        O,
+        T,
+        E,
+        F: FnOnce(Option<&V>, &mut O) -> Result<T, E> + Drop,
+    >(&mut self, key: &Q, hash: u64, now: Instant, output: &mut O, see: F) -> Result<T, E>
+    where
+        K: Drop,
+        V: Drop,
+        requires hashed { hash ≡ hash_of_key S.Hasher.finish S.Hasher.write S.build_hasher K.hash_input self.old.hasher (Q.named_key key.now) }
+        requires callable { F.IsAlwaysCallable see }
+        ensures shown { IsShown F.FnOnce see (visible_value (answers_of R.weight_of R.created R.read R.updated R.covers) K.eq self.old now (Q.named_key key.now)) output.old result output.new }
+        ensures used { OnOk result (NotesLookUp (answers_of R.weight_of R.created R.read R.updated R.covers) K.eq (Q.named_key key.now) hash now false self.old self.new) }
+        ensures err { OnErr result (self.new ≡ self.old) }
+    {
+        let found = find(&self.tables, key, hash, now.as_nanos());
+        match show(value_in(&self.tables, found), output, see) {
+            Ok(answer) => {
+                note_read(&mut self.tables, found, hash, now);
+                Ok(answer)
+            }
+            Err(error) => Err(error),
+        }
     }
 }

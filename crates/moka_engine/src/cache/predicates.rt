@@ -1,4 +1,4 @@
-//! Predicates that invalidate what they cover.
+//! Predicates that invalidate the values that they match.
 ghost use Rattle.std.specs.Prelude.{◌≡◌, ◌+◌, ◌-◌, ◌<◌, ◌≤◌, ◌^◌, ◌⊎◌, true, false, IfOk, IfErr, OnOk, OnErr};
 ghost use Rattle.std.specs.Result.{IsErrOf};
 ghost use Rattle.engine_calls.specs.Refusing.{IsCauseToRegister};
@@ -12,7 +12,7 @@ use rand_core::Rng;
 use std::hash::{BuildHasher, Hash};
 
 impl<K: Eq + Hash, V, S: BuildHasher, R: Rules<K, V>> BaseCache<K, V, S, R> {
-    /// Registers a predicate under an identifier that is drawn, and answers the identifier. It covers what was written at earlier steps.
+    /// Registers a predicate under an identifier that is drawn, and returns the identifier. It covers what was written at earlier steps.
     pub fn invalidate_entries_if<G: Rng>(
         &mut self,
         predicate: R::Predicate,
@@ -29,7 +29,7 @@ impl<K: Eq + Hash, V, S: BuildHasher, R: Rules<K, V>> BaseCache<K, V, S, R> {
         invalidate(&mut self.tables, predicate, step, generator)
     }
 
-    /// The first half of `invalidate_entries_if`: draws the identifier and makes room, which `commit_predicate` takes.
+    /// The first half of `invalidate_entries_if`: draws the identifier and makes room, which `commit_predicate` uses.
     pub fn prepare_predicate<G: Rng>(&mut self, generator: &mut G) -> Result<u128, Refusal>
         ensures ok { OnOk result (self.new ≡ with_room self.old) }
         ensures drawn { IfOk result (λ id. Draws (G.stream generator.old) (G.stream generator.new) (is_registered self.old.predicates) id) }
@@ -41,7 +41,7 @@ impl<K: Eq + Hash, V, S: BuildHasher, R: Rules<K, V>> BaseCache<K, V, S, R> {
         prepare(&mut self.tables, generator)
     }
 
-    /// Makes room for a predicate, which `commit_predicate` takes, and draws nothing.
+    /// Makes room for a predicate, which `commit_predicate` uses, and draws nothing.
     pub fn reserve_predicate(&mut self) -> Result<(), Refusal>
         ensures ok { OnOk result (self.new ≡ with_room self.old) }
         ensures err { OnErr result (self.new ≡ self.old) }
@@ -63,7 +63,7 @@ impl<K: Eq + Hash, V, S: BuildHasher, R: Rules<K, V>> BaseCache<K, V, S, R> {
         draw_id(&self.tables, generator)
     }
 
-    /// The second half, which is not refused: registers a predicate under its identifier, in the room that was made for it.
+    /// The second half, which is never refused: registers a predicate under its identifier, in the room that was made for it.
     pub fn commit_predicate(&mut self, id: u128, predicate: R::Predicate, step: u64)
         requires { 0 < self.old.reserved }
         ensures { self.new ≡ registered (record { id = id; predicate = predicate; step = step }) self.old }
@@ -71,7 +71,7 @@ impl<K: Eq + Hash, V, S: BuildHasher, R: Rules<K, V>> BaseCache<K, V, S, R> {
         commit(&mut self.tables, id, predicate, step);
     }
 
-    /// Gives up the room of one write or predicate, where `prepare_predicate` or `reserve_write` made it and nothing takes it.
+    /// Gives up the room of one write or predicate that `prepare_predicate` or `reserve_write` made and nothing uses.
     pub fn release_room(&mut self)
         requires { 0 < self.old.reserved }
         ensures { self.new ≡ without_room self.old }

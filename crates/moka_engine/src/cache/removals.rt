@@ -12,8 +12,8 @@ use engine_reference::{Entry, Names, Refusal, Rules};
 use std::hash::{BuildHasher, Hash, Hasher};
 
 impl<K: Eq + Hash, V, S: BuildHasher, R: Rules<K, V>> BaseCache<K, V, S, R> {
-    /// Removes a key, whether its deadline has come or not, and answers its entry and the ticket of the removal.
-    /// Where removals are told, `notify_invalidate` is to tell the entry.
+    /// Removes a key, whether its deadline has come or not, and returns its entry and the ticket of the removal.
+    /// If removals are reported, pass the entry to `notify_invalidate`.
     pub fn remove_entry<Q: Names<K>>(
         &mut self,
         key: &Q,
@@ -38,7 +38,8 @@ impl<K: Eq + Hash, V, S: BuildHasher, R: Rules<K, V>> BaseCache<K, V, S, R> {
         }
     }
 
-    /// The first half of `remove_entry`: clones of the key and value that are held, and room for the removal, and for its notice where removals are told.
+    /// The first half of `remove_entry`: clones the key and value that are held, and makes room for the removal, and for its notice if
+    /// removals are reported.
     pub fn prepare_removal<Q: Names<K>>(
         &mut self,
         key: &Q,
@@ -59,8 +60,10 @@ impl<K: Eq + Hash, V, S: BuildHasher, R: Rules<K, V>> BaseCache<K, V, S, R> {
         prepare_removal(&mut self.tables, key, hash)
     }
 
-    /// The second half, which is not refused: removes the key in the room that was made for it, and answers its entry as it is now and the ticket of the removal.
-    /// The key and value are those of the first half. A key that maintenance took meanwhile is not there: nothing changes, and the room is to be given up by `release_room`.
+    /// The second half, which is never refused: removes the key in the room that was made for it, and returns its entry as it is now and
+    /// the ticket of the removal.
+    /// The key and value are those of the first half. If maintenance removed the key in the meantime, nothing changes, and `release_room`
+    /// has to give up the room.
     pub fn remove_reserved<Q: Names<K>>(
         &mut self,
         key: &Q,

@@ -16,14 +16,15 @@ use std::alloc::AllocError;
 use std::hash::{BuildHasher, Hash, Hasher};
 
 impl<K: Eq + Hash, V, S: BuildHasher, R: Rules<K, V>> BaseCache<K, V, S, R> {
-    /// How many segments `keys` has: one.
+    /// Returns the number of segments that `keys` has: one.
     pub fn num_cht_segments(&self) -> usize
         ensures { result ≡ 1 }
     {
         1
     }
 
-    /// Clones of the keys of all that is held in the segment, dead and covered values among them, or `None` where there is no such segment.
+    /// Returns clones of the keys of everything that is held in the segment, including expired and invalidated values, or `None` if there
+    /// is no such segment.
     pub fn keys(&self, segment: usize) -> Result<Option<Vec<K>>, AllocError>
     where
         K: Clone + Drop,
@@ -37,14 +38,14 @@ impl<K: Eq + Hash, V, S: BuildHasher, R: Rules<K, V>> BaseCache<K, V, S, R> {
         Ok(Some(found))
     }
 
-    /// How many keys have a visible value. It is no use of any; it takes no memory, and looks at every record.
+    /// Returns how many keys have a visible value. This does not count as a use of any; it allocates nothing, and looks at every record.
     pub fn count_visible(&self, now: Instant) -> usize
         ensures { result ≡ length (visible_keys (answers_of R.weight_of R.created R.read R.updated R.covers) K.eq self.now now) }
     {
         self.tables.count_visible(now.as_nanos())
     }
 
-    /// A clone of the visible value of a key. It is no use of it.
+    /// Returns a clone of the visible value of a key. This does not count as a use of it.
     pub fn scanning_get(&self, key: &K, now: Instant) -> Result<Option<V>, AllocError>
     where
         V: Clone,
@@ -55,7 +56,7 @@ impl<K: Eq + Hash, V, S: BuildHasher, R: Rules<K, V>> BaseCache<K, V, S, R> {
         self.get_with_hash_without_recording(key, hash, now)
     }
 
-    /// The visible value of a key, without a clone. It is no use of it.
+    /// Returns the visible value of a key, without a clone. This does not count as a use of it.
     pub fn peek<Q: Names<K>>(&self, key: &Q, hash: u64, now: Instant) -> Option<&V>
         requires hashed { hash ≡ hash_of_key S.Hasher.finish S.Hasher.write S.build_hasher K.hash_input self.now.hasher (Q.named_key key.now) }
         ensures { option_map (λ value. value.now) result ≡ visible_value (answers_of R.weight_of R.created R.read R.updated R.covers) K.eq self.now now (Q.named_key key.now) }
@@ -66,7 +67,7 @@ impl<K: Eq + Hash, V, S: BuildHasher, R: Rules<K, V>> BaseCache<K, V, S, R> {
         }
     }
 
-    /// A clone of the value that is held under a key, whether it is visible or not. It is no use of it.
+    /// Returns a clone of the value that is held under a key, whether it is visible or not. This does not count as a use of it.
     pub fn held_value_with_hash<Q: Names<K>>(
         &self,
         key: &Q,
@@ -81,7 +82,7 @@ impl<K: Eq + Hash, V, S: BuildHasher, R: Rules<K, V>> BaseCache<K, V, S, R> {
         clone_value(held(&self.tables, key, hash))
     }
 
-    /// A clone of the key that is stored for a key, whether its value is visible or not.
+    /// Returns a clone of the key that is stored for a key, whether its value is visible or not.
     pub fn get_key_with_hash<Q: Names<K>>(
         &self,
         key: &Q,
@@ -96,7 +97,8 @@ impl<K: Eq + Hash, V, S: BuildHasher, R: Rules<K, V>> BaseCache<K, V, S, R> {
         clone_key(held(&self.tables, key, hash))
     }
 
-    /// A clone of the visible value of a key, of which it is a use. A value of which `ignore_if` says yes counts as not found, and is not used; no other value is asked about.
+    /// Returns a clone of the visible value of a key, which counts as a use of it. A value for which `ignore_if` returns true counts as not
+    /// found, and is not used; `ignore_if` is called on no other value.
     pub fn get_with_hash_and_ignore_if<Q: Names<K>, F: FnOnce(&V) -> bool + Drop>(
         &mut self,
         key: &Q,

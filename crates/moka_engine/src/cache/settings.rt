@@ -1,4 +1,4 @@
-//! What a cache was made with, what it is called, and the hash of a key.
+//! The settings and the name of a cache, and the hash of a key.
 ghost use Rattle.std.specs.Prelude.{◌≡◌, ◌↔◌, IsTrue, Some, option_map};
 ghost use Rattle.engine_reference.specs.Rules.Hashing.{hash_of_key};
 
@@ -7,21 +7,21 @@ use engine_reference::Rules;
 use std::hash::{BuildHasher, Hash, Hasher};
 
 impl<K: Eq + Hash, V, S: BuildHasher, R: Rules<K, V>> BaseCache<K, V, S, R> {
-    /// Whether the cache is to hold nothing: its capacity is 0. Its owner then writes nothing.
+    /// Returns whether the cache stores nothing, because its capacity is 0. Its owner should not write then.
     pub fn is_map_disabled(&self) -> bool
         ensures { IsTrue result ↔ (self.now.settings.capacity ≡ Some 0) }
     {
         matches!(self.tables.settings().capacity, Some(0))
     }
 
-    /// What the cache is called, if it was given a name.
+    /// Returns the name of the cache, if it has one.
     pub fn name(&self) -> Option<&str>
         ensures name { option_map (λ text. text.now) result ≡ self.now.name }
     {
         self.tables.name()
     }
 
-    /// The hash of a key, as the cache's hasher has it.
+    /// Returns the hash of a key by the cache's hasher.
     pub fn hash(&self, key: &K) -> u64
         ensures { result ≡ hash_of_key S.Hasher.finish S.Hasher.write S.build_hasher K.hash_input self.now.hasher key.now }
     {

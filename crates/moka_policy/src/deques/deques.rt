@@ -35,7 +35,7 @@ impl<K> Model for Deques<K> {
 impl<K> Deques<K> {
     ghost use Rattle.moka_policy.specs.Deques.Lending.{lends_queue};
 
-    /// Empty queues, which take no memory.
+    /// Creates empty queues. This allocates nothing.
     pub fn default(alloc: Global) -> Self
         ensures { (region : TheRegion) → IsNewQueue region (queue_of region result) }
     {
@@ -48,7 +48,7 @@ impl<K> Deques<K> {
         }
     }
 
-    /// The queue of a region; that of `Other` is the one in order of writes.
+    /// Returns the queue of a region; that of `Other` is the one in order of writes.
     pub fn select(&self, region: CacheRegion) -> &Deque<KeyHashDate>
         ensures { result.now ≡ queue_of region self.now }
     {
@@ -60,7 +60,7 @@ impl<K> Deques<K> {
         }
     }
 
-    /// The queue of a region, to be changed. (The Rust gives the queue in order of writes beside it.)
+    /// Returns the queue of a region for changes. (`moka` returns the queue in order of writes with it.)
     pub fn select_mut(&mut self, region: CacheRegion) -> &mut Deque<KeyHashDate>
         ensures* lends { sem 𝓛 (lends_queue K.row region self.entry result) }
         ensures value { result.now ≡ queue_of region self.old }
@@ -73,28 +73,28 @@ impl<K> Deques<K> {
         }
     }
 
-    /// How many entries the queue of a region has.
+    /// Returns the number of entries in the queue of a region.
     pub fn len(&self, region: CacheRegion) -> usize
         ensures { result ≡ length (queue_of region self.now).nodes }
     {
         self.select(region).len()
     }
 
-    /// The first entry of a region.
+    /// Returns the first entry of a region.
     pub fn peek_front(&self, region: CacheRegion) -> Option<&KeyHashDate>
         ensures { option_copied result ≡ option_map (λ n. n.element) (head (queue_of region self.now).nodes) }
     {
         self.select(region).peek_front()
     }
 
-    /// The last entry of a region.
+    /// Returns the last entry of a region.
     pub fn peek_back(&self, region: CacheRegion) -> Option<&KeyHashDate>
         ensures { option_copied result ≡ option_map (λ n. n.element) (final (queue_of region self.now).nodes) }
     {
         self.select(region).peek_back()
     }
 
-    /// Takes the first entry of a region out of its queue. What the entry knows of its node is stale from then on.
+    /// Removes the first entry of a region from its queue. What the entry knows of its node is stale from then on.
     pub fn pop_front(&mut self, region: CacheRegion) -> Option<KeyHashDate>
         ensures value { result ≡ option_map (λ n. n.element) (head (queue_of region self.old).nodes) }
         ensures leaves { MatchOption (head (queue_of region self.old).nodes) (self.new ≡ self.old) (λ n. Changes region (λ before after. Leaves before after n.id) self.old self.new) }
@@ -102,8 +102,8 @@ impl<K> Deques<K> {
         self.select_mut(region).pop_front()
     }
 
-    /// The next entry of the walk through a region, from the front on; `None` past the last one, and then from the
-    /// front again.
+    /// Returns the next entry of the walk through a region, from the front on; after the last one `None`, and then the
+    /// first one again.
     pub fn next(&mut self, region: CacheRegion) -> Option<KeyHashDate>
         ensures value { result ≡ option_map (λ n. n.element) (head (to_give (queue_of region self.old).cursor (queue_of region self.old).nodes)) }
         ensures cursor { Changes region (λ before after. after ≡ record before { cursor = cursor_past (to_give before.cursor before.nodes) }) self.old self.new }
@@ -111,14 +111,14 @@ impl<K> Deques<K> {
         self.select_mut(region).next().copied()
     }
 
-    /// Starts the walk through a region again.
+    /// Restarts the walk through a region.
     pub fn reset_cursor(&mut self, region: CacheRegion)
         ensures { Changes region (λ before after. after ≡ record before { cursor = Cursor.Unstarted }) self.old self.new }
     {
         self.select_mut(region).reset_cursor();
     }
 
-    /// Makes room for `n` pushes on each queue, which then need no memory.
+    /// Reserves room for `n` pushes on each queue, which then allocate nothing.
     pub fn reserve(&mut self, n: usize) -> Result<(), ReserveError>
         ensures room { OnOk result (HaveRoom n self.new) }
         ensures had_room { HaveRoom n self.old → IsOk result }
@@ -132,7 +132,7 @@ impl<K> Deques<K> {
         both(both(first, second), both(third, fourth))
     }
 
-    /// Puts an entry behind all others of a region other than `Other`, and lets it know its node; or hands it back.
+    /// Appends an entry to a region other than `Other`, and stores the name of its node in it; or returns it in the error.
     pub fn push_back_ao(
         &mut self,
         region: CacheRegion,
@@ -156,7 +156,7 @@ impl<K> Deques<K> {
         }
     }
 
-    /// Puts an entry behind all others in order of writes, and lets it know its node; or hands it back.
+    /// Appends an entry to the queue in order of writes, and stores the name of its node in it; or returns it in the error.
     pub fn push_back_wo(
         &mut self,
         node: KeyHashDate,
@@ -178,7 +178,7 @@ impl<K> Deques<K> {
         }
     }
 
-    /// Puts an entry behind all others of its region. One that stands in none stays.
+    /// Moves an entry to the back of its region. An entry without a node stays as it is.
     pub fn move_to_back_ao(&mut self, entry: usize, entries: &Slab<Slot<K>>) -> Result<(), Stale>
         ensures found { IsOk result ↔ HasAccessNode (access_node entries.now entry) self.old }
         ensures moves { OnOk result (MovesAccessNode (access_node entries.now entry) self.old self.new) }
@@ -190,7 +190,7 @@ impl<K> Deques<K> {
         }
     }
 
-    /// Puts a node behind all others of its region.
+    /// Moves a node to the back of its region.
     fn move_node_ao(&mut self, id: NodeId) -> Result<(), Stale>
         ensures found { IsOk result ↔ IsSome (find id (access_nodes id.queue self.old)) }
         ensures moves { OnOk result (Changes id.queue (λ before after. MovesToBack before after id) self.old self.new) }
@@ -204,7 +204,7 @@ impl<K> Deques<K> {
         }
     }
 
-    /// Puts an entry behind all others in order of writes. One that stands nowhere there stays.
+    /// Moves an entry to the back in order of writes. An entry without a node there stays as it is.
     pub fn move_to_back_wo(&mut self, entry: usize, entries: &Slab<Slot<K>>) -> Result<(), Stale>
         ensures found { IsOk result ↔ HasNode (write_node entries.now entry) self.old.write_order }
         ensures moves { OnOk result (Changes CacheRegion.Other (MovesNode (write_node entries.now entry)) self.old self.new) }
@@ -213,7 +213,7 @@ impl<K> Deques<K> {
         move_node(&mut self.write_order, write_node(entries, entry))
     }
 
-    /// Puts an entry behind all others of this queue, by its node in order of use. One that stands nowhere stays.
+    /// Moves an entry to the back of this queue, by its node in order of use. An entry without one stays as it is.
     pub fn move_to_back_ao_in_deque(
         queue: &mut Deque<KeyHashDate>,
         entry: usize,
@@ -226,7 +226,7 @@ impl<K> Deques<K> {
         move_node(queue, access_node(entries, entry))
     }
 
-    /// Puts an entry behind all others of this queue, by its node in order of writes. One that stands nowhere stays.
+    /// Moves an entry to the back of this queue, by its node in order of writes. An entry without one stays as it is.
     pub fn move_to_back_wo_in_deque(
         queue: &mut Deque<KeyHashDate>,
         entry: usize,
@@ -239,7 +239,7 @@ impl<K> Deques<K> {
         move_node(queue, write_node(entries, entry))
     }
 
-    /// Takes an entry out of its region, and lets it forget its node. One that stands in none stays.
+    /// Removes an entry from its region, and the name of the node from the entry. An entry without a node stays as it is.
     pub fn unlink_ao(&mut self, entry: usize, entries: &mut Slab<Slot<K>>) -> Result<(), Stale>
         ensures found { IsOk result ↔ HasAccessNode (access_node entries.old entry) self.old }
         ensures leaves { OnOk result (LosesAccessNode (access_node entries.old entry) self.old self.new) }
@@ -258,8 +258,8 @@ impl<K> Deques<K> {
         }
     }
 
-    /// Takes an entry out of this queue by its node in order of writes, and lets it forget that. One that stands
-    /// nowhere stays.
+    /// Removes an entry from this queue by its node in order of writes, and the name of that node from the entry. An entry
+    /// without one stays as it is.
     pub fn unlink_wo(
         queue: &mut Deque<KeyHashDate>,
         entry: usize,
@@ -282,8 +282,8 @@ impl<K> Deques<K> {
         }
     }
 
-    /// Takes an entry out of this queue by its node in order of use, and lets it forget that. One that stands nowhere
-    /// stays.
+    /// Removes an entry from this queue by its node in order of use, and the name of that node from the entry. An entry
+    /// without one stays as it is.
     pub fn unlink_ao_from_deque(
         queue: &mut Deque<KeyHashDate>,
         entry: usize,
@@ -306,7 +306,7 @@ impl<K> Deques<K> {
         }
     }
 
-    /// Takes a node out of its region. What its entry knows of it is stale from then on.
+    /// Removes a node from its region. What its entry knows of it is stale from then on.
     pub fn unlink_node_ao(&mut self, id: NodeId) -> Result<(), Stale>
         ensures found { IsOk result ↔ IsSome (find id (access_nodes id.queue self.old)) }
         ensures leaves { OnOk result (Changes id.queue (λ before after. Leaves before after id) self.old self.new) }
@@ -320,7 +320,7 @@ impl<K> Deques<K> {
         }
     }
 
-    /// Takes a node out of this queue. What its entry knows of it is stale from then on.
+    /// Removes a node from this queue. What its entry knows of it is stale from then on.
     pub fn unlink_node_wo(queue: &mut Deque<KeyHashDate>, id: NodeId) -> Result<(), Stale>
         ensures found { IsOk result ↔ IsSome (find id queue.old.nodes) }
         ensures leaves { OnOk result (Leaves queue.old queue.new id) }
@@ -330,7 +330,7 @@ impl<K> Deques<K> {
     }
 }
 
-/// Puts a node, if there is one, behind all others of its queue.
+/// Moves a node, if there is one, to the back of its queue.
 fn move_node(queue: &mut Deque<KeyHashDate>, node: Option<NodeId>) -> Result<(), Stale>
     ensures found { IsOk result ↔ HasNode node queue.old }
     ensures moves { OnOk result (MovesNode node queue.old queue.new) }
@@ -342,7 +342,7 @@ fn move_node(queue: &mut Deque<KeyHashDate>, node: Option<NodeId>) -> Result<(),
     }
 }
 
-/// The refusal of two, want of serials before want of memory.
+/// Combines two refusals: a lack of serials comes before a lack of memory.
 fn both(
     first: Result<(), ReserveError>,
     second: Result<(), ReserveError>,

@@ -43,7 +43,7 @@ pub(crate) fn find(row: &Row, slots: &Cells<Instant, u64>, id: NodeId) -> Option
     }
 }
 
-/// Puts a timer at its place. There is room.
+/// Inserts a timer at its place. There must be room.
 pub(crate) fn add(row: &mut Row, slots: &mut Cells<Instant, u64>, place: Place)
     requires arranged { IsArranged (taken row.old.places) slots.old }
     requires place { length (taken row.old.places) < row.old.capacity }
@@ -58,7 +58,7 @@ pub(crate) fn add(row: &mut Row, slots: &mut Cells<Instant, u64>, place: Place)
     row.put(place);
 }
 
-/// Takes a timer out.
+/// Removes a timer.
 pub(crate) fn take(row: &mut Row, slots: &mut Cells<Instant, u64>, k: usize) -> Timer
     requires arranged { IsArranged (taken row.old.places) slots.old }
     requires taken { IsTaken row.old.places k }
@@ -74,7 +74,7 @@ pub(crate) fn take(row: &mut Row, slots: &mut Cells<Instant, u64>, k: usize) -> 
     timer
 }
 
-/// Puts a timer at another time. It keeps its name.
+/// Moves a timer to another time. It keeps its name.
 pub(crate) fn move_timer(row: &mut Row, slots: &mut Cells<Instant, u64>, k: usize, due: Due)
     requires arranged { IsArranged (taken row.old.places) slots.old }
     requires taken { IsTaken row.old.places k }

@@ -11,18 +11,18 @@ use crate::timers::wheel::TimerWheel;
 use policy_base::{Instant, Slot};
 use slab::Slab;
 
-/// What an advance gives.
+/// An event of an advance.
 #[derive(Clone, Copy, Debug, PartialEq, Eq)]
 pub enum TimerEvent {
     /// A timer left, since its entry's time has come.
     Expired(TimerNode),
-    /// A timer stays at a later time.
+    /// A timer was moved to a later time.
     Rescheduled(()),
-    /// Never given.
+    /// Never returned.
     Descheduled,
 }
 
-/// The number of the 2^30 nanoseconds in which a moment lies, from the making on.
+/// The number of the tick, 2^30 nanoseconds long, in which a moment is, counted from the moment of creation.
 fn tick_of(origin: Instant, moment: Instant) -> u64
     ensures { result ≡ tick origin moment }
 {
@@ -30,7 +30,7 @@ fn tick_of(origin: Instant, moment: Instant) -> u64
 }
 
 impl<K> TimerWheel<K> {
-    /// Gives, one by one, the timers that are due at `now`, where that lies in a later tick than the wheel's moment.
+    /// Returns, one by one, the timers that are due at `now`, if that is in a later tick than the wheel's moment.
     pub fn advance<'a>(
         &'a mut self,
         now: Instant,
@@ -54,7 +54,7 @@ impl<K> TimerWheel<K> {
     }
 }
 
-/// The events of one advance. Dropped before its end it leaves the wheel's moment as it was.
+/// The events of one advance. If it is dropped before its end, the wheel's moment stays as it was.
 #[derive(Drop)]
 pub struct TimerEventsIter<'a, K> {
     wheel: &'a mut TimerWheel<K>,
@@ -64,7 +64,7 @@ pub struct TimerEventsIter<'a, K> {
 }
 
 impl<'a, K> TimerEventsIter<'a, K> {
-    /// The next event.
+    /// Returns the next event.
     pub fn next(&mut self) -> Option<TimerEvent>
         ensures same_wheel { self.new.wheel.ghost_name ≡ self.old.wheel.ghost_name }
         ensures same_entries { self.new.entries.ghost_name ≡ self.old.entries.ghost_name }
@@ -97,7 +97,7 @@ impl<'a, K> TimerEventsIter<'a, K> {
     }
 }
 
-/// Takes out the first timer where its entry's time has come, and else puts it there.
+/// Removes the first timer if its entry's time has come, and otherwise moves it to that time.
 fn settle<K>(
     wheel: &mut TimerWheel<K>,
     entries: &mut Slab<Slot<K>>,

@@ -1,4 +1,4 @@
-//! What a whole advance gives.
+//! What a whole advance returns.
 ghost use Rattle.std.specs.Prelude.{◌≡◌, ℕ, ◌<◌, true, nat_lt, Some, None, OnSome, is_some, List, if◌then◌else◌};
 ghost use Rattle.std.specs.Bool.{OnTrue, OnFalse};
 ghost use Rattle.policy_queue.specs.Timers.Timers.{tick, Keeps};
@@ -29,8 +29,8 @@ pub fn next_event<K>(
     events.next()
 }
 
-/// An advance that is run to its end gives as expired just the timers that are due, each once, where each was placed
-/// at its entry's time; whatever the premises, it gives none early.
+/// An advance that runs to its end returns as expired exactly the timers that are due, each once, if each was placed
+/// at its entry's time; whatever the premises, it returns none early.
 pub fn advances_give_the_due<K>(entries: &Slab<Slot<K>>)
     ensures { (now : ℕ) (before after : List TheTimer) (events : List TheEvent) → Advances events entries.now now before after → Drains entries.now now before after (nodes_of events) }
 {

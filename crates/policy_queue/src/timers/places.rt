@@ -1,4 +1,4 @@
-//! The places of timers: in rising order of their keys, with spare ones between them, so that few move where one comes.
+//! The places of timers: in rising order of their keys, with spare ones between them, so that few move when one is added.
 ghost use Rattle.std.specs.Prelude.{◌≡◌, ◌≢◌, ℕ, ◌+◌, ◌-◌, ◌*◌, ◌^◌, ◌<◌, ◌≤◌, ◌↔◌, true, false, List, [], ◌∷◌, ◌++◌, length, take, drop, IsTrue, MatchOption, IfSome, Some, None, slice_index_or};
 ghost use Rattle.std.specs.List.{All};
 ghost use Rattle.std.specs.Vec.{vec_len, vec_capacity};
@@ -20,14 +20,14 @@ pub(crate) struct Place {
     pub(crate) is_taken: bool,
 }
 
-/// The number by which timers are in order: their times, and then their serials.
+/// The number that orders timers: their times, and then their serials.
 pub(crate) fn key(placed: Instant, serial: u64) -> u128
     ensures { result ≡ key_at placed serial }
 {
     placed.as_nanos() as u128 * 0x1_0000_0000_0000_0000 + serial as u128
 }
 
-/// The timer that stands in a place.
+/// The timer in a place.
 pub(crate) fn timer_in(place: Place) -> Timer
     ensures { result ≡ timer_at place }
 {
@@ -55,7 +55,7 @@ pub(crate) fn spared(place: Place) -> Place
     }
 }
 
-/// How many places come before a key.
+/// The number of places before a key.
 pub(crate) fn lower_bound(places: &[Place], bound: u128) -> usize
     requires { IsSpread places.now }
     ensures within { result ≤ length places.now }
@@ -65,7 +65,7 @@ pub(crate) fn lower_bound(places: &[Place], bound: u128) -> usize
     places.partition_point(|p| key(p.placed, p.serial) < bound)
 }
 
-/// A spare place at most so far from `at`, the nearest.
+/// The nearest spare place at most this far from `at`.
 pub(crate) fn near_spare(places: &[Place], at: usize, most: usize) -> Option<usize>
     requires { at ≤ length places.now }
     ensures { IfSome result (IsSpare places.now) }
@@ -96,7 +96,7 @@ pub(crate) fn first_taken(places: &[Place], from: usize) -> usize
     first
 }
 
-/// Puts a timer at `at`, and those from there up to a spare place one further up.
+/// Puts a timer at `at`, and moves those from there up to a spare place up by one.
 pub(crate) fn shift_up(places: &mut [Place], at: usize, spare: usize, place: Place)
     requires below { at ≤ spare }
     requires within { spare < length places.old }
@@ -107,7 +107,7 @@ pub(crate) fn shift_up(places: &mut [Place], at: usize, spare: usize, place: Pla
     part[0] = place;
 }
 
-/// Puts a timer before `at`, and those from a spare place up to there one further down.
+/// Puts a timer before `at`, and moves those from a spare place up to there down by one.
 pub(crate) fn shift_down(places: &mut [Place], at: usize, spare: usize, place: Place)
     requires above { spare < at }
     requires within { at ≤ length places.old }
@@ -118,7 +118,7 @@ pub(crate) fn shift_down(places: &mut [Place], at: usize, spare: usize, place: P
     part[at - spare - 1] = place;
 }
 
-/// Moves the taken places behind `front` together, to the beginning, and drops all others.
+/// Moves the taken places after `front` together, to the beginning, and drops all others.
 pub(crate) fn compact(places: &mut Vec<Place>, front: usize)
     requires within { front ≤ vec_len places.old }
     requires spread { IsSpread (drop front places.old.items) }
@@ -138,7 +138,7 @@ pub(crate) fn compact(places: &mut Vec<Place>, front: usize)
     places.truncate(filled);
 }
 
-/// Deals the first `held` places out over all, with spare ones evenly between them.
+/// Spreads the first `held` places over all, with spare ones evenly between them.
 pub(crate) fn deal(places: &mut [Place], held: usize)
     requires some { 0 < held }
     requires within { held ≤ length places.old }

@@ -1,4 +1,4 @@
-//! A row of places: timers in rising order of their keys, spare places between them, and room behind the last.
+//! A row of places: timers in rising order of their keys, spare places between them, and room after the last.
 ghost use Rattle.std.specs.Prelude.{◌≡◌, ◌≢◌, ℕ, ◌+◌, ◌-◌, ◌<◌, ◌≤◌, true, false, List, [], ◌∷◌, length, take, drop, MatchOption, Some, None, slice_index_or};
 ghost use Rattle.std.specs.Bool.{OnTrue, OnFalse};
 ghost use Rattle.std.specs.List.{All};
@@ -33,7 +33,7 @@ impl Model for Row {
     ghost invariant = { λ r. IsRow r.front r.places.items };
 }
 
-/// How far a timer may push others, where there are so many places: between the root of their number and twice that.
+/// How far a timer may push others, with this many places: between the square root of their number and twice that.
 fn reach(places: usize) -> usize {
     if places == 0 {
         return 0;
@@ -41,7 +41,7 @@ fn reach(places: usize) -> usize {
     2usize << (places.ilog2() / 2)
 }
 
-/// Whether the timer of this name stands in a place.
+/// Whether the timer with this name is in a place.
 fn is_named(place: Place, id: NodeId) -> bool
     ensures yes { result ≡ true → (place.is_taken ≡ true) × ((timer_at place).id ≡ id) }
     ensures no { result ≡ false → place.is_taken ≡ true → (timer_at place).id ≢ id }
@@ -68,7 +68,7 @@ fn fit(places: &mut [Place], at: usize, spare: usize, place: Place)
 }
 
 impl Row {
-    /// A row without places. It takes no memory.
+    /// Creates a row without places. This allocates nothing.
     pub(crate) fn new(alloc: Global) -> Self
         ensures { result.places ≡ [] }
     {
@@ -78,7 +78,7 @@ impl Row {
         }
     }
 
-    /// Makes room for `more` timers beside the `held` ones, and wants twice as many places as timers.
+    /// Makes room for `more` timers in addition to the `held` ones, with twice as many places as timers.
     pub(crate) fn reserve(&mut self, held: usize, more: usize) -> bool
         ensures room { OnTrue result (held + more ≤ self.new.capacity) }
         ensures had_room { held + more ≤ self.old.capacity → result ≡ true }
@@ -112,7 +112,7 @@ impl Row {
         timer_in(self.places[self.front + k])
     }
 
-    /// The place of the timer of this name, which has this key.
+    /// The place of the timer with this name, which has this key.
     pub(crate) fn seek(&self, bound: u128, id: NodeId) -> Option<usize>
         ensures { MatchOption result (All (λ t. key_of t ≡ bound → t.id ≢ id) (taken self.now.places)) (IsNamed self.now.places id) }
     {
@@ -125,7 +125,7 @@ impl Row {
         if is_named(live[k], id) { Some(k) } else { None }
     }
 
-    /// Takes a timer out.
+    /// Removes a timer.
     pub(crate) fn take(&mut self, k: usize) -> Timer
         requires { IsTaken self.old.places k }
         ensures timer { (d : ThePlace) → result ≡ timer_at (slice_index_or self.old.places k d) }
@@ -142,7 +142,7 @@ impl Row {
         timer
     }
 
-    /// Puts a timer at its place, with few moves and no memory, if that can be.
+    /// Puts a timer at its place, with few moves and without allocating, if possible.
     fn put_near(&mut self, place: &Place) -> bool
         requires taken { place.now.is_taken ≡ true }
         requires new { LacksKey (key_in place.now) (taken self.old.places) }
@@ -171,7 +171,7 @@ impl Row {
         }
     }
 
-    /// Puts a timer at its place; those behind it move by one.
+    /// Puts a timer at its place, and moves those after it by one.
     fn put_far(&mut self, place: &Place)
         requires taken { place.now.is_taken ≡ true }
         requires new { LacksKey (key_in place.now) (taken self.old.places) }
@@ -187,7 +187,7 @@ impl Row {
         }
     }
 
-    /// Spreads the timers anew: half of the room between them, and half behind them.
+    /// Spreads the timers anew: half of the room between them, and half after them.
     fn spread(&mut self)
         requires { length (taken self.old.places) < self.old.capacity }
         ensures same { taken self.new.places ≡ taken self.old.places }

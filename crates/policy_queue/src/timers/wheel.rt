@@ -19,9 +19,9 @@ use thiserror::Error;
 /// What became of a timer whose entry's time may have changed.
 #[derive(Clone, Copy, Debug, PartialEq, Eq)]
 pub enum ReschedulingResult {
-    /// It stands at the entry's time.
+    /// It is at the entry's time.
     Rescheduled,
-    /// It left, since the entry has no time.
+    /// It was removed, since the entry has no time.
     Removed(TimerNode),
 }
 
@@ -34,12 +34,12 @@ pub enum ScheduleError {
     UsedUp,
 }
 
-/// A call named a timer that the wheel does not have.
+/// The wheel does not have the timer that the caller named.
 #[derive(Clone, Copy, Debug, PartialEq, Eq, Drop, Error)]
 #[error("stale timer")]
 pub struct StaleTimer;
 
-/// Timers by rising time.
+/// Timers in order of rising times.
 #[derive(Drop)]
 pub struct TimerWheel<K> {
     is_enabled: bool,
@@ -73,7 +73,7 @@ impl<K> Model for TimerWheel<K> {
 }
 
 impl<K> TimerWheel<K> {
-    /// A wheel without timers, not yet enabled. It takes no memory.
+    /// Creates a wheel without timers, not yet enabled. This allocates nothing.
     pub fn new(alloc: Global, moment: Instant) -> Self
         ensures is_enabled { result.is_enabled ≡ false }
         ensures origin { result.origin ≡ moment }
@@ -92,7 +92,7 @@ impl<K> TimerWheel<K> {
         }
     }
 
-    /// Whether timers may be scheduled.
+    /// Returns whether timers may be scheduled.
     pub fn is_enabled(&self) -> bool
         ensures { result ≡ self.now.is_enabled }
     {
@@ -107,28 +107,28 @@ impl<K> TimerWheel<K> {
         self.is_enabled = true;
     }
 
-    /// How many timers there are.
+    /// Returns the number of timers.
     pub fn len(&self) -> usize
         ensures { result ≡ length self.now.timers }
     {
         self.slots.len()
     }
 
-    /// The moment up to which timers were given.
+    /// Returns the moment up to which timers were returned.
     pub fn moment(&self) -> Instant
         ensures { result ≡ self.now.moment }
     {
         self.moment
     }
 
-    /// The moment of the wheel's making.
+    /// Returns the moment at which the wheel was created.
     pub fn origin(&self) -> Instant
         ensures { result ≡ self.now.origin }
     {
         self.origin
     }
 
-    /// Makes room for `n` more timers, which then need no memory.
+    /// Reserves room for `n` more timers, which then allocate nothing.
     pub fn reserve(&mut self, n: usize) -> Result<(), ScheduleError>
         ensures room { OnOk result (n ≤ self.new.room) }
         ensures had_room { n ≤ self.old.room → IsOk result }
@@ -150,7 +150,7 @@ impl<K> TimerWheel<K> {
         Ok(())
     }
 
-    /// Adds a timer for an entry at its time, if it has one, and answers the timer's name.
+    /// Adds a timer for an entry at its time, if it has one, and returns the timer's name.
     pub fn schedule(
         &mut self,
         entry: usize,
@@ -173,7 +173,7 @@ impl<K> TimerWheel<K> {
         }
     }
 
-    /// Adds a timer for an entry at a time, and answers its name. It needs no memory: there is room.
+    /// Adds a timer for an entry at a time, and returns its name. It allocates nothing: there must be room.
     pub fn place(&mut self, entry: usize, due: Due) -> NodeId
         requires { 0 < self.old.room }
         ensures { Schedules self.old self.new entry result due }
@@ -196,7 +196,7 @@ impl<K> TimerWheel<K> {
         id
     }
 
-    /// Puts a timer at its entry's present time, or takes it out where the entry has none. It keeps its name.
+    /// Moves a timer to its entry's present time, or removes it if the entry has none. It keeps its name.
     pub fn reschedule(
         &mut self,
         id: NodeId,
@@ -223,7 +223,7 @@ impl<K> TimerWheel<K> {
         }
     }
 
-    /// Puts a timer at another time. It keeps its name, and no memory is needed.
+    /// Moves a timer to another time. It keeps its name, and nothing is allocated.
     pub fn replace(&mut self, id: NodeId, due: Due) -> Result<(), StaleTimer>
         ensures replaces { OnOk result (Replaces self.old.timers self.new.timers id due) }
         ensures keeps { OnOk result (Keeps self.old self.new) }
@@ -239,7 +239,7 @@ impl<K> TimerWheel<K> {
         }
     }
 
-    /// Takes a timer out.
+    /// Removes a timer.
     pub fn deschedule(&mut self, id: NodeId) -> Result<TimerNode, StaleTimer>
         requires { self.old.is_enabled ≡ true }
         ensures leaves { IfOk result (TimerLeaves self.old.timers self.new.timers id) }
@@ -256,7 +256,7 @@ impl<K> TimerWheel<K> {
         }
     }
 
-    /// The first timer, where it was placed at or before `now`. It stays.
+    /// Returns the first timer, if it was placed at or before `now`. It stays.
     pub fn first_due(&self, now: Instant) -> Option<Timer>
         ensures earliest { IfSome result (λ t. All (λ u. t.placed ≤ u.placed) self.now.timers) }
         ensures first { MatchOption result (All (λ t. now < t.placed) self.now.timers) (λ t. (0 < length self.now.timers) × (t ≡ slice_index_or self.now.timers 0 t) × (t.placed ≤ now)) }
@@ -273,7 +273,7 @@ impl<K> TimerWheel<K> {
         }
     }
 
-    /// Takes the first timer out.
+    /// Removes the first timer.
     pub fn pop_first(&mut self)
         requires { 0 < length self.old.timers }
         ensures first { (t : TheTimer) × (self.old.timers ≡ t ∷ self.new.timers) }
@@ -287,7 +287,7 @@ impl<K> TimerWheel<K> {
         }
     }
 
-    /// Puts the first timer at another time.
+    /// Moves the first timer to another time.
     pub(crate) fn move_first(&mut self, due: Due)
         requires { 0 < length self.old.timers }
         ensures first { (t : TheTimer) × (rest : List TheTimer) × (self.old.timers ≡ t ∷ rest) × IsPermutation (moved t due.time due.expiry_gen ∷ rest) self.new.timers }
@@ -299,7 +299,7 @@ impl<K> TimerWheel<K> {
         }
     }
 
-    /// Sets the moment up to which timers were given.
+    /// Sets the moment up to which timers were returned.
     pub(crate) fn set_moment(&mut self, now: Instant)
         ensures { self.new ≡ record self.old { moment = now } }
     {

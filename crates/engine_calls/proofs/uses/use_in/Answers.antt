@@ -1,4 +1,4 @@
-use Rattle.std.proofs.Common.{ap, sym, ◌∙◌, refl, is_some}
+use Rattle.std.proofs.Common.{ap, ◌∙◌, refl, is_some}
 use Rattle.engine_cells.specs.Kept.{Kept, kept_at}
 use Rattle.engine_reference.specs.Asking.{answers_of}
 use Rattle.engine_calls.proofs.Finding.{kept-changed}

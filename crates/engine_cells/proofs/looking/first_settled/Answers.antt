@@ -1,16 +1,35 @@
-use Rattle.std.proofs.Common.{◌≡◌, rules}
-use Rattle.engine_cells.specs.Cells.{record_in}
+use Rattle.std.proofs.Common.{◌≡◌, ◌<◌, sym, ap, ◌∙◌, subst, length, false}
+use Rattle.policy_queue.specs.Places.{slots_from}
+use Rattle.engine_cells.specs.Cells.{cell_at}
 use Rattle.engine_cells.specs.Looking.{is_settled_as}
-use Rattle.engine_cells.proofs.Settling.{settled-first, settled-none}
+use Rattle.engine_cells.proofs.Settling.{seeks-start, seeks_has, seeks-one, seeks-less, seeks-found, seeks-none}
 use Rattle.engine_cells.proofs.looking.first_settled.Goals as goal
 
-pub returns-in-Some-clause-found : goal.returns-in-Some-clause-found
-returns-in-Some-clause-found g c =
-    let cells = c.args.cells.now.slots in
-    let f = settled-first cells c.requires.apart _ (λ e b t. let is : b ≡ is_settled_as (record_in cells e.entry) = search rules in is) c.args.queue.now.nodes _ c.requires.linked c.in-Some.ensures.found in
-    (f.item, f.there, f.first)
+pub loop-next-init : goal.loop-next-init
+loop-next-init g c = seeks-start c.args.cells.now.slots c.args.queue.now.indices c.first-next.result c.first-next.ensures
 
-pub returns-in-None-clause-none : goal.returns-in-None-clause-none
-returns-in-None-clause-none g c =
-    let cells = c.args.cells.now.slots in
-    settled-none cells c.requires.apart _ (λ e b t. let is : b ≡ is_settled_as (record_in cells e.entry) = search rules in is) c.args.queue.now.nodes c.requires.linked c.in-None.ensures.none
+pub returns-then-is_settled_at-clause-found : goal.returns-then-is_settled_at-clause-found
+returns-then-is_settled_at-clause-found g c =
+    let h = rw c.in-Some.is at c.loop-next.invariant in
+    seeks-found c.args.cells.now.slots c.args.queue.now.indices c.requires.apart c.requires.listed c.in-Some.index h (sym c.is_settled_at.ensures ∙ c.if-is_settled_at.true)
+
+pub behind-next-requires : goal.behind-next-requires
+behind-next-requires g c =
+    let h = rw c.in-Some.is at c.loop-next.invariant in
+    seeks_has c.args.cells.now.slots c.args.queue.now.indices c.requires.apart c.requires.listed c.in-Some.index h
+
+pub loop-next-smaller : goal.loop-next-smaller
+loop-next-smaller g c =
+    let h = rw c.in-Some.is at c.loop-next.invariant in
+    let size = ap (λ o. length (slots_from o c.args.queue.now.indices)) c.in-Some.is in
+    let less = seeks-less c.args.cells.now.slots c.args.queue.now.indices c.requires.apart c.requires.listed c.in-Some.index h c.behind-next.result c.behind-next.ensures in
+    subst (λ n. length (slots_from c.behind-next.result c.args.queue.now.indices) < n) (sym size) less
+
+pub loop-next-preserved : goal.loop-next-preserved
+loop-next-preserved g c =
+    let h = rw c.in-Some.is at c.loop-next.invariant in
+    let off : is_settled_as (cell_at c.args.cells.now.slots c.in-Some.index) ≡ false = sym c.is_settled_at.ensures ∙ c.if-is_settled_at.false in
+    seeks-one c.args.cells.now.slots c.args.queue.now.indices c.requires.apart c.requires.listed c.in-Some.index h c.behind-next.result off c.behind-next.ensures
+
+pub returns-clause-none : goal.returns-clause-none
+returns-clause-none g c = seeks-none c.args.cells.now.slots c.args.queue.now.indices (rw c.in_default.is at c.loop-next.invariant)

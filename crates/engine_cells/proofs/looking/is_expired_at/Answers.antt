@@ -11,7 +11,7 @@ returns-in-Some-clause-due g c = λ due.
 
 pub returns-in-Some-clause-not : goal.returns-in-Some-clause-not
 returns-in-Some-clause-not g c = λ off x there.
-    ap (λ y. is_expired c.args.now y.item) (same_Some _ _ (sym there ∙ sym c.in-Some.ensures)) ∙ sym c.is_expired.ensures ∙ off
+    ap (λ y. is_expired c.args.now y) (same_Some _ _ (sym there ∙ sym c.in-Some.ensures)) ∙ sym c.is_expired.ensures ∙ off
 
 pub returns-in-None-clause-not : goal.returns-in-None-clause-not
 returns-in-None-clause-not g c = λ off x there. absurd (let e : None ≡ Some x = c.in-None.ensures ∙ there in cc)

@@ -1,4 +1,4 @@
-use Rattle.std.proofs.Common.{◌≡◌, ap, sym, ◌∙◌, subst, arith, length}
+use Rattle.std.proofs.Common.{ap, ◌∙◌, subst, arith, length}
 use Rattle.engine_reference.specs.Runs.{writes, after_write}
 use Rattle.engine_reference.proofs.SoundSteps.{after_write-frame}
 use Rattle.engine_cells.specs.Noting.{AimsOnlyAt}

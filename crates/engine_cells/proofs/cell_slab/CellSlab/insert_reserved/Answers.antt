@@ -1,4 +1,8 @@
-use Rattle.std.proofs.Common.{refl, sym, ◌∙◌, arith}
+use Rattle.std.proofs.Common.{refl, sym, ◌∙◌, ◌++◌, ◌∷◌, [], map, arith}
+use Rattle.std.proofs.lemmas.List.{length-map, length_push}
+use Rattle.slab.specs.Entry.{value_of}
+use Rattle.engine_cells.specs.declared.cell_slab.Drawer.TheVariants as drawer
+use Rattle.engine_cells.specs.Drawers.{entry_of}
 use Rattle.engine_cells.proofs.Drawers.{full, before_end, next_not_taken, next_vacant, pushed, filled, filled_len, updated, added}
 use Rattle.engine_cells.proofs.cell_slab.CellSlab.insert_reserved.Goals as goal
 
@@ -25,6 +29,16 @@ returns-then-key-len-clause-key_in_range g c =
     let all = full _ _ _ c.self.invariant (omega arith) in
     let counted = c.self.invariant.sound.counted in
     omega arith
+
+pub returns-then-key-len-clause-slots : goal.returns-then-key-len-clause-slots
+returns-then-key-len-clause-slots g c =
+    let all = full _ _ _ c.self.invariant (omega arith) in
+    let counted = c.self.invariant.sound.counted in
+    let items = c.self.inside.drawers.items in
+    let taken = drawer.Taken c.args.value in
+    let long = length-map (map entry_of items) value_of ∙ length-map items entry_of in
+    let longer = length-map (map entry_of (items ++ taken ∷ [])) value_of ∙ length-map (items ++ taken ∷ []) entry_of ∙ length_push items taken in
+    rw (← c.self.view_is, c.push_reserved.ensures.items) (omega (arith, all, counted, long, longer))
 
 pub index_mut-requires : goal.index_mut-requires
 index_mut-requires g c = omega (arith, before_end _ _ _ c.self.invariant (λ e. omega arith))

@@ -1,34 +1,32 @@
 use Rattle.std.proofs.Common.{◌≡◌, refl, ap, sym, ◌∙◌, subst, ◌+◌, ◌<◌, arith, [], ◌∷◌, ◌++◌, Some, None}
 use Rattle.std.specs.Prelude.{option_map}
-use Rattle.engine_cells.specs.declared.cell.Cell.{Cell}
 use Rattle.engine_cells.specs.Kept.{numbered_at}
-use Rattle.engine_cells.proofs.Views.{number-in, unqueued-insert, kept-in, there-record}
+use Rattle.engine_cells.proofs.Views.{number-in, kept-in}
 use Rattle.engine_cells.proofs.Listed.{records-insert}
-use Rattle.engine_cells.proofs.Changes.{Gets, kept-inserted, access-inserted}
+use Rattle.engine_cells.proofs.Changes.{Gets, numbered-inserted, listed-inserted, list-inserted}
 use Rattle.engine_cells.proofs.Pointing.{pointed-gets, aims-made, aims-there, more-unsent}
-use Rattle.engine_cells.proofs.Turned.{order-kept_inserted, order-inserted, order_waiting-insert}
 use Rattle.engine_reference.specs.Records.{held_at, held_weight}
 use Rattle.engine_cells.specs.Cells.{records_by_number}
 use Rattle.engine_cells.specs.Writing.{put_for}
 use Rattle.engine_cells.proofs.Spotting.{none-matches, spotted-inserted, hashed-inserted}
-use Rattle.engine_cells.proofs.Totals.{held-is, tally-fits, tally-insert}
+use Rattle.engine_cells.proofs.Totals.{held-is, tally-fits, tally-insert, places-inserted}
 use Rattle.std.proofs.Math.Logic.{∥∥₁_map}
 use Rattle.engine_cells.proofs.Awaits.{awaited-gets}
 use Rattle.engine_tables.proofs.tables.Tables.add.Goals as goal
 
 pub invariant_of-self : goal.invariant_of-self
 invariant_of-self g c =
-    let x : Cell g.row.K.Denot g.row.V.Denot = record { item = c.args.added; nodes = c.nowhere-nodes.result } in
+    let x = c.args.added in
     let i = c.insert_reserved-place.result in
     let old = c.self.inside.cells.slots in
     let new = c.insert_reserved-place.new.self.slots in
     let vacant = c.insert_reserved-place.ensures.was_vacant in
     let gets : Gets old new i x = record { there = c.insert_reserved-place.ensures.updates.changed; others = c.insert_reserved-place.ensures.updates.others } in
-    let room : 0 < c.self.inside.backlog.reserved = omega (arith, ap (λ t. t.state.reserved) c.self.view_is) in
+    let room : 0 < c.self.inside.backlog.reserved = omega (arith, ap (λ t. t.state.reserved) c.self.view_is, c.self.invariant.reserved) in
     let is : c.args.added.number ≡ c.self.inside.next_number = c.requires.newcomer.numbered ∙ sym (ap (λ t. t.state.next_number) c.self.view_is) in
-    let order_more = order_waiting-insert old new i x c.nowhere-nodes.ensures.write_queue vacant gets in
-    let more = unqueued-insert old new i x c.nowhere-nodes.ensures.access_queue vacant gets.there gets.others in
-    let kept = kept-inserted old new c.self.inside.access.nodes c.self.inside.next_number i x c.self.invariant.kept vacant gets is c.nowhere-nodes.ensures.access_queue c.requires.newcomer.uncounted in
+    let kept = numbered-inserted old new c.self.inside.next_number i x c.self.invariant.kept gets is in
+    let number = ap (λ v. v.number) c.with-self-inside.ensures.more in
+    let places = places-inserted c.self.inside.cells c.insert_reserved-place.new.self c.self.inside.tally.number c.with-self-inside.result.number c.self.inside.backlog.reserved x in
     let made = c.add_write.ensures.added in
     let fresh = ap (λ t. held_at g.K.PartialEq.eq t.state.records c.args.added.entry.key) c.self.view_is ∙ c.requires.newcomer.fresh in
     let alone = none-matches g.K.PartialEq.eq old c.self.inside.keys c.args.added.entry.key c.self.invariant.spotted fresh in
@@ -38,59 +36,61 @@ invariant_of-self g c =
     let mine = rw (sym hasher) at c.requires.newcomer.hashed in
     record {
       kept = kept;
-      listed = order-kept_inserted old new c.self.inside.order.nodes c.self.inside.next_number i x c.self.invariant.listed vacant gets is c.nowhere-nodes.ensures.write_queue c.requires.newcomer.uncounted;
-      order = rw made (omega arith);
+      used = listed-inserted old new c.self.inside.access.indices i x c.self.invariant.used vacant gets c.requires.newcomer.uncounted;
+      written = listed-inserted old new c.self.inside.order.indices i x c.self.invariant.written vacant gets c.requires.newcomer.uncounted;
       cells = rw made (omega arith);
-      access = rw made (omega arith);
+      access = rw made (places c.self.inside.access c.self.invariant.access c.requires.newcomer.uncounted c.insert_reserved-place.ensures.len c.insert_reserved-place.ensures.slots number room);
+      order = rw made (places c.self.inside.order c.self.invariant.order c.requires.newcomer.uncounted c.insert_reserved-place.ensures.len c.insert_reserved-place.ensures.slots number room);
       notices = rw made (omega arith);
       tallied = tally-insert old new i x c.self.inside.tally c.with-self-inside.result vacant gets c.with-self-inside.ensures.light c.self.invariant.tallied c.with-self-inside.ensures.more;
       aimed = rw (made, c.put_of-write.ensures)
-          (aims-made new (c.self.inside.next_number + 1) c.self.inside.backlog.next_ticket _ (aims-there new c.self.inside.access.nodes (c.self.inside.next_number + 1) i x kept gets.there)
+          (aims-made new (c.self.inside.next_number + 1) c.self.inside.backlog.next_ticket _ (aims-there new (c.self.inside.next_number + 1) i x kept gets.there)
           (pointed-gets old new c.self.inside.next_number i x gets is c.self.invariant.aimed));
+      reserved = rw made (omega (arith, c.self.invariant.reserved));
       tickets = rw made (omega arith);
       numbers = rw made (omega arith);
       spotted = spotted-inserted g.K.PartialEq.eq old new c.self.inside.keys c.put.new.self i x g.met.K.Eq.laws vacant gets c.requires.newcomer.held c.put.ensures alone c.self.invariant.spotted;
       hashed = rw made (hashed-inserted g.K.PartialEq.eq old new c.self.inside.keys c.put.new.self i x g.met.K.Eq.laws vacant gets c.requires.newcomer.held c.put.ensures alone c.self.invariant.spotted _ mine c.self.invariant.hashed);
       keys = rw made (omega (arith, space, had_keys));
-      awaited = ∥∥₁_map c.self.invariant.awaited (λ k. awaited-gets old new c.self.inside.expirations c.set.new.self i x gets c.set.ensures.others c.set.ensures.whole (λ held. c.set.ensures.set) k);
+      awaited = ∥∥₁_map c.self.invariant.awaited (λ k. awaited-gets old new c.self.inside.expirations c.set_changed.new.expirations i x gets c.set_changed.ensures.others c.set_changed.ensures.whole (λ held. c.set_changed.ensures.set tt) k);
     }
 
 pub returns-clause-place : goal.returns-clause-place
 returns-clause-place g c =
-    let x : Cell g.row.K.Denot g.row.V.Denot = record { item = c.args.added; nodes = c.nowhere-nodes.result } in
+    let x = c.args.added in
     let i = c.insert_reserved-place.result in
     let old = c.self.inside.cells.slots in
     let new = c.insert_reserved-place.new.self.slots in
     let vacant = c.insert_reserved-place.ensures.was_vacant in
     let gets : Gets old new i x = record { there = c.insert_reserved-place.ensures.updates.changed; others = c.insert_reserved-place.ensures.updates.others } in
     let is : c.args.added.number ≡ c.self.inside.next_number = c.requires.newcomer.numbered ∙ sym (ap (λ t. t.state.next_number) c.self.view_is) in
-    let kept = kept-inserted old new c.self.inside.access.nodes c.self.inside.next_number i x c.self.invariant.kept vacant gets is c.nowhere-nodes.ensures.access_queue c.requires.newcomer.uncounted in
-    kept-in new i kept.apart ∙ there-record new i x gets.there
+    let kept = numbered-inserted old new c.self.inside.next_number i x c.self.invariant.kept gets is in
+    kept-in new i kept.apart ∙ gets.there
 
 pub returns-clause-others : goal.returns-clause-others
 returns-clause-others g c = λ i other.
     number-in c.insert_reserved-place.new.self.slots i
-    ∙ ap (λ o. option_map (λ x. x.item.number) o) (c.insert_reserved-place.ensures.updates.others i other)
+    ∙ ap (λ o. option_map (λ x. x.number) o) (c.insert_reserved-place.ensures.updates.others i other)
     ∙ sym (number-in c.self.inside.cells.slots i)
     ∙ ap (λ t. numbered_at t.numbers i) c.self.view_is
 
 pub returns-clause-state : goal.returns-clause-state
 returns-clause-state g c =
-    let x : Cell g.row.K.Denot g.row.V.Denot = record { item = c.args.added; nodes = c.nowhere-nodes.result } in
+    let x = c.args.added in
     let i = c.insert_reserved-place.result in
     let old = c.self.inside.cells.slots in
     let new = c.insert_reserved-place.new.self.slots in
     let vacant = c.insert_reserved-place.ensures.was_vacant in
     let gets : Gets old new i x = record { there = c.insert_reserved-place.ensures.updates.changed; others = c.insert_reserved-place.ensures.updates.others } in
     let is : c.args.added.number ≡ c.self.inside.next_number = c.requires.newcomer.numbered ∙ sym (ap (λ t. t.state.next_number) c.self.view_is) in
-    let records = records-insert old new i x (λ j d e. subst (λ n. d.item.number < n) (sym is) (c.self.invariant.kept.below j d e)) vacant gets.there gets.others in
+    let records = records-insert old new i x (λ j d e. subst (λ n. d.number < n) (sym is) (c.self.invariant.kept.below j d e)) vacant gets.there gets.others in
     let tallied = tally-insert old new i x c.self.inside.tally c.with-self-inside.result vacant gets c.with-self-inside.ensures.light c.self.invariant.tallied c.with-self-inside.ensures.more in
     let holds = sym (held-is new c.with-self-inside.result tallied) ∙ ap held_weight records in
     let write : c.put_of-write.result ≡ put_for c.args.added (held_weight (records_by_number old ++ c.args.added ∷ [])) = c.put_of-write.ensures ∙ ap (λ n. put_for c.args.added n) holds in
     rw (
       ← c.self.view_is,
-      access-inserted old new c.self.inside.access.nodes c.self.inside.next_number i x c.self.invariant.kept vacant gets,
-      order-inserted old new c.self.inside.order.nodes c.self.inside.next_number i x c.self.invariant.listed vacant gets,
+      list-inserted old new c.self.inside.access.indices i x c.self.invariant.used vacant gets,
+      list-inserted old new c.self.inside.order.indices i x c.self.invariant.written vacant gets,
       records,
       c.add_write.ensures.added,
       more-unsent c.self.inside.backlog.unsent c.self.inside.backlog.next_ticket (record { place = i; write = c.put_of-write.result }),
@@ -101,7 +101,7 @@ pub returns-clause-vacant : goal.returns-clause-vacant
 returns-clause-vacant g c =
     ap (λ t. numbered_at t.numbers c.insert_reserved-place.result) (sym c.self.view_is)
     ∙ number-in c.self.inside.cells.slots c.insert_reserved-place.result
-    ∙ ap (λ o. option_map (λ x. x.item.number) o) c.insert_reserved-place.ensures.was_vacant
+    ∙ ap (λ o. option_map (λ x. x.number) o) c.insert_reserved-place.ensures.was_vacant
 
 pub with-self-inside-requires : goal.with-self-inside-requires
 with-self-inside-requires g c =

@@ -2,7 +2,7 @@ use Rattle.std.proofs.Common.{◌≡◌, ap, sym, ◌∙◌, subst, false}
 use Rattle.engine_reference.specs.Records.{record_at}
 use Rattle.engine_cells.specs.Kept.{kept_at}
 use Rattle.engine_cells.specs.Looking.{is_expired}
-use Rattle.engine_cells.proofs.Views.{kept-in, there-record}
+use Rattle.engine_cells.proofs.Views.{kept-in}
 use Rattle.engine_cells.proofs.Walking.{place-there, found-map, none-map}
 use Rattle.engine_tables.proofs.tables.Tables.first_due.Goals as goal
 
@@ -10,8 +10,8 @@ pub returns-clause-found : goal.returns-clause-found
 returns-clause-found g c =
     let cells = c.self.inside.cells.slots in
     found-map _ _ (λ i f. (
-      f.0.item,
-      ap (λ t. kept_at t i) (sym c.self.view_is) ∙ kept-in cells i c.self.invariant.kept.apart ∙ there-record cells i f.0 f.1,
+      f.0,
+      ap (λ t. kept_at t i) (sym c.self.view_is) ∙ kept-in cells i c.self.invariant.kept.apart ∙ f.1,
       f.2,
     )) c.first_expired.result c.first_expired.ensures.found
 

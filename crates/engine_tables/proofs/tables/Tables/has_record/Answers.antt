@@ -3,7 +3,7 @@ use Rattle.engine_reference.specs.Records.{record_at}
 use Rattle.engine_cells.specs.Cells.{cell_at}
 use Rattle.engine_cells.specs.Kept.{kept_at}
 use Rattle.engine_cells.specs.Noting.{AimsOnlyAt}
-use Rattle.engine_cells.proofs.Views.{kept-in, there-record}
+use Rattle.engine_cells.proofs.Views.{kept-in}
 use Rattle.engine_cells.proofs.Standing.{number-there, number-gone, number-nowhere}
 use Rattle.engine_tables.proofs.tables.Tables.has_record.Goals as goal
 
@@ -13,8 +13,8 @@ returns-in-Some-clause-there g c = λ yes.
     let apart = c.self.invariant.kept.apart in
     let cell = c.in-Some.cell.now in
     let there : cell_at cells c.args.place ≡ Some cell = sym c.in-Some.ensures in (
-      cell.item,
-      ap (λ t. kept_at t c.args.place) (sym c.self.view_is) ∙ kept-in cells c.args.place apart ∙ there-record cells c.args.place cell there,
+      cell,
+      ap (λ t. kept_at t c.args.place) (sym c.self.view_is) ∙ kept-in cells c.args.place apart ∙ there,
       ap (λ t. record_at t.state.records c.args.number) (sym c.self.view_is) ∙ number-there cells c.args.place c.args.number cell apart there yes,
     )
 

@@ -1,16 +1,14 @@
-use Rattle.std.proofs.Common.{refl, ap, sym, ◌∙◌, ◌+◌, ◌<◌, is_some, Some, false, true≢false, arith}
+use Rattle.std.proofs.Common.{refl, ap, sym, ◌∙◌, length-set, ◌-◌, ◌+◌, ◌<◌, is_some, Some, false, true≢false, arith}
 use Rattle.std.specs.Prelude.{slice_set}
 use Rattle.engine_reference.specs.declared.data.Record.{Record}
-use Rattle.engine_cells.specs.declared.cell.Cell.{Cell}
 use Rattle.engine_cells.specs.Kept.{kept_at}
-use Rattle.engine_cells.proofs.Views.{kept-in, there-record, numbers-alike, kept-alike, alike-set, numbers_of-set, count-set, unqueued-set}
+use Rattle.engine_cells.proofs.Views.{kept-in, numbers-alike, numbered-alike, listed-alike, alike-set, numbers_of-set, count-set}
 use Rattle.engine_cells.proofs.Listed.{records-set}
-use Rattle.engine_cells.proofs.Pointing.{pointed-alike, cell-there, aims-made, aims-there, more-unsent}
-use Rattle.engine_cells.proofs.Turned.{order-alike, order_waiting-set}
+use Rattle.engine_cells.proofs.Pointing.{pointed-alike, aims-made, aims-there, more-unsent}
 use Rattle.engine_cells.proofs.Counting.{gets-set}
 use Rattle.engine_reference.specs.declared.data.Write.TheVariants as Write
 use Rattle.engine_cells.proofs.Spotting.{unholds-changed, spotted-unholds, hashed-unholds, space-unholds}
-use Rattle.engine_cells.proofs.Totals.{tally-has, tally-fits, fits-less, tally-replaced}
+use Rattle.engine_cells.proofs.Totals.{tally-has, tally-fits, fits-less, tally-replaced, number-replaced, places-alike}
 use Rattle.std.proofs.Math.Logic.{∥∥₁_map}
 use Rattle.engine_cells.proofs.Awaits.{awaited-gets}
 use Rattle.engine_tables.proofs.tables.Tables.mark_removed.Goals as goal
@@ -18,13 +16,13 @@ use Rattle.engine_tables.proofs.tables.Tables.mark_removed.Goals as goal
 pub index_mut-cell-requires : goal.index_mut-cell-requires
 index_mut-cell-requires g c =
     let seen = ap (λ t. kept_at t c.args.place) (sym c.self.view_is) ∙ kept-in c.self.inside.cells.slots c.args.place c.self.invariant.kept.apart in
-    cell-there c.self.inside.cells.slots c.args.place (sym (ap (λ o. is_some o) seen) ∙ c.requires.there)
+    sym (ap (λ o. is_some o) seen) ∙ c.requires.there
 
 pub overflow_add-cell : goal.overflow_add-cell
 overflow_add-cell g c =
     let x = c.index_mut-cell.result.now in
-    let seen = ap (λ t. kept_at t c.args.place) (sym c.self.view_is) ∙ kept-in c.self.inside.cells.slots c.args.place c.self.invariant.kept.apart ∙ there-record c.self.inside.cells.slots c.args.place x c.index_mut-cell.ensures.value in
-    let less = c.requires.fits x.item seen in
+    let seen = ap (λ t. kept_at t c.args.place) (sym c.self.view_is) ∙ kept-in c.self.inside.cells.slots c.args.place c.self.invariant.kept.apart ∙ c.index_mut-cell.ensures.value in
+    let less = c.requires.fits x seen in
     omega (arith, less)
 
 pub invariant_of-self : goal.invariant_of-self
@@ -32,36 +30,38 @@ invariant_of-self g c =
     let x = c.index_mut-cell.result.now in
     let there = c.index_mut-cell.ensures.value in
     let cells = c.self.inside.cells.slots in
-    let d : Cell g.row.K.Denot g.row.V.Denot = record x { item = record x.item { is_held = false; writes = x.item.writes + 1 } } in
+    let d : Record g.row.K.Denot g.row.V.Denot = record x { is_held = false; writes = x.writes + 1 } in
     let h = alike-set cells c.args.place x d there refl in
-    let room : 0 < c.self.inside.backlog.reserved = omega (arith, ap (λ t. t.state.reserved) c.self.view_is) in
+    let room : 0 < c.self.inside.backlog.reserved = omega (arith, ap (λ t. t.state.reserved) c.self.view_is, c.self.invariant.reserved) in
     let many = count-set cells c.args.place x d there in
-    let waits = unqueued-set cells c.args.place x d there refl in
-    let had = c.self.invariant.access in
-    let order_waits = order_waiting-set cells c.args.place x d there refl in
-    let order_had = c.self.invariant.order in
-    let kept = kept-alike cells (slice_set cells c.args.place (Some d)) c.self.inside.access.nodes c.self.inside.next_number h c.self.invariant.kept in
-    let made = c.add_write.ensures.added in
+    let has = tally-has cells c.args.place x c.self.inside.tally there c.self.invariant.tallied in
+    let number = number-replaced c.self.inside.tally c.without-others.result c.with-self-inside.result x d has c.without-others.ensures c.with-self-inside.ensures.more in
+    let places = places-alike c.self.inside.cells (record c.self.inside.cells { slots = slice_set cells c.args.place (Some d) }) c.self.inside.tally.number c.with-self-inside.result.number c.self.inside.backlog.reserved (c.self.inside.backlog.reserved - 1) x d in
+    let long = length-set cells c.args.place (Some d) in
+    let kept = numbered-alike cells (slice_set cells c.args.place (Some d)) c.self.inside.next_number h c.self.invariant.kept in
+    let made = c.add_write-self-inside.ensures.added in
     let unholds = unholds-changed g.K.PartialEq.eq cells (slice_set cells c.args.place (Some d)) c.args.place d (gets-set cells c.args.place x d there) refl in
     let space = space-unholds g.K.PartialEq.eq cells (slice_set cells c.args.place (Some d)) c.self.inside.keys c.take_if.new.keys c.args.place x there unholds c.take_if.ensures c.self.invariant.spotted in
     record {
       kept = kept;
-      listed = order-alike cells c.args.place x d c.self.inside.order.nodes c.self.inside.next_number there refl c.self.invariant.listed;
-      order = rw made (omega arith);
+      used = listed-alike cells (slice_set cells c.args.place (Some d)) c.self.inside.access.indices h c.self.invariant.used;
+      written = listed-alike cells (slice_set cells c.args.place (Some d)) c.self.inside.order.indices h c.self.invariant.written;
       cells = rw made (omega arith);
-      access = rw made (omega arith);
+      access = rw made (places c.self.inside.access c.self.invariant.access many long number refl (omega arith));
+      order = rw made (places c.self.inside.order c.self.invariant.order many long number refl (omega arith));
       notices = rw made (omega arith);
       tallied = tally-replaced cells c.args.place x d c.self.inside.tally c.without-others.result c.with-self-inside.result there c.with-self-inside.ensures.light c.self.invariant.tallied c.without-others.ensures c.with-self-inside.ensures.more;
       aimed = rw made
-          (aims-made (slice_set cells c.args.place (Some d)) c.self.inside.next_number c.self.inside.backlog.next_ticket (record { place = c.args.place; write = Write.Removed x.item.number })
-          (aims-there (slice_set cells c.args.place (Some d)) c.self.inside.access.nodes c.self.inside.next_number c.args.place d kept (gets-set cells c.args.place x d there).there)
+          (aims-made (slice_set cells c.args.place (Some d)) c.self.inside.next_number c.self.inside.backlog.next_ticket (record { place = c.args.place; write = Write.Removed x.number })
+          (aims-there (slice_set cells c.args.place (Some d)) c.self.inside.next_number c.args.place d kept (gets-set cells c.args.place x d there).there)
           (pointed-alike cells (slice_set cells c.args.place (Some d)) c.self.inside.next_number h c.self.invariant.aimed));
+      reserved = rw made (omega (arith, c.self.invariant.reserved));
       tickets = rw made (omega arith);
       numbers = rw made (omega arith);
       spotted = spotted-unholds g.K.PartialEq.eq cells (slice_set cells c.args.place (Some d)) c.self.inside.keys c.take_if.new.keys c.args.place x there unholds c.take_if.ensures c.self.invariant.spotted;
       hashed = rw made (hashed-unholds g.K.PartialEq.eq cells (slice_set cells c.args.place (Some d)) c.self.inside.keys c.take_if.new.keys c.args.place x there unholds c.take_if.ensures c.self.invariant.spotted _ c.self.invariant.hashed);
       keys = rw made (omega (arith, space, c.self.invariant.keys));
-      awaited = ∥∥₁_map c.self.invariant.awaited (λ k. awaited-gets cells (slice_set cells c.args.place (Some d)) c.self.inside.expirations c.set.new.self c.args.place d (gets-set cells c.args.place x d there) c.set.ensures.others c.set.ensures.whole (λ held. absurd (true≢false (sym held))) k);
+      awaited = ∥∥₁_map c.self.invariant.awaited (λ k. awaited-gets cells (slice_set cells c.args.place (Some d)) c.self.inside.expirations c.set_changed.new.expirations c.args.place d (gets-set cells c.args.place x d there) c.set_changed.ensures.others c.set_changed.ensures.whole (λ held. absurd (true≢false (sym held))) k);
     }
 
 pub returns : goal.returns
@@ -69,19 +69,19 @@ returns g c =
     let x = c.index_mut-cell.result.now in
     let there = c.index_mut-cell.ensures.value in
     let cells = c.self.inside.cells.slots in
-    let d : Cell g.row.K.Denot g.row.V.Denot = record x { item = record x.item { is_held = false; writes = x.item.writes + 1 } } in
+    let d : Record g.row.K.Denot g.row.V.Denot = record x { is_held = false; writes = x.writes + 1 } in
     let h = alike-set cells c.args.place x d there refl in
     let f = λ (r : Record g.row.K.Denot g.row.V.Denot). record r { is_held = false; writes = r.writes + 1 } in (
-      x.item,
-      ap (λ t. kept_at t c.args.place) (sym c.self.view_is) ∙ kept-in cells c.args.place c.self.invariant.kept.apart ∙ there-record cells c.args.place x there,
+      x,
+      ap (λ t. kept_at t c.args.place) (sym c.self.view_is) ∙ kept-in cells c.args.place c.self.invariant.kept.apart ∙ there,
       rw (
         ← c.self.view_is,
         records-set cells c.args.place x d f (λ r. refl) c.self.invariant.kept.apart there refl,
-        numbers-alike cells (slice_set cells c.args.place (Some d)) h c.self.inside.access.nodes,
-        numbers-alike cells (slice_set cells c.args.place (Some d)) h c.self.inside.order.nodes,
+        numbers-alike cells (slice_set cells c.args.place (Some d)) h c.self.inside.access.indices,
+        numbers-alike cells (slice_set cells c.args.place (Some d)) h c.self.inside.order.indices,
         numbers_of-set cells c.args.place x d there refl,
-        c.add_write.ensures.added,
-        more-unsent c.self.inside.backlog.unsent c.self.inside.backlog.next_ticket (record { place = c.args.place; write = Write.Removed x.item.number }),
+        c.add_write-self-inside.ensures.added,
+        more-unsent c.self.inside.backlog.unsent c.self.inside.backlog.next_ticket (record { place = c.args.place; write = Write.Removed x.number }),
       ) refl,
     )
 
@@ -93,7 +93,7 @@ without-others-requires g c =
 pub with-self-inside-requires : goal.with-self-inside-requires
 with-self-inside-requires g c =
     let fits = tally-fits c.self.inside.cells.slots c.self.inside.tally c.self.invariant.tallied (omega (arith, c.len-many.ensures, c.len-many.type_inv)) in
-    let less = fits-less c.self.inside.tally c.without-others.result c.index_mut-cell.result.now.item fits c.without-others.ensures in
+    let less = fits-less c.self.inside.tally c.without-others.result c.index_mut-cell.result.now fits c.without-others.ensures in
     let number = less.number in
     record { held = less.held; weight = less.weight; number = omega (arith, number) }
 

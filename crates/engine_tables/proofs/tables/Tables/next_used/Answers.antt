@@ -1,55 +1,56 @@
-use Rattle.std.proofs.Common.{◌≡◌, ap, sym, ◌∙◌, true≢false, Some, List, is_some}
+use Rattle.std.proofs.Common.{◌≡◌, ap, sym, ◌∙◌, List, ℕ, Some, is_some}
 use Rattle.std.specs.Prelude.{slice_get}
-use Rattle.std.proofs.lemmas.Option.{same_Some}
-use Rattle.policy_base.specs.declared.records.KeyHashDate.{KeyHashDate}
-use Rattle.policy_queue.specs.declared.places.Node.{Node}
-use Rattle.policy_queue.specs.Queue.{tail, from_id}
-use Rattle.engine_cells.specs.Cells.{numbers_in, cell_at}
+use Rattle.policy_queue.specs.Indices.{from_index, has_index}
+use Rattle.policy_queue.specs.Queue.{tail}
+use Rattle.engine_cells.specs.Cells.{cell_at, has_counts, numbers_in}
 use Rattle.engine_cells.specs.Kept.{kept_at}
 use Rattle.engine_cells.specs.Looking.{behind}
-use Rattle.engine_cells.proofs.Views.{kept-in, there-record}
-use Rattle.engine_cells.proofs.Pointing.{front-linked}
-use Rattle.engine_cells.proofs.Standing.{linked-behind, access-behind, none-behind}
+use Rattle.engine_cells.proofs.Pointing.{fronts-of, no-front}
+use Rattle.engine_cells.proofs.Settling.{has_further, has_tail}
+use Rattle.engine_cells.proofs.Standing.{list-behind}
+use Rattle.engine_cells.proofs.Views.{kept-in}
+use Rattle.engine_cells.proofs.Walking.{found-map, none-map}
 use Rattle.engine_tables.proofs.tables.Tables.next_used.Goals as goal
 
-pub unreachable-requires : goal.unreachable-requires
-unreachable-requires g c =
-    let cells = c.self.inside.cells.slots in
-    let cell = c.index.result.now in
-    let there : cell_at cells c.args.place ≡ Some cell = c.index.ensures in
-    let h = c.requires in
-    let same : h.0 ≡ cell.item = same_Some _ _ (sym h.1 ∙ ap (λ t. kept_at t c.args.place) (sym c.self.view_is) ∙ kept-in cells c.args.place c.self.invariant.kept.apart ∙ there-record cells c.args.place cell there) in
-    true≢false (sym h.2 ∙ ap (λ x. is_some x.counts) same ∙ sym (c.self.invariant.kept.admitted c.args.place cell there) ∙ ap (λ o. is_some o) (sym c.get.ensures ∙ c.in_default.is))
+pub index_of-index-requires : goal.index_of-index-requires
+index_of-index-requires g c =
+    let seen = ap (λ t. kept_at t c.args.place) (sym c.self.view_is) ∙ kept-in c.self.inside.cells.slots c.args.place c.self.invariant.kept.apart in
+    ap (λ o. is_some o) (sym seen ∙ c.requires.1)
 
-pub returns-in-Some-peek_behind-clause-next : goal.returns-in-Some-peek_behind-clause-next
-returns-in-Some-peek_behind-clause-next g c = λ r at.
+pub behind-requires : goal.behind-requires
+behind-requires g c =
+    let i = c.args.place in
+    let seen = ap (λ t. kept_at t i) (sym c.self.view_is) ∙ kept-in c.self.inside.cells.slots i c.self.invariant.kept.apart in
+    ap (λ k. has_index k c.self.inside.access.indices) c.index_of-index.ensures.is ∙ c.self.invariant.used.listed i ∙ ap (λ o. has_counts o) (sym seen ∙ c.requires.1) ∙ c.requires.2
+
+pub returns-clause-next : goal.returns-clause-next
+returns-clause-next g c = λ r at.
     let cells = c.self.inside.cells.slots in
-    let nodes = c.self.inside.access.nodes in
+    let i = c.args.place in
+    let places = c.self.inside.access.indices in
     let apart = c.self.invariant.kept.apart in
-    let cell = c.index.result.now in
-    let there : cell_at cells c.args.place ≡ Some cell = c.index.ensures in
-    let same : r ≡ cell.item = same_Some _ _ (sym at ∙ ap (λ t. kept_at t c.args.place) (sym c.self.view_is) ∙ kept-in cells c.args.place apart ∙ there-record cells c.args.place cell there) in
-    let rest : List (Node KeyHashDate) = tail (from_id c.in-Some.id nodes) in
-    let i = c.in-Some-peek_behind.date.now.entry in
-    let f = front-linked cells nodes rest c.self.inside.next_number c.in-Some-peek_behind.date.now c.self.invariant.kept (linked-behind cells c.in-Some.id nodes c.self.invariant.kept.known) (sym c.in-Some-peek_behind.ensures) in (
-      f.cell.item,
-      ap (λ t. kept_at t i) (sym c.self.view_is) ∙ kept-in cells i apart ∙ there-record cells i f.cell f.there,
+    let there : cell_at cells i ≡ Some r = sym (ap (λ t. kept_at t i) (sym c.self.view_is) ∙ kept-in cells i apart) ∙ at in
+    let rest : List ℕ = tail (from_index c.index_of-index.result places) in
+    let same : rest ≡ tail (from_index i places) = ap (λ k. tail (from_index k places)) c.index_of-index.ensures.is in
+    found-map _ _ (λ j f. (
+      f.cell,
+      ap (λ t. kept_at t j) (sym c.self.view_is) ∙ kept-in cells j apart ∙ f.there,
       ap (λ t. slice_get (behind r.number t.state.access) 0) (sym c.self.view_is)
-          ∙ ap (λ x. slice_get (behind x.number (numbers_in cells nodes)) 0) same
-          ∙ ap (λ ns. slice_get ns 0) (sym (access-behind cells nodes c.self.inside.next_number c.args.place cell c.in-Some.id c.self.invariant.kept there (sym c.get.ensures ∙ c.in-Some.is)))
+          ∙ ap (λ ns. slice_get ns 0) (sym (list-behind cells places i r apart c.self.invariant.used there) ∙ ap (numbers_in cells) (sym same))
           ∙ f.first,
       f.counts,
-    )
+    )) c.place_at.result (fronts-of cells places rest c.place_at.result c.self.invariant.used (λ j has. has_further j c.index_of-index.result places (has_tail j (from_index c.index_of-index.result places) has)) (c.place_at.ensures ∙ c.behind.ensures))
 
-pub returns-in-None-clause-last : goal.returns-in-None-clause-last
-returns-in-None-clause-last g c = λ r at.
+pub returns-clause-last : goal.returns-clause-last
+returns-clause-last g c = λ r at.
     let cells = c.self.inside.cells.slots in
-    let nodes = c.self.inside.access.nodes in
-    let cell = c.index.result.now in
-    let there : cell_at cells c.args.place ≡ Some cell = c.index.ensures in
-    let same : r ≡ cell.item = same_Some _ _ (sym at ∙ ap (λ t. kept_at t c.args.place) (sym c.self.view_is) ∙ kept-in cells c.args.place c.self.invariant.kept.apart ∙ there-record cells c.args.place cell there) in
-    let none = none-behind (tail (from_id c.in-Some.id nodes)) (sym c.in-None.ensures) in
+    let i = c.args.place in
+    let places = c.self.inside.access.indices in
+    let apart = c.self.invariant.kept.apart in
+    let there : cell_at cells i ≡ Some r = sym (ap (λ t. kept_at t i) (sym c.self.view_is) ∙ kept-in cells i apart) ∙ at in
+    let rest : List ℕ = tail (from_index c.index_of-index.result places) in
+    let same : rest ≡ tail (from_index i places) = ap (λ k. tail (from_index k places)) c.index_of-index.ensures.is in
+    none-map _ _ (λ none.
     ap (λ t. behind r.number t.state.access) (sym c.self.view_is)
-    ∙ ap (λ x. behind x.number (numbers_in cells nodes)) same
-    ∙ sym (access-behind cells nodes c.self.inside.next_number c.args.place cell c.in-Some.id c.self.invariant.kept there (sym c.get.ensures ∙ c.in-Some.is))
-    ∙ ap (λ l. numbers_in cells l) none
+    ∙ sym (list-behind cells places i r apart c.self.invariant.used there)
+    ∙ ap (numbers_in cells) (sym same ∙ none)) c.place_at.result (no-front rest c.place_at.result (c.place_at.ensures ∙ c.behind.ensures))

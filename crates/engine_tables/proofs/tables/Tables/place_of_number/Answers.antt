@@ -6,22 +6,22 @@ use Rattle.engine_cells.specs.Spotted.{is_numbered}
 use Rattle.engine_cells.proofs.Again.{numbered-cell}
 use Rattle.engine_cells.proofs.Listed.{record_at-none}
 use Rattle.engine_cells.proofs.Standing.{number-there}
-use Rattle.engine_cells.proofs.Views.{kept-in, there-record}
+use Rattle.engine_cells.proofs.Views.{kept-in}
 use Rattle.engine_cells.proofs.Walking.{found-map, none-map}
 use Rattle.engine_tables.proofs.tables.Tables.place_of_number.Goals as goal
 
 pub find_number-requires-clause-held : goal.find_number-requires-clause-held
 find_number-requires-clause-held g c i x at m =
     let cells = c.self.inside.cells.slots in
-    c.requires.held x.item (ap (λ t. record_at t.state.records c.args.number) (sym c.self.view_is) ∙ number-there cells i c.args.number x c.self.invariant.kept.apart at m)
+    c.requires.held x (ap (λ t. record_at t.state.records c.args.number) (sym c.self.view_is) ∙ number-there cells i c.args.number x c.self.invariant.kept.apart at m)
 
 pub returns-clause-found : goal.returns-clause-found
 returns-clause-found g c =
     let cells = c.self.inside.cells.slots in
     found-map _ _ (λ i t.
     let x = numbered-cell cells i c.args.number t in (
-      x.0.item,
-      ap (λ s. kept_at s i) (sym c.self.view_is) ∙ kept-in cells i c.self.invariant.kept.apart ∙ there-record cells i x.0 x.1,
+      x.0,
+      ap (λ s. kept_at s i) (sym c.self.view_is) ∙ kept-in cells i c.self.invariant.kept.apart ∙ x.1,
       ap (λ s. record_at s.state.records c.args.number) (sym c.self.view_is) ∙ number-there cells i c.args.number x.0 c.self.invariant.kept.apart x.1 x.2,
     )) c.find_number.result c.find_number.ensures.found
 
@@ -30,4 +30,4 @@ returns-clause-none g c =
     let cells = c.self.inside.cells.slots in
     none-map _ _ (λ none.
     ap (λ s. record_at s.state.records c.args.number) (sym c.self.view_is)
-    ∙ record_at-none cells c.args.number c.self.invariant.kept.apart (λ i x at same. true≢false (sym (eq-eqb x.item.number c.args.number same) ∙ ap (λ o. is_numbered c.args.number o) (sym at) ∙ none i))) c.find_number.result c.find_number.ensures.none
+    ∙ record_at-none cells c.args.number c.self.invariant.kept.apart (λ i x at same. true≢false (sym (eq-eqb x.number c.args.number same) ∙ ap (λ o. is_numbered c.args.number o) (sym at) ∙ none i))) c.find_number.result c.find_number.ensures.none

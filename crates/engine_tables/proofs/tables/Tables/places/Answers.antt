@@ -1,7 +1,7 @@
 use Rattle.std.proofs.Common.{ap, sym, ◌∙◌, subst, ◌<◌, ◌≤◌, length, arith, Some}
 use Rattle.engine_reference.specs.Records.{record_at}
 use Rattle.engine_cells.specs.Kept.{kept_at}
-use Rattle.engine_cells.proofs.Views.{kept-in, there-record}
+use Rattle.engine_cells.proofs.Views.{kept-in}
 use Rattle.engine_cells.proofs.Walking.{place-there, numbers-within, many-numbers}
 use Rattle.engine_tables.proofs.tables.Tables.places.Goals as goal
 
@@ -18,5 +18,5 @@ returns-clause-stand g c = λ r there.
     let p = place-there cells r.number r c.self.invariant.kept.apart (ap (λ t. record_at t.state.records r.number) c.self.view_is ∙ there) in (
       p.place,
       subst (λ t. p.place < length t.numbers) c.self.view_is (numbers-within cells p.place p.cell p.there),
-      ap (λ t. kept_at t p.place) (sym c.self.view_is) ∙ kept-in cells p.place c.self.invariant.kept.apart ∙ there-record cells p.place p.cell p.there ∙ ap (λ x. Some x) p.is,
+      ap (λ t. kept_at t p.place) (sym c.self.view_is) ∙ kept-in cells p.place c.self.invariant.kept.apart ∙ p.there ∙ ap (λ x. Some x) p.is,
     )

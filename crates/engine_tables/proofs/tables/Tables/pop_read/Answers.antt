@@ -18,13 +18,15 @@ returns-clause-first g c =
 pub invariant_of-self : goal.invariant_of-self
 invariant_of-self g c = rw c.in-Some.ensures.rest (record {
   kept = c.self.invariant.kept;
-  listed = c.self.invariant.listed;
+  used = c.self.invariant.used;
+  written = c.self.invariant.written;
   cells = c.self.invariant.cells;
   access = c.self.invariant.access;
   order = c.self.invariant.order;
   notices = c.self.invariant.notices;
   tallied = c.self.invariant.tallied;
   aimed = aims-read c.self.inside.cells.slots c.self.inside.next_number c.self.inside.backlog.reads c.self.inside.backlog.writes c.self.inside.backlog.unsent c.self.invariant.aimed;
+  reserved = c.self.invariant.reserved;
   tickets = c.self.invariant.tickets;
   numbers = c.self.invariant.numbers;
   spotted = c.self.invariant.spotted;

@@ -2,7 +2,7 @@ use Rattle.std.proofs.Common.{◌≡◌, ◌<◌, refl, ap, sym, ◌∙◌, subs
 use Rattle.std.proofs.lemmas.List.{map-append}
 use Rattle.engine_reference.specs.Records.{record_at}
 use Rattle.engine_cells.specs.Cells.{records_by_number}
-use Rattle.engine_cells.specs.declared.cell.Noted.TheVariants.{Hit}
+use Rattle.engine_cells.specs.declared.noting.Noted.TheVariants.{Hit}
 use Rattle.engine_cells.specs.Noting.{read_of}
 use Rattle.engine_cells.proofs.Listed.{record_at-there}
 use Rattle.engine_cells.proofs.Pointing.{aims-noted}
@@ -15,7 +15,8 @@ invariant_of-self g c =
     let made = subst (λ t. c.args.number < t.state.next_number) (sym c.self.view_is) c.requires.made in
     rw c.push_read.ensures (record {
       kept = c.self.invariant.kept;
-      listed = c.self.invariant.listed;
+      used = c.self.invariant.used;
+      written = c.self.invariant.written;
       cells = c.self.invariant.cells;
       access = c.self.invariant.access;
       order = c.self.invariant.order;
@@ -24,9 +25,10 @@ invariant_of-self g c =
       aimed = aims-noted cells c.self.inside.next_number (Hit 0 c.args.number c.args.hash) (
         made,
         λ i d at same.
-            let e : None ≡ Some d.item = sym gone ∙ ap (λ n. record_at (records_by_number cells) n) (sym same) ∙ record_at-there cells i d c.self.invariant.kept.apart at in
+            let e : None ≡ Some d = sym gone ∙ ap (λ n. record_at (records_by_number cells) n) (sym same) ∙ record_at-there cells i d c.self.invariant.kept.apart at in
             absurd (cc),
       ) c.self.invariant.aimed;
+      reserved = c.self.invariant.reserved;
       tickets = c.self.invariant.tickets;
       numbers = c.self.invariant.numbers;
       spotted = c.self.invariant.spotted;

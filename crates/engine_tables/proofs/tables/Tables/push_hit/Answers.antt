@@ -1,16 +1,16 @@
 use Rattle.std.proofs.Common.{refl, ap, sym, ◌∙◌, [], ◌∷◌, is_some}
 use Rattle.std.proofs.lemmas.List.{map-append}
-use Rattle.engine_cells.specs.declared.cell.Noted.TheVariants.{Hit}
+use Rattle.engine_cells.specs.declared.noting.Noted.TheVariants.{Hit}
 use Rattle.engine_cells.specs.Kept.{kept_at}
 use Rattle.engine_cells.specs.Noting.{read_of}
-use Rattle.engine_cells.proofs.Views.{kept-in, there-record}
-use Rattle.engine_cells.proofs.Pointing.{aims-noted, aims-there, cell-there}
+use Rattle.engine_cells.proofs.Views.{kept-in}
+use Rattle.engine_cells.proofs.Pointing.{aims-noted, aims-there}
 use Rattle.engine_tables.proofs.tables.Tables.push_hit.Goals as goal
 
 pub index-requires : goal.index-requires
 index-requires g c =
     let seen = ap (λ t. kept_at t c.args.place) (sym c.self.view_is) ∙ kept-in c.self.inside.cells.slots c.args.place c.self.invariant.kept.apart in
-    cell-there c.self.inside.cells.slots c.args.place (sym (ap (λ o. is_some o) seen) ∙ c.requires.there)
+    sym (ap (λ o. is_some o) seen) ∙ c.requires.there
 
 pub invariant_of-self : goal.invariant_of-self
 invariant_of-self g c =
@@ -18,13 +18,15 @@ invariant_of-self g c =
     let x = c.index.result.now in
     rw c.push_read.ensures (record {
       kept = c.self.invariant.kept;
-      listed = c.self.invariant.listed;
+      used = c.self.invariant.used;
+      written = c.self.invariant.written;
       cells = c.self.invariant.cells;
       access = c.self.invariant.access;
       order = c.self.invariant.order;
       notices = c.self.invariant.notices;
       tallied = c.self.invariant.tallied;
-      aimed = aims-noted cells c.self.inside.next_number (Hit c.args.place x.item.number c.args.hash) (aims-there cells c.self.inside.access.nodes c.self.inside.next_number c.args.place x c.self.invariant.kept c.index.ensures) c.self.invariant.aimed;
+      aimed = aims-noted cells c.self.inside.next_number (Hit c.args.place x.number c.args.hash) (aims-there cells c.self.inside.next_number c.args.place x c.self.invariant.kept c.index.ensures) c.self.invariant.aimed;
+      reserved = c.self.invariant.reserved;
       tickets = c.self.invariant.tickets;
       numbers = c.self.invariant.numbers;
       spotted = c.self.invariant.spotted;
@@ -37,7 +39,7 @@ pub returns : goal.returns
 returns g c =
     let cells = c.self.inside.cells.slots in
     let x = c.index.result.now in (
-      x.item,
-      ap (λ t. kept_at t c.args.place) (sym c.self.view_is) ∙ kept-in cells c.args.place c.self.invariant.kept.apart ∙ there-record cells c.args.place x c.index.ensures,
-      rw (← c.self.view_is, c.push_read.ensures, map-append read_of c.self.inside.backlog.reads (Hit c.args.place x.item.number c.args.hash ∷ [])) refl,
+      x,
+      ap (λ t. kept_at t c.args.place) (sym c.self.view_is) ∙ kept-in cells c.args.place c.self.invariant.kept.apart ∙ c.index.ensures,
+      rw (← c.self.view_is, c.push_read.ensures, map-append read_of c.self.inside.backlog.reads (Hit c.args.place x.number c.args.hash ∷ [])) refl,
     )

@@ -1,34 +1,47 @@
-use Rattle.std.proofs.Common.{◌≡◌, refl, ap, sym, ◌∙◌, true, false, is_some}
-use Rattle.engine_cells.specs.Kept.{kept_at}
-use Rattle.engine_cells.proofs.Views.{kept-in, there-record, access-there}
-use Rattle.engine_cells.proofs.Access.{access-moved, kept-moved, listed-there}
-use Rattle.engine_cells.proofs.Pointing.{cell-there}
+use Rattle.std.proofs.Common.{◌≡◌, refl, ap, sym, ◌∙◌, ℕ, List, true, false, is_some}
+use Rattle.policy_queue.specs.Indices.{has_index, index_moved_to_back}
+use Rattle.engine_cells.specs.Cells.{cell_at, has_counts, numbers_in}
+use Rattle.engine_reference.specs.Records.{moved_to_back}
+use Rattle.engine_cells.specs.Kept.{Kept, kept_at}
+use Rattle.engine_cells.proofs.Changes.{gets-itself, listed-moved, list-moved}
+use Rattle.engine_cells.proofs.Views.{kept-in}
+use Rattle.engine_cells.proofs.Walking.{some-of}
 use Rattle.engine_tables.proofs.tables.Tables.use_again.Goals as goal
 
-pub unreachable-requires : goal.unreachable-requires
-unreachable-requires g c =
-    let there = c.index.ensures in
-    let found = listed-there c.self.inside.cells.slots c.self.inside.access.nodes c.self.inside.next_number c.args.place c.index.result.now c.in-Some.id c.self.invariant.kept there (sym c.get.ensures ∙ c.in-Some.is) in
-    let e : false ≡ true = c.in-Err.ensures.found.1 (ap (λ o. is_some o) found) in
-    cc
+abbrev with_access : {K V P S R : Type 0} → Kept K V P S R → List ℕ → Kept K V P S R
+with_access t ns = record t { state = record t.state { access = ns } }
+
+-- a change of what is inside, as it is seen
+seen-moved : {K V P S R : Type 0} (inside before new : Kept K V P S R) (number : ℕ) (access : List ℕ) → inside ≡ before → new ≡ with_access inside access → access ≡ moved_to_back number inside.state.access
+    → new ≡ with_access before (moved_to_back number before.state.access)
+seen-moved {K} {V} {P} {S} {R} inside before new number access is changed moved =
+    changed
+    ∙ ap (with_access inside) moved
+    ∙ ap (λ (t : Kept K V P S R). with_access t (moved_to_back number t.state.access)) is
+
+pub index_of-index-requires : goal.index_of-index-requires
+index_of-index-requires g c =
+    let seen = ap (λ t. kept_at t c.args.place) (sym c.self.view_is) ∙ kept-in c.self.inside.cells.slots c.args.place c.self.invariant.kept.apart in
+    sym (ap (λ o. is_some o) seen) ∙ c.requires
 
 pub invariant_of-self : goal.invariant_of-self
 invariant_of-self g c =
-    let there = c.index.ensures in
     let cells = c.self.inside.cells.slots in
-    let nodes = c.self.inside.access.nodes in
-    let id = c.in-Some.id in
-    let found = listed-there cells nodes c.self.inside.next_number c.args.place c.index.result.now id c.self.invariant.kept there (sym c.get.ensures ∙ c.in-Some.is) in
-    let moves = c.in-Ok.ensures.moves in
+    let places = c.self.inside.access.indices in
+    let i = c.args.place in
+    let x = some-of (cell_at cells i) (sym (ap (λ o. is_some o) (ap (λ t. kept_at t c.args.place) (sym c.self.view_is) ∙ kept-in c.self.inside.cells.slots c.args.place c.self.invariant.kept.apart)) ∙ c.requires) in
+    let counts = ap (λ o. has_counts o) (sym x.1) ∙ sym (c.self.invariant.used.listed i) ∙ ap (λ k. has_index k places) (sym c.index_of-index.ensures.is) ∙ sym c.contains.ensures ∙ c.if-contains.true in
     record {
-      kept = rw moves.nodes (kept-moved cells nodes c.self.inside.next_number c.args.place id c.self.inside.access.region c.self.inside.access.next_serial c.names_stand.ensures c.self.invariant.kept (access-there cells c.args.place c.index.result.now id there (sym c.get.ensures ∙ c.in-Some.is)));
+      kept = c.self.invariant.kept;
+      used = rw (c.move_to_back.ensures, c.index_of-index.ensures.is) (listed-moved cells cells places i x.0 c.self.invariant.used (gets-itself cells i x.0 x.1) counts);
+      written = c.self.invariant.written;
       cells = c.self.invariant.cells;
-      listed = c.self.invariant.listed;
       order = c.self.invariant.order;
-      access = rw moves.room c.self.invariant.access;
+      access = rw c.move_to_back.ensures (record { room = c.self.invariant.access.room; taken = c.self.invariant.access.taken; coming = c.self.invariant.access.coming });
       notices = c.self.invariant.notices;
       tallied = c.self.invariant.tallied;
       aimed = c.self.invariant.aimed;
+      reserved = c.self.invariant.reserved;
       tickets = c.self.invariant.tickets;
       numbers = c.self.invariant.numbers;
       spotted = c.self.invariant.spotted;
@@ -37,31 +50,27 @@ invariant_of-self g c =
       awaited = c.self.invariant.awaited;
     }
 
-pub returns-in-Ok : goal.returns-in-Ok
-returns-in-Ok g c =
-    let there = c.index.ensures in
+pub returns-then-contains : goal.returns-then-contains
+returns-then-contains g c =
     let cells = c.self.inside.cells.slots in
-    let nodes = c.self.inside.access.nodes in
-    let moves = c.in-Ok.ensures.moves in (
-      c.index.result.now.item,
-      ap (λ t. kept_at t c.args.place) (sym c.self.view_is) ∙ kept-in cells c.args.place c.self.invariant.kept.apart ∙ there-record cells c.args.place c.index.result.now there,
-      λ counts. rw (moves.nodes, ← c.self.view_is, access-moved cells nodes c.self.inside.next_number c.args.place c.index.result.now c.in-Some.id c.self.inside.access.region c.self.inside.access.next_serial c.names_stand.ensures c.self.invariant.kept there (sym c.get.ensures ∙ c.in-Some.is)) refl,
+    let places = c.self.inside.access.indices in
+    let i = c.args.place in
+    let x = some-of (cell_at cells i) (sym (ap (λ o. is_some o) (ap (λ t. kept_at t c.args.place) (sym c.self.view_is) ∙ kept-in c.self.inside.cells.slots c.args.place c.self.invariant.kept.apart)) ∙ c.requires) in
+    let moved = list-moved cells cells places i x.0 x.0 c.self.invariant.kept.apart c.self.invariant.used x.1 (gets-itself cells i x.0 x.1) refl in (
+      x.0,
+      ap (λ t. kept_at t i) (sym c.self.view_is) ∙ kept-in cells i c.self.invariant.kept.apart ∙ x.1,
+      λ counts. seen-moved _ c.args.self.now _ x.0.number (numbers_in cells (index_moved_to_back i places)) c.self.view_is (rw (c.move_to_back.ensures, c.index_of-index.ensures.is) refl) moved,
     )
 
-pub returns-in_default : goal.returns-in_default
-returns-in_default g c =
-    let there = c.index.ensures in
-    let cells = c.self.inside.cells.slots in (
-      c.index.result.now.item,
-      ap (λ t. kept_at t c.args.place) (sym c.self.view_is) ∙ kept-in cells c.args.place c.self.invariant.kept.apart ∙ there-record cells c.args.place c.index.result.now there,
+pub returns-else-contains : goal.returns-else-contains
+returns-else-contains g c =
+    let cells = c.self.inside.cells.slots in
+    let places = c.self.inside.access.indices in
+    let i = c.args.place in
+    let x = some-of (cell_at cells i) (sym (ap (λ o. is_some o) (ap (λ t. kept_at t c.args.place) (sym c.self.view_is) ∙ kept-in c.self.inside.cells.slots c.args.place c.self.invariant.kept.apart)) ∙ c.requires) in (
+      x.0,
+      ap (λ t. kept_at t i) (sym c.self.view_is) ∙ kept-in cells i c.self.invariant.kept.apart ∙ x.1,
       λ counts.
-          let a = c.self.invariant.kept.admitted c.args.place c.index.result.now there in
-          let b : is_some c.index.result.now.nodes.access_queue ≡ false = ap (λ o. is_some o) (sym c.get.ensures ∙ c.in_default.is) in
-          let e : false ≡ true = sym b ∙ a ∙ counts in
+          let e : false ≡ true = sym c.if-contains.false ∙ c.contains.ensures ∙ ap (λ k. has_index k places) c.index_of-index.ensures.is ∙ c.self.invariant.used.listed i ∙ ap (λ o. has_counts o) x.1 ∙ counts in
           absurd (cc),
     )
-
-pub index-requires : goal.index-requires
-index-requires g c =
-    let seen = ap (λ t. kept_at t c.args.place) (sym c.self.view_is) ∙ kept-in c.self.inside.cells.slots c.args.place c.self.invariant.kept.apart in
-    cell-there c.self.inside.cells.slots c.args.place (sym (ap (λ o. is_some o) seen) ∙ c.requires)

@@ -1,18 +1,16 @@
-use Rattle.std.proofs.Common.{◌≡◌, refl, ap, sym, ◌∙◌, subst, ◌+◌, ◌<◌, is_some, Some, arith, true}
+use Rattle.std.proofs.Common.{◌≡◌, refl, ap, sym, ◌∙◌, length-set, ◌-◌, subst, ◌+◌, ◌<◌, is_some, Some, arith, true}
 use Rattle.std.specs.Prelude.{slice_set}
 use Rattle.engine_reference.specs.declared.data.Record.{Record}
-use Rattle.engine_cells.specs.declared.cell.Cell.{Cell}
 use Rattle.engine_cells.specs.Kept.{kept_at}
-use Rattle.engine_cells.proofs.Views.{kept-in, there-record, numbers-alike, kept-alike, alike-set, numbers_of-set, count-set, unqueued-set}
+use Rattle.engine_cells.proofs.Views.{kept-in, numbers-alike, numbered-alike, listed-alike, alike-set, numbers_of-set, count-set}
 use Rattle.engine_cells.proofs.Listed.{records-set}
-use Rattle.engine_cells.proofs.Pointing.{pointed-alike, cell-there, aims-made, aims-there, more-unsent, told-same, told-room}
-use Rattle.engine_cells.proofs.Turned.{order-alike, order_waiting-set}
+use Rattle.engine_cells.proofs.Pointing.{pointed-alike, aims-made, aims-there, more-unsent, told-same, told-room}
 use Rattle.engine_reference.specs.Records.{held_weight, changed_at}
 use Rattle.engine_cells.specs.Cells.{records_by_number}
 use Rattle.engine_cells.proofs.Counting.{gets-set}
 use Rattle.engine_cells.specs.Writing.{put_for}
 use Rattle.engine_cells.proofs.Spotting.{IsSoughtAs, hash-alike, alike-sought, spotted-gets, hashed-gets}
-use Rattle.engine_cells.proofs.Totals.{held-is, tally-has, tally-fits, fits-less, tally-replaced}
+use Rattle.engine_cells.proofs.Totals.{held-is, tally-has, tally-fits, fits-less, tally-replaced, number-replaced, places-alike}
 use Rattle.std.proofs.Math.Logic.{∥∥₁_map}
 use Rattle.engine_pending.specs.Timers.Awaited.{IsSet}
 use Rattle.engine_cells.proofs.Awaits.{awaited-gets}
@@ -21,13 +19,13 @@ use Rattle.engine_tables.proofs.tables.Tables.write_over.Goals as goal
 pub index_mut-cell-requires : goal.index_mut-cell-requires
 index_mut-cell-requires g c =
     let seen = ap (λ t. kept_at t c.args.place) (sym c.self.view_is) ∙ kept-in c.self.inside.cells.slots c.args.place c.self.invariant.kept.apart in
-    cell-there c.self.inside.cells.slots c.args.place (sym (ap (λ o. is_some o) seen) ∙ c.requires.there)
+    sym (ap (λ o. is_some o) seen) ∙ c.requires.there
 
 pub overflow_add-cell : goal.overflow_add-cell
 overflow_add-cell g c =
     let x = c.index_mut-cell.result.now in
-    let seen = ap (λ t. kept_at t c.args.place) (sym c.self.view_is) ∙ kept-in c.self.inside.cells.slots c.args.place c.self.invariant.kept.apart ∙ there-record c.self.inside.cells.slots c.args.place x c.index_mut-cell.ensures.value in
-    let less = c.requires.fits x.item seen in
+    let seen = ap (λ t. kept_at t c.args.place) (sym c.self.view_is) ∙ kept-in c.self.inside.cells.slots c.args.place c.self.invariant.kept.apart ∙ c.index_mut-cell.ensures.value in
+    let less = c.requires.fits x seen in
     omega (arith, less)
 
 pub invariant_of-self : goal.invariant_of-self
@@ -35,40 +33,42 @@ invariant_of-self g c =
     let x = c.index_mut-cell.result.now in
     let there = c.index_mut-cell.ensures.value in
     let cells = c.self.inside.cells.slots in
-    let d : Cell g.row.K.Denot g.row.V.Denot = record x { item = record x.item { entry = c.replace-replaced.new.dest; writes = x.item.writes + 1 } } in
+    let d : Record g.row.K.Denot g.row.V.Denot = record x { entry = c.replace-replaced.new.dest; writes = x.writes + 1 } in
     let h = alike-set cells c.args.place x d there refl in
-    let room : 0 < c.self.inside.backlog.reserved = omega (arith, ap (λ t. t.state.reserved) c.self.view_is) in
+    let room : 0 < c.self.inside.backlog.reserved = omega (arith, ap (λ t. t.state.reserved) c.self.view_is, c.self.invariant.reserved) in
     let many = count-set cells c.args.place x d there in
-    let waits = unqueued-set cells c.args.place x d there refl in
-    let had = c.self.invariant.access in
-    let order_waits = order_waiting-set cells c.args.place x d there refl in
-    let order_had = c.self.invariant.order in
+    let has = tally-has cells c.args.place x c.self.inside.tally there c.self.invariant.tallied in
+    let number = number-replaced c.self.inside.tally c.without-others.result c.with-self-inside.result x d has c.without-others.ensures c.with-self-inside.ensures.more in
+    let places = places-alike c.self.inside.cells (record c.self.inside.cells { slots = slice_set cells c.args.place (Some d) }) c.self.inside.tally.number c.with-self-inside.result.number c.self.inside.backlog.reserved (c.self.inside.backlog.reserved - 1) x d in
+    let long = length-set cells c.args.place (Some d) in
     let tells = c.self.inside.backlog.settings.tells in
     let told = c.tell.ensures ∙ told-same tells c.args.cause c.replace-replaced.result c.self.inside.backlog in
     let less = told-room tells c.self.inside.backlog.notice_room in
-    let made = c.add_write.ensures.added in
-    let seen = ap (λ t. kept_at t c.args.place) (sym c.self.view_is) ∙ kept-in cells c.args.place c.self.invariant.kept.apart ∙ there-record cells c.args.place x there in
-    let alike : g.K.PartialEq.eq x.item.entry.key d.item.entry.key ≡ true = ap (λ e. g.K.PartialEq.eq x.item.entry.key e.key) c.replace-replaced.ensures.after ∙ c.requires.alike x.item seen in
-    let sought : IsSoughtAs g.K.PartialEq.eq x d = record { held = refl; hash = refl; key = λ key. alike-sought g.K.PartialEq.eq x.item.entry.key d.item.entry.key key g.met.K.Eq.laws alike } in
+    let made = c.add_write-self-inside.ensures.added in
+    let seen = ap (λ t. kept_at t c.args.place) (sym c.self.view_is) ∙ kept-in cells c.args.place c.self.invariant.kept.apart ∙ there in
+    let alike : g.K.PartialEq.eq x.entry.key d.entry.key ≡ true = ap (λ e. g.K.PartialEq.eq x.entry.key e.key) c.replace-replaced.ensures.after ∙ c.requires.alike x seen in
+    let sought : IsSoughtAs g.K.PartialEq.eq x d = record { held = refl; hash = refl; key = λ key. alike-sought g.K.PartialEq.eq x.entry.key d.entry.key key g.met.K.Eq.laws alike } in
     let had_keys = c.self.invariant.keys in
-    let kept = kept-alike cells (slice_set cells c.args.place (Some d)) c.self.inside.access.nodes c.self.inside.next_number h c.self.invariant.kept in
+    let kept = numbered-alike cells (slice_set cells c.args.place (Some d)) c.self.inside.next_number h c.self.invariant.kept in
     record {
       kept = kept;
-      listed = order-alike cells c.args.place x d c.self.inside.order.nodes c.self.inside.next_number there refl c.self.invariant.listed;
-      order = rw (made, told) (omega arith);
+      used = listed-alike cells (slice_set cells c.args.place (Some d)) c.self.inside.access.indices h c.self.invariant.used;
+      written = listed-alike cells (slice_set cells c.args.place (Some d)) c.self.inside.order.indices h c.self.invariant.written;
       cells = rw (made, told) (omega arith);
-      access = rw (made, told) (omega arith);
+      access = rw (made, told) (places c.self.inside.access c.self.invariant.access many long number refl (omega arith));
+      order = rw (made, told) (places c.self.inside.order c.self.invariant.order many long number refl (omega arith));
       notices = rw (made, told) (omega arith);
       tallied = tally-replaced cells c.args.place x d c.self.inside.tally c.without-others.result c.with-self-inside.result there c.with-self-inside.ensures.light c.self.invariant.tallied c.without-others.ensures c.with-self-inside.ensures.more;
       aimed = rw (made, told, c.put_of-write.ensures)
           (aims-made (slice_set cells c.args.place (Some d)) c.self.inside.next_number c.self.inside.backlog.next_ticket _
-          (aims-there (slice_set cells c.args.place (Some d)) c.self.inside.access.nodes c.self.inside.next_number c.args.place d kept (gets-set cells c.args.place x d there).there)
+          (aims-there (slice_set cells c.args.place (Some d)) c.self.inside.next_number c.args.place d kept (gets-set cells c.args.place x d there).there)
           (pointed-alike cells (slice_set cells c.args.place (Some d)) c.self.inside.next_number h c.self.invariant.aimed));
+      reserved = rw (made, told) (omega (arith, c.self.invariant.reserved));
       tickets = rw (made, told) (omega arith);
       numbers = rw (made, told) (omega arith);
       spotted = spotted-gets g.K.PartialEq.eq cells (slice_set cells c.args.place (Some d)) c.self.inside.keys c.args.place x d there (gets-set cells c.args.place x d there) sought c.self.invariant.spotted;
       hashed = rw (made, told) (hashed-gets g.K.PartialEq.eq cells (slice_set cells c.args.place (Some d)) c.self.inside.keys c.args.place x d there (gets-set cells c.args.place x d there) sought c.self.invariant.spotted _
-          (hash-alike g.S.Hasher.Hasher.finish g.S.Hasher.Hasher.write g.S.BuildHasher.build_hasher g.K.Hash.hash_input c.self.inside.backlog.hasher x.item.entry.key d.item.entry.key (g.met.K.Hash.respects_eq x.item.entry.key d.item.entry.key alike)) c.self.invariant.hashed);
+          (hash-alike g.S.Hasher.Hasher.finish g.S.Hasher.Hasher.write g.S.BuildHasher.build_hasher g.K.Hash.hash_input c.self.inside.backlog.hasher x.entry.key d.entry.key (g.met.K.Hash.respects_eq x.entry.key d.entry.key alike)) c.self.invariant.hashed);
       keys = rw (made, told) (omega arith);
       awaited = ∥∥₁_map c.self.invariant.awaited (λ k. awaited-gets cells (slice_set cells c.args.place (Some d)) c.self.inside.expirations c.set_changed.new.expirations c.args.place d (gets-set cells c.args.place x d there) c.set_changed.ensures.others c.set_changed.ensures.whole (λ held. subst (λ e. IsSet c.set_changed.new.expirations c.args.place e.expires) (sym c.replace-replaced.ensures.after) (c.set_changed.ensures.set (k c.args.place x there held))) k);
     }
@@ -78,23 +78,23 @@ returns g c =
     let x = c.index_mut-cell.result.now in
     let there = c.index_mut-cell.ensures.value in
     let cells = c.self.inside.cells.slots in
-    let d : Cell g.row.K.Denot g.row.V.Denot = record x { item = record x.item { entry = c.replace-replaced.new.dest; writes = x.item.writes + 1 } } in
+    let d : Record g.row.K.Denot g.row.V.Denot = record x { entry = c.replace-replaced.new.dest; writes = x.writes + 1 } in
     let h = alike-set cells c.args.place x d there refl in
     let f = λ (r : Record g.row.K.Denot g.row.V.Denot). record r { entry = c.args.entry; writes = r.writes + 1 } in
-    let is : d.item ≡ f x.item = ap (λ e. record x.item { entry = e; writes = x.item.writes + 1 }) c.replace-replaced.ensures.after in
+    let is : d ≡ f x = ap (λ e. record x { entry = e; writes = x.writes + 1 }) c.replace-replaced.ensures.after in
     let records = records-set cells c.args.place x d f (λ r. refl) c.self.invariant.kept.apart there is in
     let tallied = tally-replaced cells c.args.place x d c.self.inside.tally c.without-others.result c.with-self-inside.result there c.with-self-inside.ensures.light c.self.invariant.tallied c.without-others.ensures c.with-self-inside.ensures.more in
     let holds = sym (held-is (slice_set cells c.args.place (Some d)) c.with-self-inside.result tallied) ∙ ap held_weight records in
-    let write : c.put_of-write.result ≡ put_for (f x.item) (held_weight (changed_at x.item.number f (records_by_number cells))) = c.put_of-write.ensures ∙ ap (λ r. put_for r c.with-self-inside.result.held) is ∙ ap (λ n. put_for (f x.item) n) holds in (
-      x.item,
-      ap (λ t. kept_at t c.args.place) (sym c.self.view_is) ∙ kept-in cells c.args.place c.self.invariant.kept.apart ∙ there-record cells c.args.place x there,
+    let write : c.put_of-write.result ≡ put_for (f x) (held_weight (changed_at x.number f (records_by_number cells))) = c.put_of-write.ensures ∙ ap (λ r. put_for r c.with-self-inside.result.held) is ∙ ap (λ n. put_for (f x) n) holds in (
+      x,
+      ap (λ t. kept_at t c.args.place) (sym c.self.view_is) ∙ kept-in cells c.args.place c.self.invariant.kept.apart ∙ there,
       rw (
         ← c.self.view_is,
         records,
-        numbers-alike cells (slice_set cells c.args.place (Some d)) h c.self.inside.access.nodes,
-        numbers-alike cells (slice_set cells c.args.place (Some d)) h c.self.inside.order.nodes,
+        numbers-alike cells (slice_set cells c.args.place (Some d)) h c.self.inside.access.indices,
+        numbers-alike cells (slice_set cells c.args.place (Some d)) h c.self.inside.order.indices,
         numbers_of-set cells c.args.place x d there refl,
-        c.add_write.ensures.added,
+        c.add_write-self-inside.ensures.added,
         c.tell.ensures ∙ told-same c.self.inside.backlog.settings.tells c.args.cause c.replace-replaced.result c.self.inside.backlog,
         more-unsent c.self.inside.backlog.unsent c.self.inside.backlog.next_ticket (record { place = c.args.place; write = c.put_of-write.result }),
         write,
@@ -110,6 +110,6 @@ without-others-requires g c =
 pub with-self-inside-requires : goal.with-self-inside-requires
 with-self-inside-requires g c =
     let fits = tally-fits c.self.inside.cells.slots c.self.inside.tally c.self.invariant.tallied (omega (arith, c.len-many.ensures, c.len-many.type_inv)) in
-    let less = fits-less c.self.inside.tally c.without-others.result c.index_mut-cell.result.now.item fits c.without-others.ensures in
+    let less = fits-less c.self.inside.tally c.without-others.result c.index_mut-cell.result.now fits c.without-others.ensures in
     let number = less.number in
     record { held = less.held; weight = less.weight; number = omega (arith, number) }

@@ -1,0 +1,14 @@
+use Rattle.std.proofs.Common.{ℕ, ◌+◌, ◌++◌, ◌∷◌, [], cond, sym, ap, ◌∙◌, arith}
+use Rattle.engine_cells.proofs.Indexed.{without_lacked}
+use Rattle.engine_tables.proofs.tables.put_last.Goals as goal
+
+pub returns-else-contains : goal.returns-else-contains
+returns-else-contains c =
+    let off = sym c.contains.ensures ∙ c.if-contains.false in
+    let less = ap (λ q. q.room) c.push_back.ensures in
+    let some = (c.requires off).0 in
+    record {
+      indices = ap (λ q. q.indices) c.push_back.ensures ∙ ap (λ l. l ++ c.args.index ∷ []) (sym (without_lacked c.args.index c.args.queue.now.indices off));
+      room = ap (λ b. c.push_back.new.self.room + cond {A = ℕ} b 0 1) off ∙ omega (arith, less, some);
+      bound = ap (λ q. q.bound) c.push_back.ensures;
+    }
