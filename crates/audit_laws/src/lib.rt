@@ -16,17 +16,17 @@ pub use waiting::{
     records_send_later, records_settle, records_tidy, steps_tidy, tidy_at_first, tidy_settled,
 };
 
-/// A front of an obeying transcript obeys: its first records, however many.
+/// Each front (prefix) of a transcript that obeys obeys.
 pub fn fronts_obey()
     ensures { FrontsObey }
 {}
 
-/// Where no idle time stands beside own deadlines, a value's deadline is its own one, or else the earlier of live and idle time.
+/// If there is no idle time beside own deadlines, a value's deadline is its own one, or else the earlier of live and idle time.
 pub fn deadlines_agree()
     ensures { DeadlinesAgree }
 {}
 
-/// A transcript obeys, and none of its events is refused, exactly where each key has one part and its records follow one another from the
+/// A transcript obeys, and none of its events is refused, exactly if each key has one part and its records follow one another from the
 /// empty situation. Both directions, no premise.
 pub fn steps_agree()
     ensures { StepsAgree }
@@ -37,14 +37,14 @@ pub fn records_lead()
     ensures { RecordsLead }
 {}
 
-/// Where records follow one another, each step has the same place (task, line, what it sees, what it does, what is held after it) in the
+/// If records follow one another, each step has the same place (task, line, what it sees, what it does, what is held after it) in the
 /// whole history and in the situations.
 pub fn places_agree()
     ensures { PlacesAgree }
 {}
 
-/// A record's steps may be taken one after the other: what follows the first ones is what follows from the situation, and the tasks that
-/// are left, to which they lead.
+/// A record's steps may be taken one after the other: what follows after the first ones is what follows from the situation, and the tasks
+/// that are left, to which they lead.
 pub fn steps_in_parts()
     ensures { StepsInParts }
 {}
@@ -54,7 +54,7 @@ pub fn leads_on()
     ensures { LeadsOn }
 {}
 
-/// The same where each value's part is a function of its key: the record's values have their key's part too.
+/// The same if each value's part is a function of its key: the record's values have their key's part too.
 pub fn leads_on_by()
     ensures { LeadsOnBy }
 {}
@@ -65,34 +65,34 @@ pub fn led_obeys()
     ensures { LedObeys }
 {}
 
-/// `first_break`, the first record of which the front is not good, is the first that does not follow from the situation before it, or with
+/// `first_break`, the first record whose front is not good, is the first that does not follow from the situation before it, or with
 /// which a key gets a second part.
 pub fn breaks_agree()
     ensures { BreaksAgree }
 {}
 
-/// Where each key has one part over the whole transcript, `first_break` is the first record that does not follow.
+/// If each key has one part over the whole transcript, `first_break` is the first record that does not follow.
 pub fn breaks_where_unfollowed()
     ensures { BreaksWhereUnfollowed }
 {}
 
-/// The test `is_good` says of a transcript just that it obeys and that none of its events is refused.
+/// The test `is_good` says exactly that a transcript obeys and that none of its events is refused.
 pub fn good_is_faultless()
     ensures { GoodIsFaultless }
 {}
 
-/// `first_break` is none exactly where a transcript obeys and none of its events is refused, and else ends the shortest front of which that
-/// is not so.
+/// `first_break` is none exactly if a transcript obeys and none of its events is refused, and otherwise ends the shortest front of which
+/// that is not so.
 pub fn first_break_is_first()
     ensures { FirstBreakIsFirst }
 {}
 
-/// With no capacity an obeying transcript tells no value with the cause `Size`.
+/// Without capacity a transcript that obeys reports no value with the cause `Size`.
 pub fn nothing_told_size()
     ensures { NothingToldSize }
 {}
 
-/// Where records lead from one situation to another, a key that had no live value has one only where those records accepted it.
+/// If records lead from one situation to another, a key that had no live value has one only if those records accepted it.
 pub fn live_by_acceptance()
     ensures { LiveByAcceptance }
 {}
@@ -108,7 +108,7 @@ pub fn idle_keeps()
     ensures { IdleKeeps }
 {}
 
-/// A step of `HAS` or `KEYS`, where the values held are orderly, changes nothing of the situation but its own connection.
+/// A step of `HAS` or `KEYS`, if the values held are orderly, changes nothing of the situation but its own connection.
 pub fn asking_changes_nothing()
     ensures { AskingChangesNothing }
 {}
@@ -119,47 +119,47 @@ pub fn keys_answer()
 {}
 
 /// Records that belong to a list of inputs from situation to situation (in order, each the input's event and following; none for an input
-/// of another namespace or a refused one, and perhaps none for want of memory) lead to the last situation; from the empty one their
+/// of another namespace or a refused one, and perhaps none for lack of memory) lead to the last situation; from the empty one their
 /// transcript belongs to the inputs.
 pub fn belongs_step_by_step()
     ensures { BelongsStepByStep }
 {}
 
-/// Records that belong to inputs from situation to situation belong to one input more, with no record of it, or with one that is the
-/// input's event and follows; and two lists of inputs may be put together.
+/// Records that belong to inputs from situation to situation belong to one more input, with no record of it, or with one that is the
+/// input's event and follows; and two lists of inputs may be concatenated.
 pub fn belongs_on()
     ensures { BelongsOn }
 {}
 
-/// From situation to situation: a record of a feed with no held step may be cut into the records of two feeds, each step put where the byte
-/// that lets it run came (the second is left out where the first closes the connection), and two such records of one connection at one
-/// moment may be joined.
+/// From situation to situation: a record of a feed with no held step may be cut into the records of two feeds, with each step in the feed
+/// whose byte lets it run (the second is left out if the first closes the connection), and two such records of one connection at one moment
+/// may be joined.
 pub fn feeds_may_be_cut()
     ensures { FeedsMayBeCut }
 {}
 
-/// A transcript that obeys, and has no refused event, stays so where a feed of it that holds nothing back is cut in two, and where two
+/// A transcript that obeys, and has no refused event, stays so if a feed of it that holds nothing back is cut in two, and if two
 /// neighbouring feeds of one connection at one moment are joined.
 pub fn transcripts_may_be_cut()
     ensures { TranscriptsMayBeCut }
 {}
 
-/// A transcript that obeys still does, whether or not some of its events are refused ones, where a feed of it that holds nothing back is
-/// cut in two, and where two neighbouring feeds of one connection at one moment are joined; where the first closes the connection, also
+/// A transcript that obeys still does, whether or not some of its events are refused ones, if a feed of it that holds nothing back is
+/// cut in two, and if two neighbouring feeds of one connection at one moment are joined; if the first closes the connection, also
 /// without the second.
 pub fn obeying_may_be_cut()
     ensures { ObeyingMayBeCut }
 {}
 
-/// Two transcripts of the same events, each faultless for its own configuration, have the same steps with the same replies but for
-/// `SYNC`'s, where nothing is told `Size` and the same steps are held back and the same `DROPIF`s refused. Their configurations may differ
-/// in policy, number of parts and capacity, as long as both accept values or neither does; the part of each value and where values are told
-/// may differ freely.
+/// Two transcripts of the same events, each faultless for its own configuration, have the same steps with the same replies, except for
+/// `SYNC`'s, if nothing is reported as `Size` and the same steps are held back and the same `DROPIF`s refused. Their configurations may
+/// differ in policy, number of parts and capacity, as long as both accept values or neither does; the part of each value and the steps that
+/// report values may differ freely.
 pub fn replies_by_commands()
     ensures { RepliesByCommands }
 {}
 
-/// Where the configuration has one part, a transcript whose records follow one another from the empty situation obeys, and none of its
+/// If the configuration has one part, a transcript whose records follow one another from the empty situation obeys, and none of its
 /// events is refused.
 pub fn one_part_obeys()
     ensures { OnePartObeys }

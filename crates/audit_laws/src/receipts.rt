@@ -1,4 +1,4 @@
-//! Receipts: what a service answered to an input, with the number of the input's record.
+//! Receipts: what a service returned for an input, with the number of the input's record.
 mod asking;
 mod laws;
 mod output;

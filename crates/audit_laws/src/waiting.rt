@@ -1,4 +1,5 @@
-//! Laws of who waits for loads: of all connections, and of one that alone waits. Each function does nothing: its contract is the law.
+//! Laws of connections that wait for loads: of all connections, and of one while no other waits. Each function does nothing: its contract
+//! is the law.
 ghost use Rattle.audit_laws.specs.Waiting.Alone.{RecordsAlone};
 ghost use Rattle.audit_laws.specs.Waiting.Apart.{RecordsApart};
 ghost use Rattle.audit_laws.specs.Waiting.Closed.{ClosedUnwaited, GivesUpUnwaited};
@@ -11,7 +12,7 @@ pub fn tidy_at_first()
     ensures { TidyAtFirst }
 {}
 
-/// When a load is settled, each connection that waited for it is still to be told, once, and waits for no other load.
+/// When a load is settled, each connection that waited for it is still to be answered, once, and waits for no other load.
 pub fn tidy_settled()
     ensures { TidySettled }
 {}
@@ -21,12 +22,13 @@ pub fn steps_tidy()
     ensures { StepsTidy }
 {}
 
-/// A record that follows keeps it so that each connection that waits for a load is open, its `LOAD` waits, and it waits for one load once.
+/// After a record that follows, each connection that waits for a load is open, its `LOAD` waits, and it waits for one load once, if this
+/// was so before.
 pub fn records_tidy()
     ensures { RecordsTidy }
 {}
 
-/// A record that follows where no other connection waits for a load has steps of that connection alone, and leaves it so.
+/// A record that follows while no other connection waits for a load has steps of that connection only, and leaves it so.
 pub fn records_alone()
     ensures { RecordsAlone }
 {}
@@ -36,12 +38,12 @@ pub fn records_apart()
     ensures { RecordsApart }
 {}
 
-/// Where no other connection waits, and this one is not open, nobody waits for a load.
+/// If no other connection waits, and this one is not open, nobody waits for a load.
 pub fn closed_unwaited()
     ensures { ClosedUnwaited }
 {}
 
-/// A give-up where nobody waits has no steps, and takes its load away alone.
+/// A give-up while nobody waits has no steps, and only removes its load.
 pub fn gives_up_unwaited()
     ensures { GivesUpUnwaited }
 {}
@@ -56,7 +58,7 @@ pub fn records_send_later()
     ensures { RecordsSendLater }
 {}
 
-/// A load that was sent is not under way behind the record that settles it.
+/// A load that was sent is not under way after the record that settles it.
 pub fn records_settle()
     ensures { RecordsSettle }
 {}

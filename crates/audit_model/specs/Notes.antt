@@ -20,6 +20,10 @@ cause_word Explicit = codes "Explicit"
 cause_word Replaced = codes "Replaced"
 cause_word Size = codes "Size"
 
+-- the line of a note
+abbrev pub note_text : Note → List ℕ
+note_text note = codes "NOTE " ++ cause_word note.cause ++ 32 ∷ [] ++ note.key ++ 32 ∷ [] ++ note.value ++ 10 ∷ []
+
 -- the two are the same cause
 abbrev pub same_cause : RemovalCause → RemovalCause → Bool
 same_cause Expired Expired = true

@@ -11,7 +11,7 @@ use std::marker::Model;
 
 /// A key. Contracts see its bytes.
 ///
-/// A namespace keeps one that each line fills in turn, so that look-ups take no memory; a store clones it where it keeps it.
+/// A namespace keeps one that each line fills in turn, so that look-ups allocate nothing; a store clones it to keep it.
 #[derive(Drop)]
 pub struct Key {
     bytes: Vec<u8>,
@@ -26,7 +26,7 @@ impl Model for Key {
 }
 
 impl Key {
-    /// A key without bytes, with room for so many.
+    /// Creates a key without bytes, with room for this many.
     pub fn with_capacity(alloc: Global, room: usize) -> Result<Key, AllocError>
         ensures { IfOk result (λ made. made ≡ []) }
     {
@@ -34,21 +34,21 @@ impl Key {
         Ok(Key { bytes })
     }
 
-    /// Its bytes.
+    /// Returns its bytes.
     pub fn as_bytes(&self) -> &[u8]
         ensures { result.now ≡ self.now }
     {
         self.bytes.as_slice()
     }
 
-    /// Becomes these bytes. It takes no memory where it has room for them.
+    /// Replaces its bytes. It allocates nothing if there is room for them.
     pub fn fill(&mut self, bytes: &[u8]) -> Result<(), AllocError>
         ensures { OnOk result (self.new ≡ bytes.now) }
     {
         refill(&mut self.bytes, bytes)
     }
 
-    /// The bytes moved out.
+    /// Returns its bytes, moved out.
     pub fn into_vec(self) -> Vec<u8>
         ensures { result.items ≡ self }
     {
@@ -56,7 +56,7 @@ impl Key {
     }
 }
 
-/// Replaces what a buffer holds; never refused where there is room.
+/// Replaces the content of a buffer; never refused if there is room.
 fn refill(buffer: &mut Vec<u8>, bytes: &[u8]) -> Result<(), AllocError>
     ensures filled { OnOk result (buffer.new.items ≡ bytes.now) }
     ensures room { length bytes.now ≤ vec_capacity buffer.old → IsOk result }

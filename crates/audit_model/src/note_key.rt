@@ -7,7 +7,7 @@ use std::alloc::AllocError;
 use std::marker::Model;
 use std::sync::Arc;
 
-/// Bytes of one's own, or a key that is shared.
+/// Owned bytes, or a shared key.
 #[derive(Drop)]
 enum KeyBytes {
     Own(Vec<u8>),
@@ -16,7 +16,8 @@ enum KeyBytes {
 
 /// The key of a note. Contracts see its bytes.
 ///
-/// It owns its bytes, or shares the key with the store that told the note: so a store tells one, and hands it out, without memory.
+/// It owns its bytes, or shares the key with the store that reported the note, so that a store reports a note, and returns it, without
+/// allocating.
 #[derive(Drop)]
 pub struct NoteKey {
     bytes: KeyBytes,
@@ -33,7 +34,7 @@ impl Model for NoteKey {
 }
 
 impl NoteKey {
-    /// The bytes, in order.
+    /// Returns the bytes, in order.
     pub fn as_slice(&self) -> &[u8]
         ensures { result.now ≡ self.now }
     {

@@ -7,7 +7,8 @@ use Rattle.std.specs.Option.{option_map_or, option_copied}
 use Rattle.std.proofs.lemmas.Option.{none-some}
 use Rattle.std.proofs.lemmas.Bool.{not-true, and_parts, and_from, eq-eqb, eqb-true}
 use Rattle.lru.specs.LruCache.{LruCache, lru_cache, put_entries, demoted}
-use Rattle.audit_situation.specs.Listings.{is_new_number, is_listing, changed_at}
+use Rattle.audit_loads.specs.Numbered.{changed_at}
+use Rattle.audit_situation.specs.Listings.{is_new_number, is_listing}
 
 flip : (m n : ℕ) → (m == n) ≡ (n == m)
 flip m n = go (m == n) (n == m) refl refl

@@ -7,7 +7,7 @@ use Rattle.std.proofs.lemmas.Option.{none-some}
 use Rattle.std.proofs.lemmas.Bool.{eqb-true, and_parts, not-true}
 use Rattle.audit_model.specs.Changes.{join_by}
 use Rattle.audit_model.specs.Situation.{Situation, Connection, connection_in, without_number, without_connection, with_connection, is_overlong, without_waiting}
-use Rattle.audit_situation.specs.Listings.{changed_at}
+use Rattle.audit_loads.specs.Numbered.{changed_at}
 use Rattle.audit_situation.specs.States.{have_numbers_apart}
 
 -- what a step does to loads changes no connection

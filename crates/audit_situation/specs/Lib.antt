@@ -4,4 +4,3 @@ pub mod Actions
 pub mod Listings
 pub mod Standings
 pub mod States
-pub mod Underway

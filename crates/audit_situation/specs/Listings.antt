@@ -1,5 +1,5 @@
 -- What is kept by number.
-use Rattle.std.specs.Prelude.{ℕ, Bool, true, not, ◌&&◌, ◌==◌, List, [], ◌∷◌, if◌then◌else◌}
+use Rattle.std.specs.Prelude.{ℕ, Bool, true, not, ◌&&◌, ◌==◌, List, [], ◌∷◌}
 use Rattle.std.specs.List.{list_all}
 
 -- none of the entries has that number
@@ -10,7 +10,3 @@ is_new_number n es = list_all (λ e. not (e.0 == n)) es
 abbrev pub is_listing : {X : Type 0} → (X → ℕ) → List (ℕ × X) → Bool
 is_listing number [] = true
 is_listing number (e ∷ es) = (e.0 == number e.1) && is_new_number e.0 es && is_listing number es
-
--- changes what is of that number
-abbrev pub changed_at : {X : Type 0} → (X → ℕ) → ℕ → (X → X) → X → X
-changed_at number n f x = if number x == n then f x else x

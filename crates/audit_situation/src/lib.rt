@@ -4,7 +4,6 @@
 pub mod actions;
 pub mod held;
 mod joined;
-mod keys;
 mod link;
 mod links;
 mod loads;

@@ -3,7 +3,8 @@ ghost use Rattle.std.specs.Prelude.{◌≡◌, ◌^◌, ◌-◌, ◌++◌, ◌�
 ghost use Rattle.std.specs.List.{find};
 ghost use Rattle.std.specs.Option.{option_map_or};
 ghost use Rattle.audit_model.specs.Situation.{Connection, is_overlong, without_number};
-ghost use Rattle.audit_situation.specs.Listings.{is_listing, changed_at};
+ghost use Rattle.audit_loads.specs.Numbered.{changed_at};
+ghost use Rattle.audit_situation.specs.Listings.{is_listing};
 ghost use Rattle.audit_situation.specs.Standings.{moved_as, fed_with};
 
 use crate::link::{Link, Moving, feed_link, move_link};

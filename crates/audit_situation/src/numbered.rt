@@ -2,7 +2,8 @@
 ghost use Rattle.std.specs.Prelude.{◌≡◌, ◌^◌, ◌-◌, ◌++◌, ◌∷◌, [], map, true, not, ◌==◌, IfOk, OnOk, OnErr, option_map};
 ghost use Rattle.std.specs.List.{find, filter};
 ghost use Rattle.audit_model.specs.Situation.{PendingLoad, without_waiting};
-ghost use Rattle.audit_situation.specs.Listings.{is_listing, changed_at};
+ghost use Rattle.audit_loads.specs.Numbered.{changed_at};
+ghost use Rattle.audit_situation.specs.Listings.{is_listing};
 
 use crate::pending::Pending;
 use lru::LruCache;

@@ -28,6 +28,10 @@ pub on-three : {T E : Type 0} (r : Result T E) (A B C D : Type 0) → OnOk r A �
 on-three (Ok x) A B C D a b c f = f a b c
 on-three (Err e) A B C D a b c f = tt
 
+pub on-both : {T E : Type 0} (r : Result T E) (A B C : Type 0) → OnOk r A → OnOk r B → (A → B → C) → OnOk r C
+on-both (Ok x) A B C a b f = f a b
+on-both (Err e) A B C a b f = tt
+
 pub on-one : {T E : Type 0} (r : Result T E) (A B : Type 0) → OnOk r A → (A → B) → OnOk r B
 on-one (Ok x) A B a f = f a
 on-one (Err e) A B a f = tt

@@ -1,7 +1,7 @@
 -- From what a store's call does to what a line owes.
-use Rattle.std.proofs.Common.{◌≡◌, ℕ, ◌≤◌, Bool, true, false, ◌||◌, List, [], ◌∷◌, ◌++◌, length, map, Option, Some, None, refl, sym, ap, ◌∙◌, subst, arith}
-use Rattle.std.proofs.lemmas.List.{append-nil, append_assoc, append_cancel_left}
-use Rattle.std.specs.Prelude.{Ok, Err, IfSome, codes, option_map, decimal}
+use Rattle.std.proofs.Common.{◌≡◌, ℕ, ◌≤◌, Bool, true, false, ◌||◌, List, ◌++◌, length, map, Option, Some, None, refl, sym, ap, ◌∙◌, subst, arith}
+use Rattle.std.proofs.lemmas.List.{append-nil, append_cancel_left}
+use Rattle.std.specs.Prelude.{Ok, Err, IfSome, codes, option_map, decimal, is_some}
 use Rattle.std.specs.List.{concat, list_all}
 use Rattle.std.specs.Prelude.{IsTrue, get_or}
 use Rattle.audit_model.specs.Bytewise.{is_empty, text_line}
@@ -11,7 +11,7 @@ use Rattle.cache_store.specs.Running.{is_timely}
 use Rattle.audit_model.specs.Commands.{Covering, Deed, Everything, Nothing, Prefixed, is_sync}
 use Rattle.audit_model.specs.Grammar.{Reading}
 use Rattle.audit_model.specs.History.{Storing, Value, accepts_values}
-use Rattle.audit_model.specs.Replies.{fault_text, keys_listed, offered, taken_where, yes_or_no}
+use Rattle.audit_model.specs.Replies.{fault_text, keys_listed, offered, taken_where, value_or_none, yes_or_no}
 use Rattle.audit_model.specs.Situation.{HeldValue, Situation, live_at, live_keys_at, view_in}
 use Rattle.audit_model.specs.Steps.{action_by}
 use Rattle.audit_model.specs.declared.command.Command.TheVariants as says
@@ -21,12 +21,12 @@ use Rattle.audit_model.specs.declared.event.Outcome.TheVariants as came
 use Rattle.audit_model.specs.declared.command.LineError.{LineError}
 use Rattle.audit_model.specs.declared.transcript.Accepted.{Accepted}
 use Rattle.cache_store.specs.Handing.{AppendsNotes}
-use Rattle.cache_store.specs.Promises.{Done, Finds, Frame, accepting, covering, deleting, syncing, using, value_for}
+use Rattle.cache_store.specs.Promises.{Done, Frame, accepting, covering, deleting, syncing, using, value_for}
 use Rattle.cache_commands.proofs.Adding.{answers-add, answers-add-error, answers-add-off, sum-found}
 use Rattle.cache_commands.proofs.LoadSteps.{found-load, stores-nothing, stores-off, stores-value}
+use Rattle.cache_commands.specs.Found.{found_text}
 use Rattle.cache_commands.specs.Sums.{sum_of_bytes}
-use Rattle.std.proofs.lemmas.Option.{none-some}
-use Rattle.cache_commands.proofs.Answering.{taken-back, answers-fault, answers-found, answers-has, answers-keys, answers-none, answers-off, answers-quit, answers-refused, answers-set, answers-sync, keys-written, no-found, undropped, yes-found}
+use Rattle.cache_commands.proofs.Answering.{answers-fault, answers-get, answers-has, answers-keys, answers-off, answers-quit, answers-refused, answers-set, answers-sync, keys-written, no-found, undropped, yes-found}
 use Rattle.cache_commands.proofs.Ordering.{moves-add, moves-del, moves-drop, moves-fault, moves-get, moves-has, moves-keys, moves-off, moves-quit, moves-set, moves-sync}
 use Rattle.cache_commands.proofs.Drawn.{draws-alone, draws-kept, draws-none, draws-registers}
 use Rattle.cache_commands.specs.Drawing.{DrawsForParts}
@@ -112,29 +112,18 @@ answered-del now key was is old new sound d w =
     })
     tt refl (moves-del was.frame.config was.Used is.Used key (λ n keys plain u. d.used n keys plain u))
 
-finds-some : (o : Option Value) (bytes before : List ℕ) → Some bytes ≡ option_map (λ (v : Value). v.bytes) o → Finds o true before (before ++ bytes)
-finds-some None bytes before h = absurd (none-some bytes (sym h))
-finds-some (Some v) bytes before h = let e : bytes ≡ v.bytes = cc in (refl, ap (λ b. before ++ b) e)
+-- the text of what was found is the reply
+found-reply : (o : Option Value) → found_text (option_map (λ (v : Value). v.bytes) o) ≡ value_or_none o
+found-reply None = refl
+found-reply (Some v) = refl
 
-finds-none : (o : Option Value) (before : List ℕ) → None ≡ option_map (λ (v : Value). v.bytes) o → Finds o false before before
-finds-none None before h = (refl, refl)
-finds-none (Some v) before h = absurd (none-some v.bytes h)
-
-pub answered-found : (now : ℕ) (key bytes : List ℕ) (was is : Values) (old new : List ℕ) → IsSoundStore was → IsLive was now key (Some bytes) → new ≡ old ++ (codes "VAL " ++ bytes ++ codes "\n") → Does now (using key) was is
+pub answered-get : (now : ℕ) (key : List ℕ) (found : Option (List ℕ)) (was is : Values) (old new : List ℕ) → IsSoundStore was → IsLive was now key found → new ≡ old ++ found_text found → Does now (using key) was is
     → IsAnswered now (Ok (says.Get key)) None was is old new
-answered-found now key bytes was is old new sound live w d =
-    let before = old ++ codes "VAL " in
+answered-get now key found was is old new sound live w d =
     answered-by now (Ok (says.Get key)) None (using key) was is old new sound d refl
-    (λ s a. answers-found was.frame.config s now key old before (before ++ bytes) new true is.Stands is.frame.dropped (AppendsNotes was.untaken is.untaken) a.at refl refl (finds-some _ bytes before (live s.held a.stands))
-    (w ∙ sym (append_assoc before bytes (10 ∷ []) ∙ append_assoc old (codes "VAL ") (bytes ++ 10 ∷ []))) (d.done s.held a.stands) (still now (using key) was is s d refl a))
-    tt refl (moves-get was.frame.config was.Used is.Used key (λ n keys plain u. d.used n keys plain u))
-
-pub answered-none : (now : ℕ) (key : List ℕ) (was is : Values) (old new : List ℕ) → IsSoundStore was → IsLive was now key None → new ≡ old ++ codes "NONE\n" → Does now (using key) was is → IsAnswered now (Ok (says.Get key)) None was is old new
-answered-none now key was is old new sound live w d =
-    let before = old ++ codes "VAL " in
-    answered-by now (Ok (says.Get key)) None (using key) was is old new sound d refl
-    (λ s a. answers-none was.frame.config s now key old before before new false is.Stands is.frame.dropped (AppendsNotes was.untaken is.untaken) a.at refl refl (finds-none _ before (live s.held a.stands))
-    (w ∙ ap (λ k. k ++ codes "NONE\n") (sym (taken-back old before before refl refl))) (d.done s.held a.stands) (still now (using key) was is s d refl a))
+    (λ s a. answers-get was.frame.config s key (found_text found) old new is.Stands is.frame.dropped (AppendsNotes was.untaken is.untaken) w
+    (ap found_text (live s.held a.stands) ∙ found-reply (live_at was.frame.config now s.held key) ∙ ap (λ n. value_or_none (live_at was.frame.config n s.held key)) (sym a.at))
+    (at-moment now (using key) was is s d a) (still now (using key) was is s d refl a))
     tt refl (moves-get was.frame.config was.Used is.Used key (λ n keys plain u. d.used n keys plain u))
 
 pub answered-set : (now : ℕ) (key bytes : List ℕ) (ms : Option ℕ) (part : ℕ) (was is : Values) (old new : List ℕ) → IsSoundStore was → accepts_values was.frame.config.capacity ≡ true
@@ -291,9 +280,10 @@ moves-load config Old New key = record { moves = λ n order plain agrees. tt }
 
 -- ---- a `LOAD` that finds a value
 
-pub answered-load : (now : ℕ) (key bytes : List ℕ) (was is : Values) (old new : List ℕ) → IsLive was now key (Some bytes) → IsAnswered now (Ok (says.Get key)) None was is old new
+pub answered-load : (now : ℕ) (key : List ℕ) (found : Option (List ℕ)) (was is : Values) (old new : List ℕ) → is_some found ≡ true → IsLive was now key found → IsAnswered now (Ok (says.Get key)) None was is old new
     → IsAnswered now (Ok (says.Load key)) None was is old new
-answered-load now key bytes was is old new live a = record {
+answered-load now key None was is old new some live a = let no : false ≡ true = some in cc
+answered-load now key (Some bytes) was is old new some live a = record {
   right = λ s g. found-load was.frame.config s now key bytes old new is.Stands is.frame.dropped (AppendsNotes was.untaken is.untaken) g.at (live s.held g.stands) (a.right s g);
   part = tt;
   timely = λ h. let e : false ≡ true = h in cc;

@@ -4,13 +4,12 @@ use Rattle.std.specs.Prelude.{codes, option_map}
 use Rattle.std.proofs.lemmas.Bool.{eq-eqb, lt-ltb}
 use Rattle.audit_model.specs.Bytewise.{same, text_line}
 use Rattle.audit_model.specs.History.{Running, Value}
-use Rattle.std.specs.Prelude.{take, nat_lt, length, decimal, IsTrue}
+use Rattle.std.specs.Prelude.{nat_lt, length, decimal, IsTrue}
 use Rattle.std.specs.List.{sum_by, list_all, concat}
 use Rattle.std.proofs.Common.{◌<◌, ◌+◌}
 use Rattle.std.proofs.lemmas.List.{length-map}
 use Rattle.std.specs.List.{fold}
 use Rattle.std.specs.Prelude.{is_some}
-use Rattle.std.proofs.Math.Seq.{take-append_seam}
 use Rattle.std.proofs.lemmas.List.{append-nil}
 use Rattle.audit_model.specs.Changes.{all_held_after}
 use Rattle.audit_model.specs.Commands.{Deed}
@@ -26,7 +25,7 @@ use Rattle.audit_model.specs.View.{Candidate}
 use Rattle.audit_model.specs.declared.command.Command.TheVariants as says
 use Rattle.audit_model.specs.declared.config.Config.{Config}
 use Rattle.audit_model.specs.declared.transcript.Note.{Note}
-use Rattle.cache_store.specs.Promises.{Done, Finds, using}
+use Rattle.cache_store.specs.Promises.{Done, using}
 use Rattle.cache_commands.specs.Right.{RepliesRightly}
 
 pub same-refl : (a : List ℕ) → same a a ≡ true
@@ -69,34 +68,6 @@ answers-get config s key reply old new Stands dropped Handed w r d kept = record
   dropped_is = undropped s dropped kept;
   handed = d.handed;
 }
-
--- a `GET` that finds a value
-pub answers-found : (config : Config) (s : Situation) (now : ℕ) (key old before middle new : List ℕ) (found : Bool) (Stands : List HeldValue → Type 0) (dropped : Bool) (Handed : List Note → Type 0)
-    → s.latest ≡ now → found ≡ true → before ≡ old ++ codes "VAL " → Finds (live_at config now s.held key) found before middle → new ≡ middle ++ 10 ∷ []
-    → Done config now (using key) s.held Stands Handed → dropped ≡ s.dropped → RepliesRightly config s (Running (says.Get key)) None Stands dropped Handed old new
-answers-found config s now key old before middle new found Stands dropped Handed at is_found b f w d kept = go (live_at config now s.held key) refl f
-  where
-    go : (v : Option Value) → live_at config now s.held key ≡ v → Finds v found before middle → RepliesRightly config s (Running (says.Get key)) None Stands dropped Handed old new
-    go None e g = let h : true ≡ false = sym is_found ∙ g.0 in cc
-    go (Some v) e g =
-        answers-get config s key (codes "VAL " ++ v.bytes ++ 10 ∷ []) old new Stands dropped Handed
-        (w ∙ ap (λ m. m ++ 10 ∷ []) (g.1 ∙ ap (λ k. k ++ v.bytes) b) ∙ append_assoc (old ++ codes "VAL ") v.bytes (10 ∷ []) ∙ append_assoc old (codes "VAL ") (v.bytes ++ 10 ∷ []) ∙ ap (λ m. old ++ m) (sym (append_assoc (codes "VAL ") v.bytes (10 ∷ []))))
-        (ap value_or_none (sym e ∙ ap (λ n. live_at config n s.held key) (sym at))) (subst (λ n. Done config n (using key) s.held Stands Handed) (sym at) d) kept
-
--- a `GET` that finds none
-pub answers-none : (config : Config) (s : Situation) (now : ℕ) (key old before after new : List ℕ) (found : Bool) (Stands : List HeldValue → Type 0) (dropped : Bool) (Handed : List Note → Type 0)
-    → s.latest ≡ now → found ≡ false → before ≡ old ++ codes "VAL " → Finds (live_at config now s.held key) found before after → new ≡ take (length old) after ++ codes "NONE\n"
-    → Done config now (using key) s.held Stands Handed → dropped ≡ s.dropped → RepliesRightly config s (Running (says.Get key)) None Stands dropped Handed old new
-answers-none config s now key old before after new found Stands dropped Handed at is_found b f w d kept = go (live_at config now s.held key) refl f
-  where
-    go : (v : Option Value) → live_at config now s.held key ≡ v → Finds v found before after → RepliesRightly config s (Running (says.Get key)) None Stands dropped Handed old new
-    go None e g =
-        answers-get config s key (codes "NONE\n") old new Stands dropped Handed (w ∙ ap (λ k. take (length old) k ++ codes "NONE\n") (g.1 ∙ b) ∙ ap (λ k. k ++ codes "NONE\n") (take-append_seam old (codes "VAL ")))
-        (ap value_or_none (sym e ∙ ap (λ n. live_at config n s.held key) (sym at))) (subst (λ n. Done config n (using key) s.held Stands Handed) (sym at) d) kept
-    go (Some v) e g = let h : false ≡ true = sym is_found ∙ g.0 in cc
-
-pub taken-back : (old before after : List ℕ) → before ≡ old ++ codes "VAL " → after ≡ before → take (length old) after ≡ old
-taken-back old before after b a = ap (take (length old)) (a ∙ b) ∙ take-append_seam old (codes "VAL ")
 
 -- ---- a `SET`
 
@@ -316,14 +287,3 @@ answers-refused config s prefix old new waited untaken Stands dropped before w m
       dropped_is = undropped s dropped kept;
       handed = record { added = same ∙ sym (append-nil waited) };
     }
-
--- ---- sums
-
-take-whole : (xs : List ℕ) → take (length xs) xs ≡ xs
-take-whole [] = refl
-take-whole (x ∷ xs) = ap (λ ys. x ∷ ys) (take-whole xs)
-
--- what a look-up writes stands behind
-pub found-behind : (o : Option Value) (is_found : Bool) (old new : List ℕ) → Finds o is_found old new → take (length old) new ≡ old
-found-behind None is_found old new f = ap (take (length old)) f.1 ∙ take-whole old
-found-behind (Some v) is_found old new f = ap (take (length old)) f.1 ∙ take-append_seam old v.bytes

@@ -1,2 +1,3 @@
+mod Found
 mod Keys
-mod Mapping
+mod Numbers

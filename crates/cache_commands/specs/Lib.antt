@@ -4,5 +4,6 @@ pub mod Loading
 pub mod Order
 pub mod Right
 pub mod Sums
+pub mod Found
 pub mod Answered
 pub mod Ran

@@ -1,5 +1,5 @@
 -- What a line did.
-use Rattle.std.specs.Prelude.{◌≡◌, ℕ, ◌++◌, codes, Bool, true, false, List, Option, Some, None, Ok}
+use Rattle.std.specs.Prelude.{◌≡◌, ℕ, Bool, true, false, List, None, Ok}
 use Rattle.audit_model.specs.Grammar.{Reading}
 use Rattle.audit_model.specs.declared.command.Command.TheVariants as says
 use Rattle.audit_model.specs.declared.config.Config.{Config}
@@ -9,7 +9,7 @@ use Rattle.audit_lines.specs.declared.request.Request.TheVariants.{Set, Get, Has
 use Rattle.cache_commands.specs.Answered.{IsAnswered, IsTakable}
 use Rattle.cache_commands.specs.declared.running.Ran.{Ran}
 use Rattle.cache_commands.specs.declared.running.Ran.TheVariants.{Answered, Misses}
-use Rattle.cache_store.specs.Values.{IsLive, IsSpent, Values}
+use Rattle.cache_store.specs.Values.{IsLive, Values}
 
 -- a request whose words a store takes
 abbrev pub FitsStore : Config → Request → Type 0

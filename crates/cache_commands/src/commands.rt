@@ -1,10 +1,11 @@
 //! Commands.
-ghost use Rattle.std.specs.Prelude.{◌≡◌, ◌≤◌, ◌++◌, None, IsTrue, IfOk, OnOk, OnErr, Ok, Err, length, vec_len, vec_capacity, ◌+◌, codes, decimal};
+ghost use Rattle.std.specs.Prelude.{◌≡◌, ◌≤◌, ◌++◌, None, IfOk, OnOk, OnErr, Ok, Err, length, vec_len, vec_capacity, ◌+◌, codes, decimal, option_map};
 ghost use Rattle.std.specs.Result.{IsErrOf};
 ghost use Rattle.audit_model.specs.History.{accepts_values};
 ghost use Rattle.audit_model.specs.Replies.{fault_text};
 ghost use Rattle.audit_model.specs.declared.command.Command.TheVariants as says;
 ghost use Rattle.cache_commands.specs.Answered.{IsAnswered, IsTakable};
+ghost use Rattle.cache_commands.specs.Found.{found_text};
 ghost use Rattle.cache_store.specs.Values.{IsMoment, IsSpent};
 
 use crate::writing::write;
@@ -29,23 +30,22 @@ pub fn get<S: Store>(
     ensures unwritten { OnErr result (output.new.items ≡ output.old.items) }
 {
     store.sound();
-    match store.peek(key, now) {
-        Some(bytes) => {
-            write_value(output, bytes)?;
-            store.touch(key, now);
-            Ok(())
-        }
-        None => {
-            output.try_reserve(SHORT)?;
-            write(output, b"NONE\n");
-            store.touch(key, now);
-            Ok(())
-        }
+    store.look_up(key, now, output, |found, output| write_found(output, found))
+}
+
+/// Writes what was found.
+fn write_found(output: &mut Vec<u8>, found: Option<&[u8]>) -> Result<(), AllocError>
+    ensures written { OnOk result (output.new.items ≡ output.old.items ++ found_text (option_map (λ bytes. bytes.now) found.entry)) }
+    ensures unwritten { OnErr result (output.new.items ≡ output.old.items) }
+{
+    match found {
+        Some(bytes) => write_value(output, bytes),
+        None => write_short(output, b"NONE\n"),
     }
 }
 
 /// Writes a value that was found.
-fn write_value(output: &mut Vec<u8>, bytes: &[u8]) -> Result<(), AllocError>
+pub(crate) fn write_value(output: &mut Vec<u8>, bytes: &[u8]) -> Result<(), AllocError>
     ensures written { OnOk result (output.new.items ≡ output.old.items ++ (codes "VAL " ++ bytes.now ++ codes "\n")) }
     ensures unwritten { OnErr result (output.new.items ≡ output.old.items) }
 {
@@ -53,6 +53,17 @@ fn write_value(output: &mut Vec<u8>, bytes: &[u8]) -> Result<(), AllocError>
     write(output, b"VAL ");
     write(output, bytes);
     write(output, b"\n");
+    Ok(())
+}
+
+/// Writes a short text, for which it makes room.
+pub(crate) fn write_short(output: &mut Vec<u8>, text: &[u8]) -> Result<(), AllocError>
+    requires { length text.now ≤ SHORT }
+    ensures written { OnOk result (output.new.items ≡ output.old.items ++ text.now) }
+    ensures unwritten { OnErr result (output.new.items ≡ output.old.items) }
+{
+    output.try_reserve(SHORT)?;
+    write(output, text);
     Ok(())
 }
 

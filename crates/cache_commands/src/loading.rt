@@ -1,13 +1,14 @@
 //! `LOAD`, and what a load's outcome does.
-ghost use Rattle.std.specs.Prelude.{◌≡◌, ◌≤◌, ◌+◌, ◌++◌, IfOk, OnErr, Ok, None, true, false, length, codes, vec_len, vec_capacity};
+ghost use Rattle.std.specs.Prelude.{◌≡◌, ◌≤◌, ◌+◌, ◌++◌, IfOk, OnOk, OnErr, Ok, None, true, false, is_some, length, codes, option_map, vec_len, vec_capacity};
 ghost use Rattle.std.specs.Result.{IsErrOf};
 ghost use Rattle.audit_model.specs.Belongs.{refusal_of_outcome};
 ghost use Rattle.audit_model.specs.Replies.{outcome_text};
 ghost use Rattle.audit_model.specs.declared.command.Command.TheVariants as says;
 ghost use Rattle.cache_commands.specs.Answered.{IsAnswered, IsStored};
+ghost use Rattle.cache_commands.specs.Found.{found_text};
 ghost use Rattle.cache_store.specs.Values.{IsLive, IsMoment, IsSpent};
 
-use crate::commands::{accepts, get};
+use crate::commands::{accepts, write_value};
 use crate::writing::write;
 use audit_model::{Accepted, Key, Outcome};
 use cache_store::{Store, StoreError};
@@ -27,11 +28,37 @@ pub fn load<S: Store>(
     ensures unchanged { OnErr result (store.new ≡ store.old) }
     ensures unwritten { OnErr result (output.new.items ≡ output.old.items) }
 {
-    if store.peek(key, now).is_none() {
-        return Ok(false);
+    store.sound();
+    match store.look_up(key, now, output, |found, output| write_live(output, found)) {
+        Ok(()) => Ok(true),
+        Err(Unanswered::NoneLive) => Ok(false),
+        Err(Unanswered::OutOfMemory) => Err(AllocError),
     }
-    get(store, key, now, output)?;
-    Ok(true)
+}
+
+/// Why a `LOAD` is not answered at once.
+#[derive(Clone, Copy, Drop)]
+enum Unanswered {
+    /// There is no live value.
+    NoneLive,
+    /// There is no memory for the reply.
+    OutOfMemory,
+}
+
+/// Writes a value that was found, if there is one.
+fn write_live(output: &mut Vec<u8>, found: Option<&[u8]>) -> Result<(), Unanswered>
+    ensures written { OnOk result (output.new.items ≡ output.old.items ++ found_text (option_map (λ bytes. bytes.now) found.entry)) }
+    ensures live { OnOk result (is_some (option_map (λ bytes. bytes.now) found.entry) ≡ true) }
+    ensures none { IsErrOf result Unanswered.NoneLive → option_map (λ bytes. bytes.now) found.entry ≡ None }
+    ensures unwritten { OnErr result (output.new.items ≡ output.old.items) }
+{
+    let Some(bytes) = found else {
+        return Err(Unanswered::NoneLive);
+    };
+    match write_value(output, bytes) {
+        Ok(()) => Ok(()),
+        Err(_error) => Err(Unanswered::OutOfMemory),
+    }
 }
 
 /// Stores the value of a load's outcome under the load's key, and says which part took it; none at capacity 0, and where the outcome is no

@@ -1,8 +1,9 @@
 //! The loads of a namespace that are under way, which connections wait for them, and whether a connection waits.
-mod lists;
 mod load;
 mod loads;
+mod numbered;
 mod standing;
+mod table;
 
 pub use load::Load;
 pub use loads::Loads;

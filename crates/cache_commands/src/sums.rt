@@ -1,21 +1,19 @@
 //! Sums.
-ghost use Rattle.std.specs.Prelude.{◌≡◌, ◌≤◌, ◌++◌, length, IfOk, OnOk, OnErr, Ok, None, IsTrue, true, option_map, codes, decimal};
+ghost use Rattle.std.specs.Prelude.{◌≡◌, ◌++◌, ℕ, IfOk, OnOk, OnErr, Ok, Some, None, IsTrue, true, option_map, codes, decimal};
 ghost use Rattle.std.specs.Result.{IsErrOf};
 ghost use Rattle.audit_model.specs.History.{accepts_values};
 ghost use Rattle.audit_model.specs.declared.command.Command.TheVariants as says;
 ghost use Rattle.audit_lines.specs.Request.{IsOwn};
-ghost use Rattle.cache_store.specs.Promises.{using};
 ghost use Rattle.cache_commands.specs.Sums.{sum_of_bytes};
 ghost use Rattle.cache_commands.specs.Answered.{IsAnswered};
-ghost use Rattle.cache_store.specs.Values.{AcceptsValue, Does, IsMoment, IsSpent};
+ghost use Rattle.cache_store.specs.Values.{AcceptsValue, IsMoment, IsSpent};
 
-use crate::commands::{SHORT, accepts};
+use crate::commands::{SHORT, accepts, write_short};
 use crate::writing::write;
 use audit_lines::number;
 use audit_model::{Accepted, Key};
 use cache_store::{Store, StoreError};
 use itoa::Buffer;
-use std::alloc::AllocError;
 
 /// Answers an `ADD`, and says which part took the sum; none at capacity 0, and where there is no sum.
 pub fn add<S: Store>(
@@ -35,15 +33,52 @@ pub fn add<S: Store>(
 {
     store.sound();
     if !accepts(store.config().capacity) {
-        use_value(store, key, now, b"OFF\n", output)?;
+        store.look_up(
+            key,
+            now,
+            output,
+            |_found, output| write_short(output, b"OFF\n"),
+        )?;
         return Ok(None);
     }
-    let Some(sum) = sum_of(store.peek(key, now), added) else {
-        use_value(store, key, now, b"ERR number\n", output)?;
-        return Ok(None);
-    };
-    let part = accept_sum(store, key, milliseconds, sum, now, output)?;
-    Ok(Some(Accepted { part }))
+    match store.look_up(
+        key,
+        now,
+        output,
+        |found, output| write_unsummed(output, found, added),
+    ) {
+        Ok(()) => Ok(None),
+        Err(Unused::Sum(sum)) => {
+            let part = accept_sum(store, key, milliseconds, sum, now, output)?;
+            Ok(Some(Accepted { part }))
+        }
+        Err(Unused::OutOfMemory) => Err(StoreError::OutOfMemory),
+    }
+}
+
+/// Why the look-up of an `ADD` is no use of the value by itself.
+#[derive(Clone, Copy, Drop)]
+enum Unused {
+    /// There is a sum.
+    Sum(u64),
+    /// There is no memory for the reply.
+    OutOfMemory,
+}
+
+/// Writes that there is no sum, if there is none.
+fn write_unsummed(output: &mut Vec<u8>, found: Option<&[u8]>, added: u64) -> Result<(), Unused>
+    ensures written { OnOk result (output.new.items ≡ output.old.items ++ codes "ERR number\n") }
+    ensures none { OnOk result (sum_of_bytes (option_map (λ bytes. bytes.now) found.entry) added ≡ None) }
+    ensures sum { (sum : ℕ) → IsErrOf result (Unused.Sum sum) → sum_of_bytes (option_map (λ bytes. bytes.now) found.entry) added ≡ Some sum }
+    ensures unwritten { OnErr result (output.new.items ≡ output.old.items) }
+{
+    if let Some(sum) = sum_of(found, added) {
+        return Err(Unused::Sum(sum));
+    }
+    match write_short(output, b"ERR number\n") {
+        Ok(()) => Ok(()),
+        Err(_error) => Err(Unused::OutOfMemory),
+    }
 }
 
 /// What is found and the number added to it, where what is found is a number and the sum is at most 2^64 - 1.
@@ -57,27 +92,6 @@ fn sum_of(found: Option<&[u8]>, added: u64) -> Option<u64>
         },
         None => Some(added),
     }
-}
-
-/// Uses a key's live value, and writes a text.
-fn use_value<S: Store>(
-    store: &mut S,
-    key: &Key,
-    now: u64,
-    text: &[u8],
-    output: &mut Vec<u8>,
-) -> Result<(), AllocError>
-    requires in_time { IsMoment (S.view store.old) now }
-    requires short { length text.now ≤ SHORT }
-    ensures written { OnOk result (output.new.items ≡ output.old.items ++ text.now) }
-    ensures does { OnOk result (Does now (using key.now) (S.view store.old) (S.view store.new)) }
-    ensures unchanged { OnErr result (store.new ≡ store.old) }
-    ensures unwritten { OnErr result (output.new.items ≡ output.old.items) }
-{
-    output.try_reserve(SHORT)?;
-    store.touch(key, now);
-    write(output, text);
-    Ok(())
 }
 
 /// Has a sum accepted, writes it, and says which part took it.

@@ -40,7 +40,7 @@ use Rattle.cache_commands.specs.declared.loads.standing.Standing.TheVariants as 
 use Rattle.cache_store.specs.Promises.{Frame}
 use Rattle.cache_store.specs.Running.{is_bounded}
 use Rattle.cache_store.specs.Values.{IsSoundStore, Values}
-use Rattle.cache_lines.specs.Tape.Taped.{IsAtRest, IsBegun, Taped, finishes, started, with_entry}
+use Rattle.cache_lines.specs.Tape.Taped.{IsAtRest, Taped, finishes, started, with_entry}
 use Rattle.cache_core.specs.Fed.{WantsMemory}
 use Rattle.cache_core.specs.Settled.{Absent, Closed, Course, Moves, Resting, Running, course_at, course_in, course_of, closing_of_steps, middle_of}
 use Rattle.cache_core.specs.Settling.{Happens, PartsUnknown, but_for, giving_up, known_of_loads, waiting_on}

@@ -17,7 +17,7 @@ use Rattle.cache_lines.specs.Lines.{IsThere, ready}
 use Rattle.cache_lines.specs.Waiting.{under_way}
 use Rattle.cache_lines.specs.declared.base.Base.{Base}
 use Rattle.cache_store.specs.Values.{IsSoundStore, Values}
-use Rattle.cache_lines.specs.Tape.Taped.{IsAtRest, IsBegun, Taped, finishes, forgets, started, with_entry}
+use Rattle.cache_lines.specs.Tape.Taped.{IsAtRest, IsBegun, Taped, finishes, started, with_entry}
 use Rattle.cache_core.specs.Connection.Fed.{FedRan, LooksAsBefore}
 use Rattle.cache_core.specs.Fed.{with_tape}
 use Rattle.cache_core.specs.Turned.{with_record}
@@ -86,19 +86,6 @@ kept-by happened steps (Some t) (Some m) final text new_text untaken new_untaken
       text_is = ap (λ (g : Gathered). g.text) e ∙ sym (append-nil text);
       untaken_is = ap (λ (g : Gathered). g.waiting) e ∙ sym (append-nil untaken);
     }
-
--- a record that was begun and forgotten
-pub forgotten : (tape middle : Option Taped) → IsAtRest tape → option_map written middle ≡ option_map written (option_map (started 1) tape) → tape ≡ option_map forgets middle
-forgotten None None rests e = refl
-forgotten None (Some m) rests e = let no : Some (written m) ≡ None = e in cc
-forgotten (Some t) None rests e = let no : None ≡ Some (written (started 1 t)) = e in cc
-forgotten (Some t) (Some m) rests e =
-    let is : written m ≡ written (started 1 t) = same_Some _ _ e in
-    ap (λ d. Some (record { journal = t.journal; begun = t.begun; steps = t.steps; spare = t.spare; drafted = d })) rests.undrafted
-    ∙ ap (λ n. Some (record { journal = t.journal; begun = t.begun; steps = t.steps; spare = n; drafted = None })) rests.spare
-    ∙ ap (λ ss. Some (record { journal = t.journal; begun = t.begun; steps = ss; spare = 0; drafted = None })) rests.steps
-    ∙ ap (λ b. Some (record { journal = t.journal; begun = b; steps = []; spare = 0; drafted = None })) rests.closed
-    ∙ ap (λ rs. Some (record { journal = rs; begun = false; steps = []; spare = 0; drafted = None })) (sym (ap (λ (x : Taped). x.journal) is))
 
 -- a connection was fed when a record was begun, and room was made
 pub fed-started : {S T : Type 0} (view : S → Values) (tape : T → Option Taped) (now_is number : ℕ) (base mid : Base S T) (old ready_as new : Connection) (piece : List ℕ) (is_held : Bool) (is : Seen)

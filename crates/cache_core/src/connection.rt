@@ -8,5 +8,4 @@ mod telling;
 pub use again::run_again;
 pub use connection::{Connection, new_connection};
 pub use feeding::{feed_connection, feed_ready};
-pub use standing::Stance;
 pub use telling::deliver;

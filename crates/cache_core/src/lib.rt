@@ -12,8 +12,6 @@ mod refusing;
 mod reserving;
 mod settling;
 
-pub use connection::{
-    Connection, Stance, deliver, feed_connection, feed_ready, new_connection, run_again,
-};
+pub use connection::{Connection, deliver, feed_connection, feed_ready, new_connection, run_again};
 pub use connections::Connections;
 pub use namespace::Namespace;

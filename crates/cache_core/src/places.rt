@@ -10,7 +10,7 @@ ghost use Rattle.cache_commands.specs.Loads.Pending.{SameTaken};
 use crate::connection::Connection;
 use crate::connections::Connections;
 use audit_model::{Closing, ServiceError};
-use cache_commands::{Loads, Standing, is_waiting};
+use cache_commands::{Loads, is_waiting};
 use cache_lines::ReplyBuffer;
 use std::alloc::Global;
 use std::mem;
@@ -60,18 +60,9 @@ pub fn close_at(connections: &mut Connections, index: usize)
     ensures { (p : ReplacedAt connections.old connections.new index) × (p.is.closing ≡ Some Closing.Asked) × (p.is.output.text.items ≡ p.was.output.text.items) }
 {
     let mut connection = connections.take(index);
-    close_connection(&mut connection);
-    connections.put(index, connection);
-}
-
-fn close_connection(connection: &mut Connection)
-    ensures closing { connection.new.closing ≡ Some Closing.Asked }
-    ensures text { connection.new.output.text.items ≡ connection.old.output.text.items }
-{
     connection.closing = Some(Closing::Asked);
-    connection.standing = Standing::Ready;
-    connection.waited = 0;
-    connection.unread.clear();
+    connection.drop_closed();
+    connections.put(index, connection);
 }
 
 /// The place of a connection that was opened.

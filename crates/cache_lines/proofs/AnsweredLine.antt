@@ -1,13 +1,15 @@
 -- A line that was answered, and what was gathered of it.
 use Rattle.std.proofs.Common.{◌≡◌, ℕ, suc, Bool, List, [], ◌∷◌, ◌++◌, Option, Some, None, if◌then◌else◌, refl, sym, ap, ◌∙◌, subst}
-use Rattle.std.specs.Prelude.{IsTrue, is_some, not, ◌||◌}
+use Rattle.std.specs.Prelude.{IsTrue, Ok, is_some, not, ◌||◌}
 use Rattle.std.specs.List.{list_all}
 use Rattle.audit_model.specs.Commands.{is_sync}
 use Rattle.std.specs.Option.{option_map}
 use Rattle.std.proofs.lemmas.List.{append-nil}
 use Rattle.audit_model.specs.Grammar.{reading}
-use Rattle.audit_model.specs.Situation.{view_in}
+use Rattle.audit_model.specs.History.{Value}
+use Rattle.audit_model.specs.Situation.{live_at, view_in}
 use Rattle.audit_model.specs.Steps.{action_by, effect_in}
+use Rattle.audit_model.specs.declared.command.Command.TheVariants as says
 use Rattle.audit_model.specs.declared.transcript.Accepted.{Accepted}
 use Rattle.audit_model.specs.declared.transcript.Note.{Note}
 use Rattle.audit_model.specs.declared.transcript.Step.{Step}
@@ -15,15 +17,19 @@ use Rattle.cache_store.specs.Promises.{Frame}
 use Rattle.cache_store.specs.Running.{is_timely}
 use Rattle.cache_store.specs.Values.{GivesNote, IsSoundStore, Values}
 use Rattle.cache_commands.specs.Answered.{IsAnswered}
+use Rattle.cache_commands.specs.Loading.{step_silent}
 use Rattle.cache_commands.specs.Order.{order_by}
+use Rattle.cache_commands.specs.Ran.{MissesLive}
 use Rattle.cache_commands.specs.Right.{KeepsFrame, held_when_run, step_saying}
 use Rattle.cache_commands.proofs.Ordering.{agrees-kept}
 use Rattle.cache_lines.specs.Tape.Taped.{Taped, drafts, ends, text_left}
 use Rattle.cache_lines.specs.Drawing.{identifiers_in}
 use Rattle.cache_lines.specs.Gathered.{IsFresh, gather, gathered, stage}
 use Rattle.cache_lines.specs.Lines.{IsPlain, says_quit}
-use Rattle.cache_lines.specs.Ran.{RanLine}
+use Rattle.cache_lines.specs.Ran.{RanLine, WaitsLine}
+use Rattle.cache_lines.specs.Waiting.{UnderWay, load_sent_for, when_waiting}
 use Rattle.cache_lines.proofs.Drawn.{step-drawn, step-kept}
+use Rattle.cache_lines.proofs.Gathering.{silent-gathered}
 use Rattle.cache_lines.proofs.Knowing.{keys-known}
 use Rattle.cache_lines.proofs.Reading.{parted-reading, plain-reading, synced-where}
 
@@ -111,3 +117,29 @@ ran-drafted now number line quit was mid is old_text mid_text new_text accepted 
     (left ∙ ap (λ b. if b then [] else mid.untaken) same)
     (stepped ∙ ap (option_map (ends (λ l. step_saying number l mid_text accepted mid.untaken))) drafted)
     (texted ∙ ap (λ b. if b then [] else mid_text) same)
+
+none-from : (o : Option Value) → None ≡ option_map (λ (value : Value). value.bytes) o → o ≡ None
+none-from None e = refl
+none-from (Some v) e = let no : None ≡ Some v.bytes = e in cc
+
+-- the line is a `LOAD` of a key that has no live value, and joined its load
+pub waits-drafted : (now number : ℕ) (line key : List ℕ) (was is : Values) (old_text mid_text new_text : List ℕ) (tape mid_tape new_tape : Option Taped) (loads after : UnderWay)
+    → reading was.frame.config line ≡ Ok (says.Load key) → MissesLive now (reading was.frame.config line) was is old_text mid_text → is ≡ was
+    → mid_tape ≡ option_map (drafts line) tape → new_tape ≡ option_map (ends (λ l. step_silent number l (load_sent_for key loads) None [])) mid_tape
+    → new_text ≡ mid_text → after ≡ when_waiting number key loads
+    → WaitsLine now number line (record { stage = stage was old_text tape; loads = loads }) (record { stage = stage is new_text new_tape; loads = after })
+waits-drafted now number line key was is old_text mid_text new_text tape mid_tape new_tape loads after reads m same drafted stepped left joined =
+    let keyed : m.key ≡ key = cc (sym m.reads ∙ reads) in
+    record {
+      is_miss = record {
+        key = key;
+        reads = reads;
+        none = λ held stands. none-from _ (subst (λ k. None ≡ option_map (λ (value : Value). value.bytes) (live_at was.frame.config now held k)) keyed (m.none held stands));
+      };
+      gathered_is =
+          ap (λ (v : Values). gathered (stage v new_text new_tape)) same
+          ∙ ap (λ t. gathered (stage was t new_tape)) (left ∙ m.unwritten)
+          ∙ ap (λ t. gathered (stage was old_text t)) (stepped ∙ ap (option_map (ends (λ l. step_silent number l (load_sent_for key loads) None []))) drafted)
+          ∙ silent-gathered was old_text line number (load_sent_for key loads) tape;
+      loads_are = joined;
+    }

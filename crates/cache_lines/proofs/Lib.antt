@@ -1,15 +1,15 @@
 mod AnsweredLine
 pub mod Drawn
-mod HeldFeeds
-mod HeldRuns
+pub mod Gathering
+pub mod HeldFeeds
 pub mod Knowing
 pub mod LineRuns
 pub mod LoadWaits
 mod NotesTaken
 pub mod Placing
-mod ReadyEnds
+pub mod ReadyEnds
 mod ReadyRuns
 mod Reading
-mod Rounds
+pub mod Rounds
 mod Stepping
 pub mod WholeLines

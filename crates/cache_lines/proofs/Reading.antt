@@ -1,12 +1,9 @@
 -- What a line did, by how it is read.
-use Rattle.std.proofs.Common.{◌≡◌, ℕ, ◌≤◌, Bool, true, false, not, ◌||◌, List, length, Option, Some, None, Ok, Err, refl, arith}
+use Rattle.std.proofs.Common.{◌≡◌, ℕ, Bool, true, false, not, ◌||◌, List, Option, Some, None, Ok, Err, refl}
 use Rattle.std.specs.Prelude.{IfSome, decimal}
 use Rattle.std.proofs.lemmas.Bool.{eq-eqb}
 use Rattle.std.specs.Option.{option_map, option_map_or}
 use Rattle.audit_laws.specs.Leading.{is_parted}
-use Rattle.audit_lines.specs.Request.{IsFit}
-use Rattle.audit_lines.specs.declared.request.Request.{Request}
-use Rattle.audit_lines.specs.declared.request.Request.TheVariants as asks
 use Rattle.audit_model.specs.Grammar.{Reading}
 use Rattle.audit_model.specs.History.{accepts_values}
 use Rattle.audit_model.specs.Replies.{Offer, offer_of, sum_with, taken_where, value_from}
@@ -17,7 +14,6 @@ use Rattle.audit_model.specs.declared.config.Config.{Config}
 use Rattle.audit_model.specs.declared.transcript.Accepted.{Accepted}
 use Rattle.audit_model.specs.declared.transcript.Note.{Note}
 use Rattle.cache_commands.specs.Answered.{key_written}
-use Rattle.cache_commands.specs.Ran.{FitsStore}
 use Rattle.cache_commands.specs.Right.{step_saying}
 use Rattle.cache_lines.specs.Lines.{IsPlain, says_quit}
 
@@ -69,18 +65,3 @@ parted-reading config part_of s (Err error) (Some a) h = refl
 pub synced-where : (b x : Bool) → (b ≡ true → x ≡ true) → (not b || x) ≡ true
 synced-where true x h = h refl
 synced-where false x h = refl
-
--- the words of a request are such as a store takes
-pub fits-store : (config : Config) (line : List ℕ) (request : Request) → length line ≤ 8192 → IsFit config line request → FitsStore config request
-fits-store config line (asks.Set key deadline value) short f = record { short = let v = f.short in omega (arith, v, short); own = f.own }
-fits-store config line (asks.Add key deadline number) short f = f.1
-fits-store config line (asks.Get key) short f = tt
-fits-store config line (asks.Has key) short f = tt
-fits-store config line (asks.Load key) short f = tt
-fits-store config line (asks.Del key) short f = tt
-fits-store config line asks.Clear short f = tt
-fits-store config line (asks.DropIf prefix) short f = tt
-fits-store config line asks.Keys short f = tt
-fits-store config line asks.Sync short f = tt
-fits-store config line asks.Quit short f = tt
-fits-store config line (asks.Fault error) short f = tt

@@ -1,170 +1,152 @@
 -- How the lines of a connection that is ready end.
-use Rattle.std.proofs.Common.{◌≡◌, ℕ, true, false, ◌||◌, List, [], ◌∷◌, ◌++◌, drop, Option, Some, None, refl, sym, ap, ◌∙◌, subst}
+use Rattle.std.proofs.Common.{◌≡◌, ℕ, true, false, true≢false, ◌||◌, List, [], ◌∷◌, drop, Option, None, refl, sym, ap, ◌∙◌, subst}
 use Rattle.std.specs.Prelude.{Ok, unwrap_or}
-use Rattle.std.specs.Option.{option_map}
-use Rattle.std.proofs.lemmas.List.{append-nil}
 use Rattle.audit_model.specs.Changes.{all_held_after}
 use Rattle.audit_model.specs.Grammar.{reading}
 use Rattle.audit_model.specs.Situation.{Situation, HeldValue, live_at, may_run_in}
 use Rattle.audit_model.specs.Stream.{behind_lines}
 use Rattle.audit_model.specs.declared.command.Command.TheVariants as says
 use Rattle.audit_model.specs.declared.config.Config.{Config}
+use Rattle.audit_model.specs.declared.transcript.Step.{Step}
 use Rattle.audit_lines.specs.Next.{IsLine}
 use Rattle.audit_lines.proofs.Lines.{IsLine-first_line, long_from}
+use Rattle.cache_commands.specs.Answered.{Agrees}
 use Rattle.cache_commands.specs.Loading.{step_silent}
+use Rattle.cache_commands.specs.Loads.Pending.{when_joined, when_sent}
+use Rattle.cache_commands.specs.Right.{KeepsFrame}
 use Rattle.cache_store.specs.Promises.{Frame, no_deed}
 use Rattle.cache_store.specs.Values.{IsSoundStore, Values}
-use Rattle.cache_lines.specs.Tape.Taped.{Taped, ends, spends, step_held}
-use Rattle.cache_commands.specs.Loads.Pending.{when_joined, when_sent}
-use Rattle.cache_lines.specs.Ended.{BeginsToWait, EndsBy, EndsFor, IsHeldBack, RanReady, RunsReady, ends_by_quit, holds_back, left_by, waits_now}
-use Rattle.cache_lines.specs.Gathered.{IsFresh, Stage, gather, gathered, stage}
-use Rattle.cache_lines.specs.Lines.{IsThere, ready, set_in, situation_behind, with_drops}
-use Rattle.cache_lines.specs.Making.{making_of}
-use Rattle.cache_lines.specs.Ran.{RanLines}
-use Rattle.cache_lines.specs.Stops.{IsDraftOf, RunsLines, line_at, stops_by_quit}
+use Rattle.cache_lines.specs.Bases.{Seen}
+use Rattle.cache_lines.specs.Ended.{RanReady, RunsReady}
+use Rattle.cache_lines.specs.Gathered.{IsFresh, gather, gathered, stage}
+use Rattle.cache_lines.specs.Lines.{IsThere, holding, ready, set_in, situation_behind, with_drops}
+use Rattle.cache_lines.specs.Making.{Making, making_of}
+use Rattle.cache_lines.specs.Ran.{RanLine, WaitsLine}
+use Rattle.cache_lines.specs.Stops.{AddsSteps, StopsBy, ends_by_quit, line_at}
+use Rattle.cache_lines.specs.Tape.Taped.{Taped, step_held}
 use Rattle.cache_lines.specs.Waiting.{UnderWay, load_sent_for, loads_in, waiting, when_waiting, with_under_way}
 use Rattle.cache_lines.specs.Whole.{held_line}
-use Rattle.cache_lines.specs.declared.ending.End.{End}
-use Rattle.cache_lines.specs.declared.ending.End.TheVariants as at
-use Rattle.cache_lines.specs.declared.looping.Stop.{Stop}
-use Rattle.cache_lines.specs.declared.looping.Stop.TheVariants.{More, TooLong, Held, Misses, Quit}
-use Rattle.cache_lines.proofs.LineRuns.{fresh-gather}
-use Rattle.cache_lines.proofs.WholeLines.{has-line}
+use Rattle.cache_lines.specs.declared.looping.End.{End}
+use Rattle.cache_lines.specs.declared.looping.End.TheVariants as at
+use Rattle.cache_lines.proofs.LineRuns.{fresh-gather, gather-none, ran-kept}
 use Rattle.cache_lines.proofs.LoadWaits.{ready-waits}
 use Rattle.cache_lines.proofs.ReadyRuns.{ready-held, ready-stopped, stops-long, stops-partial, stops-quit}
+use Rattle.cache_lines.proofs.Rounds.{RanTo, frames-more, line-next}
+use Rattle.cache_lines.proofs.WholeLines.{has-line}
 
--- ---- what is gathered of the last step
+-- what the values stand for when nothing was done to them, by what they were made with
+pub idle-by : (v : Values) (config : Config) (latest : ℕ) (left : List HeldValue) → IsSoundStore v → v.frame.config ≡ config → v.Stands left → v.Stands (all_held_after config latest left no_deed [])
+idle-by v config latest left sound same stands = subst (λ (k : Config). v.Stands (all_held_after k latest left no_deed [])) same (sound.idle left latest stands)
 
-gathered-held : (values : Values) (text : List ℕ) (number : ℕ) (line : List ℕ) (tape : Option Taped)
-    → gathered (stage values text (option_map (spends (step_held number line)) tape)) ≡ gather (gathered (stage values text tape)) (step_held number line ∷ [])
-gathered-held values text number line None =
-    ap (λ t. record { text = t; kept = None; waiting = values.untaken }) (sym (append-nil text)) ∙ ap (λ n. record { text = text ++ []; kept = None; waiting = n }) (sym (append-nil values.untaken))
-gathered-held values text number line (Some t) = refl
+-- the load that a connection joins, by the loads under way
+pub joined : (number : ℕ) (key : List ℕ) (s : Situation) (load : Option ℕ) → load ≡ load_sent_for key (loads_in s)
+    → (let u : UnderWay = record { sent = when_sent load s.sent; pending = when_joined number key load s.pending } in u) ≡ when_waiting number key (loads_in s)
+joined number key s load e = ap (λ l. record { sent = when_sent l s.sent; pending = when_joined number key l s.pending }) e
 
-pub gathered-waits : (values : Values) (text : List ℕ) (number : ℕ) (line : List ℕ) (load : Option ℕ) (tape : Option Taped) → IsDraftOf line tape
-    → gathered (stage values text (option_map (ends (λ l. step_silent number l load None [])) tape)) ≡ gather (gathered (stage values text tape)) (step_silent number line load None [] ∷ [])
-gathered-waits values text number line load None drafted =
-    ap (λ t. record { text = t; kept = None; waiting = values.untaken }) (sym (append-nil text)) ∙ ap (λ n. record { text = text ++ []; kept = None; waiting = n }) (sym (append-nil values.untaken))
-gathered-waits values text number line load (Some t) drafted =
-    ap (λ l. record { text = text; kept = Some (record { journal = t.journal; begun = t.begun; steps = t.steps ++ step_silent number l load None [] ∷ []; spare = 0; drafted = None }); waiting = values.untaken })
-    (ap (λ o. unwrap_or o []) drafted)
+-- lines ran as far as that many bytes, and no load was joined
+module _ (now number : ℕ) (bytes : List ℕ) (used : ℕ) (old middle : Seen) (ran : RanTo now number bytes used old.stage middle.stage) (frame : KeepsFrame old.stage.values.frame middle.stage.values.frame now) (fresh : IsFresh (gathered middle.stage)) (still : middle.loads ≡ old.loads) where
+  abbrev making : Making
+  making = making_of old.stage.values.frame
 
--- ---- lines that stopped
+  abbrev rest : List ℕ
+  rest = drop used bytes
 
--- nothing runs behind them
-quiet : (now number : ℕ) (bytes : List ℕ) (used : ℕ) (stop : Stop) (end : End) (old middle : Stage) (tape : Option Taped) (loads after : UnderWay) → RunsLines now number bytes used stop old middle
-    → stops_by_quit stop ≡ ends_by_quit end → holds_back end ≡ false → waits_now end ≡ false → left_by number end 1 (drop used bytes) ≡ ready number (drop used bytes)
-    → ((s : Situation) (left : List HeldValue) → IsThere number s → may_run_in (situation_behind (stops_by_quit stop) s left (ready number (drop used bytes))) number ≡ false)
-    → EndsFor end (drop used bytes) → tape ≡ middle.tape → after ≡ loads → RunsReady now number bytes (drop used bytes) end old (stage middle.values middle.text tape) loads after
-quiet now number bytes used stop end old middle tape loads after r quits back silent stands still how taped same =
-    let making = making_of old.values.frame in
-    let rest = drop used bytes in
-    let dropped = middle.values.frame.dropped in
-    let new = stage middle.values middle.text tape in
-    record {
-      ran = λ s agrees there under.
-          let lines = r.ran s agrees there in
-          let a = ready-stopped making number s s.held bytes (stops_by_quit stop) rest old middle lines (still (with_drops dropped s) lines.left there) in
-          let b = subst (λ u. RanReady making number s s.held bytes (stops_by_quit stop) false false (λ left. situation_behind (stops_by_quit stop) (with_under_way u (with_drops dropped s)) left (ready number rest)) old middle) (under ∙ sym same) a in
-          let c = subst (λ q. RanReady making number s s.held bytes q false false (λ left. situation_behind q (with_under_way after (with_drops dropped s)) left (ready number rest)) old middle) quits b in
-          let d = subst (λ h. RanReady making number s s.held bytes (ends_by_quit end) h false (λ left. situation_behind (ends_by_quit end) (with_under_way after (with_drops dropped s)) left (ready number rest)) old middle) (sym back) c in
-          let w = subst (λ h. RanReady making number s s.held bytes (ends_by_quit end) (holds_back end) h (λ left. situation_behind (ends_by_quit end) (with_under_way after (with_drops dropped s)) left (ready number rest)) old middle) (sym silent) d in
-          let e = subst (λ k. RanReady making number s s.held bytes (ends_by_quit end) (holds_back end) (waits_now end) (λ left. situation_behind (ends_by_quit end) (with_under_way after (with_drops dropped s)) left k) old middle) (sym stands) w in
-          subst (λ t. RanReady making number s s.held bytes (ends_by_quit end) (holds_back end) (waits_now end) (λ left. situation_behind (ends_by_quit end) (with_under_way after (with_drops dropped s)) left (left_by number end 1 rest)) old (stage middle.values middle.text t)) (sym taped) e;
-      ends = how;
-      frame = r.frame;
-      fresh = subst (λ t. IsFresh (gathered (stage middle.values middle.text t))) (sym taped) r.fresh;
-    }
+  abbrev values : Values
+  values = middle.stage.values
 
--- what the values stand for when nothing was done to them, by what the old ones were made with
-pub idle-by : (old middle : Stage) (config : Config) (latest : ℕ) (left : List HeldValue) → IsSoundStore middle.values → middle.values.frame.config ≡ config → middle.values.Stands left → middle.values.Stands (all_held_after config latest left no_deed [])
-idle-by old middle config latest left sound same stands = subst (λ (k : Config). middle.values.Stands (all_held_after k latest left no_deed [])) same (sound.idle left latest stands)
+  abbrev dropping : Situation → Situation
+  dropping s = with_drops values.frame.dropped s
 
--- the line is held back
-held-back : (now number : ℕ) (bytes : List ℕ) (used n : ℕ) (stop : Stop) (old middle : Stage) (tape : Option Taped) (loads after : UnderWay) → RunsLines now number bytes used stop old middle
-    → stops_by_quit stop ≡ false → IsLine (drop used bytes) n → IsSoundStore middle.values → IsHeldBack number (line_at (drop used bytes) n) middle.tape tape loads after
-    → RunsReady now number bytes (drop used bytes) at.Held old (stage middle.values middle.text tape) loads after
-held-back now number bytes used n stop old middle tape loads after r quits line sound back =
-    let making = making_of old.values.frame in
-    let rest = drop used bytes in
-    let held = line_at rest n in
-    let dropped = middle.values.frame.dropped in
-    let same : middle.values.frame.config ≡ making.config = ap (λ (f : Frame). f.config) r.frame.rest in
-    let gathers : gathered (stage middle.values middle.text tape) ≡ gather (gathered middle) (step_held number held ∷ []) =
-    ap (λ t. gathered (stage middle.values middle.text t)) back.tape_is ∙ gathered-held middle.values middle.text number held middle.tape in
-    record {
-      ran = λ s agrees there under.
-          let lines = subst (λ q. RanLines making number s s.held bytes q rest old middle) quits (r.ran s agrees there) in
-          let a = ready-held making number s s.held bytes rest held n old middle middle.text tape there lines line refl (idle-by old middle making.config s.latest lines.left sound same lines.stands) gathers in
-          subst (λ u. RanReady making number s s.held bytes false true false (λ left. set_in (with_under_way u (with_drops dropped s)) left (left_by number at.Held 1 rest)) old (stage middle.values middle.text tape)) (under ∙ sym back.loads_are) a;
-      ends = has-line rest n line;
-      frame = r.frame;
-      fresh = subst IsFresh (sym gathers) (fresh-gather (gathered middle) (step_held number held ∷ []) r.fresh);
-    }
+  made-same : values.frame.config ≡ making.config
+  made-same = ap (λ (f : Frame). f.config) frame.rest
 
--- a `LOAD` begins to wait
-waits : (now number : ℕ) (bytes : List ℕ) (used n : ℕ) (old middle : Stage) (tape : Option Taped) (loads after : UnderWay) → RunsLines now number bytes used (Misses n) old middle
-    → IsSoundStore middle.values → BeginsToWait middle.values.frame.config number (line_at (drop used bytes) n) middle.tape tape loads after
-    → RunsReady now number bytes (drop used bytes) at.Waits old (stage middle.values middle.text tape) loads after
-waits now number bytes used n old middle tape loads after r sound begins =
-    let making = making_of old.values.frame in
-    let rest = drop used bytes in
-    let line = line_at rest n in
-    let dropped = middle.values.frame.dropped in
-    let same : middle.values.frame.config ≡ making.config = ap (λ (f : Frame). f.config) r.frame.rest in
-    let miss = r.missed.0 in
-    let key = miss.key in
-    let reads : reading making.config line ≡ Ok (says.Load key) = subst (λ (k : Config). reading k line ≡ Ok (says.Load key)) same miss.reads in
-    let load = load_sent_for key loads in
-    let gathers : gathered (stage middle.values middle.text tape) ≡ gather (gathered middle) (step_silent number line load None [] ∷ []) =
-    ap (λ t. gathered (stage middle.values middle.text t)) (begins.tape_is key miss.reads) ∙ gathered-waits middle.values middle.text number line load middle.tape r.missed.1 in
-    let said : line ≡ held_line rest = sym (ap (λ o. unwrap_or o []) (IsLine-first_line rest n r.stops)) in
-    record {
-      ran = λ s agrees there under.
-          let lines = r.ran s agrees there in
-          let none : live_at making.config s.latest lines.left key ≡ None =
-          subst (λ (k : Config). live_at k s.latest lines.left key ≡ None) same (subst (λ (m : ℕ). live_at middle.values.frame.config m lines.left key ≡ None) (sym agrees.at) (miss.none lines.left lines.stands)) in
-          let sent = ap (λ u. load_sent_for key u) (sym under) in
-          let a = ready-waits making number s s.held bytes rest line key n load old middle middle.text tape there lines r.stops refl reads sent none (idle-by old middle making.config s.latest lines.left sound same lines.stands) gathers in
-          let b = subst (λ u. RanReady making number s s.held bytes false false true (λ left. set_in (with_under_way u (with_drops dropped s)) left (waiting number line (behind_lines 1 rest) 1)) old (stage middle.values middle.text tape))
-          (joined key s load sent ∙ ap (when_waiting number key) under ∙ sym (begins.loads_are key miss.reads)) a in
-          subst (λ l. RanReady making number s s.held bytes false false true (λ left. set_in (with_under_way after (with_drops dropped s)) left (waiting number l (behind_lines 1 rest) 1)) old (stage middle.values middle.text tape)) said b;
-      ends = has-line rest n r.stops;
-      frame = r.frame;
-      fresh = subst IsFresh (sym gathers) (fresh-gather (gathered middle) (step_silent number line load None [] ∷ []) r.fresh);
-    }
-  where
-    joined : (key : List ℕ) (s : Situation) (load : Option ℕ) → load ≡ load_sent_for key (loads_in s)
-        → (let u : UnderWay = record { sent = when_sent load s.sent; pending = when_joined number key load s.pending } in u) ≡ when_waiting number key (loads_in s)
-    joined key s load e = ap (λ l. record { sent = when_sent l s.sent; pending = when_joined number key l s.pending }) e
+  fresh-with : (steps : List Step) (new : Seen) → gathered new.stage ≡ gather (gathered middle.stage) steps → IsFresh (gathered new.stage)
+  fresh-with steps new e = subst IsFresh (sym e) (fresh-gather (gathered middle.stage) steps fresh)
 
--- LINES END
-pub ready-ends : (now number : ℕ) (bytes : List ℕ) (used : ℕ) (stop : Stop) (end : End) (old middle : Stage) (tape : Option Taped) (loads after : UnderWay) → RunsLines now number bytes used stop old middle
-    → IsSoundStore middle.values → EndsBy middle.values.frame.config number (drop used bytes) stop end middle.tape tape loads after
-    → RunsReady now number bytes (drop used bytes) end old (stage middle.values middle.text tape) loads after
-ready-ends now number bytes used More end old middle tape loads after r sound by =
-    subst (λ e. RunsReady now number bytes (drop used bytes) e old (stage middle.values middle.text tape) loads after) (sym by.0)
-    (quiet now number bytes used More at.More old middle tape loads after r refl refl refl refl (λ s left there. stops-partial s left number (drop used bytes) there r.stops) r.stops by.1 by.2)
-ready-ends now number bytes used TooLong end old middle tape loads after r sound by =
-    subst (λ e. RunsReady now number bytes (drop used bytes) e old (stage middle.values middle.text tape) loads after) (sym by.0)
-    (quiet now number bytes used TooLong at.TooLong old middle tape loads after r refl refl refl refl (λ s left there. stops-long s left number (drop used bytes) (ap (λ b. b || false) (long_from (drop used bytes) r.stops))) r.stops by.1 by.2)
-ready-ends now number bytes used Quit end old middle tape loads after r sound by =
-    subst (λ e. RunsReady now number bytes (drop used bytes) e old (stage middle.values middle.text tape) loads after) (sym by.0)
-    (quiet now number bytes used Quit at.Quit old middle tape loads after r refl refl refl refl (λ s left there. stops-quit s left number (ready number (drop used bytes)) refl) tt by.1 by.2)
-ready-ends now number bytes used (Held n) end old middle tape loads after r sound by =
-    subst (λ e. RunsReady now number bytes (drop used bytes) e old (stage middle.values middle.text tape) loads after) (sym by.0)
-    (held-back now number bytes used n (Held n) old middle tape loads after r refl r.stops sound by.1)
-ready-ends now number bytes used (Misses n) at.Held old middle tape loads after r sound by = held-back now number bytes used n (Misses n) old middle tape loads after r refl r.stops sound by
-ready-ends now number bytes used (Misses n) at.Waits old middle tape loads after r sound by = waits now number bytes used n old middle tape loads after r sound by.1
-ready-ends now number bytes used (Misses n) at.More old middle tape loads after r sound by = no by.0
-  where
-    no : at.More ≡ at.Waits → RunsReady now number bytes (drop used bytes) at.More old (stage middle.values middle.text tape) loads after
-    no e = absurd (cc)
-ready-ends now number bytes used (Misses n) at.TooLong old middle tape loads after r sound by = no by.0
-  where
-    no : at.TooLong ≡ at.Waits → RunsReady now number bytes (drop used bytes) at.TooLong old (stage middle.values middle.text tape) loads after
-    no e = absurd (cc)
-ready-ends now number bytes used (Misses n) at.Quit old middle tape loads after r sound by = no by.0
-  where
-    no : at.Quit ≡ at.Waits → RunsReady now number bytes (drop used bytes) at.Quit old (stage middle.values middle.text tape) loads after
-    no e = absurd (cc)
+  -- no line runs at what is left
+  quiet : (text : List ℕ) (tape : Option Taped) (loads : UnderWay) → AddsSteps [] middle (record { stage = stage values text tape; loads = loads })
+      → (s : Situation) → Agrees old.stage.values now s → IsThere number s → loads_in s ≡ old.loads
+      → ((left : List HeldValue) → may_run_in (set_in (dropping s) left (ready number rest)) number ≡ false)
+      → RanReady making number s s.held bytes false false false (λ left. set_in (with_under_way loads (dropping s)) left (ready number rest)) old.stage (stage values text tape)
+  quiet text tape loads g s agrees there under stops =
+      let lines = ran-kept making number s s.held bytes rest false old.stage values middle.stage.text text middle.stage.tape tape (ran s agrees there) (g.gathered_is ∙ gather-none (gathered middle.stage)) in
+      subst (λ u. RanReady making number s s.held bytes false false false (λ left. set_in (with_under_way u (dropping s)) left (ready number rest)) old.stage (stage values text tape)) (under ∙ sym still ∙ sym g.loads_are)
+      (ready-stopped making number s s.held bytes false rest old.stage (stage values text tape) lines (stops lines.left))
+
+  -- a `QUIT` ran
+  quits : (n : ℕ) (new : Seen) → IsLine rest n → RanLine now number (line_at rest n) true middle.stage new.stage → new.loads ≡ middle.loads → RunsReady now number bytes rest at.Quit old new
+  quits n new at line same = record {
+    ran = λ s agrees there under.
+        let from = with_drops new.stage.values.frame.dropped s in
+        let lines = line-next now number bytes used n true rest old.stage middle.stage new.stage frame ran at line (λ no. absurd (true≢false no)) s agrees there in
+        subst (λ u. RanReady making number s s.held bytes true false false (λ left. situation_behind true (with_under_way u from) left (ready number rest)) old.stage new.stage) (under ∙ sym still ∙ sym same)
+        (ready-stopped making number s s.held bytes true rest old.stage new.stage lines (stops-quit from lines.left number (ready number rest) refl));
+    ends = tt;
+    frame = frames-more old.stage.values.frame middle.stage.values.frame new.stage.values.frame now frame line.frame;
+    fresh = line.fresh;
+  }
+
+  -- the line is held back
+  held-back : (n : ℕ) (text : List ℕ) (tape : Option Taped) (loads : UnderWay) → IsSoundStore values → IsLine rest n → AddsSteps (step_held number (line_at rest n) ∷ []) middle (record { stage = stage values text tape; loads = loads })
+      → RunsReady now number bytes rest at.Held old (record { stage = stage values text tape; loads = loads })
+  held-back n text tape loads sound line g = record {
+    ran = λ s agrees there under.
+        let lines = ran s agrees there in
+        let a = ready-held making number s s.held bytes rest (line_at rest n) n old.stage middle.stage text tape there lines line refl (idle-by values making.config s.latest lines.left sound made-same lines.stands) g.gathered_is in
+        subst (λ u. RanReady making number s s.held bytes false true false (λ left. set_in (with_under_way u (dropping s)) left (holding number (held_line rest) (behind_lines 1 rest))) old.stage (stage values text tape)) (under ∙ sym still ∙ sym g.loads_are) a;
+    ends = has-line rest n line;
+    frame = frame;
+    fresh = fresh-with (step_held number (line_at rest n) ∷ []) (record { stage = stage values text tape; loads = loads }) g.gathered_is;
+  }
+
+  -- a `LOAD` begins to wait
+  waits : (n : ℕ) (text : List ℕ) (tape : Option Taped) (loads : UnderWay) → IsSoundStore values → IsLine rest n → WaitsLine now number (line_at rest n) middle (record { stage = stage values text tape; loads = loads })
+      → RunsReady now number bytes rest at.Waits old (record { stage = stage values text tape; loads = loads })
+  waits n text tape loads sound at w =
+      let line = line_at rest n in
+      let miss = w.is_miss in
+      let key = miss.key in
+      let reads : reading making.config line ≡ Ok (says.Load key) = subst (λ (k : Config). reading k line ≡ Ok (says.Load key)) made-same miss.reads in
+      let load = load_sent_for key middle.loads in
+      let said : line ≡ held_line rest = sym (ap (λ o. unwrap_or o []) (IsLine-first_line rest n at)) in
+      record {
+        ran = λ s agrees there under.
+            let lines = ran s agrees there in
+            let same = under ∙ sym still in
+            let none : live_at making.config s.latest lines.left key ≡ None =
+            subst (λ (k : Config). live_at k s.latest lines.left key ≡ None) made-same (subst (λ (m : ℕ). live_at values.frame.config m lines.left key ≡ None) (sym agrees.at) (miss.none lines.left lines.stands)) in
+            let sent = ap (load_sent_for key) (sym same) in
+            let a = ready-waits making number s s.held bytes rest line key n load old.stage middle.stage text tape there lines at refl reads sent none (idle-by values making.config s.latest lines.left sound made-same lines.stands) w.gathered_is in
+            let b = subst (λ u. RanReady making number s s.held bytes false false true (λ left. set_in (with_under_way u (dropping s)) left (waiting number line (behind_lines 1 rest) 1)) old.stage (stage values text tape))
+            (joined number key s load sent ∙ ap (when_waiting number key) same ∙ sym w.loads_are) a in
+            subst (λ l. RanReady making number s s.held bytes false false true (λ left. set_in (with_under_way loads (dropping s)) left (waiting number l (behind_lines 1 rest) 1)) old.stage (stage values text tape)) said b;
+        ends = has-line rest n at;
+        frame = frame;
+        fresh = fresh-with (step_silent number line load None [] ∷ []) (record { stage = stage values text tape; loads = loads }) w.gathered_is;
+      }
+
+  -- where the values stay
+  with-values : (end : End) (new : Seen) → new.stage.values ≡ values → StopsBy now number rest end middle new
+      → ((text : List ℕ) (tape : Option Taped) (loads : UnderWay) → StopsBy now number rest end middle (record { stage = stage values text tape; loads = loads }) → RunsReady now number bytes rest end old (record { stage = stage values text tape; loads = loads }))
+      → RunsReady now number bytes rest end old new
+  with-values end new same stops by =
+      subst (λ (v : Values). RunsReady now number bytes rest end old (record { stage = stage v new.stage.text new.stage.tape; loads = new.loads })) (sym same)
+      (by new.stage.text new.stage.tape new.loads (subst (λ (v : Values). StopsBy now number rest end middle (record { stage = stage v new.stage.text new.stage.tape; loads = new.loads })) same stops))
+
+  -- LINES END
+  pub lines-end : (end : End) (new : Seen) → IsSoundStore values → StopsBy now number rest end middle new → (ends_by_quit end ≡ false → new.stage.values ≡ values) → RunsReady now number bytes rest end old new
+  lines-end at.More new sound stops same = with-values at.More new (same refl) stops (λ text tape loads by. record {
+    ran = λ s agrees there under. quiet text tape loads by.1 s agrees there under (λ left. stops-partial (dropping s) left number rest there by.0);
+    ends = by.0;
+    frame = frame;
+    fresh = fresh-with [] (record { stage = stage values text tape; loads = loads }) by.1.gathered_is;
+  })
+  lines-end at.TooLong new sound stops same = with-values at.TooLong new (same refl) stops (λ text tape loads by. record {
+    ran = λ s agrees there under. quiet text tape loads by.1 s agrees there under (λ left. stops-long (dropping s) left number rest (ap (λ b. b || false) (long_from rest by.0)));
+    ends = by.0;
+    frame = frame;
+    fresh = fresh-with [] (record { stage = stage values text tape; loads = loads }) by.1.gathered_is;
+  })
+  lines-end at.Held new sound stops same = with-values at.Held new (same refl) stops (λ text tape loads by. held-back by.0 text tape loads sound by.1 by.2)
+  lines-end at.Waits new sound stops same = with-values at.Waits new (same refl) stops (λ text tape loads by. waits by.0 text tape loads sound by.1 by.2)
+  lines-end at.Quit new sound stops same = quits stops.0 new stops.1 stops.2.0 stops.2.1

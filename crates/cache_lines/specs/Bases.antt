@@ -1,15 +1,12 @@
 -- What a connection's lines run over, as contracts see it.
-use Rattle.std.specs.Prelude.{◌≡◌, ℕ, List, Option}
+use Rattle.std.specs.Prelude.{◌≡◌, ℕ, Option}
 use Rattle.cache_commands.specs.Loads.Pending.{SameLoads}
 use Rattle.cache_store.specs.Values.{IsMoment, Values}
 use Rattle.cache_lines.specs.Tape.Taped.{HasSpare, Taped}
-use Rattle.cache_lines.specs.Ended.{RunsHeld, RunsReady}
 use Rattle.cache_lines.specs.Gathered.{IsFresh, Stage, gathered, stage}
 use Rattle.cache_lines.specs.Waiting.{UnderWay, under_way}
 use Rattle.cache_lines.specs.declared.base.Base.{Base}
 use Rattle.cache_lines.specs.declared.output.ReplyBuffer.{ReplyBuffer}
-use Rattle.cache_lines.specs.declared.releasing.Released.{Released}
-use Rattle.cache_lines.specs.declared.ending.End.{End}
 
 -- what lines change, and the loads under way
 pub record Seen : Type 1 where
@@ -35,11 +32,3 @@ pub record LooksSame {S T : Type 0} (view : S → Values) (tape : T → Option T
   pub store_is : new.store ≡ old.store
   pub gathered_is : gathered (seen view tape new after).stage ≡ gathered (seen view tape old output).stage
   pub loads_are : SameLoads old.loads new.loads
-
--- lines of a connection that is ready ran until those bytes were left, and ended so
-abbrev pub ReadyRan : (now number : ℕ) (bytes rest : List ℕ) → End → (old new : Seen) → Type 0
-ReadyRan now number bytes rest end old new = RunsReady now number bytes rest end old.stage new.stage old.loads new.loads
-
--- a connection that holds a line back, and began to wait for it so often, was fed, and lines ran until those bytes were left, and ended so
-abbrev pub HeldRan : (now number times : ℕ) (bytes piece rest : List ℕ) → Released → (old new : Seen) → Type 0
-HeldRan now number times bytes piece rest fed old new = RunsHeld now number times bytes piece rest fed.end fed.waited old.stage new.stage old.loads new.loads

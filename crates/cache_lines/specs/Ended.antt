@@ -1,64 +1,30 @@
 -- How a connection's lines end.
-use Rattle.std.specs.Prelude.{◌≡◌, ℕ, ◌+◌, ◌<◌, ◌≤◌, ◌++◌, Bool, true, false, not, ◌&&◌, List, [], ◌∷◌, length, Option, Some, None, Ok, IsTrue, is_none, unwrap_or}
-use Rattle.std.specs.Option.{option_map}
+use Rattle.std.specs.Prelude.{◌≡◌, ℕ, ◌<◌, ◌++◌, Bool, false, not, ◌&&◌, List, [], ◌∷◌, length, Option, Some, IsTrue, is_none, unwrap_or}
 use Rattle.audit_model.specs.Bytewise.{cut_at}
 use Rattle.audit_model.specs.Follows.{after_steps}
-use Rattle.audit_model.specs.Grammar.{reading}
 use Rattle.audit_model.specs.Situation.{Situation, Connection, HeldValue}
-use Rattle.audit_model.specs.Places.{tasks_to_feed}
 use Rattle.audit_model.specs.Steps.{Task, RunLines}
 use Rattle.audit_model.specs.Stream.{behind_lines}
-use Rattle.audit_model.specs.declared.command.Command.TheVariants as says
-use Rattle.audit_model.specs.declared.config.Config.{Config}
 use Rattle.audit_model.specs.declared.transcript.Step.{Step}
-use Rattle.audit_lines.specs.Next.{IsLine, IsPartial}
+use Rattle.audit_lines.specs.Next.{IsPartial}
 use Rattle.cache_commands.specs.Answered.{Agrees}
-use Rattle.cache_commands.specs.Loading.{step_silent}
 use Rattle.cache_commands.specs.Right.{KeepsFrame}
-use Rattle.cache_lines.specs.Tape.Taped.{Taped, ends, spends, step_held}
+use Rattle.cache_lines.specs.Tape.Taped.{Taped}
+use Rattle.cache_lines.specs.Bases.{Seen}
 use Rattle.cache_lines.specs.Drawing.{StepsDraw, identifiers_in}
 use Rattle.cache_lines.specs.Gathered.{IsFresh, Stage, gather, gathered, spare_in}
 use Rattle.cache_lines.specs.Lines.{ArePartedIn, IsThere, are_timely, ends_quit, holding, ready, set_in, situation_behind, with_drops}
 use Rattle.cache_lines.specs.Making.{Making, making_of}
 use Rattle.cache_lines.specs.Ordered.{OrdersSteps}
-use Rattle.cache_lines.specs.Stops.{IsDraftOf, line_at}
-use Rattle.cache_lines.specs.Waiting.{UnderWay, holding_load, is_load, load_sent_for, loads_in, waiting, when_waiting, with_under_way}
+use Rattle.cache_lines.specs.Stops.{ends_by_quit, holds_back, waits_now}
+use Rattle.cache_lines.specs.Waiting.{holding_load, loads_in, waiting, with_under_way}
 use Rattle.cache_lines.specs.Whole.{has_line, held_line}
-use Rattle.cache_lines.specs.declared.ending.End.{End}
-use Rattle.cache_lines.specs.declared.ending.End.TheVariants as at
-use Rattle.cache_lines.specs.declared.looping.Stop.{Stop}
-use Rattle.cache_lines.specs.declared.looping.Stop.TheVariants.{More, TooLong, Held, Misses, Quit}
+use Rattle.cache_lines.specs.declared.looping.End.{End}
+use Rattle.cache_lines.specs.declared.looping.End.TheVariants as at
 
 -- how many lines can be added to the record without memory; none where none is made
 abbrev pub spare_of : Option Taped → ℕ
 spare_of tape = unwrap_or (spare_in tape) 0
-
--- it stops so, and a `LOAD` that is to wait is one, with room for its step
-abbrev pub CanEnd : Config → List ℕ → Stop → Option Taped → Type 0
-CanEnd config rest More tape = IsPartial rest
-CanEnd config rest TooLong tape = 8192 < length (cut_at 10 rest).0
-CanEnd config rest (Held n) tape = IsLine rest n
-CanEnd config rest (Misses n) tape = IsLine rest n × (is_load (reading config (line_at rest n)) ≡ true) × IsDraftOf (line_at rest n) tape
-CanEnd config rest Quit tape = Unit {0}
-
--- the line is held back
-pub record IsHeldBack (number : ℕ) (line : List ℕ) (tape new : Option Taped) (loads after : UnderWay) : Type 0 where
-  pub tape_is : new ≡ option_map (spends (step_held number line)) tape
-  pub loads_are : after ≡ loads
-
--- the line is a `LOAD` that begins to wait
-pub record BeginsToWait (config : Config) (number : ℕ) (line : List ℕ) (tape new : Option Taped) (loads after : UnderWay) : Type 0 where
-  pub tape_is : (key : List ℕ) → reading config line ≡ Ok (says.Load key) → new ≡ option_map (ends (λ l. step_silent number l (load_sent_for key loads) None [])) tape
-  pub loads_are : (key : List ℕ) → reading config line ≡ Ok (says.Load key) → after ≡ when_waiting number key loads
-
--- What ends lines that stopped so: one for which memory was wanted, or that has none to wait, is held back; a `LOAD` begins to wait.
-abbrev pub EndsBy : Config → ℕ → List ℕ → Stop → End → (tape new : Option Taped) (loads after : UnderWay) → Type 0
-EndsBy config number rest More end tape new loads after = (end ≡ at.More) × (new ≡ tape) × (after ≡ loads)
-EndsBy config number rest TooLong end tape new loads after = (end ≡ at.TooLong) × (new ≡ tape) × (after ≡ loads)
-EndsBy config number rest (Held n) end tape new loads after = (end ≡ at.Held) × IsHeldBack number (line_at rest n) tape new loads after
-EndsBy config number rest (Misses n) at.Held tape new loads after = IsHeldBack number (line_at rest n) tape new loads after
-EndsBy config number rest (Misses n) end tape new loads after = (end ≡ at.Waits) × BeginsToWait config number (line_at rest n) tape new loads after
-EndsBy config number rest Quit end tape new loads after = (end ≡ at.Quit) × (new ≡ tape) × (after ≡ loads)
 
 -- the last step is held
 abbrev pub ends_held : List Step → Bool
@@ -71,27 +37,6 @@ abbrev pub ends_silent : List Step → Bool
 ends_silent [] = false
 ends_silent (step ∷ []) = is_none step.reply && not step.held
 ends_silent (step ∷ next ∷ steps) = ends_silent (next ∷ steps)
-
-abbrev pub holds_back : End → Bool
-holds_back at.More = false
-holds_back at.TooLong = false
-holds_back at.Held = true
-holds_back at.Waits = false
-holds_back at.Quit = false
-
-abbrev pub ends_by_quit : End → Bool
-ends_by_quit at.More = false
-ends_by_quit at.TooLong = false
-ends_by_quit at.Held = false
-ends_by_quit at.Waits = false
-ends_by_quit at.Quit = true
-
-abbrev pub waits_now : End → Bool
-waits_now at.More = false
-waits_now at.TooLong = false
-waits_now at.Held = false
-waits_now at.Waits = true
-waits_now at.Quit = false
 
 -- the connection then, with those bytes left: it runs lines, or its first line is held back, or a `LOAD` that waits for that many times
 abbrev pub left_by : ℕ → End → (times : ℕ) → List ℕ → Connection
@@ -130,23 +75,13 @@ EndsFor at.Waits rest = IsTrue (has_line rest)
 EndsFor at.Quit rest = Unit {0}
 
 -- Lines of a connection that is ready ran until those bytes were left, and ended so, in each situation that the values and the loads stood for.
-pub record RunsReady (now number : ℕ) (bytes rest : List ℕ) (end : End) (old new : Stage) (loads after : UnderWay) : Type 0 where
-  pub ran : (s : Situation) → Agrees old.values now s → IsThere number s → loads_in s ≡ loads
-      → RanReady (making_of old.values.frame) number s s.held bytes (ends_by_quit end) (holds_back end) (waits_now end) (λ left. situation_behind (ends_by_quit end) (with_under_way after (with_drops new.values.frame.dropped s)) left (left_by number end 1 rest)) old new
+pub record RunsReady (now number : ℕ) (bytes rest : List ℕ) (end : End) (old new : Seen) : Type 0 where
+  pub ran : (s : Situation) → Agrees old.stage.values now s → IsThere number s → loads_in s ≡ old.loads
+      → RanReady (making_of old.stage.values.frame) number s s.held bytes (ends_by_quit end) (holds_back end) (waits_now end) (λ left. situation_behind (ends_by_quit end) (with_under_way new.loads (with_drops new.stage.values.frame.dropped s)) left (left_by number end 1 rest)) old.stage new.stage
   pub ends : EndsFor end rest
-  pub frame : KeepsFrame old.values.frame new.values.frame now
-  pub fresh : IsFresh (gathered new)
+  pub frame : KeepsFrame old.stage.values.frame new.stage.values.frame now
+  pub fresh : IsFresh (gathered new.stage)
 
 -- the connection of that number, which holds its first line back and began to wait for it so often, with those bytes and a piece more
 abbrev pub held_with : ℕ → ℕ → List ℕ → List ℕ → Connection
 held_with number times bytes piece = holding_load number (held_line bytes) (behind_lines 1 bytes ++ piece) times
-
--- A connection that holds a line back was fed: that line ran, or waits, and then lines ran until those bytes were left, and ended so.
-pub record RunsHeld (now number times : ℕ) (bytes piece rest : List ℕ) (end : End) (again : ℕ) (old new : Stage) (loads after : UnderWay) : Type 0 where
-  pub ran : (s : Situation) → Agrees old.values now s → IsThere number s → loads_in s ≡ loads
-      → RanTasks (making_of old.values.frame) (set_in s s.held (held_with number times bytes piece)) (tasks_to_feed number true) (ends_by_quit end) (holds_back end) (waits_now end)
-      (λ left. situation_behind (ends_by_quit end) (with_under_way after (with_drops new.values.frame.dropped s)) left (left_by number end again rest)) old new
-  pub ends : EndsFor end rest
-  pub few : again ≤ times + 1
-  pub frame : KeepsFrame old.values.frame new.values.frame now
-  pub fresh : IsFresh (gathered new)

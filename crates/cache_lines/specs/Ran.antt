@@ -1,7 +1,6 @@
 -- What lines did.
 use Rattle.std.specs.Prelude.{◌≡◌, ℕ, suc, Bool, true, false, not, ◌||◌, List, [], ◌∷◌, Option, Ok, None, IsTrue, is_some}
 use Rattle.std.specs.List.{list_all}
-use Rattle.std.specs.Option.{option_map}
 use Rattle.audit_model.specs.Commands.{is_sync}
 use Rattle.audit_model.specs.Grammar.{reading}
 use Rattle.audit_model.specs.Situation.{Situation, HeldValue, live_at, view_in}
@@ -16,14 +15,16 @@ use Rattle.cache_store.specs.Running.{is_timely}
 use Rattle.cache_commands.specs.Answered.{Agrees}
 use Rattle.cache_commands.specs.Order.{Order, AgreesWith, order_by}
 use Rattle.cache_commands.specs.Right.{DoesRight, KeepsFrame, step_saying, held_when_run, dropped_when_run}
-use Rattle.cache_lines.specs.Tape.Taped.{drafts}
+use Rattle.cache_commands.specs.Loading.{step_silent}
+use Rattle.cache_lines.specs.Bases.{Seen}
 use Rattle.cache_lines.specs.Drawing.{StepDraws, StepsDraw, identifiers_in}
 use Rattle.cache_lines.specs.Gathered.{IsFresh, Stage, gather, gathered}
 use Rattle.cache_lines.specs.Lines.{IsPlain, Runs, ends_quit, has_its_part, ready, says_quit, set_in, situation_behind, with_drops}
 use Rattle.cache_lines.specs.Making.{Making, making_of}
+use Rattle.cache_lines.specs.Waiting.{load_sent_for, when_waiting}
 use Rattle.cache_lines.specs.Ordered.{HasKeys, OrdersLines}
 use Rattle.cache_lines.specs.declared.running.LineOutcome.{LineOutcome}
-use Rattle.cache_lines.specs.declared.running.LineOutcome.TheVariants.{Stays, Quits, Misses}
+use Rattle.cache_lines.specs.declared.running.LineOutcome.TheVariants.{Stays, Quits, Waits}
 
 -- The line's step was right but for its turn, its values stand, and its reply and notes were gathered.
 pub record RanOne (making : Making) (number : ℕ) (s : Situation) (line : List ℕ) (quit : Bool) (old new : Stage) : Type 0 where
@@ -55,23 +56,23 @@ pub record IsMiss (config : Config) (now : ℕ) (line : List ℕ) (Stands : List
   pub reads : reading config line ≡ Ok (says.Load key)
   pub none : (held : List HeldValue) → Stands held → live_at config now held key ≡ None
 
--- such a line did nothing, and there is room for its step
-pub record MissedLine (now : ℕ) (line : List ℕ) (old new : Stage) : Type 0 where
-  pub is_miss : IsMiss old.values.frame.config now line old.values.Stands
-  pub drafted : new.tape ≡ option_map (drafts line) old.tape
-  pub text : new.text ≡ old.text
+-- such a line begins to wait for its key's load, which it sends where none is under way
+pub record WaitsLine (now number : ℕ) (line : List ℕ) (old new : Seen) : Type 0 where
+  pub is_miss : IsMiss old.stage.values.frame.config now line old.stage.values.Stands
+  pub gathered_is : gathered new.stage ≡ gather (gathered old.stage) (step_silent number line (load_sent_for is_miss.key old.loads) None [] ∷ [])
+  pub loads_are : new.loads ≡ when_waiting number is_miss.key old.loads
 
--- the line ran, and may have closed its connection, or it did nothing
-abbrev pub RunsAs : (now number : ℕ) (line : List ℕ) → LineOutcome → (old new : Stage) → Type 0
-RunsAs now number line Stays old new = RanLine now number line false old new
-RunsAs now number line Quits old new = RanLine now number line true old new
-RunsAs now number line Misses old new = MissedLine now line old new
+-- the line ran, and may have closed its connection, or it begins to wait
+abbrev pub RunsAs : (now number : ℕ) (line : List ℕ) → LineOutcome → (old new : Seen) → Type 0
+RunsAs now number line Stays old new = RanLine now number line false old.stage new.stage × (new.loads ≡ old.loads)
+RunsAs now number line Quits old new = RanLine now number line true old.stage new.stage × (new.loads ≡ old.loads)
+RunsAs now number line Waits old new = WaitsLine now number line old new
 
--- the line did nothing
-abbrev pub misses : LineOutcome → Bool
-misses Stays = false
-misses Quits = false
-misses Misses = true
+-- the line waits
+abbrev pub begins_to_wait : LineOutcome → Bool
+begins_to_wait Stays = false
+begins_to_wait Quits = false
+begins_to_wait Waits = true
 
 -- From that situation, with those values held and those bytes unread, lines of the connection ran until those bytes were left, or the last one
 -- was a `QUIT`, and what they left stands.

@@ -1,80 +1,65 @@
 //! Lines, one after another.
-ghost use Rattle.std.specs.Prelude.{◌≡◌, ◌≤◌, drop, false, length};
-ghost use Rattle.cache_store.specs.Values.{IsMoment};
-ghost use Rattle.cache_lines.specs.Gathered.{IsFresh, gathered, spare_in, stage};
-ghost use Rattle.cache_lines.specs.Stops.{RunsFirst, RunsLines, has_run};
+ghost use Rattle.std.specs.Prelude.{◌≡◌, ◌+◌, ◌≤◌, drop, false, true, length, IfErr, OnOk};
+ghost use Rattle.cache_commands.specs.Loads.Pending.{SameTaken};
+ghost use Rattle.cache_lines.specs.Bases.{CanRun, seen};
+ghost use Rattle.cache_lines.specs.Ended.{RunsReady, spare_of};
+ghost use Rattle.cache_lines.specs.Gathered.{spare_in};
+ghost use Rattle.cache_lines.specs.Outputs.{IsRoomy};
+ghost use Rattle.cache_lines.specs.Stops.{RunsFirst, has_run, waits_now};
 
+use crate::base::Base;
+use crate::output::ReplyBuffer;
 use crate::running::{LineOutcome, run_line};
 use crate::tape::Tape;
 use audit_lines::{Next, next_in, without_return};
-use cache_commands::Keyed;
 use cache_store::Store;
 
-/// Why no further line runs now.
+/// How a connection's lines end.
 #[derive(Clone, Copy, PartialEq, Eq, Drop)]
-pub enum Stop {
-    /// Less than a line has come.
+pub enum End {
+    /// Less than a line is left.
     More,
     /// The line is longer than a line may be.
     TooLong,
-    /// Memory was wanted for the line of that many bytes.
-    Held(usize),
-    /// The line of that many bytes is a `LOAD` of a key that has no live value.
-    Misses(usize),
+    /// The first unread line is held back.
+    Held,
+    /// The first unread line is a `LOAD` that waits, and began to do so.
+    Waits,
     /// A `QUIT` ran.
     Quit,
 }
 
-/// What the first line did.
-#[derive(Clone, Copy, PartialEq, Eq, Drop)]
-enum First {
-    /// It ran, and has that many bytes.
-    Ran(usize),
-    /// No further line runs now.
-    Stops(Stop),
-}
-
-/// Where lines stopped.
-#[derive(Clone, Copy, PartialEq, Eq, Drop)]
-pub struct Stopped {
-    /// How many bytes the lines had that ran, a `QUIT` aside.
-    pub used: usize,
-    /// Why no further one ran.
-    pub stop: Stop,
-}
-
-/// Runs the first line of the bytes, if it is whole.
+/// Runs the first line of the bytes, and answers how many it has, or how lines end there: a line for which memory was wanted is held back,
+/// in the room for one that the tape has.
 fn run_first<S: Store, T: Tape>(
-    store: &mut Keyed<S>,
-    tape: &mut T,
+    base: &mut Base<S, T>,
     now: u64,
     number: u64,
     bytes: &[u8],
-    text: &mut Vec<u8>,
-) -> First
-    requires in_time { IsMoment (S.view store.old) now }
-    requires fresh { IsFresh (gathered (stage (S.view store.old) text.old.items (T.view tape.old))) }
-    ensures runs { RunsFirst now number bytes.now result (stage (S.view store.old) text.old.items (T.view tape.old)) (stage (S.view store.new) text.new.items (T.view tape.new)) }
-    ensures rests { has_run result ≡ false → store.new ≡ store.old }
-    ensures ungathered { has_run result ≡ false → gathered (stage (S.view store.new) text.new.items (T.view tape.new)) ≡ gathered (stage (S.view store.old) text.old.items (T.view tape.old)) }
-    ensures spare { spare_in (T.view tape.new) ≡ spare_in (T.view tape.old) }
+    output: &mut ReplyBuffer,
+) -> Result<usize, End>
+    requires { CanRun now (seen S.view T.view base.old output.old) }
+    ensures runs { RunsFirst now number bytes.now result (seen S.view T.view base.old output.old)
+        (seen S.view T.view base.new output.new) }
+    ensures rests { has_run result ≡ false → base.new.store ≡ base.old.store }
+    ensures room { IfErr result (λ end. waits_now end ≡ true → IsRoomy output.new) }
+    ensures kept { OnOk result (spare_in (T.view base.new.tape) ≡ spare_in (T.view base.old.tape)) }
+    ensures spare { spare_of (T.view base.old.tape) ≤ spare_of (T.view base.new.tape) + 1 }
+    ensures goes { SameTaken base.old.loads base.new.loads }
 {
     match next_in(bytes) {
-        Next::More => First::Stops(Stop::More),
-        Next::TooLong => First::Stops(Stop::TooLong),
+        Next::More => Err(End::More),
+        Next::TooLong => Err(End::TooLong),
         Next::Line(len) => {
-            match run_line(
-                store,
-                tape,
-                now,
-                number,
-                without_return(&bytes[..len]),
-                text,
-            ) {
-                Ok(LineOutcome::Stays) => First::Ran(len),
-                Ok(LineOutcome::Quits) => First::Stops(Stop::Quit),
-                Ok(LineOutcome::Misses) => First::Stops(Stop::Misses(len)),
-                Err(_) => First::Stops(Stop::Held(len)),
+            let line = without_return(&bytes[..len]);
+            match run_line(base, now, number, line, output) {
+                Ok(LineOutcome::Stays) => Ok(len),
+                Ok(LineOutcome::Quits) => Err(End::Quit),
+                Ok(LineOutcome::Waits) => Err(End::Waits),
+                Err(_) => {
+                    base.tape.hold(number, line);
+                    Err(End::Held)
+                }
             }
         }
     }
@@ -88,27 +73,29 @@ pub fn behind(bytes: &[u8], used: usize) -> &[u8]
     &bytes[used..]
 }
 
-/// Runs a connection's lines, which stand in these bytes, until no whole one is left, memory is wanted for one, a `LOAD` is to wait, or a
-/// `QUIT` ran.
-pub fn run_lines<S: Store, T: Tape>(
-    store: &mut Keyed<S>,
-    tape: &mut T,
+/// Runs the lines that stand in these bytes, one after another, and answers how many bytes those had that ran, a `QUIT` aside, and how they
+/// ended.
+pub fn run_bytes<S: Store, T: Tape>(
+    base: &mut Base<S, T>,
     now: u64,
     number: u64,
     bytes: &[u8],
-    text: &mut Vec<u8>,
-) -> Stopped
-    requires in_time { IsMoment (S.view store.old) now }
-    requires fresh { IsFresh (gathered (stage (S.view store.old) text.old.items (T.view tape.old))) }
-    ensures ran { RunsLines now number bytes.now result.used result.stop (stage (S.view store.old) text.old.items (T.view tape.old)) (stage (S.view store.new) text.new.items (T.view tape.new)) }
-    ensures used { result.used ≤ length bytes.now }
-    ensures spare { spare_in (T.view tape.new) ≡ spare_in (T.view tape.old) }
+    output: &mut ReplyBuffer,
+) -> (usize, End)
+    requires { CanRun now (seen S.view T.view base.old output.old) }
+    ensures ran { RunsReady now number bytes.now (drop result.0 bytes.now) result.1
+        (seen S.view T.view base.old output.old) (seen S.view T.view base.new output.new) }
+    ensures used { result.0 ≤ length bytes.now }
+    ensures room { waits_now result.1 ≡ true → IsRoomy output.new }
+    ensures spare { spare_of (T.view base.old.tape) ≤ spare_of (T.view base.new.tape) + 1 }
+    ensures goes { SameTaken base.old.loads base.new.loads }
 {
     let mut used = 0;
     loop {
-        match run_first(store, tape, now, number, behind(bytes, used), text) {
-            First::Ran(len) => used += len + 1,
-            First::Stops(stop) => return Stopped { used, stop },
+        base.store.sound();
+        match run_first(base, now, number, behind(bytes, used), output) {
+            Ok(len) => used += len + 1,
+            Err(end) => return (used, end),
         }
     }
 }

@@ -1,15 +1,23 @@
 //! One line.
-ghost use Rattle.std.specs.Prelude.{◌≡◌, ◌≤◌, length, true, IfOk, OnErr};
+ghost use Rattle.std.specs.Prelude.{◌≡◌, ◌≤◌, Ok, length, true, IfOk, OnErr};
 ghost use Rattle.audit_lines.specs.Request.{said};
+ghost use Rattle.audit_model.specs.declared.command.Command.TheVariants as says;
+ghost use Rattle.cache_commands.specs.Loads.Pending.{SameTaken};
 ghost use Rattle.cache_store.specs.Values.{IsMoment};
-ghost use Rattle.cache_lines.specs.Gathered.{IsFresh, gathered, spare_in, stage};
+ghost use Rattle.cache_lines.specs.Bases.{IsClear, LooksSame, seen};
+ghost use Rattle.cache_lines.specs.Gathered.{spare_in};
 ghost use Rattle.cache_lines.specs.Lines.{says_quit};
-ghost use Rattle.cache_lines.specs.Ran.{RunsAs, misses};
+ghost use Rattle.cache_lines.specs.Outputs.{IsRoomy};
+ghost use Rattle.cache_lines.specs.Ran.{RunsAs, begins_to_wait};
+ghost use Rattle.cache_lines.specs.Waiting.{is_load};
 
+use crate::base::Base;
 use crate::draining::{end_step, most_notes};
+use crate::joining::join_load;
+use crate::output::ReplyBuffer;
 use crate::tape::Tape;
 use audit_lines::{Request, read_line};
-use cache_commands::{Keyed, Ran};
+use cache_commands::Ran;
 use cache_store::Store;
 use std::alloc::AllocError;
 
@@ -20,8 +28,8 @@ pub enum LineOutcome {
     Stays,
     /// It was answered, and closes its connection.
     Quits,
-    /// It is a `LOAD` of a key that has no live value, and did nothing.
-    Misses,
+    /// It is a `LOAD` of a key that has no live value, and waits.
+    Waits,
 }
 
 /// Whether a request closes its connection.
@@ -34,41 +42,69 @@ fn is_quit(request: &Request) -> bool
     }
 }
 
-/// Runs a line, at a moment below 2^63 nanoseconds: its reply stands behind `text`, or in its step where a record is made, as do its
-/// notes. A `LOAD` of a key that has no live value does nothing, and leaves room for its step. An `Err` changes nothing; a number that is
-/// used up counts as want of memory.
+/// The key of a `LOAD`.
+fn key_of<'a>(request: &Request<'a>) -> &'a [u8]
+    requires { is_load (said request.now) ≡ true }
+    ensures { said request.now ≡ Ok (says.Load result.now) }
+{
+    let Request::Load { key } = *request else {
+        unreachable!();
+    };
+    key
+}
+
+/// Runs a line, at a moment below 2^63 nanoseconds: its reply stands behind the others, or in its step where a record is made, as do its
+/// notes. A `LOAD` of a key that has no live value begins to wait. An `Err` changes nothing that is seen; a number that is used up counts as
+/// want of memory.
 pub fn run_line<S: Store, T: Tape>(
-    store: &mut Keyed<S>,
-    tape: &mut T,
+    base: &mut Base<S, T>,
     now: u64,
     number: u64,
     line: &[u8],
-    text: &mut Vec<u8>,
+    output: &mut ReplyBuffer,
 ) -> Result<LineOutcome, AllocError>
-    requires in_time { IsMoment (S.view store.old) now }
+    requires in_time { IsMoment (S.view base.old.store) now }
     requires short { length line.now ≤ 8192 }
-    requires fresh { IsFresh (gathered (stage (S.view store.old) text.old.items (T.view tape.old))) }
-    ensures runs { IfOk result (λ done. RunsAs now number line.now done (stage (S.view store.old) text.old.items (T.view tape.old)) (stage (S.view store.new) text.new.items (T.view tape.new))) }
-    ensures missed { IfOk result (λ done. misses done ≡ true → store.new ≡ store.old) }
-    ensures refused { OnErr result (store.new ≡ store.old) }
-    ensures ungathered { OnErr result (gathered (stage (S.view store.new) text.new.items (T.view tape.new)) ≡ gathered (stage (S.view store.old) text.old.items (T.view tape.old))) }
-    ensures spare { spare_in (T.view tape.new) ≡ spare_in (T.view tape.old) }
+    requires fresh { IsClear (seen S.view T.view base.old output.old) }
+    ensures runs { IfOk result (λ done. RunsAs now number line.now done
+        (seen S.view T.view base.old output.old) (seen S.view T.view base.new output.new)) }
+    ensures waits { IfOk result (λ done. begins_to_wait done ≡ true →
+        (base.new.store ≡ base.old.store) × IsRoomy output.new) }
+    ensures refused { OnErr result
+        (LooksSame S.view T.view base.old base.new output.old output.new) }
+    ensures spare { spare_in (T.view base.new.tape) ≡ spare_in (T.view base.old.tape) }
+    ensures goes { SameTaken base.old.loads base.new.loads }
 {
-    store.sound();
-    let request = read_line(store.store().config(), line);
+    let request = read_line(base.store.store().config(), line);
     let quits = is_quit(&request);
-    let notes = tape.begin(line, most_notes(store))?;
-    match store.run(request, now, text) {
+    let notes = base.tape.begin(line, most_notes(&base.store))?;
+    match base.store.run(request, now, &mut output.text) {
         Ok(Ran::Answered(accepted)) => {
-            end_step(store, tape, number, accepted, text, notes);
-            store.sound();
+            end_step(
+                &mut base.store,
+                &mut base.tape,
+                number,
+                accepted,
+                &mut output.text,
+                notes,
+            );
+            base.store.sound();
             if quits {
                 Ok(LineOutcome::Quits)
             } else {
                 Ok(LineOutcome::Stays)
             }
         }
-        Ok(Ran::Misses) => Ok(LineOutcome::Misses),
+        Ok(Ran::Misses) => {
+            join_load(
+                &mut base.loads,
+                &mut base.tape,
+                number,
+                key_of(&request),
+                output,
+            )?;
+            Ok(LineOutcome::Waits)
+        }
         Err(_) => Err(AllocError),
     }
 }

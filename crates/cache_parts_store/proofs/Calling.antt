@@ -39,7 +39,7 @@ use Rattle.cache_parts_store.proofs.parts_kept.Identifying.{identifier_clauses}
 use Rattle.cache_parts_store.proofs.parts_kept.Storing.{calls_keep_parts, kept_is_enough, takes_values}
 use Rattle.cache_parts_store.proofs.Changing.{AreTaken, DrawsTicket, all_drained-set, greatest-with, maintained-room, maintained-ticket, put-room, put-ticket, read-room, read-ticket, removal-is, removed-room, removed-ticket, unreserved-with, waiting-set}
 use Rattle.cache_parts_store.proofs.Standing.{no_more-after, one_more-after}
-use Rattle.cache_parts_store.specs.Meets.{AcceptMeets, PeekMeets, RemoveMeets, TouchMeets, stored}
+use Rattle.cache_parts_store.specs.Meets.{AcceptMeets, LookUpMeets, PeekMeets, RemoveMeets, stored}
 use Rattle.cache_parts_store.specs.View.{ComesTo, IsWhole, StoreOfParts, after, greatest_ticket, view, waiting}
 
 pub or-no : (b : Bool) → b ≡ (b || false)
@@ -94,11 +94,11 @@ peek {S} a now key s w there = λ held stands.
     bytes_are None = refl
     bytes_are (Some e) = refl
 
--- ---- `touch`
+-- ---- `look_up`
 
-touch-with : {S : Type 0} (a : StoreOfParts S) (w : IsWhole a) (now next hash : ℕ) (key : List ℕ) (s new : Part S) → ComesTo a now next → slice_get a.parts (a.frame.part_of key) ≡ Some s
+look_up-with : {S : Type 0} (a : StoreOfParts S) (w : IsWhole a) (now next hash : ℕ) (key : List ℕ) (s new : Part S) → ComesTo a now next → slice_get a.parts (a.frame.part_of key) ≡ Some s
     → NotesLookUp service_answers same key hash now false s new → Does now (using key) (view a) (view (changed a w now next (a.frame.part_of key) new)) × IsWhole (changed a w now next (a.frame.part_of key) new)
-touch-with {S} a w now next hash key s new at there look = (does, record { kept = calls_keep_parts.look_up a.frame a.step now next k a.parts s new key hash (comes a w now next at) w.kept there look; small = (let l = no_more-after a w now (using key) (changed a w now next k new) refl does in let small = w.small in omega (arith, l, small)); unreserved = unreserved-with k s new a.parts there w.unreserved room })
+look_up-with {S} a w now next hash key s new at there look = (does, record { kept = calls_keep_parts.look_up a.frame a.step now next k a.parts s new key hash (comes a w now next at) w.kept there look; small = (let l = no_more-after a w now (using key) (changed a w now next k new) refl does in let small = w.small in omega (arith, l, small)); unreserved = unreserved-with k s new a.parts there w.unreserved room })
   where
     k : ℕ
     k = a.frame.part_of key
@@ -144,10 +144,10 @@ touch-with {S} a w now next hash key s new at there look = (does, record { kept 
       spent = spent-with a w now next k s new at there ticket;
     }
 
-pub touch : {S : Type 0} → TouchMeets S
-touch {S} a now next hash key parts w at call =
+pub look_up : {S : Type 0} → LookUpMeets S
+look_up {S} a now next hash key parts w at call =
     let is = ap (λ ps. after now next ps a) call.changed ∙ after-is a w now next (a.frame.part_of key) call.before call.after call.there in
-    subst (λ b. Does now (using key) (view a) (view b) × IsWhole b) (sym is) (touch-with a w now next hash key call.before call.after at call.there call.does)
+    subst (λ b. Does now (using key) (view a) (view b) × IsWhole b) (sym is) (look_up-with a w now next hash key call.before call.after at call.there call.does)
 
 -- ---- `accept`
 

@@ -43,9 +43,9 @@ module _ (S : Type 0) where
       → ((key : List ℕ) (s : Part S) → slice_get a.parts (a.frame.part_of key) ≡ Some s → is_among key keys ≡ is_some (visible service_answers same s now key))
       → AreLive (view a) now (λ live. live ≡ sorted keys)
 
-  -- `touch`: a look-up, which is a use of what is visible
-  abbrev pub TouchMeets : Type 0
-  TouchMeets =
+  -- `look_up`: a use of what is visible
+  abbrev pub LookUpMeets : Type 0
+  LookUpMeets =
       (a : StoreOfParts S) (now next hash : ℕ) (key : List ℕ) (parts : List (Part S)) → IsWhole a → ComesTo a now next
       → CallsAt (a.frame.part_of key) (NotesLookUp service_answers same key hash now false) a.parts parts
       → Does now (using key) (view a) (view (after now next parts a)) × IsWhole (after now next parts a)

@@ -1,5 +1,5 @@
 //! Laws: what the front's calls do to the parts is what `Store` says of each call. Each function does nothing: its contract is the law.
-ghost use Rattle.cache_parts_store.specs.Meets.{AcceptMeets, ClearMeets, Drains, DropMeets, FrontMeets, LacksMeets, LiveKeysMeet, NewMeets, NoticeMeets, PeekMeets, RemoveMeets, RunAllMeets, SoundMeets, TouchMeets, UsedUpMeets};
+ghost use Rattle.cache_parts_store.specs.Meets.{AcceptMeets, ClearMeets, Drains, DropMeets, FrontMeets, LacksMeets, LiveKeysMeet, LookUpMeets, NewMeets, NoticeMeets, PeekMeets, RemoveMeets, RunAllMeets, SoundMeets, UsedUpMeets};
 
 /// What is visible in a key's part is its live value.
 pub fn peek_meets<S>()
@@ -11,9 +11,9 @@ pub fn live_keys_meet<S>()
     ensures { LiveKeysMeet S }
 {}
 
-/// A look-up is a `touch`.
-pub fn touch_meets<S>()
-    ensures { TouchMeets S }
+/// A look-up of the front is a `look_up`.
+pub fn look_up_meets<S>()
+    ensures { LookUpMeets S }
 {}
 
 /// A value that is inserted is an `accept`.

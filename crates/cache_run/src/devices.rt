@@ -1,4 +1,4 @@
-//! What a connection is served over: a reader, a writer, a clock and a loader; and why it stops before its end.
+//! What a connection is served with: a reader, a writer, a clock and a loader; and why it stops before its end.
 mod errors;
 mod output;
 mod sources;

@@ -1,4 +1,4 @@
-//! The driver of a connection, whatever serves it.
+//! The driver of a connection, for any host.
 mod driving;
 mod feeding;
 mod handing;

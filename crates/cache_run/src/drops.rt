@@ -1,4 +1,4 @@
-//! A connection's closing, and the loads that are dropped behind it.
+//! A connection's closing, and the loads that are dropped after it.
 ghost use Rattle.std.specs.Prelude.{◌==◌};
 ghost use Rattle.cache_spaces.specs.Calls.{At};
 ghost use Rattle.cache_run.specs.Accounts.{is_left};
@@ -24,7 +24,7 @@ pub fn close_if_open(service: &mut Service, conn: Conn)
     }
 }
 
-/// Gives a load up at moment 0, which counts as the latest. One that is not under way stays settled.
+/// Gives up a load at moment 0, which counts as the latest. One that is not under way stays settled.
 fn drop_load(service: &mut Service, conn: Conn, load: u64)
     requires known { IsThere conn service.old }
     ensures dropped { At service.old service.new conn.namespace (Drops conn.number (λ n. n == load)) }

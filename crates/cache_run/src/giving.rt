@@ -1,4 +1,4 @@
-//! Pieces that are fed, and what a connection is given.
+//! Feeding pieces, and what a connection is given.
 ghost use Rattle.std.specs.Prelude.{◌≡◌, ◌≤◌, ◌^◌, true, is_some, IfErr, IfOk, OnErr};
 ghost use Rattle.std.specs.Option.{option_map};
 ghost use Rattle.cache_run.specs.Driver.Exchanges as did;
@@ -13,7 +13,7 @@ use crate::driver::Given;
 use audit_model::{Bytes, Closing, Conn, Instant, LoadId, ServiceError};
 use cache_spaces::{Fed, Service};
 
-/// Feeds a piece. Answers whether a command is held back for want of memory.
+/// Feeds a piece. Returns whether a command is held back for lack of memory.
 pub fn feed_piece(
     service: &mut Service,
     conn: Conn,
@@ -60,7 +60,7 @@ pub fn take_sent(service: &mut Service, conn: Conn) -> Vec<(LoadId, Bytes)>
     }
 }
 
-/// The same, where they are wanted.
+/// The same, if they are requested.
 fn take_loads(service: &mut Service, conn: Conn, wanted: bool) -> Option<Vec<(LoadId, Bytes)>>
     requires known { IsThere conn service.old }
     ensures taken { At service.old service.new conn.namespace (MayGiveLoads (option_map (λ loads. loads.items) result)) }

@@ -1,4 +1,4 @@
-//! The host of a connection to whom a service is lent.
+//! The host of a connection of a lent service.
 ghost use Rattle.std.specs.Prelude.{◌≡◌, true};
 ghost use Rattle.std.proofs.Common.{subst};
 ghost use Rattle.cache_run.specs.Lent.{ClosesAt, ComesAt, DropsAt, IsThere, OpensAt};

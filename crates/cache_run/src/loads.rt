@@ -1,4 +1,4 @@
-//! Loads that are settled by what a loader says.
+//! Settling loads by what a loader returns.
 ghost use Rattle.std.specs.Prelude.{◌≡◌, ◌≤◌, ◌^◌, true, false, IfOk, IfErr, OnOk, OnErr};
 ghost use Rattle.cache_run.specs.Driver.Hosting.{Stops};
 ghost use Rattle.cache_spaces.specs.Calls.{At};
@@ -8,7 +8,7 @@ use crate::devices::RunError;
 use audit_model::{Conn, Instant, LoadId, Outcome, ServiceError};
 use cache_spaces::Service;
 
-/// Gives a load up. One that is not under way stays settled.
+/// Gives up a load. One that is not under way stays settled.
 fn give_up(service: &mut Service, conn: Conn, load: u64, moment: u64) -> Result<(), RunError>
     requires known { IsThere conn service.old }
     ensures ok { OnOk result (At service.old service.new conn.namespace (GivesUpOr load moment)) }
@@ -32,7 +32,7 @@ fn give_up(service: &mut Service, conn: Conn, load: u64, moment: u64) -> Result<
     }
 }
 
-/// Answers a load with an outcome. Answers whether it is settled: it is not where the outcome is refused for its bytes or its time. One
+/// Answers a load with an outcome. Returns whether it is settled, which it is not if the outcome is refused for its bytes or its time. One
 /// that is not under way stays settled.
 fn answer(
     service: &mut Service,
@@ -66,7 +66,7 @@ fn answer(
     }
 }
 
-/// Settles a load by what the loader said: with its outcome, or by a give-up where there is none, or one that is refused for its bytes or
+/// Settles a load by what the loader returned: with its outcome, or by a give-up if there is none, or one that is refused for its bytes or
 /// its time.
 pub fn settle(
     service: &mut Service,

@@ -1,20 +1,20 @@
-//! How much of a piece is handed in at once.
+//! How much of a piece is passed on at once.
 ghost use Rattle.std.specs.Prelude.{◌≡◌, ◌≤◌, ◌<◌, ◌-◌, ◌==◌, count_by, length, slice_index, take};
 
-/// The most lines that are handed in at once.
+/// The maximum number of lines that are passed on at once.
 const MOST_LINES: usize = 16;
 
-/// Behind more reply bytes than these one line alone is handed in.
+/// After more reply bytes than this, only one line is passed on.
 const MANY_BYTES: usize = 65536;
 
-/// How many reply bytes were sent since something was handed in.
+/// How many reply bytes were sent since something was passed on.
 #[derive(Drop)]
 pub struct Pace {
     replied: usize,
 }
 
 impl Pace {
-    /// None.
+    /// No bytes were sent.
     pub fn new() -> Pace {
         Pace { replied: 0 }
     }
@@ -24,7 +24,7 @@ impl Pace {
         self.replied = self.replied.saturating_add(sent);
     }
 
-    /// How many lines are handed in next at most; from then on reply bytes are counted anew.
+    /// Returns how many lines are passed on next at most; from then on reply bytes are counted from 0 again.
     pub fn next_lines(&mut self) -> usize
         ensures some { 0 < result }
         ensures few { result ≤ 16 }
@@ -39,8 +39,8 @@ impl Pace {
     }
 }
 
-/// The length of a beginning of the bytes with so many lines. It ends behind the last of these line ends, or with the bytes where they have
-/// fewer.
+/// Returns the length of a prefix of the bytes with this many lines. It ends after the last of these line ends, or with the bytes if they
+/// have fewer.
 pub fn length_of_cut(bytes: &[u8], lines: usize) -> usize
     requires { 0 < lines }
     ensures within { result ≤ length bytes.now }

@@ -4,16 +4,16 @@ use cache_run::{Clock, Loader};
 use std::alloc::Global;
 use std::sync::Wait;
 
-/// Who is told the notes of a connection's namespace, by the thread that serves it.
+/// Receives the notes of a connection's namespace, from the thread that serves it.
 pub trait Teller: Drop {
-    /// Whether notes are told to it. Where they are not, they stay to be taken (`SharedService::next_notice`).
+    /// Returns whether it receives notes. If not, they are left to be taken (`SharedService::next_notice`).
     fn is_told(&self) -> bool;
 
-    /// Tells it some notes of one namespace, in their order, which come to it alone. What goes wrong is its own to deal with.
+    /// Receives some notes of one namespace, in their order, which nobody else receives. It handles its own errors.
     fn tell<R: Wait>(&mut self, rt: &R, notes: &[Note]);
 }
 
-/// Nobody is told: the notes stay to be taken (`SharedService::next_notice`).
+/// Receives nothing: the notes are left to be taken (`SharedService::next_notice`).
 #[derive(Clone, Copy, Drop)]
 pub struct Untold;
 
@@ -28,7 +28,7 @@ impl Teller for Untold {
     }
 }
 
-/// Makes what each connection that `host` serves needs.
+/// Creates what each connection that `host` serves needs.
 pub trait Devices {
     type Clock: Clock + Drop + Send + 'static;
 
@@ -36,6 +36,6 @@ pub trait Devices {
 
     type Teller: Teller + Send + 'static;
 
-    /// A clock, a loader and a teller for one connection. None closes that connection alone.
+    /// Returns a clock, a loader and a teller for one connection. `None` closes only that connection.
     fn make(&self, alloc: Global) -> Option<(Self::Clock, Self::Loader, Self::Teller)>;
 }

@@ -4,7 +4,7 @@ ghost use Rattle.std.specs.Prelude.{◌≡◌, ◌⊎◌};
 use audit_model::ServiceError;
 use cache_run::RunError;
 
-/// Why a connection stops where an input of its was refused.
+/// Returns why a connection stops after an input of it was refused.
 pub fn error_of_refusal(error: ServiceError) -> RunError
     ensures { (result ≡ RunError.OutOfMemory) ⊎ ((result ≡ RunError.UsedUp) × (error ≡ ServiceError.UsedUp)) ⊎ ((result ≡ RunError.Moment) × (error ≡ ServiceError.Moment)) }
 {

@@ -11,14 +11,14 @@ use std::sync::Wait;
 use std::thread;
 use std::thread::{SpawnError, Threads};
 
-/// What `host` leaves: the seats of the connections that were served, and whether it could not go on.
+/// The result of `host`: the seats of the connections that were served, and whether it could not continue.
 #[derive(Drop)]
 pub struct Hosted<L: Seating> {
-    /// The seats, in no order; one serves many connections, one after another. One that no memory could keep is missing, so that
-    /// `SharedService::finish` then hands all back.
+    /// The seats, in no order; one serves many connections, one after another. A seat for which there was no memory is missing, so that
+    /// `SharedService::finish` then returns everything.
     pub seats: Vec<Seat<L>>,
-    /// Whether an accept failed while nobody was connected, and not for want of descriptors or memory, or there was no memory to begin
-    /// with, which ended it early.
+    /// Whether it ended early: an accept failed while nobody was connected, and not for lack of descriptors or memory, or there was no
+    /// memory to begin with.
     pub failed: bool,
 }
 
@@ -33,7 +33,7 @@ struct Work<L: Seating, C: Takings, K: Clock + Drop, D: Loader + Drop, T: Teller
 }
 
 impl<L: Seating, C: Takings, K: Clock + Drop, D: Loader + Drop, T: Teller> Work<L, C, K, D, T> {
-    /// Serves the connection, and gives the seat back.
+    /// Serves the connection, and returns the seat.
     fn attend(self, rt: &impl Wait, alloc: Global) -> Seat<L> {
         let Work {
             shared,
@@ -59,14 +59,14 @@ impl<L: Seating, C: Takings, K: Clock + Drop, D: Loader + Drop, T: Teller> Work<
     }
 }
 
-/// Serves the connections that a listener accepts as connections of that namespace, by `serve_and_tell`, each on a thread of its own with
-/// devices and a seat of its own; `limit` of them, or without one 2^64 - 1; and joins the threads.
+/// Serves the connections that a listener accepts as connections of this namespace, by `serve_and_tell`, each on a thread of its own with
+/// devices and a seat of its own, up to `limit` of them (2^64 - 1 without one), and then joins the threads.
 ///
-/// An accept whose client has gone already is tried again. One that fails otherwise, as where no descriptor is free, waits until a
-/// connection has ended, and is tried again. While nobody is connected, one for which descriptors or memory are wanting, which other
-/// namespaces may have, is tried again each millisecond, and any other ends the host early.
+/// An accept whose client has already gone is tried again. After any other failure, for example if no descriptor is free, `host` waits
+/// until a connection has ended, and tries again. While nobody is connected, an accept that lacks descriptors or memory, which other
+/// namespaces may have, is tried again each millisecond, and any other failure ends the host early.
 ///
-/// Where devices, seat or memory cannot be had, that connection alone is closed; where no thread can be made, it is served here.
+/// If devices, seat or memory are not available, only that connection is closed; if no thread can be created, it is served on this one.
 pub fn host<L, C, D, R>(
     rt: R,
     alloc: Global,
@@ -102,7 +102,7 @@ where
     }
 }
 
-/// Serves one connection on a thread of its own, or here where none can be made.
+/// Serves one connection on a thread of its own, or here if none can be created.
 fn admit<L, C, D, R>(
     rt: R,
     alloc: Global,
@@ -118,7 +118,7 @@ where
     D: Devices,
     R: Threads + Wait + Copy + Send + Sync + 'static,
 {
-    // The replies of a piece go out in several writes, none of which is to wait for the client's acknowledgement.
+    // The replies of a piece go out in several writes, and none of them should wait for the client's acknowledgement.
     let _ = stream.set_nodelay(true);
     let Ok((place, done)) = workers.reserve(&rt) else {
         return;

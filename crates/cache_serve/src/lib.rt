@@ -1,4 +1,4 @@
-//! Connections over a service that threads share.
+//! Connections of a service that threads share.
 #![tactic(auto)]
 
 mod cutting;

@@ -15,10 +15,10 @@ use std::alloc::{AllocError, Global};
 use std::io::{Read, Write};
 use std::sync::Wait;
 
-/// The most notes that are taken at once.
+/// The maximum number of notes that are taken at once.
 const NOTES_AT_ONCE: usize = 64;
 
-/// Room for the notes that are taken at once; none where none are told.
+/// Room for the notes that are taken at once; none if none are reported.
 fn room_for_notes<T: Teller>(alloc: Global, teller: &T) -> Result<Vec<Note>, AllocError> {
     let room = if teller.is_told() { NOTES_AT_ONCE } else { 0 };
     Vec::with_capacity(alloc, room)
@@ -31,25 +31,29 @@ fn is_more(ended: &Result<Progress, RunError>) -> bool
     matches!(ended, Ok(Progress::More))
 }
 
-/// Serves one connection of a namespace that there is, from its opening to the end of its input, where it is closed, or until it has
-/// closed. Each of its events is one hold of the lock, in which all is taken that the connection is owed behind it, and counted by the seat.
-/// What was read at once is handed in by pieces of at most 16 lines, and of one line where more than 64 KiB of replies came before, so that
-/// others have the lock between. While replies wait to be written, or a `LOAD` of the connection waits, nothing is handed in or read.
+/// Serves one connection of an existing namespace, from its opening to the end of its input, when it is closed, or until it has
+/// closed. Each of its events is one hold of the lock, in which everything that the connection is owed afterwards is taken, and is counted
+/// by the seat.
+/// What was read at once is passed on in pieces of at most 16 lines, or of one line if more than 64 KiB of replies came before, so that
+/// others get the lock in between. While replies wait to be written, or a `LOAD` of the connection waits, nothing is passed on or read.
 ///
-/// With its events it takes the loads of the namespace that have gone out, its own or other connections', and asks the loader for each by its
-/// key, without the lock. A load is answered with what the loader says, and given up where the loader asks it or where the
-/// outcome is refused for its bytes or its time; one that is not under way any more is left. It ends only when all that it took are
-/// settled. After an error the connection is closed first; then what is left is brought to the loader and settled at moment 0, which counts
+/// With its events it takes the loads of the namespace that have gone out, its own or those of other connections, and asks the loader for
+/// each by its key, without the lock. A load is answered with what the loader returns, and given up if the loader returns nothing or if the
+/// outcome is refused for its bytes or its time; one that is not under way any more is left. It ends only when everything that it took is
+/// settled. After an error the connection is closed first; then what is left is passed to the loader and settled at moment 0, which counts
 /// as the latest, and an answer that is refused for another cause is followed by a give-up. A closing or a give-up that is refused for
 /// memory is tried again.
 ///
-/// Where the service keeps journals, so that the seat has a receipt of each event, these are an opening, the pieces read with the clock's
+/// If the service keeps journals, so that the seat has a receipt of each event, these are an opening, the pieces read with the clock's
 /// readings, between them answers and give-ups of loads with the clock's readings, a closing, and after an error further answers and
-/// give-ups, in this order. A piece that was refused has none, nor has what was read behind it or behind the closing, and neither has a
-/// closing that was refused. The notes stay to be taken.
+/// give-ups, in this order. A piece that was refused has no receipt, nor has what was read after it or after the closing, nor a
+/// closing that was refused. The notes are left to be taken.
 ///
-/// Fails with `Read` or `Write` where that device failed, with `Moment` where the clock told more than 2^63 - 1 nanoseconds, with `UsedUp`
-/// where a count of inputs is at 2^64 - 1, and else with `OutOfMemory`, also where there is no such namespace.
+/// Returns `Read` or `Write` if that device failed, `Moment` if the clock gave more than 2^63 - 1 nanoseconds, `UsedUp`
+/// if a count of inputs is at 2^64 - 1, and otherwise `OutOfMemory`, also if there is no such namespace.
+/// ```
+/// serve(&rt, alloc, &shared, &mut seat, 0, &mut reader, &mut writer, &mut clock, &mut loader)?;
+/// ```
 pub fn serve<L: Seating, C: Takings, I: Read, O: Write, K: Clock, D: Loader, R: Wait>(
     rt: &R,
     alloc: Global,
@@ -83,8 +87,8 @@ pub fn serve<L: Seating, C: Takings, I: Read, O: Write, K: Clock, D: Loader, R: 
     )
 }
 
-/// As `serve`; besides, after each piece that it hands in and each load that it settles, and before the replies of that are written, it
-/// takes the notes of the namespace, also those that other connections' events told, and tells them to the teller.
+/// Like `serve`. In addition, after each piece that it passes on and each load that it settles, and before the replies of that are written,
+/// it takes the notes of the namespace, including those of other connections' events, and passes them to the teller.
 pub fn serve_and_tell<
     L: Seating,
     C: Takings,

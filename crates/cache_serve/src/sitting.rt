@@ -1,4 +1,4 @@
-//! The host of a connection that has a seat of a service which threads share.
+//! The host of a connection that has a seat of a shared service.
 ghost use Rattle.std.specs.Prelude.{◌≡◌, ◌≤◌, ◌^◌, ℕ, true, false, None, IfOk, IfErr, IfSome, OnOk, OnErr};
 ghost use Rattle.std.specs.Option.{ForSome, option_map};
 ghost use Rattle.audit_model.specs.declared.input.Conn.{Conn};
@@ -19,7 +19,7 @@ use cache_spaces::{Output, Refusal};
 use std::alloc::Global;
 use std::sync::Wait;
 
-/// What a connection is served by, besides its seat: the service, who is told notes, and room for them.
+/// What a connection is served with, apart from its seat: the service, who receives notes, and room for them.
 #[derive(Drop)]
 pub struct Sitting<'a, L: Seating, C: Takings, T: Teller, R: Wait> {
     rt: &'a R,
@@ -40,7 +40,7 @@ fn text_of<C: Takings>(replies: Option<Replies<C>>) -> Option<Vec<u8>>
     }
 }
 
-/// Loads that were taken, where they are wanted.
+/// Loads that were taken, if they are requested.
 fn loads_of<C: Takings>(loads: Option<TakenLoads<C>>, wanted: bool) -> Option<Vec<(LoadId, Bytes)>>
     ensures out { (n : ℕ) → ForSome loads (λ one. one.namespace ≡ n) → IfSome (option_map (λ given. given.items) result) (AreOut C.spaces C.events n) }
     ensures unwanted { wanted ≡ false → result ≡ None }
@@ -52,7 +52,7 @@ fn loads_of<C: Takings>(loads: Option<TakenLoads<C>>, wanted: bool) -> Option<Ve
 }
 
 impl<'a, L: Seating, C: Takings, T: Teller, R: Wait> Sitting<'a, L, C, T, R> {
-    /// What a connection is served by, with room for notes.
+    /// What a connection is served with, with room for notes.
     pub fn new(
         rt: &'a R,
         alloc: Global,
@@ -72,7 +72,7 @@ impl<'a, L: Seating, C: Takings, T: Teller, R: Wait> Sitting<'a, L, C, T, R> {
 }
 
 impl<L: Seating, C: Takings, T: Teller, R: Wait> Sitting<'_, L, C, T, R> {
-    /// Tells the notes that were taken, and those that there was no room for.
+    /// Reports the notes that were taken, and those for which there was no room.
     fn tell_notes(&mut self, namespace: u64) {
         for _turn in 0..u64::MAX {
             if self.notes.is_empty() {
@@ -115,7 +115,7 @@ impl<L: Seating, C: Takings, T: Teller, R: Wait> Sitting<'_, L, C, T, R> {
         }
     }
 
-    /// Takes an input, and gives what the connection is owed behind it, in one hold of the lock; then notes are told.
+    /// Takes an input, and gives what the connection is owed afterwards, in one hold of the lock; then notes are reported.
     fn ask(
         &mut self,
         seat: &mut Seat<L>,
@@ -145,7 +145,7 @@ impl<L: Seating, C: Takings, T: Teller, R: Wait> Sitting<'_, L, C, T, R> {
         Ok(self.give(owed, held, wants_loads))
     }
 
-    /// What a connection is owed; notes are told.
+    /// What a connection is owed; notes are reported.
     fn take_owed(&mut self, conn: Conn, wants_loads: bool) -> Given
         ensures { Gives C.spaces C.events C.untaken conn wants_loads result }
     {
@@ -156,7 +156,7 @@ impl<L: Seating, C: Takings, T: Teller, R: Wait> Sitting<'_, L, C, T, R> {
         self.give(owed, false, wants_loads)
     }
 
-    /// Gives a load up. Where that is refused for memory it is tried again. None where it is not under way.
+    /// Gives up a load. If that is refused for memory, it is tried again. `None` if it is not under way.
     fn give_up(
         &mut self,
         seat: &mut Seat<L>,
@@ -189,8 +189,8 @@ impl<L: Seating, C: Takings, T: Teller, R: Wait> Sitting<'_, L, C, T, R> {
         unreachable!()
     }
 
-    /// Settles a load by what the loader said of its key: it is given up where the loader asks it, or where the outcome is refused for its
-    /// bytes or its time. None where it is not under way.
+    /// Settles a load by what the loader returned for its key: it is given up if the loader returned nothing, or if the outcome is refused
+    /// for its bytes or its time. `None` if it is not under way.
     fn settle_load(
         &mut self,
         seat: &mut Seat<L>,
@@ -297,7 +297,7 @@ impl<L: Seating, C: Takings, T: Teller, R: Wait> Sitting<'_, L, C, T, R> {
         }
     }
 
-    /// Feeds a piece. None where the connection had closed.
+    /// Feeds a piece. `None` if the connection had closed.
     fn feed_piece(
         &mut self,
         seat: &mut Seat<L>,
@@ -325,7 +325,7 @@ impl<L: Seating, C: Takings, T: Teller, R: Wait> Sitting<'_, L, C, T, R> {
         }
     }
 
-    /// Settles a load by what the loader said, and gives what the connection is owed then.
+    /// Settles a load by what the loader returned, and gives what the connection is owed then.
     fn settle_and_look(
         &mut self,
         seat: &mut Seat<L>,
@@ -347,7 +347,7 @@ impl<L: Seating, C: Takings, T: Teller, R: Wait> Sitting<'_, L, C, T, R> {
         }
     }
 
-    /// Closes a connection, unless it has closed. Where that is refused for memory it is tried again.
+    /// Closes a connection, unless it has closed. If that is refused for memory, it is tried again.
     fn close_if_open(&mut self, seat: &mut Seat<L>, conn: Conn)
         ensures { Closes C.spaces C.events C.untaken C.KEEPS conn seat.old seat.new }
     {
@@ -364,7 +364,7 @@ impl<L: Seating, C: Takings, T: Teller, R: Wait> Sitting<'_, L, C, T, R> {
         }
     }
 
-    /// Drops the loads in hand of a connection that has closed, and those that go out meanwhile.
+    /// Drops the loads in hand of a connection that has closed, and those that go out in the meantime.
     fn drop_all<D: Loader>(
         &mut self,
         seat: &mut Seat<L>,

@@ -1,4 +1,4 @@
-//! The threads that serve connections, and the seats that they give back.
+//! The threads that serve connections, and the seats that they return.
 
 use crate::pausing::pause;
 use cache_shared::{Seat, Seating, SharedService, Takings};
@@ -18,7 +18,7 @@ pub struct Done {
 }
 
 impl Done {
-    /// None is done.
+    /// No thread is done.
     fn new(alloc: Global) -> Done {
         Done {
             places: Mutex::new(Vec::new(alloc)),
@@ -26,28 +26,28 @@ impl Done {
         }
     }
 
-    /// Makes room for the places of so many threads.
+    /// Makes room for the places of this many threads.
     fn reserve(&self, rt: &impl Wait, threads: usize) -> Result<(), AllocError> {
         self.places.lock(rt).reserve(threads)
     }
 
-    /// Tells that the thread of a place is about to end. There is room for it.
+    /// Notes that the thread of a place is about to end. There must be room for it.
     pub fn tell(&self, rt: &impl Wait, place: usize) {
         let _ = self.places.lock(rt).push(place);
         self.told.notify_one();
     }
 
-    /// Takes a place out at which no thread runs.
+    /// Removes a place at which no thread runs.
     fn forget(&self, rt: &impl Wait, place: usize) {
         self.places.lock(rt).retain(|told| *told != place);
     }
 
-    /// Takes a place that was told.
+    /// Takes a place that was noted.
     fn take(&self, rt: &impl Wait) -> Option<usize> {
         self.places.lock(rt).pop()
     }
 
-    /// Waits for a place that is told, and takes it.
+    /// Waits for a place that is noted, and takes it.
     fn wait(&self, rt: &impl Wait) -> usize {
         let mut guard = self.places.lock(rt);
         for _ in rt.forever() {
@@ -60,7 +60,7 @@ impl Done {
     }
 }
 
-/// Whether an accept failed since its client has gone or cannot be reached any more.
+/// Whether an accept failed because its client has gone or cannot be reached any more.
 fn is_of_client(kind: ErrorKind) -> bool {
     matches!(
         kind,
@@ -72,7 +72,7 @@ fn is_of_client(kind: ErrorKind) -> bool {
     )
 }
 
-/// Whether an accept failed for want of memory (12, 105) or of descriptors, of the process or of the machine (24, 23), by the numbers of
+/// Whether an accept failed for lack of memory (12, 105) or of descriptors, of the process or of the machine (24, 23), by the numbers of
 /// Linux.
 fn is_of_want(error: &io::Error) -> bool {
     match error.raw_os_error() {
@@ -90,7 +90,7 @@ pub struct Workers<L: Seating> {
 }
 
 impl<L: Seating + Send + Sync + 'static> Workers<L> {
-    /// None.
+    /// No threads.
     pub fn new(alloc: Global) -> Result<Workers<L>, AllocError> {
         Ok(Workers {
             running: Slab::new(alloc),
@@ -99,7 +99,7 @@ impl<L: Seating + Send + Sync + 'static> Workers<L> {
         })
     }
 
-    /// Makes room for one thread more, its seat and its end. Answers its place, and where it tells its end.
+    /// Makes room for one more thread, its seat and its end. Returns its place, and where it notes its end.
     pub fn reserve(&mut self, rt: &impl Wait) -> Result<(usize, Arc<Done>), AllocError> {
         self.running.reserve(1)?;
         let threads = self.running.len().saturating_add(1);
@@ -109,7 +109,7 @@ impl<L: Seating + Send + Sync + 'static> Workers<L> {
         Ok((self.running.vacant_key(), done))
     }
 
-    /// A seat that is free, or else a new one. None where the service has no more.
+    /// Returns a free seat, or else a new one; `None` if the service has no more.
     pub fn take_seat<C: Takings>(
         &mut self,
         rt: &impl Wait,
@@ -121,25 +121,25 @@ impl<L: Seating + Send + Sync + 'static> Workers<L> {
         }
     }
 
-    /// Takes a thread in, at the place that `reserve` answered last.
+    /// Adds a thread, at the place that `reserve` returned last.
     pub fn add(&mut self, thread: JoinHandle<Seat<L>>) {
         let _ = self.running.insert(thread);
     }
 
-    /// Takes back a seat whose work was done here, though the end of a thread was told.
+    /// Takes back a seat whose work was done here, although the end of a thread was noted.
     pub fn give_back(&mut self, rt: &impl Wait, place: usize, seat: Seat<L>) {
         self.done.forget(rt, place);
         self.keep(seat);
     }
 
-    /// Keeps a seat. Without memory it is lost, and `SharedService::finish` then hands all back.
+    /// Keeps a seat. If there is not enough memory it is lost, and `SharedService::finish` then returns everything.
     fn keep(&mut self, seat: Seat<L>) {
         let _ = self.seats.push(seat);
     }
 
-    /// The next connection; meanwhile threads that are done are joined. Where descriptors or memory are wanting it waits until a connection
-    /// ends, or, while nobody is connected, a millisecond: others have them then. None where accepting fails otherwise while nobody is
-    /// connected.
+    /// Returns the next connection; in the meantime threads that are done are joined. If descriptors or memory are lacking, waits until a
+    /// connection ends, or, while nobody is connected, a millisecond: others have them then. `None` if accepting fails otherwise while
+    /// nobody is connected.
     pub fn accept<R: Threads + Wait>(
         &mut self,
         rt: &R,
@@ -165,7 +165,7 @@ impl<L: Seating + Send + Sync + 'static> Workers<L> {
         unreachable!()
     }
 
-    /// Joins the threads that are done, which takes no time for those that run.
+    /// Joins the threads that are done, without waiting for those that run.
     fn join_done<R: Threads + Wait>(&mut self, rt: &R) {
         for _joined in 0..self.running.len() {
             match self.done.take(rt) {
@@ -188,7 +188,7 @@ impl<L: Seating + Send + Sync + 'static> Workers<L> {
         }
     }
 
-    /// Joins all, and answers the seats, in no order.
+    /// Joins all threads, and returns the seats, in no order.
     pub fn finish(self, rt: &impl Threads) -> Vec<Seat<L>> {
         let Workers {
             mut running,

@@ -1,8 +1,8 @@
 //! Four threads, each with a seat, and one seat alone.
 ghost use Rattle.std.specs.Prelude.{◌≡◌};
 
-use crate::inputs::{conn, feed};
-use crate::steps::{counts_of, feeds, finish, opens, refuses, takes, two_seats};
+use crate::inputs::{conn, feed, feed_by_key};
+use crate::steps::{counts_of, finish, is_replied, opens, refuses, takes, two_seats};
 use audit_model::{Conn, Input};
 use cache_shared::{Finished, Seat, Seating, SharedService};
 use cache_spaces::RecordedService;
@@ -11,10 +11,15 @@ use std::sync::Wait;
 use std::thread;
 use std::thread::Threads;
 
-/// What a thread does on a connection of its own: it feeds each text, so often, and may then close. It opens none where it feeds none.
+/// A text, in which each `#` stands for the thread's key, and what is replied, if that is known.
+pub type Talk<'a> = (&'a [u8], Option<&'a [u8]>);
+
+/// What a thread does on a connection of its own: it feeds each text and looks at the reply, so often, and may then close. It opens none
+/// where it feeds none.
 #[derive(Clone, Copy)]
 pub struct Script<'a> {
-    pub texts: &'a [&'a [u8]],
+    pub key: u8,
+    pub talks: &'a [Talk<'a>],
     pub times: u32,
     pub closes: bool,
     /// How many inputs its seat then counts.
@@ -28,25 +33,39 @@ pub struct Crew<'a> {
     pub back: (Script<'a>, Script<'a>),
 }
 
-/// Feeds each text.
-fn feeds_all<L: Seating, R: Wait>(
+/// Feeds a text, and answers whether it is replied so.
+fn talks<L: Seating, R: Wait>(
     rt: &R,
     alloc: Global,
     shared: &SharedService<L>,
     seat: &mut Seat<L>,
     conn: Conn,
-    texts: &[&[u8]],
+    key: u8,
+    talk: Talk<'_>,
 ) -> Result<bool, AllocError> {
-    for text in texts {
-        if !feeds(rt, alloc, shared, seat, conn, text)? {
+    let input = feed_by_key(alloc, conn, talk.0, key)?;
+    Ok(takes(rt, shared, seat, input) && is_replied(rt, shared, conn, talk.1))
+}
+
+/// Feeds each text of a script.
+fn talks_once<L: Seating, R: Wait>(
+    rt: &R,
+    alloc: Global,
+    shared: &SharedService<L>,
+    seat: &mut Seat<L>,
+    conn: Conn,
+    script: Script<'_>,
+) -> Result<bool, AllocError> {
+    for talk in script.talks {
+        if !talks(rt, alloc, shared, seat, conn, script.key, *talk)? {
             return Ok(false);
         }
     }
     Ok(true)
 }
 
-/// Feeds each text so often.
-fn feeds_often<L: Seating, R: Wait>(
+/// The same so often.
+fn talks_often<L: Seating, R: Wait>(
     rt: &R,
     alloc: Global,
     shared: &SharedService<L>,
@@ -55,14 +74,14 @@ fn feeds_often<L: Seating, R: Wait>(
     script: Script<'_>,
 ) -> Result<bool, AllocError> {
     for _ in 0..script.times {
-        if !feeds_all(rt, alloc, shared, seat, conn, script.texts)? {
+        if !talks_once(rt, alloc, shared, seat, conn, script)? {
             return Ok(false);
         }
     }
     Ok(true)
 }
 
-/// Follows a script. Answers whether each input was taken, and the seat counts them and has their receipts. Fails where there is no memory
+/// Follows a script. Answers whether each input was taken and replied so, and the seat counts them and has their receipts. Fails where there is no memory
 /// for an input.
 pub fn follows<L: Seating, R: Wait>(
     rt: &R,
@@ -75,7 +94,7 @@ pub fn follows<L: Seating, R: Wait>(
         return Ok(false);
     };
     Ok(
-        feeds_often(rt, alloc, shared, seat, conn, script)?
+        talks_often(rt, alloc, shared, seat, conn, script)?
             && (!script.closes || takes(rt, shared, seat, Input::Close { conn }))
             && counts_of(seat) == (script.count, script.count as usize),
     )

@@ -54,6 +54,21 @@ pub fn feed(alloc: Global, conn: Conn, bytes: &[u8]) -> Result<Input, AllocError
     })
 }
 
+/// A feed of a text in which each `#` stands for a key.
+pub fn feed_by_key(alloc: Global, conn: Conn, text: &[u8], key: u8) -> Result<Input, AllocError> {
+    let mut piece = Vec::from_slice(alloc, text)?;
+    for byte in piece.as_mut_slice() {
+        if *byte == b'#' {
+            *byte = key;
+        }
+    }
+    Ok(Input::Feed {
+        conn,
+        piece: Seq::from_vec(piece),
+        moment: START,
+    })
+}
+
 /// A connection of the first namespace.
 pub fn conn(number: u64) -> Conn {
     Conn {

@@ -1,10 +1,11 @@
 //! What a crew leaves, judged.
 use crate::crews::{Crew, Script};
-use crate::inputs::{conn, feed};
+use crate::inputs::{PLAIN, conn, feed};
 use audit_laws::{Receipt, receipts_stand};
 use audit_model::{Input, Transcript};
 use cache_shared::Finished;
 use cache_spaces::RecordedService;
+use moka_audit::{Verdict, audit};
 use std::alloc::Global;
 
 /// More than the numbers of all records.
@@ -112,7 +113,7 @@ fn are_right(
     true
 }
 
-/// Whether the journal that a crew leaves has so many records, and the receipts are right.
+/// Whether the journal that a crew leaves obeys and has so many records, and the receipts are right.
 pub fn is_crew_right(
     alloc: Global,
     finished: Finished<RecordedService>,
@@ -122,7 +123,9 @@ pub fn is_crew_right(
     let Finished { service, receipts } = finished;
     match service.journal(0) {
         Ok(journal) => {
-            are_right(alloc, journal, receipts, crew) && journal.records.len() == records
+            are_right(alloc, journal, receipts, crew)
+                && journal.records.len() == records
+                && audit(alloc, &PLAIN, journal) == Verdict::Yes
         }
         Err(_) => false,
     }

@@ -4,8 +4,8 @@ ghost use Rattle.std.specs.Prelude.{◌≡◌};
 use crate::inputs::feed;
 use audit_laws::Output;
 use audit_model::{Conn, Input, ServiceError};
-use cache_shared::{Finished, Seat, Seating, SharedService, Stepping};
-use cache_spaces::Refusal;
+use cache_shared::{Finished, Replies, Seat, Seating, SharedService, Stepping};
+use cache_spaces::{RecordedService, Refusal};
 use std::alloc::{AllocError, Global};
 use std::sync::Wait;
 
@@ -89,6 +89,28 @@ pub fn feeds<L: Seating, C: Stepping, R: Wait>(
 ) -> Result<bool, AllocError> {
     let input = feed(alloc, conn, bytes)?;
     Ok(takes(rt, shared, seat, input))
+}
+
+/// Whether those are the replies, where they are known.
+fn is_reply(taken: Result<Replies<RecordedService>, ServiceError>, wanted: Option<&[u8]>) -> bool {
+    match (taken, wanted) {
+        (Ok(replies), Some(text)) => replies.as_slice() == text,
+        (Ok(_), None) => true,
+        _ => false,
+    }
+}
+
+/// Whether a connection is replied so, where that is known; at the second try where memory is refused for the copy.
+pub fn is_replied<L: Seating, R: Wait>(
+    rt: &R,
+    shared: &SharedService<L>,
+    conn: Conn,
+    wanted: Option<&[u8]>,
+) -> bool {
+    match shared.take_output(rt, conn) {
+        Err(ServiceError::OutOfMemory) => is_reply(shared.take_output(rt, conn), wanted),
+        taken => is_reply(taken, wanted),
+    }
 }
 
 /// What these seats leave, at the second try where memory is refused.

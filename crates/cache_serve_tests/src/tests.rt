@@ -1,5 +1,5 @@
 //! What has to come of plays.
-use crate::crews::{Crew, Script};
+use crate::crews::{Crew, Script, Talk};
 use crate::hosting::Visit;
 use crate::loaders::Hold;
 use crate::plays::{Live, Recorded, over_live, over_recorded};
@@ -178,23 +178,33 @@ fn a_failed_accept_waits_for_a_connection_to_end(rt: HostRuntime) {
     assert!(rt; over_live(rt, rt.alloc(), 5, Live::Host(&PAST_FAILURES)) == Some(true));
 }
 
+/// Five values, each of which is read back.
+const FIVE: &[Talk<'static>] = &[
+    (b"SET # - 1\n", Some(b"OK\n")),
+    (b"GET #\n", Some(b"VAL 1\n")),
+    (b"SET # - 2\n", Some(b"OK\n")),
+    (b"GET #\n", Some(b"VAL 2\n")),
+    (b"SET # - 3\n", Some(b"OK\n")),
+    (b"GET #\n", Some(b"VAL 3\n")),
+    (b"SET # - 4\n", Some(b"OK\n")),
+    (b"GET #\n", Some(b"VAL 4\n")),
+    (b"SET # - 5\n", Some(b"OK\n")),
+    (b"GET #\n", Some(b"VAL 5\n")),
+];
+
 /// A `SET` and a `GET` in two feeds, 25 times, between an open and a close.
 const BUSY: Script<'static> = Script {
-    texts: &[b"SET a - 1\n", b"GET a\n"],
-    times: 25,
+    key: b'a',
+    talks: FIVE,
+    times: 5,
     closes: true,
     count: 52,
 };
 
-/// The same of another key.
-const BUSY_TOO: Script<'static> = Script {
-    texts: &[b"SET b - 2\n", b"GET b\n"],
-    ..BUSY
-};
-
 /// One feed behind an open.
 const BRIEF: Script<'static> = Script {
-    texts: &[b"SET a - 1\n"],
+    key: b'a',
+    talks: &[(b"SET # - 1\n", Some(b"OK\n"))],
     times: 1,
     closes: false,
     count: 2,
@@ -202,23 +212,25 @@ const BRIEF: Script<'static> = Script {
 
 /// Nothing.
 const IDLE: Script<'static> = Script {
-    texts: &[],
+    key: b'a',
+    talks: &[],
     times: 0,
     closes: false,
     count: 0,
 };
 
+/// Four threads with a key each.
 const FOUR: Crew<'static> = Crew {
-    front: (BUSY, BUSY_TOO),
-    back: (BUSY, BUSY_TOO),
+    front: (BUSY, Script { key: b'b', ..BUSY }),
+    back: (Script { key: b'c', ..BUSY }, Script { key: b'd', ..BUSY }),
 };
 
-/// Two threads that each open a connection and feed it.
+/// Two threads that each open a connection and feed it; whether the second finds the value of the first is open.
 const TWO: Crew<'static> = Crew {
     front: (
         BRIEF,
         Script {
-            texts: &[b"GET a\n"],
+            talks: &[(b"GET #\n", None)],
             ..BRIEF
         },
     ),
@@ -242,6 +254,10 @@ fn receipts_of_two_threads(rt: HostRuntime) {
 
 /// An open, a `SET`, a `GET` and a close.
 const ONCE: Script<'static> = Script {
+    talks: &[
+        (b"SET # - 1\n", Some(b"OK\n")),
+        (b"GET #\n", Some(b"VAL 1\n")),
+    ],
     times: 1,
     count: 4,
     ..BUSY

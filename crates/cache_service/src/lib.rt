@@ -1,7 +1,7 @@
-//! A cache that is served by lines: namespaces with their connections, journals, runs over readers and writers, play, and services that
-//! threads share.
+//! A cache behind a line protocol: namespaces with their connections, journals, serving readers and writers, playing lists of inputs, and
+//! services that threads share.
 //!
-//! The types of configurations, inputs and transcripts are `moka_audit`'s; the module `model` gives them on.
+//! The types of configurations, inputs and transcripts are those of `moka_audit`; the module `model` re-exports them.
 #![tactic(auto)]
 
 pub mod model;

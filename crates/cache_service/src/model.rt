@@ -1,4 +1,4 @@
-//! The types of configurations, events, inputs and transcripts, of which the definitions speak, under the names that `moka_audit` has them by.
+//! The types of configurations, events, inputs and transcripts, which the definitions use, under the names that they have in `moka_audit`.
 
 pub use audit_model::{
     Accepted, Bytes, Closing, Command, Config, Conn, Event, EvictionPolicy, Input, Instant,

@@ -1,4 +1,4 @@
-//! What lies under the lock.
+//! What is under the lock.
 ghost use Rattle.std.specs.Prelude.{◌≡◌, ℕ, ◌+◌, ◌≤◌, ◌<◌, ◌++◌, ◌∷◌, [], true, false, length, map, sum_by, vec_len, vec_capacity, IfOk, IfErr, OnOk, OnErr};
 ghost use Rattle.cache_shared.specs.Events.{IsLastNumber, IsReached, Performs, RefusesStep, TakesNothing};
 ghost use Rattle.cache_shared.specs.Looked.{WasOldestNote, HeldAtSomeMoment};
@@ -33,17 +33,17 @@ pub struct BookedService<L: Seating, C: Stepping> {
     ghost fewer: { left ≤ parts },
 }
 
-/// What `SharedService::finish` gives: the service, and what its seats can show by its journals.
+/// What `SharedService::finish` returns: the service, and what its seats can show by its journals.
 #[derive(Drop)]
 pub struct Finished<C: Stepping> {
     /// The service, which took as many inputs as the seats count together.
     pub service: C,
-    /// For each seat, in the order in which they were handed in, a list of receipts for each namespace up to the last one that it used.
+    /// For each seat, in the order in which the seats were passed, a list of receipts for each namespace up to the last one that it used.
     pub receipts: Vec<Vec<Vec<Receipt>>>,
 }
 
 impl<L: Seating, C: Stepping> BookedService<L, C> {
-    /// A service without seats, over a service of no events. Its ledger is cut into `parts`, one for each seat.
+    /// A service without seats, over a service without events. Its ledger is cut into `parts`, one for each seat.
     pub fn new(core: C, blank: Blank, parts: u64) -> BookedService<L, C>
         requires empty { C.events core ≡ 0 }
         requires name { blank.name ≡ L.name }
@@ -60,7 +60,7 @@ impl<L: Seating, C: Stepping> BookedService<L, C> {
         }
     }
 
-    /// A seat, where the ledger has a part left. Refused with `UsedUp`. Takes no memory.
+    /// Returns a seat, or `UsedUp` if the ledger has no part left. This allocates nothing.
     pub fn seat(&mut self, alloc: Global) -> Result<Seat<L>, ServiceError>
         ensures seat { IfOk result (λ seat. (seat.count ≡ 0) × (seat.receipts.items ≡ [])) }
         ensures core { self.new.core ≡ self.old.core }
@@ -88,11 +88,11 @@ impl<L: Seating, C: Stepping> BookedService<L, C> {
         }
     }
 
-    /// Takes an input for a seat. Where it is taken, the seat counts one more, and has one receipt more, of this input and its output,
-    /// if the service keeps journals.
+    /// Takes an input for a seat. If it is accepted, the seat counts one more, and, if the service keeps journals, has one more receipt,
+    /// of this input and its output.
     ///
-    /// An input that is refused is handed back, and leaves no receipt and no count; then nothing has changed. Besides the service's
-    /// refusals, `OutOfMemory` where there is none for the receipt, and `UsedUp` where the seat's count is used up.
+    /// A refused input is returned, and leaves no receipt and no count; then nothing has changed. In addition to the service's
+    /// refusals, `OutOfMemory` if there is no memory for the receipt, and `UsedUp` if the seat's count is used up.
     pub fn step(
         &mut self,
         alloc: Global,
@@ -172,7 +172,7 @@ impl<L: Seating, C: Stepping> BookedService<L, C> {
         }
     }
 
-    /// Takes an input, and counts it on the share, with a receipt. Its room and the copy come first.
+    /// Takes an input, and counts it on the share, with a receipt. Its room and the copy are made first.
     fn keep(
         &mut self,
         alloc: Global,
@@ -264,7 +264,8 @@ impl<L: Seating, C: Stepping> BookedService<L, C> {
         seats.len() as u64 == self.parts - self.left
     }
 
-    /// Whether the receipts of these seats stand in the journals, each of whose records has one. Without memory `false`.
+    /// Returns whether the receipts of these seats stand in the journals, each of whose records has one. If there is not enough memory,
+    /// `false`.
     pub fn agrees(&self, alloc: Global, seats: &[Seat<L>]) -> bool
         ensures { result ≡ true → AgreeAll (C.journals self.now.core) (λ seat. seat.receipts.items) seats.now }
     {
@@ -317,7 +318,7 @@ impl<L: Seating, C: Stepping> BookedService<L, C> {
 }
 
 impl<L: Seating, C: Takings> BookedService<L, C> {
-    /// The reply bytes of a connection since the last taking, moved out.
+    /// Returns the reply bytes of a connection since they were last taken, moved out.
     pub fn take_output(&mut self, conn: Conn) -> Result<Replies<C>, ServiceError>
         ensures conn { IfOk result (λ replies. replies.conn ≡ conn) }
         ensures refused { IfErr result (λ e. HeldAtSomeMoment C.spaces C.events (λ spaces. Refuses spaces conn.namespace e (λ space. RefusesCopy space conn.number e))) }
@@ -327,7 +328,7 @@ impl<L: Seating, C: Takings> BookedService<L, C> {
         take_replies(core, conn)
     }
 
-    /// The loads of a namespace that went out and were not taken, moved out.
+    /// Returns the loads of a namespace that went out and were not taken, moved out.
     pub fn take_loads(&mut self, namespace: u64) -> Result<TakenLoads<C>, ServiceError>
         ensures namespace { IfOk result (λ loads. loads.namespace ≡ namespace) }
         ensures refused { IfErr result (λ e. HeldAtSomeMoment C.spaces C.events (λ spaces. (e ≡ ServiceError.NoNamespace) × (length spaces ≤ namespace))) }
@@ -337,7 +338,7 @@ impl<L: Seating, C: Takings> BookedService<L, C> {
         take_loads(core, namespace)
     }
 
-    /// The oldest note of a namespace that was told and not taken.
+    /// Returns the oldest note of a namespace that was reported and not taken.
     pub fn next_notice(&mut self, namespace: u64) -> Result<Option<Note>, ServiceError>
         ensures note { IfOk result (λ note. WasOldestNote C.spaces C.events C.untold namespace note) }
         ensures refused { IfErr result (λ e. HeldAtSomeMoment C.spaces C.events (λ spaces. Refuses spaces namespace e (λ space. e ≡ ServiceError.OutOfMemory))) }
@@ -348,7 +349,7 @@ impl<L: Seating, C: Takings> BookedService<L, C> {
         core.next_notice(namespace)
     }
 
-    /// Why a connection is closed, if it is.
+    /// Returns why a connection is closed, if it is.
     pub fn closed(&self, conn: Conn) -> Result<Option<Closing>, ServiceError>
         ensures closing { IfOk result (λ closing. HeldAtSomeMoment C.spaces C.events (λ spaces. InSpace spaces conn.namespace (λ space. closing ≡ closing_of space conn.number))) }
         ensures refused { IfErr result (λ e. HeldAtSomeMoment C.spaces C.events (λ spaces. Refuses spaces conn.namespace e (λ space. IsUnknown space conn.number e))) }
@@ -357,7 +358,7 @@ impl<L: Seating, C: Takings> BookedService<L, C> {
         self.core.closed(conn)
     }
 
-    /// Whether a `LOAD` of a connection waits for its load.
+    /// Returns whether a `LOAD` of a connection waits for its load.
     pub fn waiting(&self, conn: Conn) -> Result<bool, ServiceError>
         ensures waits { IfOk result (λ waits. HeldAtSomeMoment C.spaces C.events (λ spaces. InSpace spaces conn.namespace (λ space. waits ≡ is_waiting_for space conn.number))) }
         ensures refused { IfErr result (λ e. HeldAtSomeMoment C.spaces C.events (λ spaces. Refuses spaces conn.namespace e (λ space. IsUnknown space conn.number e))) }

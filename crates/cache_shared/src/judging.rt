@@ -8,7 +8,8 @@ use audit_laws::{Receipt, are_of, receipts_stand};
 use audit_model::Transcript;
 use std::alloc::Global;
 
-/// Whether the receipts of these seats stand in a namespace's journal, each of whose records has one. Without memory `false`.
+/// Returns whether the receipts of these seats stand in a namespace's journal, each of whose records has one. If there is not enough
+/// memory, `false`.
 pub fn agree<L: Seating>(
     alloc: Global,
     namespace: u64,
@@ -34,7 +35,7 @@ fn are_parts<L: Seating>(namespace: u64, journal: &Transcript, seats: &[Seat<L>]
     true
 }
 
-/// Whether each number from 1 to `count` stands in one receipt of the namespace. Without memory `false`.
+/// Whether each number from 1 to `count` is in one receipt of the namespace. If there is not enough memory, `false`.
 fn are_marked_once<L: Seating>(
     alloc: Global,
     namespace: u64,
@@ -49,7 +50,7 @@ fn are_marked_once<L: Seating>(
     }
 }
 
-/// Whether each number from 1 to the count of places stands in one receipt, where no place is marked.
+/// Whether each number from 1 to the number of places is in one receipt, if no place is marked yet.
 fn judge<L: Seating>(seen: &mut [bool], namespace: u64, seats: &[Seat<L>]) -> bool
     requires { (k : ℕ) → k < length seen.old → marks seen.old k ≡ 0 }
     ensures { result ≡ true → EachOnce (λ seat. receipts_at seat.receipts.items namespace) (length seen.old) seats.now }
@@ -60,7 +61,7 @@ fn judge<L: Seating>(seen: &mut [bool], namespace: u64, seats: &[Seat<L>]) -> bo
     all_marked(seen)
 }
 
-/// Marks the numbers of all receipts of the namespace. `false` where one has no place, or was marked.
+/// Marks the numbers of all receipts of the namespace. Returns `false` if one has no place, or was already marked.
 fn mark_all<L: Seating>(seen: &mut [bool], namespace: u64, seats: &[Seat<L>]) -> bool
     ensures ok { result ≡ true → (k : ℕ) → k < length seen.old → marks seen.new k ≡ marks seen.old k + holders (λ seat. receipts_at seat.receipts.items namespace) (k + 1) seats.now }
     ensures len { length seen.new ≡ length seen.old }
@@ -73,7 +74,7 @@ fn mark_all<L: Seating>(seen: &mut [bool], namespace: u64, seats: &[Seat<L>]) ->
     true
 }
 
-/// Marks the numbers of the receipts, which count from 1. `false` where one has no place, or was marked.
+/// Marks the numbers of the receipts, which count from 1. Returns `false` if one has no place, or was already marked.
 fn mark(seen: &mut [bool], receipts: &[Receipt]) -> bool
     ensures ok { result ≡ true → (k : ℕ) → k < length seen.old → marks seen.new k ≡ marks seen.old k + numbered (k + 1) receipts.now }
     ensures len { length seen.new ≡ length seen.old }

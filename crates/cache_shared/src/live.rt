@@ -1,4 +1,4 @@
-//! A service that keeps nothing of what it took.
+//! A service that keeps no journal.
 ghost use Rattle.std.specs.Prelude.{◌≡◌, ◌≤◌, ◌<◌, ◌^◌, ◌+◌, ◌↔◌, ◌⊎◌, None, false, IfOk, IfErr, OnOk, OnErr, IsErrOf, length};
 ghost use Rattle.cache_shared.specs.Events.{RefusesEvent};
 ghost use Rattle.cache_shared.specs.Live.{Lived};
@@ -17,10 +17,10 @@ use rand_xoshiro::Xoshiro256PlusPlus;
 use std::alloc::Global;
 use std::marker::Model;
 
-/// A service that keeps of the inputs that it took but their count. It keeps no journal.
+/// A service that keeps only the number of its inputs, and no journal.
 ///
-/// There are journals of as many records as inputs were taken, which obey and lead to where it stands. Contracts see it as its namespaces
-/// and the count.
+/// There are journals of as many records as inputs were accepted, which obey and lead to where it stands. Contracts see it as its
+/// namespaces and the number of inputs.
 #[derive(Drop)]
 pub struct LiveService {
     service: Service,
@@ -38,10 +38,10 @@ impl Model for LiveService {
 }
 
 impl LiveService {
-    /// A service of one namespace for each configuration, in their order, made at that moment, which has taken no input.
+    /// Creates a service with one namespace for each configuration, in their order, at this moment, without inputs.
     ///
-    /// Refused with `Moment` above 2^63 - 1 nanoseconds, then with `Config` where there are not 1 to 16 configurations or one is out of
-    /// range, then with `OutOfMemory`.
+    /// Returns `Moment` above 2^63 - 1 nanoseconds, then `Config` if the number of configurations is not 1 to 16 or one is out of
+    /// range, then `OutOfMemory`.
     pub fn new(
         alloc: Global,
         configs: &[Config],
@@ -60,10 +60,10 @@ impl LiveService {
         }
     }
 
-    /// Takes an input, answers what it came to, and keeps nothing of it but its count.
+    /// Takes an input, returns its output, and only counts it.
     ///
-    /// An input that is refused is handed back, with the cause that `Service` has for it, or with `UsedUp` where 2^64 - 1 inputs were
-    /// taken; then nothing has changed.
+    /// A refused input is returned, with the cause for which `Service` refuses it, or with `UsedUp` if 2^64 - 1 inputs were
+    /// accepted; then nothing has changed.
     pub fn step(&mut self, input: Input) -> Result<Output, Refusal>
         ensures taken { IfOk result (λ output. At self.old.spaces self.new.spaces (namespace_of input) (Performs bare_tape input output)) }
         ensures count { OnOk result (self.new.events ≡ self.old.events + 1) }
@@ -86,8 +86,8 @@ impl LiveService {
         Ok(output)
     }
 
-    /// The reply bytes of a connection since the last taking, with their line ends, moved out; also after it closed. It is no event. Takes
-    /// no memory. Refused with `NoNamespace`, then with `NoConnection`.
+    /// Returns the reply bytes of a connection since they were last taken, with their line ends, moved out, even after it closed. This is
+    /// not an event, and allocates nothing. Returns `NoNamespace`, then `NoConnection`.
     pub fn take_output(&mut self, conn: Conn) -> Result<Vec<u8>, ServiceError>
         ensures taken { IfOk result (λ text. At self.old.spaces self.new.spaces conn.namespace (λ was is. TakesOutput was is conn.number text.items)) }
         ensures refused { IfErr result (λ e. Refuses self.old.spaces conn.namespace e (λ was. IsUnknown was conn.number e)) }
@@ -97,8 +97,8 @@ impl LiveService {
         self.service.take_output(conn)
     }
 
-    /// The loads of a namespace that went out and were not taken, with their keys, in the order in which they were sent; moved out, so that
-    /// each comes once. It is no event. Takes no memory. Refused with `NoNamespace`.
+    /// Returns the loads of a namespace that went out and were not taken, with their keys, in the order in which they were sent, moved out,
+    /// so that each comes once. This is not an event, and allocates nothing. Returns `NoNamespace` if there is no such namespace.
     pub fn take_loads(&mut self, namespace: u64) -> Result<Vec<(LoadId, Bytes)>, ServiceError>
         ensures taken { IfOk result (λ loads. At self.old.spaces self.new.spaces namespace (λ was is. TakesLoads was is loads.items)) }
         ensures refused { IfErr result (λ e. (e ≡ ServiceError.NoNamespace) × (length self.old.spaces ≤ namespace)) }
@@ -108,8 +108,8 @@ impl LiveService {
         self.service.take_loads(namespace)
     }
 
-    /// The oldest note of a namespace that was told and not taken; none where there is none. It is no event. Takes no memory. Refused with
-    /// `NoNamespace`.
+    /// Returns the oldest note of a namespace that was reported and not taken; `None` if there is none. This is not an event, and allocates
+    /// nothing. Returns `NoNamespace` if there is no such namespace.
     pub fn next_notice(&mut self, namespace: u64) -> Result<Option<Note>, ServiceError>
         ensures taken { IfOk result (λ note. At self.old.spaces self.new.spaces namespace (λ was is. TakesNotice was is note)) }
         ensures refused { IfErr result (λ e. (e ≡ ServiceError.NoNamespace) × (length self.old.spaces ≤ namespace)) }
@@ -119,7 +119,7 @@ impl LiveService {
         self.service.next_notice(namespace)
     }
 
-    /// Why a connection is closed; none while it is open. Refused with `NoNamespace`, then with `NoConnection`.
+    /// Returns why a connection is closed; `None` while it is open. Returns `NoNamespace`, then `NoConnection`.
     pub fn closed(&self, conn: Conn) -> Result<Option<Closing>, ServiceError>
         ensures closing { IfOk result (λ closing. InSpace self.now.spaces conn.namespace (λ space. IsOpened space conn.number × (closing ≡ closing_of space conn.number))) }
         ensures refused { IfErr result (λ e. Refuses self.now.spaces conn.namespace e (λ space. IsUnknown space conn.number e)) }
@@ -127,14 +127,14 @@ impl LiveService {
         self.service.closed(conn)
     }
 
-    /// How many inputs it took, at most 2^64 - 1.
+    /// Returns how many inputs it accepted, at most 2^64 - 1.
     pub fn events(&self) -> u64
         ensures { result ≡ self.now.events }
     {
         self.events
     }
 
-    /// The service that took them, to be looked at.
+    /// Returns the service that accepted them, for inspection.
     pub fn service(&self) -> &Service
         ensures service { result.now ≡ self.now.spaces }
         // some journals of as many records lead here

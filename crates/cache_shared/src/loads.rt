@@ -7,8 +7,8 @@ use crate::service_core::Takings;
 use audit_model::{Bytes, LoadId, ServiceError};
 use std::marker::PhantomData;
 
-/// The loads of a namespace that had gone out and were not taken, with their keys, at the moment when they were: in a service to which some
-/// journals that obey lead.
+/// The loads of a namespace that had gone out and were not taken, with their keys, at the moment when they were taken, in a service to
+/// which some journals that obey lead.
 #[derive(Drop)]
 pub struct TakenLoads<C: Takings> {
     namespace: u64,
@@ -18,7 +18,7 @@ pub struct TakenLoads<C: Takings> {
 }
 
 impl<C: Takings> TakenLoads<C> {
-    /// The loads with their keys, in the order in which they were sent, moved out.
+    /// Returns the loads with their keys, in the order in which they were sent, moved out.
     pub fn into_loads(self) -> Vec<(LoadId, Bytes)>
         ensures { result ≡ self.loads }
     {
@@ -27,7 +27,7 @@ impl<C: Takings> TakenLoads<C> {
     }
 }
 
-/// Takes the loads of a namespace. Refused with `NoNamespace` where there is no such namespace.
+/// Takes the loads of a namespace. Returns `NoNamespace` if there is no such namespace.
 pub fn take_loads<C: Takings>(core: &mut C, namespace: u64) -> Result<TakenLoads<C>, ServiceError>
     ensures namespace { IfOk result (λ loads. loads.namespace ≡ namespace) }
     ensures refused { IfErr result (λ e. HeldAtSomeMoment C.spaces C.events (λ spaces. (e ≡ ServiceError.NoNamespace) × (length spaces ≤ namespace))) }

@@ -5,7 +5,7 @@ ghost use Rattle.cache_shared.specs.Looked.{Moves};
 use crate::service_core::Takings;
 use audit_model::{Note, ServiceError};
 
-/// Takes the oldest notes of a namespace, as many as there is room for. Where one is refused, those before it were taken.
+/// Takes the oldest notes of a namespace, as many as there is room for. If one is refused, those before it were taken.
 pub fn take_notices<C: Takings>(
     core: &mut C,
     namespace: u64,

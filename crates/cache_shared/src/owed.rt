@@ -1,4 +1,4 @@
-//! What a connection is owed, all of it taken at one moment.
+//! What a connection is owed, all taken at one moment.
 ghost use Rattle.std.specs.Prelude.{◌≡◌, true, Some, IfSome};
 ghost use Rattle.std.specs.Option.{ForSome};
 ghost use Rattle.cache_shared.specs.Looked.{HeldAtSomeMoment};
@@ -10,14 +10,14 @@ use crate::replies::{Replies, take_replies};
 use crate::service_core::Takings;
 use audit_model::{Closing, Conn};
 
-/// What a connection is owed, all of it moved out in one hold of the lock.
+/// What a connection is owed, all moved out in one hold of the lock.
 #[derive(Drop)]
 pub struct Owed<C: Takings> {
     /// The connection.
     pub conn: Conn,
-    /// Its replies that were not taken; none where there was no memory for a copy, and then they come with the next taking.
+    /// Its replies that were not taken; `None` if there was not enough memory for a copy. Then they come when replies are next taken.
     pub replies: Option<Replies<C>>,
-    /// The loads of its namespace that had gone out and were not taken, where they were wanted.
+    /// The loads of its namespace that had gone out and were not taken, if they were requested.
     pub loads: Option<TakenLoads<C>>,
     /// Why it is closed, if it is.
     pub closing: Option<Closing>,
@@ -29,7 +29,7 @@ pub struct Owed<C: Takings> {
     ghost waiting: { ∥ (waits ≡ true → HeldAtSomeMoment C.spaces C.events (λ spaces. InSpace spaces conn.namespace (λ space. is_waiting_for space conn.number ≡ true))) ∥₁ },
 }
 
-/// Takes what a connection is owed, the loads of its namespace only where they are wanted; nothing where it is unknown.
+/// Takes what a connection is owed, with the loads of its namespace only if they are requested; nothing if the connection is unknown.
 pub fn take_owed<C: Takings>(core: &mut C, conn: Conn, wants_loads: bool) -> Owed<C>
     ensures conn { result.conn ≡ conn }
     ensures events { C.events core.new ≡ C.events core.old }
@@ -51,7 +51,7 @@ pub fn take_owed<C: Takings>(core: &mut C, conn: Conn, wants_loads: bool) -> Owe
     }
 }
 
-/// Why a connection is closed; none where it is open or unknown.
+/// Why a connection is closed; `None` if it is open or unknown.
 fn closing_in<C: Takings>(core: &C, conn: Conn) -> Option<Closing>
     ensures { IfSome result (λ closing. HeldAtSomeMoment C.spaces C.events (λ spaces. InSpace spaces conn.namespace (λ space. closing_of space conn.number ≡ Some closing))) }
 {
@@ -62,7 +62,7 @@ fn closing_in<C: Takings>(core: &C, conn: Conn) -> Option<Closing>
     }
 }
 
-/// Whether a `LOAD` of a connection waits; not where it is unknown.
+/// Whether a `LOAD` of a connection waits; false if it is unknown.
 fn is_waiting_in<C: Takings>(core: &C, conn: Conn) -> bool
     ensures { result ≡ true → HeldAtSomeMoment C.spaces C.events (λ spaces. InSpace spaces conn.namespace (λ space. is_waiting_for space conn.number ≡ true)) }
 {

@@ -8,7 +8,8 @@ use crate::service_core::Takings;
 use audit_model::{Conn, ServiceError};
 use std::marker::PhantomData;
 
-/// The reply bytes of a connection that were not taken, at the moment when they were: in a service to which some journals that obey lead.
+/// The reply bytes of a connection that were not taken, at the moment when they were taken, in a service to which some journals that obey
+/// lead.
 #[derive(Drop)]
 pub struct Replies<C: Takings> {
     conn: Conn,
@@ -18,14 +19,14 @@ pub struct Replies<C: Takings> {
 }
 
 impl<C: Takings> Replies<C> {
-    /// The reply bytes, with their line ends.
+    /// Returns the reply bytes, with their line ends.
     pub fn as_slice(&self) -> &[u8]
         ensures { result.now ≡ self.now.text.items }
     {
         &self.text
     }
 
-    /// The reply bytes, with their line ends, moved out.
+    /// Returns the reply bytes, with their line ends, moved out.
     pub fn into_text(self) -> Vec<u8>
         ensures { result ≡ self.text }
     {

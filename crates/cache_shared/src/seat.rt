@@ -1,4 +1,4 @@
-//! What each thread has.
+//! What each thread holds.
 ghost use Rattle.std.specs.Prelude.{◌≡◌, ℕ, ◌+◌, ◌<◌, ◌≤◌, [], vec_len, OnOk};
 ghost use Rattle.cache_shared.specs.Seats.{SameReceipts, receipts_at};
 ghost use Rattle.cache_spaces.specs.Inputs.{namespace_of};
@@ -9,7 +9,7 @@ use std::alloc::{AllocError, Global};
 use std::marker::Brand;
 use std::sync::ledger::{Ledger, Share};
 
-/// The ledger of one shared service's seats: one part a seat.
+/// The ledger of a shared service's seats: one part per seat.
 pub trait Seating: Ledger {
     /// All its parts.
     ghost all: { ℕ };
@@ -19,8 +19,8 @@ impl Seating for Brand {
     ghost all = { 0 };
 }
 
-/// What one thread, or one connection, hands its inputs in with: a count of those that were taken, and, where the service keeps journals, a
-/// receipt of each. `SharedService::seat` makes one, and `SharedService::finish` wants all of them back.
+/// What a thread, or a connection, uses to pass its inputs: a count of those that were accepted, and, if the service keeps journals, a
+/// receipt of each. `SharedService::seat` creates one, and `SharedService::finish` requires all of them.
 #[derive(Drop)]
 pub struct Seat<L: Seating> {
     pub(crate) share: Share<L>,
@@ -31,15 +31,15 @@ pub struct Seat<L: Seating> {
 }
 
 impl<L: Seating> Seat<L> {
-    /// How many of its inputs were taken, at most 2^64 - 1.
+    /// Returns how many of its inputs were accepted, at most 2^64 - 1.
     pub fn count(&self) -> u64
         ensures { result ≡ self.now.count }
     {
         self.count
     }
 
-    /// Its receipts of a namespace, counted from 0, in the order in which the inputs were taken; none where the service keeps no journals,
-    /// or where there is no such namespace.
+    /// Returns its receipts of a namespace, counted from 0, in the order in which the inputs were accepted; none if the service keeps no
+    /// journals, or if there is no such namespace.
     pub fn receipts(&self, namespace: u64) -> &[Receipt]
         ensures { result.now ≡ receipts_at self.now.receipts.items namespace }
     {
@@ -50,7 +50,7 @@ impl<L: Seating> Seat<L> {
     }
 }
 
-/// Makes empty lists up to that namespace's. An `Err` leaves the same receipts.
+/// Makes empty lists up to that of this namespace. An `Err` leaves the same receipts.
 pub fn make_lists(
     alloc: Global,
     lists: &mut Vec<Vec<Receipt>>,
@@ -70,7 +70,7 @@ pub fn make_lists(
     Ok(())
 }
 
-/// The namespace that an input names.
+/// Returns the namespace that an input names.
 pub fn namespace_of(input: &Input) -> u64
     ensures { result ≡ namespace_of input.now }
 {

@@ -1,4 +1,4 @@
-//! The shared form.
+//! The shared service.
 ghost use Rattle.std.specs.Prelude.{◌≡◌, ◌≤◌, ◌⊎◌, [], length, map, sum_by, true, IfOk, IfErr, IsSome, OnErr};
 ghost use Rattle.std.specs.Arc.{arc_value};
 ghost use Rattle.cache_shared.specs.Events.{IsLate, IsReached, IsUnfitAnswer, is_of_outcome};
@@ -21,7 +21,7 @@ use std::alloc::{AllocError, Global};
 use std::sync::ledger::Blank;
 use std::sync::{Arc, Condvar, Mutex, Wait};
 
-/// The lock, and what tells of changes.
+/// The lock, and the condition variable that signals changes.
 #[derive(Drop)]
 struct Inner<L: Seating, C: Stepping> {
     booked: Mutex<BookedService<L, C>>,
@@ -31,7 +31,7 @@ struct Inner<L: Seating, C: Stepping> {
 /// A service that threads share; a clone is another handle of the same one. Each input is taken in one hold of its one lock.
 ///
 /// Whenever the lock is taken, there are journals that obey and lead to where the service stands, of as many records as inputs were
-/// taken. `L` is the ledger of its seats.
+/// accepted. `L` is the ledger of its seats.
 #[derive(Drop)]
 pub struct SharedService<L: Seating, C: Stepping = RecordedService> {
     inner: Arc<Option<Inner<L, C>>>,
@@ -49,8 +49,8 @@ impl<L: Seating, C: Stepping> Clone for SharedService<L, C> {
 }
 
 impl<L: Seating, C: Stepping> SharedService<L, C> {
-    /// A shared form of a service that took no input, over a new ledger of so many parts, one for each seat that there may be. Without
-    /// memory service and ledger are handed back.
+    /// Makes a service without inputs shared, over a new ledger with this many parts, one for each possible seat. If there is not enough
+    /// memory, service and ledger are returned.
     pub fn new(
         alloc: Global,
         core: C,
@@ -75,7 +75,7 @@ impl<L: Seating, C: Stepping> SharedService<L, C> {
         Ok(SharedService { inner, alloc })
     }
 
-    /// The lock, and what tells of changes.
+    /// The lock, and the condition variable that signals changes.
     fn inner(&self) -> &Inner<L, C> {
         match &*self.inner {
             Some(inner) => inner,
@@ -83,7 +83,7 @@ impl<L: Seating, C: Stepping> SharedService<L, C> {
         }
     }
 
-    /// A seat for one thread. Refused with `UsedUp` where the ledger has no part left. Takes no memory.
+    /// Returns a seat for one thread, or `UsedUp` if the ledger has no part left. This allocates nothing.
     pub fn seat(&self, rt: &impl Wait) -> Result<Seat<L>, ServiceError>
         ensures seat { IfOk result (λ seat. (seat.count ≡ 0) × (seat.receipts.items ≡ [])) }
         ensures refused { IfErr result (λ e. e ≡ ServiceError.UsedUp) }
@@ -93,11 +93,11 @@ impl<L: Seating, C: Stepping> SharedService<L, C> {
         booked.seat(self.alloc)
     }
 
-    /// Takes one input for a seat, in one hold of the lock. Where it is taken, the seat counts one more, and has one receipt more, of this
-    /// input and its output, if the service keeps journals.
+    /// Takes one input for a seat, in one hold of the lock. If it is accepted, the seat counts one more, and, if the service keeps
+    /// journals, has one more receipt, of this input and its output.
     ///
-    /// An input that is refused is handed back, and leaves no receipt and no count; then nothing has changed. Refused as the service under
-    /// the lock refuses it, with `OutOfMemory` also where there is none for the receipt, and with `UsedUp` where the seat's count or that
+    /// A refused input is returned, and leaves no receipt and no count; then nothing has changed. It is refused as the service under
+    /// the lock refuses it, with `OutOfMemory` also if there is no memory for the receipt, and with `UsedUp` if the seat's count or that
     /// of all inputs is at 2^64 - 1.
     pub fn step(&self, rt: &impl Wait, seat: &mut Seat<L>, input: Input) -> Result<Output, Refusal>
         ensures counted { IfOk result (λ output. Counts C.KEEPS input output seat.old.count seat.new.count seat.old.receipts.items seat.new.receipts.items) }
@@ -116,10 +116,10 @@ impl<L: Seating, C: Stepping> SharedService<L, C> {
         taken
     }
 
-    /// The service with each seat's receipts, where this is the last clone, all seats that were made are there, and there is memory: one
-    /// byte for each record of a namespace. Else this clone and the seats are handed back.
+    /// Returns the service with each seat's receipts, if this is the last clone, all seats that were made are passed, and there is enough
+    /// memory: one byte for each record of a namespace. Otherwise this clone and the seats are returned.
     ///
-    /// Then the service has taken as many inputs as these seats count together, each seat's receipts of a namespace are in their order a
+    /// Then the service has accepted as many inputs as these seats count together, each seat's receipts of a namespace are in their order a
     /// part of its journal, and over all seats each record has one receipt.
     pub fn finish(
         self,
@@ -145,9 +145,10 @@ impl<L: Seating, C: Stepping> SharedService<L, C> {
 }
 
 impl<L: Seating, C: Takings> SharedService<L, C> {
-    /// The reply bytes of a connection since the last taking, moved out, in one hold of the lock. It is no event, and leaves no receipt.
-    /// Refused with `NoNamespace`, then with `NoConnection`, then with `OutOfMemory` where the core copies replies; then they come with the
-    /// next taking.
+    /// Returns the reply bytes of a connection since they were last taken, moved out, in one hold of the lock. This is not an event, and
+    /// leaves no receipt.
+    /// Returns `NoNamespace`, then `NoConnection`, then `OutOfMemory` if the core copies replies; then they come the
+    /// next time.
     pub fn take_output(&self, rt: &impl Wait, conn: Conn) -> Result<Replies<C>, ServiceError>
         ensures conn { IfOk result (λ replies. replies.conn ≡ conn) }
         ensures refused { IfErr result (λ e. HeldAtSomeMoment C.spaces C.events (λ spaces. Refuses spaces conn.namespace e (λ space. RefusesCopy space conn.number e))) }
@@ -157,11 +158,11 @@ impl<L: Seating, C: Takings> SharedService<L, C> {
         booked.take_output(conn)
     }
 
-    /// Takes one input for a seat, as `step` does, and moves out what a connection is owed behind it, in the same hold of the lock: its
-    /// replies, the loads of its namespace that went out, where they are wanted, why it is closed and whether it waits. The namespace's oldest
-    /// notes are put behind those given, as many as there is room for.
+    /// Takes one input for a seat, like `step`, and moves out what a connection is owed afterwards, in the same hold of the lock: its
+    /// replies, the loads of its namespace that went out, if requested, why it is closed and whether it waits. The namespace's oldest
+    /// notes are appended to those given, as many as there is room for.
     ///
-    /// Refused as `step`; then nothing has changed.
+    /// Refused like `step`; then nothing has changed.
     pub fn turn(
         &self,
         rt: &impl Wait,
@@ -188,9 +189,9 @@ impl<L: Seating, C: Takings> SharedService<L, C> {
         turn
     }
 
-    /// What a connection is owed, moved out in one hold of the lock; nothing where it is unknown. It is no event, and leaves no receipt. The
-    /// loads of its namespace come only where they are wanted; the namespace's oldest notes are put behind those given, as many as there is
-    /// room for.
+    /// Returns what a connection is owed, moved out in one hold of the lock; nothing if it is unknown. This is not an event, and leaves no
+    /// receipt. The loads of its namespace are included only if requested; the namespace's oldest notes are appended to those given, as
+    /// many as there is room for.
     pub fn take_owed(
         &self,
         rt: &impl Wait,
@@ -206,9 +207,9 @@ impl<L: Seating, C: Takings> SharedService<L, C> {
         booked.take_owed(conn, wants_loads, notes)
     }
 
-    /// The oldest notes of a namespace that were told and not taken, moved out behind others in one hold of the lock, as many as there is
-    /// room for. It is no event, and leaves no receipt. Refused with `NoNamespace`, and with `OutOfMemory` where the core copies notes; those
-    /// before it were taken then.
+    /// Appends the oldest notes of a namespace that were reported and not taken, moved out in one hold of the lock, as many as there is
+    /// room for. This is not an event, and leaves no receipt. Returns `NoNamespace`, and `OutOfMemory` if the core copies notes; those
+    /// before the refused one were taken then.
     pub fn take_notices(
         &self,
         rt: &impl Wait,
@@ -223,8 +224,8 @@ impl<L: Seating, C: Takings> SharedService<L, C> {
         booked.take_notices(namespace, notes)
     }
 
-    /// The loads of a namespace that went out and were not taken, with their keys, in the order in which they were sent; moved out, in one
-    /// hold of the lock. It is no event, and leaves no receipt. Refused with `NoNamespace`.
+    /// Returns the loads of a namespace that went out and were not taken, with their keys, in the order in which they were sent, moved out,
+    /// in one hold of the lock. This is not an event, and leaves no receipt. Returns `NoNamespace` if there is no such namespace.
     pub fn take_loads(&self, rt: &impl Wait, namespace: u64) -> Result<TakenLoads<C>, ServiceError>
         ensures namespace { IfOk result (λ loads. loads.namespace ≡ namespace) }
         ensures refused { IfErr result (λ e. HeldAtSomeMoment C.spaces C.events (λ spaces. (e ≡ ServiceError.NoNamespace) × (length spaces ≤ namespace))) }
@@ -234,8 +235,9 @@ impl<L: Seating, C: Takings> SharedService<L, C> {
         booked.take_loads(namespace)
     }
 
-    /// The oldest note of a namespace that was told and not taken, or none, in one hold of the lock. It is no event, and leaves no receipt.
-    /// Refused with `NoNamespace`, then with `OutOfMemory` where the core copies notes; then it comes with the next taking.
+    /// Returns the oldest note of a namespace that was reported and not taken, or `None`, in one hold of the lock. This is not an event,
+    /// and leaves no receipt.
+    /// Returns `NoNamespace`, then `OutOfMemory` if the core copies notes; then it comes the next time.
     pub fn next_notice(&self, rt: &impl Wait, namespace: u64) -> Result<Option<Note>, ServiceError>
         ensures note { IfOk result (λ note. WasOldestNote C.spaces C.events C.untold namespace note) }
         ensures refused { IfErr result (λ e. HeldAtSomeMoment C.spaces C.events (λ spaces. Refuses spaces namespace e (λ space. e ≡ ServiceError.OutOfMemory))) }
@@ -245,7 +247,7 @@ impl<L: Seating, C: Takings> SharedService<L, C> {
         booked.next_notice(namespace)
     }
 
-    /// Why a connection is closed, or none while it is open, in one hold of the lock. Refused with `NoNamespace`, then with `NoConnection`.
+    /// Returns why a connection is closed, or `None` while it is open, in one hold of the lock. Returns `NoNamespace`, then `NoConnection`.
     pub fn closed(&self, rt: &impl Wait, conn: Conn) -> Result<Option<Closing>, ServiceError>
         ensures closing { IfOk result (λ closing. HeldAtSomeMoment C.spaces C.events (λ spaces. InSpace spaces conn.namespace (λ space. closing ≡ closing_of space conn.number))) }
         ensures refused { IfErr result (λ e. HeldAtSomeMoment C.spaces C.events (λ spaces. Refuses spaces conn.namespace e (λ space. IsUnknown space conn.number e))) }
@@ -254,7 +256,7 @@ impl<L: Seating, C: Takings> SharedService<L, C> {
         guard.closed(conn)
     }
 
-    /// Whether a `LOAD` of a connection waits for its load, in one hold of the lock. Refused with `NoNamespace`, then with `NoConnection`.
+    /// Returns whether a `LOAD` of a connection waits for its load, in one hold of the lock. Returns `NoNamespace`, then `NoConnection`.
     pub fn waiting(&self, rt: &impl Wait, conn: Conn) -> Result<bool, ServiceError>
         ensures waits { IfOk result (λ waits. HeldAtSomeMoment C.spaces C.events (λ spaces. InSpace spaces conn.namespace (λ space. waits ≡ is_waiting_for space conn.number))) }
         ensures refused { IfErr result (λ e. HeldAtSomeMoment C.spaces C.events (λ spaces. Refuses spaces conn.namespace e (λ space. IsUnknown space conn.number e))) }
@@ -264,7 +266,7 @@ impl<L: Seating, C: Takings> SharedService<L, C> {
     }
 
     /// Waits until no `LOAD` of a connection waits for its load. Each step of a seat lets those that wait look again. Nothing is promised
-    /// but that it returns as it may; where the connection is unknown it returns at once.
+    /// about when it returns; if the connection is unknown it returns at once.
     pub fn await_ready(&self, rt: &impl Wait, seat: &Seat<L>, conn: Conn) {
         let _seat = seat;
         let inner = self.inner();
@@ -278,7 +280,7 @@ impl<L: Seating, C: Takings> SharedService<L, C> {
     }
 }
 
-/// Closes it, where these are all seats, their receipts stand, and there is memory.
+/// Closes it, if these are all seats, their receipts stand, and there is enough memory.
 fn close_if_all<L: Seating, C: Stepping>(
     alloc: Global,
     slot: &mut Option<Inner<L, C>>,

@@ -1,4 +1,4 @@
-//! Turns: an input, and all that its connection is owed behind it, in one hold of the lock.
+//! Turns: an input, and everything that its connection is owed afterwards, in one hold of the lock.
 ghost use Rattle.std.specs.Prelude.{◌≡◌, ◌⊎◌, true, IfOk, IfErr, OnErr};
 ghost use Rattle.cache_shared.specs.Events.{IsLate, IsUnfitAnswer, is_of_outcome};
 ghost use Rattle.cache_shared.specs.Looked.{WereMoved};
@@ -13,18 +13,18 @@ use audit_model::{Conn, Input, Note, ServiceError};
 use cache_spaces::{Output, Refusal};
 use std::alloc::Global;
 
-/// What a turn gives.
+/// The result of a turn.
 #[derive(Drop)]
 pub struct Turn<C: Takings> {
-    /// What the input came to.
+    /// The output of the input.
     pub output: Output,
-    /// What its connection is owed behind it.
+    /// What its connection is owed afterwards.
     pub owed: Owed<C>,
 }
 
 impl<L: Seating, C: Takings> BookedService<L, C> {
-    /// Takes an input for a seat, as `step` does, and moves out what a connection is owed behind it, and its namespace's oldest notes, as many
-    /// as there is room for.
+    /// Takes an input for a seat, like `step`, and moves out what a connection is owed afterwards, and its namespace's oldest notes, as
+    /// many as there is room for.
     pub fn turn(
         &mut self,
         alloc: Global,
@@ -52,19 +52,20 @@ impl<L: Seating, C: Takings> BookedService<L, C> {
         }
     }
 
-    /// What a connection is owed, and its namespace's oldest notes, as many as there is room for, moved out; nothing where it is unknown.
+    /// Returns what a connection is owed, and appends its namespace's oldest notes, as many as there is room for, moved out; nothing if it
+    /// is unknown.
     pub fn take_owed(&mut self, conn: Conn, wants_loads: bool, notes: &mut Vec<Note>) -> Owed<C>
         ensures conn { result.conn ≡ conn }
         ensures moved { WereMoved C.spaces C.events C.untold conn.namespace notes.old.items notes.new.items }
         ensures events { C.events self.new.core ≡ C.events self.old.core }
     {
-        // Notes that are not taken for want of memory stay.
+        // Notes that are not taken for lack of memory stay.
         let _ = self.take_notices(conn.namespace, notes);
         let BookedService { core, .. } = self;
         take_owed(core, conn, wants_loads)
     }
 
-    /// The oldest notes of a namespace that were told and not taken, moved out, as many as there is room for.
+    /// Appends the oldest notes of a namespace that were reported and not taken, moved out, as many as there is room for.
     pub fn take_notices(
         &mut self,
         namespace: u64,

@@ -1,4 +1,4 @@
-//! How far the replies and notes that journals hold were taken.
+//! How far the replies and notes in journals were taken.
 ghost use Rattle.std.specs.Prelude.{◌≡◌, ◌≢◌, ◌<◌, ◌+◌, ℕ, [], drop, get_or, length, vec_len, IsNone, IfOk, OnOk, OnErr};
 ghost use Rattle.cache_spaces.specs.Notes.{IsPlaceIn, TakesFrom, notes_from};
 ghost use Rattle.cache_spaces.specs.Replies.{AddsZeros, replies_for};
@@ -11,9 +11,9 @@ use std::alloc::{AllocError, Global};
 /// How far the replies and notes of a namespace were taken.
 #[derive(Drop)]
 pub struct Cursors {
-    /// How many records the takings of a connection's replies went through, by its number; 0 where none is kept.
+    /// For each connection, by its number, through how many records its replies were taken; 0 for those that are missing.
     pub replies: Vec<u64>,
-    /// Where the first note stands that was not taken.
+    /// The place of the first note that was not taken.
     pub notes: Told,
 }
 
@@ -33,7 +33,7 @@ impl Cursors {
         }
     }
 
-    /// The replies of a connection in these records since the last taking. An `Err` changes nothing.
+    /// Returns the replies of a connection in these records since they were last taken. An `Err` changes nothing.
     pub fn take_replies(
         &mut self,
         alloc: Global,
@@ -51,7 +51,7 @@ impl Cursors {
         Ok(text)
     }
 
-    /// A copy of the first note in these records that was not taken. An `Err` changes nothing.
+    /// Returns a copy of the first note in these records that was not taken. An `Err` changes nothing.
     pub fn take_note(
         &mut self,
         alloc: Global,
@@ -77,7 +77,7 @@ impl Cursors {
     }
 }
 
-/// The number at a place; 0 behind the end.
+/// The number at a place; 0 after the end.
 fn number_at(list: &[u64], place: u64) -> u64
     ensures { result ≡ get_or list.now place 0 }
 {
@@ -98,7 +98,7 @@ fn set_number(list: &mut Vec<u64>, place: usize, number: u64) -> Result<(), Allo
     Ok(())
 }
 
-/// Makes zeros up to that place. An `Err` changes nothing.
+/// Adds zeros up to this place. An `Err` changes nothing.
 fn make_numbers(list: &mut Vec<u64>, place: usize) -> Result<(), AllocError>
     ensures made { OnOk result (place < vec_len list.new) }
     ensures same { (other : ℕ) → get_or list.new.items other 0 ≡ get_or list.old.items other 0 }
@@ -117,7 +117,7 @@ fn make_numbers(list: &mut Vec<u64>, place: usize) -> Result<(), AllocError>
     }
 }
 
-/// Adds so many zeros and one more, or, where there is no memory, some of them.
+/// Adds this many zeros and one more, or, if there is not enough memory, some of them.
 fn add_zeros(list: &mut Vec<u64>, missing: usize) -> Result<(), AllocError>
     ensures zeros { AddsZeros list.old.items list.new.items }
     ensures len { OnOk result (vec_len list.new ≡ vec_len list.old + missing + 1) }

@@ -18,15 +18,15 @@ use rand_xoshiro::Xoshiro256PlusPlus;
 use std::alloc::{AllocError, Global};
 use std::marker::Model;
 
-/// A service that keeps the transcript of each namespace, its journal. Replies and notes stand in the journals, from which the takings copy
-/// them.
+/// A service that keeps the transcript of each namespace, its journal. Replies and notes are stored in the journals, from which they are
+/// copied when they are taken.
 ///
-/// A journal is kept whole: memory grows with each input. Contracts see the list of its namespaces, the journal of each on its tape, and how
-/// far the replies and notes of each were taken.
+/// A journal is kept completely, so memory grows with each input. Contracts see the list of its namespaces, the journal of each on its
+/// tape, and how far the replies and notes of each were taken.
 #[derive(Drop)]
 pub struct RecordedService {
     core: Core<Kept>,
-    /// Room for the journals, which are moved out at the end.
+    /// Room for the journals, into which they are moved at the end.
     room: Vec<Transcript>,
     /// How far each namespace was read.
     read: Vec<Cursors>,
@@ -45,10 +45,10 @@ impl Model for RecordedService {
 }
 
 impl RecordedService {
-    /// A service of one namespace for each configuration, in their order, made at that moment, with an empty journal each.
+    /// Creates a service with one namespace for each configuration, in their order, at this moment, each with an empty journal.
     ///
-    /// Refused with `Moment` above 2^63 - 1 nanoseconds, then with `Config` where there are not 1 to 16 configurations or one is out of
-    /// range, then with `OutOfMemory`.
+    /// Returns `Moment` above 2^63 - 1 nanoseconds, then `Config` if the number of configurations is not 1 to 16 or one is out of
+    /// range, then `OutOfMemory`.
     pub fn new(
         alloc: Global,
         configs: &[Config],
@@ -74,13 +74,15 @@ impl RecordedService {
         }
     }
 
-    /// Takes an input, adds its record to its namespace's journal, and answers what the record says. Replies and notes are read there.
+    /// Takes an input, adds its record to its namespace's journal, and returns the output that the record describes. Replies and notes are
+    /// read from the journal.
     ///
-    /// An input that is refused is handed back, with the cause that the call has for it of which it is the input, the definition's own
-    /// before `OutOfMemory`, which may be for its record, for a closing and a give-up too. Then nothing has changed, and no record is added.
+    /// A refused input is returned, with the cause for which the call of that name refuses it; the definition's own causes come
+    /// before `OutOfMemory`, which is also possible for a closing and a give-up, if there is no memory for their records. Then nothing has
+    /// changed, and no record is added.
     pub fn step(&mut self, input: Input) -> Result<Output, Refusal>
         ensures performed { IfOk result (λ output. At self.old.spaces self.new.spaces (namespace_of input) (Performs kept_by input output)) }
-        // what is left to be taken gained its replies and notes, and nothing else
+        // the replies and notes, and nothing else, were added to what is left to be taken
         ensures gained { OnOk result (GainsRecord (namespace_of input) self.old self.new) }
         ensures cursors { self.new.cursors ≡ self.old.cursors }
         ensures refused { IfErr result (λ refusal. Refuses self.old.spaces (namespace_of input) refusal.error (RefusedInput input refusal.error)) }
@@ -92,8 +94,8 @@ impl RecordedService {
         self.core.step(input)
     }
 
-    /// The journal of a namespace: a record for each input that it took, in order. It obeys, and leads to where the namespace stands. Takes
-    /// no memory. Refused with `NoNamespace`.
+    /// Returns the journal of a namespace: a record for each input that it took, in order. It obeys, and leads to where the namespace
+    /// stands. This allocates nothing. Returns `NoNamespace` if there is no such namespace.
     pub fn journal(&self, namespace: u64) -> Result<&Transcript, ServiceError>
         ensures journal { IfOk result (λ journal. slice_get (journals_of self.now.spaces) namespace ≡ Some journal.now) }
         ensures is { IsSoOfEach IsJournalOf self.now.spaces }
@@ -102,18 +104,19 @@ impl RecordedService {
         journal_in(&self.core, namespace)
     }
 
-    /// The namespaces under the journals, to be looked at: closings, waiting connections, loads under way. Their output and notes are empty.
+    /// Returns the namespaces under the journals, for inspection: closings, waiting connections, loads under way. Their output and notes
+    /// are empty.
     pub fn service(&self) -> &Core<Kept>
         ensures core { result.now ≡ self.now.spaces }
-        // the journals are what some inputs come to
+        // the journals are the result of some inputs
         ensures played { ∥ WerePlayed self.now.spaces ∥₁ }
     {
         &self.core
     }
 
-    /// The replies of a connection since the last taking, copied out of the journal, also after it closed. It is no event.
+    /// Returns the replies of a connection since they were last taken, copied from the journal, even after it closed. This is not an event.
     ///
-    /// Refused with `NoNamespace`, then with `NoConnection`, then with `OutOfMemory` where there is no memory for the copy; then nothing has
+    /// Returns `NoNamespace`, then `NoConnection`, then `OutOfMemory` if there is not enough memory for the copy; then nothing has
     /// changed.
     pub fn take_output(&mut self, conn: Conn) -> Result<Vec<u8>, ServiceError>
         ensures taken { IfOk result (λ text. TakesReplies self.old self.new conn text.items) }
@@ -136,8 +139,9 @@ impl RecordedService {
         }
     }
 
-    /// The loads of a namespace that went out and were not taken, with their keys, in the order in which they were sent; moved out, so that
-    /// each comes once. It is no event, and adds no record. Takes no memory. Refused with `NoNamespace`.
+    /// Returns the loads of a namespace that went out and were not taken, with their keys, in the order in which they were sent, moved out,
+    /// so that each comes once. This is not an event, adds no record, and allocates nothing. Returns `NoNamespace` if there is no such
+    /// namespace.
     pub fn take_loads(&mut self, namespace: u64) -> Result<Vec<(LoadId, Bytes)>, ServiceError>
         ensures taken { IfOk result (λ loads. At self.old.spaces self.new.spaces namespace (λ was is. TakesLoads was is loads.items)) }
         ensures cursors { self.new.cursors ≡ self.old.cursors }
@@ -147,9 +151,10 @@ impl RecordedService {
         self.core.take_loads(namespace)
     }
 
-    /// The oldest note of a namespace that was told and not taken, copied out of the journal; none where there is none. It is no event.
+    /// Returns the oldest note of a namespace that was reported and not taken, copied from the journal; `None` if there is none. This is
+    /// not an event.
     ///
-    /// Refused with `NoNamespace`, then with `OutOfMemory` where there is no memory for the copy; then nothing has changed.
+    /// Returns `NoNamespace`, then `OutOfMemory` if there is not enough memory for the copy; then nothing has changed.
     pub fn next_notice(&mut self, namespace: u64) -> Result<Option<Note>, ServiceError>
         ensures taken { IfOk result (TakesNote self.old self.new namespace) }
         ensures refused { IfErr result (λ e. Refuses self.old.spaces namespace e (λ space. e ≡ ServiceError.OutOfMemory)) }
@@ -168,7 +173,7 @@ impl RecordedService {
         }
     }
 
-    /// The journals, in the order of the namespaces, moved out; the service ends. Takes no memory.
+    /// Returns the journals, in the order of the namespaces, moved out; the service ends. This allocates nothing.
     pub fn into_journals(self) -> Vec<Transcript>
         ensures { result.items ≡ journals_of self.spaces }
     {
@@ -183,7 +188,7 @@ impl RecordedService {
     }
 }
 
-/// So many namespaces of which nothing was read.
+/// This many namespaces of which nothing was read.
 fn new_cursors(alloc: Global, count: usize) -> Result<Vec<Cursors>, AllocError>
     ensures { IfOk result (λ read. AreAtStart read.items count) }
 {
@@ -194,7 +199,7 @@ fn new_cursors(alloc: Global, count: usize) -> Result<Vec<Cursors>, AllocError>
     Ok(read)
 }
 
-/// The journal of a namespace. Refused with `NoNamespace`.
+/// The journal of a namespace, or `NoNamespace`.
 fn journal_in(core: &Core<Kept>, namespace: u64) -> Result<&Transcript, ServiceError>
     ensures journal { IfOk result (λ journal. slice_get (journals_of core.now) namespace ≡ Some journal.now) }
     ensures refused { IfErr result (λ e. (e ≡ ServiceError.NoNamespace) × (length core.now ≤ namespace)) }

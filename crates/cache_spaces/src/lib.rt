@@ -1,4 +1,4 @@
-//! A cache that is served by lines: namespaces, connections, loads.
+//! A cache behind a line protocol: namespaces, connections, loads.
 #![tactic(auto)]
 
 mod cursors;

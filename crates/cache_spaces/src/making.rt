@@ -1,4 +1,4 @@
-//! The namespaces that a service is made with.
+//! Creating the namespaces of a service.
 ghost use Rattle.std.specs.Prelude.{◌≡◌, ◌<◌, ◌^◌, IfOk, IsTrue};
 ghost use Rattle.std.specs.List.{list_all};
 ghost use Rattle.cache_spaces.specs.Served.{is_served};
@@ -14,13 +14,13 @@ use rand_core::{Rng, SeedableRng};
 use rand_xoshiro::Xoshiro256PlusPlus;
 use std::alloc::{AllocError, Global};
 
-/// The most namespaces that a service has.
+/// The maximum number of namespaces of a service.
 const MOST: usize = 16;
 
-/// How many bytes a hasher's secret has.
+/// The number of bytes of a hasher's secret.
 const SECRET: usize = 16;
 
-/// Whether a service is made with these configurations.
+/// Whether a service accepts these configurations.
 pub fn are_taken(configs: &[Config]) -> bool
     ensures { result ≡ are_taken configs.now }
 {
@@ -42,7 +42,7 @@ fn are_served(configs: &[Config]) -> bool
     true
 }
 
-/// New namespaces of these configurations, in their order, each with a fork of the generator.
+/// Creates namespaces with these configurations, in their order, each with a fork of the generator.
 pub fn new_spaces<T: NewTape>(
     alloc: Global,
     configs: &[Config],
@@ -80,7 +80,7 @@ fn new_space<T: NewTape>(
     Namespace::new(alloc, namespace, store, T::make(alloc, made), made.nanos)
 }
 
-/// A hasher that strangers cannot foresee: its secret stands far behind the numbers that the generator gives itself.
+/// A hasher that others cannot predict: its secret comes long after the numbers that the generator gives itself.
 fn keyed_by(generator: &Xoshiro256PlusPlus) -> Result<KeyedHasher, AllocError> {
     let mut far = generator.clone()?;
     far.long_jump();

@@ -1,4 +1,4 @@
-//! Inputs, played from a service just made.
+//! Playing inputs on a new service.
 ghost use Rattle.std.specs.Prelude.{◌≡◌, ◌≤◌, ◌<◌, ◌^◌, ◌↔◌, ◌⊎◌, false, IfOk, IfErr, IsErrOf, OnErr};
 ghost use Rattle.cache_spaces.specs.Calls.{At};
 ghost use Rattle.cache_spaces.specs.Inputs.{Performs, namespace_of};
@@ -12,11 +12,14 @@ use audit_model::{Config, Input, Instant, ServiceError, Transcript};
 use rand_xoshiro::Xoshiro256PlusPlus;
 use std::alloc::Global;
 
-/// The transcripts of the inputs, handed in order to a service just made: one for each configuration, in their order, each of which obeys,
-/// belongs to the inputs and begins at that moment.
+/// Returns the transcripts of the inputs, passed in order to a new service: one for each configuration, in their order, each of which
+/// obeys, belongs to the inputs and begins at this moment.
 ///
-/// An input that a service would refuse, for memory too, stands in none, and play goes on. It fails with `Moment` above 2^63 - 1
-/// nanoseconds, then with `Config` where there are not 1 to 16 configurations or one is out of range, else with `OutOfMemory`.
+/// An input that a service would refuse, including for lack of memory, appears in none of them, and play continues. Returns `Moment` above
+/// 2^63 - 1 nanoseconds, then `Config` if the number of configurations is not 1 to 16 or one is out of range, otherwise `OutOfMemory`.
+/// ```
+/// let transcripts = play(alloc, &[config], generator, moment, &inputs)?;
+/// ```
 pub fn play(
     alloc: Global,
     configs: &[Config],
@@ -39,7 +42,7 @@ pub fn play(
     Ok(recorded.into_journals())
 }
 
-/// Hands in a copy of an input. An `Err`, also for want of memory for the copy, changes nothing.
+/// Passes a copy of an input. An `Err`, including one for lack of memory for the copy, changes nothing.
 fn hand_in(
     alloc: Global,
     recorded: &mut RecordedService,

@@ -1,4 +1,4 @@
-//! Replies, gathered from records.
+//! Gathering replies from records.
 ghost use Rattle.std.specs.Prelude.{◌≡◌, ◌++◌, drop, IfOk, OnOk};
 ghost use Rattle.std.specs.List.{flat_map};
 ghost use Rattle.cache_spaces.specs.Replies.{replies_for, reply_for};
@@ -6,7 +6,7 @@ ghost use Rattle.cache_spaces.specs.Replies.{replies_for, reply_for};
 use audit_model::{Record, Step};
 use std::alloc::{AllocError, Global};
 
-/// The replies of a connection in the records from that place on.
+/// Returns the replies of a connection in the records from this place on.
 pub fn gather_from(
     alloc: Global,
     records: &[Record],
@@ -18,7 +18,7 @@ pub fn gather_from(
     gather(alloc, records_from(records, place), number)
 }
 
-/// The records from that place on.
+/// The records from this place on.
 fn records_from(records: &[Record], place: u64) -> &[Record]
     ensures { result.now ≡ drop place records.now }
 {

@@ -19,13 +19,13 @@ use std::alloc::Global;
 use std::marker::Model;
 use thiserror::Error;
 
-/// The latest moment that may be handed in.
+/// The latest moment that is accepted.
 const MAX_MOMENT: u64 = (1 << 63) - 1;
 
 /// The values of a namespace.
 pub type SpaceStore = FrontStore<Xoshiro256PlusPlus, KeyedHasher>;
 
-/// Namespaces, each with its connections and values, over a tape each of which its records go into.
+/// Namespaces, each with its connections and values, over a tape for each, into which its records go.
 ///
 /// There are 1 to 16 namespaces, counted from 0, each with a generator and a latest moment of its own. Connections and loads are numbered
 /// from 1 within each. Contracts see it as the list of its namespaces.
@@ -43,7 +43,13 @@ impl<T: Tape> Model for Core<T> {
     ghost view = { λ c. c.spaces.items };
 }
 
-/// A service that keeps no journal (`RecordedService` keeps one). Replies, notes and loads stay until they are taken.
+/// A service that keeps no journal (`RecordedService` keeps one). Replies, notes and loads are kept until they are taken.
+/// ```
+/// let mut service = Service::new(alloc, &[config], generator, moment)?;
+/// let conn = service.open(0)?;
+/// service.feed(conn, b"SET a - 1\nGET a\n", moment)?;
+/// let replies = service.take_output(conn)?; // OK, VAL 1
+/// ```
 pub type Service = Core<Bare>;
 
 /// What a feed did.
@@ -51,36 +57,37 @@ pub type Service = Core<Bare>;
 pub enum Fed {
     /// The lines that could run have run, and none is held back.
     All,
-    /// A command was refused for memory, and stays the connection's first line; the next feed, also of no bytes, runs it again.
+    /// There was not enough memory for a command, and it stays the connection's first line; the next feed, even of no bytes, runs it again.
     Held,
 }
 
-/// An outcome that `Core::answer` did not take, handed back with the reason. By `?` it turns into its `ServiceError`.
+/// An outcome that `Core::answer` did not accept, returned with the reason. It converts to its `ServiceError` by `?`.
 #[derive(Debug, Drop, Error)]
 #[error("{error}")]
 pub struct AnswerError {
     /// Why it was refused.
     pub error: ServiceError,
-    /// The outcome, as it was handed in.
+    /// The outcome, unchanged.
     pub outcome: Outcome,
 }
 
 impl From<AnswerError> for ServiceError {
     ghost from_gives = { λ refused error. error ≡ refused.error };
 
-    /// Why it was refused; what was handed back is dropped.
+    /// Why it was refused; what was returned is dropped.
     fn from(refused: AnswerError) -> ServiceError {
         refused.error
     }
 }
 
 impl<T: NewTape> Core<T> {
-    /// A service of one namespace for each configuration, in their order, made at that moment, without connections and values. Each
-    /// namespace has a generator of its own, a fork of the one given, from which the identifiers of its `DROPIF`s are drawn, and far behind
-    /// them the secret by which its keys are hashed. So where keys come from strangers, hand in a generator that they cannot foresee.
+    /// Creates a service with one namespace for each configuration, in their order, at this moment, without connections and values. Each
+    /// namespace has a generator of its own, a fork of the one given, from which the identifiers of its `DROPIF`s are drawn, and, long
+    /// after them, the secret with which its keys are hashed. If untrusted clients choose the keys, pass a generator that they cannot
+    /// predict.
     ///
-    /// Refused with `Moment` above 2^63 - 1 nanoseconds, then with `Config` where there are not 1 to 16 configurations or one is out of
-    /// range, then with `OutOfMemory`.
+    /// Returns `Moment` above 2^63 - 1 nanoseconds, then `Config` if the number of configurations is not 1 to 16 or one is out of
+    /// range, then `OutOfMemory`.
     pub fn new(
         alloc: Global,
         configs: &[Config],
@@ -106,9 +113,9 @@ impl<T: NewTape> Core<T> {
 }
 
 impl<T: Tape> Core<T> {
-    /// Opens a connection in a namespace, and answers it: its number is the next one there, from 1 on.
+    /// Opens a connection in a namespace, and returns it: its number is the next one there, from 1 on.
     ///
-    /// Refused with `NoNamespace`, then with `OutOfMemory`. Then nothing has changed.
+    /// Returns `NoNamespace`, then `OutOfMemory`. Then nothing has changed.
     pub fn open(&mut self, namespace: u64) -> Result<Conn, ServiceError>
         ensures taken { IfOk result (λ conn. (conn.namespace ≡ namespace) × At self.old self.new namespace (λ was is. OpensNext T.view was is conn.number)) }
         ensures refused { IfErr result (λ e. Refuses self.old namespace e (λ was. e ≡ ServiceError.OutOfMemory)) }
@@ -126,8 +133,8 @@ impl<T: Tape> Core<T> {
     /// Closes a connection: its unread bytes and its held command are dropped, its replies can still be taken, and a load for which it
     /// waits stays under way.
     ///
-    /// Refused with `NoNamespace`, `NoConnection`, `Closed`, in this order, and else with `OutOfMemory` where its record finds no memory:
-    /// where none is made it takes none. After a refusal nothing has changed.
+    /// Returns `NoNamespace`, `NoConnection` or `Closed`, in this order, and otherwise `OutOfMemory` if there is no memory for its record:
+    /// without a journal there is no record, and so no such error. After a refusal nothing has changed.
     pub fn close(&mut self, conn: Conn) -> Result<(), ServiceError>
         ensures taken { OnOk result (At self.old self.new conn.namespace (λ was is. ServesEvent T.view was is (event.Close conn.number) false)) }
         ensures refused { IfErr result (λ e. Refuses self.old conn.namespace e (λ was. RefusedFor was (event.Close conn.number) false e)) }
@@ -141,12 +148,12 @@ impl<T: Tape> Core<T> {
     }
 
     /// Takes a piece of a connection's bytes at a moment, and runs its complete lines: a command that is held back runs first. An earlier
-    /// moment counts as the namespace's latest. The piece may end anywhere in a line, and may be empty. Replies are taken by `take_output`,
-    /// and a connection closes in it where a `QUIT` runs, a line is longer than 8192 bytes, or more than that stand behind a `LOAD` that
+    /// moment counts as the namespace's latest. The piece may end anywhere in a line, and may be empty. `take_output` returns the replies.
+    /// The call closes the connection if a `QUIT` runs, a line is longer than 8192 bytes, or more than that many come after a `LOAD` that
     /// waits.
     ///
-    /// Refused with `NoNamespace`, `NoConnection`, `Closed`, `Moment` above 2^63 - 1 nanoseconds, in this order; else with `OutOfMemory`,
-    /// or with `HeldAgain` where the held command is refused for memory again. Then nothing has changed.
+    /// Returns `NoNamespace`, `NoConnection`, `Closed` or `Moment` (above 2^63 - 1 nanoseconds), in this order; otherwise `OutOfMemory`,
+    /// or `HeldAgain` if there is still not enough memory for the held command. Then nothing has changed.
     pub fn feed(&mut self, conn: Conn, piece: &[u8], moment: Instant) -> Result<Fed, ServiceError>
         ensures taken { IfOk result (λ done. At self.old self.new conn.namespace (λ was is. ServesEvent T.view was is (feeding conn.number piece.now moment.nanos) (feed_is_held done))) }
         ensures refused { IfErr result (λ e. Refuses self.old conn.namespace e (λ was. RefusedFor was (feeding conn.number piece.now moment.nanos) (is_held_in was conn.number) e)) }
@@ -162,11 +169,11 @@ impl<T: Tape> Core<T> {
         }
     }
 
-    /// Answers a load under way at a moment: its value is stored, those that wait are handed the outcome in order, and then their lines run
+    /// Answers a load under way at a moment: its value is stored, those that wait receive the outcome in order, and then their lines run
     /// in the same order. An earlier moment counts as the namespace's latest.
     ///
-    /// Refused with `NoNamespace`, `NoLoad`, `Moment` above 2^63 - 1 nanoseconds, `LineEnd`, `TooLong` above 8192 bytes, `Deadline`, in
-    /// this order, else with `OutOfMemory`. Then nothing has changed: the load is still under way, and the outcome is handed back.
+    /// Returns `NoNamespace`, `NoLoad`, `Moment` (above 2^63 - 1 nanoseconds), `LineEnd`, `TooLong` (above 8192 bytes) or `Deadline`, in
+    /// this order, otherwise `OutOfMemory`. Then nothing has changed: the load is still under way, and the error contains the outcome.
     pub fn answer(
         &mut self,
         load: LoadId,
@@ -190,12 +197,12 @@ impl<T: Tape> Core<T> {
         }
     }
 
-    /// Gives a load under way up at a moment: each `LOAD` that waits for it runs again, in order, as a whole command, followed by its
-    /// connection's lines. It waits again, for a new load, where its key has no live value; at its 200th give-up it is answered
+    /// Gives up a load under way at a moment: each `LOAD` that waits for it runs again, in order, as a whole command, followed by its
+    /// connection's lines. It waits again, for a new load, if its key has no live value; at its 200th give-up it is answered with
     /// `ERR abandoned`. An earlier moment counts as the namespace's latest.
     ///
-    /// Refused with `NoNamespace`, `NoLoad`, `Moment` above 2^63 - 1 nanoseconds, in this order, and else with `OutOfMemory` where its record
-    /// finds no memory: where none is made it takes none that it cannot do without, since want of it holds lines back. After a refusal nothing
+    /// Returns `NoNamespace`, `NoLoad` or `Moment` (above 2^63 - 1 nanoseconds), in this order, and otherwise `OutOfMemory` if there is no
+    /// memory for its record. Without a journal there is no such error, since a lack of memory holds lines back. After a refusal nothing
     /// has changed.
     pub fn give_up(&mut self, load: LoadId, moment: Instant) -> Result<(), ServiceError>
         ensures taken { OnOk result (At self.old self.new load.namespace (λ was is. Settled T.view was is (giving_up load.number moment.nanos))) }
@@ -209,8 +216,9 @@ impl<T: Tape> Core<T> {
         space.give_up(load.number, moment)
     }
 
-    /// The reply bytes of a connection since the last taking, with their line ends, moved out; also after it closed. Takes no memory.
-    /// Refused with `NoNamespace`, then with `NoConnection`.
+    /// Returns the reply bytes of a connection since they were last taken, with their line ends, moved out, even after it closed. This
+    /// allocates nothing.
+    /// Returns `NoNamespace`, then `NoConnection`.
     pub fn take_output(&mut self, conn: Conn) -> Result<Vec<u8>, ServiceError>
         ensures taken { IfOk result (λ text. At self.old self.new conn.namespace (λ was is. TakesOutput was is conn.number text.items)) }
         ensures refused { IfErr result (λ e. Refuses self.old conn.namespace e (λ was. IsUnknown was conn.number e)) }
@@ -222,8 +230,14 @@ impl<T: Tape> Core<T> {
         space.take_output(conn.number)
     }
 
-    /// The oldest note of a namespace that was told and not taken, of a value that left; none where there is none. It does not come again.
-    /// Takes no memory. Refused with `NoNamespace`.
+    /// Returns the oldest note of a namespace that was reported and not taken, of a value that left; `None` if there is none. Each note
+    /// comes once.
+    /// This allocates nothing. Returns `NoNamespace` if there is no such namespace.
+    /// ```
+    /// while let Some(note) = service.next_notice(0)? {
+    ///     log(note.cause, &note.key);
+    /// }
+    /// ```
     pub fn next_notice(&mut self, namespace: u64) -> Result<Option<Note>, ServiceError>
         ensures taken { IfOk result (λ note. At self.old self.new namespace (λ was is. TakesNotice was is note)) }
         ensures refused { IfErr result (λ e. (e ≡ ServiceError.NoNamespace) × (length self.old ≤ namespace)) }
@@ -235,8 +249,14 @@ impl<T: Tape> Core<T> {
         Ok(space.next_notice())
     }
 
-    /// The loads of a namespace that went out and were not taken, with their keys, in the order in which they were sent; moved out, so that
-    /// each comes once. Whoever takes one owes an `answer` or a `give_up`. Takes no memory. Refused with `NoNamespace`.
+    /// Returns the loads of a namespace that went out and were not taken, with their keys, in the order in which they were sent, moved out,
+    /// so that each comes once. Whoever takes one owes an `answer` or a `give_up`. This allocates nothing. Returns `NoNamespace` if there
+    /// is no such namespace.
+    /// ```
+    /// for (load, key) in service.take_loads(0)? {
+    ///     service.answer(load, look_up(&key), moment)?;
+    /// }
+    /// ```
     pub fn take_loads(&mut self, namespace: u64) -> Result<Vec<(LoadId, Bytes)>, ServiceError>
         ensures taken { IfOk result (λ loads. At self.old self.new namespace (λ was is. TakesLoads was is loads.items)) }
         ensures refused { IfErr result (λ e. (e ≡ ServiceError.NoNamespace) × (length self.old ≤ namespace)) }
@@ -248,7 +268,7 @@ impl<T: Tape> Core<T> {
         Ok(space.take_loads())
     }
 
-    /// Why a connection is closed; none while it is open. Takes no memory. Refused with `NoNamespace`, then with `NoConnection`.
+    /// Returns why a connection is closed; `None` while it is open. This allocates nothing. Returns `NoNamespace`, then `NoConnection`.
     pub fn closed(&self, conn: Conn) -> Result<Option<Closing>, ServiceError>
         ensures closing { IfOk result (λ closing. InSpace self.now conn.namespace (λ space. IsOpened space conn.number × (closing ≡ closing_of space conn.number))) }
         ensures refused { IfErr result (λ e. Refuses self.now conn.namespace e (λ space. IsUnknown space conn.number e)) }
@@ -259,8 +279,8 @@ impl<T: Tape> Core<T> {
         }
     }
 
-    /// Whether a connection is open and its first line is a `LOAD` that waits for its load, so that no line behind it runs. Takes no
-    /// memory. Refused with `NoNamespace`, then with `NoConnection`.
+    /// Returns whether a connection is open and its first line is a `LOAD` that waits for its load, so that no later line runs. This
+    /// allocates nothing. Returns `NoNamespace`, then `NoConnection`.
     pub fn waiting(&self, conn: Conn) -> Result<bool, ServiceError>
         ensures waits { IfOk result (λ waits. InSpace self.now conn.namespace (λ space. IsOpened space conn.number × (waits ≡ is_waiting_for space conn.number))) }
         ensures refused { IfErr result (λ e. Refuses self.now conn.namespace e (λ space. IsUnknown space conn.number e)) }
@@ -271,8 +291,8 @@ impl<T: Tape> Core<T> {
         }
     }
 
-    /// How many loads of a namespace are under way: sent, and neither answered nor given up, whether they were taken or not. Takes no
-    /// memory. Refused with `NoNamespace`.
+    /// Returns how many loads of a namespace are under way: sent, and neither answered nor given up, whether they were taken or not. This
+    /// allocates nothing. Returns `NoNamespace` if there is no such namespace.
     pub fn loads_open(&self, namespace: u64) -> Result<u64, ServiceError>
         ensures count { IfOk result (λ count. InSpace self.now namespace (λ space. count ≡ length space.pending)) }
         ensures refused { IfErr result (λ e. (e ≡ ServiceError.NoNamespace) × (length self.now ≤ namespace)) }

@@ -8,8 +8,8 @@ use crate::service::Core;
 use cache_lines::Tape;
 
 impl<T: Tape> Core<T> {
-    /// What is true of a namespace, if it is there: it stands for a situation, it is in order, and its parts suit one another. It does
-    /// nothing.
+    /// Does nothing. Its contract says what is true of a namespace, if it exists: it stands for a situation, it is in order, and its parts
+    /// agree with each other.
     pub fn sound(&self, namespace: u64)
         ensures { (space : Space T) → slice_get self.now namespace ≡ Some space → IsSound T.view space }
     {

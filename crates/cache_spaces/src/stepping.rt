@@ -1,4 +1,4 @@
-//! Inputs, taken one by one.
+//! Taking inputs one by one.
 ghost use Rattle.std.specs.Prelude.{◌≡◌, IfOk, IfErr, OnErr};
 ghost use Rattle.audit_model.specs.declared.input.Input.TheVariants as input;
 ghost use Rattle.cache_spaces.specs.Calls.{At, Refuses};
@@ -10,29 +10,29 @@ use audit_model::{Bytes, Conn, Input, Instant, LoadId, Outcome, ServiceError};
 use cache_lines::Tape;
 use thiserror::Error;
 
-/// An input that was refused, handed back with the reason. By `?` it turns into its `ServiceError`.
+/// An input that was refused, returned with the reason. It converts to its `ServiceError` by `?`.
 #[derive(Debug, Drop, Error)]
 #[error("{error}")]
 pub struct Refusal {
     /// Why it was refused.
     pub error: ServiceError,
-    /// The input, as it was handed in.
+    /// The input, unchanged.
     pub input: Input,
 }
 
 impl From<Refusal> for ServiceError {
     ghost from_gives = { λ refused error. error ≡ refused.error };
 
-    /// Why it was refused; what was handed back is dropped.
+    /// Why it was refused; what was returned is dropped.
     fn from(refused: Refusal) -> ServiceError {
         refused.error
     }
 }
 
 impl<T: Tape> Core<T> {
-    /// Takes an input, and answers what its event came to.
+    /// Takes an input, and returns the output of its event.
     ///
-    /// An input that is refused is handed back, with the cause that the call has for it of which it is the input; then nothing has changed.
+    /// A refused input is returned, with the cause for which the call of that name refuses it; then nothing has changed.
     pub fn step(&mut self, input: Input) -> Result<Output, Refusal>
         ensures performed { IfOk result (λ output. At self.old self.new (namespace_of input) (Performs T.view input output)) }
         ensures refused { IfErr result (λ refusal. Refuses self.old (namespace_of input) refusal.error (RefusedInput input refusal.error)) }

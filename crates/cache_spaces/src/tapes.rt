@@ -9,10 +9,10 @@ use std::alloc::Global;
 
 /// A tape that a new namespace can begin with.
 pub trait NewTape: Tape {
-    // what it keeps of a namespace that is made at that moment, where it keeps anything
+    // what it keeps of a namespace that is created at this moment, if it keeps anything
     ghost blank: { Moment → Option Taped };
 
-    /// A tape of a namespace that is made at that moment. Takes no memory.
+    /// Creates a tape of a namespace that is created at this moment. This allocates nothing.
     fn make(alloc: Global, made: Instant) -> Self
         ensures blank { Self.Tape.view result ≡ blank made }
         ensures rests { IsAtRest (Self.Tape.view result) };

@@ -1,12 +1,12 @@
-//! Notes, found in records.
+//! Finding notes in records.
 ghost use Rattle.std.specs.Prelude.{◌≡◌, ◌<◌, ◌∷◌, [], get_or, length, IfOk, IfSome, MatchOption};
 ghost use Rattle.cache_spaces.specs.Notes.{lists_of, notes_from, rest_in};
 
 use audit_model::{Note, Record, copy_bytes};
 use std::alloc::{AllocError, Global};
 
-/// Where the first note stands that was not taken: so many records before its own, so many lists before its own in its record, and so
-/// many notes before it in its list. A record's first list is that of an answer's value, and each step has one.
+/// The place of the first note that was not taken: the number of records before its own, of lists before its own in its record, and of
+/// notes before it in its list. A record's first list is that of an answer's value, and each step has one.
 #[derive(Clone, Copy, Drop)]
 pub struct Told {
     pub entry: usize,
@@ -14,7 +14,7 @@ pub struct Told {
     pub note: usize,
 }
 
-/// The first note from there on, and the place behind it.
+/// Returns the first note from there on, and the place after it.
 pub fn find_note(records: &[Record], told: Told) -> Option<(&Note, Told)>
     ensures first { MatchOption result (notes_from records.now told ≡ []) (λ found. notes_from records.now told ≡ found.0.now ∷ notes_from records.now found.1) }
     ensures within { IfSome result (λ found. found.1.entry < length records.now) }
@@ -33,7 +33,7 @@ pub fn find_note(records: &[Record], told: Told) -> Option<(&Note, Told)>
     None
 }
 
-/// The first note of a record from that place on, and the place behind it.
+/// The first note of a record from this place on, and the place after it.
 fn find_in(entry: &Record, list: usize, note: usize) -> Option<(&Note, usize, usize)>
     ensures { MatchOption result (rest_in (lists_of entry.now) list note ≡ []) (λ found. rest_in (lists_of entry.now) list note ≡ found.0.now ∷ rest_in (lists_of entry.now) found.1 found.2) }
 {

@@ -1,5 +1,5 @@
 -- What a call of a store does to the values held, and which of them it tells.
-use Rattle.std.specs.Prelude.{◌≡◌, ℕ, Bool, true, false, List, ◌++◌, map, Option, Some, None, IsTrue}
+use Rattle.std.specs.Prelude.{◌≡◌, ℕ, Bool, true, false, List, map, Option, Some, None, IsTrue}
 use Rattle.audit_model.specs.Changes.{all_held_after}
 use Rattle.audit_model.specs.Commands.{Deed, Covering, Nothing}
 use Rattle.audit_model.specs.History.{Value, weight_of}
@@ -61,8 +61,3 @@ pub record IsUnchanged (old_stands new_stands : List HeldValue → Type 0) (old_
   pub stands : (held : List HeldValue) → old_stands held → new_stands held
   pub frame : new_frame ≡ old_frame
   pub untaken : new_untaken ≡ old_untaken
-
--- what a look-up answers and writes behind the bytes that were there
-abbrev pub Finds : Option Value → Bool → List ℕ → List ℕ → Type 0
-Finds None is_found old new = (is_found ≡ false) × (new ≡ old)
-Finds (Some value) is_found old new = (is_found ≡ true) × (new ≡ old ++ value.bytes)

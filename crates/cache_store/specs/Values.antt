@@ -1,5 +1,7 @@
 -- What a store shows of the values that it has, and what a call does to them.
 use Rattle.std.specs.Prelude.{◌≡◌, ℕ, suc, ◌+◌, ◌≤◌, ◌<◌, ◌^◌, Bool, true, false, ◌||◌, List, [], length, map, take, Option, Some, None, IsTrue, IfSome, if◌then◌else◌}
+use Rattle.std.specs.Borrow.{Bor, MutBor}
+use Rattle.std.specs.Fn.{Once}
 use Rattle.std.specs.List.{sum_by, list_all}
 use Rattle.std.specs.Option.{option_map}
 use Rattle.rand_core.specs.Stream.{Stream}
@@ -143,6 +145,16 @@ pub record GivesNote (was is : Values) : Type 0 where
 -- the bytes of the key's live value
 abbrev pub IsLive : Values → ℕ → List ℕ → Option (List ℕ) → Type 0
 IsLive v now key bytes = (held : List HeldValue) → v.Stands held → bytes ≡ option_map (λ value. value.bytes) (live_at v.frame.config now held key)
+
+-- a call was handed the bytes of the key's live value, if there is one, and what was behind a `&mut`; it answered, and left that there
+pub record ReadsLive {F O R : Type 0} (read : Once F (Option (Bor (List ℕ)) × (MutBor O × Unit {0})) (R × (MutBor O × Unit {0}))) (f : F) (v : Values) (now : ℕ) (key : List ℕ) (old : O) (answer : R) (new : O) : Type 0 where
+  pub found : Option (Bor (List ℕ))
+  pub live : IsLive v now key (option_map (λ (b : Bor (List ℕ)). b.now) found)
+  pub shown : MutBor O
+  pub shows : shown.now ≡ old
+  pub left : MutBor O
+  pub met : read.post f (found, (shown, tt)) (answer, (left, tt))
+  pub leaves : left.now ≡ new
 
 -- the live keys
 abbrev pub AreLive : Values → ℕ → (List (List ℕ) → Type 0) → Type 0

@@ -7,7 +7,7 @@ ghost use Rattle.audit_model.specs.Bytewise.{text_line};
 ghost use Rattle.audit_model.specs.Commands.{Everything, Prefixed};
 ghost use Rattle.cache_store.specs.Handing.{TakesFirstNote};
 ghost use Rattle.cache_store.specs.Promises.{using, deleting, covering, syncing};
-ghost use Rattle.cache_store.specs.Values.{Values, IsMoment, IsAcceptable, IsSpent, IsSoundStore, Does, AcceptsValue, LacksIdentifiers, IsSettled, GivesNote, IsLive, AreLive};
+ghost use Rattle.cache_store.specs.Values.{Values, IsMoment, IsAcceptable, IsSpent, IsSoundStore, Does, AcceptsValue, LacksIdentifiers, IsSettled, GivesNote, IsLive, AreLive, ReadsLive};
 
 use crate::error::StoreError;
 use audit_model::{Config, Key, Note};
@@ -58,10 +58,20 @@ pub trait Store: Drop {
         ensures written { OnOk result (AreLive (view self.now) now (λ keys. output.new.items ≡ output.old.items ++ concat (map text_line keys))) }
         ensures unwritten { OnErr result (output.new.items ≡ output.old.items) };
 
-    /// Uses a key's live value, if there is one. With a `peek` at the same moment before it this is a look-up.
-    fn touch(&mut self, key: &Key, now: u64)
-        requires { IsMoment (view self.old) now }
-        ensures { Does now (using key.now) (view self.old) (view self.new) };
+    /// Looks a key up: `read` is handed the bytes of its live value, if there is one, and what is behind `output`. Where it answers `Ok` this
+    /// is a use of the value.
+    fn look_up<T, E, F: FnOnce(Option<&[u8]>, &mut Vec<u8>) -> Result<T, E> + Drop>(
+        &mut self,
+        key: &Key,
+        now: u64,
+        output: &mut Vec<u8>,
+        read: F,
+    ) -> Result<T, E>
+        requires in_time { IsMoment (view self.old) now }
+        requires callable { F.IsAlwaysCallable read }
+        ensures reads { ReadsLive F.FnOnce read (view self.old) now key.now output.old result output.new }
+        ensures does { OnOk result (Does now (using key.now) (view self.old) (view self.new)) }
+        ensures unchanged { OnErr result (self.new ≡ self.old) };
 
     /// Accepts a value that lives for that many milliseconds, and answers its part. `looked_up` says whether the same step is a look-up of
     /// the key too.

@@ -1,6 +1,6 @@
 //! What each command answers and tells, and when values end.
 use crate::playing::first_wrong;
-use crate::rows::{FIRST, PLAIN, Row};
+use crate::rows::{FIRST, OWN, PLAIN, Row};
 use audit_model::{Config, RemovalCause, Weight};
 
 /// Values weigh their bytes.
@@ -130,11 +130,6 @@ const LIVE_VALUES_END: &[Row<'static>] = &[
     Row::Tells(RemovalCause::Expired, b"a", b"1"),
     Row::TellsNone,
 ];
-
-const OWN: Config = Config {
-    own_deadlines: true,
-    ..PLAIN
-};
 
 const OWN_DEADLINES_END_VALUES: &[Row<'static>] = &[
     Row::Opens(FIRST),

@@ -66,11 +66,12 @@ fn is_given(outcome: &Outcome, given: Given<'_>) -> bool {
     }
 }
 
-/// Whether an input that was handed back is the one of what was asked, where that is an outcome or a give-up.
+/// Whether an input that was handed back is the one of what was asked, where that is a piece, an outcome or a give-up.
 pub fn is_back(input: &Input, asked: Asked<'_>) -> bool {
     match (input, asked) {
         (Input::Answer { outcome, .. }, Asked::Answers(_, given)) => is_given(outcome, given),
         (Input::GiveUp { load, .. }, Asked::GivesUp(wanted)) => *load == wanted,
+        (Input::Feed { piece, .. }, Asked::Feeds(_, wanted)) => piece.as_slice() == wanted,
         _ => true,
     }
 }
@@ -80,6 +81,7 @@ fn asked_of<'a>(row: Row<'a>) -> Option<Asked<'a>> {
     match row {
         Row::Opens(conn) => Some(Asked::Opens(conn.namespace)),
         Row::Says(conn, piece, _) => Some(Asked::Feeds(conn, piece)),
+        Row::Holds(conn, piece) => Some(Asked::Feeds(conn, piece)),
         Row::Does(asked) => Some(asked),
         Row::Refuses(asked, _) => Some(asked),
         _ => None,

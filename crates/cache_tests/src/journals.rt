@@ -2,7 +2,7 @@
 use crate::inputs::inputs_of;
 use crate::playing::{generator, new_recorded, play_on};
 use crate::rows::{Asked, Case, ELSEWHERE, FIRST, FIRST_LOAD, Given, LATE, PLAIN, Row, SECOND};
-use audit_model::{Bytes, Input, Instant, Record, ServiceError, Step, Transcript};
+use audit_model::{Bytes, Event, Input, Instant, Record, ServiceError, Step, Transcript};
 use cache_spaces::{RecordedService, play};
 use std::alloc::Global;
 
@@ -12,10 +12,13 @@ type Done<'a> = (u64, &'a [u8], &'a [u8], usize);
 /// The steps of each record of a journal.
 type Records<'a> = &'a [&'a [Done<'a>]];
 
+/// The moment up to which a journal comes, and its records.
+type Wanted<'a> = (u64, Records<'a>);
+
 /// What is asked, and the journal of each namespace.
 struct Kept<'a> {
     case: Case<'a>,
-    journals: &'a [Records<'a>],
+    journals: &'a [Wanted<'a>],
 }
 
 /// Whether these are the bytes.
@@ -44,24 +47,44 @@ fn are_done(record: &Record, done: &[Done<'_>]) -> bool {
             .all(|(step, done)| is_done(step, *done))
 }
 
-/// Whether a journal begins at that moment, and its records' steps came to these.
-fn is_journal(journal: &Transcript, made: u64, records: Records<'_>) -> bool {
+/// A record's moment, which is 0 where its event has none.
+fn moment_of(record: &Record) -> u64 {
+    match &record.event {
+        Event::Feed { moment, .. } => moment.nanos,
+        Event::Answer { moment, .. } => moment.nanos,
+        Event::GiveUp { moment, .. } => moment.nanos,
+        _ => 0,
+    }
+}
+
+/// The greatest of the moment at which a journal begins and those of its records.
+fn latest_of(journal: &Transcript) -> u64 {
+    let mut latest = journal.made.nanos;
+    for record in journal.records.as_slice() {
+        latest = latest.max(moment_of(record));
+    }
+    latest
+}
+
+/// Whether a journal begins at one moment and comes up to the other, and its records' steps came to these.
+fn is_journal(journal: &Transcript, made: u64, wanted: Wanted<'_>) -> bool {
     journal.made.nanos == made
-        && journal.records.len() == records.len()
+        && latest_of(journal) == wanted.0
+        && journal.records.len() == wanted.1.len()
         && journal
             .records
             .as_slice()
             .iter()
-            .zip(records)
+            .zip(wanted.1)
             .all(|(record, done)| are_done(record, done))
 }
 
 fn are_journals(journals: &[Transcript], kept: &Kept<'_>) -> bool {
     journals.len() == kept.journals.len()
-        && journals.iter().zip(kept.journals).all(|(journal, records)| is_journal(
+        && journals.iter().zip(kept.journals).all(|(journal, wanted)| is_journal(
             journal,
             kept.case.made,
-            records,
+            *wanted,
         ))
 }
 
@@ -70,18 +93,18 @@ fn has_journal(
     recorded: &RecordedService,
     namespace: usize,
     made: u64,
-    records: Records<'_>,
+    wanted: Wanted<'_>,
 ) -> bool {
     match recorded.journal(namespace as u64) {
-        Ok(journal) => is_journal(journal, made, records),
+        Ok(journal) => is_journal(journal, made, wanted),
         Err(_) => false,
     }
 }
 
 /// Whether each namespace has its journal.
 fn has_journals(recorded: &RecordedService, kept: &Kept<'_>) -> bool {
-    for (namespace, records) in kept.journals.iter().enumerate() {
-        if !has_journal(recorded, namespace, kept.case.made, records) {
+    for (namespace, wanted) in kept.journals.iter().enumerate() {
+        if !has_journal(recorded, namespace, kept.case.made, *wanted) {
             return false;
         }
     }
@@ -166,12 +189,15 @@ const KEPT: &[Kept<'static>] = &[
             ],
         },
         journals: &[
-            &[
-                &[],
-                &[(1, b"SET a - 1", b"OK\n", 0)],
-                &[(1, b"GET a", b"VAL 1\n", 0)],
-            ],
-            &[&[], &[(1, b"GET a", b"NONE\n", 0)], &[]],
+            (
+                5,
+                &[
+                    &[],
+                    &[(1, b"SET a - 1", b"OK\n", 0)],
+                    &[(1, b"GET a", b"VAL 1\n", 0)],
+                ],
+            ),
+            (3, &[&[], &[(1, b"GET a", b"NONE\n", 0)], &[]]),
         ],
     },
     // Inputs for what is not open, of a namespace that is none, at a moment that is none, and of loads that are not under way are left out.
@@ -198,12 +224,15 @@ const KEPT: &[Kept<'static>] = &[
                 Row::Refuses(Asked::Feeds(FIRST, b"GET a\n"), ServiceError::Closed),
             ],
         },
-        journals: &[&[
-            &[],
-            &[(1, b"SET a - 1", b"OK\n", 0)],
-            &[(1, b"GET a", b"VAL 1\n", 0), (1, b"SET a - 2", b"OK\n", 1)],
-            &[],
-        ]],
+        journals: &[(
+            7,
+            &[
+                &[],
+                &[(1, b"SET a - 1", b"OK\n", 0)],
+                &[(1, b"GET a", b"VAL 1\n", 0), (1, b"SET a - 2", b"OK\n", 1)],
+                &[],
+            ],
+        )],
     },
     // Who waits for a load is answered in order.
     Kept {
@@ -218,13 +247,16 @@ const KEPT: &[Kept<'static>] = &[
                 Row::Does(Asked::Answers(FIRST_LOAD, Given::Value(b"v", None))),
             ],
         },
-        journals: &[&[
-            &[],
-            &[],
-            &[(1, b"LOAD k", b"", 0)],
-            &[(2, b"LOAD k", b"", 0)],
-            &[(1, b"LOAD k", b"VAL v\n", 0), (2, b"LOAD k", b"VAL v\n", 0)],
-        ]],
+        journals: &[(
+            0,
+            &[
+                &[],
+                &[],
+                &[(1, b"LOAD k", b"", 0)],
+                &[(2, b"LOAD k", b"", 0)],
+                &[(1, b"LOAD k", b"VAL v\n", 0), (2, b"LOAD k", b"VAL v\n", 0)],
+            ],
+        )],
     },
     // A refused input leaves no record.
     Kept {
@@ -236,7 +268,7 @@ const KEPT: &[Kept<'static>] = &[
                 Row::LoadsOpen(0, 0),
             ],
         },
-        journals: &[&[]],
+        journals: &[(0, &[])],
     },
 ];
 

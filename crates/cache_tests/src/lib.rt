@@ -28,4 +28,6 @@ mod serving;
 #[cfg(test)]
 mod stores;
 #[cfg(test)]
+mod texts;
+#[cfg(test)]
 mod uses;

@@ -157,6 +157,19 @@ const OUTCOMES_THAT_ARE_REFUSED: &[Row<'static>] = &[
     Row::Closed(FIRST, Some(Closing::Quit)),
 ];
 
+const BYTES: Config = Config {
+    weight: Weight::Bytes,
+    ..PLAIN
+};
+
+const THE_LONGEST_OUTCOME: &[Row<'static>] = &[
+    Row::Opens(FIRST),
+    Row::Says(FIRST, b"LOAD k\n", b""),
+    Row::Does(Asked::Answers(FIRST_LOAD, Given::Long(8192))),
+    Row::OutputLong(FIRST, 8192),
+    Row::Says(FIRST, b"SYNC\n", b"SYNC 1 8192\n"),
+];
+
 const THE_200TH: LoadId = LoadId {
     namespace: 0,
     number: 200,
@@ -248,6 +261,36 @@ const A_CLOSED_CONNECTION_LEAVES_ITS_LOAD: &[Row<'static>] = &[
     Row::Sends(0, &[(FIRST_LOAD, b"k"), (SECOND_LOAD, b"k")]),
 ];
 
+const LOADS_SETTLE_IN_ANY_ORDER: &[Row<'static>] = &[
+    Row::Opens(FIRST),
+    Row::Opens(SECOND),
+    Row::Opens(THIRD),
+    Row::Says(FIRST, b"LOAD a\n", b""),
+    Row::Says(SECOND, b"LOAD b\n", b""),
+    Row::Says(THIRD, b"LOAD c\n", b""),
+    Row::Does(Asked::Closes(SECOND)),
+    Row::LoadsOpen(0, 3),
+    Row::Does(Asked::Answers(SECOND_LOAD, Given::Nothing)),
+    Row::LoadsOpen(0, 2),
+    Row::Does(Asked::Answers(THIRD_LOAD, Given::Value(b"w", None))),
+    Row::Output(THIRD, b"VAL w\n"),
+    Row::Says(THIRD, b"LOAD a\n", b""),
+    Row::Does(VALUE),
+    Row::Output(FIRST, b"VAL v\n"),
+    Row::Output(THIRD, b"VAL v\n"),
+    Row::Says(FIRST, b"LOAD b\n", b""),
+    Row::LoadsOpen(0, 1),
+    Row::Sends(
+        0,
+        &[
+            (FIRST_LOAD, b"a"),
+            (SECOND_LOAD, b"b"),
+            (THIRD_LOAD, b"c"),
+            (FOURTH_LOAD, b"b"),
+        ],
+    ),
+];
+
 const AN_ANSWER_REPLACES: &[Row<'static>] = &[
     Row::Opens(FIRST),
     Row::Opens(SECOND),
@@ -319,9 +362,11 @@ const TABLES: &[(Config, &[Row<'static>])] = &[
     (PLAIN, EACH_IS_TOLD_AND_READS_ON),
     (OFF, NOTHING_IS_KEPT),
     (PLAIN, OUTCOMES_THAT_ARE_REFUSED),
+    (BYTES, THE_LONGEST_OUTCOME),
     (PLAIN, BYTES_BEHIND_A_LOAD),
     (PLAIN, A_LOAD_OUTLIVES_ITS_CONNECTION),
     (PLAIN, A_CLOSED_CONNECTION_LEAVES_ITS_LOAD),
+    (PLAIN, LOADS_SETTLE_IN_ANY_ORDER),
     (PLAIN, AN_ANSWER_REPLACES),
     (PLAIN, A_GIVEN_UP_LOAD_WAITS_FOR_THE_NEXT),
     (PLAIN, CLOSED_ONES_LEAVE_OTHERS_ALONE),

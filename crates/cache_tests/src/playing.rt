@@ -119,6 +119,23 @@ fn is_output<S: Played>(stage: &mut Stage<S>, conn: Conn, wanted: &[u8]) -> bool
     }
 }
 
+/// Whether a reply is a value of so many bytes.
+fn is_long_value(reply: &[u8], length: usize) -> bool {
+    match reply {
+        [b'V', b'A', b'L', b' ', value @ .., b'\n'] => {
+            value.len() == length && value.iter().all(|byte| *byte == b'x')
+        }
+        _ => false,
+    }
+}
+
+fn is_long_output<S: Played>(stage: &mut Stage<S>, conn: Conn, length: usize) -> bool {
+    match stage.service.take_output(conn) {
+        Ok(output) => is_long_value(output.as_slice(), length),
+        Err(_) => false,
+    }
+}
+
 /// Whether so many loads are under way, and neither of the first two connections was replied.
 fn is_untold<S: Played>(stage: &mut Stage<S>, open: Result<u64, ServiceError>) -> bool {
     stage.service.loads_open(0) == open
@@ -157,13 +174,13 @@ fn take_again<S: Played>(
     }
 }
 
-/// Takes an input, again where memory is refused.
+/// Takes an input, again where memory is refused, also for a line that is held back.
 fn take<S: Played>(stage: &mut Stage<S>, input: Input) -> Result<Output, Refusal> {
     let open = stage.service.loads_open(0);
     match stage.service.step(input) {
         Err(
             Refusal {
-                error: ServiceError::OutOfMemory,
+                error: ServiceError::OutOfMemory | ServiceError::HeldAgain,
                 input,
             },
         ) => take_again(stage, input, open),
@@ -216,6 +233,14 @@ fn does<S: Played>(stage: &mut Stage<S>, asked: Asked<'_>) -> bool {
 /// Feeds a piece, and answers whether the connection is replied so.
 fn says<S: Played>(stage: &mut Stage<S>, conn: Conn, piece: &[u8], replies: &[u8]) -> bool {
     does(stage, Asked::Feeds(conn, piece)) && is_output(stage, conn, replies)
+}
+
+/// Whether a line of a piece is held back.
+fn holds<S: Played>(stage: &mut Stage<S>, conn: Conn, piece: &[u8]) -> bool {
+    match input_of(stage.alloc, Asked::Feeds(conn, piece), stage.now) {
+        Ok(input) => came(take(stage, input), Output::Held),
+        Err(_) => false,
+    }
 }
 
 /// Whether an input was refused for that cause, and handed back.
@@ -319,6 +344,7 @@ fn is_no_namespace<S: Played>(stage: &mut Stage<S>, namespace: u64) -> bool {
 fn is_so<S: Played>(stage: &mut Stage<S>, row: Row<'_>) -> bool {
     match row {
         Row::Output(conn, wanted) => is_output(stage, conn, wanted),
+        Row::OutputLong(conn, length) => is_long_output(stage, conn, length),
         Row::Tells(cause, key, value) => tells(stage, Some((cause, key, value))),
         Row::TellsNone => tells(stage, None),
         Row::Sends(namespace, wanted) => sends(stage, namespace, wanted),
@@ -337,6 +363,7 @@ fn comes_so<S: Played>(stage: &mut Stage<S>, row: Row<'_>) -> bool {
         Row::At(nanos) => stage.now.nanos == nanos,
         Row::Opens(conn) => opens(stage, conn),
         Row::Says(conn, piece, replies) => says(stage, conn, piece, replies),
+        Row::Holds(conn, piece) => holds(stage, conn, piece),
         Row::Does(asked) => does(stage, asked),
         Row::Refuses(asked, wanted) => refuses(stage, asked, wanted),
         Row::GivesUpEach(first, end) => gives_up_each(stage, first, end),

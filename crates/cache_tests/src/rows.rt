@@ -14,6 +14,12 @@ pub const PLAIN: Config = Config {
     own_deadlines: false,
 };
 
+/// With own deadlines.
+pub const OWN: Config = Config {
+    own_deadlines: true,
+    ..PLAIN
+};
+
 /// A moment that no service takes, in nanoseconds.
 pub const LATE: u64 = 1 << 63;
 
@@ -85,12 +91,16 @@ pub enum Row<'a> {
     Opens(Conn),
     /// A piece of which all lines run, and what the connection is replied till then.
     Says(Conn, &'a [u8], &'a [u8]),
+    /// A piece of which a line is held back for want of memory.
+    Holds(Conn, &'a [u8]),
     /// Another input that is taken; no line of it is held back.
     Does(Asked<'a>),
     /// An input that is refused, and handed back.
     Refuses(Asked<'a>, ServiceError),
     /// What the connection is replied till then.
     Output(Conn, &'a [u8]),
+    /// The same, where that is a value of so many bytes.
+    OutputLong(Conn, usize),
     /// The next notice of the first namespace: its cause, key and value.
     Tells(RemovalCause, &'a [u8], &'a [u8]),
     /// No notice of the first namespace is left.

@@ -1,6 +1,6 @@
 //! What lines are replied, whatever the cuts of their bytes.
 use crate::playing::first_wrong;
-use crate::rows::{Asked, FIRST, PLAIN, Row, SECOND};
+use crate::rows::{Asked, FIRST, OWN, PLAIN, Row, SECOND};
 use audit_model::{Closing, Config, RemovalCause, ServiceError};
 
 const THE_FIRST_RUN: &[Row<'static>] = &[
@@ -70,6 +70,45 @@ const FAULTS_BY_THEIR_ORDER: &[Row<'static>] = &[
     ),
 ];
 
+const THE_LONGEST_KEY: &[Row<'static>] = &[
+    Row::Opens(FIRST),
+    Row::Does(Asked::Feeds(FIRST, b"GET ")),
+    Row::Does(Asked::Fills(FIRST, 250)),
+    Row::Says(FIRST, b"\n", b"NONE\n"),
+    Row::Does(Asked::Feeds(FIRST, b"GET ")),
+    Row::Does(Asked::Fills(FIRST, 251)),
+    Row::Says(FIRST, b"\n", b"ERR syntax\n"),
+];
+
+const DEADLINES_AND_NUMBERS_THAT_ARE_TOO_LONG: &[Row<'static>] = &[
+    Row::Opens(FIRST),
+    Row::Says(FIRST, b"SET a 1000000000000 x\n", b"ERR deadline\n"),
+    Row::Says(FIRST, b"ADD n - 18446744073709551616\n", b"ERR number\n"),
+    Row::Says(FIRST, b"ADD n - 000000000000000000001\n", b"ERR number\n"),
+    Row::Says(FIRST, b"SET a 00 x\nGET a\n", b"OK\nNONE\n"),
+];
+
+const ENDS_OF_LINES: &[Row<'static>] = &[
+    Row::Opens(FIRST),
+    Row::Says(FIRST, b"SET a - x\r\r\n", b"ERR syntax\n"),
+    Row::Says(FIRST, b"SET a - x\r\nGET a\n", b"OK\nVAL x\n"),
+    Row::Says(FIRST, b"QUIT x\nCLEAR \n", b"ERR syntax\nERR syntax\n"),
+    Row::Closed(FIRST, None),
+];
+
+// `SET a - ` and the value are the whole line
+const THE_LONGEST_VALUE: &[Row<'static>] = &[
+    Row::Opens(FIRST),
+    Row::Does(Asked::Feeds(FIRST, b"SET a - ")),
+    Row::Does(Asked::Fills(FIRST, 8184)),
+    Row::Says(FIRST, b"\n", b"OK\n"),
+    Row::Does(Asked::Feeds(FIRST, b"GET a\nSET a - ")),
+    Row::OutputLong(FIRST, 8184),
+    Row::Does(Asked::Fills(FIRST, 8185)),
+    Row::Output(FIRST, b""),
+    Row::Closed(FIRST, Some(Closing::Long)),
+];
+
 const THE_LONGEST_LINE: &[Row<'static>] = &[
     Row::Opens(FIRST),
     Row::Does(Asked::Fills(FIRST, 8192)),
@@ -116,6 +155,10 @@ const TABLES: &[(Config, &[Row<'static>])] = &[
     (PLAIN, LINES_IN_PIECES),
     (PLAIN, ONE_CARRIAGE_RETURN_GOES),
     (PLAIN, FAULTS_BY_THEIR_ORDER),
+    (OWN, THE_LONGEST_KEY),
+    (OWN, DEADLINES_AND_NUMBERS_THAT_ARE_TOO_LONG),
+    (OWN, ENDS_OF_LINES),
+    (OWN, THE_LONGEST_VALUE),
     (PLAIN, THE_LONGEST_LINE),
     (PLAIN, LINES_BEFORE_ONE_TOO_LONG_ARE_REPLIED),
     (PLAIN, CONNECTIONS_SHARE_VALUES_AND_NOT_REPLIES),

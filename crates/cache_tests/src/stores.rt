@@ -4,6 +4,7 @@ ghost use Rattle.cache_parts.specs.Parts.{IsBrief};
 
 mod generators;
 mod keeping;
+mod lacking;
 mod lengths;
 mod parts;
 mod repeating;
@@ -11,7 +12,9 @@ mod turning;
 
 use crate::playing::{Played, play_on};
 use crate::rows::{Case, Row};
-use audit_model::{Bytes, Closing, Config, Conn, Input, Instant, LoadId, Note, ServiceError};
+use audit_model::{
+    Bytes, Closing, Config, Conn, Input, Instant, LoadId, Note, Outcome, ServiceError,
+};
 use cache_core::Namespace;
 use cache_front::FrontStore;
 use cache_lines::Bare;
@@ -59,12 +62,31 @@ fn feed<S: Store>(
     }
 }
 
+fn answer<S: Store>(
+    inner: &mut Namespace<S, Bare>,
+    load: LoadId,
+    outcome: Outcome,
+    moment: Instant,
+) -> Result<Output, Refusal> {
+    match inner.answer(load.number, outcome, moment) {
+        Ok(()) => Ok(Output::Done),
+        Err((error, outcome)) => Err(Refusal {
+            error,
+            input: Input::Answer {
+                load,
+                outcome,
+                moment,
+            },
+        }),
+    }
+}
+
 impl<S: Store> Played for Over<S> {
     fn keeps(&self) -> bool {
         false
     }
 
-    /// Openings and pieces; no row asks more.
+    /// Openings, pieces and answers; no row asks more.
     fn step(&mut self, input: Input) -> Result<Output, Refusal> {
         match input {
             Input::Open { namespace } => open(&mut self.inner, namespace),
@@ -73,6 +95,11 @@ impl<S: Store> Played for Over<S> {
                 piece,
                 moment,
             } => feed(&mut self.inner, conn, piece, moment),
+            Input::Answer {
+                load,
+                outcome,
+                moment,
+            } => answer(&mut self.inner, load, outcome, moment),
             input => Err(Refusal {
                 error: ServiceError::NoLoad,
                 input,

@@ -3,3 +3,4 @@ pub mod Eaches
 pub mod Found
 pub mod Turned
 pub mod Newness
+pub mod Shown

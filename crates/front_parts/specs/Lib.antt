@@ -3,3 +3,4 @@ pub mod Access
 pub mod Wholes
 pub mod Places
 pub mod Looking
+pub use Rattle.moka_engine.specs.Showing

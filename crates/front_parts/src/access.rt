@@ -1,4 +1,4 @@
-//! Selectors of an entry, over whatever gives access to a cache.
+//! Selectors of an entry, over anything that gives access to a cache.
 mod access;
 mod entry;
 mod made;

@@ -19,7 +19,8 @@ use policy_base::Instant;
 use std::alloc::AllocError;
 use std::hash::{BuildHasher, Hash, Hasher};
 
-/// A clone of the visible value of a key, unless `replace_if` says yes of it; then it is passed over, which the first of the two answers. No other value is asked about. It is no use of it.
+/// Returns a clone of the visible value of a key, unless `replace_if` returns true for it; then it is passed over, which the first of the
+/// two results says. `replace_if` is called on no other value. This does not count as a use.
 pub fn look<
     K: Eq + Hash,
     V: Clone,
@@ -53,7 +54,7 @@ pub fn look<
     }
 }
 
-/// Notes a look-up, and inserts a value after it, for which all room is made before.
+/// Notes a look-up, and inserts a value after it. All room for both is made before.
 pub(crate) fn note_and_insert<K: Eq + Hash + Drop, V: Drop, S: BuildHasher, R: Rules<K, V>>(
     part: &mut BaseCache<K, V, S, R>,
     key: K,
@@ -88,7 +89,7 @@ pub(crate) fn note<K: Eq + Hash + Drop, V: Drop, S: BuildHasher, R: Rules<K, V>,
     part.note_look_up(key, hash, at.now, ignored);
 }
 
-/// Notes a look-up that found nothing, and inserts what was made for its key, if that is a value. Answers what was made.
+/// Notes a look-up that found nothing, and inserts what was made for its key, if that is a value. Returns what was made.
 fn settle<
     K: Eq + Hash + Drop,
     V: Clone + Drop,
@@ -131,8 +132,9 @@ fn settle<
     }
 }
 
-/// The visible value of a key, of which it is a use, and false; or what `make` makes, and true: a value is then inserted. A visible value of which `replace_if` says yes counts as none.
-/// Closures run before anything changes, and the key is made only where a value is inserted. `make` may be refused for memory, and then so is the call.
+/// Returns the visible value of a key, which counts as a use of it, and false; or else what `make` makes, and true: a value is then
+/// inserted. A visible value for which `replace_if` returns true counts as none.
+/// Closures run before anything changes, and the key is made only if a value is inserted. If `make` fails to allocate, the call is refused.
 pub fn coalesce<
     K: Eq + Hash + Drop,
     V: Clone + Drop,

@@ -19,7 +19,7 @@ use front_reference::{At, CacheError, Computed, IntoKey, Op};
 use moka_engine::BaseCache;
 use std::hash::{BuildHasher, Hash, Hasher};
 
-/// Notes a look-up, and removes the key after it, for which all room is made before. Answers the value that is held then.
+/// Notes a look-up, and removes the key after it. All room for both is made before. Returns the value that is held then.
 fn note_and_remove<
     K: Eq + Hash + Clone + Drop,
     V: Clone + Drop,
@@ -45,7 +45,8 @@ fn note_and_remove<
     }
 }
 
-/// Notes a look-up, and does what a closure decided after it, for which all room is made before. `was_seen` says whether a value was visible.
+/// Notes a look-up, and does what a closure decided after it. All room for both is made before. `was_seen` says whether a value was
+/// visible.
 fn operate<
     K: Eq + Hash + Clone + Drop,
     V: Clone + Drop,
@@ -88,7 +89,7 @@ fn operate<
     }
 }
 
-/// What is answered where nothing was to be done.
+/// The result if nothing was to be done.
 pub fn shown_unchanged<V>(seen: Option<V>) -> Computed<V>
     ensures shown { (held : Option V) → result ≡ computed_as op.Nop seen held }
     ensures fits { IsOutcomeOf op.Nop result }
@@ -99,7 +100,7 @@ pub fn shown_unchanged<V>(seen: Option<V>) -> Computed<V>
     }
 }
 
-/// What is answered where a value was put.
+/// The result if a value was put.
 pub fn shown_put<V>(value: V, was_seen: bool) -> Computed<V>
     ensures shown { (seen held : Option V) → was_seen ≡ is_some seen → result ≡ computed_as (op.Put value) seen held }
     ensures fits { IsOutcomeOf (op.Put value) result }
@@ -111,7 +112,7 @@ pub fn shown_put<V>(value: V, was_seen: bool) -> Computed<V>
     }
 }
 
-/// What is answered where the key was removed.
+/// The result if the key was removed.
 pub fn shown_removed<V>(removed: Option<V>) -> Computed<V>
     ensures shown { (seen : Option V) → result ≡ computed_as op.Remove seen removed }
     ensures fits { IsOutcomeOf op.Remove result }
@@ -122,8 +123,9 @@ pub fn shown_removed<V>(removed: Option<V>) -> Computed<V>
     }
 }
 
-/// Lets a closure decide by the visible value of a key what is to be done with it, and does so after the look-up's read. Where the closure fails nothing is done but that read, and its error is answered.
-/// The closure runs before anything changes, and the key is made only where a value is put.
+/// Calls a closure with the visible value of a key, and does what it decides, after the look-up's read is noted. If the closure fails, its
+/// error is returned, and only that read is noted.
+/// The closure runs before anything changes, and the key is made only if a value is put.
 pub fn compute<
     K: Eq + Hash + Clone + Drop,
     V: Clone + Drop,

@@ -1,4 +1,4 @@
-//! The calls of the front on one part. Each sends the ticket of its write, and lets maintenance run where it is due.
+//! The calls of the front on one part. Each sends the ticket of its write, and runs maintenance if it is due.
 #![tactic(auto)]
 
 pub mod access;
@@ -23,9 +23,9 @@ pub use part::{
 };
 pub use places::{
     clear_all, coalesce_at, compute_at, contains_key_at, count_visible, find_turn, for_part,
-    get_at, hash_key, insert_at, insert_or_back_at, invalidate_at, keys_at, look_at, make_turn,
-    new_parts, note_at, peek_at, place_of, place_of_turn, remove_at, run_all, scan_at, sum_numbers,
-    sum_weights,
+    get_at, hash_key, insert_at, insert_or_back_at, invalidate_at, is_table_refused, keys_at,
+    look_at, look_up_at, make_turn, new_parts, note_at, peek_at, place_of, place_of_turn,
+    remove_at, run_all, scan_at, sum_numbers, sum_weights,
 };
 pub use removals::{invalidate, remove};
 pub use wholes::{clone_each, cover_all, next_notice, write_id};

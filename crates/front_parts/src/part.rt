@@ -15,7 +15,7 @@ use policy_base::Instant;
 use std::alloc::AllocError;
 use std::hash::{BuildHasher, Hash, Hasher};
 
-/// Sends a ticket that waits, for which there is room.
+/// Sends a waiting ticket, for which the queue has room.
 pub(crate) fn send_now<K: Eq + Hash, V, S: BuildHasher, R: Rules<K, V>>(
     part: &mut BaseCache<K, V, S, R>,
     ticket: u64,
@@ -45,7 +45,7 @@ fn make_room<K: Eq + Hash, V, S: BuildHasher, R: Rules<K, V>>(
     }
 }
 
-/// Makes room for a value, unless none is taken, as the capacity is 0. `insert_reserved` takes it.
+/// Makes room for a value, unless the capacity is 0 and none is stored. `insert_reserved` uses the room.
 pub fn reserve_insert<K: Eq + Hash, V, S: BuildHasher, R: Rules<K, V>>(
     part: &mut BaseCache<K, V, S, R>,
 ) -> Result<(), CacheError>
@@ -60,7 +60,7 @@ pub fn reserve_insert<K: Eq + Hash, V, S: BuildHasher, R: Rules<K, V>>(
     }
 }
 
-/// Writes a value for which room was made, and sends its write.
+/// Writes a value in room that was made for it, and sends its write.
 fn put_reserved<K: Eq + Hash + Drop, V: Drop, S: BuildHasher, R: Rules<K, V>>(
     part: &mut BaseCache<K, V, S, R>,
     key: K,
@@ -78,7 +78,7 @@ fn put_reserved<K: Eq + Hash + Drop, V: Drop, S: BuildHasher, R: Rules<K, V>>(
     send_now(part, ticket);
 }
 
-/// Inserts a value in the room that `reserve_insert` made. It is not refused.
+/// Inserts a value in the room that `reserve_insert` made. It is never refused.
 pub fn insert_reserved<K: Eq + Hash + Drop, V: Drop, S: BuildHasher, R: Rules<K, V>>(
     part: &mut BaseCache<K, V, S, R>,
     key: K,
@@ -98,7 +98,7 @@ pub fn insert_reserved<K: Eq + Hash + Drop, V: Drop, S: BuildHasher, R: Rules<K,
     }
 }
 
-/// Inserts a value. A part of capacity 0 takes none, and nothing happens.
+/// Inserts a value. A part of capacity 0 stores none, and nothing happens.
 pub fn insert<K: Eq + Hash + Drop, V: Drop, S: BuildHasher, R: Rules<K, V>>(
     part: &mut BaseCache<K, V, S, R>,
     key: K,
@@ -117,7 +117,7 @@ pub fn insert<K: Eq + Hash + Drop, V: Drop, S: BuildHasher, R: Rules<K, V>>(
     Ok(())
 }
 
-/// Inserts a value, which is handed back where it is refused. A part of capacity 0 takes none, and nothing happens.
+/// Inserts a value, which is returned if it is refused. A part of capacity 0 stores none, and nothing happens.
 pub fn insert_or_back<K: Eq + Hash + Drop, V: Drop, S: BuildHasher, R: Rules<K, V>>(
     part: &mut BaseCache<K, V, S, R>,
     key: K,
@@ -141,7 +141,7 @@ pub fn insert_or_back<K: Eq + Hash + Drop, V: Drop, S: BuildHasher, R: Rules<K, 
     }
 }
 
-/// A clone of the visible value of a key, of which it is a use.
+/// Returns a clone of the visible value of a key, which counts as a use of it.
 pub fn get<K: Eq + Hash + Drop, V: Clone + Drop, S: BuildHasher, R: Rules<K, V>, Q: Names<K>>(
     part: &mut BaseCache<K, V, S, R>,
     key: &Q,
@@ -157,7 +157,7 @@ pub fn get<K: Eq + Hash + Drop, V: Clone + Drop, S: BuildHasher, R: Rules<K, V>,
     part.get_with_hash(key, hash, now)
 }
 
-/// Whether a key has a visible value. It is no use of it.
+/// Returns whether a key has a visible value. This does not count as a use of it.
 pub fn contains_key<K: Eq + Hash, V, S: BuildHasher, R: Rules<K, V>, Q: Names<K>>(
     part: &BaseCache<K, V, S, R>,
     key: &Q,

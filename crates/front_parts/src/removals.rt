@@ -16,7 +16,7 @@ use policy_base::Instant;
 use std::alloc::AllocError;
 use std::hash::{BuildHasher, Hash, Hasher};
 
-/// Makes room for the removal of a key, where it is held, and clones the key and value that are held.
+/// Makes room for the removal of a key, if it is held, and clones the key and value that are held.
 pub(crate) fn prepare<
     K: Eq + Hash + Clone + Drop,
     V: Clone + Drop,
@@ -39,7 +39,7 @@ pub(crate) fn prepare<
     }
 }
 
-/// The clone that a removal answers, where the value itself will be told.
+/// The clone that a removal returns if the value itself will be reported.
 pub(crate) fn clone_shown<K: Eq + Hash, V: Clone, S: BuildHasher, R: Rules<K, V>, Q: Names<K>>(
     part: &BaseCache<K, V, S, R>,
     key: &Q,
@@ -56,7 +56,7 @@ pub(crate) fn clone_shown<K: Eq + Hash, V: Clone, S: BuildHasher, R: Rules<K, V>
     }
 }
 
-/// Tells an entry that was removed, where removals are told, and answers its value.
+/// Reports an entry that was removed, if removals are reported, and returns its value.
 fn tell<K: Eq + Hash + Drop, V: Drop, S: BuildHasher, R: Rules<K, V>, Q: Names<K>>(
     part: &mut BaseCache<K, V, S, R>,
     key: &Q,
@@ -92,7 +92,7 @@ fn release<K: Eq + Hash, V, S: BuildHasher, R: Rules<K, V>>(part: &mut BaseCache
     part.release_room();
 }
 
-/// Takes a key out in the room that was made for it, and answers its value. Where it is not held any more the room is given up.
+/// Removes a key in the room that was made for it, and returns its value. If it is not held any more, the room is given up.
 pub(crate) fn take_out<K: Eq + Hash + Drop, V: Drop, S: BuildHasher, R: Rules<K, V>, Q: Names<K>>(
     part: &mut BaseCache<K, V, S, R>,
     key: &Q,
@@ -123,7 +123,7 @@ pub(crate) fn take_out<K: Eq + Hash + Drop, V: Drop, S: BuildHasher, R: Rules<K,
     }
 }
 
-/// Removes a key, whether its deadline has come or not, and answers its value.
+/// Removes a key, whether its deadline has come or not, and returns its value.
 pub fn remove<
     K: Eq + Hash + Clone + Drop,
     V: Clone + Drop,

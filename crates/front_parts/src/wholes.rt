@@ -1,4 +1,4 @@
-//! Calls on all parts of a cache at once: notices that are taken, predicates that are registered in all parts or in none.
+//! Calls on all parts of a cache at once: taking notices, and registering predicates in all parts or in none.
 mod clones;
 mod covering;
 mod notices;

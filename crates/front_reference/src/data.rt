@@ -1,31 +1,32 @@
-//! What the front is made of, and what its calls are asked and answer.
+//! The parts of the front's state, and the arguments and results of its calls.
 ghost use Rattle.std.specs.Prelude.{◌≡◌, true};
 ghost use Rattle.front_reference.specs.Fronts.{same_kind};
 
 use policy_base::Instant;
 
-/// When a call comes: its moment and its step. Neither falls from call to call. A call that covers what was written at earlier steps comes at a later step than those before it.
+/// The moment and the step of a call. Neither falls from call to call. A call that covers what was written at earlier steps needs a later
+/// step than those before it.
 #[derive(Clone, Copy, PartialEq, Eq)]
 pub struct At {
     pub now: Instant,
     pub step: u64,
 }
 
-/// Which kind of call a turn stands for.
+/// The kind of call that a turn stands for.
 #[derive(Clone, Copy, Debug, PartialEq, Eq)]
 pub enum TurnKind {
     /// A call that makes a value.
     With,
     /// A call that may make a value, or none.
     Optionally,
-    /// A call whose making may fail.
+    /// A call that makes a value, and may fail.
     Try,
-    /// A call that decides by the entry what is to be done.
+    /// A call that decides, by the entry, what is to be done.
     Compute,
 }
 
 impl TurnKind {
-    /// Whether it is this kind.
+    /// Returns whether it is this kind.
     pub fn is_same(self, other: TurnKind) -> bool
         ensures same { result ≡ true → self ≡ other }
         ensures value { result ≡ same_kind self other }
@@ -39,7 +40,7 @@ impl TurnKind {
     }
 }
 
-/// A turn that is under way: at most one of a kind and a key. Its number is one that no other turn has or had.
+/// A turn that is under way: at most one per kind and key. No other turn ever has the same number.
 #[derive(Drop)]
 pub struct OpenTurn<K> {
     pub number: u64,
@@ -48,12 +49,12 @@ pub struct OpenTurn<K> {
     pub hash: u64,
 }
 
-/// What the begin of a coalesced call answers.
+/// How a coalesced call begins.
 #[derive(Clone, Debug, PartialEq, Eq, Drop)]
 pub enum TurnStart<V> {
     /// The visible value.
     Found(V),
-    /// The turn of this number is under way, and is to be waited for.
+    /// The turn of this number is under way, and the caller has to wait for it.
     Wait(u64),
     /// The turn of this number began, and the caller leads it.
     Lead(u64),
@@ -70,7 +71,7 @@ pub enum Made<V, F> {
     Fault(F),
 }
 
-/// What a compute call is to do.
+/// What a compute call should do.
 #[derive(Clone, Debug, PartialEq, Eq, Drop)]
 pub enum Op<V> {
     /// Nothing.
@@ -84,14 +85,14 @@ pub enum Op<V> {
 /// What a compute call did.
 #[derive(Clone, Debug, PartialEq, Eq, Drop)]
 pub enum Computed<V> {
-    /// The value was put where none was visible.
+    /// A value was put, and none was visible before.
     Inserted(V),
-    /// The value was put in the place of a visible one.
+    /// A value was put, and replaced a visible one.
     ReplacedWith(V),
     /// The value was removed.
     Removed(V),
-    /// There was no value, and there is none.
+    /// There was no value, and there still is none.
     StillNone,
-    /// The visible value stays as it is.
+    /// The visible value was left as it is.
     Unchanged(V),
 }

@@ -1,4 +1,4 @@
-//! What several owners share: a key, a hasher, rules, a predicate, a value. Contracts see the value that is shared, and nothing of who shares it.
+//! Shared keys, hashers, rules, predicates and values. Contracts see the value that is shared, and not who shares it.
 mod into_key;
 mod lent;
 mod rules;

@@ -1,12 +1,12 @@
 //! Laws of the reference front: what its calls keep of each part. Each function does nothing: its contract is the law.
 ghost use Rattle.front_reference.specs.Laws.Laws.{CallsKeep, CallsStayClose, CoalescesKeep, ComputesKeep, RunsLeaveNoneIdle};
 
-/// Each call of the front keeps of its part what the laws of the reference cache ask for; fewer than 64 writes are unapplied after it.
+/// Each call of the front keeps of its part what the laws of the reference cache require; fewer than 64 writes are unapplied after it.
 pub fn calls_keep<K, V, P, S, R>()
     ensures { CallsKeep K V P S R }
 {}
 
-/// A coalesced call keeps it too, whatever its closures answer.
+/// A coalesced call keeps it too, whatever its closures return.
 pub fn coalesces_keep<K, V, P, S, R, F>()
     ensures { CoalescesKeep K V P S R F }
 {}
@@ -21,7 +21,8 @@ pub fn calls_stay_close<K, V, P, S, R>()
     ensures { CallsStayClose K V P S R }
 {}
 
-/// After a run no record was used 300 milliseconds or more before one that stands in front of it on the access list, and after an uncut one none is so long past its idle time.
+/// After a run no record was used 300 milliseconds or more before one in front of it on the access list, and after an uncut one none is
+/// that long past its idle time.
 pub fn runs_leave_none_idle<K, V, P, S, R>()
     ensures { RunsLeaveNoneIdle K V P S R }
 {}

@@ -1,4 +1,4 @@
-//! The reference front: what a cache of several parts is, with turns, said by definitions over the reference cache of one part.
+//! The reference front: definitions of a cache of several parts, with turns, over the reference cache of one part.
 #![tactic(auto)]
 
 mod data;

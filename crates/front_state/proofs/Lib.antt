@@ -1,3 +1,4 @@
 pub mod Steady
 mod Accessed
 mod Covered
+pub mod Seen

@@ -1,5 +1,6 @@
-//! The state of a cache that is lent.
-ghost use Rattle.std.specs.Prelude.{◌≡◌, ◌<◌, ◌^◌, Ok, IfOk, IfErr, OnOk, OnErr, is_some};
+//! The state of a lent cache.
+ghost use Rattle.std.specs.Prelude.{◌≡◌, ◌<◌, ◌^◌, Ok, IfOk, IfErr, OnOk, OnErr, is_some, true, false};
+ghost use Rattle.std.specs.List.{list_any};
 ghost use Rattle.std.specs.Fn.{FnOnceReturnsAt};
 ghost use Rattle.engine_reference.specs.Calls.{cleared_by, removal_rooms};
 ghost use Rattle.engine_reference.specs.Asking.{answers_of};
@@ -11,7 +12,7 @@ ghost use Rattle.front_parts.specs.Places.Calls.{CoalescesBy, ComputesIn, Insert
 use engine_reference::{Names, Rules, Settings};
 use front_parts::{
     BaseCache, clear_all, coalesce_at, compute_at, contains_key_at, get_at, hash_key, insert_at,
-    invalidate_at, place_of, remove_at, run_all,
+    invalidate_at, is_table_refused, place_of, remove_at, run_all,
 };
 use front_reference::{
     At, CacheError, Computed, IntoKey, LentKey, Made, Op, OpenTurn, OwnedKey, Shared,
@@ -30,20 +31,23 @@ mod reading;
 mod showing;
 mod turning;
 
-/// The form of a cache that is made by its capacity alone.
+/// The form of a cache of one segment.
 #[derive(Clone, Copy, Debug, PartialEq, Eq, Drop)]
 pub struct Single;
 
-/// The form of a cache that is made by its capacity and how many segments it has.
+/// The form of a cache of several segments.
 #[derive(Clone, Copy, Debug, PartialEq, Eq, Drop)]
 pub struct Segmented;
 
-/// What names a predicate: the hyphenated lower-case text of a version 4 UUID, 36 bytes.
+/// The identifier of a predicate: the text of a version 4 UUID, hyphenated and in lower case, 36 bytes.
 pub type PredicateId = String;
 
-/// A cache of 2^bits parts that is lent by `&mut`, so that each call is alone. Each key belongs to the part that the upper bits of its hash say.
-/// Each call is told its moment and its step, neither of which falls. A clear and a predicate come at a later step than any call before, as they cover what was written at earlier steps. A call that is refused has changed nothing, its moment and step included.
-/// The form says by which `new` and `builder` it goes, what a predicate is answered, and whether it has `get_or_insert_with` and `get_or_try_insert_with`. All else is the same, and either may have any number of parts.
+/// A cache of 2^bits parts, which its owner lends by `&mut`, so that calls do not overlap. Each key belongs to the part that the upper bits
+/// of its hash select.
+/// Each call takes its moment and its step, neither of which may fall. A clear and a predicate need a later step than any call before, as
+/// they cover what was written at earlier steps. A call that is refused has changed nothing, including the moment and the step.
+/// The form decides which `new` and `builder` the type has, what `invalidate_entries_if` returns, and whether there are
+/// `get_or_insert_with` and `get_or_try_insert_with`. Everything else is the same, and either form may have any number of parts.
 #[derive(Drop)]
 pub struct LentState<K: Eq + Hash, V, S: BuildHasher, R: Rules<K, V>, C = Single> {
     alloc: Global,
@@ -95,7 +99,7 @@ impl<K: Eq + Hash, V, S: BuildHasher, R: Rules<K, V>, C> Model for LentState<K, 
 }
 
 impl<K: Eq + Hash, V, S: BuildHasher, R: Rules<K, V>, C> LentState<K, V, S, R, C> {
-    /// The hash of a key, which the calls with a hash are handed.
+    /// Returns the hash of a key, for the calls that take a hash.
     /// ```
     /// let hash = cache.hash(&7);
     /// cache.insert_with_hash(OwnedKey { key: 7, alloc }, hash, value, at)?;
@@ -106,8 +110,10 @@ impl<K: Eq + Hash, V, S: BuildHasher, R: Rules<K, V>, C> LentState<K, V, S, R, C
         hash_key(&self.hasher, key)
     }
 
-    /// A clone of the visible value of a key, of which it is a use.
-    /// A use makes its record young for eviction and puts its idle deadline off; a miss is counted for TinyLFU, too. Only the clone may be refused, for want of memory. Maintenance that is due comes between the answer and the use: at 64 calls that wait for it, or 300 ms after the last run. To look without a use there are `peek` and `contains_key`.
+    /// Returns a clone of the visible value of a key, which counts as a use of it.
+    /// A use makes the value's eviction less likely and restarts its idle time; TinyLFU counts a miss, too. Only the clone may be refused,
+    /// for lack of memory. If maintenance is due (when 64 operations wait for it, or 300 ms after the last run), it runs after the value is
+    /// looked up and before the use is noted. To read without a use, there are `peek` and `contains_key`.
     /// ```
     /// match cache.get(&7, at)? {
     ///     Some(value) => Ok(value),
@@ -134,8 +140,8 @@ impl<K: Eq + Hash, V, S: BuildHasher, R: Rules<K, V>, C> LentState<K, V, S, R, C
         Ok(found)
     }
 
-    /// Whether a key has a visible value. It is no use of it.
-    /// Expired and covered values count as absent, whether maintenance has removed them or not.
+    /// Returns whether a key has a visible value. This does not count as a use of it.
+    /// Expired and invalidated values count as absent, whether maintenance has removed them or not.
     /// ```
     /// if !cache.contains_key(&7, at.now) {
     ///     cache.insert(7, 49, at)?;
@@ -149,8 +155,10 @@ impl<K: Eq + Hash, V, S: BuildHasher, R: Rules<K, V>, C> LentState<K, V, S, R, C
         contains_key_at(self.parts.as_slice(), place, &LentKey { key }, hash, now)
     }
 
-    /// Inserts a value. A cache of capacity 0 takes none.
-    /// A value that is there already goes, and is told `Replaced`, or `Expired` or `Explicit` where that came before. The new one is visible at once, also above the capacity: maintenance, which comes with this call where it is due, decides what stays. One heavier than its segment's share is let go by a run.
+    /// Inserts a value. A cache of capacity 0 stores none.
+    /// A value that is there already leaves, and is reported as `Replaced`, or as `Expired` or `Explicit` if one of these came first. The
+    /// new value is visible at once, even above the capacity: maintenance, which runs within this call if it is due, decides which values
+    /// stay. A run removes a value that is heavier than its segment's share.
     /// ```
     /// cache.insert(7, 49, at)?;
     /// ```
@@ -168,7 +176,7 @@ impl<K: Eq + Hash, V, S: BuildHasher, R: Rules<K, V>, C> LentState<K, V, S, R, C
         self.insert_with_hash(OwnedKey { key, alloc }, hash, value, at)
     }
 
-    /// `insert` under what names a key, whose hash is known.
+    /// Like `insert`, with what names a key, and its hash.
     /// ```
     /// let hash = cache.hash(&name);
     /// cache.insert_with_hash(ClonedKey { key: &name, alloc }, hash, value, at)?;
@@ -199,8 +207,8 @@ impl<K: Eq + Hash, V, S: BuildHasher, R: Rules<K, V>, C> LentState<K, V, S, R, C
         Ok(())
     }
 
-    /// Removes a key, whether its deadline has come or not, and answers its value.
-    /// The removal is told `Expired` where the deadline has come, else `Explicit`. How often the key was used stays counted.
+    /// Removes a key, whether its deadline has come or not, and returns its value.
+    /// The removal is reported as `Expired` if the deadline has come, otherwise as `Explicit`. The count of requests for the key is kept.
     /// ```
     /// let last = cache.remove(&7, at)?;
     /// ```
@@ -225,7 +233,7 @@ impl<K: Eq + Hash, V, S: BuildHasher, R: Rules<K, V>, C> LentState<K, V, S, R, C
     }
 
     /// Removes a key, whether its deadline has come or not.
-    /// As `remove`, without a clone of the value.
+    /// Like `remove`, without cloning the value.
     /// ```
     /// cache.invalidate(&7, at)?;
     /// ```
@@ -248,9 +256,11 @@ impl<K: Eq + Hash, V, S: BuildHasher, R: Rules<K, V>, C> LentState<K, V, S, R, C
         Ok(())
     }
 
-    /// The visible value of a key, of which it is a use, and false; or what `make` makes, and true: a value is then inserted. A visible value of which `replace_if` says yes counts as none.
-    /// Closures run before anything changes, and the key is made only where a value is inserted. `make` may be refused for memory, and then so is the call.
-    /// The calls that make a value by their names, as `get_with`, are made of it; selectors are, too.
+    /// Returns the visible value of a key, which counts as a use of it, and false; or else what `make` makes, and true: a value is then
+    /// inserted. A visible value for which `replace_if` returns true counts as none.
+    /// Closures run before anything changes, and the key is made only if a value is inserted. If `make` fails to allocate, the call is
+    /// refused.
+    /// The calls that make a value, such as `get_with`, and the selectors are implemented with it.
     /// ```
     /// let hash = cache.hash(&7);
     /// let name = OwnedKey { key: 7, alloc };
@@ -297,9 +307,10 @@ impl<K: Eq + Hash, V, S: BuildHasher, R: Rules<K, V>, C> LentState<K, V, S, R, C
         Ok(answer)
     }
 
-    /// Lets a closure decide by the visible value of a key what is to be done with it, and does so after the look-up's read. Where the closure fails nothing is done but that read, and its error is answered.
-    /// The closure runs before anything changes, and the key is made only where a value is put.
-    /// `and_compute_with` and its kind are made of it.
+    /// Calls a closure with the visible value of a key, and does what it decides, after the look-up's read is noted. If the closure fails,
+    /// its error is returned, and only that read is noted.
+    /// The closure runs before anything changes, and the key is made only if a value is put.
+    /// `and_compute_with` and similar calls are implemented with it.
     /// ```
     /// let hash = cache.hash(&7);
     /// let name = OwnedKey { key: 7, alloc };
@@ -335,8 +346,10 @@ impl<K: Eq + Hash, V, S: BuildHasher, R: Rules<K, V>, C> LentState<K, V, S, R, C
         Ok(answer)
     }
 
-    /// Runs maintenance of each part to its end, after which the counts are exact.
-    /// It removes what has expired or is covered, and then the least useful values until each segment is within its share. Calls do so by themselves where it is due, so a program needs it only for exact counts, or to have notices and memory without further calls.
+    /// Runs the maintenance of each part to its end, after which the counts are exact.
+    /// It removes what has expired or was invalidated, and then the least useful values until each segment is within its share. Other calls
+    /// run maintenance when it is due, so a program needs this one only for exact counts, or to get notices and free memory without further
+    /// calls.
     /// ```
     /// cache.run_pending_tasks(at);
     /// let exact = cache.entry_count();
@@ -354,8 +367,30 @@ impl<K: Eq + Hash, V, S: BuildHasher, R: Rules<K, V>, C> LentState<K, V, S, R, C
         self.step = step;
     }
 
-    /// Covers every value that was written at an earlier step. It comes at a later step than any call before.
-    /// The values are invisible at once; runs remove them later, and tell them `Explicit`. It takes no memory and looks at no record.
+    /// Does what `run_pending_tasks` does, and returns an error if a part had no memory for the table in which TinyLFU counts requests.
+    /// The runs are complete without it, and the next run tries again.
+    /// ```
+    /// let counts_requests = cache.try_run_pending_tasks(at).is_ok();
+    /// ```
+    pub fn try_run_pending_tasks(&mut self, at: At) -> Result<(), AllocError>
+    where
+        K: Drop,
+        V: Drop,
+        requires { ComesAfter at.now at.step self.old }
+        ensures runs { CallsAll at.now at.step (RunsPart (answers_of R.weight_of R.created R.read R.updated R.covers) at.now) self.old self.new }
+        ensures made { OnOk result (list_any (λ s. s.table_refused) self.new.parts ≡ false) }
+        ensures refused { OnErr result (list_any (λ s. s.table_refused) self.new.parts ≡ true) }
+    {
+        self.run_pending_tasks(at);
+        if is_table_refused(self.parts.as_slice()) {
+            return Err(AllocError);
+        }
+        Ok(())
+    }
+
+    /// Invalidates every value that was written at an earlier step. It needs a later step than any call before.
+    /// The values are invisible at once; runs remove them later, and report them as `Explicit`. It allocates nothing and looks at no
+    /// record.
     /// ```
     /// cache.invalidate_all(at);
     /// ```

@@ -42,8 +42,8 @@ const NAMES: &[(u64, Call)] = &[
     (11 * SECOND, Call::Get(1, Some(2))),
     (11 * SECOND, Call::Get(2, None)),
     (11 * SECOND, Call::Get(3, Some(1))),
-    (11 * SECOND, Call::ToldEither(0, 2, RemovalCause::Explicit)),
-    (11 * SECOND, Call::ToldEither(0, 2, RemovalCause::Explicit)),
+    (11 * SECOND, Call::ToldBoth(0, 2, RemovalCause::Explicit)),
+    (11 * SECOND, Call::NoneTold),
     (11 * SECOND, Call::Count(2)),
 ];
 

@@ -6,6 +6,7 @@ mod script;
 mod selecting;
 mod turning;
 
+pub use hashing::Times;
 pub use rules::IsEither;
 pub use script::{
     Call, Case, Closure, Done, Form, Numbers, ONE, SPREAD, Start, all_right, empty_cache, next,

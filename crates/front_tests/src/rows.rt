@@ -200,16 +200,17 @@ const EVICTED: &[(u64, Call)] = &[
     (0, Call::NoneTold),
 ];
 
-/// What is used without its value stays, and what is only peeked at leaves.
-const TOUCHED: &[(u64, Call)] = &[
+/// What is looked up stays, and what is only peeked at, or whose look-up is refused, leaves.
+const LOOKED_UP: &[(u64, Call)] = &[
     (0, Call::InsertNamed(1, 10)),
     (0, Call::InsertNamed(2, 20)),
     (0, Call::InsertNamed(3, 30)),
     (0, Call::Run),
-    (1, Call::Touch(1)),
+    (1, Call::LookUp(1, Some(10))),
     (1, Call::Peek(3, Some(30))),
-    (1, Call::Touch(2)),
-    (1, Call::Touch(9)),
+    (1, Call::RefusedLookUp(3, Some(30))),
+    (1, Call::LookUp(2, Some(20))),
+    (1, Call::LookUp(9, None)),
     (1, Call::Run),
     (1, Call::Insert(4, 40)),
     (1, Call::Run),
@@ -333,7 +334,7 @@ const LEAVING: &[Case<'static>] = &[
     },
     Case {
         form: SMALL,
-        calls: TOUCHED,
+        calls: LOOKED_UP,
     },
 ];
 

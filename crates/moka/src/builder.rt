@@ -16,7 +16,7 @@ use std::hash::{BuildHasher, Hash};
 use std::marker::PhantomData;
 use std::time::Duration;
 
-/// What is set of a cache beside its rules.
+/// The settings of a cache other than its rules.
 #[derive(Drop)]
 pub struct Plan {
     name: Option<String>,
@@ -29,8 +29,9 @@ pub struct Plan {
     takes_predicates: bool,
 }
 
-/// What a cache is to be made with. At first nothing is set: no capacity, no times, TinyLFU, one segment, each value weighs one and does not expire by itself, removals are not told, and no predicates are taken.
-/// The last parameter is the form of what it builds: `Single`, a cache made by its capacity alone, or after `segments` `Segmented`.
+/// Collects the settings of a cache and creates it. By default nothing is set: no capacity, no times, TinyLFU, one segment, each value
+/// weighs one and does not expire by itself, removals are not reported, and no predicates are accepted.
+/// The last parameter is the form of what it builds: `Single`, a cache of one segment, or, after `segments`, `Segmented`.
 #[derive(Drop)]
 pub struct CacheBuilder<X, W, P, F, C = Single> {
     plan: Plan,
@@ -40,7 +41,7 @@ pub struct CacheBuilder<X, W, P, F, C = Single> {
 }
 
 impl CacheBuilder<NoExpiry, WeighOne, NoPredicate, ()> {
-    /// A builder of a cache that holds at most this weight.
+    /// Returns a builder of a cache that holds at most this weight.
     /// ```
     /// let cache: CacheState<u64, u64> = CacheBuilder::new(1000).build_state(alloc, hasher, moment)?;
     /// ```
@@ -77,8 +78,8 @@ impl Default for CacheBuilder<NoExpiry, WeighOne, NoPredicate, ()> {
 }
 
 impl<X, W, P, F> CacheBuilder<X, W, P, F> {
-    /// A cache of segments, each with its share of the capacity: so many, or the next power of two. From 1 to 65,536.
-    /// A segment's share is the capacity divided by their number, rounded up, so together they may hold a little more.
+    /// Sets the number of segments, each of which has its share of the capacity: 1 to 65,536, rounded up to a power of two.
+    /// A segment's share is the capacity divided by their number, rounded up, so together they may hold slightly more.
     /// ```
     /// let cache: SegmentedState<u64, u64> = CacheBuilder::new(1000).segments(4).build_state(alloc, hasher, moment)?;
     /// ```
@@ -99,7 +100,7 @@ impl<X, W, P, F> CacheBuilder<X, W, P, F> {
 }
 
 impl<X, W, P, F, C> CacheBuilder<X, W, P, F, C> {
-    /// What the cache is called.
+    /// Sets the name of the cache.
     /// ```
     /// let builder = CacheBuilder::new(1000).name(name);
     /// ```
@@ -110,8 +111,8 @@ impl<X, W, P, F, C> CacheBuilder<X, W, P, F, C> {
         self
     }
 
-    /// The weight that the cache holds at most, of all segments together.
-    /// At capacity 0 no value is kept.
+    /// Sets the maximum weight of the cache, of all segments together.
+    /// With capacity 0 no value is stored.
     /// ```
     /// let builder = CacheBuilder::default().max_capacity(1000);
     /// ```
@@ -122,7 +123,7 @@ impl<X, W, P, F, C> CacheBuilder<X, W, P, F, C> {
         self
     }
 
-    /// For how many entries there is room from the start.
+    /// Sets for how many entries there is room from the start.
     /// ```
     /// let builder = CacheBuilder::new(1000).initial_capacity(100);
     /// ```
@@ -133,8 +134,9 @@ impl<X, W, P, F, C> CacheBuilder<X, W, P, F, C> {
         self
     }
 
-    /// Which entries the cache lets go where it is too heavy. TinyLFU at first.
-    /// TinyLFU keeps what is asked for often and lets a newcomer in only where it is asked for more often than what would have to go; LRU lets go what was used least recently.
+    /// Sets which entries the cache evicts if it is too heavy. The default is TinyLFU.
+    /// TinyLFU keeps values that are requested often, and admits a new one only if it is requested more often than those that would be
+    /// evicted for it. LRU evicts the least recently used values.
     /// ```
     /// let builder = CacheBuilder::new(1000).eviction_policy(EvictionPolicy::lru());
     /// ```
@@ -145,8 +147,8 @@ impl<X, W, P, F, C> CacheBuilder<X, W, P, F, C> {
         self
     }
 
-    /// Removals are told, as notices to be taken.
-    /// `next_notice` takes them. Where nobody does they pile up, one for each removal.
+    /// Makes the cache report removals, as notices.
+    /// `next_notice` takes them. If nobody does, they accumulate, one for each removal.
     /// ```
     /// let builder = CacheBuilder::new(1000).eviction_listener();
     /// ```
@@ -157,7 +159,7 @@ impl<X, W, P, F, C> CacheBuilder<X, W, P, F, C> {
         self
     }
 
-    /// How long after its write a value lives: at most 1000 years of 365 days.
+    /// Sets how long a value lives after it was written: at most 1000 years of 365 days.
     /// ```
     /// let builder = CacheBuilder::new(1000).time_to_live(Duration::from_secs(60));
     /// ```
@@ -168,8 +170,8 @@ impl<X, W, P, F, C> CacheBuilder<X, W, P, F, C> {
         self
     }
 
-    /// How long after its last use a value lives: at most 1000 years of 365 days.
-    /// A use is a write or a `get`; `contains_key`, `peek` and the iterator are none.
+    /// Sets how long a value lives after its last use: at most 1000 years of 365 days.
+    /// A use is a write or a `get`; `contains_key`, `peek` and the iterator are not.
     /// ```
     /// let builder = CacheBuilder::new(1000).time_to_idle(Duration::from_secs(60));
     /// ```
@@ -180,8 +182,9 @@ impl<X, W, P, F, C> CacheBuilder<X, W, P, F, C> {
         self
     }
 
-    /// How long each value lives by itself.
-    /// The earliest of a value's own time, the time to live and the time to idle ends it. An own time is kept in steps of 4096 ns, rounded down.
+    /// Sets how long each value lives by itself.
+    /// A value ends at the earliest of its own time, the time to live and the time to idle. Its own time is rounded down to a multiple of
+    /// 4096 ns.
     /// ```
     /// let builder = CacheBuilder::new(1000).expire_after(OwnTime);
     /// ```
@@ -200,8 +203,8 @@ impl<X, W, P, F, C> CacheBuilder<X, W, P, F, C> {
         }
     }
 
-    /// What each value weighs.
-    /// Weights say how much fits; they do not choose what goes.
+    /// Sets what each value weighs.
+    /// Weights limit how much the cache holds; they do not influence which values are evicted.
     /// ```
     /// let builder = CacheBuilder::new(1_000_000).weigher(ByLength);
     /// ```
@@ -220,7 +223,7 @@ impl<X, W, P, F, C> CacheBuilder<X, W, P, F, C> {
         }
     }
 
-    /// Predicates of a type are taken, which invalidate the values that they cover.
+    /// Makes the cache accept predicates of a type, which invalidate the values that they match.
     /// ```
     /// let builder = CacheBuilder::new(1000).support_invalidation_closures::<OlderThan>();
     /// ```
@@ -239,7 +242,7 @@ impl<X, W, P, F, C> CacheBuilder<X, W, P, F, C> {
         }
     }
 
-    /// What the making of a value may fail with.
+    /// Sets the type of the error with which making a value may fail.
     /// ```
     /// let builder = CacheBuilder::new(1000).faults::<ReadError>();
     /// ```
@@ -256,8 +259,9 @@ impl<X, W, P, F, C> CacheBuilder<X, W, P, F, C> {
         }
     }
 
-    /// A cache that is lent, made at a moment, which hashes keys by this hasher. Where keys come from strangers it is to be one that they cannot foresee.
-    /// Settings are tested here, in the order of `BuildError`.
+    /// Creates a cache that its owner lends, at this moment, with this hasher. If untrusted clients choose the keys, use a hasher that they
+    /// cannot predict.
+    /// Checks the settings, in the order of `BuildError`.
     /// ```
     /// let cache: CacheState<u64, u64> = CacheBuilder::new(1000)
     ///     .time_to_live(Duration::from_secs(60))
@@ -303,7 +307,7 @@ impl<X, W, P, F, C> CacheBuilder<X, W, P, F, C> {
     }
 }
 
-/// What is wrong with what is set, if anything: the first of it.
+/// The first thing that is wrong with the settings, if any.
 fn fault_of(plan: &Plan) -> Option<BuildError>
     ensures { result ≡ fault_of plan.now }
 {
@@ -317,7 +321,7 @@ fn fault_of(plan: &Plan) -> Option<BuildError>
     }
 }
 
-/// What all segments together are made with.
+/// The settings of all segments together.
 fn settings_of(plan: &Plan, moment: Instant) -> Settings
     ensures { result ≡ settings_of plan.now moment }
 {

@@ -1,4 +1,4 @@
-//! When calls come.
+//! The moment and step of calls.
 ghost use Rattle.std.specs.Prelude.{◌≡◌, ◌<◌, IfOk, IfErr};
 ghost use Rattle.front_reference.specs.Fronts.{ComesAfter};
 
@@ -8,7 +8,8 @@ use front_state::LentState;
 use policy_base::Instant;
 use std::hash::{BuildHasher, Hash};
 
-/// When the next call of a cache comes by a clock: at its moment, or at that of the last call where the clock went back, and at the next step. Refused with `UsedUp` where 2^64 - 1 steps were taken.
+/// Returns the moment and step of the next call of a cache by a clock: the clock's moment, or that of the last call if the clock went back,
+/// and the next step. Returns `UsedUp` if 2^64 - 1 steps were taken.
 /// ```
 /// let at = next_call(&cache, clock)?;
 /// cache.insert(7, 49, at)?;

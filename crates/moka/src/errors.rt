@@ -3,7 +3,7 @@
 use std::alloc::AllocError;
 use thiserror::Error;
 
-/// Why a cache cannot be built, in the order in which it is found out.
+/// Why a cache cannot be built, in the order in which the causes are checked.
 #[derive(Clone, Copy, Debug, PartialEq, Eq, Drop, Error)]
 pub enum BuildError {
     /// The time to live is longer than 1000 years of 365 days.
@@ -12,13 +12,13 @@ pub enum BuildError {
     /// The time to idle is longer than 1000 years of 365 days.
     #[error("time_to_idle is longer than 1000 years")]
     TimeToIdleTooLong,
-    /// A cache has at least one segment.
+    /// The number of segments is 0.
     #[error("no segments")]
     NoSegments,
-    /// A cache has at most 65,536 segments.
+    /// The number of segments is above 65,536.
     #[error("too many segments")]
     TooManySegments,
-    /// There was no memory.
+    /// There was not enough memory.
     #[error("out of memory")]
     OutOfMemory,
 }

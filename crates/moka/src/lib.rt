@@ -1,4 +1,5 @@
-//! A bounded cache of values by key, on a state that its owner lends: capacity by number or weight, times to live and to idle, own expirations, calls that make a value once for a key, selectors of an entry.
+//! A bounded cache of values by key, on a state that its owner lends: capacity by number or weight, times to live and to idle, own
+//! expirations, calls that make a value once per key, selectors of an entry.
 #![tactic(auto)]
 
 mod builder;
@@ -30,7 +31,7 @@ pub use states::{
     CacheState, NewSegmentedState, NewState, PlainBuilder, PlainRules, SegmentedState, StdHasher,
 };
 
-/// Functions whose contracts are laws of what the contracts speak of.
+/// Functions whose contracts are laws of the definitions that contracts cite.
 pub mod laws {
     pub use front_reference::{
         calls_keep, calls_stay_close, coalesces_keep, computes_keep, runs_leave_none_idle,

@@ -1,4 +1,4 @@
-//! Rules that are ready to use: a weigher by length, expirations of which only creation is said, a predicate by prefix.
+//! Rules that are ready to use: a weigher by length, an expiry that only sets the time at creation, a predicate by prefix.
 ghost use Rattle.std.specs.Prelude.{◌≡◌, ℕ, Option, option_map, min};
 ghost use Rattle.std.specs.Duration.{as_nanos};
 
@@ -7,14 +7,14 @@ use front_reference::Shared;
 use policy_base::Instant;
 use std::time::Duration;
 
-/// A text or a list of bytes, shared or not, weighs as many units as it has bytes, up to 2^32 - 1. Keys weigh nothing.
+/// Weighs a text or a list of bytes, shared or not, by its number of bytes, at most 2^32 - 1. Keys weigh nothing.
 /// ```
 /// let builder = CacheBuilder::new(1 << 20).weigher(WeighBytes);
 /// ```
 #[derive(Clone, Copy, Debug, PartialEq, Eq, Drop)]
 pub struct WeighBytes;
 
-/// So many bytes as a weight.
+/// A number of bytes as a weight.
 fn weight_of(bytes: usize) -> u32
     ensures { result ≡ min bytes 4294967295 }
 {
@@ -63,17 +63,18 @@ impl<K> Weigher<K, Shared<Vec<u8>>> for WeighBytes {
     }
 }
 
-/// How long a value lives from its creation on. `ByCreation` makes an `Expiry` of it.
+/// How long a value lives after its creation. `ByCreation` makes an `Expiry` of it.
 pub trait Lifetime<K, V> {
-    /// The answer in nanoseconds, by key and value.
+    /// The result in nanoseconds, by key and value.
     ghost lifetime: { Self → K → V → Option ℕ };
 
-    /// How long the value lives, or nothing where it does not expire by itself. A function of key and value.
+    /// Returns how long the value lives, or `None` if it does not expire by itself. The result depends on key and value only.
     fn lifetime(&self, key: &K, value: &V) -> Option<Duration>
         ensures { option_map as_nanos result ≡ lifetime self.now key.now value.now };
 }
 
-/// An `Expiry` of which only creation is said: reads and updates leave what is left to a value, as the Rust's default bodies do.
+/// An `Expiry` that only sets the time at creation: reads and updates do not change the remaining time, as with the default bodies in
+/// `moka`.
 /// ```
 /// let builder = CacheBuilder::new(1000).expire_after(ByCreation(SessionTime));
 /// ```
@@ -113,7 +114,7 @@ impl<K, V, L: Lifetime<K, V>> Expiry<K, V> for ByCreation<L> {
     }
 }
 
-/// Covers the values whose keys begin with a text.
+/// Matches the values whose keys begin with a text.
 /// ```
 /// let builder = CacheBuilder::new(1000).support_invalidation_closures::<KeyPrefix>();
 /// let id = cache.invalidate_entries_if(&rt, KeyPrefix(prefix))?;

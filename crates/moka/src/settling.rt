@@ -1,4 +1,4 @@
-//! What a builder's settings come to.
+//! Checking and converting a builder's settings.
 ghost use Rattle.std.specs.Prelude.{◌≡◌, ◌+◌, ◌<◌, ◌≤◌, ◌^◌, ℕ, Some, None};
 ghost use Rattle.std.specs.Duration.{as_nanos};
 ghost use Rattle.moka.specs.Building.{as_limit, is_too_long, segments_fault, time_fault};
@@ -10,7 +10,7 @@ use std::time::Duration;
 /// The longest time to live or to idle, in nanoseconds: 1000 years of 365 days.
 const MAX_TIME: u128 = 31_536_000_000_000_000_000;
 
-/// The most segments of a cache.
+/// The maximum number of segments of a cache.
 const MAX_SEGMENTS: usize = 65_536;
 
 /// Whether a time is longer than 1000 years.
@@ -49,7 +49,7 @@ pub(crate) fn segments_fault(segments: usize) -> Option<BuildError>
     }
 }
 
-/// A time in nanoseconds, up to the last moment.
+/// A time in nanoseconds, at most the last moment.
 pub(crate) fn as_limit(time: Option<Duration>) -> Option<u64>
     ensures { result ≡ as_limit time }
 {
@@ -59,7 +59,7 @@ pub(crate) fn as_limit(time: Option<Duration>) -> Option<u64>
     }
 }
 
-/// How many bits number so many segments: the fewest.
+/// The number of bits that are needed to number this many segments.
 pub(crate) fn bits_for(segments: usize) -> u32
     requires { segments ≤ 65536 }
     ensures enough { segments ≤ 2 ^ result }

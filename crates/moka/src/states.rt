@@ -1,4 +1,4 @@
-//! Caches that are made by few words.
+//! Short ways to create a cache.
 ghost use Rattle.std.specs.Prelude.{◌≡◌, ◌⊎◌, ℕ, Some, None, IfOk, IfErr, OnOk};
 ghost use Rattle.moka.specs.Building.{blank, segments_fault};
 ghost use Rattle.moka.specs.declared.errors.BuildError.TheVariants.{OutOfMemory};
@@ -11,27 +11,30 @@ use policy_base::Instant;
 use std::alloc::Global;
 use std::hash::{BuildHasherDefault, FoldHasher, Hash};
 
-/// std's hasher with its fixed keys. Where keys come from strangers a hasher is to be handed to `build_state` that they cannot foresee, as `RandomState`.
+/// std's hasher without a random seed. If untrusted clients choose the keys, pass a hasher that they cannot predict to `build_state`, such
+/// as `RandomState`.
 pub type StdHasher = BuildHasherDefault<FoldHasher>;
 
-/// The rules of a cache of which none was set: each value weighs one and does not expire by itself; no predicates, and faults that say nothing.
+/// The rules of a cache on which none was set: each value weighs one and does not expire by itself; no predicates, and faults without
+/// content.
 pub type PlainRules = Bundle<NoExpiry, WeighOne, NoPredicate, ()>;
 
 /// A builder of a cache with such rules, of either form.
 pub type PlainBuilder<C = Single> = CacheBuilder<NoExpiry, WeighOne, NoPredicate, (), C>;
 
-/// A cache that is lent, and made by its capacity alone.
+/// A cache of one segment, which its owner lends.
 pub type CacheState<K, V, S = StdHasher, R = PlainRules> = LentState<K, V, S, R, Single>;
 
-/// A cache that is lent, and made by its capacity and how many segments it has.
+/// A cache of several segments, which its owner lends.
 pub type SegmentedState<K, V, S = StdHasher, R = PlainRules> = LentState<K, V, S, R, Segmented>;
 
-/// What makes a cache of one segment.
+/// Creates a cache of one segment.
 pub trait NewState: Sized {
     // it is new, and was made with this capacity at this moment, and else with nothing set
     ghost is_new: { Self → (max_capacity moment : ℕ) → Type 0 };
 
-    /// A cache that holds at most this weight, made at a moment. Nothing else is set, and keys are hashed by std's fixed hasher.
+    /// Creates a cache that holds at most this weight, at this moment. Nothing else is set, and keys are hashed with std's hasher (without
+    /// a random seed).
     /// ```
     /// let cache: CacheState<u64, u64> = CacheState::new(alloc, 1000, moment)?;
     /// ```
@@ -39,7 +42,7 @@ pub trait NewState: Sized {
         ensures built { IfOk result (λ state. is_new state max_capacity moment) }
         ensures cause { IfErr result (λ e. e ≡ OutOfMemory) };
 
-    /// A builder of which nothing is set: no capacity, no times, TinyLFU, one segment.
+    /// Returns a builder with nothing set: no capacity, no times, TinyLFU, one segment.
     /// ```
     /// let builder = CacheState::<u64, u64>::builder().time_to_idle(minute);
     /// ```
@@ -47,12 +50,13 @@ pub trait NewState: Sized {
         ensures { result.plan ≡ blank };
 }
 
-/// What makes a cache of several segments.
+/// Creates a cache of several segments.
 pub trait NewSegmentedState: Sized {
     // it is new, and was made with this capacity and at least so many segments at this moment, and else with nothing set
     ghost is_new: { Self → (max_capacity segments moment : ℕ) → Type 0 };
 
-    /// A cache that holds at most this weight in so many segments or the next power of two, made at a moment. Nothing else is set, and keys are hashed by std's fixed hasher. There are 1 to 65,536 segments.
+    /// Creates a cache that holds at most this weight in this many segments, rounded up to a power of two, at this moment. Nothing else is
+    /// set, and keys are hashed with std's hasher (without a random seed). The number of segments is 1 to 65,536.
     /// ```
     /// let cache: SegmentedState<u64, u64> = SegmentedState::new(alloc, 1000, 4, moment)?;
     /// ```
@@ -66,7 +70,7 @@ pub trait NewSegmentedState: Sized {
         ensures sound { OnOk result (segments_fault segments ≡ None) }
         ensures cause { IfErr result (λ e. (segments_fault segments ≡ Some e) ⊎ ((e ≡ OutOfMemory) × (segments_fault segments ≡ None))) };
 
-    /// A builder of which so many segments are set, and nothing else.
+    /// Returns a builder with this number of segments, and nothing else set.
     /// ```
     /// let builder = SegmentedState::<u64, u64>::builder(4).max_capacity(1000);
     /// ```

@@ -6,12 +6,19 @@ use audit_laws::first_break_is_first;
 use audit_model::{Config, Transcript};
 use std::alloc::Global;
 
-/// The verdict on a transcript of a namespace of that configuration, whoever made it: `Yes` exactly where it obeys and none of its events
-/// is refused; else `Breaks` with the first record, counted from 1, at which the shortest front ends of which that is not so; or
+/// Returns the verdict on a transcript of a namespace with this configuration, whoever made it: `Yes` exactly if it obeys and none of its
+/// events is refused; otherwise `Breaks` with the first record, counted from 1, that ends a prefix of which this is not so; or
 /// `OutOfMemory`.
 ///
-/// Nothing is asked of configuration or transcript. It takes memory for what is open, under way or held, and for each key of which a value
-/// was ever accepted.
+/// Nothing is required of the configuration or the transcript. Memory grows with what is open, under way or held, and with the number of
+/// keys of which a value was ever accepted.
+/// ```
+/// match audit(alloc, &config, &transcript) {
+///     Verdict::Yes => accept(),
+///     Verdict::Breaks(number) => report(number),
+///     Verdict::OutOfMemory => retry(),
+/// }
+/// ```
 pub fn audit(alloc: Global, config: &Config, transcript: &Transcript) -> Verdict
     ensures { IsJust config.now transcript.now result }
 {

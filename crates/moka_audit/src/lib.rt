@@ -1,6 +1,6 @@
-//! What is right of a cache that is served by lines: the types of configurations, events and transcripts.
+//! The definitions of a right cache behind a line protocol: the types of configurations, events and transcripts.
 //!
-//! Contracts cite the definitions of `audit_model`; the laws that hold of them are the functions of `laws`. `audit` judges any transcript.
+//! Contracts cite the definitions of `audit_model`; the functions of `laws` are the laws about them. `audit` judges any transcript.
 #![tactic(auto)]
 
 mod auditing;

@@ -1,4 +1,4 @@
-//! A cache with what lets its calls wait.
+//! A cache together with a handle by which its calls may wait.
 ghost use Rattle.std.specs.Prelude.{◌≡◌, Ok, IfOk, IfErr, OnErr};
 ghost use Rattle.front_parts.specs.Access.Answering.{Suits};
 ghost use Rattle.front_reference.specs.declared.data.Made.{Made};
@@ -20,7 +20,9 @@ use std::hash::{BuildHasher, Hash};
 use std::sync::Wait;
 use sync_desk::{Env, SharedName};
 
-/// A handle of a cache that threads share, with what lets its calls wait for the lock, for what takes no `rt` itself: selectors (`entry`), loops over its entries, and `{:?}`, which prints a map of its entries and fails where a clone finds no memory.
+/// A handle of a shared cache, together with a handle `rt` by which its calls may wait for the lock. It provides what cannot take an `rt`
+/// as an argument: selectors (`entry`), loops over its entries, and `{:?}`, which prints a map of its entries and fails if there is not
+/// enough memory for a clone.
 #[derive(Drop)]
 pub struct Attached<K: Eq + Hash, V: Clone, S: BuildHasher, R: Rules<K, V>, E, H, C = Single> {
     cache: SharedCache<K, V, S, R, E, C>,
@@ -36,7 +38,11 @@ impl<
     E: Env + Drop,
     C: Drop,
 > SharedCache<K, V, S, R, E, C> {
-    /// This handle of the cache, with what lets its calls wait. `cache.clone()?.attach(rt)` keeps the other.
+    /// Combines this handle of the cache with an `rt`. `cache.clone()?.attach(rt)` keeps the original handle.
+    /// ```
+    /// let mut attached = cache.clone()?.attach(rt);
+    /// let entry = attached.entry(7).or_insert(49)?;
+    /// ```
     pub fn attach<H: Wait>(self, rt: H) -> Attached<K, V, S, R, E, H, C>
         requires exact { (x y : V) → V.is_clone x y → y ≡ x }
     {
@@ -53,8 +59,16 @@ impl<
     H: Wait,
     C: Drop,
 > Attached<K, V, S, R, E, H, C> {
-    /// A selector of the entry of a key, of whose calls one can be made: `or_insert`, `or_insert_with`, `and_compute_with` and so on. What each answers is refused as the cache's own call of its kind is.
-    /// `or_insert_with_if` asks `replace_if` once, without the lock, of the value that is visible as it comes; a value that is written after that is not replaced.
+    /// Returns a selector of the entry of a key, on which one call can be made: `or_insert`, `or_insert_with`, `and_compute_with` and so
+    /// on. Each of them is refused for the same reasons as the cache's own call of its kind.
+    /// `or_insert_with_if` calls `replace_if` once, without the lock, on the value that is visible when the call begins. A value that is
+    /// written after that is not replaced.
+    /// ```
+    /// let entry = attached.entry(7).and_upsert_with(|seen| match seen {
+    ///     Some(entry) => entry.into_value().saturating_add(1),
+    ///     None => 1,
+    /// })?;
+    /// ```
     pub fn entry<'b>(&'b mut self, key: K) -> OwnedKeyEntrySelector<'b, K, Self, ()>
         ensures key { result.key ≡ key }
     {
@@ -62,7 +76,7 @@ impl<
         OwnedKeyEntrySelector::new(self, key, (), alloc)
     }
 
-    /// The same by a key that is lent, which is cloned at once: refused where that finds no memory.
+    /// Like `entry`, with a borrowed key, which is cloned at once. Returns an error if there is not enough memory for the clone.
     pub fn entry_by_ref<'b>(
         &'b mut self,
         key: &K,
@@ -78,7 +92,7 @@ impl<
         Ok(RefKeyEntrySelector::new(self, own, (), alloc))
     }
 
-    /// A call that makes a value, of a kind, for which others are waited, or of none. One of no kind runs both closures under the lock.
+    /// A call that makes a value. With a kind, it waits for other calls of that kind; without one, both closures run under the lock.
     fn coalesce_at<
         P: FnOnce(&V) -> bool + Drop,
         M: FnOnce() -> Result<Made<V, Shared<R::Fault>>, AllocError> + Drop,
@@ -124,7 +138,15 @@ impl<
         self.cache.inner.desk.compute(&self.rt, &key, decide)
     }
 
-    /// An iterator over the visible keys, each once, in any order, with clones of their values. It holds the lock while it clones the keys of one segment, and then for an item at a time, so it gives no value that was removed before its turn. No item is a use.
+    /// Returns an iterator over the visible keys, each once and in any order, with clones of their values. It holds the lock while it
+    /// clones the keys of one segment, and then for one item at a time. A value that is removed before its turn is not returned. No item
+    /// counts as a use.
+    /// ```
+    /// for item in attached.iter() {
+    ///     let (key, value) = item?;
+    ///     show(&key, value);
+    /// }
+    /// ```
     pub fn iter(&self) -> Iter<'_, K, V, S, R, E, H, C> {
         Iter::new(&self.cache, &self.rt)
     }

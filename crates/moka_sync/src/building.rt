@@ -12,10 +12,11 @@ use std::alloc::Global;
 use std::hash::{BuildHasher, Hash};
 use sync_desk::Env;
 
-/// A cache of one segment whose keys are hashed by std's fixed hasher, in which each value weighs one and none expires by itself, and which takes no predicates.
+/// A cache of one segment with std's hasher (without a random seed), in which each value weighs one and none expires by itself, and which
+/// takes no predicates.
 pub type PlainCache<K, V, E> = Cache<K, V, StdHasher, PlainRules, E>;
 
-/// What builds a cache that threads share.
+/// Builds a cache that threads share.
 pub trait Build<K: Eq + Hash, V>: Sized {
     /// The rules that the cache follows.
     type Rules: Rules<K, V>;
@@ -26,7 +27,13 @@ pub trait Build<K: Eq + Hash, V>: Sized {
     // what is wrong with what is set, if anything
     ghost fault: { Self → Option BuildError };
 
-    /// A cache that hashes keys by std's fixed hasher, made at the moment that its environment tells. Where keys come from strangers, take `build_with_hasher` and a hasher that they cannot foresee.
+    /// Builds a cache that hashes keys with std's hasher (without a random seed), created at the moment that its environment gives. If
+    /// untrusted clients choose the keys, use `build_with_hasher` with a hasher that they cannot predict.
+    /// ```
+    /// let cache: PlainCache<u64, u64, _> = CacheBuilder::new(10_000)
+    ///     .time_to_live(Duration::from_secs(60))
+    ///     .build(alloc, MachineEnv::new(clock, generator)?)?;
+    /// ```
     fn build<E: Env + Drop>(
         self,
         alloc: Global,
@@ -35,7 +42,11 @@ pub trait Build<K: Eq + Hash, V>: Sized {
         ensures sound { OnOk result (fault self ≡ None) }
         ensures cause { IfErr result (λ e. (fault self ≡ Some e) ⊎ ((e ≡ OutOfMemory) × (fault self ≡ None))) };
 
-    /// The same, by another hasher.
+    /// Like `build`, with another hasher.
+    /// ```
+    /// let cache: Cache<String, u64, RandomState, PlainRules, _> =
+    ///     CacheBuilder::new(10_000).build_with_hasher(alloc, RandomState::new(&rt), env)?;
+    /// ```
     fn build_with_hasher<S: BuildHasher + Drop, E: Env + Drop>(
         self,
         alloc: Global,
@@ -97,15 +108,16 @@ impl<K: Eq + Hash + Drop, V: Clone + Drop, E: Env + Drop> SharedCache<
     E,
     Single,
 > {
-    /// A cache that holds at most so many entries, of which nothing else is set: it evicts by TinyLFU, its values never expire, and it tells no removals.
-    /// Refused for want of memory alone.
+    /// Creates a cache that holds at most this many entries, with nothing else set: it evicts by TinyLFU, its values never expire, and it
+    /// reports no removals.
+    /// The only possible error is `OutOfMemory`.
     pub fn new(alloc: Global, max_capacity: u64, env: E) -> Result<Self, BuildError>
         ensures { IfErr result (λ e. e ≡ OutOfMemory) }
     {
         CacheBuilder::new(max_capacity).build(alloc, env)
     }
 
-    /// A builder of which nothing is set: no capacity, no times, TinyLFU, one segment.
+    /// Returns a builder with nothing set: no capacity, no times, TinyLFU, one segment.
     pub fn builder() -> PlainBuilder
         ensures { result.plan ≡ blank }
     {
@@ -121,8 +133,9 @@ impl<K: Eq + Hash + Drop, V: Clone + Drop, E: Env + Drop> SharedCache<
     E,
     Segmented,
 > {
-    /// A cache that holds at most so many entries in so many segments, or the next power of two, of which nothing else is set. There are 1 to 65,536 segments.
-    /// Each segment holds at most the capacity divided by their number, rounded up, so together they may hold a little more.
+    /// Creates a cache that holds at most this many entries in this many segments, rounded up to a power of two, with nothing else set. The
+    /// number of segments is 1 to 65,536.
+    /// Each segment holds at most the capacity divided by their number, rounded up, so together they may hold slightly more.
     pub fn new(
         alloc: Global,
         max_capacity: u64,
@@ -137,7 +150,7 @@ impl<K: Eq + Hash + Drop, V: Clone + Drop, E: Env + Drop> SharedCache<
             .build(alloc, env)
     }
 
-    /// A builder of which so many segments are set, and nothing else.
+    /// Returns a builder with this number of segments, and nothing else set.
     pub fn builder(segments: usize) -> PlainBuilder<Segmented>
         ensures { result.plan ≡ record blank { segments = segments } }
     {

@@ -1,4 +1,4 @@
-//! The cache, and its calls that are one hold of the lock.
+//! The cache, and its calls that take the lock once.
 ghost use Rattle.std.specs.Prelude.{◌≡◌, IfErr};
 ghost use Rattle.front_reference.specs.declared.errors.CacheError.TheVariants as errors;
 ghost use Rattle.sync_desk.specs.Slots.Refusals.{IsShortage};
@@ -12,7 +12,7 @@ use std::hash::{BuildHasher, Hash};
 use std::sync::{Arc, Wait};
 use sync_desk::Env;
 
-/// What is under the lock, and what of a cache never changes.
+/// What is under the lock, and the properties of a cache that never change.
 #[derive(Drop)]
 pub(crate) struct Inner<K: Eq + Hash, V, S: BuildHasher, R: Rules<K, V>, E, C> {
     pub(crate) desk: SharedDesk<K, V, S, R, E, C>,
@@ -20,7 +20,7 @@ pub(crate) struct Inner<K: Eq + Hash, V, S: BuildHasher, R: Rules<K, V>, E, C> {
     policy: Policy,
 }
 
-/// A cache of one segment that threads share: see `SharedCache`, which has its calls.
+/// A cache of one segment that threads share. Its calls are those of `SharedCache`.
 /// ```
 /// let cache: PlainCache<u64, u64, MachineEnv<C, G>> = Cache::new(alloc, 10_000, env)?;
 /// cache.insert(&rt, 7, 49)?;
@@ -28,8 +28,9 @@ pub(crate) struct Inner<K: Eq + Hash, V, S: BuildHasher, R: Rules<K, V>, E, C> {
 /// ```
 pub type Cache<K, V, S, R, E> = SharedCache<K, V, S, R, E, Single>;
 
-/// A cache of several segments that threads share, each with its share of the capacity: see `SharedCache`, which has its calls.
-/// It is made with the number of its segments; a predicate answers `()` in place of an identifier; and it has `get_or_insert_with` and `get_or_try_insert_with` besides.
+/// A cache of several segments that threads share, each with its share of the capacity. Its calls are those of `SharedCache`.
+/// It is created with its number of segments, `invalidate_entries_if` returns `()` instead of an identifier, and it has
+/// `get_or_insert_with` and `get_or_try_insert_with` in addition.
 /// ```
 /// let cache: SegmentedCache<u64, u64, StdHasher, PlainRules, MachineEnv<C, G>> =
 ///     SegmentedCache::new(alloc, 10_000, 4, env)?;
@@ -38,10 +39,14 @@ pub type SegmentedCache<K, V, S, R, E> = SharedCache<K, V, S, R, E, Segmented>;
 
 /// A cache that threads share, in one of two forms: `Cache` and `SegmentedCache`. A clone is another handle of the same cache.
 ///
-/// Each call takes the handle `rt` by which it may wait for the lock, and is one hold of it; a call that makes a value or computes is a few, and its closures run between them, so they may use the same cache. Each call comes at a moment, the later of the environment's and the last call's, and at the next step. Whenever the lock is taken, what it guards keeps what a cache that is lent keeps between calls.
-/// A call of one hold that is refused has changed nothing.
+/// Each call takes a handle `rt`, by which it may wait for the lock, and takes the lock once. A call that makes a value or computes takes
+/// it several times, and its closures run in between, so they may use the same cache. Each call has a moment, the later of the
+/// environment's and the last call's, and the next step. Whenever the lock is taken, what it guards keeps what a lent cache keeps between
+/// calls.
+/// If a call that takes the lock once is refused, it has changed nothing.
 ///
-/// **Clones, comparisons and hashes of keys and values run under the lock, and so do the rules (`Expiry`, `Weigher`, `Predicate`) and the `Env`: none of them must call the cache, or it waits for itself for ever.**
+/// **Clones, comparisons and hashes of keys and values run under the lock, and so do the rules (`Expiry`, `Weigher`, `Predicate`) and the
+/// `Env`. None of them may call the cache, or it waits for itself forever.**
 #[derive(Drop)]
 pub struct SharedCache<K: Eq + Hash, V, S: BuildHasher, R: Rules<K, V>, E, C = Single> {
     pub(crate) inner: Arc<Inner<K, V, S, R, E, C>>,
@@ -81,7 +86,7 @@ impl<
     E: Env + Drop,
     C: Drop,
 > SharedCache<K, V, S, R, E, C> {
-    /// A shared form of a cache that was lent.
+    /// Makes a lent cache shared.
     pub(crate) fn over(
         alloc: Global,
         state: LentState<K, V, S, R, C>,
@@ -100,7 +105,7 @@ impl<
         Ok(SharedCache { inner, alloc })
     }
 
-    /// What the cache is called, if it was given a name.
+    /// Returns the name of the cache, if it has one.
     pub fn name(&self) -> Option<&str> {
         match &self.inner.name {
             Some(name) => Some(name.as_str()),
@@ -108,25 +113,28 @@ impl<
         }
     }
 
-    /// What the cache was made with: the wanted capacity of all segments together, the number of segments (a power of two), and the times to live and to idle, each at most 2^64 - 2 nanoseconds.
+    /// Returns the settings of the cache: the maximum capacity of all segments together, the number of segments (a power of two), and the
+    /// times to live and to idle, each at most 2^64 - 2 nanoseconds.
     pub fn policy(&self) -> Policy {
         self.inner.policy
     }
 
-    /// How many entries there are, as of each segment's last run of maintenance, up to 2^64 - 1. After `run_pending_tasks` it is exact.
+    /// Returns the number of entries as of each segment's last maintenance run, at most 2^64 - 1. It is exact after `run_pending_tasks`.
     pub fn entry_count(&self, rt: &impl Wait) -> u64 {
         let guard = self.inner.desk.lock(rt);
         guard.entry_count()
     }
 
-    /// What the entries weigh in all, as of each segment's last run of maintenance, up to 2^64 - 1. After `run_pending_tasks` it is exact.
+    /// Returns the total weight of the entries as of each segment's last maintenance run, at most 2^64 - 1. It is exact after
+    /// `run_pending_tasks`.
     pub fn weighted_size(&self, rt: &impl Wait) -> u64 {
         let guard = self.inner.desk.lock(rt);
         guard.weighted_size()
     }
 
-    /// A clone of the value of a key, or `None` where none is visible. It is a use of the value: it puts its idle time off, and counts for eviction.
-    /// Refused where the clone finds no memory, or where 2^64 - 1 calls were made.
+    /// Returns a clone of the value of a key, or `None` if none is visible. This counts as a use of the value: it restarts its idle time,
+    /// and makes its eviction less likely.
+    /// Returns an error if there is not enough memory for the clone, or if 2^64 - 1 calls have been made.
     pub fn get(&self, rt: &impl Wait, key: &K) -> Result<Option<V>, CacheError>
         requires exact { (x y : V) → V.is_clone x y → y ≡ x }
         ensures cause { IfErr result IsShortage }
@@ -136,15 +144,17 @@ impl<
         desk.get(key)
     }
 
-    /// Whether a key has a visible value: one that is neither expired nor invalidated. It is no use of it, and is never refused.
+    /// Returns whether a key has a visible value: one that is neither expired nor invalidated. This does not count as a use, and never
+    /// fails.
     pub fn contains_key(&self, rt: &impl Wait, key: &K) -> bool {
         let mut guard = self.inner.desk.lock(rt);
         let desk = &mut *guard;
         desk.contains_key(key)
     }
 
-    /// Inserts a value, in the place of the one that the key may have. It is visible at once, also above the capacity; maintenance decides what stays. A cache of capacity 0 takes none, and answers `Ok`.
-    /// Refused where there is no memory for it, or where 2^64 - 1 calls were made.
+    /// Inserts a value, replacing the one that the key may have. It is visible at once, even above the capacity; maintenance decides which
+    /// values stay. A cache of capacity 0 stores nothing and returns `Ok`.
+    /// Returns an error if there is not enough memory, or if 2^64 - 1 calls have been made.
     pub fn insert(&self, rt: &impl Wait, key: K, value: V) -> Result<(), CacheError>
         ensures cause { IfErr result IsShortage }
     {
@@ -153,7 +163,8 @@ impl<
         desk.insert(key, value)
     }
 
-    /// Removes a key, and answers a clone of its value, also of one that has expired or was invalidated and is still held; `None` where there is none.
+    /// Removes a key, and returns a clone of its value, even one that has expired or was invalidated and is still held; `None` if there is
+    /// none.
     pub fn remove(&self, rt: &impl Wait, key: &K) -> Result<Option<V>, CacheError>
         requires exact { (x y : V) → V.is_clone x y → y ≡ x }
         ensures cause { IfErr result IsShortage }
@@ -163,7 +174,7 @@ impl<
         desk.remove(key)
     }
 
-    /// Removes a key, as `remove` does, and answers nothing of its value.
+    /// Removes a key like `remove`, without returning its value.
     pub fn invalidate(&self, rt: &impl Wait, key: &K) -> Result<(), CacheError>
         requires exact { (x y : V) → V.is_clone x y → y ≡ x }
         ensures cause { IfErr result IsShortage }
@@ -173,7 +184,8 @@ impl<
         desk.invalidate(key)
     }
 
-    /// Invalidates every value that was written before. They are invisible at once; maintenance removes them later. It takes no memory.
+    /// Invalidates all values that were written before. They become invisible at once; maintenance removes them later. It allocates
+    /// nothing.
     pub fn invalidate_all(&self, rt: &impl Wait) -> Result<(), CacheError>
         ensures cause { IfErr result (λ e. e ≡ errors.UsedUp) }
     {
@@ -182,7 +194,9 @@ impl<
         desk.invalidate_all()
     }
 
-    /// Runs the maintenance of every segment to its end: it removes what has expired or was invalidated, and evicts what is above the capacity. After it the counts are exact. Calls do so by themselves where it is due: at 64 reads or writes of a segment, or 300 milliseconds after its last run.
+    /// Runs the maintenance of every segment to its end: it removes values that have expired or were invalidated, and evicts those above
+    /// the capacity. After it the counts are exact. Other calls run maintenance when it is due: at 64 reads or writes of a segment, or 300
+    /// milliseconds after its last run.
     pub fn run_pending_tasks(&self, rt: &impl Wait) -> Result<(), CacheError>
         ensures cause { IfErr result (λ e. e ≡ errors.UsedUp) }
     {

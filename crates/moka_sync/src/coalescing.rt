@@ -1,4 +1,4 @@
-//! Calls that make a value where none is visible. Of several callers for a key one makes it, and the others wait for it.
+//! Calls that make a value if none is visible. Of several callers for a key one makes it, and the others wait for it.
 ghost use Rattle.std.specs.Prelude.{◌≡◌, IfErr};
 ghost use Rattle.sync_desk.specs.Slots.Refusals.{IsTurnRefusal};
 
@@ -19,8 +19,14 @@ impl<
     E: Env + Drop,
     C: Drop,
 > SharedCache<K, V, S, R, E, C> {
-    /// A clone of the visible value of a key, of which it is a use, or of the one that `make` makes, which is kept. Of the calls of this kind for the key that come at the same time one runs its `make`, without the lock, and the others wait for what it makes.
-    /// Where that value or a clone of it finds no memory the call is refused, and those that wait begin again; a call that waited 200 times in vain is `Abandoned`. A write, a removal or a clear meanwhile does not keep the value from being inserted.
+    /// Returns a clone of the visible value of a key, which counts as a use of it. If there is none, `make` makes one, which is stored. Of
+    /// concurrent calls of this kind for the same key, one runs its `make`, without the lock, and the others wait for its result.
+    /// If there is not enough memory for the value or a clone of it, the call is refused, and those that wait begin again. A call that has
+    /// waited 200 times in vain returns `Abandoned`. A write, a removal or a clear in the meantime does not prevent the value from being
+    /// inserted.
+    /// ```
+    /// let square = cache.get_with(&rt, 7, || 49)?;
+    /// ```
     pub fn get_with<H: Wait, M: FnOnce() -> V + Drop>(
         &self,
         rt: &H,
@@ -40,7 +46,10 @@ impl<
             .make_value(rt, asked, Passing::Never, |_: &V| -> bool { false }, make)
     }
 
-    /// The same by a key that is lent, and cloned only where a turn begins.
+    /// Like `get_with`, with a borrowed key, which is cloned only if a turn begins.
+    /// ```
+    /// let page = cache.get_with_by_ref(&rt, &address, || fetch(&address))?;
+    /// ```
     pub fn get_with_by_ref<H: Wait, M: FnOnce() -> V + Drop>(
         &self,
         rt: &H,
@@ -63,8 +72,12 @@ impl<
             .make_value(rt, asked, Passing::Never, |_: &V| -> bool { false }, make)
     }
 
-    /// The same as `get_with`, where a visible value of which `replace_if` says yes counts as none.
-    /// `replace_if` is asked of a clone of the value, without the lock, so it may look into the same cache; it is asked again where a value of the key may have been written meanwhile. What another call of the same kind makes while this one waits for it is not asked about.
+    /// Like `get_with`, except that a visible value for which `replace_if` returns true counts as none.
+    /// `replace_if` is called on a clone of the value, without the lock, so it may use the same cache. It is called again if a value of the
+    /// key may have been written in the meantime. It is not called on what another call of the same kind makes while this one waits for it.
+    /// ```
+    /// let fresh = cache.get_with_if(&rt, 7, || 50, |old| *old < 50)?;
+    /// ```
     pub fn get_with_if<H: Wait, M: FnOnce() -> V + Drop, P: Fn(&V) -> bool + Drop>(
         &self,
         rt: &H,
@@ -85,7 +98,11 @@ impl<
             .make_value(rt, asked, Passing::Unasked, replace_if, make)
     }
 
-    /// The same as `get_with`, where `make` may make none: then nothing is kept, and this call and those that wait for it answer `None`.
+    /// Like `get_with`, except that `make` may return `None`. Then nothing is stored, and this call and those that wait for it return
+    /// `None`.
+    /// ```
+    /// let half = cache.optionally_get_with(&rt, number, || (number % 2 == 0).then_some(number / 2))?;
+    /// ```
     pub fn optionally_get_with<H: Wait, M: FnOnce() -> Option<V> + Drop>(
         &self,
         rt: &H,
@@ -103,7 +120,7 @@ impl<
         self.inner.desk.make_option(rt, asked, make)
     }
 
-    /// The same by a key that is lent, and cloned only where a turn begins.
+    /// Like `optionally_get_with`, with a borrowed key, which is cloned only if a turn begins.
     pub fn optionally_get_with_by_ref<H: Wait, M: FnOnce() -> Option<V> + Drop>(
         &self,
         rt: &H,
@@ -124,7 +141,14 @@ impl<
         self.inner.desk.make_option(rt, asked, make)
     }
 
-    /// The same as `get_with`, where `make` may fail: then nothing is kept, and this call and those that wait for it answer the same fault, in an `Arc`. The outer error is the cache's own.
+    /// Like `get_with`, except that `make` may fail. Then nothing is stored, and this call and those that wait for it return the same
+    /// fault, in an `Arc`. The outer error is the cache's own.
+    /// ```
+    /// match cache.try_get_with(&rt, 7, || read_row(7))? {
+    ///     Ok(row) => show(&row),
+    ///     Err(fault) => report(&fault),
+    /// }
+    /// ```
     pub fn try_get_with<H: Wait, M: FnOnce() -> Result<V, R::Fault> + Drop>(
         &self,
         rt: &H,
@@ -142,7 +166,7 @@ impl<
         self.inner.desk.make_result(rt, asked, make)
     }
 
-    /// The same by a key that is lent, and cloned only where a turn begins.
+    /// Like `try_get_with`, with a borrowed key, which is cloned only if a turn begins.
     pub fn try_get_with_by_ref<H: Wait, M: FnOnce() -> Result<V, R::Fault> + Drop>(
         &self,
         rt: &H,

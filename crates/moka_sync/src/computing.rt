@@ -1,4 +1,4 @@
-//! Calls that decide by the entry of a key what is to be done with it. They come one at a time for a key.
+//! Calls that decide what to do with a key by its entry. They come one at a time for a key.
 ghost use Rattle.std.specs.Prelude.{◌≡◌, IfOk, IfErr};
 ghost use Rattle.front_parts.specs.Access.Answering.{IsOutcomeOf};
 ghost use Rattle.front_reference.specs.declared.data.Op.TheVariants as op;
@@ -23,7 +23,7 @@ impl<
     E: Env + Drop,
     C: Drop,
 > Lead<'a, K, V, S, R, E, C> {
-    /// Ends a compute turn by putting a value, or gives it up where that is refused.
+    /// Ends a compute turn by putting a value, or gives it up if that is refused.
     fn put(self, rt: &impl Wait, value: V) -> Result<(), CacheError>
         ensures { IfErr result IsEndRefusal }
     {
@@ -40,7 +40,7 @@ impl<
         ended
     }
 
-    /// Ends a compute turn by removing its key, or gives it up where that is refused.
+    /// Ends a compute turn by removing its key, or gives it up if that is refused.
     fn take_out(self, rt: &impl Wait, key: &K) -> Result<Option<V>, CacheError>
         requires exact { (x y : V) → V.is_clone x y → y ≡ x }
         ensures { IfErr result IsShortage }
@@ -58,7 +58,7 @@ impl<
         removed
     }
 
-    /// Puts a value, and answers it.
+    /// Puts a value, and returns it.
     fn put_copy(self, rt: &impl Wait, value: V, was_seen: bool) -> Result<Computed<V>, CacheError>
         ensures does { IfOk result (IsOutcomeOf (op.Put value)) }
         ensures cause { IfErr result IsEndRefusal }
@@ -100,7 +100,7 @@ impl<
         }
     }
 
-    /// Lets a closure decide, without the lock, and does what it decided. Where it fails nothing is done but the look-up's read.
+    /// Calls a closure without the lock, and does what it decided. If the closure fails, nothing is done except for the look-up's read.
     fn decide<X: Drop, H: Wait, D: FnOnce(Option<V>) -> Result<Op<V>, X> + Drop>(
         self,
         rt: &H,
@@ -141,7 +141,7 @@ impl<
     E: Env + Drop,
     C: Drop,
 > SharedDesk<K, V, S, R, E, C> {
-    /// Leads the compute turn of a key, once no other does; with the visible value, of which it is a use.
+    /// Leads the compute turn of a key, once nobody else does, and returns the visible value, which counts as a use of it.
     fn lead_compute<H: Wait>(&self, rt: &H, key: &Shared<K>) -> Result<(u64, Option<V>), CacheError>
         requires exact { (x y : V) → V.is_clone x y → y ≡ x }
         ensures cause { IfErr result IsShortage }
@@ -159,7 +159,8 @@ impl<
         unreachable!()
     }
 
-    /// Lets `decide` say by the visible value what is to be done with a key, does it, and answers what was done; or the error of `decide`, and then nothing is written. `decide` runs without the lock, and such calls for one key come one at a time.
+    /// Calls `decide` with the visible value of a key, does what it decides, and returns what was done. If `decide` fails, returns its
+    /// error and writes nothing. `decide` runs without the lock, and such calls for one key come one at a time.
     pub fn compute<X: Drop, H: Wait, D: FnOnce(Option<V>) -> Result<Op<V>, X> + Drop>(
         &self,
         rt: &H,

@@ -12,8 +12,10 @@ use std::hash::{BuildHasher, Hash};
 use std::sync::{Forever, Wait};
 use sync_desk::Env;
 
-/// The visible keys of a cache that threads share, each once, with clones of their values. What is removed before its turn is not given.
-/// Each item is a pair of a key and a value, or a refusal for want of memory, after which the next call tries the same place again.
+/// An iterator over the visible keys of a shared cache, each once, with clones of their values. A value that is removed before its turn is
+/// not returned.
+/// Each item is a pair of a key and a value, or an error if there is not enough memory for them, after which the next call tries the same
+/// place again.
 #[derive(Drop)]
 pub struct Iter<
     'a,
@@ -27,9 +29,9 @@ pub struct Iter<
 > {
     cache: &'a SharedCache<K, V, S, R, E, C>,
     rt: &'a H,
-    // How many calls there may still be.
+    // How many calls may still come.
     turns: Forever<'a, H>,
-    // The keys of the segment before the one at `place` that are still to be tried, the next one last.
+    // The keys of the segment before `place` that are still to be tried, the next one last.
     keys: Vec<Shared<K>>,
     place: usize,
     ghost exact: { (x y : V) → V.is_clone x y → y ≡ x },
@@ -55,7 +57,7 @@ impl<
         }
     }
 
-    /// A clone of the visible value of a key, of which it is no use.
+    /// A clone of the visible value of a key. It does not count as a use.
     fn scan<H: Wait>(&self, rt: &H, key: &Shared<K>) -> Result<Option<V>, CacheError>
         requires exact { (x y : V) → V.is_clone x y → y ≡ x }
         ensures cause { IfErr result (λ e. e ≡ errors.OutOfMemory) }
@@ -65,7 +67,7 @@ impl<
         desk.scan(&**key)
     }
 
-    /// The value of the last key, which is then taken away.
+    /// The value of the last key, which is then removed.
     fn try_last<H: Wait>(
         &self,
         rt: &H,
@@ -88,7 +90,7 @@ impl<
         }
     }
 
-    /// The last key that has a value, with its value. It is taken away, and so are those behind it.
+    /// The last key that has a value, with its value. It is removed, and so are those after it.
     fn take_last<H: Wait>(
         &self,
         rt: &H,
@@ -106,7 +108,7 @@ impl<
         Ok(None)
     }
 
-    /// The first pair that is still to come, of the keys and of the segments from a place on.
+    /// The first pair that is still to come, from the keys and from the segments at and after `place`.
     fn advance<H: Wait>(
         &self,
         rt: &H,
@@ -139,7 +141,7 @@ impl<
     H: Wait,
     C: Drop,
 > Iter<'a, K, V, S, R, E, H, C> {
-    /// An iterator that gave nothing. It takes no memory, its items do.
+    /// An iterator that has returned nothing. It allocates nothing, but its items do.
     pub(crate) fn new(cache: &'a SharedCache<K, V, S, R, E, C>, rt: &'a H) -> Self
         requires exact { (x y : V) → V.is_clone x y → y ≡ x }
     {

@@ -1,4 +1,5 @@
-//! Bounded caches of values by key that threads share: one lock, one load at a time for a key.
+//! Bounded caches of values by key that threads share. All calls take one lock, and each missing value is made by only one of several
+//! callers.
 #![tactic(auto)]
 
 mod attached;

@@ -1,4 +1,4 @@
-//! Calls that make a value where none is visible. Of several callers for a key one makes it, and the others wait for it.
+//! Calls that make a value if none is visible. Of several callers for a key one makes it, and the others wait for it.
 ghost use Rattle.std.specs.Prelude.{◌≡◌, true, IfOk, IfErr};
 ghost use Rattle.front_reference.specs.declared.data.TurnKind.TheVariants as turns;
 ghost use Rattle.sync_desk.specs.Slots.Endings.{suits};
@@ -48,7 +48,7 @@ impl<
         Ok(value_made(made))
     }
 
-    /// The visible value, or the one that is made, if one is.
+    /// The visible value, or the one that is made, if any.
     pub fn make_option<H: Wait, A: Asked<K>, M: FnOnce() -> Option<V> + Drop>(
         &self,
         rt: &H,

@@ -1,4 +1,4 @@
-//! A call that makes a value for which memory may be refused.
+//! A call that makes a value whose allocation may fail.
 ghost use Rattle.std.specs.Prelude.{◌≡◌, true, IfOk, IfErr};
 ghost use Rattle.front_reference.specs.declared.data.TurnKind.TheVariants as turns;
 ghost use Rattle.sync_desk.specs.Slots.Endings.{suits};
@@ -22,7 +22,8 @@ impl<
     E: Env + Drop,
     C: Drop,
 > SharedCache<K, V, S, R, E, C> {
-    /// The same as `get_with`, and coalesced with it, where `make` may be refused memory. Then its turn is given up, so that those that wait begin again, and the call answers `OutOfMemory`.
+    /// Like `get_with`, and coalesced with it, except that `make` may fail to allocate. Then its turn is given up, so that those that wait
+    /// begin again, and the call returns `OutOfMemory`.
     /// ```
     /// let text = cache.get_with_alloc(&rt, key, || Shared::new(alloc, String::from_str(alloc, "seven")?))?;
     /// ```

@@ -7,7 +7,8 @@ use std::hash::{BuildHasher, Hash};
 use std::sync::{Condvar, Mutex, MutexGuard, Wait};
 use sync_desk::{Desk, Env};
 
-/// What threads share of a cache: a desk under one lock, and what tells those that wait for a turn that one ended. Whenever the lock is taken, what it guards keeps what a cache that is lent keeps between calls.
+/// What threads share of a cache: a desk under one lock, and a condition variable that signals that a turn ended. Whenever the lock is
+/// taken, what it guards keeps what a lent cache keeps between calls.
 #[derive(Drop)]
 pub struct SharedDesk<K: Eq + Hash, V, S: BuildHasher, R: Rules<K, V>, E, C = Single> {
     pub(crate) alloc: Global,
@@ -23,7 +24,7 @@ impl<
     E: Env + Drop,
     C: Drop,
 > SharedDesk<K, V, S, R, E, C> {
-    /// A cache that was lent, of whose turns none is under way, with what its moments come from.
+    /// A cache that was lent, with no turn under way, and the environment that gives its moments.
     pub fn new(alloc: Global, state: LentState<K, V, S, R, C>, env: E) -> Self {
         SharedDesk {
             alloc,
@@ -32,7 +33,7 @@ impl<
         }
     }
 
-    /// Takes the lock, which is let go where the guard is. May wait for it.
+    /// Takes the lock, which is released when the guard is dropped. May wait for it.
     pub fn lock<H: Wait>(&self, rt: &H) -> MutexGuard<'_, Desk<K, V, S, R, E, C>> {
         self.desk.lock(rt)
     }

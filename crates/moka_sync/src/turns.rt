@@ -1,4 +1,4 @@
-//! Turns: who leads one ends it, and who waits for one sees how it ended.
+//! Turns: a leader ends its turn, and a waiting caller sees how it ended.
 ghost use Rattle.std.specs.Prelude.{◌≡◌, true, Ok, IfOk, IfErr};
 ghost use Rattle.front_reference.specs.declared.data.Made.{Made};
 ghost use Rattle.moka_sync.specs.Turning.{HasAnswer, HasReceived, IsAnswer, MayMake};
@@ -14,7 +14,7 @@ use std::hash::{BuildHasher, Hash};
 use std::sync::{MutexGuard, Wait};
 use sync_desk::{Asked, Desk, Ending, Env, Start, copy_made};
 
-/// How often a call that makes a value begins: where each turn that it waited for was given up, it is.
+/// How often a call that makes a value begins. If each turn that it waited for was given up, so is the call.
 pub(crate) const BEGINNINGS: u32 = 200;
 
 /// A turn that the caller leads. It can't be dropped, so each path ends it or gives it up.
@@ -27,16 +27,16 @@ pub(crate) struct Lead<'a, K: Eq + Hash, V, S: BuildHasher, R: Rules<K, V>, E, C
 /// Whether a visible value is passed over, as far as that is known.
 #[derive(Clone, Copy)]
 pub(crate) enum Passing {
-    /// None is.
+    /// No value is passed over.
     Never,
-    /// `replace_if` is to say it.
+    /// `replace_if` has not been called yet.
     Unasked,
-    /// It said so of the value that was visible when the last write of its key was at this step.
+    /// What `replace_if` returned for the value that was visible when the last write of its key was at this step.
     Said(u64, bool),
 }
 
 impl Passing {
-    /// What was said of the visible value, where it was last written at this step.
+    /// What was returned for the visible value, if its last write is at this step.
     fn said(&self, written: u64) -> Option<bool> {
         match self {
             Passing::Said(step, is_passed_over) if *step == written => Some(*is_passed_over),
@@ -45,13 +45,13 @@ impl Passing {
     }
 }
 
-/// What a call that makes a value comes to.
+/// How a call that makes a value begins.
 enum MakingStart<A, V, F> {
-    /// A visible value, or what another made.
+    /// A visible value, or what another caller made.
     Answered(Made<V, F>),
     /// The turn of this number began, and the caller leads it.
     Led(u64),
-    /// The turn that was waited for was given up.
+    /// The turn that the caller waited for was given up.
     GivenUp(A),
 }
 
@@ -75,7 +75,7 @@ impl<
         }
     }
 
-    /// Ends the turn with what was made, or gives it up where that is refused.
+    /// Ends the turn with what was made, or gives it up if that is refused.
     fn finish(self, rt: &impl Wait, made: Made<V, Shared<R::Fault>>) -> Result<(), CacheError>
         requires { suits self.kind made ≡ true }
         ensures { IfErr result IsEndRefusal }
@@ -107,7 +107,7 @@ impl<
         shared.changed.notify_all();
     }
 
-    /// Ends the turn with what was made, and answers it.
+    /// Ends the turn with what was made, and returns it.
     fn finish_with(
         self,
         rt: &impl Wait,
@@ -129,7 +129,7 @@ impl<
         }
     }
 
-    /// Makes what the turn is for, without the lock, ends the turn with it, and answers it.
+    /// Makes what the turn is for, without the lock, ends the turn with it, and returns it.
     fn make<H: Wait, M: FnOnce() -> Result<Made<V, Shared<R::Fault>>, AllocError> + Drop>(
         self,
         rt: &H,
@@ -151,7 +151,7 @@ impl<
     }
 }
 
-/// Makes what a turn is for, and answers it as fresh.
+/// Makes what a turn is for, and returns it as fresh.
 fn make_fresh<
     K: Eq + Hash + Drop,
     V: Clone + Drop,
@@ -185,7 +185,7 @@ impl<
     E: Env + Drop,
     C: Drop,
 > SharedDesk<K, V, S, R, E, C> {
-    /// Waits for a turn to end: what it ended with, or nothing where it was given up. The lock is let go while it waits.
+    /// Waits for a turn to end. Returns what it ended with, or nothing if it was given up. The lock is released while it waits.
     pub(crate) fn wait_for<H: Wait>(
         &self,
         rt: &H,
@@ -208,7 +208,7 @@ impl<
         unreachable!()
     }
 
-    /// Begins a call that makes a value, under the lock, and waits where another leads its turn. The lock is let go while it waits.
+    /// Begins a call that makes a value, under the lock, and waits if another caller leads its turn. The lock is released while it waits.
     fn take_turn<H: Wait, A: Asked<K>>(
         &self,
         rt: &H,
@@ -234,7 +234,8 @@ impl<
         }
     }
 
-    /// Takes the lock, and knows whether the value that is visible then is passed over. `replace_if` is asked without the lock, of a clone, and again where a value of the key was written meanwhile.
+    /// Takes the lock, and determines whether the value that is visible then is passed over. `replace_if` is called without the lock, on a
+    /// clone, and called again if a value of the key was written in the meantime.
     fn ask<H: Wait, P: Fn(&V) -> bool>(
         &self,
         rt: &H,
@@ -268,8 +269,10 @@ impl<
         unreachable!()
     }
 
-    /// The visible value of a key that is not passed over, or what another made meanwhile, and false; or what `make` makes, and true. A value that was made is kept.
-    /// Of several callers for the key one makes it, without the lock, and the others wait for it. Where each of 200 turns that it waited for was given up, so is the call.
+    /// Returns the visible value of a key that is not passed over, or what another caller made in the meantime, and false; or else what
+    /// `make` makes, and true. A value that was made is stored.
+    /// Of several callers for the key one makes it, without the lock, and the others wait for it. If each of 200 turns that the call waited
+    /// for was given up, the call returns `Abandoned`.
     pub(crate) fn coalesce<
         H: Wait,
         A: Asked<K>,
@@ -315,7 +318,7 @@ impl<
         Err(CacheError::Abandoned)
     }
 
-    /// What a closure that can be asked once says of the visible value of a key, without the lock.
+    /// What a closure that can be called once returns for the visible value of a key, without the lock.
     fn ask_once<H: Wait, P: FnOnce(&V) -> bool + Drop>(
         &self,
         rt: &H,
@@ -338,7 +341,8 @@ impl<
         }
     }
 
-    /// `coalesce` with a closure that is asked once, of the value that is visible as the call comes. A value that is written after that is not passed over.
+    /// `coalesce` with a closure that is called once, on the value that is visible when the call begins. A value that is written after that
+    /// is not passed over.
     pub fn coalesce_asking_once<
         H: Wait,
         A: Asked<K>,
@@ -367,7 +371,9 @@ impl<
         }
     }
 
-    /// The visible value of a key, unless `replace_if` says yes of it, and false; or what `make` makes, and true. All is done in one hold of the lock, and nobody is waited for: **both closures run under the lock, and must not call the cache.**
+    /// Returns the visible value of a key, unless `replace_if` returns true for it, and false; or else what `make` makes, and true. All
+    /// this happens in one hold of the lock, and the call waits for nobody else. **Both closures run under the lock, and must not call the
+    /// cache.**
     pub fn coalesce_now<
         H: Wait,
         P: FnOnce(&V) -> bool + Drop,

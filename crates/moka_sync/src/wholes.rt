@@ -11,9 +11,9 @@ use std::hash::{BuildHasher, Hash};
 use std::sync::Wait;
 use sync_desk::Env;
 
-/// Maintenance that a caller asks for, by its older name.
+/// Maintenance by its older name.
 pub trait ConcurrentCacheExt {
-    /// Runs maintenance to its end.
+    /// Runs maintenance to its end, like `run_pending_tasks`.
     fn sync(&self, rt: &impl Wait) -> Result<(), CacheError>
         ensures cause { IfErr result (λ e. e ≡ errors.UsedUp) };
 }
@@ -38,8 +38,12 @@ impl<
     R: Rules<K, V> + Drop,
     E: Env + Drop,
 > SharedCache<K, V, S, R, E, Single> {
-    /// Invalidates the values that were written before and of which a predicate says yes. Answers what names the predicate.
-    /// Refused with `InvalidationClosuresDisabled` where the builder was not told `support_invalidation_closures`; with `IdsInUse` where each of a thousand identifiers that were drawn is registered; else for want of memory or numbers.
+    /// Invalidates the values that were written before and for which the predicate returns true. Returns the identifier of the predicate.
+    /// Returns `InvalidationClosuresDisabled` if the builder did not call `support_invalidation_closures`, `IdsInUse` if each of a thousand
+    /// identifiers that were drawn is already registered, and otherwise an error only for lack of memory or of numbers.
+    /// ```
+    /// let id = cache.invalidate_entries_if(&rt, KeyPrefix(prefix))?;
+    /// ```
     pub fn invalidate_entries_if(
         &self,
         rt: &impl Wait,
@@ -60,8 +64,13 @@ impl<
     R: Rules<K, V> + Drop,
     E: Env + Drop,
 > SharedCache<K, V, S, R, E, Segmented> {
-    /// Invalidates the values that were written before and of which a predicate says yes, in all segments or, where it is refused, in none.
-    /// Refused with `InvalidationClosuresDisabled` where the builder was not told `support_invalidation_closures`; with `IdsInUse` where each of a thousand identifiers that were drawn for a segment is registered there; else for want of memory or numbers.
+    /// Invalidates the values that were written before and for which the predicate returns true, in all segments or, if the call is
+    /// refused, in none.
+    /// Returns `InvalidationClosuresDisabled` if the builder did not call `support_invalidation_closures`, `IdsInUse` if each of a thousand
+    /// identifiers that were drawn for a segment is already registered there, and otherwise an error only for lack of memory or of numbers.
+    /// ```
+    /// cache.invalidate_entries_if(&rt, KeyPrefix(prefix))?;
+    /// ```
     pub fn invalidate_entries_if(
         &self,
         rt: &impl Wait,
@@ -83,7 +92,13 @@ impl<
     E: Env + Drop,
     C: Drop,
 > SharedCache<K, V, S, R, E, C> {
-    /// Takes the oldest notice of the first segment that has one: a key, its value, and why it left. Only a cache whose builder was told `eviction_listener` has any; they wait until they are taken.
+    /// Takes the oldest notice of the first segment that has one: a key, its value, and why it left. A cache has notices only if its
+    /// builder called `eviction_listener`. They are kept until they are taken.
+    /// ```
+    /// if let Some(notice) = cache.next_notice(&rt) {
+    ///     log(&notice.key, notice.cause);
+    /// }
+    /// ```
     pub fn next_notice(&self, rt: &impl Wait) -> Option<Notice<Shared<K>, V>> {
         let mut guard = self.inner.desk.lock(rt);
         let desk = &mut *guard;

@@ -1,4 +1,4 @@
-//! Calls that are one hold of the lock.
+//! Calls that take the lock once.
 ghost use Rattle.std.specs.Prelude.{◌≡◌, IfOk, IfErr, OnOk, OnErr};
 ghost use Rattle.front_reference.specs.declared.errors.CacheError.TheVariants as errors;
 ghost use Rattle.front_state.specs.Calls.{ways_by};
@@ -11,7 +11,7 @@ use engine_reference::Rules;
 use front_reference::{At, CacheError, OwnedKey};
 use std::hash::{BuildHasher, Hash};
 
-/// What a call of the state is refused for: memory, or else numbers.
+/// Why a call of the state is refused: memory, or otherwise numbers.
 pub(crate) fn shortage_of(refused: CacheError) -> CacheError
     ensures { IsShortage result }
 {
@@ -29,7 +29,7 @@ impl<
     E: Env + Drop,
     C: Drop,
 > Desk<K, V, S, R, E, C> {
-    /// A clone of the visible value of a key, of which it is a use.
+    /// Returns a clone of the visible value of a key, which counts as a use of it.
     pub fn get(&mut self, key: &K) -> Result<Option<V>, CacheError>
         requires exact { (x y : V) → V.is_clone x y → y ≡ x }
         ensures found { IfOk result (LooksUpAsDrawn (ways_by R.Rules K.eq K.hash_input S.BuildHasher S.Hasher.Hasher) key.now self.old.state self.new.state) }
@@ -45,7 +45,7 @@ impl<
         }
     }
 
-    /// Whether a key has a visible value. It is no use of it, and no call that changes anything.
+    /// Returns whether a key has a visible value. It does not count as a use, and changes nothing.
     pub fn contains_key(&mut self, key: &K) -> bool
         ensures { self.new.state ≡ self.old.state }
     {
@@ -53,7 +53,7 @@ impl<
         self.state.contains_key(key, now)
     }
 
-    /// Inserts a value. A cache of capacity 0 takes none.
+    /// Inserts a value. A cache of capacity 0 stores none.
     pub fn insert(&mut self, key: K, value: V) -> Result<(), CacheError>
         ensures inserts { OnOk result (InsertsAsDrawn (ways_by R.Rules K.eq K.hash_input S.BuildHasher S.Hasher.Hasher) key value self.old.state self.new.state) }
         ensures err { OnErr result (self.new.state ≡ self.old.state) }
@@ -77,7 +77,7 @@ impl<
         }
     }
 
-    /// Removes a key, whether its deadline has come or not, and answers its value.
+    /// Removes a key, whether its deadline has come or not, and returns its value.
     pub fn remove(&mut self, key: &K) -> Result<Option<V>, CacheError>
         requires exact { (x y : V) → V.is_clone x y → y ≡ x }
         ensures err { OnErr result (self.new.state ≡ self.old.state) }

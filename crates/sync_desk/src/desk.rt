@@ -13,7 +13,8 @@ use front_state::{LentState, Single};
 use std::alloc::Global;
 use std::hash::{BuildHasher, Hash};
 
-/// A cache's state with what its calls' moments come from, and the turns that are led or waited for. Each call draws its moment and its step: the greater of the environment's moment and the state's, and the step after the state's.
+/// A cache's state with its environment, and the turns that are led or waited for. Each call has its moment, the greater of the
+/// environment's moment and the state's, and its step, the one after the state's.
 #[derive(Drop)]
 pub struct Desk<K: Eq + Hash, V, S: BuildHasher, R: Rules<K, V>, E, C = Single> {
     pub(crate) alloc: Global,
@@ -31,7 +32,7 @@ impl<
     E: Env + Drop,
     C: Drop,
 > Desk<K, V, S, R, E, C> {
-    /// A state, of whose turns none is under way, with what its moments come from.
+    /// A state with no turn under way, and the environment that gives its moments.
     pub fn new(alloc: Global, state: LentState<K, V, S, R, C>, env: E) -> Self
         ensures { result.state ≡ state }
     {
@@ -44,7 +45,7 @@ impl<
         }
     }
 
-    /// When the next call comes; never where the steps of 64 bits are used up.
+    /// The moment and step of the next call; `None` if the 64-bit steps are used up.
     pub(crate) fn draw(&mut self) -> Option<At>
         ensures follows { IfSome result (λ at. ComesAfter at.now at.step self.old.state) }
         ensures rises { IfSome result (λ at. self.old.state.step < at.step) }
@@ -57,19 +58,20 @@ impl<
         Some(At { now, step })
     }
 
-    /// The step at which a value of a key was last written, or of another key that shares its place. Where it is the same as before, the visible value is too, or there is none any more.
+    /// Returns the step at which a value of a key, or of another key that shares its place, was last written. If it is the same as before,
+    /// so is the visible value, unless there is none any more.
     pub fn last_write(&self, key: &K) -> u64 {
         self.writes.last(self.state.hash(key))
     }
 
-    /// How many entries there are, as of the last run of each part.
+    /// Returns the number of entries as of the last run of each part.
     pub fn entry_count(&self) -> u64
         ensures { result ≡ total_number self.now.state }
     {
         self.state.entry_count()
     }
 
-    /// What they weigh, as of the last run of each part.
+    /// Returns the total weight of the entries as of the last run of each part.
     pub fn weighted_size(&self) -> u64
         ensures { result ≡ total_weight self.now.state }
     {

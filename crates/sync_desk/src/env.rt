@@ -1,4 +1,4 @@
-//! Where a cache that threads share takes its moments and its random words from.
+//! The source of moments and random words of a shared cache.
 mod dial;
 mod env;
 mod machine;

@@ -1,4 +1,4 @@
-//! What lies under the lock of a cache that threads share: its state, what its moments come from, and who waits for which turn.
+//! What the lock of a shared cache guards: its state, the source of its moments, and which callers wait for which turn.
 #![tactic(auto)]
 
 mod calls;

@@ -1,4 +1,4 @@
-//! Turns: who leads, who waits, and how they end.
+//! Turns: leading, waiting, and how they end.
 ghost use Rattle.std.specs.Prelude.{◌≡◌, true, None, Ok, IfOk, IfErr, OnOk, OnErr, IsSome, is_some};
 ghost use Rattle.std.specs.Fn.{FnOnceReturnsAt};
 ghost use Rattle.front_reference.specs.Fronts.{turn_at, turn_of};
@@ -22,7 +22,7 @@ use std::hash::{BuildHasher, Hash};
 pub enum Start<A, V> {
     /// The visible value.
     Found(V),
-    /// The turn of this number is under way. The caller waits for it, and may ask again with this.
+    /// The turn of this number is under way. The caller waits for it, and may try again with this name of its key.
     Wait(u64, A),
     /// The turn of this number began, and the caller leads it.
     Lead(u64),
@@ -33,7 +33,7 @@ pub enum Start<A, V> {
 pub enum ComputeStart<V> {
     /// The turn of this number is under way, and the caller waits for it.
     Wait(u64),
-    /// The turn of this number began, and the caller leads it. This is the visible value, of which it is a use.
+    /// The turn of this number began, and the caller leads it. The value is the visible one, which the call uses.
     Lead(u64, Option<V>),
 }
 
@@ -45,8 +45,10 @@ impl<
     E: Env + Drop,
     C: Drop,
 > Desk<K, V, S, R, E, C> {
-    /// Begins a call that makes a value: the visible value, of which it is a use; or the turn of this kind and key that is under way, for which the caller waits from now on; or a new one. A visible value of which `replace_if` says yes counts as none; it is asked here, so under the lock.
-    /// The key is made only where a turn begins, and waiting takes no memory.
+    /// Begins a call that makes a value. Returns the visible value, which counts as a use of it; or the turn of this kind and key that is
+    /// under way, for which the caller waits from now on; or a new turn. A visible value for which `replace_if` returns true counts as
+    /// none; `replace_if` is called here, and so under the lock.
+    /// The key is made only if a turn begins, and waiting allocates nothing.
     pub fn begin<A: Asked<K>, P: FnOnce(&V) -> bool + Drop>(
         &mut self,
         kind: TurnKind,
@@ -66,7 +68,7 @@ impl<
         }
     }
 
-    /// Begins where no turn is under way.
+    /// Begins if no turn is under way.
     fn find_or_lead<A: Asked<K>, P: FnOnce(&V) -> bool + Drop>(
         &mut self,
         kind: TurnKind,
@@ -98,7 +100,7 @@ impl<
         }
     }
 
-    /// Begins where a turn is under way.
+    /// Begins if a turn is under way.
     fn find_or_wait<A: Asked<K>, P: FnOnce(&V) -> bool + Drop>(
         &mut self,
         kind: TurnKind,
@@ -130,7 +132,7 @@ impl<
         }
     }
 
-    /// Begins a compute call: the turn of this key that is under way, for which the caller waits from now on, or a new one.
+    /// Begins a compute call. Returns the turn of this key that is under way, for which the caller waits from now on, or a new one.
     pub fn begin_compute(&mut self, key: &Shared<K>) -> Result<ComputeStart<V>, CacheError>
         requires exact { (x y : V) → V.is_clone x y → y ≡ x }
         ensures cause { IfErr result IsShortage }
@@ -162,7 +164,7 @@ impl<
         }
     }
 
-    /// Leads a compute call: its look-up.
+    /// Leads a compute call and makes its look-up.
     fn lead_compute(&mut self, number: u64, key: &K) -> Result<ComputeStart<V>, CacheError>
         requires exact { (x y : V) → V.is_clone x y → y ≡ x }
         ensures cause { IfErr result IsShortage }
@@ -176,7 +178,8 @@ impl<
         }
     }
 
-    /// What became of a turn that the caller waits for. Where it ended, or a clone of what it made is refused, the caller waits no longer.
+    /// Returns what became of a turn that the caller waits for. If it ended, or a clone of what it made is refused, the caller waits no
+    /// longer.
     pub fn look(
         &mut self,
         kind: TurnKind,
@@ -192,7 +195,8 @@ impl<
         }
     }
 
-    /// Ends the turn that the caller leads with what was made: a value is inserted, whatever happened to the key meanwhile, and those that wait get clones. Where a growth or a clone is refused the turn is given up.
+    /// Ends the turn that the caller leads with what was made: a value is inserted, whatever happened to the key in the meantime, and those
+    /// that wait get clones. If an allocation or a clone is refused, the turn is given up.
     pub fn finish(
         &mut self,
         kind: TurnKind,
@@ -214,7 +218,7 @@ impl<
         }
     }
 
-    /// A clone of what was made, for those that wait, if some do.
+    /// A clone of what was made, if some callers wait for it.
     fn copy_for_waiting(
         &self,
         kind: TurnKind,
@@ -268,7 +272,7 @@ impl<
         }
     }
 
-    /// Ends the turn of the state. What is refused for no want is no turn that is under way.
+    /// Ends the turn of the state. Any refusal other than a lack of memory or of numbers means that no such turn is under way.
     fn end_state(&mut self, number: u64, made: Made<V, Shared<R::Fault>>) -> Result<(), CacheError>
         ensures ends { OnOk result (FinishesAsDrawn (ways_by R.Rules K.eq K.hash_input S.BuildHasher S.Hasher.Hasher) number made self.old.state self.new.state) }
         ensures known { OnOk result (is_some (turn_at self.old.state.turns number) ≡ true) }
@@ -286,7 +290,7 @@ impl<
         }
     }
 
-    /// Gives the turn that the caller leads up: those that wait begin again. Nothing of it can be refused.
+    /// Gives up the turn that the caller leads: those that wait begin again. This cannot be refused.
     pub fn abandon(&mut self, kind: TurnKind, number: u64)
         ensures { GivesUp number self.old.state self.new.state }
     {
@@ -296,7 +300,7 @@ impl<
         let _hash = self.slots.end(kind, number, Ending::GivenUp);
     }
 
-    /// Ends the compute turn that the caller leads by putting a value. Where it is refused the turn is given up.
+    /// Ends the compute turn that the caller leads by putting a value. If that is refused, the turn is given up.
     pub fn put(&mut self, number: u64, value: V) -> Result<(), CacheError>
         ensures cause { IfErr result IsEndRefusal }
     {
@@ -308,7 +312,8 @@ impl<
         )
     }
 
-    /// Ends the compute turn that the caller leads by removing its key, whether its deadline has come or not, and answers its value. Where it is refused the turn is given up.
+    /// Ends the compute turn that the caller leads by removing its key, whether its deadline has come or not, and returns its value. If
+    /// that is refused, the turn is given up.
     pub fn take_out(&mut self, number: u64, key: &K) -> Result<Option<V>, CacheError>
         requires exact { (x y : V) → V.is_clone x y → y ≡ x }
         ensures cause { IfErr result IsShortage }
@@ -318,7 +323,8 @@ impl<
         removed
     }
 
-    /// The visible value of a key, unless `replace_if` says yes of it, and false; or what `make` makes, and true: a value is then inserted. No turn is led or waited for: all is done in one hold of the lock.
+    /// Returns the visible value of a key, unless `replace_if` returns true for it, and false; or else what `make` makes, and true: a value
+    /// is then inserted. No turn is led or waited for: all this happens in one hold of the lock.
     pub fn coalesce_now<
         P: FnOnce(&V) -> bool + Drop,
         M: FnOnce() -> Result<Made<V, Shared<R::Fault>>, AllocError> + Drop,

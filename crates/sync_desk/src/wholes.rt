@@ -1,4 +1,4 @@
-//! Calls on all segments: predicates, notices, and what iterators look at.
+//! Calls on all segments: predicates, notices, and what iterators read.
 ghost use Rattle.std.specs.Prelude.{◌≡◌, ◌≤◌, ℕ, true, IfErr, IfOk, OnOk, OnErr};
 ghost use Rattle.front_reference.specs.declared.errors.CacheError.TheVariants as errors;
 ghost use Rattle.front_reference.specs.Wholes.{next_told, without_told};
@@ -14,7 +14,7 @@ use front_state::{PredicateId, Segmented, Single};
 use moka_engine::Notice;
 use std::hash::{BuildHasher, Hash};
 
-/// Why a predicate is refused: that none are taken, identifiers, memory, or else numbers.
+/// Why a predicate is refused: no predicates are accepted, identifiers, memory, or otherwise numbers.
 fn cover_refusal_of(refused: CacheError) -> CacheError
     ensures { IsCoverRefusal result }
 {
@@ -33,7 +33,8 @@ impl<
     R: Rules<K, V> + Drop,
     E: Env + Drop,
 > Desk<K, V, S, R, E, Single> {
-    /// Covers the values that were written before of which a predicate says yes, in all segments or, where it is refused, in none. Its identifier is answered, in its hyphenated form of 36 bytes in lower case.
+    /// Invalidates the values that were written before and for which the predicate returns true, in all segments or, if it is refused, in
+    /// none. Returns its identifier, in hyphenated form, 36 bytes in lower case.
     pub fn invalidate_entries_if(
         &mut self,
         predicate: R::Predicate,
@@ -60,7 +61,8 @@ impl<
     R: Rules<K, V> + Drop,
     E: Env + Drop,
 > Desk<K, V, S, R, E, Segmented> {
-    /// Covers the values that were written before of which a predicate says yes, in all segments or, where it is refused, in none.
+    /// Invalidates the values that were written before and for which the predicate returns true, in all segments or, if it is refused, in
+    /// none.
     pub fn invalidate_entries_if(&mut self, predicate: R::Predicate) -> Result<(), CacheError>
         ensures takes { OnOk result (self.old.state.common.settings.takes_predicates ≡ true) }
         ensures err { OnErr result (self.new.state ≡ self.old.state) }
@@ -92,7 +94,7 @@ impl<
         self.state.next_notice()
     }
 
-    /// Clones of the keys of a segment, those of dead and covered values among them, or `None` where there is no such segment.
+    /// Returns clones of the keys of a segment, including those of expired and invalidated values, or `None` if there is no such segment.
     pub fn keys(&self, segment: usize) -> Result<Option<Vec<Shared<K>>>, CacheError>
         requires exact { (x y : V) → V.is_clone x y → y ≡ x }
         ensures cause { IfErr result (λ e. e ≡ errors.OutOfMemory) }
@@ -103,7 +105,7 @@ impl<
         }
     }
 
-    /// A clone of the visible value of a key. It is no use of it, and no call that changes anything.
+    /// Returns a clone of the visible value of a key. It does not count as a use, and changes nothing.
     pub fn scan(&mut self, key: &K) -> Result<Option<V>, CacheError>
         requires exact { (x y : V) → V.is_clone x y → y ≡ x }
         ensures found { IfOk result (λ found. (now : ℕ) × (self.old.state.moment ≤ now) × (found ≡ visible_in (ways_by R.Rules K.eq K.hash_input S.BuildHasher S.Hasher.Hasher) self.old.state now key.now)) }

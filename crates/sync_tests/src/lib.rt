@@ -10,6 +10,8 @@ mod choosing;
 #[cfg(test)]
 mod crowds;
 #[cfg(test)]
+mod leaving;
+#[cfg(test)]
 mod refusing;
 #[cfg(test)]
 mod replacing;

@@ -1,4 +1,4 @@
-//! Whole caches: iterators beside writers, evictions that are told, printed text, what builders make.
+//! Whole caches: iterators beside writers, evictions that are told, no room at all, printed text, what builders make.
 use crate::caches::{Moments, each_says_yes, make_moments};
 use moka_sync::{
     Build, BuildError, CacheBuilder, CacheError, Made, PlainCache, PlainRules, RemovalCause,
@@ -178,6 +178,30 @@ fn tells_each_anew<H: Wait>(rt: &H, alloc: Global) -> Result<bool, BuildError> {
 #[test]
 fn six_hundred_into_five_hundred(rt: HostRuntime) {
     assert!(rt; tells_each_anew(&rt, rt.alloc()) == Ok(true));
+}
+
+/// Whether key 0 has no value, and nothing is counted.
+fn shows_nothing<H: Wait>(rt: &H, cache: &PlainSegments<u64, ()>) -> bool {
+    !cache.contains_key(rt, &0) && cache.get(rt, &0) == Ok(None) && cache.entry_count(rt) == 0
+}
+
+/// Whether a value is taken and not kept, before a run and after it.
+fn keeps_nothing<H: Wait>(rt: &H, cache: &PlainSegments<u64, ()>) -> bool {
+    cache.insert(rt, 0, ()) == Ok(())
+        && shows_nothing(rt, cache)
+        && cache.run_pending_tasks(rt) == Ok(())
+        && shows_nothing(rt, cache)
+}
+
+/// The same of a new cache of capacity 0.
+fn keeps_nothing_anew<H: Wait>(rt: &H, alloc: Global) -> Result<bool, BuildError> {
+    let cache = PlainSegments::new(alloc, 0, 1, make_moments(alloc)?)?;
+    Ok(keeps_nothing(rt, &cache))
+}
+
+#[test]
+fn capacity_zero_keeps_nothing(rt: HostRuntime) {
+    assert!(rt; keeps_nothing_anew(&rt, rt.alloc()) == Ok(true));
 }
 
 /// A name, to be shared.

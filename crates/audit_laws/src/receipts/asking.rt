@@ -1,11 +1,11 @@
-//! Inputs and the events that they are.
+//! Inputs and their events.
 ghost use Rattle.std.specs.Prelude.{◌≡◌, true, false, IfOk};
 ghost use Rattle.audit_laws.specs.Receipts.Answers.{input_of};
 
 use audit_model::{Bytes, Event, Input, Outcome, copy_bytes};
 use std::alloc::{AllocError, Global};
 
-/// An input equal to this one, in memory of its own. Refused without memory.
+/// Returns an input equal to this one, in memory of its own, or an error if there is not enough.
 pub fn copy_input(alloc: Global, input: &Input) -> Result<Input, AllocError>
     ensures { IfOk result (λ copy. copy ≡ input.now) }
 {
@@ -39,7 +39,7 @@ pub fn copy_input(alloc: Global, input: &Input) -> Result<Input, AllocError>
     }
 }
 
-/// An outcome equal to this one, in memory of its own. Refused without memory.
+/// Returns an outcome equal to this one, in memory of its own, or an error if there is not enough.
 pub fn copy_outcome(alloc: Global, outcome: &Outcome) -> Result<Outcome, AllocError>
     ensures { IfOk result (λ copy. copy ≡ outcome.now) }
 {
@@ -50,7 +50,7 @@ pub fn copy_outcome(alloc: Global, outcome: &Outcome) -> Result<Outcome, AllocEr
     }
 }
 
-/// Whether the input is that event, asked of that namespace.
+/// Returns whether the input asks for this event in this namespace.
 pub fn asks(input: &Input, namespace: u64, event: &Event) -> bool
     ensures yes { result ≡ true → input.now ≡ input_of namespace event.now }
     ensures no { result ≡ false → input.now ≡ input_of namespace event.now → ⊥ }

@@ -1,23 +1,24 @@
-//! What inputs come to.
+//! The outputs of inputs.
 ghost use Rattle.std.specs.Prelude.{◌≡◌};
 ghost use Rattle.audit_laws.specs.Receipts.Answers.{last_is_held, output_of};
 
 use audit_model::{Conn, Event, Record, Step};
 
-/// What an input that was taken came to.
+/// The output of an input that was accepted.
 #[derive(Clone, Copy, Debug, PartialEq, Eq, Drop)]
 pub enum Output {
     /// An opening: the connection that was opened.
     Opened { conn: Conn },
     /// A piece: its lines that could run have run, and none is held back.
     All,
-    /// A piece: a command was refused for memory, and stays its connection's first; the next piece runs it again.
+    /// A piece: there was not enough memory for a command, which stays its connection's first; the next piece runs it again.
     Held,
-    /// All else: a connection was closed, or a load answered or given up.
+    /// Everything else: a connection was closed, or a load answered or given up.
     Done,
 }
 
-/// What the event of a record came to, as a service says it: an opening to its connection in that namespace. Takes no memory.
+/// Returns the output of the event of a record, as a service returns it: for an opening, its connection in that namespace. This allocates
+/// nothing.
 pub fn output_of(namespace: u64, entry: &Record) -> Output
     ensures { result ≡ output_of namespace entry.now }
 {

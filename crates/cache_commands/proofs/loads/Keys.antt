@@ -1,6 +1,6 @@
 -- What is known of the numbers and the keys of loads, when one is sent and as they change.
 use Rattle.std.proofs.Common.{◌≡◌, ℕ, suc, ◌+◌, ◌-◌, ◌≤◌, Bool, true, false, not, ◌==◌, ◌&&◌, ◌||◌, cond, List, [], ◌∷◌, ◌++◌, length, map, refl, sym, ap, ◌∙◌, arith}
-use Rattle.std.specs.Prelude.{Err, Ok, OnErr, OnOk, Result, nat_le, if◌then◌else◌}
+use Rattle.std.specs.Prelude.{Err, IfOk, Ok, OnErr, Result, nat_le, if◌then◌else◌}
 use Rattle.std.specs.List.{filter, list_all}
 use Rattle.std.proofs.lemmas.Bool.{and_from, and_parts, eq-eqb, eqb-true, le-leb, leb-true}
 use Rattle.std.proofs.lemmas.List.{length-append}
@@ -9,13 +9,13 @@ use Rattle.std.proofs.lemmas.Slice.Eq.{bytes_eq-Decides}
 use Rattle.audit_model.specs.Bytewise.{same}
 use Rattle.audit_model.specs.Situation.{PendingLoad, with_waiting}
 use Rattle.audit_model.specs.declared.input.LoadId.{LoadId}
-use Rattle.cache_commands.specs.Loads.Keys.{agrees_on, are_in_turn, has_its_key, have_their_keys, pending_load, were_sent}
-use Rattle.cache_commands.specs.declared.loads.load.Load.{Load}
+use Rattle.cache_commands.specs.Loads.Keys.{agrees_on, are_in_turn, has_its_key, have_their_keys, were_sent}
+use Rattle.cache_commands.specs.Loads.Numbers.{SentLoads}
 
 -- ---- lists
 
 -- what is so of all is so of some
-all-filter : {X : Type 0} (p q : X → Bool) (xs : List X) → list_all q xs ≡ true → list_all q (filter p xs) ≡ true
+pub all-filter : {X : Type 0} (p q : X → Bool) (xs : List X) → list_all q xs ≡ true → list_all q (filter p xs) ≡ true
 all-filter p q [] e = refl
 all-filter p q (x ∷ xs) e = let parts = and_parts (q x) (list_all q xs) e in go (p x) parts.0 (all-filter p q xs parts.1)
   where
@@ -36,7 +36,7 @@ all-both p q r on (x ∷ xs) e f =
     let qs = and_parts (q x) (list_all q xs) f in
     and_from (r x) (list_all r xs) (on x ps.0 qs.0) (all-both p q r on xs ps.1 qs.1)
 
-all-mapped : {X : Type 0} (p : X → Bool) (f : X → X) → ((x : X) → p (f x) ≡ p x) → (xs : List X) → list_all p (map f xs) ≡ list_all p xs
+pub all-mapped : {X : Type 0} (p : X → Bool) (f : X → X) → ((x : X) → p (f x) ≡ p x) → (xs : List X) → list_all p (map f xs) ≡ list_all p xs
 all-mapped p f same_of [] = refl
 all-mapped p f same_of (x ∷ xs) = ap (λ b. b && list_all p (map f xs)) (same_of x) ∙ ap (λ b. p x && b) (all-mapped p f same_of xs)
 
@@ -148,23 +148,24 @@ waiting-key conn key l = go (same l.key key)
     go true = refl
     go false = refl
 
-pub joined-sent : {X E : Type 0} (r : Result X E) (sent conn : ℕ) (key : List ℕ) (old new : List PendingLoad) → OnOk r (new ≡ map (with_waiting conn key) old) → OnErr r (new ≡ old) → were_sent sent old ≡ true → were_sent sent new ≡ true
-joined-sent (Ok x) sent conn key old new joined stays all = ap (were_sent sent) joined ∙ sent-mapped (with_waiting conn key) (waiting-number conn key) sent old all
-joined-sent (Err e) sent conn key old new joined stays all = ap (were_sent sent) stays ∙ all
+-- the loads where one waits for a load under way, or none is, or it was refused
+pub joined-either : {E : Type 0} (r : Result Bool E) (conn : ℕ) (key : List ℕ) (old new : SentLoads) → IfOk r (λ found. new ≡ record old { pending = if found then map (with_waiting conn key) old.pending else old.pending }) → OnErr r (new ≡ old)
+    → (b : Bool) × (new ≡ record old { pending = if b then map (with_waiting conn key) old.pending else old.pending })
+joined-either (Ok b) conn key old new joined stays = (b, joined)
+joined-either (Err e) conn key old new joined stays = (false, stays)
 
-pub joined-keys : {X E : Type 0} (r : Result X E) (conn : ℕ) (key : List ℕ) (old new : List PendingLoad) (outs : List (LoadId × List ℕ)) → OnOk r (new ≡ map (with_waiting conn key) old) → OnErr r (new ≡ old) → have_their_keys old outs ≡ true
-    → have_their_keys new outs ≡ true
-joined-keys (Ok x) conn key old new outs joined stays have = ap (λ ls. have_their_keys ls outs) joined ∙ keys-mapped (with_waiting conn key) (waiting-number conn key) (waiting-key conn key) old outs have
-joined-keys (Err e) conn key old new outs joined stays have = ap (λ ls. have_their_keys ls outs) stays ∙ have
+pub joined-sent : (b : Bool) (sent conn : ℕ) (key : List ℕ) (loads : List PendingLoad) → were_sent sent loads ≡ true → were_sent sent (if b then map (with_waiting conn key) loads else loads) ≡ true
+joined-sent true sent conn key loads all = sent-mapped (with_waiting conn key) (waiting-number conn key) sent loads all
+joined-sent false sent conn key loads all = all
+
+pub joined-keys : (b : Bool) (conn : ℕ) (key : List ℕ) (loads : List PendingLoad) (outs : List (LoadId × List ℕ)) → have_their_keys loads outs ≡ true → have_their_keys (if b then map (with_waiting conn key) loads else loads) outs ≡ true
+joined-keys true conn key loads outs have = keys-mapped (with_waiting conn key) (waiting-number conn key) (waiting-key conn key) loads outs have
+joined-keys false conn key loads outs have = have
 
 pub same-refl : (key : List ℕ) → same key key ≡ true
 same-refl key = (bytes_eq-Decides key key).1 refl
 
 -- ---- a load that is sent
-
-pub send-sent : (sent n : ℕ) (load : Load) (first rest old : List Load) → n ≡ suc sent → first ≡ load ∷ rest → rest ≡ old → load.number ≡ n → were_sent sent (map pending_load old) ≡ true → were_sent n (map pending_load first) ≡ true
-send-sent sent n load first rest old e put same_rest is all =
-    ap (λ ls. were_sent n (map pending_load ls)) put ∙ ap (λ ls. were_sent n (pending_load load ∷ map pending_load ls)) same_rest ∙ sent-more sent n (pending_load load) (map pending_load old) e is all
 
 pub send-turn : (ns sent n : ℕ) (outs front last : List (LoadId × List ℕ)) (id : LoadId) (key : List ℕ) → n ≡ suc sent → last ≡ front ++ (id, key) ∷ [] → front ≡ outs → id.namespace ≡ ns → id.number ≡ n → length outs ≤ sent → are_in_turn ns (sent - length outs) outs ≡ true
     → are_in_turn ns (n - length last) last ≡ true
@@ -175,10 +176,9 @@ send-turn ns sent n outs front last id key e put same_front is number few turn =
     ap (λ xs. are_in_turn ns (n - length xs) xs) whole ∙ ap (λ k. are_in_turn ns k (outs ++ (id, key) ∷ [])) left
     ∙ in-turn-more ns (sent - length outs) sent outs id key turn (omega arith) is (number ∙ e)
 
-pub send-keyed : (ns sent n : ℕ) (load : Load) (first rest old : List Load) (outs front last : List (LoadId × List ℕ)) (id : LoadId) (key : List ℕ) → n ≡ suc sent → first ≡ load ∷ rest → rest ≡ old → last ≡ front ++ (id, key) ∷ [] → front ≡ outs
-    → length outs ≤ sent → are_in_turn ns (sent - length outs) outs ≡ true → were_sent sent (map pending_load old) ≡ true → load.number ≡ n → id.number ≡ n → load.key ≡ key → have_their_keys (map pending_load old) outs ≡ true
-    → have_their_keys (map pending_load first) last ≡ true
-send-keyed ns sent n load first rest old outs front last id key e put same_rest put_last same_front few turn all is number keyed have =
-    ap (λ ls. have_their_keys (map pending_load ls) last) (put ∙ ap (λ ls. load ∷ ls) same_rest)
-    ∙ ap (λ xs. have_their_keys (pending_load load ∷ map pending_load old) xs) (put_last ∙ ap (λ xs. xs ++ (id, key) ∷ []) same_front)
-    ∙ keys-more ns (sent - length outs) sent (pending_load load) (map pending_load old) outs (id, key) turn (omega arith) all (is ∙ e) (number ∙ e) (ap (λ k. same load.key k) (sym keyed) ∙ same-refl load.key) have
+pub send-keyed : (ns : ℕ) (old new : SentLoads) (load : PendingLoad) (outs front last : List (LoadId × List ℕ)) (id : LoadId) (key : List ℕ) → new ≡ record { sent = suc old.sent; pending = load ∷ old.pending } → last ≡ front ++ (id, key) ∷ [] → front ≡ outs
+    → length outs ≤ old.sent → are_in_turn ns (old.sent - length outs) outs ≡ true → were_sent old.sent old.pending ≡ true → load.number ≡ suc old.sent → id.number ≡ suc old.sent → load.key ≡ key → have_their_keys old.pending outs ≡ true
+    → have_their_keys new.pending last ≡ true
+send-keyed ns old new load outs front last id key is put_last same_front few turn all number out keyed have =
+    ap (λ (t : SentLoads). have_their_keys t.pending last) is ∙ ap (λ xs. have_their_keys (load ∷ old.pending) xs) (put_last ∙ ap (λ xs. xs ++ (id, key) ∷ []) same_front)
+    ∙ keys-more ns (old.sent - length outs) old.sent load old.pending outs (id, key) turn (omega arith) all number out (ap (λ k. same load.key k) (sym keyed) ∙ same-refl load.key) have

@@ -1,25 +1,17 @@
 -- Loads under way, as the definitions list them.
-use Rattle.std.specs.Prelude.{◌≡◌, ℕ, suc, ◌-◌, ◌<◌, ◌==◌, true, List, [], ◌∷◌, length, map, Option, Some, None, if◌then◌else◌, is_some, vec_len, vec_capacity}
-use Rattle.std.specs.List.{find, slice_get}
-use Rattle.std.specs.Option.{option_map}
-use Rattle.audit_model.specs.Bytewise.{same}
+pub use Rattle.cache_commands.specs.Loads.Numbers.{load_numbered, load_with_key}
+use Rattle.std.specs.Prelude.{◌≡◌, ℕ, suc, ◌-◌, List, [], ◌∷◌, length, map, Option, Some, None, if◌then◌else◌, is_some}
 use Rattle.audit_model.specs.Situation.{PendingLoad, with_waiting}
 use Rattle.audit_model.specs.declared.input.LoadId.{LoadId}
-use Rattle.cache_commands.specs.Loads.Keys.{pending_load}
-use Rattle.cache_commands.specs.declared.loads.load.Load.{Load}
 use Rattle.cache_commands.specs.declared.loads.loads.Loads.{Loads}
-
--- there is room for one more connection, where it is a load of the key
-abbrev pub HasRoom : List ℕ → Load → Type 0
-HasRoom key load = same load.key key ≡ true → vec_len load.waiting < vec_capacity load.waiting
 
 -- the loads under way, the newest first
 abbrev pub loads_pending : Loads → List PendingLoad
-loads_pending loads = map pending_load loads.under_way.items
+loads_pending loads = loads.under_way.pending
 
 -- how many were sent
 abbrev pub sent_of : Loads → ℕ
-sent_of loads = loads.sent
+sent_of loads = loads.under_way.sent
 
 -- those that went out and were not taken, with their keys, in the order in which they were sent
 abbrev pub outgoing_loads : Loads → List (LoadId × List ℕ)
@@ -32,14 +24,6 @@ loads_taken loads = sent_of loads - length (outgoing_loads loads)
 -- the namespace whose loads they are
 abbrev pub namespace_of_loads : Loads → ℕ
 namespace_of_loads loads = loads.namespace
-
--- the key's load under way
-abbrev pub load_with_key : List ℕ → List PendingLoad → Option ℕ
-load_with_key key loads = option_map (λ load. load.number) (find (λ load. same load.key key) loads)
-
--- the load under way of that number
-abbrev pub load_numbered : ℕ → List PendingLoad → Option PendingLoad
-load_numbered number loads = find (λ load. load.number == number) loads
 
 -- the number of the load that a connection sends which begins to wait for a key: none where the key's load is under way
 abbrev pub number_to_send : List ℕ → ℕ → List PendingLoad → Option ℕ
@@ -71,8 +55,3 @@ pub record SameLoads (old new : Loads) : Type 0 where
 pub record SameTaken (old new : Loads) : Type 0 where
   pub taken : loads_taken new ≡ loads_taken old
   pub namespace : namespace_of_loads new ≡ namespace_of_loads old
-
--- the first of the loads with that number stands there, or there is none
-abbrev pub IsPlaceOf : ℕ → List Load → Option ℕ → Type 0
-IsPlaceOf number loads None = load_numbered number (map pending_load loads) ≡ None
-IsPlaceOf number loads (Some index) = (load : Load) × (slice_get loads index ≡ Some load) × (load_numbered number (map pending_load loads) ≡ Some (pending_load load))

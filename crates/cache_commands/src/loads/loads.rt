@@ -1,12 +1,12 @@
 //! The loads of one namespace.
-ghost use Rattle.std.specs.Prelude.{◌≡◌, ℕ, suc, ◌+◌, ◌-◌, ◌≤◌, IsTrue, ◌++◌, ◌==◌, [], not, map, Some, IfOk, OnOk, OnErr, length};
+ghost use Rattle.std.specs.Prelude.{◌≡◌, ℕ, suc, ◌+◌, ◌-◌, ◌<◌, ◌≤◌, IsTrue, ◌++◌, ◌∷◌, ◌==◌, [], not, map, Some, None, IfOk, OnOk, OnErr, length, vec_len, vec_capacity};
 ghost use Rattle.std.specs.List.{filter};
 ghost use Rattle.std.specs.Option.{option_map};
 ghost use Rattle.audit_model.specs.Situation.{with_waiting, without_waiting};
-ghost use Rattle.cache_commands.specs.Loads.Keys.{pending_load, are_in_turn, have_their_keys, were_sent};
+ghost use Rattle.cache_commands.specs.Loads.Keys.{are_in_turn, have_their_keys, pending_load, were_sent};
 
-use crate::loads::lists::{join_all, leave_all, put_first, put_last, take_out};
-use crate::loads::load::{Load, alone, is_of_key};
+use crate::loads::load::Load;
+use crate::loads::table::LoadTable;
 use audit_model::{Bytes, LoadId, Seq};
 use std::alloc::{AllocError, Global};
 use std::mem;
@@ -15,13 +15,22 @@ use std::mem;
 #[derive(Drop)]
 pub struct Loads {
     namespace: u64,
-    sent: u64,
-    under_way: Vec<Load>,
+    under_way: LoadTable,
     outgoing: Vec<(LoadId, Bytes)>,
-    ghost fewer: { length outgoing.items ≤ sent },
-    ghost in_turn: { IsTrue (are_in_turn namespace (sent - length outgoing.items) outgoing.items) },
-    ghost sent_before: { IsTrue (were_sent sent (map pending_load under_way.items)) },
-    ghost keyed: { IsTrue (have_their_keys (map pending_load under_way.items) outgoing.items) },
+    ghost fewer: { length outgoing.items ≤ under_way.sent },
+    ghost in_turn: { IsTrue (are_in_turn namespace (under_way.sent - length outgoing.items) outgoing.items) },
+    ghost sent_before: { IsTrue (were_sent under_way.sent under_way.pending) },
+    ghost keyed: { IsTrue (have_their_keys under_way.pending outgoing.items) },
+}
+
+/// Adds what goes out behind the others; there is room for it.
+fn put_last(outgoing: &mut Vec<(LoadId, Bytes)>, id: LoadId, key: Bytes)
+    requires { vec_len outgoing.old < vec_capacity outgoing.old }
+    ensures { outgoing.new.items ≡ outgoing.old.items ++ (id, key) ∷ [] }
+{
+    let Ok(()) = outgoing.push((id, key)) else {
+        unreachable!();
+    };
 }
 
 impl Loads {
@@ -36,8 +45,7 @@ impl Loads {
     {
         Loads {
             namespace,
-            sent: 0,
-            under_way: Vec::new(alloc),
+            under_way: LoadTable::new(alloc),
             outgoing: Vec::new(alloc),
         }
     }
@@ -46,35 +54,26 @@ impl Loads {
     pub fn count(&self) -> usize
         ensures { result ≡ length (loads_pending self.now) }
     {
-        self.under_way.len()
+        self.under_way.count()
     }
 
     /// The number of the key's load under way.
     pub fn find(&self, key: &[u8]) -> Option<u64>
         ensures { result ≡ load_with_key key.now (loads_pending self.now) }
     {
-        for load in &self.under_way {
-            if is_of_key(load, key) {
-                return Some(load.number);
-            }
-        }
-        None
+        self.under_way.find(key)
     }
 
     /// The load under way of that number.
     pub fn get(&self, number: u64) -> Option<&Load>
         ensures { option_map (λ load. pending_load load.now) result ≡ load_numbered number (loads_pending self.now) }
     {
-        for load in &self.under_way {
-            if load.number == number {
-                return Some(load);
-            }
-        }
-        None
+        self.under_way.get(number)
     }
 
-    /// Has a connection wait for the key's load; where none is under way a new one goes out, and its number is answered. An `Err`
-    /// changes nothing.
+    /// Has a connection wait for the key's load; where none is under way a new one goes out, and its number is answered. A connection
+    /// waits for one load: one that waits already, and a number above 2^64 - 1, are refused as for want of memory. An `Err` changes
+    /// nothing.
     pub fn wait(&mut self, alloc: Global, key: &[u8], conn: u64) -> Result<Option<u64>, AllocError>
         ensures number { IfOk result (λ number. number ≡ number_to_send key.now (sent_of self.old) (loads_pending self.old)) }
         ensures pending { IfOk result (λ number. loads_pending self.new ≡ when_joined conn key.now number (loads_pending self.old)) }
@@ -83,23 +82,19 @@ impl Loads {
         ensures goes { SameTaken self.old self.new }
         ensures same { OnErr result (SameLoads self.old self.new) }
     {
-        match self.find(key) {
-            Some(_) => {
-                match join_all(&mut self.under_way, key, conn) {
-                    Ok(()) => Ok(None),
-                    Err(error) => Err(error),
-                }
-            }
-            None => match self.send(alloc, key, conn) {
+        match self.under_way.join(key, conn) {
+            Ok(true) => Ok(None),
+            Ok(false) => match self.send(alloc, key, conn) {
                 Ok(number) => Ok(Some(number)),
                 Err(error) => Err(error),
             },
+            Err(error) => Err(error),
         }
     }
 
-    /// Sends a load of the key, for which the connection waits, and answers its number. A number above 2^64 - 1 is refused as memory
-    /// is. An `Err` changes nothing.
+    /// Sends a load of a key that has none, for which the connection waits, and answers its number. An `Err` changes nothing.
     fn send(&mut self, alloc: Global, key: &[u8], conn: u64) -> Result<u64, AllocError>
+        requires { load_with_key key.now (loads_pending self.old) ≡ None }
         ensures number { IfOk result (λ number. number ≡ suc (sent_of self.old)) }
         ensures pending { IfOk result (λ number. loads_pending self.new ≡ when_joined conn key.now (Some number) (loads_pending self.old)) }
         ensures sent { OnOk result (sent_of self.new ≡ suc (sent_of self.old)) }
@@ -107,25 +102,14 @@ impl Loads {
         ensures goes { SameTaken self.old self.new }
         ensures same { OnErr result (SameLoads self.old self.new) }
     {
-        if self.sent == u64::MAX {
-            return Err(AllocError);
-        }
-        let number = self.sent + 1;
-        self.under_way.try_reserve(1)?;
         self.outgoing.try_reserve(1)?;
-        let load = Load {
-            number,
-            key: Seq::from_vec(Vec::from_slice(alloc, key)?),
-            waiting: alone(alloc, conn)?,
-        };
         let copy = Seq::from_vec(Vec::from_slice(alloc, key)?);
+        let number = self.under_way.send(alloc, key, conn)?;
         let id = LoadId {
             namespace: self.namespace,
             number,
         };
-        put_first(&mut self.under_way, load);
         put_last(&mut self.outgoing, id, copy);
-        self.sent = number;
         Ok(number)
     }
 
@@ -136,7 +120,7 @@ impl Loads {
         ensures outgoing { outgoing_loads self.new ≡ outgoing_loads self.old }
         ensures goes { SameTaken self.old self.new }
     {
-        leave_all(&mut self.under_way, conn);
+        self.under_way.leave(conn);
     }
 
     /// Takes out the load under way of that number, which is answered or given up.
@@ -147,7 +131,7 @@ impl Loads {
         ensures outgoing { outgoing_loads self.new ≡ outgoing_loads self.old }
         ensures goes { SameTaken self.old self.new }
     {
-        take_out(&mut self.under_way, number)
+        self.under_way.settle(number)
     }
 
     /// The loads that went out and were not taken, with their keys, in the order in which they were sent; moved out.

@@ -1,8 +1,8 @@
 -- A given-up `LOAD` that runs again.
-use Rattle.std.proofs.Common.{◌≡◌, ℕ, suc, ◌+◌, ◌<◌, ◌≤◌, Bool, true, false, not, ◌||◌, List, [], ◌∷◌, ◌++◌, Option, Some, None, if◌then◌else◌, refl, sym, ap, ◌∙◌, subst, arith, nat_le, length, ⊎_elim}
-use Rattle.std.specs.Prelude.{Err, Ok, codes, is_none, is_some}
+use Rattle.std.proofs.Common.{◌≡◌, ℕ, suc, ◌<◌, ◌≤◌, Bool, true, false, not, ◌||◌, List, [], ◌∷◌, ◌++◌, Option, Some, None, if◌then◌else◌, refl, sym, ap, ◌∙◌, subst, arith, nat_le, length, ⊎_elim}
+use Rattle.std.specs.Prelude.{Ok, codes, is_none, is_some}
 use Rattle.std.specs.Option.{option_map}
-use Rattle.std.proofs.lemmas.Bool.{leb-true, lt-ltb}
+use Rattle.std.proofs.lemmas.Bool.{leb-true}
 use Rattle.std.proofs.lemmas.Bool.Decides.{eqb_tells}
 use Rattle.std.proofs.lemmas.List.{append-nil}
 use Rattle.std.proofs.Math.Bool.{or-false}
@@ -31,23 +31,22 @@ use Rattle.cache_lines.specs.Leads.Leads.{TasksLead}
 use Rattle.cache_lines.proofs.leads.Turns.{abandoned, answered, delivered, held_back, waits_again}
 use Rattle.cache_lines.specs.Bases.{Seen}
 use Rattle.cache_lines.specs.Drawing.{Identifiers, StepDraws, identifiers_in}
-use Rattle.cache_lines.specs.Gathered.{Gathered, IsFresh, gather, gathered, stage}
+use Rattle.cache_lines.specs.Gathered.{IsFresh, gather, gathered, stage}
 use Rattle.cache_lines.specs.Lines.{ready, says_quit, set_in, with_drops}
 use Rattle.cache_lines.specs.Making.{Making, making_of}
 use Rattle.cache_lines.specs.Ordered.{order_behind_step}
 use Rattle.cache_lines.specs.Ran.{IsMiss, RanLine}
-use Rattle.cache_lines.specs.Waiting.{UnderWay, holding_load, is_load, load_sent_for, loads_in, under_way, waiting, when_waiting, with_under_way}
-use Rattle.cache_lines.specs.Whole.{has_line, held_line, is_few, is_long_line, is_near}
+use Rattle.cache_lines.specs.Waiting.{UnderWay, holding_load, is_load, load_sent_for, loads_in, waiting, when_waiting, with_under_way}
+use Rattle.cache_lines.specs.Whole.{held_line, is_long_line, is_near}
 use Rattle.cache_lines.proofs.Drawn.{draws-first}
 use Rattle.cache_lines.proofs.LineRuns.{fresh-gather}
-use Rattle.cache_commands.specs.Loads.Pending.{SameLoads, number_to_send}
-use Rattle.cache_commands.specs.declared.loads.loads.Loads.{Loads}
-use Rattle.cache_commands.specs.Loads.Standings.{keeps_line, waits_for_load}
+use Rattle.cache_commands.specs.Loads.Pending.{number_to_send}
+use Rattle.cache_commands.specs.Loads.Standings.{waits_for_load}
 use Rattle.cache_commands.specs.declared.loads.standing.Standing.{Standing}
 use Rattle.cache_commands.specs.declared.loads.standing.Standing.TheVariants as now
 use Rattle.cache_store.specs.Promises.{no_deed}
 use Rattle.cache_store.specs.Values.{IsSoundStore, Values}
-use Rattle.cache_lines.specs.Tape.Taped.{Taped, drafts, ends, spends, step_held, text_left}
+use Rattle.cache_lines.specs.Tape.Taped.{Taped, spends, step_held, text_left}
 use Rattle.cache_core.specs.Connection.Again.{EndsCalm, StepRan}
 use Rattle.cache_core.specs.Connection.Fits.{Fits}
 use Rattle.cache_core.specs.Connection.Parts.{standing_as}
@@ -56,27 +55,6 @@ use Rattle.cache_core.proofs.connection.Putting.{not-above}
 use Rattle.cache_core.specs.declared.connection.connection.Connection.{Connection}
 
 -- ---- what is gathered
-
--- a line that was held back
-pub held-gathered : (g : Gathered) (v : Values) (text line : List ℕ) (n : ℕ) (t : Option Taped) → gathered (stage v text t) ≡ g → gathered (stage v text (option_map (spends (step_held n line)) t)) ≡ gather g (step_held n line ∷ [])
-held-gathered g v text line n None e =
-    ap (λ x. record { text = x; kept = None; waiting = v.untaken }) (sym (append-nil text)) ∙ ap (λ w. record { text = text ++ []; kept = None; waiting = w }) (sym (append-nil v.untaken)) ∙ ap (λ k. gather k (step_held n line ∷ [])) e
-held-gathered g v text line n (Some t) e = ap (λ k. gather k (step_held n line ∷ [])) e
-
--- a `LOAD` that waits again
-pub silent-gathered : (g : Gathered) (v : Values) (text line : List ℕ) (n : ℕ) (load : Option ℕ) (t : Option Taped) → gathered (stage v text t) ≡ g
-    → gathered (stage v text (option_map (ends (λ l. step_silent n l load None [])) (option_map (drafts line) t))) ≡ gather g (step_silent n line load None [] ∷ [])
-silent-gathered g v text line n load None e =
-    ap (λ x. record { text = x; kept = None; waiting = v.untaken }) (sym (append-nil text)) ∙ ap (λ w. record { text = text ++ []; kept = None; waiting = w }) (sym (append-nil v.untaken)) ∙ ap (λ k. gather k (step_silent n line load None [] ∷ [])) e
-silent-gathered g v text line n load (Some t) e = ap (λ k. gather k (step_silent n line load None [] ∷ [])) e
-
--- room for a step of the line
-pub drafted-gathered : (v : Values) (text line : List ℕ) (t : Option Taped) → gathered (stage v text (option_map (drafts line) t)) ≡ gathered (stage v text t)
-drafted-gathered v text line None = refl
-drafted-gathered v text line (Some t) = refl
-
-pub same-under : (loads after : Loads) → SameLoads loads after → under_way after ≡ under_way loads
-same-under loads after same = ap (λ n. record { sent = n; pending = (under_way after).pending }) same.sent ∙ ap (λ ps. record { sent = (under_way loads).sent; pending = ps }) same.pending
 
 -- a reply that was written
 pub said-gathered : (v : Values) (text new_text reply line : List ℕ) (n : ℕ) (t new : Option Taped) → IsFresh (gathered (stage v text t))
@@ -157,80 +135,65 @@ module _ (now_is n : ℕ) (old new : Connection) (was is : Seen) (waited : old.s
   fresh-is : (steps : List Step) → gathered is.stage ≡ gather (gathered was.stage) steps → IsFresh (gathered is.stage)
   fresh-is steps e = subst IsFresh (sym e) (fresh-gather (gathered was.stage) steps clear)
 
+  -- one step was done, with the values and the loads as they were
+  stayed-ran : (task : Task) (step : Step) (x : model.Connection)
+      → ((s : Situation) → was.stage.values.Stands s.held → connection_in n s ≡ Some (waiting n line rest old.waited)
+      → (left : List HeldValue) × was.stage.values.Stands left
+      × ((tasks : List Task) → TasksLead config making s (task ∷ tasks) (step ∷ []) (set_in s left x) tasks (identifiers_in was.stage.values) (identifiers_in was.stage.values)))
+      → step.conn ≡ n → new.closing ≡ None → shown n new ≡ x → gathered is.stage ≡ gather (gathered was.stage) (step ∷ []) → is.loads ≡ was.loads → is.stage.values ≡ was.stage.values
+      → ((places : ℕ) (order : Order) → order_behind_step config places order step ≡ Unknown) → (new.standing ≡ now.Ready → EndsCalm config (step ∷ [])) → StepRan now_is n task old new was is
+  stayed-ran task step x does own is_open shows gathers loads same unknown calm = subst (λ v. StepRan now_is n task old new was (record { stage = stage v is.stage.text is.stage.tape; loads = is.loads })) (sym same) (record {
+    ran = λ s agrees under found.
+        let d = does s agrees.stands (found-waiting s n old found waited) in
+        record {
+          step = step;
+          left = d.0;
+          stands = d.1;
+          leads = λ tasks. subst (λ t. TasksLead config making s (task ∷ tasks) (step ∷ []) t tasks (identifiers_in was.stage.values) (identifiers_in was.stage.values))
+              (sym (put-alike s d.0 n new x is.loads was.stage.values.frame.dropped is_open shows (loads ∙ sym under) (sym agrees.dropped))) (d.2 tasks);
+          own = own;
+          gathered_is = ap (λ v. gathered (stage v is.stage.text is.stage.tape)) (sym same) ∙ gathers;
+          unknown = unknown;
+          calm = calm;
+        };
+    is_open = is_open;
+    frame = record { rest = refl; latest = in_time };
+    fresh = subst (λ v. IsFresh (gathered (stage v is.stage.text is.stage.tape))) same (fresh-is (step ∷ []) gathers);
+  })
+
   -- it was given up for the last time
   pub abandoned-ran : (key : List ℕ) → reading config line ≡ Ok (says.Load key) → nat_le 200 old.waited ≡ true → new.closing ≡ None → new.standing ≡ now.Ready → new.unread.bytes ≡ rest
       → gathered is.stage ≡ gather (gathered was.stage) (step_saying n line (codes "ERR abandoned\n") None [] ∷ []) → is.loads ≡ was.loads → is.stage.values ≡ was.stage.values
       → StepRan now_is n (RunAgain n) old new was is
-  abandoned-ran key reads last is_open runs bytes gathers loads same = subst (λ v. StepRan now_is n (RunAgain n) old new was (record { stage = stage v is.stage.text is.stage.tape; loads = is.loads })) (sym same) (record {
-    ran = λ s agrees under found.
-        let left = all_held_after config s.latest s.held no_deed [] in
-        let x = abandons config s was.stage.values.Stands (sound.idle s.held s.latest agrees.stands) in
-        let step = step_saying n line (codes "ERR abandoned\n") None [] in
-        record {
-          step = step;
-          left = left;
-          stands = x.left;
-          leads = λ tasks. subst (λ t. TasksLead config making s (RunAgain n ∷ tasks) (step ∷ []) t tasks (identifiers_in was.stage.values) (identifiers_in was.stage.values))
-              (sym (put-alike s left n new (ready n rest) is.loads was.stage.values.frame.dropped is_open (shown-ready n new rest runs bytes) (loads ∙ sym under) (sym agrees.dropped)))
-              (abandoned config making s n line rest old.waited tasks (identifiers_in was.stage.values) (found-waiting s n old found waited) last x.right);
-          own = refl;
-          gathered_is = ap (λ v. gathered (stage v is.stage.text is.stage.tape)) (sym same) ∙ gathers;
-          unknown = load-unknown config step key refl reads;
-          calm = λ e. load-calm config n line key (codes "ERR abandoned\n") [] reads;
-        };
-    is_open = is_open;
-    frame = record { rest = refl; latest = in_time };
-    fresh = subst (λ v. IsFresh (gathered (stage v is.stage.text is.stage.tape))) same (fresh-is (step_saying n line (codes "ERR abandoned\n") None [] ∷ []) gathers);
-  })
+  abandoned-ran key reads last is_open runs bytes gathers loads same =
+      let step = step_saying n line (codes "ERR abandoned\n") None [] in
+      stayed-ran (RunAgain n) step (ready n rest)
+      (λ s stands found.
+      let x = abandons config s was.stage.values.Stands (sound.idle s.held s.latest stands) in
+      (all_held_after config s.latest s.held no_deed [], x.left, λ tasks. abandoned config making s n line rest old.waited tasks (identifiers_in was.stage.values) found last x.right))
+      refl is_open (shown-ready n new rest runs bytes) gathers loads same (load-unknown config step key refl reads) (λ e. load-calm config n line key (codes "ERR abandoned\n") [] reads)
 
   -- it was handed the outcome
   pub delivered-ran : (outcome : Outcome) (key : List ℕ) → reading config line ≡ Ok (says.Load key) → new.closing ≡ None → new.standing ≡ now.Ready → new.unread.bytes ≡ rest
       → gathered is.stage ≡ gather (gathered was.stage) (step_saying n line (outcome_text outcome) None [] ∷ []) → is.loads ≡ was.loads → is.stage.values ≡ was.stage.values
       → StepRan now_is n (Deliver n outcome) old new was is
-  delivered-ran outcome key reads is_open runs bytes gathers loads same = subst (λ v. StepRan now_is n (Deliver n outcome) old new was (record { stage = stage v is.stage.text is.stage.tape; loads = is.loads })) (sym same) (record {
-    ran = λ s agrees under found.
-        let left = all_held_after config s.latest s.held no_deed [] in
-        let x = delivers config s outcome was.stage.values.Stands (sound.idle s.held s.latest agrees.stands) in
-        let step = step_saying n line (outcome_text outcome) None [] in
-        record {
-          step = step;
-          left = left;
-          stands = x.left;
-          leads = λ tasks. subst (λ t. TasksLead config making s (Deliver n outcome ∷ tasks) (step ∷ []) t tasks (identifiers_in was.stage.values) (identifiers_in was.stage.values))
-              (sym (put-alike s left n new (ready n rest) is.loads was.stage.values.frame.dropped is_open (shown-ready n new rest runs bytes) (loads ∙ sym under) (sym agrees.dropped)))
-              (delivered config making s n line rest old.waited outcome tasks (identifiers_in was.stage.values) (found-waiting s n old found waited) x.right);
-          own = refl;
-          gathered_is = ap (λ v. gathered (stage v is.stage.text is.stage.tape)) (sym same) ∙ gathers;
-          unknown = load-unknown config step key refl reads;
-          calm = λ e. load-calm config n line key (outcome_text outcome) [] reads;
-        };
-    is_open = is_open;
-    frame = record { rest = refl; latest = in_time };
-    fresh = subst (λ v. IsFresh (gathered (stage v is.stage.text is.stage.tape))) same (fresh-is (step_saying n line (outcome_text outcome) None [] ∷ []) gathers);
-  })
+  delivered-ran outcome key reads is_open runs bytes gathers loads same =
+      let step = step_saying n line (outcome_text outcome) None [] in
+      stayed-ran (Deliver n outcome) step (ready n rest)
+      (λ s stands found.
+      let x = delivers config s outcome was.stage.values.Stands (sound.idle s.held s.latest stands) in
+      (all_held_after config s.latest s.held no_deed [], x.left, λ tasks. delivered config making s n line rest old.waited outcome tasks (identifiers_in was.stage.values) found x.right))
+      refl is_open (shown-ready n new rest runs bytes) gathers loads same (load-unknown config step key refl reads) (λ e. load-calm config n line key (outcome_text outcome) [] reads)
 
   -- it is held back
   pub held-ran : nat_le 200 old.waited ≡ false → new.closing ≡ None → new.standing ≡ now.Held → new.unread.bytes ≡ old.unread.bytes → new.waited ≡ old.waited
       → gathered is.stage ≡ gather (gathered was.stage) (step_held n line ∷ []) → is.loads ≡ was.loads → is.stage.values ≡ was.stage.values → StepRan now_is n (RunAgain n) old new was is
-  held-ran few is_open holds bytes times gathers loads same = subst (λ v. StepRan now_is n (RunAgain n) old new was (record { stage = stage v is.stage.text is.stage.tape; loads = is.loads })) (sym same) (record {
-    ran = λ s agrees under found.
-        let left = all_held_after config s.latest s.held no_deed [] in
-        record {
-          step = step_held n line;
-          left = left;
-          stands = sound.idle s.held s.latest agrees.stands;
-          leads = λ tasks. subst (λ t. TasksLead config making s (RunAgain n ∷ tasks) (step_held n line ∷ []) t tasks (identifiers_in was.stage.values) (identifiers_in was.stage.values))
-              (sym (put-alike s left n new (holding_load n line rest old.waited) is.loads was.stage.values.frame.dropped is_open (shown-held n new old.unread.bytes old.waited holds bytes times) (loads ∙ sym under) (sym agrees.dropped)))
-              (held_back config making s n line rest old.waited tasks (identifiers_in was.stage.values) (found-waiting s n old found waited) few);
-          own = refl;
-          gathered_is = ap (λ v. gathered (stage v is.stage.text is.stage.tape)) (sym same) ∙ gathers;
-          unknown = λ places order. refl;
-          calm = λ e. let no : now.Held ≡ now.Ready = sym holds ∙ e in cc;
-        };
-    is_open = is_open;
-    frame = record { rest = refl; latest = in_time };
-    fresh = subst (λ v. IsFresh (gathered (stage v is.stage.text is.stage.tape))) same (fresh-is (step_held n line ∷ []) gathers);
-  })
+  held-ran few is_open holds bytes times gathers loads same =
+      stayed-ran (RunAgain n) (step_held n line) (holding_load n line rest old.waited)
+      (λ s stands found.
+      (all_held_after config s.latest s.held no_deed [], sound.idle s.held s.latest stands, λ tasks. held_back config making s n line rest old.waited tasks (identifiers_in was.stage.values) found few))
+      refl is_open (shown-held n new old.unread.bytes old.waited holds bytes times) gathers loads same (λ places order. refl)
+      (λ e. let no : now.Held ≡ now.Ready = sym holds ∙ e in cc)
 
   -- it waits again
   pub waits-ran : (x : IsMiss config now_is line was.stage.values.Stands) → nat_le 200 old.waited ≡ false → new.closing ≡ None → new.standing ≡ now.Waiting → new.unread.bytes ≡ old.unread.bytes → new.waited ≡ suc old.waited
@@ -300,18 +263,8 @@ module _ (now_is n : ℕ) (old new : Connection) (was is : Seen) (waited : old.s
 
 -- a line that is a `LOAD` says its key
 pub load-key : (r : Reading) → is_load r ≡ true → (key : List ℕ) × (r ≡ Ok (says.Load key))
-load-key (Err e) is = let no : false ≡ true = is in cc
-load-key (Ok (says.Set key ms value)) is = let no : false ≡ true = is in cc
-load-key (Ok (says.Get key)) is = let no : false ≡ true = is in cc
-load-key (Ok (says.Has key)) is = let no : false ≡ true = is in cc
 load-key (Ok (says.Load key)) is = (key, refl)
-load-key (Ok (says.Del key)) is = let no : false ≡ true = is in cc
-load-key (Ok (says.Add key ms number)) is = let no : false ≡ true = is in cc
-load-key (Ok says.Clear) is = let no : false ≡ true = is in cc
-load-key (Ok (says.DropIf prefix)) is = let no : false ≡ true = is in cc
-load-key (Ok says.Keys) is = let no : false ≡ true = is in cc
-load-key (Ok says.Sync) is = let no : false ≡ true = is in cc
-load-key (Ok says.Quit) is = let no : false ≡ true = is in cc
+load-key other is = let no : false ≡ true = is in cc
 
 pub not-last : (times : ℕ) → times < 200 → nat_le 200 times ≡ false
 not-last times few = go (nat_le 200 times) refl
@@ -340,21 +293,3 @@ fits-behind closing standing times bytes left is_open e f is =
       near = ap (λ o. is_some o || true || is_near left) is_open;
       few = refl;
     }
-
--- a `LOAD` that is held back stands where it waited
-pub fits-held : (closing : Option Closing) (standing : Standing) (times : ℕ) (bytes : List ℕ) → closing ≡ None → standing ≡ now.Waiting → Fits standing times closing bytes → times < 200 → Fits now.Held times closing bytes
-fits-held closing standing times bytes is_open e f few = record {
-  whole = subst (λ st. (not (keeps_line st) || has_line bytes) ≡ true) e f.whole;
-  short = ap (λ o. is_some o || true || not (is_long_line bytes)) is_open;
-  near = ap (λ o. is_some o || true || is_near bytes) is_open;
-  few = lt-ltb times 200 few;
-}
-
--- one that waits again
-pub fits-again : (closing : Option Closing) (standing : Standing) (times more : ℕ) (bytes : List ℕ) → standing ≡ now.Waiting → Fits standing times closing bytes → more ≡ times + 1 → times < 200 → Fits standing more closing bytes
-fits-again closing standing times more bytes e f is few = record {
-  whole = f.whole;
-  short = f.short;
-  near = f.near;
-  few = ap (λ st. is_few st more) e ∙ lt-ltb more 201 (omega (arith, is, few));
-}

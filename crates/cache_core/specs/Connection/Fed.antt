@@ -1,19 +1,23 @@
 -- What a feed does to a connection.
-use Rattle.std.specs.Prelude.{◌≡◌, ℕ, Bool, ◌||◌, List, Option, if◌then◌else◌}
+use Rattle.std.specs.Prelude.{◌≡◌, ℕ, Bool, false, ◌||◌, List, Option, if◌then◌else◌}
 use Rattle.audit_model.specs.Places.{tasks_to_feed}
 use Rattle.audit_model.specs.Situation.{HeldValue, Situation}
+use Rattle.audit_model.specs.Stream.{behind_lines}
 use Rattle.audit_model.specs.declared.command.Closing.{Closing}
 use Rattle.audit_model.specs.declared.command.Closing.TheVariants as by
 use Rattle.cache_commands.specs.Answered.{Agrees}
 use Rattle.cache_commands.specs.Right.{KeepsFrame}
 use Rattle.cache_lines.specs.Bases.{Seen, seen}
-use Rattle.cache_lines.specs.Ended.{RanTasks}
+use Rattle.cache_lines.specs.Ended.{RanTasks, RunsReady, left_by}
 use Rattle.cache_lines.specs.Gathered.{IsFresh, gathered}
-use Rattle.cache_lines.specs.Lines.{IsThere, set_in, with_drops}
+use Rattle.cache_lines.specs.Lines.{IsThere, set_in, situation_behind, with_drops}
 use Rattle.cache_lines.specs.Making.{making_of}
+use Rattle.cache_lines.specs.Stops.{ends_by_quit, holds_back, waits_now}
 use Rattle.cache_lines.specs.Waiting.{loads_in, with_under_way}
 use Rattle.cache_lines.specs.declared.base.Base.{Base}
+use Rattle.cache_lines.specs.declared.looping.End.{End}
 use Rattle.cache_commands.specs.Loads.Standings.{holds_line, waits_for_load}
+use Rattle.cache_commands.specs.declared.loads.standing.Standing.{Standing}
 use Rattle.cache_store.specs.Values.{Values}
 use Rattle.cache_lines.specs.Tape.Taped.{Taped}
 use Rattle.cache_core.specs.Connection.Fits.{ClosesFor, RunsOn}
@@ -35,6 +39,20 @@ pub record FedRan (now number : ℕ) (old : Connection) (piece : List ℕ) (new 
   pub runs : RunsOn new.closing new.standing quit silent
   pub frame : KeepsFrame was.stage.values.frame is.stage.values.frame now
   pub fresh : IsFresh (gathered is.stage)
+
+-- the bytes in which its next lines stand: those behind a line that was held back, else all
+abbrev pub unread_behind : Standing → List ℕ → List ℕ
+unread_behind standing bytes = if holds_line standing then behind_lines 1 bytes else bytes
+
+-- Lines of a connection ran, which stood in those bytes; it stands as they left it, and may be closed.
+pub record LinesLeft (now number : ℕ) (bytes : List ℕ) (new : Connection) (was is : Seen) : Type 0 where
+  pub rest : List ℕ
+  pub end : End
+  pub ran : RunsReady now number bytes rest end was is
+  pub put : (base : Situation) (values : List HeldValue) (n : ℕ) → situation_behind (ends_by_quit end) base values (left_by n end 1 rest) ≡ put_in base values n new
+  pub closing : ClosesFor (closing_by false (ends_by_quit end) (waits_now end)) new.closing
+  pub runs : RunsOn new.closing new.standing (ends_by_quit end) (waits_now end)
+  pub held : holds_line new.standing ≡ holds_back end
 
 -- the connection is the same to whoever looks at it
 pub record LooksAsBefore (old new : Connection) : Type 0 where

@@ -1,16 +1,13 @@
 -- What is known of a connection.
-use Rattle.std.specs.Prelude.{◌≡◌, ℕ, Bool, false, not, ◌||◌, List, Option, Some, None, ◌⊎◌, IsTrue, is_some}
-use Rattle.audit_model.specs.Situation.{HeldValue, Situation}
+use Rattle.std.specs.Prelude.{◌≡◌, ℕ, Bool, false, not, ◌||◌, List, Option, Some, None, ◌⊎◌, IsTrue, is_some, if◌then◌else◌}
 use Rattle.audit_model.specs.declared.command.Closing.{Closing}
-use Rattle.cache_lines.specs.Ended.{ends_by_quit, left_by}
-use Rattle.cache_lines.specs.Lines.{situation_behind}
+use Rattle.audit_model.specs.declared.command.Closing.TheVariants as by
 use Rattle.cache_lines.specs.Whole.{has_line, is_few, is_long_line, is_near}
-use Rattle.cache_lines.specs.declared.ending.End.{End}
+use Rattle.cache_lines.specs.declared.looping.End.{End}
+use Rattle.cache_lines.specs.declared.looping.End.TheVariants as at
 use Rattle.cache_commands.specs.Loads.Standings.{keeps_line, waits_for_load}
 use Rattle.cache_commands.specs.declared.loads.standing.Standing.{Standing}
 use Rattle.cache_commands.specs.declared.loads.standing.Standing.TheVariants as now
-use Rattle.cache_core.specs.Connection.Parts.{put_parts}
-use Rattle.cache_core.specs.declared.connection.standing.Stance.{Stance}
 
 -- The line that is held back, or waits, is there; an open connection has no longer line, and not too many bytes behind a `LOAD` that waits;
 -- and that began to wait at most 200 times.
@@ -24,11 +21,29 @@ pub record Fits (standing : Standing) (times : ℕ) (closing : Option Closing) (
 abbrev pub ClosesFor : Closing → Option Closing → Type 0
 ClosesFor why closing = (closing ≡ None) ⊎ (closing ≡ Some why)
 
--- the connection whose lines ended so, with those bytes left, stands so
-abbrev pub PutsEnd : End → (times : ℕ) → List ℕ → Stance → List ℕ → Type 0
-PutsEnd end times rest stance bytes =
-    (base : Situation) (left : List HeldValue) (number : ℕ)
-    → situation_behind (ends_by_quit end) base left (left_by number end times rest) ≡ put_parts base left number stance.closing stance.standing stance.waited bytes
+-- whether it runs lines when its lines ended so
+abbrev pub ended_standing : End → Standing
+ended_standing at.More = now.Ready
+ended_standing at.TooLong = now.Ready
+ended_standing at.Held = now.Held
+ended_standing at.Waits = now.Waiting
+ended_standing at.Quit = now.Ready
+
+-- how often its first line began to wait then
+abbrev pub ended_times : End → ℕ
+ended_times at.More = 0
+ended_times at.TooLong = 0
+ended_times at.Held = 0
+ended_times at.Waits = 1
+ended_times at.Quit = 0
+
+-- why it closes then, with those bytes left, if it does
+abbrev pub ended_closing : End → List ℕ → Option Closing
+ended_closing at.More bytes = None
+ended_closing at.TooLong bytes = Some by.Long
+ended_closing at.Held bytes = None
+ended_closing at.Waits bytes = if is_near bytes then None else Some by.Behind
+ended_closing at.Quit bytes = Some by.Quit
 
 -- where it is open and runs lines, it neither ran a `QUIT` nor waits
 abbrev pub RunsOn : Option Closing → Standing → (quit silent : Bool) → Type 0

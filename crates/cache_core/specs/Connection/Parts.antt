@@ -5,6 +5,7 @@ use Rattle.audit_model.specs.Situation.{HeldValue, Situation, without_connection
 use Rattle.audit_model.specs.Stream.{behind_lines}
 use Rattle.audit_model.specs.declared.command.Closing.{Closing}
 use Rattle.cache_lines.specs.Lines.{set_in}
+use Rattle.cache_lines.specs.Waiting.{waiting}
 use Rattle.cache_lines.specs.Whole.{held_line}
 use Rattle.cache_commands.specs.Loads.Standings.{keeps_line}
 use Rattle.cache_commands.specs.declared.loads.standing.Standing.{Standing}
@@ -25,3 +26,7 @@ standing_as number standing times bytes =
 abbrev pub put_parts : Situation → List HeldValue → ℕ → Option Closing → Standing → ℕ → List ℕ → Situation
 put_parts base values number closing standing times bytes =
     if is_none closing then set_in base values (standing_as number standing times bytes) else without_connection number (record base { held = values })
+
+-- the connection whose first line is a `LOAD` that waits, and began to do so that often
+abbrev pub waiting_before : ℕ → List ℕ → ℕ → model.Connection
+waiting_before number bytes times = waiting number (held_line bytes) (behind_lines 1 bytes) times

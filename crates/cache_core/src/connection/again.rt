@@ -16,7 +16,7 @@ ghost use Rattle.cache_lines.specs.Tape.Taped.{HasSpare};
 use crate::connection::connection::Connection;
 use audit_lines::{Buffer, Next};
 use cache_commands::{Standing, write_abandoned};
-use cache_lines::{Base, LineOutcome, Tape, join_load, run_line};
+use cache_lines::{Base, LineOutcome, Tape, run_line};
 use cache_store::Store;
 
 /// How often a `LOAD` may wait.
@@ -38,7 +38,8 @@ pub fn first_line(unread: &Buffer) -> &[u8]
 /// Takes the first line.
 pub fn pass_line(unread: &mut Buffer)
     requires { IsTrue (has_line unread.old.bytes) }
-    ensures { unread.new.bytes ≡ behind_lines 1 unread.old.bytes }
+    ensures bytes { unread.new.bytes ≡ behind_lines 1 unread.old.bytes }
+    ensures room { unread.new.room ≡ unread.old.room }
 {
     match unread.next() {
         Next::Line(len) => unread.skip(len),
@@ -83,32 +84,7 @@ fn load_again<S: Store, T: Tape>(
 {
     base.store.sound();
     let line = first_line(&connection.unread);
-    match run_line(
-        &mut base.store,
-        &mut base.tape,
-        now,
-        number,
-        line,
-        &mut connection.output.text,
-    ) {
-        Ok(LineOutcome::Misses) => {
-            match join_load(
-                &mut base.loads,
-                &mut base.tape,
-                base.store.store().config(),
-                number,
-                line,
-                &mut connection.output,
-            ) {
-                Ok(()) => {
-                    connection.waited += 1;
-                }
-                Err(_) => {
-                    base.tape.hold(number, line);
-                    connection.standing = Standing::Held;
-                }
-            }
-        }
+    match run_line(base, now, number, line, &mut connection.output) {
         Ok(LineOutcome::Stays) => {
             pass_line(&mut connection.unread);
             connection.standing = Standing::Ready;
@@ -118,6 +94,9 @@ fn load_again<S: Store, T: Tape>(
             pass_line(&mut connection.unread);
             connection.standing = Standing::Ready;
             connection.waited = 0;
+        }
+        Ok(LineOutcome::Waits) => {
+            connection.waited += 1;
         }
         Err(_) => {
             base.tape.hold(number, line);

@@ -39,3 +39,22 @@ pub fn new_connection(alloc: Global) -> Connection
         closing: None,
     }
 }
+
+impl Connection {
+    ghost use Rattle.std.specs.Prelude.{is_some};
+
+    /// Drops what came and was not used, where the connection has closed.
+    pub fn drop_closed(&mut self)
+        ensures open { self.old.closing ≡ None → self.new ≡ self.old }
+        ensures closing { self.new.closing ≡ self.old.closing }
+        ensures standing { is_some self.old.closing ≡ true → self.new.standing ≡ now.Ready }
+        ensures text { self.new.output.text.items ≡ self.old.output.text.items }
+    {
+        if self.closing.is_none() {
+            return;
+        }
+        self.unread.clear();
+        self.standing = Standing::Ready;
+        self.waited = 0;
+    }
+}

@@ -32,7 +32,7 @@ use Rattle.cache_parts_store.proofs.Standing.{some_held, some_stand}
 use Rattle.cache_front.specs.Laws.Laws.{Lent, seen_in, settled}
 use Rattle.cache_front.specs.Laws.State.{IsFit, store_of}
 use Rattle.cache_front.proofs.laws.Calls.{accepted, cleared, dropped_by, given, lacking, ran, removed}
-use Rattle.cache_front.proofs.laws.Storing.{peeked, taken, touched}
+use Rattle.cache_front.proofs.laws.Storing.{looked-up, peeked, taken}
 use Rattle.cache_front.specs.Data.Data.{FrontData, InsertsBy, IsAnswerTo, LackTickets, TakesOutBy, parted_by}
 
 module _ {S : Type 0} (hash : S → List ℕ → ℕ) where
@@ -79,11 +79,11 @@ module _ {S : Type 0} (hash : S → List ℕ → ℕ) where
 
   -- ---- calls that tell
 
-  pub touch : (d : FrontData S) (g : Lent S) (count room now : ℕ) (key : List ℕ) → IsFit (parted_by hash d) count room → IsMoment (view (parted_by hash d)) now
+  pub look_up : (d : FrontData S) (g : Lent S) (count room now : ℕ) (key : List ℕ) → IsFit (parted_by hash d) count room → IsMoment (view (parted_by hash d)) now
       → CallsPart (hash d.front.common.hasher key) now d.front.step (NotesLookUp service_answers same key (hash d.front.common.hasher key) now false) d.front g
       → Comes d g count (λ b. Does now (using key) (view (parted_by hash d)) (view b))
-  touch d g count room now key f moment call =
-      let t = touched hash d.config d.made d.dropped d.queue d.stream d.front g now key f.whole moment call in
+  look_up d g count room now key f moment call =
+      let t = looked-up hash d.config d.made d.dropped d.queue d.stream d.front g now key f.whole moment call in
       record { shows = t.0; whole = t.1; number_is = t.2 ∙ sym f.counted }
 
   still : (d : FrontData S) (now : ℕ) → IsMoment (view (parted_by hash d)) now → ComesTo (parted_by hash d) now d.front.step

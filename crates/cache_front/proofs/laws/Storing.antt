@@ -9,10 +9,10 @@ use Rattle.cache_store.specs.Values.{Does}
 use Rattle.engine_reference.specs.declared.data.Notice.{Notice}
 use Rattle.cache_parts.specs.Parts.{Part, Stored, items_of, note_from}
 use Rattle.cache_parts_store.specs.View.{ComesTo, IsWhole, StoreOfParts, after, all_drained, over_front, view, waiting}
-use Rattle.cache_parts_store.proofs.Calling.{peek, touch}
+use Rattle.cache_parts_store.proofs.Calling.{look_up, peek}
 use Rattle.cache_parts_store.proofs.Fronts.{fronts}
 use Rattle.cache_parts_store.proofs.Standing.{parts_are}
-use Rattle.cache_front.specs.Laws.Laws.{Lent, PeeksOver, TakesNotices, TouchesOver, seen_in, settled}
+use Rattle.cache_front.specs.Laws.Laws.{Lent, LooksUpOver, PeeksOver, TakesNotices, seen_in, settled}
 use Rattle.cache_front.specs.Laws.State.{store_of}
 use Rattle.cache_front.proofs.laws.Counting.{counted}
 
@@ -32,8 +32,8 @@ settled-is {S} hash config made dropped queue stream f g now next parts is =
     ap (λ (h : List ℕ → ℕ). over_front config made dropped h (map note_from queue ++ waiting g.parts) stream (record g { parts = all_drained g.parts })) (ap (λ (x : Lent S). hash x.common.hasher) is)
     ∙ fronts.told config made dropped (hash f.common.hasher) (map note_from queue) stream f g parts now next is
 
-pub touched : {S : Type 0} → TouchesOver S
-touched {S} hash config made dropped queue stream f g now key w moment call = (both.0, both.1, fewer)
+pub looked-up : {S : Type 0} → LooksUpOver S
+looked-up {S} hash config made dropped queue stream f g now key w moment call = (both.0, both.1, fewer)
   where
     a : StoreOfParts S
     a = store_of hash config made dropped queue stream f
@@ -45,7 +45,7 @@ touched {S} hash config made dropped queue stream f g now key w moment call = (b
     comes = record { moment = moment; rises = omega arith; one = omega arith }
 
     both : Does now (using key) (view a) (view b) × IsWhole b
-    both = subst (λ x. Does now (using key) (view a) (view x) × IsWhole x) (sym (settled-is hash config made dropped queue stream f g now f.step call.parts call.changed)) (touch a now f.step (hash f.common.hasher key) key call.parts w comes call.call)
+    both = subst (λ x. Does now (using key) (view a) (view x) × IsWhole x) (sym (settled-is hash config made dropped queue stream f g now f.step call.parts call.changed)) (look_up a now f.step (hash f.common.hasher key) key call.parts w comes call.call)
 
     fewer : length (items_of 0 b.parts) + length (waiting g.parts) ≡ length (items_of 0 a.parts)
     fewer = let c = counted a b now (using key) w refl both.0 in let l = length-append (map note_from queue) (waiting g.parts) in omega (arith, c, l)

@@ -48,8 +48,8 @@ module _ (S : Type 0) where
       IsWhole a → IsLive (view a) now key (option_map (λ (v : Stored). v.bytes) (seen_in (part_by_hash f (hash f.common.hasher key)) now key))
 
   -- the step may stay as it was, so that a use of a key need never be refused
-  abbrev pub TouchesOver : Type 0
-  TouchesOver =
+  abbrev pub LooksUpOver : Type 0
+  LooksUpOver =
       (hash : S → List ℕ → ℕ) (config : Config) (made : ℕ) (dropped : Bool) (queue : List (Notice (List ℕ) Stored)) (stream : Stream) (f g : Lent) (now : ℕ) (key : List ℕ)
       → let a = store_of hash config made dropped queue stream f in let b = settled hash config made dropped queue stream g in
       IsWhole a → IsMoment (view a) now → CallsPart (hash f.common.hasher key) now f.step (NotesLookUp service_answers same key (hash f.common.hasher key) now false) f g

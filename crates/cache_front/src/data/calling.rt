@@ -1,9 +1,10 @@
 //! Calls of a front: at the step of the last call, or, where they cover what was written before, at the next one.
-ghost use Rattle.std.specs.Prelude.{◌≡◌, suc, ◌+◌, ◌<◌, ◌≤◌, ◌^◌, ◌⊎◌, true, false, IfOk, OnOk, OnErr, length};
+ghost use Rattle.std.specs.Prelude.{◌≡◌, suc, ◌+◌, ◌<◌, ◌≤◌, ◌^◌, ◌⊎◌, true, false, IfOk, OnOk, OnErr, length, option_map};
 ghost use Rattle.std.specs.Result.{IsErrOf};
 ghost use Rattle.std.specs.VecDeque.{deque_capacity};
 ghost use Rattle.engine_reference.specs.Calls.{cleared_by};
-ghost use Rattle.front_reference.specs.Fronts.{CallsAll};
+ghost use Rattle.front_state.specs.Showing.{IsShown};
+ghost use Rattle.front_reference.specs.Fronts.{CallsAll, part_of};
 ghost use Rattle.front_reference.specs.Wholes.{DrawsInVain};
 ghost use Rattle.cache_parts_store.specs.Meets.{stored};
 ghost use Rattle.cache_front.specs.Data.Data.{hash_with, CoversBy, InsertsBy, IsAnswerTo, LackTickets, TakesOutBy};
@@ -44,6 +45,28 @@ pub fn prepare(
     Ok(StoredValue::new(bytes, milliseconds))
 }
 
+/// The bytes of a value, if there is one.
+pub fn bytes_found(found: Option<&StoredValue>) -> Option<&[u8]>
+    ensures { option_map (λ bytes. bytes.now) result ≡ option_map (λ value. value.bytes) (option_map (λ value. value.now) found.entry) }
+{
+    match found {
+        Some(value) => Some(value.as_bytes()),
+        None => None,
+    }
+}
+
+/// Hands them to `read`, with what is behind `output`.
+pub fn read_bytes<T, E, F: FnOnce(Option<&[u8]>, &mut Vec<u8>) -> Result<T, E> + Drop>(
+    found: Option<&StoredValue>,
+    output: &mut Vec<u8>,
+    read: F,
+) -> Result<T, E>
+    requires { F.IsAlwaysCallable read }
+    ensures { IsShown F.FnOnce read (option_map (λ value. value.bytes) (option_map (λ value. value.now) found.entry)) output.old result output.new }
+{
+    read(bytes_found(found), output)
+}
+
 /// Why a store refuses what its front refuses.
 fn refusal_of(error: CacheError) -> StoreError
     ensures { result ≡ StoreError.UsedUp → error ≡ CacheError.UsedUp }
@@ -54,28 +77,30 @@ fn refusal_of(error: CacheError) -> StoreError
     }
 }
 
-/// Inserts a value.
+/// Inserts a value, and answers its part.
 pub fn insert<S: BuildHasher>(
     alloc: Global,
     front: &mut Front<S>,
     key: &Key,
     value: StoredValue,
     now: u64,
-) -> Result<(), StoreError>
+) -> Result<usize, StoreError>
     requires later { front.old.moment ≤ now }
     requires moment { now < 2 ^ 63 }
     ensures inserts { OnOk result (InsertsBy (hash_with S.BuildHasher S.Hasher.Hasher) key.now value now front.old front.new) }
+    ensures part { IfOk result (λ part. part ≡ part_of front.old.bits (hash_with S.BuildHasher S.Hasher.Hasher front.old.common.hasher key.now)) }
     ensures used_up { IsErrOf result StoreError.UsedUp → LackTickets front.old.parts }
     ensures err { OnErr result (front.new ≡ front.old) }
 {
     let At { step, .. } = front.last_call();
     let hash = front.hash(key);
+    let part = front.part_with_hash(hash);
     let at = At {
         now: Instant::from_nanos(now),
         step,
     };
     match front.insert_with_hash(ClonedKey { key, alloc }, hash, value, at) {
-        Ok(()) => Ok(()),
+        Ok(()) => Ok(part),
         Err(error) => Err(refusal_of(error)),
     }
 }

@@ -1,5 +1,5 @@
 //! Laws: what a front's calls make of the store over it. Each function does nothing: its contract is the law.
-ghost use Rattle.cache_front.specs.Laws.Laws.{AcceptsOver, ClearsOver, DropsOver, GivesOver, LacksOver, PeeksOver, RemovesOver, RunsOver, TakesNotices, TellsEachOnce, TouchesOver};
+ghost use Rattle.cache_front.specs.Laws.Laws.{AcceptsOver, ClearsOver, DropsOver, GivesOver, LacksOver, LooksUpOver, PeeksOver, RemovesOver, RunsOver, TakesNotices, TellsEachOnce};
 
 /// A call tells each note of another value: by as many fewer values are held.
 pub fn tells_each_once<S>()
@@ -11,9 +11,9 @@ pub fn peeks_over<S>()
     ensures { PeeksOver S }
 {}
 
-/// A look-up of a front, with what it told taken, is a `touch` of the store over it, and as many fewer values are held as notices were told.
-pub fn touches_over<S>()
-    ensures { TouchesOver S }
+/// A look-up of a front, with what it told taken, is a `look_up` of the store over it, and as many fewer values are held as notices were told.
+pub fn looks_up_over<S>()
+    ensures { LooksUpOver S }
 {}
 
 /// Where notices were taken from a front as they waited, they stand in the queue of the store over it.

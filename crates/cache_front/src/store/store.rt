@@ -5,8 +5,8 @@ ghost use Rattle.cache_front.specs.Data.Data.{shown_by, word_of};
 ghost use Rattle.cache_front.specs.Data.Making.{IsJustMade};
 
 use crate::data::{
-    LentState, Notice, Segmented, bits_of, clear, cover, drain, insert, invalidate, note_of,
-    prepare, settings_of, write_keys,
+    LentState, Notice, Segmented, bits_of, bytes_found, clear, cover, drain, insert, invalidate,
+    note_of, prepare, read_bytes, settings_of, write_keys,
 };
 use crate::entries::{StoredValue, WordBuilder};
 use audit_model::{Config, Key, Note, Weight};
@@ -101,10 +101,7 @@ impl<R: Rng + Drop, S: BuildHasher + Drop> Store for FrontStore<R, S> {
     }
 
     fn peek(&self, key: &Key, now: u64) -> Option<&[u8]> {
-        match self.front.peek(key, Instant::from_nanos(now)) {
-            Some(value) => Some(value.as_bytes()),
-            None => None,
-        }
+        bytes_found(self.front.peek(key, Instant::from_nanos(now)))
     }
 
     fn count_live(&self, now: u64) -> usize {
@@ -115,10 +112,25 @@ impl<R: Rng + Drop, S: BuildHasher + Drop> Store for FrontStore<R, S> {
         write_keys(self.alloc, &self.front, now, output)
     }
 
-    fn touch(&mut self, key: &Key, now: u64) {
-        self.front.touch(key, Instant::from_nanos(now));
-        let told = drain(&mut self.front, &mut self.notices);
-        self.count -= told;
+    fn look_up<T, E, F: FnOnce(Option<&[u8]>, &mut Vec<u8>) -> Result<T, E> + Drop>(
+        &mut self,
+        key: &Key,
+        now: u64,
+        output: &mut Vec<u8>,
+        read: F,
+    ) -> Result<T, E> {
+        match self
+            .front
+            .look_up(key, Instant::from_nanos(now), output, |found, output| {
+                read_bytes(found, output, read)
+            }) {
+            Ok(answer) => {
+                let told = drain(&mut self.front, &mut self.notices);
+                self.count -= told;
+                Ok(answer)
+            }
+            Err(error) => Err(error),
+        }
     }
 
     fn accept(
@@ -136,8 +148,7 @@ impl<R: Rng + Drop, S: BuildHasher + Drop> Store for FrontStore<R, S> {
             bytes,
             milliseconds,
         )?;
-        let part = self.front.part(key);
-        insert(self.alloc, &mut self.front, key, value, now)?;
+        let part = insert(self.alloc, &mut self.front, key, value, now)?;
         let told = drain(&mut self.front, &mut self.notices);
         self.count = self.count + 1 - told;
         Ok(part as u64)

@@ -23,7 +23,7 @@ use Rattle.audit_model.specs.declared.transcript.Record.{Record}
 use Rattle.audit_model.specs.declared.transcript.Step.{Step}
 use Rattle.cache_commands.specs.Loading.{step_silent}
 use Rattle.cache_commands.specs.Order.{Order}
-use Rattle.cache_commands.specs.Right.{DoesRight, placed_doing, held_when_run}
+use Rattle.cache_commands.specs.Right.{DoesRight, held_when_run}
 use Rattle.cache_lines.specs.Drawing.{Identifiers, StepsDraw}
 use Rattle.cache_lines.specs.Lines.{are_timely, has_its_part}
 use Rattle.cache_lines.specs.Making.{Making}
@@ -37,11 +37,6 @@ use Rattle.cache_lines.proofs.leads.Leading.{on, one}
 use Rattle.cache_lines.proofs.leads.Turns.{draws-no}
 
 -- ---- an answer's own step
-
--- its place depends on no connection
-own-placed : (config : Config) (s : Situation) (key : List ℕ) (outcome : Outcome) (accepted : Option Accepted) (told : List Note)
-    → placed_step_in config s (Some (Store (Some key) outcome)) (step_silent 0 [] None accepted told) ≡ placed_doing config s (Some (Store (Some key) outcome)) (Some []) (Storing (Some key) outcome) (step_silent 0 [] None accepted told)
-own-placed config s key outcome accepted told = refl
 
 pub stored : (config : Config) (making : Making) (s : Situation) (key : List ℕ) (outcome : Outcome) (accepted : Option Accepted) (told : List Note) (tasks : List Task) (drawn : Identifiers)
     → DoesRight config s (Storing (Some key) outcome) (step_silent 0 [] None accepted told)

@@ -9,11 +9,11 @@ use crate::devices::errors::RunError;
 use crate::devices::watched::Watched;
 use std::io::{ErrorKind, Write};
 
-/// Sends all of the output. An interrupted write is made again. Fails with `Write` alone, and only where the writer failed.
+/// Sends all of the output. An interrupted write is repeated. The only error is `Write`, and only if the writer failed.
 pub fn send<W: Write>(output: &[u8], writer: &mut Watched<W>) -> Result<(), RunError>
     ensures ok { OnOk result (Appends (W.contents (device writer.old)) (W.contents (device writer.new)) output.now) }
 
-    // After an error a beginning of the output was sent.
+    // After an error a prefix of the output was sent.
     ensures err { OnErr result ((rest : List ℕ) × SentBut rest output.now (W.contents (device writer.old)) (W.contents (device writer.new))) }
     ensures cause { IfErr result (λ e. (e ≡ RunError.Write) × HasFailed (failures writer.old) (failures writer.new)) }
     ensures count { failures writer.old ≤ failures writer.new }
@@ -33,7 +33,7 @@ pub fn send<W: Write>(output: &[u8], writer: &mut Watched<W>) -> Result<(), RunE
             }
         }
     }
-    // Each turn that did not fail sent a byte: the writer was interrupted again and again.
+    // Each turn that did not fail sent a byte, so the writer was interrupted again and again.
     if rest.is_empty() {
         Ok(())
     } else {

@@ -9,8 +9,8 @@ ghost use Rattle.cache_run.specs.Devices.Failures.{HasFailed, counted, took_none
 use std::io;
 use std::io::{Read, Write};
 
-/// A reader or a writer, and how many of its calls failed: an error, an interruption too, or a write that took nothing of a piece that is
-/// not empty. So a contract can say that an error comes only where the device failed in the call.
+/// A reader or a writer, and how many of its calls failed: with an error (including an interruption), or a write that took nothing of a
+/// piece that is not empty. So a contract can say that an error comes only if the device failed in the call.
 #[derive(Drop)]
 pub struct Watched<T> {
     inner: T,
@@ -18,7 +18,7 @@ pub struct Watched<T> {
 }
 
 impl<T> Watched<T> {
-    /// The device, of which no call has failed.
+    /// Wraps a device none of whose calls has failed.
     pub fn new(inner: T) -> Watched<T>
         ensures holds { device result ≡ inner }
         ensures none_failed { failures result ≡ 0 }
@@ -26,14 +26,14 @@ impl<T> Watched<T> {
         Watched { inner, failed: 0 }
     }
 
-    /// The device.
+    /// Returns the device.
     pub fn inner(&self) -> &T
         ensures { result.now ≡ device self.now }
     {
         &self.inner
     }
 
-    /// How many of its calls failed; once it is `u64::MAX` it stays so.
+    /// Returns how many of its calls failed; the count stops at `u64::MAX`.
     pub fn failed(&self) -> u64
         ensures { result ≡ failures self.now }
     {
@@ -42,7 +42,7 @@ impl<T> Watched<T> {
 }
 
 impl<R: Read> Watched<R> {
-    /// Reads what there is, at most as much as fits, and answers how many bytes. An error is counted and handed on.
+    /// Reads what there is, at most as much as fits, and returns how many bytes. An error is counted and passed on.
     pub fn read(&mut self, buf: &mut [u8]) -> io::Result<usize>
         ensures bound { ReadsAtMost result buf.new }
         ensures bytes { ReadConsumes (R.remaining (device self.old)) (R.remaining (device self.new)) result buf.new }
@@ -59,7 +59,7 @@ impl<R: Read> Watched<R> {
 }
 
 impl<W: Write> Watched<W> {
-    /// Writes a beginning of the bytes, and answers how many it took. An error, or taking none of some, is counted; an error is handed on.
+    /// Writes a prefix of the bytes, and returns how many it took. An error, or taking none of some, is counted; an error is passed on.
     pub fn write(&mut self, buf: &[u8]) -> io::Result<usize>
         ensures bound { WritesAtMost result buf.now }
         ensures bytes { WriteAppends (W.contents (device self.old)) (W.contents (device self.new)) result buf.now }
@@ -78,7 +78,7 @@ impl<W: Write> Watched<W> {
         result
     }
 
-    /// Has the device hand on what it was given. An error is counted and handed on.
+    /// Flushes the device. An error is counted and passed on.
     pub fn flush(&mut self) -> io::Result<()>
         ensures bytes { Keeps (W.contents (device self.old)) (W.contents (device self.new)) }
         ensures counts { failures self.new ≡ counted (is_err result) (failures self.old) }

@@ -15,16 +15,16 @@ use crate::driver::settling::settle_next;
 use std::alloc::Global;
 use std::io::{Read, Write};
 
-/// Whether a driver goes on.
+/// Whether a driver continues.
 #[derive(Clone, Copy, Debug, PartialEq, Eq, Drop)]
 pub enum Progress {
-    /// It goes on; where `converse` answers so, its turns are used up.
+    /// It continues; if `converse` returns this, its turns are used up.
     More,
     /// It is over.
     Over,
 }
 
-/// How a connection ended that is not gone on with: turns that were used up are an error.
+/// Returns how a connection ended that is not continued: turns that were used up are an error.
 pub fn outcome_of(ended: Result<Progress, RunError>) -> Result<(), RunError>
     ensures { result ≡ outcome_by ended }
 {
@@ -58,8 +58,8 @@ pub fn open<H: Host>(
     }
 }
 
-/// Settles a load that went out, or waits for others'; where there is none, reads if all was fed, and feeds a beginning of what was read. Over
-/// at the end of the input, or where the connection has closed.
+/// Settles a load that went out, or waits for others'; if there is none, reads if everything was fed, and feeds a prefix of what was read.
+/// `Over` at the end of the input, or if the connection has closed.
 fn take_turn<H: Host, I: Read, O: Write, K: Clock, D: Loader>(
     host: &mut H,
     place: &mut H::Place,
@@ -94,7 +94,7 @@ fn take_turn<H: Host, I: Read, O: Write, K: Clock, D: Loader>(
     feed_piece(host, place, session, count, writer, clock)
 }
 
-/// Answers what is read, and settles the loads that go out, to the end of the input or until the connection has closed. Where its turns are
+/// Answers what is read, and settles the loads that go out, to the end of the input or until the connection has closed. If its turns are
 /// used up before, it can be called again.
 pub fn converse<H: Host, I: Read, O: Write, K: Clock, D: Loader>(
     host: &mut H,
@@ -122,7 +122,7 @@ pub fn converse<H: Host, I: Read, O: Write, K: Clock, D: Loader>(
     Ok(Progress::More)
 }
 
-/// Closes a connection, unless it has closed; after an error the loads in hand are dropped then, and those that have gone out.
+/// Closes a connection, unless it has closed; after an error the loads in hand are dropped, and those that have gone out.
 pub fn close<H: Host, D: Loader>(
     host: &mut H,
     place: &mut H::Place,

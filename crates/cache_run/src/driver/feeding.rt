@@ -1,4 +1,4 @@
-//! What was read, fed.
+//! Feeding what was read.
 ghost use Rattle.std.specs.Prelude.{◌≡◌, ◌≤◌, [], length, take, drop, IfErr};
 ghost use Rattle.cache_run.specs.Devices.Sources.{HasToldLate};
 ghost use Rattle.cache_run.specs.Devices.Watched.{failures};
@@ -12,8 +12,8 @@ use crate::driver::host::Host;
 use crate::driver::session::Session;
 use std::io::Write;
 
-/// Feeds so many bytes of the inbox with the clock's reading, and hands out what comes of it. Over where others had closed the connection.
-/// Where a command of them is held back for want of memory, that is an error.
+/// Feeds this many bytes of the inbox with the clock's reading, and hands out the results. `Over` if others had closed the connection.
+/// If a command is held back for lack of memory, that is an error.
 pub fn feed_piece<H: Host, O: Write, K: Clock>(
     host: &mut H,
     place: &mut H::Place,

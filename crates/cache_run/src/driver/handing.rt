@@ -1,4 +1,4 @@
-//! What a connection is given, handed out: loads are kept and replies are sent.
+//! Handing out what a connection is given: loads are kept and replies are sent.
 ghost use Rattle.std.specs.Prelude.{◌≡◌, ◌≢◌, ◌≤◌, ℕ, [], List, None, IfErr, OnOk, OnErr};
 ghost use Rattle.std.specs.Option.{option_map};
 ghost use Rattle.cache_run.specs.Devices.Sent.{SentBut};
@@ -13,7 +13,7 @@ use crate::driver::host::Given;
 use crate::driver::session::{Session, footing_of};
 use std::io::Write;
 
-/// Sends all of a text, and has the writer hand it on.
+/// Sends all of a text, and flushes the writer.
 fn send_whole<W: Write>(text: &[u8], writer: &mut Watched<W>) -> Result<(), RunError>
     ensures ok { OnOk result (SentBut [] text.now (W.contents (device writer.old)) (W.contents (device writer.new))) }
     ensures err { OnErr result ((rest : List ℕ) × SentBut rest text.now (W.contents (device writer.old)) (W.contents (device writer.new))) }
@@ -33,7 +33,7 @@ fn send_whole<W: Write>(text: &[u8], writer: &mut Watched<W>) -> Result<(), RunE
     }
 }
 
-/// Keeps the loads, and sends the replies. Where there was no memory for the replies, they stay to be taken.
+/// Keeps the loads, and sends the replies. If there was not enough memory for the replies, they are left to be taken.
 pub fn hand_out<W: Write>(
     session: &mut Session,
     given: Given,

@@ -1,4 +1,4 @@
-//! What a driver serves its connection by.
+//! What a driver uses to serve its connection.
 ghost use Rattle.std.specs.Prelude.{◌≡◌, ◌≤◌, ◌<◌, ◌^◌, ℕ, Bool, true, false, [], List, length, take, IfOk, IfErr, IfSome, OnErr, IsNone};
 ghost use Rattle.cache_run.specs.Devices.Sources.{Asking, Askings};
 ghost use Rattle.cache_run.specs.Driver.Exchanges.{Doing, Exchange, Fed, Looked, Outs};
@@ -8,24 +8,24 @@ ghost use Rattle.audit_model.specs.declared.input.Conn.{Conn};
 use crate::devices::{Loader, RunError};
 use audit_model::{Bytes, Closing, Conn, LoadId, Outcome};
 
-/// What a connection is given behind an exchange.
+/// What a connection is given after an exchange.
 #[derive(Drop)]
 pub struct Given {
-    /// Whether a command is held back for want of memory.
+    /// Whether a command is held back for lack of memory.
     pub held: bool,
-    /// Its replies that were not taken; none where there was no memory for them.
+    /// Its replies that were not taken; `None` if there was not enough memory for them.
     pub replies: Option<Vec<u8>>,
-    /// The loads of its namespace that had gone out and were not taken, where they were wanted.
+    /// The loads of its namespace that had gone out and were not taken, if they were requested.
     pub loads: Option<Vec<(LoadId, Bytes)>>,
     /// Why it has closed, if it has.
     pub closing: Option<Closing>,
-    /// Whether a `LOAD` of it waits for a load that another connection's loader is asked for.
+    /// Whether a `LOAD` of it waits for a load that is requested from another connection's loader.
     pub waits: bool,
 }
 
-/// Serves connections: a service that is lent, or a seat of one that threads share.
+/// Serves connections: a lent service, or a seat of one that threads share.
 pub trait Host {
-    /// What changes as a connection is served.
+    /// What changes while a connection is served.
     type Place;
 
     /// Whether nobody else has the service.
@@ -37,7 +37,7 @@ pub trait Host {
     /// It is known.
     ghost knows: { Conn → Self.Place → Type 0 };
 
-    /// A piece may be fed at once.
+    /// A piece may be fed as a whole.
     ghost fits: { List ℕ → Type 0 };
 
     /// An exchange came.
@@ -55,7 +55,7 @@ pub trait Host {
     /// A connection was closed, if it was open.
     ghost closes: { Conn → Self.Place → Self.Place → Type 0 };
 
-    /// Loads in hand were dropped, and then those that had gone out, for which a loader was asked so.
+    /// Loads in hand were dropped, and then those that had gone out, for which a loader was asked in this way.
     ghost drops: { Conn → Outs → Self.Place → List Asking → Self.Place → Type 0 };
 
     /// Opens a connection.
@@ -65,14 +65,14 @@ pub trait Host {
         ensures count { counted place.old ≤ counted place.new }
         ensures why { IfErr result (Stops (exhausts (counted place.old) (counted place.new)) ⊥) };
 
-    /// How much of what was read is fed at once.
+    /// Returns how much of what was read is fed at once.
     fn cut(&mut self, bytes: &[u8]) -> usize
         ensures within { result ≤ length bytes.now }
         ensures some { 0 < length bytes.now → 0 < result }
         ensures whole { LENT ≡ true → result ≡ length bytes.now }
         ensures fits { fits (take result bytes.now) };
 
-    /// Feeds a piece. None where the connection had closed.
+    /// Feeds a piece. Returns `None` if the connection had closed.
     fn feed(
         &mut self,
         place: &mut Self::Place,
@@ -90,8 +90,8 @@ pub trait Host {
         ensures count { counted place.old ≤ counted place.new }
         ensures why { IfErr result (Stops (exhausts (counted place.old) (counted place.new)) (2 ^ 63 ≤ moment)) };
 
-    /// Settles a load by what the loader said: it is answered, or given up where there is no answer or one that is refused for its bytes or its
-    /// time.
+    /// Settles a load by what the loader returned: it is answered, or given up if there is no outcome or one that is refused for its bytes
+    /// or its time.
     fn settle(
         &mut self,
         place: &mut Self::Place,
@@ -109,7 +109,7 @@ pub trait Host {
         ensures count { counted place.old ≤ counted place.new }
         ensures why { IfErr result (Stops (exhausts (counted place.old) (counted place.new)) (2 ^ 63 ≤ moment)) };
 
-    /// What the connection is owed now.
+    /// Returns what the connection is owed now.
     fn look(&mut self, place: &mut Self::Place, conn: Conn, wants_loads: bool) -> Given
         requires known { knows conn place.old }
         ensures came { came conn place.old (exchange_of Looked result) place.new }
@@ -142,9 +142,9 @@ pub trait Host {
     /// An empty piece fits.
     ghost fits_none: { fits [] };
 
-    /// Inputs that were used up, seen from further off.
+    /// If inputs were used up between two counts, they were between earlier and later ones.
     ghost exhausts_within: { (i j k l : ℕ) → i ≤ j → k ≤ l → exhausts j k → exhausts i l };
 
-    /// A closing behind what rested.
+    /// A closing after a rest.
     ghost closes_behind: { (conn : Conn) (p q r : Self.Place) → rests p q → closes conn q r → closes conn p r };
 }

@@ -7,7 +7,7 @@ use std::alloc::{AllocError, Global};
 use std::io::{ErrorKind, Read};
 use std::marker::Model;
 
-/// The most bytes that are read at once.
+/// The maximum number of bytes that are read at once.
 const PIECE_BYTES: usize = 8192;
 
 /// Bytes that were read and not fed.
@@ -29,7 +29,7 @@ impl Model for Inbox {
 }
 
 impl Inbox {
-    /// None.
+    /// Creates an empty inbox.
     pub fn new(alloc: Global) -> Result<Inbox, AllocError>
         ensures { IfOk result (λ inbox. inbox ≡ []) }
     {
@@ -41,21 +41,21 @@ impl Inbox {
         })
     }
 
-    /// The bytes.
+    /// Returns the bytes.
     pub fn as_slice(&self) -> &[u8]
         ensures { result.now ≡ self.now }
     {
         &self.buffer[self.from..self.to]
     }
 
-    /// Whether all were fed.
+    /// Returns whether all bytes were fed.
     pub fn is_empty(&self) -> bool
         ensures { result ≡ (length self.now == 0) }
     {
         self.from == self.to
     }
 
-    /// So many at the front are fed.
+    /// Drops this many bytes at the front, which were fed.
     pub fn skip(&mut self, count: usize)
         requires { count ≤ length self.old }
         ensures { self.new ≡ drop count self.old }
@@ -63,8 +63,8 @@ impl Inbox {
         self.from += count;
     }
 
-    /// Reads a piece, where all were fed. Answers whether there may be more: not at the end of the input. After an interrupted read there is
-    /// none.
+    /// Reads a piece, if all bytes were fed. Returns whether there may be more: not at the end of the input. After an interrupted read
+    /// there is no piece.
     fn fill<I: Read>(&mut self, reader: &mut Watched<I>) -> Result<bool, RunError>
         requires { self.old ≡ [] }
         ensures { Fills I.remaining self.old self.new reader.old reader.new result }
@@ -84,7 +84,7 @@ impl Inbox {
         Ok(count != 0)
     }
 
-    /// Reads a piece, if all were fed. Answers whether there may be more: not at the end of the input.
+    /// Reads a piece, if all bytes were fed. Returns whether there may be more: not at the end of the input.
     pub fn refill<I: Read>(&mut self, reader: &mut Watched<I>) -> Result<bool, RunError>
         ensures { Fills I.remaining self.old self.new reader.old reader.new result }
     {

@@ -6,12 +6,12 @@ use crate::driver::inbox::Inbox;
 use audit_model::{Bytes, Closing, Conn, LoadId};
 use std::alloc::Global;
 
-/// How a connection stands behind the last exchange.
+/// The state of a connection after the last exchange.
 #[derive(Clone, Copy, Debug, PartialEq, Eq, Drop)]
 pub enum Footing {
     /// It takes commands.
     Ready,
-    /// A `LOAD` of it waits for a load that another connection's loader is asked for.
+    /// A `LOAD` of it waits for a load that is requested from another connection's loader.
     Waiting,
     /// It has closed.
     Closed,
@@ -22,16 +22,16 @@ pub enum Footing {
 pub struct Session {
     /// The connection.
     pub conn: Conn,
-    /// Loads of its namespace that have gone out, and that its loader is to be asked for.
+    /// Loads of its namespace that have gone out, and that are to be requested from its loader.
     pub taken: Vec<(LoadId, Bytes)>,
     /// What was read and not fed.
     pub inbox: Inbox,
-    /// How it stands.
+    /// Its state.
     pub footing: Footing,
 }
 
 impl Session {
-    /// A connection of which nothing is in hand.
+    /// Creates a session of a connection with nothing in hand.
     pub fn new(alloc: Global, conn: Conn, inbox: Inbox) -> Session
         ensures conn { result.conn ≡ conn }
         ensures taken { result.taken.items ≡ [] }
@@ -46,7 +46,7 @@ impl Session {
         }
     }
 
-    /// Whether no load is in hand.
+    /// Returns whether no load is in hand.
     pub fn has_no_load(&self) -> bool
         ensures none { result ≡ true → self.now.taken.items ≡ [] }
         ensures some { result ≡ false → self.now.taken.items ≢ [] }
@@ -55,7 +55,7 @@ impl Session {
     }
 }
 
-/// How a connection stands.
+/// Returns the state of a connection.
 pub fn footing_of(closing: Option<Closing>, waits: bool) -> Footing
     ensures { result ≡ footing_by closing waits }
 {

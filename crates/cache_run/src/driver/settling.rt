@@ -1,4 +1,4 @@
-//! The loads of a connection's namespace, asked of its loader.
+//! The loads of a connection's namespace, requested from its loader.
 ghost use Rattle.std.specs.Prelude.{◌≡◌, ◌≢◌, ◌≤◌, [], true, IfErr};
 ghost use Rattle.cache_run.specs.Devices.Sources.{HasToldLate};
 ghost use Rattle.cache_run.specs.Devices.Watched.{failures};
@@ -13,8 +13,8 @@ use crate::driver::host::Host;
 use crate::driver::session::{Footing, Session};
 use std::io::Write;
 
-/// Asks the loader for the last load in hand by its key, settles it by what the loader says, takes it out of hand, and hands out what comes
-/// of it. Where it cannot be settled it stays in hand.
+/// Asks the loader for the last load in hand by its key, settles it by what the loader returns, removes it from the hand, and hands out the
+/// results. If it cannot be settled, it stays in hand.
 fn settle_last<H: Host, O: Write, K: Clock, D: Loader>(
     host: &mut H,
     place: &mut H::Place,
@@ -71,7 +71,7 @@ fn settle_one<H: Host, O: Write, K: Clock, D: Loader>(
     settle_last(host, place, session, writer, clock, loader)
 }
 
-/// Settles the last load in hand, or else waits for others'; and where then none is left, runs what may be held back. Over where others had
+/// Settles the last load in hand, or else waits for others'; if none is left after that, runs what may be held back. `Over` if others had
 /// closed the connection.
 pub fn settle_next<H: Host, O: Write, K: Clock, D: Loader>(
     host: &mut H,

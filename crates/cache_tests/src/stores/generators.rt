@@ -6,6 +6,7 @@ use crate::stores::turning::Turning;
 use crate::stores::wrong_row;
 use audit_model::{Config, Weight};
 use cache_front::KeyedHasher;
+use std::alloc::Global;
 
 const BYTES: Config = Config {
     weight: Weight::Bytes,
@@ -24,15 +25,34 @@ const A_SECOND_DROP_FINDS_NO_IDENTIFIER: &[Row<'static>] = &[
     Row::Says(FIRST, b"SYNC\nDROPIF b\nGET b\n", b"SYNC 1 1\nOK\nNONE\n"),
 ];
 
+// the first covers nothing, and is registered until a run comes
+const AN_IDENTIFIER_THAT_COVERS_NOTHING_IS_IN_USE: &[Row<'static>] = &[
+    Row::Opens(FIRST),
+    Row::Says(
+        FIRST,
+        b"SET b - 1\nDROPIF a\nDROPIF b\nGET b\nSYNC\nDROPIF b\nGET b\n",
+        b"OK\nOK\nERR id\nVAL 1\nSYNC 1 1\nOK\nNONE\n",
+    ),
+];
+
+/// The place of the first row that does not come out so where each word that is drawn is 0.
+fn wrong_of_zeros(alloc: Global, config: Config, rows: &[Row<'_>]) -> Option<usize> {
+    let hasher = KeyedHasher::new(b"sixteen bytes ...");
+    wrong_row(alloc, config, Repeating(0), hasher, rows)
+}
+
 #[test]
 fn a_second_drop_finds_no_identifier(rt: HostRuntime) {
-    let hasher = KeyedHasher::new(b"sixteen bytes ...");
-    let wrong = wrong_row(
+    let wrong = wrong_of_zeros(rt.alloc(), BYTES, A_SECOND_DROP_FINDS_NO_IDENTIFIER);
+    assert_eq!(rt; wrong, None);
+}
+
+#[test]
+fn an_identifier_that_covers_nothing_is_in_use(rt: HostRuntime) {
+    let wrong = wrong_of_zeros(
         rt.alloc(),
-        BYTES,
-        Repeating(0),
-        hasher,
-        A_SECOND_DROP_FINDS_NO_IDENTIFIER,
+        PLAIN,
+        AN_IDENTIFIER_THAT_COVERS_NOTHING_IS_IN_USE,
     );
     assert_eq!(rt; wrong, None);
 }

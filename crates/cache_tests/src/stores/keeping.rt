@@ -97,7 +97,22 @@ fn finds<S: Store>(store: &S, now: u64, key: &mut Key, name: &[u8], wanted: Opti
     key.fill(name).is_ok() && store.peek(key, now) == wanted
 }
 
-/// The same, and it is a use of it.
+/// Copies what was found behind `output`, where it is what is wanted.
+fn copies(
+    found: Option<&[u8]>,
+    wanted: Option<&[u8]>,
+    output: &mut Vec<u8>,
+) -> Result<(), AllocError> {
+    if found != wanted {
+        return Err(AllocError);
+    }
+    match found {
+        Some(bytes) => output.extend_from_slice(bytes),
+        None => Ok(()),
+    }
+}
+
+/// The same, and it is a use of it; the bytes go behind `output`.
 fn looks_up<S: Store>(
     store: &mut S,
     config: &Config,
@@ -105,6 +120,7 @@ fn looks_up<S: Store>(
     key: &mut Key,
     name: &[u8],
     wanted: Option<&[u8]>,
+    output: &mut Vec<u8>,
 ) -> bool
     requires config { (S.view store.old).frame.config ≡ config.now }
     requires in_time { (S.view store.old).frame.latest ≤ now }
@@ -112,9 +128,15 @@ fn looks_up<S: Store>(
     ensures config { (S.view store.new).frame.config ≡ config.now }
     ensures in_time { (S.view store.new).frame.latest ≤ now }
 {
-    let is_so = finds(store, now, key, name, wanted);
-    store.touch(key, now);
-    is_so
+    key.fill(name).is_ok()
+        && store
+            .look_up(
+                key,
+                now,
+                output,
+                |found, output| copies(found, wanted, output),
+            )
+            .is_ok()
 }
 
 /// Whether a run leaves so many values, which weigh that much.
@@ -127,7 +149,7 @@ fn runs<S: Store>(store: &mut S, now: u64, number: u64, weight: u64) -> bool
 }
 
 /// Whether values of a key and of the empty key are accepted and found.
-fn gives_back<S: Store>(store: &mut S, config: &Config, key: &mut Key) -> bool
+fn gives_back<S: Store>(store: &mut S, config: &Config, key: &mut Key, output: &mut Vec<u8>) -> bool
     requires config { (S.view store.old).frame.config ≡ config.now }
     requires in_time { (S.view store.old).frame.latest ≤ 5 }
 {
@@ -135,9 +157,10 @@ fn gives_back<S: Store>(store: &mut S, config: &Config, key: &mut Key) -> bool
         && accepts(store, config, 5, key, b"one")
         && key.fill(b"").is_ok()
         && accepts(store, config, 6, key, b"")
-        && looks_up(store, config, 7, key, b"key", Some(b"one"))
-        && looks_up(store, config, 7, key, b"ke", None)
-        && looks_up(store, config, 7, key, b"", Some(b""))
+        && looks_up(store, config, 7, key, b"key", Some(b"one"), output)
+        && looks_up(store, config, 7, key, b"ke", None, output)
+        && looks_up(store, config, 7, key, b"", Some(b""), output)
+        && output.as_slice() == b"one".as_slice()
         && store.next_notice().is_none()
         && runs(store, 7, 2, 3)
 }
@@ -148,7 +171,8 @@ fn gives_back_in_new(alloc: Global) -> Result<bool, AllocError> {
     let hasher = KeyedHasher::new(b"sixteen bytes ...");
     let mut store = FrontStore::new(alloc, BYTES, 0, generator, hasher)?;
     let mut key = Key::with_capacity(alloc, 250)?;
-    Ok(gives_back(&mut store, &BYTES, &mut key))
+    let mut output = Vec::new(alloc);
+    Ok(gives_back(&mut store, &BYTES, &mut key, &mut output))
 }
 
 #[test]

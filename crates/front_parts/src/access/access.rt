@@ -1,4 +1,4 @@
-//! What gives access to a cache.
+//! Access to a cache.
 ghost use Rattle.std.specs.Prelude.{◌≡◌, Bool, Option, Some, Ok, IfOk, IfErr, OnErr};
 ghost use Rattle.std.specs.Fn.{FnOnceReturnsAt};
 ghost use Rattle.front_reference.specs.declared.data.Computed.{Computed};
@@ -12,11 +12,11 @@ ghost use Rattle.front_parts.specs.Access.Answering.{IsCoalesced, IsComputed, Su
 use front_reference::{CacheError, Computed, Made, Op, Shared, TurnKind};
 use std::alloc::AllocError;
 
-/// The two calls of a cache of which selectors are made.
+/// The two calls of a cache with which selectors are implemented.
 ///
-/// A cache that is lent asks that no turn of the kind and key is under way; one that threads share waits for it, and says nothing of values.
+/// A lent cache requires that no turn of the kind and key is under way; a shared one waits for it, and says nothing about values.
 pub trait Access<K, V: Clone> {
-    /// When a call comes, where the caller says so: its moment and its step.
+    /// When a call comes, if the caller says so: its moment and its step.
     type When: Copy;
 
     /// Why a value could not be made.
@@ -40,8 +40,9 @@ pub trait Access<K, V: Clone> {
     // why a compute call is refused for a key
     ghost refuses_computed: { Self → K → CacheError → Type 0 };
 
-    /// The visible value of a key of which `replace_if` does not say yes, and false; or what `make` makes, and whether it was made here. A value that was made is kept.
-    /// Without a kind nobody else's call is waited for. `make` may be refused for memory, and then so is the call.
+    /// Returns the visible value of a key for which `replace_if` does not return true, and false; or else what `make` makes, and whether
+    /// this call made it. A value that was made is stored.
+    /// Without a kind, the call does not wait for other calls. If `make` fails to allocate, the call is refused.
     fn coalesce<
         P: FnOnce(&V) -> bool + Drop,
         M: FnOnce() -> Result<Made<V, Shared<Self::Fault>>, AllocError> + Drop,
@@ -62,7 +63,8 @@ pub trait Access<K, V: Clone> {
         ensures err { OnErr result (self.new ≡ self.old) }
         ensures cause { IfErr result (refuses_coalesced self.old kind key) };
 
-    /// Lets `decide` say by the visible value what is to be done with a key, does it, and answers what was done; or the error of `decide`, and then nothing is written.
+    /// Calls `decide` with the visible value of a key, does what it decides, and returns what was done; or returns the error of `decide`,
+    /// and writes nothing.
     fn compute<E: Drop, D: FnOnce(Option<V>) -> Result<Op<V>, E> + Drop>(
         &mut self,
         key: Shared<K>,

@@ -1,10 +1,11 @@
-//! What selectors answer.
+//! The results of selectors.
 ghost use Rattle.std.specs.Prelude.{◌≡◌, Some, is_none, IsSome};
 ghost use Rattle.front_parts.specs.Access.Entries.{shown_as, entry_in};
 
 use front_reference::{Computed, Shared};
 
-/// A key with its value, as a cache had them when this was answered, or as it has kept them. The value is a clone of the one in the cache.
+/// A key with its value, as the cache had them when the call returned, or as it has stored them. The value is a clone of the one in the
+/// cache.
 #[derive(Debug, Drop)]
 pub struct Entry<K, V> {
     key: Shared<K>,
@@ -26,7 +27,7 @@ impl<K, V> Entry<K, V> {
         }
     }
 
-    /// The key.
+    /// Returns the key.
     /// ```
     /// let key = entry.key();
     /// ```
@@ -36,7 +37,7 @@ impl<K, V> Entry<K, V> {
         &*self.key
     }
 
-    /// The value.
+    /// Returns the value.
     /// ```
     /// let value = entry.value();
     /// ```
@@ -46,7 +47,7 @@ impl<K, V> Entry<K, V> {
         &self.value
     }
 
-    /// Gives up the entry for its value.
+    /// Converts the entry into its value.
     /// ```
     /// let value = cache.entry(7, at).or_insert(49)?.into_value();
     /// ```
@@ -58,7 +59,7 @@ impl<K, V> Entry<K, V> {
         self.value
     }
 
-    /// Whether the call that answered this made the value, or put it.
+    /// Returns whether the call that returned this entry made or put the value.
     /// ```
     /// if !entry.is_fresh() {
     ///     count_hit();
@@ -70,7 +71,7 @@ impl<K, V> Entry<K, V> {
         self.is_fresh
     }
 
-    /// Whether that call put the value in the place of a visible one.
+    /// Returns whether that call replaced a visible value by this one.
     /// ```
     /// if entry.is_old_value_replaced() {
     ///     count_update();
@@ -86,13 +87,13 @@ impl<K, V> Entry<K, V> {
 /// What a compute call did to a key.
 #[derive(Debug, Drop)]
 pub enum CompResult<K, V> {
-    /// There was no value, and there is none.
+    /// There was no value, and there still is none.
     StillNone(Shared<K>),
-    /// The visible value stays as it is.
+    /// The visible value was left as it is.
     Unchanged(Entry<K, V>),
-    /// The value was put where none was visible.
+    /// A value was put, and none was visible before.
     Inserted(Entry<K, V>),
-    /// The value was put in the place of a visible one.
+    /// A value was put, and replaced a visible one.
     ReplacedWith(Entry<K, V>),
     /// The value was removed, whether its deadline had come or not.
     Removed(Entry<K, V>),
@@ -116,7 +117,7 @@ impl<K, V> CompResult<K, V> {
         }
     }
 
-    /// Whether there was no value, and there is none.
+    /// Returns whether there was no value, and still is none.
     /// ```
     /// if done.is_still_none() {
     ///     show_nobody();
@@ -131,7 +132,7 @@ impl<K, V> CompResult<K, V> {
         }
     }
 
-    /// The entry, if there is one.
+    /// Returns the entry, if there is one.
     /// ```
     /// let value = done.into_entry().map(|entry| entry.into_value());
     /// ```
@@ -149,7 +150,7 @@ impl<K, V> CompResult<K, V> {
         }
     }
 
-    /// The entry, of which there is one.
+    /// Returns the entry. The contract requires that there is one.
     /// ```
     /// let entry = cache.entry(7, at).and_compute_with(|_| Op::Put(1))?.unwrap();
     /// ```

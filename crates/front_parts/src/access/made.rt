@@ -1,4 +1,4 @@
-//! What calls that make a value answer, by what was made.
+//! The results of calls that make a value, by what was made.
 ghost use Rattle.std.specs.Prelude.{◌≡◌, Some, None};
 ghost use Rattle.std.specs.Arc.{arc_value};
 ghost use Rattle.front_reference.specs.declared.data.Made.TheVariants as outcome;
@@ -20,7 +20,7 @@ pub fn value_made<V, F: Drop>(made: Made<V, F>) -> V
     }
 }
 
-/// The value that was made, if one was.
+/// The value that was made, if any.
 pub fn option_made<V, F: Drop>(made: Made<V, F>) -> Option<V>
     requires { Suits (Some turns.Optionally) made }
     ensures { made_option result ≡ made }

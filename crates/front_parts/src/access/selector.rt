@@ -18,7 +18,7 @@ use front_reference::{CacheError, Computed, Made, Op, Shared, TurnKind};
 use std::alloc::{AllocError, Global};
 use std::sync::Arc;
 
-/// The entry of one key, of which one call can be made.
+/// The entry of one key, on which one call can be made.
 pub struct EntrySelector<'a, K, A, W> {
     owner: &'a mut A,
     key: K,
@@ -26,14 +26,14 @@ pub struct EntrySelector<'a, K, A, W> {
     alloc: Global,
 }
 
-/// A selector of the entry of a key that was handed in.
+/// A selector of the entry of a key that was passed by value.
 pub type OwnedKeyEntrySelector<'a, K, A, W> = EntrySelector<'a, K, A, W>;
 
-/// A selector of the entry of a key that was lent, and cloned for it.
+/// A selector of the entry of a key that was borrowed, and cloned for it.
 pub type RefKeyEntrySelector<'a, K, A, W> = EntrySelector<'a, K, A, W>;
 
 impl<'a, K, A, W: Copy> EntrySelector<'a, K, A, W> {
-    /// A selector of the entry of a key.
+    /// Creates a selector of the entry of a key.
     /// ```
     /// let selector = EntrySelector::new(&mut cache, 7, at, alloc);
     /// ```
@@ -87,7 +87,8 @@ impl<'a, K, A, W: Copy> EntrySelector<'a, K, A, W> {
         Ok((shown, made, is_fresh))
     }
 
-    /// The visible value of the key, or the one that `make` makes, which is kept. Of several callers for the key one makes it, and the others wait for it.
+    /// Returns the visible value of the key, or the one that `make` makes, which is stored. Of several callers for the key one makes it,
+    /// and the others wait for it.
     /// ```
     /// let entry = cache.entry(7, at).or_insert_with(|| 49)?;
     /// let value = entry.into_value();
@@ -115,7 +116,8 @@ impl<'a, K, A, W: Copy> EntrySelector<'a, K, A, W> {
         Ok(shown_value(key, made, is_fresh))
     }
 
-    /// The same, where a visible value of which `replace_if` says yes counts as none. The entry does not say that a value was replaced.
+    /// Like `or_insert_with`, except that a visible value for which `replace_if` returns true counts as none. The entry does not say that a
+    /// value was replaced.
     /// ```
     /// let entry = cache.entry(7, at).or_insert_with_if(|| 50, |old| *old < 50)?;
     /// ```
@@ -144,7 +146,7 @@ impl<'a, K, A, W: Copy> EntrySelector<'a, K, A, W> {
         Ok(shown_value(key, made, is_fresh))
     }
 
-    /// The visible value of the key, or this one, which is then kept. It is not coalesced: nobody else's call is waited for.
+    /// Returns the visible value of the key, or else this one, which is then stored. The call is not coalesced: it waits for no other call.
     /// ```
     /// let entry = cache.entry(7, at).or_insert(49)?;
     /// ```
@@ -167,7 +169,8 @@ impl<'a, K, A, W: Copy> EntrySelector<'a, K, A, W> {
         Ok(shown_value(key, made, is_fresh))
     }
 
-    /// The visible value of the key, or the default one, which is then kept. It is not coalesced: nobody else's call is waited for.
+    /// Returns the visible value of the key, or else the default value, which is then stored. The call is not coalesced: it waits for no
+    /// other call.
     /// ```
     /// let entry = cache.entry(7, at).or_default()?;
     /// ```
@@ -190,7 +193,8 @@ impl<'a, K, A, W: Copy> EntrySelector<'a, K, A, W> {
         Ok(shown_value(key, made, is_fresh))
     }
 
-    /// The visible value of the key, or the one that `make` makes, which is kept, or `None` where it makes none. Coalesced with calls of its kind.
+    /// Returns the visible value of the key, or the one that `make` makes, which is stored, or `None` if it makes none. The call is
+    /// coalesced with calls of its kind.
     /// ```
     /// match cache.entry(7, at).or_optionally_insert_with(|| find_user(7))? {
     ///     Some(entry) => show(entry.value()),
@@ -227,7 +231,8 @@ impl<'a, K, A, W: Copy> EntrySelector<'a, K, A, W> {
         Ok(shown_option(key, made, is_fresh))
     }
 
-    /// The visible value of the key, or the one that `make` makes, which is kept, or why it could make none. Coalesced with calls of its kind, which then answer the same fault.
+    /// Returns the visible value of the key, or the one that `make` makes, which is stored, or its error if it fails. The call is coalesced
+    /// with calls of its kind, which then return the same error.
     /// ```
     /// match cache.entry(7, at).or_try_insert_with(|| read_row(7))? {
     ///     Ok(entry) => show(entry.value()),
@@ -274,7 +279,8 @@ impl<'a, K, A, W: Copy> EntrySelector<'a, K, A, W> {
         Ok(shown_result(shown, made, is_fresh))
     }
 
-    /// Lets `decide` say by the entry, if there is one, what is to be done with the key, and does it; where `decide` fails nothing is written. Calls of this kind for one key come one after another.
+    /// Calls `decide` with the entry, if there is one, and does what it decides; if `decide` fails, nothing is written. Calls of this kind
+    /// for one key come one after another.
     /// ```
     /// let answer = cache.entry(7, at).and_try_compute_with(|seen| match seen {
     ///     Some(entry) => Ok(Op::Put(parse(entry.value())?)),
@@ -316,7 +322,7 @@ impl<'a, K, A, W: Copy> EntrySelector<'a, K, A, W> {
         Ok(shown_result_of(shown, answer))
     }
 
-    /// Lets `decide` say by the entry, if there is one, what is to be done with the key, and does it. Calls of this kind for one key come one after another.
+    /// Calls `decide` with the entry, if there is one, and does what it decides. Calls of this kind for one key come one after another.
     /// ```
     /// let done = cache.entry(7, at).and_compute_with(|seen| match seen {
     ///     Some(_) => Op::Remove,
@@ -349,7 +355,8 @@ impl<'a, K, A, W: Copy> EntrySelector<'a, K, A, W> {
         }
     }
 
-    /// Puts the value that `make` makes of the entry, if there is one. The entry is fresh, and says whether a visible value was replaced. Calls of this kind for one key come one after another.
+    /// Puts the value that `make` computes from the entry, if there is one. The returned entry is fresh, and says whether a visible value
+    /// was replaced. Calls of this kind for one key come one after another.
     /// ```
     /// let entry = cache.entry(7, at).and_upsert_with(|seen| match seen {
     ///     Some(entry) => entry.into_value().saturating_add(1),
@@ -383,7 +390,7 @@ impl<'a, K, A, W: Copy> EntrySelector<'a, K, A, W> {
     }
 }
 
-/// What a closure is shown of a key.
+/// What a closure is passed of a key.
 fn entry_seen<K: Drop, V>(key: Shared<K>, seen: Option<V>) -> Option<Entry<K, V>>
     ensures { result ≡ seen_entry key seen }
 {
@@ -393,7 +400,7 @@ fn entry_seen<K: Drop, V>(key: Shared<K>, seen: Option<V>) -> Option<Entry<K, V>
     }
 }
 
-/// What is shown of a call that makes a value.
+/// The result of a call that makes a value.
 fn shown_value<K: Drop, V, F: Drop>(
     key: Shared<K>,
     made: Made<V, Shared<F>>,
@@ -409,7 +416,7 @@ fn shown_value<K: Drop, V, F: Drop>(
     }
 }
 
-/// What is shown of a call that may make no value.
+/// The result of a call that may make no value.
 fn shown_option<K: Drop, V, F: Drop>(
     key: Shared<K>,
     made: Made<V, Shared<F>>,
@@ -425,7 +432,7 @@ fn shown_option<K: Drop, V, F: Drop>(
     }
 }
 
-/// What is shown of a call that may fail.
+/// The result of a call that may fail.
 fn shown_result<K: Drop, V, F: Drop>(
     key: Shared<K>,
     made: Made<V, Shared<F>>,
@@ -441,7 +448,7 @@ fn shown_result<K: Drop, V, F: Drop>(
     }
 }
 
-/// What is shown of a compute call.
+/// The result of a compute call.
 fn shown_result_of<K: Drop, V, E>(
     key: Shared<K>,
     answer: Result<Computed<V>, E>,

@@ -9,13 +9,14 @@ use policy_base::Instant;
 use std::alloc::Global;
 use std::marker::{Model, PhantomData};
 
-/// The keys and values that are visible at a moment, each once. To give a value is no use of it.
-/// Each item is a pair of a key and a clone of its value, or a refusal for want of memory, after which the next call tries the same place again.
+/// The keys and values that are visible at a moment, each once. Returning a value does not count as a use of it.
+/// Each item is a pair of a key and a clone of its value, or an error if there is not enough memory for them, after which the next call
+/// tries the same place again.
 #[derive(Drop)]
 pub struct Iter<'a, K, V, C: ScanningGet<K, V>> {
     source: &'a C,
     now: Instant,
-    // The keys of the segment before the one at `place` that are still to be tried, the next one last.
+    // The keys of the segment before `place` that are still to be tried, the next one last.
     keys: Vec<K>,
     place: usize,
     values: PhantomData<V>,
@@ -34,7 +35,7 @@ impl<'a, K, V, C: ScanningGet<K, V>> Model for Iter<'a, K, V, C> {
 }
 
 impl<'a, K: Drop, V, C: ScanningGet<K, V>> Iter<'a, K, V, C> {
-    /// An iterator over what is visible at a moment. No memory is taken for it.
+    /// Creates an iterator over what is visible at a moment. This allocates nothing.
     /// ```
     /// let pairs = Iter::new(alloc, &cache, now);
     /// ```

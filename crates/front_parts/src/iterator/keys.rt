@@ -6,7 +6,7 @@ use crate::iterator::scanning::ScanningGet;
 use policy_base::Instant;
 use std::alloc::AllocError;
 
-/// The value of the last key, which is then taken away.
+/// The value of the last key, which is then removed.
 fn try_last<K: Drop, V, C: ScanningGet<K, V>>(
     source: &C,
     now: Instant,
@@ -30,7 +30,8 @@ fn try_last<K: Drop, V, C: ScanningGet<K, V>>(
     }
 }
 
-/// The last key that has a value, with its value. It is taken away, and so are those behind it, which have none. After a refusal the key that was asked about is still there.
+/// The last key that has a value, with its value. It is removed, and so are those after it, which have none. After a refusal the key that
+/// was tried is still there.
 fn take_last<K: Drop, V, C: ScanningGet<K, V>>(
     source: &C,
     now: Instant,
@@ -65,7 +66,7 @@ fn open<K: Drop, V, C: ScanningGet<K, V>>(source: &C, place: usize) -> Result<Ve
     }
 }
 
-/// The first pair that is still to come of the keys, of which the next one is last, and of the segments from a place on.
+/// The first pair that is still to come, from the keys, of which the next one is last, and from the segments at and after a place.
 pub(crate) fn advance<K: Drop, V, C: ScanningGet<K, V>>(
     source: &C,
     now: Instant,

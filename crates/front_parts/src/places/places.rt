@@ -7,6 +7,7 @@ ghost use Rattle.engine_reference.specs.Asking.{answers_of};
 ghost use Rattle.front_reference.specs.Parts.{Inserts, TakesOut};
 ghost use Rattle.front_reference.specs.Fronts.{CallsAt};
 ghost use Rattle.front_parts.specs.Places.Calls.{CoalescesAt, ComputesAt, IsAskedFirst, IsCauseOf, IsOpenAt, seen_of, visible_of, held_of, ways_by};
+ghost use Rattle.moka_engine.specs.Showing.{IsShown};
 
 use crate::{
     BaseCache, coalesce, compute, contains_key, get, insert, insert_or_back, invalidate, look,
@@ -236,6 +237,39 @@ pub fn note_at<K: Eq + Hash + Drop, V: Drop, S: BuildHasher, R: Rules<K, V>, Q: 
 {
     let part = &mut parts[place];
     part.note_look_up(key, hash, now, ignored);
+}
+
+/// `look_up_with_hash` of the part at a place.
+pub fn look_up_at<
+    K: Eq + Hash + Drop,
+    V: Drop,
+    S: BuildHasher,
+    R: Rules<K, V>,
+    Q: Names<K>,
+    O,
+    T,
+    E,
+    F: FnOnce(Option<&V>, &mut O) -> Result<T, E> + Drop,
+>(
+    parts: &mut Vec<BaseCache<K, V, S, R>>,
+    place: usize,
+    key: &Q,
+    hash: u64,
+    now: Instant,
+    output: &mut O,
+    see: F,
+) -> Result<T, E>
+    requires there { IsOpenAt (ways_by R.Rules K.eq K.hash_input S.BuildHasher S.Hasher.Hasher) place (Q.named_key key.now) hash parts.old.items }
+    requires callable { F.IsAlwaysCallable see }
+    ensures shown { IsShown F.FnOnce see (visible_of (ways_by R.Rules K.eq K.hash_input S.BuildHasher S.Hasher.Hasher) (slice_get parts.old.items place) now (Q.named_key key.now)) output.old result output.new }
+    ensures used { OnOk result (CallsAt place (NotesLookUp (answers_of R.weight_of R.created R.read R.updated R.covers) K.eq (Q.named_key key.now) hash now false) parts.old.items parts.new.items) }
+    ensures err { OnErr result (parts.new.items ≡ parts.old.items) }
+{
+    let part = &mut parts[place];
+    match part.look_up_with_hash(key, hash, now, output, see) {
+        Ok(answer) => Ok(answer),
+        Err(error) => Err(error),
+    }
 }
 
 /// `insert` into the part at a place, of a value that is handed back where it is refused.

@@ -1,5 +1,6 @@
 //! Calls on all parts.
 ghost use Rattle.std.specs.Prelude.{◌≡◌, ℕ, [], Some, min, slice_get, sum_by};
+ghost use Rattle.std.specs.List.{list_any};
 ghost use Rattle.engine_reference.specs.Calls.{cleared_by};
 ghost use Rattle.engine_reference.specs.State.{State};
 ghost use Rattle.engine_reference.specs.Asking.{answers_of};
@@ -24,6 +25,22 @@ pub fn run_all<K: Eq + Hash + Drop, V: Drop, S: BuildHasher, R: Rules<K, V>>(
         let part = &mut parts[place];
         run_pending_tasks(part, now);
     }
+}
+
+/// Whether a part's last run wanted the sketch's table and there was no memory for it.
+pub fn is_table_refused<K: Eq + Hash, V, S: BuildHasher, R: Rules<K, V>>(
+    parts: &[BaseCache<K, V, S, R>],
+) -> bool
+    ensures { result ≡ list_any (λ s. s.table_refused) parts.now }
+{
+    let mut rest = parts;
+    while let Some((part, others)) = rest.split_first() {
+        if part.is_table_refused() {
+            return true;
+        }
+        rest = others;
+    }
+    false
 }
 
 /// Covers, in each part, every value that was written at an earlier step.

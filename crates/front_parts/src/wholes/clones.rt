@@ -6,7 +6,7 @@ ghost use Rattle.front_parts.specs.Wholes.Covering.{AreAll, id_text};
 use std::alloc::{AllocError, Global};
 use uuid::Uuid;
 
-/// So many clones.
+/// This many clones.
 pub fn clone_each<P: Clone + Drop>(
     alloc: Global,
     count: usize,
@@ -24,7 +24,7 @@ pub fn clone_each<P: Clone + Drop>(
     Ok(clones)
 }
 
-/// Writes the text of an identifier, for which there is room: 36 bytes, hyphenated and in lower case.
+/// Writes the text of an identifier, for which the text has room: 36 bytes, hyphenated and in lower case.
 pub fn write_id(text: &mut String, id: u128)
     requires empty { string_bytes text.old ≡ [] }
     requires none { string_len text.old ≡ 0 }

@@ -37,7 +37,7 @@ fn draw_all<K: Eq + Hash, V, S: BuildHasher, R: Rules<K, V>, G: Rng>(
     Ok(())
 }
 
-/// Registers a predicate in each part, in the room that was made for it. It is not refused.
+/// Registers a predicate in each part, in the room that was made for it. It is never refused.
 fn commit_all<K: Eq + Hash, V, S: BuildHasher, R: Rules<K, V>>(
     parts: &mut Vec<BaseCache<K, V, S, R>>,
     ids: &[u128],
@@ -61,8 +61,8 @@ fn commit_all<K: Eq + Hash, V, S: BuildHasher, R: Rules<K, V>>(
     }
 }
 
-/// Registers a predicate, of which there is a clone for each part, in all parts, under an identifier each that is drawn for it, or in none.
-/// Room is made in all parts first, then identifiers are drawn, and then nothing is refused. The first identifier is answered.
+/// Registers a predicate, given as a clone for each part, in all parts, under an identifier that is drawn for each, or in none.
+/// Room is made in all parts first, then identifiers are drawn, and after that nothing is refused. Returns the first identifier.
 pub fn cover_all<K: Eq + Hash, V, S: BuildHasher, R: Rules<K, V>, G: Rng>(
     alloc: Global,
     parts: &mut Vec<BaseCache<K, V, S, R>>,

@@ -26,7 +26,7 @@ pub(crate) fn release_first<K: Eq + Hash, V, S: BuildHasher, R: Rules<K, V>>(
     }
 }
 
-/// Makes room for one predicate in a part that takes them.
+/// Makes room for one predicate in a part that accepts predicates.
 fn reserve_one<K: Eq + Hash, V, S: BuildHasher, R: Rules<K, V>>(
     part: &mut BaseCache<K, V, S, R>,
 ) -> Result<(), CacheError>

@@ -1,16 +1,16 @@
-//! Keys that are made only where one is to be kept.
+//! Keys that are made only if they are to be stored.
 ghost use Rattle.std.specs.Prelude.{◌≡◌, IfOk};
 
 use crate::keys::shared::Shared;
 use engine_reference::Names;
 use std::alloc::{AllocError, Global};
 
-/// What names a key, and becomes it where one is to be kept. So a look-up that finds its value makes no key.
+/// A name of a key, which becomes the key if it is to be stored. So a look-up that finds its value makes no key.
 pub trait IntoKey<K: PartialEq>: Names<K> + Drop {
-    /// What is asked before it becomes the key.
+    /// What is required before it becomes the key.
     ghost can_become: { Self → Type 0 };
 
-    /// The key that it names, to be kept.
+    /// Converts to the key that it names.
     fn into_key(self) -> Result<K, AllocError>
         requires { can_become self }
         ensures { IfOk result (λ key. key ≡ Self.named_key self) };
@@ -24,7 +24,7 @@ impl<K: PartialEq + Drop> IntoKey<K> for K {
     }
 }
 
-/// A key that is owned, and moved to where it can be shared only where it is to be kept.
+/// An owned key, which is moved behind an `Arc` only if it is to be stored.
 #[derive(Drop)]
 pub struct OwnedKey<K> {
     pub key: K,
@@ -48,7 +48,7 @@ impl<K: PartialEq + Drop> IntoKey<Shared<K>> for OwnedKey<K> {
     }
 }
 
-/// A key that is lent, and cloned only where it is to be kept. Its clone is asked to equal it.
+/// A borrowed key, which is cloned only if it is to be stored. Its clone is required to equal it.
 #[derive(Drop)]
 pub struct ClonedKey<'a, K> {
     pub key: &'a K,

@@ -1,10 +1,11 @@
-//! Shared keys named by what is lent.
+//! Borrowed names of shared keys.
 ghost use Rattle.std.specs.Prelude.{◌≡◌};
 
 use crate::keys::shared::Shared;
 use engine_reference::Names;
 
-/// A key that is lent for a look-up: it names the shared key that equals it, so that a look-up by `&K` makes no shared key and takes no memory.
+/// A borrowed key for a look-up: it names the shared key that equals it, so that a look-up by `&K` makes no shared key and allocates
+/// nothing.
 #[derive(Clone, Copy)]
 pub struct LentKey<'a, K> {
     pub key: &'a K,

@@ -11,8 +11,10 @@ use std::sync::Arc;
 
 /// A value that several owners share, behind an `Arc`.
 ///
-/// In contracts it is the value itself, so its clone is exact: it *is* what it was made of. That is what a cache asks of the clones of its keys and values.
-/// An `Arc` itself can't promise it, since two `Arc`s of equal values need not be the same. So a user whose values would be `Arc<X>` takes `Shared<X>`, and goes from one to the other without memory, by `From` and `into_arc`.
+/// In contracts it is the value itself, so its clone is exact: it equals the original. A cache requires that of the clones of its keys and
+/// values.
+/// An `Arc` itself can't promise it, since two `Arc`s of equal values need not be the same. So a user whose values would be `Arc<X>` uses
+/// `Shared<X>`; `From` and `into_arc` convert between the two without allocating.
 #[derive(Drop)]
 pub struct Shared<T> {
     value: Arc<T>,
@@ -27,7 +29,7 @@ impl<T> Model for Shared<T> {
 }
 
 impl<T: Drop> Shared<T> {
-    /// A value moved to where it can be shared.
+    /// Moves a value to where it can be shared.
     pub fn new(alloc: Global, value: T) -> Result<Self, AllocError>
         ensures { IfOk result (λ made. made ≡ value) }
     {
@@ -37,7 +39,7 @@ impl<T: Drop> Shared<T> {
 }
 
 impl<T> Shared<T> {
-    /// The `Arc` of the value, for which no memory is taken.
+    /// Returns the `Arc` of the value. This allocates nothing.
     pub fn into_arc(self) -> Arc<T>
         ensures { arc_value result ≡ self }
     {

@@ -1,4 +1,4 @@
-//! Selectors of a cache that is lent.
+//! Selectors of a lent cache.
 ghost use Rattle.std.specs.Prelude.{◌≡◌, Some, Ok, IfOk, IfErr, OnErr};
 ghost use Rattle.std.specs.Fn.{FnOnceReturnsAt};
 ghost use Rattle.engine_reference.specs.Calls.{removal_rooms};
@@ -81,7 +81,7 @@ impl<K: Eq + Hash + Drop, V: Clone + Drop, S: BuildHasher, R: Rules<K, V>, C> Ac
 }
 
 impl<K: Eq + Hash, V, S: BuildHasher, R: Rules<K, V>, C> LentState<K, V, S, R, C> {
-    /// A selector of the entry of a key. Of its calls one can be made, which comes at this moment and step.
+    /// Returns a selector of the entry of a key. One call can be made on it, which has this moment and step.
     /// ```
     /// let entry = cache.entry(7, at).or_insert_with(|| 49)?;
     /// let was_made_now = entry.is_fresh();
@@ -96,7 +96,7 @@ impl<K: Eq + Hash, V, S: BuildHasher, R: Rules<K, V>, C> LentState<K, V, S, R, C
         OwnedKeyEntrySelector::new(self, key, at, alloc)
     }
 
-    /// The same by a key that is lent, which is cloned.
+    /// Like `entry`, with a borrowed key, which is cloned.
     /// ```
     /// let count = cache.entry_by_ref(&name, at)?.and_upsert_with(|seen| match seen {
     ///     Some(entry) => entry.into_value().saturating_add(1),

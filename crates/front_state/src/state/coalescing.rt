@@ -1,4 +1,5 @@
-//! Calls that make a value where none is visible, by their names in moka. Each asks that no turn of its kind and key is under way, which `is_turn_free` tests.
+//! Calls that make a value if none is visible, by their names in `moka`. Each requires that no turn of its kind and key is under way, which
+//! `is_turn_free` checks.
 ghost use Rattle.std.specs.Prelude.{◌≡◌, false, Some, None, IfOk, IfErr, OnErr};
 ghost use Rattle.std.specs.Arc.{arc_value};
 ghost use Rattle.std.specs.Fn.{FnOnceReturnsAt};
@@ -53,7 +54,7 @@ impl<K: Eq + Hash + Drop, V: Clone + Drop, S: BuildHasher, R: Rules<K, V>, C> Le
         Ok(value_made(made))
     }
 
-    /// The visible value of a key, or the one that is made, if one is.
+    /// The visible value of a key, or the one that is made, if any.
     fn make_option<Q: IntoKey<Shared<K>>, M: FnOnce() -> Option<V> + Drop>(
         &mut self,
         name: Q,
@@ -108,8 +109,9 @@ impl<K: Eq + Hash + Drop, V: Clone + Drop, S: BuildHasher, R: Rules<K, V>, C> Le
         Ok(result_made(made))
     }
 
-    /// The visible value of a key, of which it is a use, or the one that `make` makes, which is kept.
-    /// On a cache that is lent no other caller can come between: `make` runs once where nothing is visible, and not at all elsewhere. It runs before anything changes; where memory is refused after it the value is dropped, and the cache is as before.
+    /// Returns the visible value of a key, which counts as a use of it, or the one that `make` makes, which is stored.
+    /// No other caller can interfere with a lent cache: `make` runs once if nothing is visible, and otherwise not at all. It runs before
+    /// anything changes; if an allocation fails after it, the value is dropped, and the cache is as before.
     /// ```
     /// let square = cache.get_with(7, || 49, at)?;
     /// ```
@@ -142,7 +144,7 @@ impl<K: Eq + Hash + Drop, V: Clone + Drop, S: BuildHasher, R: Rules<K, V>, C> Le
         )
     }
 
-    /// The same by a key that is lent, and cloned only where a value is kept.
+    /// Like `get_with`, with a borrowed key, which is cloned only if a value is stored.
     /// ```
     /// let page = cache.get_with_by_ref(&address, || fetch(&address), at)?;
     /// ```
@@ -178,8 +180,8 @@ impl<K: Eq + Hash + Drop, V: Clone + Drop, S: BuildHasher, R: Rules<K, V>, C> Le
         )
     }
 
-    /// The same as `get_with`, where a visible value of which `replace_if` says yes counts as none.
-    /// `replace_if` is asked of a visible value, once; one that it refuses counts as a miss.
+    /// Like `get_with`, except that a visible value for which `replace_if` returns true counts as none.
+    /// `replace_if` is called on a visible value, once; a value for which it returns true counts as a miss.
     /// ```
     /// let fresh = cache.get_with_if(7, || 50, |old| *old < 50, at)?;
     /// ```
@@ -205,8 +207,9 @@ impl<K: Eq + Hash + Drop, V: Clone + Drop, S: BuildHasher, R: Rules<K, V>, C> Le
         self.make_value(name, hash, replace_if, make, at)
     }
 
-    /// The visible value of a key, of which it is a use, or the one that `make` makes, which is kept, or `None` where it makes none.
-    /// A `None` is not kept: the next call asks `make` anew.
+    /// Returns the visible value of a key, which counts as a use of it, or the one that `make` makes, which is stored, or `None` if it
+    /// makes none.
+    /// A `None` is not stored: the next call runs `make` again.
     /// ```
     /// let user = cache.optionally_get_with(7, || find_user(7), at)?;
     /// ```
@@ -231,7 +234,7 @@ impl<K: Eq + Hash + Drop, V: Clone + Drop, S: BuildHasher, R: Rules<K, V>, C> Le
         self.make_option(name, hash, make, at)
     }
 
-    /// The same by a key that is lent, and cloned only where a value is kept.
+    /// Like `optionally_get_with`, with a borrowed key, which is cloned only if a value is stored.
     /// ```
     /// let user = cache.optionally_get_with_by_ref(&name, || find_named(&name), at)?;
     /// ```
@@ -259,8 +262,9 @@ impl<K: Eq + Hash + Drop, V: Clone + Drop, S: BuildHasher, R: Rules<K, V>, C> Le
         self.make_option(name, hash, make, at)
     }
 
-    /// The visible value of a key, of which it is a use, or the one that `make` makes, which is kept, or why it could make none.
-    /// A fault is not kept: the next call asks `make` anew. It stands behind an `Arc`, since callers that share a cache get the same one.
+    /// Returns the visible value of a key, which counts as a use of it, or the one that `make` makes, which is stored, or its error if it
+    /// fails.
+    /// An error is not stored: the next call runs `make` again. It is behind an `Arc`, since callers that share a cache get the same one.
     /// ```
     /// match cache.try_get_with(7, || read_row(7), at)? {
     ///     Ok(row) => show(&row),
@@ -288,7 +292,7 @@ impl<K: Eq + Hash + Drop, V: Clone + Drop, S: BuildHasher, R: Rules<K, V>, C> Le
         self.make_result(name, hash, make, at)
     }
 
-    /// The same by a key that is lent, and cloned only where a value is kept.
+    /// Like `try_get_with`, with a borrowed key, which is cloned only if a value is stored.
     /// ```
     /// let row = cache.try_get_with_by_ref(&name, || read_named(&name), at)?;
     /// ```
@@ -324,7 +328,7 @@ impl<K: Eq + Hash + Drop, V: Clone + Drop, S: BuildHasher, R: Rules<K, V>> LentS
     R,
     Segmented,
 > {
-    /// The same as `get_with`, under the name that a cache of segments has for it.
+    /// The same as `get_with`, by the name that a segmented cache has for it.
     /// ```
     /// let square = cache.get_or_insert_with(7, || 49, at)?;
     /// ```
@@ -344,7 +348,7 @@ impl<K: Eq + Hash + Drop, V: Clone + Drop, S: BuildHasher, R: Rules<K, V>> LentS
         self.get_with(key, make, at)
     }
 
-    /// The same as `try_get_with`, under the name that a cache of segments has for it.
+    /// The same as `try_get_with`, by the name that a segmented cache has for it.
     /// ```
     /// let row = cache.get_or_try_insert_with(7, || read_row(7), at)?;
     /// ```
@@ -365,7 +369,7 @@ impl<K: Eq + Hash + Drop, V: Clone + Drop, S: BuildHasher, R: Rules<K, V>> LentS
     }
 }
 
-/// What was made, where there may be none.
+/// What was made, which may be nothing.
 fn made_of_option<V>(answer: Option<V>) -> Made<V, ()>
     ensures { result ≡ made_option answer }
 {

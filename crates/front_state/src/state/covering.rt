@@ -22,7 +22,7 @@ use std::alloc::AllocError;
 use std::hash::{BuildHasher, Hash, Hasher};
 
 impl<K: Eq + Hash, V, S: BuildHasher, R: Rules<K, V>, C> LentState<K, V, S, R, C> {
-    /// The part that a key belongs to, by the upper bits of its hash.
+    /// Returns the part that a key belongs to, by the upper bits of its hash.
     /// ```
     /// let segment = cache.part(&7);
     /// ```
@@ -31,10 +31,22 @@ impl<K: Eq + Hash, V, S: BuildHasher, R: Rules<K, V>, C> LentState<K, V, S, R, C
         ensures within { result < length self.now.parts }
     {
         let hash = hash_key(&self.hasher, key);
+        self.part_with_hash(hash)
+    }
+
+    /// The part of a hash: its upper bits.
+    /// ```
+    /// let hash = cache.hash(&7);
+    /// let segment = cache.part_with_hash(hash);
+    /// ```
+    pub fn part_with_hash(&self, hash: u64) -> usize
+        ensures part { result ≡ part_of self.now.bits hash }
+        ensures within { result < length self.now.parts }
+    {
         place_of(self.bits, hash)
     }
 
-    /// Does nothing. What a cache keeps between its calls, for those whose own laws rest on it.
+    /// Does nothing. Its contract says what a cache keeps between its calls, for laws that build on it.
     /// ```
     /// cache.keeps();
     /// ```
@@ -45,7 +57,8 @@ impl<K: Eq + Hash, V, S: BuildHasher, R: Rules<K, V>, C> LentState<K, V, S, R, C
     }
 
     /// Takes the oldest notice of the first part that has one.
-    /// Only a cache whose builder was told `eviction_listener` has any. A removal is told when it happens, which for expired, covered and evicted values is at a run, so later than they became invisible. Notices wait until they are taken.
+    /// A cache has notices only if its builder called `eviction_listener`. A removal is reported when it happens; expired, invalidated and
+    /// evicted values are removed by runs, and so later than they became invisible. Notices are kept until they are taken.
     /// ```
     /// while let Some(notice) = cache.next_notice() {
     ///     log(&notice.key, notice.cause);
@@ -58,7 +71,8 @@ impl<K: Eq + Hash, V, S: BuildHasher, R: Rules<K, V>, C> LentState<K, V, S, R, C
         next_notice(&mut self.parts)
     }
 
-    /// Registers a predicate in all parts, or in none where it is refused. It covers what was written at earlier steps, so it comes at a later one than any before. The identifier of the first part is answered.
+    /// Registers a predicate in all parts, or in none if it is refused. It covers what was written at earlier steps, so it needs a later
+    /// step than any call before. Returns the identifier of the first part.
     fn cover<G: Rng>(
         &mut self,
         predicate: R::Predicate,
@@ -89,8 +103,11 @@ impl<K: Eq + Hash, V, S: BuildHasher, R: Rules<K, V>, C> LentState<K, V, S, R, C
 }
 
 impl<K: Eq + Hash, V, S: BuildHasher, R: Rules<K, V>> LentState<K, V, S, R, Single> {
-    /// Covers the values of earlier steps of which a predicate says yes, in all parts or, where it is refused, in none. It comes at a later step than any call before. An identifier is drawn for each part, and that of the first one is answered, in its hyphenated form of 36 bytes in lower case.
-    /// A cache that was not made to take predicates refuses with `InvalidationClosuresDisabled`, and for nothing else. A refusal for want of memory or of tickets draws nothing.
+    /// Invalidates the values of earlier steps for which the predicate returns true, in all parts or, if it is refused, in none. It needs a
+    /// later step than any call before. An identifier is drawn for each part, and that of the first one is returned, hyphenated and in
+    /// lower case, 36 bytes.
+    /// A cache that was not built to accept predicates returns `InvalidationClosuresDisabled`, before any other error. A refusal for lack
+    /// of memory or of tickets draws nothing.
     /// ```
     /// let id = cache.invalidate_entries_if(OlderThan(30), &mut generator, at)?;
     /// ```
@@ -120,8 +137,10 @@ impl<K: Eq + Hash, V, S: BuildHasher, R: Rules<K, V>> LentState<K, V, S, R, Sing
 }
 
 impl<K: Eq + Hash, V, S: BuildHasher, R: Rules<K, V>> LentState<K, V, S, R, Segmented> {
-    /// Covers the values of earlier steps of which a predicate says yes, in all segments or, where it is refused, in none. It comes at a later step than any call before, and an identifier is drawn for each segment.
-    /// A cache that was not made to take predicates refuses with `InvalidationClosuresDisabled`, and for nothing else. A refusal for want of memory or of tickets draws nothing.
+    /// Invalidates the values of earlier steps for which the predicate returns true, in all segments or, if it is refused, in none. It
+    /// needs a later step than any call before, and an identifier is drawn for each segment.
+    /// A cache that was not built to accept predicates returns `InvalidationClosuresDisabled`, before any other error. A refusal for lack
+    /// of memory or of tickets draws nothing.
     /// ```
     /// cache.invalidate_entries_if(OlderThan(30), &mut generator, at)?;
     /// ```
@@ -175,8 +194,9 @@ impl<K: Eq + Hash + Drop, V: Clone, S: BuildHasher, R: Rules<K, V>, C> ScanningG
 }
 
 impl<K: Eq + Hash + Drop, V: Clone, S: BuildHasher, R: Rules<K, V>, C> LentState<K, V, S, R, C> {
-    /// An iterator over what is visible at a moment: each key once, with a clone of its value. It takes no memory, its items do; no item is a use.
-    /// Keys of one segment are cloned at a time, so the order is open and no value is given that went before its turn.
+    /// Returns an iterator over what is visible at a moment: each key once, with a clone of its value. It allocates nothing, but its items
+    /// do; no item counts as a use.
+    /// The keys of one segment are cloned at a time, in an unspecified order, and a value that is removed before its turn is not returned.
     /// ```
     /// for pair in cache.iter(now) {
     ///     let (key, value) = pair?;

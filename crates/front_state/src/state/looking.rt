@@ -1,12 +1,13 @@
 //! Look-ups that make no clone, and so take no memory.
-ghost use Rattle.std.specs.Prelude.{◌≡◌, ◌≤◌, option_map};
+ghost use Rattle.std.specs.Prelude.{◌≡◌, ◌≤◌, OnOk, OnErr, option_map};
 ghost use Rattle.engine_reference.specs.Asking.{answers_of};
 ghost use Rattle.front_reference.specs.Wholes.{visible_number};
 ghost use Rattle.front_parts.specs.Places.Calls.{LooksUpIn, visible_in, ways_by};
+ghost use Rattle.front_parts.specs.Showing.{IsShown};
 
 use crate::state::LentState;
 use engine_reference::Rules;
-use front_parts::{count_visible, hash_key, note_at, peek_at, place_of};
+use front_parts::{count_visible, hash_key, look_up_at, peek_at, place_of};
 use front_reference::LentKey;
 use policy_base::Instant;
 use std::hash::{BuildHasher, Hash, Hasher};
@@ -34,20 +35,46 @@ impl<K: Eq + Hash, V, S: BuildHasher, R: Rules<K, V>, C> LentState<K, V, S, R, C
         count_visible(self.parts.as_slice(), now)
     }
 
-    /// A look-up whose value is not asked for: a use of what is visible, and else a miss that is counted. The step stays as it was.
+    /// A look-up without a clone: `see` is handed what is visible of a key, if anything is, and what is behind `output`. Where it answers `Ok` this is a use of the value, or a miss that is counted; where it answers `Err` nothing has changed. The step stays as it was.
+    /// The key is hashed and found once.
     /// ```
-    /// cache.touch(&7, now);
+    /// cache.look_up(&7, now, &mut lengths, |found, lengths| match found {
+    ///     Some(text) => lengths.push(text.len()),
+    ///     None => Ok(()),
+    /// })?;
     /// ```
-    pub fn touch(&mut self, key: &K, now: Instant)
+    pub fn look_up<O, T, E, F: FnOnce(Option<&V>, &mut O) -> Result<T, E> + Drop>(
+        &mut self,
+        key: &K,
+        now: Instant,
+        output: &mut O,
+        see: F,
+    ) -> Result<T, E>
     where
         K: Drop,
         V: Drop,
-        requires { self.old.moment ≤ now }
-        ensures { LooksUpIn (ways_by R.Rules K.eq K.hash_input S.BuildHasher S.Hasher.Hasher) key.now (record { now = now; step = self.old.step }) self.old self.new }
+        requires later { self.old.moment ≤ now }
+        requires callable { F.IsAlwaysCallable see }
+        ensures shown { IsShown F.FnOnce see (visible_in (ways_by R.Rules K.eq K.hash_input S.BuildHasher S.Hasher.Hasher) self.old now key.now) output.old result output.new }
+        ensures used { OnOk result (LooksUpIn (ways_by R.Rules K.eq K.hash_input S.BuildHasher S.Hasher.Hasher) key.now (record { now = now; step = self.old.step }) self.old self.new) }
+        ensures err { OnErr result (self.new ≡ self.old) }
     {
         let hash = hash_key(&self.hasher, key);
         let place = place_of(self.bits, hash);
-        note_at(&mut self.parts, place, &LentKey { key }, hash, now, false);
-        self.moment = now;
+        match look_up_at(
+            &mut self.parts,
+            place,
+            &LentKey { key },
+            hash,
+            now,
+            output,
+            see,
+        ) {
+            Ok(answer) => {
+                self.moment = now;
+                Ok(answer)
+            }
+            Err(error) => Err(error),
+        }
     }
 }

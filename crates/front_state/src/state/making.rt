@@ -1,4 +1,4 @@
-//! Making a cache.
+//! Creating a cache.
 ghost use Rattle.std.specs.Prelude.{◌≤◌, IfOk, option_map};
 ghost use Rattle.std.specs.String.{string_bytes};
 ghost use Rattle.front_parts.specs.Places.Making.{IsMadeWith};
@@ -19,8 +19,9 @@ impl<K: Eq + Hash + Drop, V: Drop, S: BuildHasher + Drop, R: Rules<K, V> + Drop,
     R,
     C,
 > {
-    /// A cache of 2^bits parts, at most 2^16, that holds nothing. The capacity of its settings is that of all parts together, of which each gets its share; there is room for so many entries in all.
-    /// `CacheBuilder` makes its arguments, and tests them.
+    /// Creates an empty cache of 2^bits parts, at most 2^16. The capacity in its settings is that of all parts together, each of which gets
+    /// its share. `initial_capacity` is the number of entries, in all parts together, for which there is room from the start.
+    /// `CacheBuilder` computes and checks the arguments.
     /// ```
     /// let cache: CacheState<u64, u64> = LentState::with_parts(alloc, None, 2, 0, settings, hasher, rules)?;
     /// ```

@@ -1,4 +1,4 @@
-//! What a cache shows of itself.
+//! Properties of a cache.
 ghost use Rattle.std.specs.Prelude.{◌≡◌, option_map};
 ghost use Rattle.std.specs.Duration.{as_nanos};
 ghost use Rattle.front_reference.specs.Wholes.{total_number, total_weight};
@@ -12,7 +12,7 @@ use std::hash::{BuildHasher, Hash};
 use std::time::Duration;
 
 impl<K: Eq + Hash, V, S: BuildHasher, R: Rules<K, V>, C> LentState<K, V, S, R, C> {
-    /// What the cache is called, if it was given a name.
+    /// Returns the name of the cache, if it has one.
     /// ```
     /// let title = cache.name().unwrap_or("a cache");
     /// ```
@@ -25,7 +25,7 @@ impl<K: Eq + Hash, V, S: BuildHasher, R: Rules<K, V>, C> LentState<K, V, S, R, C
         }
     }
 
-    /// The wanted capacity, the number of parts, and the times that the cache was made with, up to the last moment that there is.
+    /// Returns the settings of the cache: the maximum capacity, the number of parts, and the times, each at most the last moment.
     /// ```
     /// let capacity = cache.policy().max_capacity();
     /// ```
@@ -40,8 +40,9 @@ impl<K: Eq + Hash, V, S: BuildHasher, R: Rules<K, V>, C> LentState<K, V, S, R, C
         )
     }
 
-    /// How many entries there are, as of the last run of each part, up to 2^64 - 1.
-    /// Writes and removals since then are not counted yet, and expired values still are: after `run_pending_tasks` the number is exact. `count_visible` counts what is visible now.
+    /// Returns the number of entries as of the last run of each part, at most 2^64 - 1.
+    /// Writes and removals since then are not counted yet, and expired values still are: after `run_pending_tasks` the number is exact.
+    /// `count_visible` counts what is visible now.
     /// ```
     /// cache.run_pending_tasks(at);
     /// let number = cache.entry_count();
@@ -52,7 +53,7 @@ impl<K: Eq + Hash, V, S: BuildHasher, R: Rules<K, V>, C> LentState<K, V, S, R, C
         sum_numbers(self.parts.as_slice())
     }
 
-    /// What they weigh, as of the last run of each part, up to 2^64 - 1.
+    /// Returns the total weight of the entries as of the last run of each part, at most 2^64 - 1.
     /// It is as approximate as `entry_count`.
     /// ```
     /// cache.run_pending_tasks(at);
@@ -64,7 +65,8 @@ impl<K: Eq + Hash, V, S: BuildHasher, R: Rules<K, V>, C> LentState<K, V, S, R, C
         sum_weights(self.parts.as_slice())
     }
 
-    /// The moment and the step of the last call. The next one comes at no earlier moment and step, and at a later step where it covers what was written before.
+    /// Returns the moment and the step of the last call. The next call may not have an earlier moment or step, and needs a later step if it
+    /// covers what was written before.
     /// ```
     /// let last = cache.last_call();
     /// let at = At { now: clock.max(last.now), step: last.step.checked_add(1)? };
@@ -80,7 +82,7 @@ impl<K: Eq + Hash, V, S: BuildHasher, R: Rules<K, V>, C> LentState<K, V, S, R, C
     }
 }
 
-/// A time as it is shown.
+/// A time as a `Duration`.
 fn as_duration(nanos: Option<u64>) -> Option<Duration>
     ensures { option_map as_nanos result ≡ nanos }
 {

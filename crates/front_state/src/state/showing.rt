@@ -1,4 +1,4 @@
-//! How a cache prints, and what a loop over it gives.
+//! Printing a cache and iterating over it.
 ghost use Rattle.std.specs.Prelude.{◌≡◌};
 
 use crate::state::LentState;
@@ -15,7 +15,7 @@ impl<K: Eq + Hash + fmt::Debug + Drop, V: fmt::Debug, S: BuildHasher, R: Rules<K
     R,
     C,
 > {
-    /// Prints what is visible in the part at a place. It fails where there is no memory for its keys.
+    /// Prints what is visible in the part at a place. It fails if there is not enough memory for its keys.
     fn print_part<W: fmt::Write>(
         &self,
         place: usize,
@@ -33,7 +33,8 @@ impl<K: Eq + Hash + fmt::Debug + Drop, V: fmt::Debug, S: BuildHasher, R: Rules<K
     }
 }
 
-/// A map of the keys and values that were visible at the moment of the last call. To print is no use of any; it fails where there is no memory for the keys.
+/// Prints a map of the keys and values that were visible at the moment of the last call. Printing does not count as a use; it fails if
+/// there is not enough memory for the keys.
 impl<K: Eq + Hash + fmt::Debug + Drop, V: fmt::Debug, S: BuildHasher, R: Rules<K, V>, C> fmt::Debug
     for LentState<K, V, S, R, C> {
     fn fmt<W: fmt::Write>(&self, f: &mut fmt::Formatter<W>) -> fmt::Result {
@@ -45,7 +46,7 @@ impl<K: Eq + Hash + fmt::Debug + Drop, V: fmt::Debug, S: BuildHasher, R: Rules<K
     }
 }
 
-/// What was visible at the moment of the last call, as `iter` gives it.
+/// Iterates over what was visible at the moment of the last call, like `iter`.
 impl<'a, K: Eq + Hash + Drop, V: Clone + Drop, S: BuildHasher, R: Rules<K, V>, C> IntoIterator
     for &'a LentState<K, V, S, R, C> {
     ghost use Rattle.std.specs.Prelude.{◌≡◌};

@@ -68,8 +68,10 @@ pub enum Call {
     Has(u64, bool),
     /// The visible value of a key, without a use of it.
     Peek(u64, Option<u64>),
-    /// A use of a key, without its value.
-    Touch(u64),
+    /// The visible value of a key, of which it is a use, without a clone.
+    LookUp(u64, Option<u64>),
+    /// A look-up that is refused once the value is seen.
+    RefusedLookUp(u64, Option<u64>),
     /// How many keys have a visible value.
     Visible(usize),
     /// A key gets a value.
@@ -100,8 +102,8 @@ pub enum Call {
     Told(u64, RemovalCause),
     /// No notice is left.
     NoneTold,
-    /// The oldest notice is of one of these keys, and of this cause.
-    ToldEither(u64, u64, RemovalCause),
+    /// The two oldest notices are of these keys, in any order, and of this cause.
+    ToldBoth(u64, u64, RemovalCause),
     /// A predicate on two values is registered in all segments; its identifiers are drawn from so
     /// many words of 0, and then of all ones.
     Cover(u64, u64, u32, Result<(), CacheError>),
@@ -183,6 +185,30 @@ fn numbers(alloc: Global, form: Form) -> Result<Numbers, BuildError> {
     builder.build_state(alloc, hasher, Instant::from_nanos(0))
 }
 
+/// Puts what was found behind `output`, and refuses then or not.
+fn put(found: Option<&u64>, output: &mut Option<u64>, refuses: bool) -> Result<(), CacheError> {
+    *output = found.copied();
+    if refuses {
+        Err(CacheError::OutOfMemory)
+    } else {
+        Ok(())
+    }
+}
+
+/// Whether a look-up shows that, and is refused or not.
+fn is_seen(state: &mut Numbers, at: At, key: u64, refuses: bool, value: Option<u64>) -> bool
+    requires { ComesAfter at.now at.step state.old }
+{
+    let mut output = None;
+    let done = state.look_up(
+        &key,
+        at.now,
+        &mut output,
+        |found, output| put(found, output, refuses),
+    );
+    done.is_err() == refuses && output == value
+}
+
 /// Looks a key up without a clone of its value.
 fn perform_lent(state: &mut Numbers, at: At, call: Call) -> bool
     requires { ComesAfter at.now at.step state.old }
@@ -194,10 +220,8 @@ fn perform_lent(state: &mut Numbers, at: At, call: Call) -> bool
             None => value.is_none(),
         },
         Call::Visible(number) => state.count_visible(at.now) == number,
-        Call::Touch(key) => {
-            state.touch(&key, at.now);
-            true
-        }
+        Call::LookUp(key, value) => is_seen(state, at, key, false, value),
+        Call::RefusedLookUp(key, value) => is_seen(state, at, key, true, value),
         _ => false,
     }
 }
@@ -323,13 +347,20 @@ fn cover(
     }
 }
 
-fn is_told(state: &mut Numbers, first: u64, second: u64, cause: RemovalCause) -> bool {
+/// The key of the oldest notice, if that is of this cause.
+fn told(state: &mut Numbers, cause: RemovalCause) -> Option<u64> {
     match state.next_notice() {
-        Some(notice) => {
-            let key = *notice.key;
-            (key == first || key == second) && notice.cause == cause
+        Some(notice) if notice.cause == cause => Some(*notice.key),
+        _ => None,
+    }
+}
+
+fn are_told(state: &mut Numbers, first: u64, second: u64, cause: RemovalCause) -> bool {
+    match (told(state, cause), told(state, cause)) {
+        (Some(key), Some(next)) => {
+            (key, next) == (first, second) || (key, next) == (second, first)
         }
-        None => false,
+        _ => false,
     }
 }
 
@@ -346,9 +377,11 @@ fn perform(alloc: Global, state: &mut Numbers, nanos: u64, call: Call) -> Result
         return Ok(false);
     };
     match call {
-        Call::Has(..) | Call::Peek(..) | Call::Visible(..) | Call::Touch(..) => {
-            Ok(perform_lent(state, at, call))
-        }
+        Call::Has(..)
+        | Call::Peek(..)
+        | Call::Visible(..)
+        | Call::LookUp(..)
+        | Call::RefusedLookUp(..) => { Ok(perform_lent(state, at, call)) }
         Call::Get(..)
         | Call::Insert(..)
         | Call::Remove(..)
@@ -357,8 +390,8 @@ fn perform(alloc: Global, state: &mut Numbers, nanos: u64, call: Call) -> Result
         | Call::Run
         | Call::Count(..) => { perform_simple(state, at, call) }
         Call::With(closure) => perform_closure(state, at, closure),
-        Call::Told(key, cause) => Ok(is_told(state, key, key, cause)),
-        Call::ToldEither(first, second, cause) => Ok(is_told(state, first, second, cause)),
+        Call::Told(key, cause) => Ok(told(state, cause) == Some(key)),
+        Call::ToldBoth(first, second, cause) => Ok(are_told(state, first, second, cause)),
         Call::NoneTold => Ok(state.next_notice().is_none()),
         Call::Cover(first, second, zeros, answer) => {
             cover(state, at, IsEither(first, second), zeros, answer)

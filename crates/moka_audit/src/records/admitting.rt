@@ -11,7 +11,7 @@ ghost use Rattle.moka_audit.specs.Records.Auditing.{is_taken};
 use audit_model::{Config, Event, Instant, Outcome, Record};
 use audit_situation::{State, find_link, find_pending};
 
-/// The latest moment that may be handed in, in nanoseconds.
+/// The latest moment that is accepted, in nanoseconds.
 const MAX_MOMENT: u64 = (1 << 63) - 1;
 
 /// An outcome has at most this many bytes.
@@ -41,28 +41,28 @@ fn admits_load(s: &State, load: u64) -> bool
     find_pending(&s.pending, load).is_some()
 }
 
-/// Whether a moment may be handed in.
+/// Whether a moment is accepted.
 fn admits_moment(moment: Instant) -> bool
     ensures { result ≡ is_none (refusal_of_moment moment) }
 {
     moment.nanos <= MAX_MOMENT
 }
 
-/// Whether the bytes may stand as a value.
+/// Whether the bytes are allowed in a value.
 fn are_value(bytes: &[u8]) -> bool
     ensures { result ≡ is_value bytes.now }
 {
     bytes.iter().all(|b| *b != 10 && *b != 13)
 }
 
-/// Whether an outcome may have those bytes.
+/// Whether an outcome may have these bytes.
 fn admits_bytes(bytes: &[u8]) -> bool
     ensures { result ≡ is_none (refusal_of_bytes bytes.now) }
 {
     are_value(bytes) && bytes.len() <= MAX_BYTES
 }
 
-/// Whether an outcome may have those milliseconds.
+/// Whether an outcome may have these milliseconds.
 fn admits_ms(config: &Config, ms: Option<u64>) -> bool
     ensures { result ≡ is_none (refusal_of_ms config.now ms) }
 {
@@ -72,7 +72,7 @@ fn admits_ms(config: &Config, ms: Option<u64>) -> bool
     }
 }
 
-/// Whether an outcome may be handed in.
+/// Whether an outcome is accepted.
 fn admits_outcome(config: &Config, outcome: &Outcome) -> bool
     ensures { result ≡ is_none (refusal_of_outcome config.now outcome.now) }
 {
@@ -83,7 +83,7 @@ fn admits_outcome(config: &Config, outcome: &Outcome) -> bool
     }
 }
 
-/// Whether an event is none that is refused.
+/// Whether an event is not refused.
 fn admits(config: &Config, s: &State, event: &Event) -> bool
     ensures { result ≡ is_none (refusal_of config.now (known_in (shown_situation s.now)) event.now) }
 {
@@ -127,14 +127,14 @@ fn has_none(entry: &Record) -> bool
     entry.own.is_none() && entry.notices.as_slice().is_empty()
 }
 
-/// Whether an answer has notes of its own only beside a value of its own.
+/// Whether an answer has notes of its own only together with a value of its own.
 fn has_few(entry: &Record) -> bool
     ensures { result ≡ (is_some entry.now.own || is_empty entry.now.notices) }
 {
     entry.own.is_some() || entry.notices.as_slice().is_empty()
 }
 
-/// Whether only an answer has a value of its own, and notes of its own only beside that value.
+/// Whether only an answer has a value of its own, and notes of its own only together with that value.
 fn owns_rightly(entry: &Record) -> bool
     ensures { result ≡ has_right_own_value entry.now }
 {
@@ -147,7 +147,7 @@ fn owns_rightly(entry: &Record) -> bool
     }
 }
 
-/// Whether a record's event is taken: it is not refused, has the next number, and only an answer has a value of its own.
+/// Returns whether a record's event is accepted: it is not refused, has the next number, and only an answer has a value of its own.
 pub fn is_taken(config: &Config, s: &State, entry: &Record) -> bool
     ensures taken { result ≡ is_taken config.now (shown_situation s.now) entry.now }
     ensures numbered { result ≡ true → is_numbered s.now.opened entry.now.event ≡ true }

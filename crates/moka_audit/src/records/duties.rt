@@ -1,4 +1,4 @@
-//! What an event makes due, and what of it is due now.
+//! What an event makes due, and which of it is due now.
 ghost use Rattle.std.specs.Prelude.{◌≡◌, ◌≤◌, ◌++◌, ◌∷◌, [], IfOk, OnOk, map, length, drop, Some, option_map};
 ghost use Rattle.std.specs.List.{flat_map};
 ghost use Rattle.audit_model.specs.Places.{due, first_due, left_after, tasks_to_feed, tasks_to_give_up};
@@ -13,7 +13,7 @@ use audit_model::Outcome;
 use audit_situation::{State, may_run};
 use std::alloc::{AllocError, Global};
 
-/// What a feed makes due: to run the command that its connection holds back, and then its lines.
+/// What a feed makes due: running the command that its connection holds back, and then its lines.
 pub fn duties_to_feed<'a>(alloc: Global, conn: u64, held: bool) -> Result<Vec<Duty<'a>>, AllocError>
     ensures { IfOk result (λ ds. map task_of ds.items ≡ tasks_to_feed conn held) }
 {
@@ -24,7 +24,7 @@ pub fn duties_to_feed<'a>(alloc: Global, conn: u64, held: bool) -> Result<Vec<Du
     }
 }
 
-/// What an answer makes due behind its own step: to hand it to each connection that waits, and then to run their lines.
+/// What an answer makes due after its own step: delivering it to each connection that waits, and then running their lines.
 pub fn duties_to_deliver<'a>(
     alloc: Global,
     conns: &[u64],
@@ -38,7 +38,7 @@ pub fn duties_to_deliver<'a>(
     Ok(duties)
 }
 
-/// Makes it due to hand an outcome to each of these.
+/// Makes it due to deliver an outcome to each of these.
 fn push_deliveries<'a>(
     duties: &mut Vec<Duty<'a>>,
     conns: &[u64],
@@ -62,7 +62,7 @@ fn push_lines<'a>(duties: &mut Vec<Duty<'a>>, conns: &[u64]) -> Result<(), Alloc
     Ok(())
 }
 
-/// What a give-up makes due: to run each `LOAD` that waits again, followed by its connection's lines.
+/// What a give-up makes due: running each `LOAD` that waits again, followed by its connection's lines.
 pub fn duties_to_give_up<'a>(alloc: Global, conns: &[u64]) -> Result<Vec<Duty<'a>>, AllocError>
     ensures { IfOk result (λ ds. map task_of ds.items ≡ tasks_to_give_up conns.now) }
 {
@@ -93,7 +93,7 @@ fn is_due(s: &State, duty: Duty<'_>) -> bool
     }
 }
 
-/// Where the first of these stands that is due now, from a place on.
+/// The place of the first of these that is due now, from a place on.
 pub fn due_from(s: &State, duties: &[Duty<'_>], from: usize) -> usize
     requires { from ≤ length duties.now }
     ensures due { map task_of (drop result duties.entry.now) ≡ due (may_run_in (shown_situation s.now)) (map task_of (drop from duties.entry.now)) }
@@ -107,7 +107,7 @@ pub fn due_from(s: &State, duties: &[Duty<'_>], from: usize) -> usize
     duties.len()
 }
 
-/// What stands at a place.
+/// The duty at a place.
 pub fn duty_at<'a>(duties: &[Duty<'a>], at: usize) -> Option<Duty<'a>>
     ensures { option_map task_of result ≡ first_due (map task_of (drop at duties.entry.now)) }
 {
@@ -118,7 +118,7 @@ pub fn duty_at<'a>(duties: &[Duty<'a>], at: usize) -> Option<Duty<'a>>
     }
 }
 
-/// Where what is left begins when a step of what stands at a place has run; lines stay due.
+/// Where the rest begins after a step for the duty at a place has run; lines stay due.
 pub fn left_from(duties: &[Duty<'_>], at: usize) -> usize
     requires { at ≤ length duties.now }
     ensures left { map task_of (drop result duties.entry.now) ≡ left_after (map task_of (drop at duties.entry.now)) }

@@ -22,7 +22,7 @@ use audit_model::{Bytes, Config, Event, Instant, Outcome, Record, Step, Transcri
 use audit_situation::{Parts, State, begin, close, feed, find_pending, is_holding, open, settle};
 use std::alloc::{AllocError, Global};
 
-/// Judges steps for which those are due, and does what they do. Where one is wrong, or more is due behind the last, the answer is `false`, and
+/// Judges the steps for which these are due, and does what they do. If one is wrong, or more is due after the last, returns `false`, and
 /// situation and parts mean nothing.
 fn judge_steps(
     alloc: Global,
@@ -144,7 +144,7 @@ fn judge_give_up(
     judge_steps(alloc, config, s, parts, duties.as_slice(), steps)
 }
 
-/// What a record shows of an answer's own step.
+/// What a record says of an answer's own step.
 fn show_own(entry: &Record) -> Shown<'_>
     ensures { shown_step result ≡ step_of_answer entry.now }
 {
@@ -159,7 +159,7 @@ fn show_own(entry: &Record) -> Shown<'_>
     }
 }
 
-/// Answers a load, judges the own step, and the steps that follow.
+/// Answers a load, and judges the answer's own step and the steps that follow.
 fn judge_answer(
     alloc: Global,
     config: &Config,
@@ -190,7 +190,7 @@ fn judge_answer(
     )
 }
 
-/// Judges an answer's own step, and the steps that follow, for which those are due.
+/// Judges an answer's own step, and the steps that follow, for which these are due.
 fn judge_stored(
     alloc: Global,
     config: &Config,
@@ -275,7 +275,7 @@ fn judge_event(
     }
 }
 
-/// Judges a record, and does what it does. Where it breaks a rule, the answer is `false`, and situation and parts mean nothing.
+/// Judges a record, and does what it does. If it breaks a rule, returns `false`, and situation and parts mean nothing.
 fn judge_record(
     alloc: Global,
     config: &Config,
@@ -339,7 +339,7 @@ fn audited_on(
     Ok(None)
 }
 
-/// The number of the first record that breaks a rule, from 1; none where none does.
+/// Returns the number of the first record that breaks a rule, from 1, if any does.
 pub fn find_break(
     alloc: Global,
     config: &Config,

@@ -1,4 +1,4 @@
-//! Which value a step accepts, and into which part.
+//! The value that a step accepts, and its part.
 ghost use Rattle.std.specs.Prelude.{◌≡◌, ◌<◌, ◌++◌, ◌∷◌, [], IfOk, IfSome, ℕ, None, true, option_map, Some};
 ghost use Rattle.audit_model.specs.Changes.{newly_held};
 ghost use Rattle.audit_model.specs.History.{Running, weight_of};
@@ -18,7 +18,7 @@ use audit_model::{Accepted, Bytes, Config, Outcome, Seq, Weight};
 use audit_situation::{Doing, Held, Parts, State, found, part_count};
 use std::alloc::{AllocError, Global};
 
-/// A key with what it is to hold, and its milliseconds to live.
+/// A key with the value that it is to hold, and its milliseconds to live.
 #[derive(Drop)]
 pub struct Proposal {
     pub key: Bytes,
@@ -26,7 +26,7 @@ pub struct Proposal {
     pub ms: Option<u64>,
 }
 
-/// What a step would have accepted, if values are.
+/// What a step would accept, if values are accepted.
 fn offered(
     alloc: Global,
     config: &Config,
@@ -51,7 +51,7 @@ fn offered(
     }
 }
 
-/// An offer of those bytes.
+/// An offer of these bytes.
 fn offer(alloc: Global, key: &[u8], bytes: &[u8], ms: Option<u64>) -> Result<Proposal, AllocError>
     ensures { IfOk result (λ o. o ≡ record { key = key.now; bytes = bytes.now; ms = ms }) }
 {
@@ -60,7 +60,7 @@ fn offer(alloc: Global, key: &[u8], bytes: &[u8], ms: Option<u64>) -> Result<Pro
     Ok(Proposal { key, bytes, ms })
 }
 
-/// The same, where one may be missing.
+/// The same for an optional value.
 fn offer_some(
     alloc: Global,
     key: &[u8],
@@ -72,7 +72,7 @@ fn offer_some(
     Ok(Some(offer(alloc, key, bytes, ms)?))
 }
 
-/// What an `ADD` would have accepted.
+/// What an `ADD` would accept.
 fn offered_sum(
     alloc: Global,
     config: &Config,
@@ -108,7 +108,7 @@ fn offer_of(
     }
 }
 
-/// What a value of those bytes weighs.
+/// What a value of these bytes weighs.
 fn weight_of(weight: Weight, bytes: &[u8]) -> u64
     ensures { result ≡ weight_of weight bytes.now }
 {
@@ -118,7 +118,7 @@ fn weight_of(weight: Weight, bytes: &[u8]) -> u64
     }
 }
 
-/// The own deadline of a value that is accepted at a moment with so many milliseconds to live, in nanoseconds.
+/// The own deadline of a value that is accepted at a moment with this many milliseconds to live, in nanoseconds.
 fn own_deadline(now: u64, ms: Option<u64>) -> Result<Option<u64>, AllocError>
     ensures { IfOk result (λ o. o ≡ own_deadline_from now ms) }
 {
@@ -131,7 +131,7 @@ fn own_deadline(now: u64, ms: Option<u64>) -> Result<Option<u64>, AllocError>
     }
 }
 
-/// The moment so many milliseconds later, in nanoseconds, where it is a number of 64 bits.
+/// The moment this many milliseconds later, in nanoseconds, if it is a 64-bit number.
 fn deadline_after(now: u64, ms: u64) -> Option<u64>
     ensures { IfSome result (λ end. end ≡ after_ms now ms) }
 {
@@ -148,7 +148,7 @@ fn held_from(config: &Config, now: u64, part: u64, offer: Proposal) -> Result<He
     Ok(Held::accepted(offer.key, offer.bytes, part, weight, now, own))
 }
 
-/// The value that a step accepts, if any; none of these where it accepts wrongly.
+/// Returns the value that a step accepts, if any; `None` if it accepts wrongly.
 pub fn accept(
     alloc: Global,
     config: &Config,
@@ -166,7 +166,7 @@ pub fn accept(
     }
 }
 
-/// What a step accepts that shows no part.
+/// What a step accepts that names no part.
 fn none_for(offer: Option<Proposal>) -> Option<Option<Held>>
     ensures takes { (config : Config) (now : ℕ) → AcceptsOffer config now None (option_map offer_from offer) result }
     ensures none { IfSome result (λ newcomer. newcomer ≡ None) }
@@ -177,7 +177,7 @@ fn none_for(offer: Option<Proposal>) -> Option<Option<Held>>
     }
 }
 
-/// What a step accepts that shows that part.
+/// What a step accepts that names this part.
 fn take(
     config: &Config,
     now: u64,
@@ -199,7 +199,7 @@ fn take(
     }
 }
 
-/// Keeps the part of a value that is accepted, and answers whether its key has no other.
+/// Keeps the part of a value that is accepted, and returns whether its key has no other.
 pub fn admit(parts: &mut Parts, newcomer: Option<&Held>) -> Result<bool, AllocError>
     ensures agrees { IfOk result (λ b. b ≡ agrees_with parts.old (option_map (λ h. h.now.value) newcomer.entry)) }
     ensures kept { IfOk result (λ b. b ≡ true → parts.new ≡ with_value parts.old (option_map (λ h. h.now.value) newcomer.entry)) }
@@ -210,7 +210,7 @@ pub fn admit(parts: &mut Parts, newcomer: Option<&Held>) -> Result<bool, AllocEr
     }
 }
 
-/// The same of one value.
+/// The same for one value.
 fn admit_value(parts: &mut Parts, held: &Held) -> Result<bool, AllocError>
     ensures agrees { IfOk result (λ b. b ≡ agrees parts.old held.now.value.key held.now.value.part) }
     ensures kept { IfOk result (λ b. b ≡ true → parts.new ≡ with_part parts.old held.now.value.key held.now.value.part) }

@@ -18,7 +18,7 @@ use audit_lines::{Request, read_line};
 use audit_model::Config;
 use audit_situation::{Covering, Deed, Doing};
 
-/// What a line does.
+/// Returns what a line does.
 pub fn do_line<'a>(config: &Config, line: &'a [u8]) -> Doing<'a>
     ensures { action_of result ≡ action_by (reading config.now line.now) }
 {
@@ -105,7 +105,7 @@ fn is_ok(reply: Option<&[u8]>) -> bool
     }
 }
 
-/// Which keys a step with that reply covers.
+/// The keys that a step with this reply covers.
 fn covering<'a>(doing: Doing<'a>, reply: Option<&[u8]>) -> Covering<'a>
     ensures { (load : Option ℕ) → covering_by result ≡ covers_by (acting (action_of doing.entry) (option_map (λ r. r.now) reply.entry) load) }
 {
@@ -121,7 +121,7 @@ fn covering<'a>(doing: Doing<'a>, reply: Option<&[u8]>) -> Covering<'a>
     }
 }
 
-/// What a `DROPIF` covers, that was accepted or not.
+/// What a `DROPIF` covers, which was accepted or not.
 fn covering_prefix<'a>(prefix: &'a [u8], accepted: bool) -> Covering<'a>
     ensures { covering_by result ≡ (if accepted then Prefixed prefix.now else Nothing) }
 {
@@ -173,7 +173,7 @@ pub fn is_hold(doing: Doing<'_>) -> bool
     }
 }
 
-/// Whether a step tells nothing.
+/// Whether a step reports nothing.
 pub fn is_silent(doing: Doing<'_>) -> bool
     ensures { result ≡ is_silent (action_of doing.entry) }
 {
@@ -186,7 +186,7 @@ pub fn is_silent(doing: Doing<'_>) -> bool
     }
 }
 
-/// Whether a step with that reply is a `DROPIF` that was accepted.
+/// Whether a step with this reply is a `DROPIF` that was accepted.
 pub fn is_drop(doing: Doing<'_>, reply: Option<&[u8]>) -> bool
     ensures { (load : Option ℕ) → result ≡ drops (acting (action_of doing.entry) (option_map (λ r. r.now) reply.entry) load) }
 {
@@ -199,7 +199,7 @@ pub fn is_drop(doing: Doing<'_>, reply: Option<&[u8]>) -> bool
     }
 }
 
-/// What a step with that reply does to values.
+/// Returns what a step with this reply does to values.
 pub fn deed_of<'a>(doing: Doing<'a>, reply: Option<&[u8]>) -> Deed<'a>
     ensures { (load : Option ℕ) (value : Option Value) → deed_with result value ≡ record (deed_of (acting (action_of doing.entry) (option_map (λ r. r.now) reply.entry) load)) { value = value } }
 {

@@ -1,4 +1,4 @@
-//! One step, judged and done.
+//! Judging and performing one step.
 ghost use Rattle.std.specs.Prelude.{◌≡◌, ◌<◌, ◌&&◌, ◌||◌, not, IfOk, OnOk, IfSome, IsTrue, Option, Some, None, true, option_map};
 ghost use Rattle.std.specs.Option.{option_eq};
 ghost use Rattle.audit_model.specs.Bytewise.{same, is_empty};
@@ -31,7 +31,7 @@ use audit_situation::{
 };
 use std::alloc::{AllocError, Global};
 
-/// The line that is due of a connection.
+/// The line of a connection that is due.
 fn due_line(link: &Link) -> Option<&[u8]>
     ensures { option_map (λ l. l.now) result ≡ line_in (Some (RunHeld 0)) (Some link.now) }
 {
@@ -42,7 +42,7 @@ fn due_line(link: &Link) -> Option<&[u8]>
     }
 }
 
-/// Whether a line is the one that is due of a connection.
+/// Whether a line is the one of a connection that is due.
 fn is_due_of(s: &State, conn: u64, line: &[u8]) -> bool
     ensures { result ≡ option_eq same (line_in (Some (RunHeld 0)) (connection_in conn (shown_situation s.now))) (Some line.now) }
 {
@@ -66,14 +66,14 @@ fn has_right_line(s: &State, duty: Option<Duty<'_>>, conn: u64, line: &[u8]) -> 
     }
 }
 
-/// Whether a step has no notes where it tells nothing.
+/// Whether a step has no notes if it reports nothing.
 fn is_quiet(doing: Doing<'_>, notices: &[Note]) -> bool
     ensures { result ≡ (not (is_silent (action_of doing.entry)) || is_empty notices.now) }
 {
     !is_silent(doing) || notices.is_empty()
 }
 
-/// Whether a step is right in all that is judged before values change.
+/// Whether a step is right in everything that is judged before values change.
 fn is_fit(
     alloc: Global,
     config: &Config,
@@ -114,7 +114,7 @@ fn are_within(config: &Config, held: &Holding) -> bool
     true
 }
 
-/// Whether a `SYNC` that leaves these values held has the reply that it owes, and each part is within its share.
+/// Whether a `SYNC` that leaves these values has the reply that it owes, and each part is within its share.
 fn is_synced(
     alloc: Global,
     config: &Config,
@@ -137,7 +137,7 @@ fn is_synced(
     }
 }
 
-/// Judges a step's notes, and does to values what it does.
+/// Judges a step's notes, and does what it does to values.
 fn do_values(
     alloc: Global,
     config: &Config,
@@ -171,7 +171,7 @@ fn do_values(
     Ok(true)
 }
 
-/// Does to its connection and to the loads what a step does.
+/// Does what a step does to its connection and to the loads.
 fn pass_step(
     alloc: Global,
     s: &mut State,
@@ -248,7 +248,7 @@ fn judge_accepted(
     finish(alloc, config, s, duty, shown, doing, newcomer)
 }
 
-/// Judges a step that does that, and does it.
+/// Judges a step that does this, and does it.
 fn judge_doing(
     alloc: Global,
     config: &Config,
@@ -270,8 +270,8 @@ fn judge_doing(
     }
 }
 
-/// Judges a step for which this is due, and does what it does: to the situation, and to the parts of keys. Where it is wrong, or its value's
-/// key has another part, the answer is `false`, and situation and parts mean nothing.
+/// Judges a step for which this is due, and does what it does to the situation and to the parts of keys. If it is wrong, or its value's
+/// key has another part, returns `false`, and situation and parts mean nothing.
 pub fn judge(
     alloc: Global,
     config: &Config,

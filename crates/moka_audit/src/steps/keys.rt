@@ -13,7 +13,7 @@ use itoa::Buffer;
 use std::alloc::{AllocError, Global};
 use std::collections::BTreeMap;
 
-/// The keys of the live values, in byte order; the newest value comes first, and no key has two.
+/// The keys of the live values, in byte order. The newest value comes first, and no key has two.
 fn live_keys<'a>(
     alloc: Global,
     config: &Config,
@@ -60,7 +60,7 @@ fn write_key(output: &mut Vec<u8>, key: &[u8]) -> Result<(), AllocError>
     Ok(())
 }
 
-/// How many keys there are, then each on a line of its own.
+/// Returns the number of keys, and then each on a line of its own.
 pub fn keys_listed(
     alloc: Global,
     config: &Config,
@@ -75,7 +75,7 @@ pub fn keys_listed(
     text_of(alloc, &keys)
 }
 
-/// How many of these there are, then each on a line of its own.
+/// The number of these, and then each on a line of its own.
 fn text_of(alloc: Global, keys: &BTreeMap<&[u8], ()>) -> Result<Vec<u8>, AllocError>
     ensures { IfOk result (λ text. text.items ≡ keys_listed (map (λ e. e.0.now) keys.entry.now.entries)) }
 {

@@ -36,7 +36,7 @@ fn add_reply(
     }
 }
 
-/// The reply to a `LOAD` that runs; none where it begins to wait.
+/// The reply to a `LOAD` that runs; none if it begins to wait.
 fn load_reply(
     alloc: Global,
     config: &Config,
@@ -58,7 +58,7 @@ fn text(alloc: Global, bytes: &[u8]) -> Result<Option<Vec<u8>>, AllocError>
     Ok(Some(Vec::from_slice(alloc, bytes)?))
 }
 
-/// The reply that a step owes that is no `SYNC`.
+/// The reply that a step other than a `SYNC` owes.
 fn owed(
     alloc: Global,
     config: &Config,
@@ -87,14 +87,14 @@ fn owed(
     }
 }
 
-/// Whether a reply is the owed one, or the refusal that may be given.
+/// Whether a reply is the one that is owed, or the refusal that may be given.
 fn is_reply(reply: Option<&[u8]>, owed: Option<&[u8]>, refuses: bool) -> bool
     ensures { result ≡ is_owed_or_refusal (option_map (λ r. r.now) reply.entry) (option_map (λ r. r.now) owed.entry) refuses }
 {
     is_said(reply, owed) || (refuses && is_said(reply, Some(b"ERR id\n")))
 }
 
-/// Whether a step that is no `SYNC` has the reply that it owes.
+/// Returns whether a step other than a `SYNC` has the reply that it owes.
 pub fn replies_rightly(
     alloc: Global,
     config: &Config,

@@ -40,7 +40,7 @@ pub fn value_or_none(alloc: Global, found: Option<Seen<'_>>) -> Result<Vec<u8>, 
     }
 }
 
-/// `YES` where there is a live value.
+/// `YES` if there is a live value.
 pub fn yes_or_no(found: Option<Seen<'_>>) -> &'static [u8]
     ensures { result.now ≡ yes_or_no (option_map (λ h. (held_of h).value) found.entry) }
 {
@@ -60,14 +60,14 @@ pub fn accepts(config: &Config) -> bool
     }
 }
 
-/// `OFF` where no value is accepted.
+/// `OFF` if no value is accepted.
 pub fn ok_or_off(config: &Config) -> &'static [u8]
     ensures { result.now ≡ ok_or_off config.now }
 {
     if accepts(config) { b"OK\n" } else { b"OFF\n" }
 }
 
-/// The sum that an `ADD` stores; none where the value is no number or the sum is too large.
+/// The sum that an `ADD` stores; none if the value is not a number or the sum is too large.
 pub fn sum_with(found: Option<Seen<'_>>, added: u64) -> Option<u64>
     ensures { result ≡ sum_with (option_map (λ h. (held_of h).value) found.entry) added }
 {
@@ -101,7 +101,7 @@ pub fn sum_or_error(alloc: Global, sum: Option<u64>) -> Result<Vec<u8>, AllocErr
     }
 }
 
-/// The reply to a line that cannot be read.
+/// The reply to a line that cannot be parsed.
 pub fn fault_text(error: LineError) -> &'static [u8]
     ensures { result.now ≡ fault_text error }
 {
@@ -113,7 +113,7 @@ pub fn fault_text(error: LineError) -> &'static [u8]
     }
 }
 
-/// The reply to a waiting `LOAD` that is handed this outcome.
+/// The reply to a waiting `LOAD` that receives this outcome.
 pub fn outcome_text(alloc: Global, outcome: &Outcome) -> Result<Vec<u8>, AllocError>
     ensures { IfOk result (λ line. line.items ≡ outcome_text outcome.now) }
 {
@@ -124,7 +124,7 @@ pub fn outcome_text(alloc: Global, outcome: &Outcome) -> Result<Vec<u8>, AllocEr
     }
 }
 
-/// How many values there are, and what they weigh together.
+/// The number of values, and their total weight.
 pub fn counts_of(alloc: Global, held: &Holding) -> Result<Vec<u8>, AllocError>
     ensures { IfOk result (λ line. line.items ≡ count_and_weight (values_of held.now)) }
 {
@@ -138,7 +138,7 @@ pub fn counts_of(alloc: Global, held: &Holding) -> Result<Vec<u8>, AllocError>
     Ok(line)
 }
 
-/// Whether the two are the same bytes, or neither is there.
+/// Whether the two are the same bytes, or neither exists.
 pub fn is_said(reply: Option<&[u8]>, owed: Option<&[u8]>) -> bool
     ensures { result ≡ option_eq same (option_map (λ r. r.now) reply.entry) (option_map (λ r. r.now) owed.entry) }
 {

@@ -1,4 +1,4 @@
-//! What a record shows of a step, and what is due.
+//! What a record says of a step, and what is due.
 ghost use Rattle.std.specs.Prelude.{◌≡◌, ◌||◌, not, option_map, nat_le, if◌then◌else◌};
 ghost use Rattle.audit_model.specs.History.{Abandoning};
 ghost use Rattle.audit_model.specs.Steps.{action_in, action_of_line, is_task_of, may_hold};
@@ -9,7 +9,7 @@ use crate::steps::doing::{do_line, is_hold};
 use audit_model::{Accepted, Config, Note, Outcome, Step};
 use audit_situation::Doing;
 
-/// What a record shows of a step.
+/// What a record says of a step.
 #[derive(Clone, Copy)]
 pub struct Shown<'a> {
     pub conn: u64,
@@ -21,8 +21,8 @@ pub struct Shown<'a> {
     pub notices: &'a [Note],
 }
 
-/// What is due: to store an answer under its load's key, to hand it to a connection, to run a connection's given-up `LOAD` again, to run its held
-/// command, or to run its lines.
+/// What is due: storing an answer under its load's key, delivering it to a connection, running a connection's given-up `LOAD` again,
+/// running its held command, or running its lines.
 #[derive(Clone, Copy)]
 pub enum Duty<'a> {
     Store(Option<&'a [u8]>, &'a Outcome),
@@ -32,7 +32,7 @@ pub enum Duty<'a> {
     RunLines(u64),
 }
 
-/// What a record shows of a step of a connection.
+/// Returns what a record says of a step of a connection.
 pub fn show(step: &Step) -> Shown<'_>
     ensures { shown_step result ≡ step.now }
 {
@@ -51,7 +51,7 @@ pub fn show(step: &Step) -> Shown<'_>
     }
 }
 
-/// What a line does that is held back or not.
+/// What a line does, held back or not.
 fn do_shown<'a>(config: &Config, shown: Shown<'a>) -> Doing<'a>
     ensures { action_of result ≡ action_of_line config.now (shown_step shown.entry) }
 {
@@ -62,7 +62,7 @@ fn do_shown<'a>(config: &Config, shown: Shown<'a>) -> Doing<'a>
     }
 }
 
-/// What a step does for what is due, where its connection's `LOAD` began to wait so often.
+/// What a step does for what is due, if its connection's `LOAD` began to wait this many times.
 pub fn do_due<'a>(
     config: &Config,
     waited: u64,
@@ -81,7 +81,7 @@ pub fn do_due<'a>(
     }
 }
 
-/// What a given-up `LOAD` does that began to wait so often.
+/// What a given-up `LOAD` does that began to wait this many times.
 fn do_again<'a>(config: &Config, waited: u64, shown: Shown<'a>) -> Doing<'a>
     ensures { action_of result ≡ (if nat_le 200 waited then Abandoning else action_of_line config.now (shown_step shown.entry)) }
 {
@@ -92,7 +92,7 @@ fn do_again<'a>(config: &Config, waited: u64, shown: Shown<'a>) -> Doing<'a>
     }
 }
 
-/// Whether what is due is due for that connection.
+/// Whether what is due is due for this connection.
 pub fn is_duty_of(conn: u64, duty: Option<Duty<'_>>) -> bool
     ensures { result ≡ is_task_of conn (option_map task_of duty.entry) }
 {
@@ -106,7 +106,7 @@ pub fn is_duty_of(conn: u64, duty: Option<Duty<'_>>) -> bool
     }
 }
 
-/// Whether what is due may be held back, where it is a step that does that.
+/// Whether what is due may be held back, if a step does this.
 fn may_hold(duty: Option<Duty<'_>>, doing: Doing<'_>) -> bool
     ensures { result ≡ may_hold (option_map task_of duty.entry) (action_of doing.entry) }
 {
@@ -127,7 +127,7 @@ pub fn is_held_rightly(duty: Option<Duty<'_>>, held: bool, doing: Doing<'_>) -> 
     !held || may_hold(duty, doing)
 }
 
-/// Whether what is due is to run lines.
+/// Whether running lines is due.
 pub fn is_run_lines(duty: Option<Duty<'_>>) -> bool
     ensures { result ≡ runs_lines (option_map task_of duty.entry) }
 {
@@ -141,7 +141,7 @@ pub fn is_run_lines(duty: Option<Duty<'_>>) -> bool
     }
 }
 
-/// Whether what is due is to store an answer.
+/// Whether storing an answer is due.
 pub fn is_store(duty: Option<Duty<'_>>) -> bool
     ensures { result ≡ stores (option_map task_of duty.entry) }
 {

@@ -1,25 +1,34 @@
 -- Who waits for which turn.
-use Rattle.std.specs.Prelude.{◌≡◌, ℕ, ◌==◌, Bool, ◌&&◌, List, [], ◌∷◌, ◌++◌, ◌+◌, Option, Some, None}
-use Rattle.front_reference.specs.Fronts.{CallsAt, same_kind}
+use Rattle.std.specs.Prelude.{◌≡◌, ℕ, nat_eq, ◌==◌, ◌&&◌, ◌+◌, Option, Some, if◌then◌else◌, option_map}
+use Rattle.std.specs.HashMap.{HashMap, Updates, get}
+use Rattle.std.specs.declared.hash.FoldHasher.{FoldHasher}
+use Rattle.std.specs.declared.hash.BuildHasherDefault.{BuildHasherDefault}
+use Rattle.front_reference.specs.Fronts.{same_kind}
 use Rattle.front_reference.specs.declared.data.TurnKind.{TurnKind}
 use Rattle.sync_desk.specs.declared.slots.slot.Ending.TheVariants.{Underway}
 use Rattle.sync_desk.specs.declared.slots.slot.TurnSlot.{TurnSlot}
 
-module _ {V F : Type 0} where
-  -- whether a slot is the one of a turn
-  abbrev pub is_slot_of : TurnKind → (number : ℕ) → TurnSlot V F → Bool
-  is_slot_of kind number slot = (slot.number == number) && same_kind slot.kind kind
+-- slots by the numbers of their turns
+abbrev pub SlotsByNumber : (V F : Type 0) → Type 0
+SlotsByNumber V F = HashMap ℕ (TurnSlot V F) (BuildHasherDefault FoldHasher)
 
-  -- a turn that is under way, and for which none waits, is the last one
-  pub record OpensAtEnd (kind : TurnKind) (number : ℕ) (old new : List (TurnSlot V F)) : Type 0 where
+module _ {V F : Type 0} where
+  -- the slot of a number
+  abbrev pub slot_at : ℕ → SlotsByNumber V F → Option (TurnSlot V F)
+  slot_at number slots = get nat_eq slots number
+
+  -- a slot for which one more waits, where it is of a kind
+  abbrev pub slot_joined : TurnKind → TurnSlot V F → TurnSlot V F
+  slot_joined kind slot = if same_kind slot.kind kind then record slot { waiting = slot.waiting + 1 } else slot
+
+  -- a turn that is under way, and for which none waits, stands at its number
+  pub record OpensAt (kind : TurnKind) (number : ℕ) (old new : SlotsByNumber V F) : Type 0 where
     pub slot : TurnSlot V F
-    pub appended : new ≡ old ++ slot ∷ []
+    pub put : Updates nat_eq old new number (Some slot)
     pub of_kind : slot.kind ≡ kind
-    pub numbered : slot.number ≡ number
     pub waiting : slot.waiting ≡ 0
     pub ending : slot.ending ≡ Underway
 
-  -- one more waits for the turn at a place, if it is at one
-  abbrev pub JoinsAt : Option ℕ → (old new : List (TurnSlot V F)) → Type 0
-  JoinsAt None old new = new ≡ old
-  JoinsAt (Some place) old new = CallsAt place (λ slot joined. joined ≡ record slot { waiting = slot.waiting + 1 }) old new
+  -- one more waits for the turn of a kind and a number, if there is one
+  abbrev pub JoinsAt : TurnKind → (number : ℕ) → (old new : SlotsByNumber V F) → Type 0
+  JoinsAt kind number old new = (n : ℕ) → slot_at n new ≡ option_map (λ slot. if number == n then slot_joined kind slot else slot) (slot_at n old)

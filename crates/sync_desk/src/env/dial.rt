@@ -1,4 +1,4 @@
-//! Moments that are set by hand.
+//! A clock that is set by hand.
 ghost use Rattle.std.specs.Prelude.{◌≡◌, ◌≤◌};
 
 use crate::env::env::Env;
@@ -7,7 +7,7 @@ use rand_core::Rng;
 use std::sync::Arc;
 use std::sync::atomic::{AtomicU64, Ordering};
 
-/// A moment that is set by hand, by any thread, and how often it was read. For tests.
+/// A moment that any thread can set by hand, and how often it was read. For tests.
 #[derive(Drop)]
 pub struct Dial {
     nanos: AtomicU64,
@@ -15,7 +15,7 @@ pub struct Dial {
 }
 
 impl Dial {
-    /// A dial at moment 0 that was not read.
+    /// Creates a dial at moment 0 that was never read.
     pub fn new() -> Self {
         Dial {
             nanos: AtomicU64::new(0),
@@ -23,17 +23,18 @@ impl Dial {
         }
     }
 
-    /// Sets the moment, in nanoseconds. Past the last moment it is the last.
+    /// Sets the moment, in nanoseconds, at most the last moment.
     pub fn set(&self, nanos: u64) {
         self.nanos.store(nanos, Ordering::SeqCst);
     }
 
-    /// How often it was read. A call of a cache reads it in its hold of the cache's lock, so who sees the count rise knows that the call has come.
+    /// Returns how often it was read. A call of a cache reads it while it holds the cache's lock, so if the count rises, the call has
+    /// begun.
     pub fn readings(&self) -> u64 {
         self.readings.load(Ordering::SeqCst)
     }
 
-    /// The moment, and one reading more.
+    /// The moment; counts one more reading.
     fn read(&self) -> Instant {
         self.readings.fetch_add(1, Ordering::SeqCst);
         let nanos = self.nanos.load(Ordering::SeqCst);
@@ -41,7 +42,7 @@ impl Dial {
     }
 }
 
-/// The moments of a dial, and a generator.
+/// An environment with the moments of a dial, and a generator.
 #[derive(Drop)]
 pub struct DialEnv<G> {
     dial: Arc<Dial>,
@@ -49,7 +50,7 @@ pub struct DialEnv<G> {
 }
 
 impl<G> DialEnv<G> {
-    /// The moments of this dial.
+    /// Creates an environment with the moments of this dial.
     pub fn new(dial: Arc<Dial>, generator: G) -> Self
         ensures { result.generator ≡ generator }
     {

@@ -1,12 +1,12 @@
-//! What gives moments and random words.
+//! The source of moments and random words.
 
 use policy_base::Instant;
 use rand_core::Rng;
 
-/// What gives a cache its moments, and by `Rng` its random words. It stands under the cache's lock, so each call has it alone.
+/// Gives a cache its moments, and by `Rng` its random words. It is used under the cache's lock, by one call at a time.
 ///
-/// Moments may fall: a cache takes one that comes before its last as the last.
+/// Moments may fall: a cache treats one that is before its last as the last.
 pub trait Env: Rng {
-    /// The moment at which a call comes.
+    /// Returns the moment at which a call comes.
     fn now(&mut self) -> Instant;
 }

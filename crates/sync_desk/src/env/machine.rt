@@ -1,4 +1,4 @@
-//! The machine's clock, and a generator.
+//! The machine's clock and a generator.
 ghost use Rattle.std.specs.Prelude.{◌≡◌, ◌≤◌};
 
 use crate::env::env::Env;
@@ -7,9 +7,11 @@ use rand_core::Rng;
 use std::time::Clock;
 use std::{io, time};
 
-/// The machine's clock, whose moments count the nanoseconds since this was made, and a generator. Where the clock cannot be read, the moment is the latest that was.
+/// The machine's clock and a generator. Moments count the nanoseconds since this was created. If the clock cannot be read, the moment is
+/// the latest that was read.
 ///
-/// Predicates are named by the generator's words. Where a stranger must not foresee their names, it is to be a secure generator with a secret seed.
+/// The identifiers of predicates come from the generator. If others must not be able to predict them, use a secure generator with a secret
+/// seed.
 #[derive(Drop)]
 pub struct MachineEnv<C, G> {
     clock: C,
@@ -19,7 +21,7 @@ pub struct MachineEnv<C, G> {
 }
 
 impl<C: Clock, G> MachineEnv<C, G> {
-    /// Moments that count from now on. An error where the clock cannot be read.
+    /// Creates an environment whose moments count from now on. Returns an error if the clock cannot be read.
     pub fn new(clock: C, generator: G) -> io::Result<Self>
     where
         C: Drop,

@@ -31,7 +31,6 @@ impl<V, F> Debug for Ending<V, F> {
 #[derive(Drop)]
 pub(crate) struct TurnSlot<V, F> {
     pub(crate) kind: TurnKind,
-    pub(crate) number: u64,
     pub(crate) hash: u64,
     pub(crate) waiting: u64,
     pub(crate) ending: Ending<V, F>,

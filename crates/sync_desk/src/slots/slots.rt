@@ -1,29 +1,32 @@
 //! Who waits for which turn, and how it ended.
-ghost use Rattle.std.specs.Prelude.{◌≡◌, ◌<◌, ◌≤◌, ◌&&◌, [], true, position, ◌+◌, nat_lt, IfOk, IfErr, IfSome, OnOk, OnErr, length, vec_len, vec_capacity};
-ghost use Rattle.std.specs.List.{list_any};
+ghost use Rattle.std.specs.Prelude.{◌≡◌, ◌<◌, ◌&&◌, ℕ, true, false, nat_lt, IfOk, IfErr, IfSome, OnOk, OnErr};
+ghost use Rattle.std.specs.Option.{option_map_or};
+ghost use Rattle.std.specs.HashMap.{IsEmpty, spare};
+ghost use Rattle.front_reference.specs.Fronts.{same_kind};
 ghost use Rattle.front_reference.specs.declared.data.TurnKind.{TurnKind};
 ghost use Rattle.front_reference.specs.declared.errors.CacheError.TheVariants as errors;
 ghost use Rattle.sync_desk.specs.Slots.Endings.{fits, suits};
-ghost use Rattle.sync_desk.specs.Slots.Waiting.{JoinsAt, OpensAtEnd, is_slot_of};
+ghost use Rattle.sync_desk.specs.Slots.Waiting.{JoinsAt, OpensAt, slot_at, slot_joined};
 ghost use Rattle.sync_desk.specs.declared.slots.slot.Ending.TheVariants.{Underway};
 
 use crate::slots::slot::{Ending, TurnSlot};
 use front_reference::{CacheError, Made, TurnKind};
 use std::alloc::{AllocError, Global};
+use std::collections::HashMap;
 
-/// The turns that are led, or that some still wait for.
+/// The turns that are led, or that some still wait for, by their numbers.
 #[derive(Drop)]
 pub struct Slots<V, F> {
-    pub(crate) slots: Vec<TurnSlot<V, F>>,
+    pub(crate) slots: HashMap<u64, TurnSlot<V, F>>,
 }
 
 impl<V: Drop, F: Drop> TurnSlot<V, F> {
-    /// Whether it is the turn of this kind and number.
-    fn is(&self, kind: TurnKind, number: u64) -> bool
+    /// Whether it is the turn of this kind.
+    fn is(&self, kind: TurnKind) -> bool
         ensures same { result ≡ true → self.now.kind ≡ kind }
-        ensures value { result ≡ is_slot_of kind number self.now }
+        ensures value { result ≡ same_kind self.now.kind kind }
     {
-        self.number == number && self.kind.is_same(kind)
+        self.kind.is_same(kind)
     }
 
     /// Whether the turn is under way.
@@ -33,20 +36,26 @@ impl<V: Drop, F: Drop> TurnSlot<V, F> {
         matches!(&self.ending, Ending::Underway)
     }
 
-    /// The turn ends so.
-    fn end(&mut self, ending: Ending<V, F>)
-        requires { fits self.old.kind ending ≡ true }
-        ensures { self.new.kind ≡ self.old.kind }
+    /// The turn ends so, if it is of this kind. Answers the hash of its key, and whether some wait for it.
+    fn end(&mut self, kind: TurnKind, ending: Ending<V, F>) -> Option<(u64, bool)>
+        requires { fits kind ending ≡ true }
     {
+        if !self.is(kind) {
+            return None;
+        }
         self.ending = ending;
+        Some((self.hash, 0 < self.waiting))
     }
 
-    /// One more waits.
-    fn join(&mut self) -> Result<(), CacheError>
-        ensures joins { OnOk result (self.new ≡ record self.old { waiting = self.old.waiting + 1 }) }
+    /// One more waits, if it is of this kind.
+    fn join(&mut self, kind: TurnKind) -> Result<(), CacheError>
+        ensures joins { OnOk result (self.new ≡ slot_joined kind self.old) }
         ensures err { OnErr result (self.new ≡ self.old) }
         ensures cause { IfErr result (λ e. e ≡ errors.UsedUp) }
     {
+        if !self.is(kind) {
+            return Ok(());
+        }
         match self.waiting.checked_add(1) {
             Some(waiting) => {
                 self.waiting = waiting;
@@ -82,90 +91,85 @@ pub fn copy_made<V: Clone, F: Clone>(made: &Made<V, F>) -> Result<Made<V, F>, Al
     }
 }
 
-/// The place of the turn of a kind and number.
-fn place_of<V: Drop, F: Drop>(
-    slots: &[TurnSlot<V, F>],
-    kind: TurnKind,
-    number: u64,
-) -> Option<usize>
-    ensures value { result ≡ position (is_slot_of kind number) slots.now }
-    ensures within { IfSome result (λ i. i < length slots.now) }
-{
-    slots.iter().position(|slot| slot.is(kind, number))
-}
-
 impl<V: Drop, F: Drop> Slots<V, F> {
     /// No turns.
     pub fn new(alloc: Global) -> Self
-        ensures { result.slots.items ≡ [] }
+        ensures { IsEmpty result.slots }
     {
         Slots {
-            slots: Vec::new(alloc),
+            slots: HashMap::new(alloc),
         }
     }
 
     /// Makes room for one turn more.
     pub fn reserve(&mut self) -> Result<(), AllocError>
-        ensures room { OnOk result (vec_len self.new.slots < vec_capacity self.new.slots) }
-        ensures same { self.new.slots.items ≡ self.old.slots.items }
+        ensures room { OnOk result (0 < spare self.new.slots) }
+        ensures same { (n : ℕ) → slot_at n self.new.slots ≡ slot_at n self.old.slots }
     {
         self.slots.reserve(1)
     }
 
     /// A turn of a key of this hash begins, in room that was made.
     pub fn open(&mut self, kind: TurnKind, number: u64, hash: u64)
-        requires room { vec_len self.old.slots < vec_capacity self.old.slots }
-        ensures opens { OpensAtEnd kind number self.old.slots.items self.new.slots.items }
+        requires room { 0 < spare self.old.slots }
+        ensures opens { OpensAt kind number self.old.slots self.new.slots }
     {
-        self.slots.push_reserved(TurnSlot {
+        let slot = TurnSlot {
             kind,
-            number,
             hash,
             waiting: 0,
             ending: Ending::Underway,
-        });
+        };
+        let Ok(_) = self.slots.insert(number, slot) else {
+            unreachable!();
+        };
     }
 
     /// One more waits for a turn.
     pub fn join(&mut self, kind: TurnKind, number: u64) -> Result<(), CacheError>
-        ensures joins { OnOk result (JoinsAt (position (is_slot_of kind number) self.old.slots.items) self.old.slots.items self.new.slots.items) }
-        ensures err { OnErr result (self.new.slots.items ≡ self.old.slots.items) }
+        ensures joins { OnOk result (JoinsAt kind number self.old.slots self.new.slots) }
+        ensures err { OnErr result ((n : ℕ) → slot_at n self.new.slots ≡ slot_at n self.old.slots) }
         ensures cause { IfErr result (λ e. e ≡ errors.UsedUp) }
     {
-        match place_of(self.slots.as_slice(), kind, number) {
-            Some(place) => {
-                let slot = &mut self.slots[place];
-                slot.join()
-            }
+        match self.slots.get_mut(&number) {
+            Some(slot) => slot.join(kind),
             None => Ok(()),
         }
     }
 
     /// Whether some wait for a turn.
     pub fn is_waited_for(&self, kind: TurnKind, number: u64) -> bool
-        ensures { result ≡ list_any (λ slot. is_slot_of kind number slot && nat_lt 0 slot.waiting) self.now.slots.items }
+        ensures { result ≡ option_map_or (λ slot. same_kind slot.kind kind && nat_lt 0 slot.waiting) (slot_at number self.now.slots) false }
     {
-        self.slots
-            .iter()
-            .any(|slot| slot.is(kind, number) && 0 < slot.waiting)
+        match self.slots.get(&number) {
+            Some(slot) => slot.is(kind) && 0 < slot.waiting,
+            None => false,
+        }
     }
 
     /// A turn ends, and is kept only where some wait for it. Answers the hash of its key, if it was under way.
     pub fn end(&mut self, kind: TurnKind, number: u64, ending: Ending<V, F>) -> Option<u64>
         requires { fits kind ending ≡ true }
     {
-        for place in 0..self.slots.len() {
-            let slot = &mut self.slots[place];
-            if slot.is(kind, number) {
-                let hash = slot.hash;
-                slot.end(ending);
-                if slot.waiting == 0 {
-                    let _ended = self.slots.swap_remove(place);
-                }
-                return Some(hash);
-            }
+        let (hash, waited) = match self.slots.get_mut(&number) {
+            Some(slot) => slot.end(kind, ending)?,
+            None => return None,
+        };
+        if !waited {
+            self.slots.remove(&number);
         }
-        None
+        Some(hash)
+    }
+
+    /// Takes out a turn of this kind, and answers how it ended.
+    fn take(&mut self, kind: TurnKind, number: u64) -> Ending<V, F>
+        requires { IfSome (slot_at number self.old.slots) (λ slot. slot.kind ≡ kind) }
+        ensures { fits kind result ≡ true }
+    {
+        match self.slots.remove(&number) {
+            Some(slot) => slot.ending,
+            None => Ending::GivenUp,
+        }
     }
 }
 
@@ -174,19 +178,29 @@ impl<V: Clone + Drop, F: Clone + Drop> Slots<V, F> {
     pub fn look(&mut self, kind: TurnKind, number: u64) -> Result<Ending<V, F>, AllocError>
         ensures { IfOk result (λ ending. fits kind ending ≡ true) }
     {
-        for place in 0..self.slots.len() {
-            let slot = &mut self.slots[place];
-            if slot.is(kind, number) {
-                if slot.is_underway() {
-                    return Ok(Ending::Underway);
-                }
-                if slot.waiting <= 1 {
-                    let slot = self.slots.swap_remove(place);
-                    return Ok(slot.ending);
-                }
-                return slot.leave();
-            }
+        let Some(slot) = self.slots.get(&number) else {
+            return Ok(Ending::GivenUp);
+        };
+        if !slot.is(kind) {
+            return Ok(Ending::GivenUp);
         }
-        Ok(Ending::GivenUp)
+        if slot.is_underway() {
+            return Ok(Ending::Underway);
+        }
+        if slot.waiting <= 1 {
+            return Ok(self.take(kind, number));
+        }
+        self.leave(kind, number)
+    }
+
+    /// One less waits for a turn, and gets a clone of what it ended with.
+    fn leave(&mut self, kind: TurnKind, number: u64) -> Result<Ending<V, F>, AllocError>
+        requires { IfSome (slot_at number self.old.slots) (λ slot. slot.kind ≡ kind) }
+        ensures { IfOk result (λ ending. fits kind ending ≡ true) }
+    {
+        match self.slots.get_mut(&number) {
+            Some(slot) => slot.leave(),
+            None => Ok(Ending::GivenUp),
+        }
     }
 }

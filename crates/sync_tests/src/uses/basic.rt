@@ -9,13 +9,13 @@ use std::time::Clock;
 use std::{io, thread};
 
 // example: basic
-/// Prices by the number of their article.
+/// Prices by article number.
 type Prices<E> = PlainCache<u64, u64, E>;
 
 /// The machine's clock, and a generator of random words.
 type Machine<C> = MachineEnv<C, Xoshiro256PlusPlus>;
 
-/// What gives a cache its moments and random words.
+/// The environment of a cache.
 fn make_env<C: Clock + Drop>(clock: C, seed: u64) -> io::Result<Machine<C>> {
     MachineEnv::new(clock, Xoshiro256PlusPlus::seed_from_u64(seed))
 }
@@ -25,7 +25,7 @@ fn make_prices<E: Env + Drop>(alloc: Global, env: E) -> Result<Prices<E>, BuildE
     Cache::new(alloc, 5_000, env)
 }
 
-/// Writes the prices of some articles.
+/// Inserts the prices of some articles.
 fn fill<H: Wait, E: Env + Drop>(
     rt: &H,
     prices: &Prices<E>,
@@ -37,7 +37,7 @@ fn fill<H: Wait, E: Env + Drop>(
     Ok(())
 }
 
-/// Two threads write at the same time. Then a price is taken back.
+/// Two threads insert at the same time. Then one price is invalidated.
 fn fill_twice<R: Threads + Wait + Sync, E: Env + Drop + Send>(
     rt: &R,
     prices: &Prices<E>,

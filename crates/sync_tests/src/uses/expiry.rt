@@ -9,7 +9,7 @@ use std::sync::{Arc, Wait};
 use std::time::Duration;
 
 // example: expiry
-/// A ticket: whose it is, and how long it is valid.
+/// A ticket: its holder, and how long it is valid.
 #[derive(Clone, Copy, Debug, PartialEq, Eq, Drop)]
 struct Ticket {
     user: u64,

@@ -8,11 +8,11 @@ use std::alloc::Global;
 use std::sync::{Arc, Wait};
 
 // example: try_get_with
-/// A row that there is not.
+/// There is no such row.
 #[derive(Clone, Copy, Debug, PartialEq, Eq, Drop)]
 struct NoRow;
 
-/// The rules of a cache of rows: the making of one may fail with `NoRow`.
+/// The rules of a cache of rows: making one may fail with `NoRow`.
 type RowRules = Bundle<NoExpiry, WeighOne, NoPredicate, NoRow>;
 
 /// Rows by their number.
@@ -23,7 +23,7 @@ fn make_rows<E: Env + Drop>(alloc: Global, env: E) -> Result<Rows<E>, BuildError
     CacheBuilder::new(5_000).faults::<NoRow>().build(alloc, env)
 }
 
-/// The row of a number: the one that is kept, or the one that is read of a table. That there is none is answered to all that wait for it, and not kept.
+/// The row with a number, from the cache or else from a table. If there is none, all waiting callers get `NoRow`, and nothing is stored.
 fn find<H: Wait, E: Env + Drop>(
     rt: &H,
     rows: &Rows<E>,

@@ -7,10 +7,10 @@ use std::random::RandomSource;
 use std::sync::Wait;
 
 // example: hasher
-/// Users by their tokens, which strangers send.
+/// Users by their tokens, which come from untrusted clients.
 type Users<E> = Cache<u64, u64, RandomState, PlainRules, E>;
 
-/// An empty cache of users, with a hasher that strangers cannot foresee: `RandomState::new(&rt)`.
+/// An empty cache of users, with a hasher that clients cannot predict: `RandomState::new(&rt)`.
 fn make_users<E: Env + Drop>(
     alloc: Global,
     hasher: RandomState,

@@ -8,7 +8,7 @@ use std::sync::Wait;
 /// Amounts by account.
 type Amounts<E> = PlainCache<u64, u64, E>;
 
-/// The sum of all amounts of accounts from a number on.
+/// The sum of the amounts of all accounts from a number on.
 fn sum_from<H: Wait + Copy, E: Env + Drop>(
     rt: &H,
     amounts: &Amounts<E>,

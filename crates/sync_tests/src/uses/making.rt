@@ -5,7 +5,7 @@ use std::alloc::Global;
 use std::sync::Wait;
 
 // example: get_with
-/// Numbers that were computed of numbers.
+/// Numbers that were computed from numbers.
 type Numbers<E> = PlainCache<u64, u64, E>;
 
 /// The square of a number, computed once for all threads that ask for it at the same time.
@@ -19,7 +19,7 @@ fn square<H: Wait, E: Env + Drop>(
 // end
 
 // example: optionally_get_with
-/// Half of a number, where it is even. That it is odd is not kept.
+/// Half of a number, if it is even. That it is odd is not stored.
 fn half<H: Wait, E: Env + Drop>(
     rt: &H,
     halves: &Numbers<E>,

@@ -8,12 +8,12 @@ use std::sync::Wait;
 /// Open files by their number.
 type Files<E> = PlainCache<u64, u64, E>;
 
-/// An empty cache of two files, which tells what leaves it.
+/// An empty cache of two files, which reports removals.
 fn make_files<E: Env + Drop>(alloc: Global, env: E) -> Result<Files<E>, BuildError> {
     CacheBuilder::new(2).eviction_listener().build(alloc, env)
 }
 
-/// Takes all notices, and counts the files that the cache let go by itself.
+/// Takes all notices, and counts the files that were evicted.
 fn count_evicted<H: Wait, E: Env + Drop>(rt: &H, files: &Files<E>) -> u64 {
     let mut count: u64 = 0;
     for _ in rt.forever() {

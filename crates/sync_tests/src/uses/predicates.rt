@@ -8,7 +8,7 @@ use std::alloc::Global;
 use std::sync::Wait;
 
 // example: predicates
-/// The rules of a cache whose values are invalidated by the beginning of their keys.
+/// The rules of a cache whose values are invalidated by a prefix of their keys.
 type PathRules = Bundle<NoExpiry, WeighOne, KeyPrefix, ()>;
 
 /// The sizes of files, by their paths.
@@ -21,7 +21,7 @@ fn make_sizes<E: Env + Drop>(alloc: Global, env: E) -> Result<Sizes<E>, BuildErr
         .build(alloc, env)
 }
 
-/// Forgets the sizes of all files below a folder that were written until now.
+/// Invalidates the sizes of all files below a folder that were inserted until now.
 fn forget<H: Wait, E: Env + Drop>(
     rt: &H,
     alloc: Global,

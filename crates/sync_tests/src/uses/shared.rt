@@ -8,7 +8,7 @@ use std::sync::{Arc, Wait};
 /// Pictures by their number. A look-up shares a picture, and copies none of its bytes.
 type Pictures<E> = PlainCache<u64, Shared<Vec<u8>>, E>;
 
-/// Keeps a picture that others have, too.
+/// Inserts a picture that others share.
 fn keep<H: Wait, E: Env + Drop>(
     rt: &H,
     pictures: &Pictures<E>,
@@ -18,7 +18,7 @@ fn keep<H: Wait, E: Env + Drop>(
     pictures.insert(rt, number, Shared::from(picture))
 }
 
-/// A picture, behind an `Arc` as it was kept.
+/// A picture, behind the same `Arc` as it was inserted.
 fn show<H: Wait, E: Env + Drop>(
     rt: &H,
     pictures: &Pictures<E>,

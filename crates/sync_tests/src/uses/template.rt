@@ -11,7 +11,7 @@ use std::sync::{Arc, Wait};
 use std::time::Duration;
 
 // example: template
-/// A document: who wrote it, how many bytes it has, and how long it is fresh.
+/// A document: its author, its size in bytes, and how long it is fresh.
 #[derive(Clone, Copy, Debug, PartialEq, Eq, Drop)]
 struct Document {
     author: u64,
@@ -19,13 +19,13 @@ struct Document {
     fresh: Duration,
 }
 
-/// A document weighs its bytes.
+/// The weight of a document is its size.
 #[derive(Drop)]
 struct BySize;
 
 impl Weigher<u64, Document> for BySize {
-    // A ghost member is for contracts alone, and does not run: it says what the function below it answers.
-    // Its arguments are the weigher, the key and the value.
+    // A ghost member is for contracts alone, and does not run: it says what the function below it returns.
+    // Its arguments: weigher, key, value.
     ghost weight_of = { λ _ _ document. document.bytes };
 
     fn weigh(&self, _number: &u64, document: &Document) -> u32 {
@@ -33,22 +33,22 @@ impl Weigher<u64, Document> for BySize {
     }
 }
 
-/// A document lives as long as it is fresh, from when it was written or written anew. A read changes nothing.
+/// A document lives as long as it is fresh, counted from its creation or last update. A read changes nothing.
 #[derive(Drop)]
 struct Freshness;
 
 impl Expiry<u64, Document> for Freshness {
-    // What an `impl` of a trait of another crate says in its ghost members it imports for itself.
+    // An `impl` of a trait of another crate imports the names that its ghost members use.
     ghost use Rattle.std.specs.Prelude.{Some};
     ghost use Rattle.std.specs.Duration.{as_nanos};
 
     // Times are in nanoseconds. The arguments: expiry, key, value, moment.
     ghost created = { λ _ _ document _. Some (as_nanos document.fresh) };
 
-    // Expiry, key, value, moment, what is left, the moment of the write.
+    // Expiry, key, value, moment, remaining time, moment of the write.
     ghost read = { λ _ _ _ _ left _. left };
 
-    // Expiry, key, value, moment, what is left.
+    // Expiry, key, value, moment, remaining time.
     ghost updated = { λ _ _ document _ _. Some (as_nanos document.fresh) };
 
     fn expire_after_create(
@@ -95,7 +95,7 @@ impl Predicate<u64, Document> for WrittenBy {
     }
 }
 
-/// The rules of a cache of documents: when they expire, what they weigh, what covers them, what their making may fail with.
+/// The rules of a cache of documents: expiry, weigher, predicates, and faults.
 type DocumentRules = Bundle<Freshness, BySize, WrittenBy, ()>;
 
 /// Documents by their number.

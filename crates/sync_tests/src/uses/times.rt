@@ -9,7 +9,7 @@ use std::time::Duration;
 /// The users of log-ins, by token.
 type Logins<E> = PlainCache<u64, u64, E>;
 
-/// An empty cache of log-ins, which end twenty minutes after they were written, and four minutes after they were last used.
+/// An empty cache of log-ins, which expire twenty minutes after they were inserted, or four minutes after their last use.
 fn make_logins<E: Env + Drop>(alloc: Global, env: E) -> Result<Logins<E>, BuildError> {
     CacheBuilder::new(5_000)
         .time_to_live(Duration::from_secs(20 * 60))

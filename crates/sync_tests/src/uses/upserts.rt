@@ -5,10 +5,10 @@ use std::alloc::Global;
 use std::sync::Wait;
 
 // example: upsert
-/// Counts by the number of what is counted.
+/// Counts by number.
 type Counts<E> = PlainCache<u64, u64, E>;
 
-/// Counts one more, and answers how many there are. No count is lost, whatever other threads count.
+/// Adds one to a count, and returns it. No increment is lost, whatever other threads do.
 fn count<H: Wait + Copy, E: Env + Drop>(
     rt: &H,
     counts: &Counts<E>,
@@ -24,7 +24,7 @@ fn count<H: Wait + Copy, E: Env + Drop>(
 // end
 
 // example: compute
-/// Counts one less, where there is one, and removes the count with the last. Answers whether there was one.
+/// Subtracts one from a count, and removes it when it reaches zero. Returns whether there was one.
 fn take<H: Wait + Copy, E: Env + Drop>(
     rt: &H,
     counts: &Counts<E>,

@@ -8,13 +8,13 @@ use std::alloc::Global;
 use std::sync::Wait;
 
 // example: weigher
-/// The rules of a cache in which a text weighs its bytes.
+/// The rules of a cache in which a text weighs as many units as it has bytes.
 type PageRules = Bundle<NoExpiry, WeighBytes, NoPredicate, ()>;
 
 /// Pages by their number.
 type Pages<E> = Cache<u64, Shared<String>, StdHasher, PageRules, E>;
 
-/// An empty cache of pages of a mebibyte together.
+/// An empty cache of pages, at most a mebibyte in total.
 fn make_pages<E: Env + Drop>(alloc: Global, env: E) -> Result<Pages<E>, BuildError> {
     CacheBuilder::new(1 << 20)
         .weigher(WeighBytes)

@@ -1,8 +1,12 @@
-use Rattle.cache_commands.proofs.Answered.{answered-found, answered-none}
+use Rattle.std.proofs.Common.{rules, ◌≡◌, ◌++◌, List, ℕ, Bor}
+use Rattle.std.specs.Prelude.{OnOk, option_map}
+use Rattle.cache_commands.specs.Found.{found_text}
+use Rattle.cache_commands.proofs.Adding.{on-both}
+use Rattle.cache_commands.proofs.Answered.{answered-get}
 use Rattle.cache_commands.proofs.commands.get.Goals as goal
 
-pub returns-in_ok-write_value-in-Some-clause-ok : goal.returns-in_ok-write_value-in-Some-clause-ok
-returns-in_ok-write_value-in-Some-clause-ok g c = answered-found _ _ c.in-Some.bytes.now _ _ _ _ c.sound.ensures c.in-Some.ensures c.in_ok-write_value-in-Some.ensures.written c.touch.ensures
-
-pub returns-in_ok-try_reserve-in-None-clause-ok : goal.returns-in_ok-try_reserve-in-None-clause-ok
-returns-in_ok-try_reserve-in-None-clause-ok g c = answered-none _ _ _ _ _ _ c.sound.ensures c.in-None.ensures (cc) c.touch-in-None.ensures
+pub returns-clause-ok : goal.returns-clause-ok
+returns-clause-ok g c =
+    let r = c.look_up.ensures.reads in
+    let w : OnOk c.look_up.result (c.look_up.new.output.items ≡ c.args.output.now.items ++ found_text (option_map (λ (b : Bor (List ℕ)). b.now) r.found)) = search rules in
+    on-both c.look_up.result _ _ _ w c.look_up.ensures.does (λ a d. answered-get _ _ _ _ _ _ _ c.sound.ensures r.live a d)

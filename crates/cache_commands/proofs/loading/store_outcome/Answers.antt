@@ -1,4 +1,4 @@
-use Rattle.std.proofs.Common.{None, Some, sym, ap, ◌∙◌, subst}
+use Rattle.std.proofs.Common.{None, sym, ap, ◌∙◌, subst}
 use Rattle.audit_model.specs.History.{accepts_values}
 use Rattle.audit_model.specs.declared.config.Config.{Config}
 use Rattle.cache_commands.proofs.Answered.{stored-fault, stored-none, stored-off, stored-value}

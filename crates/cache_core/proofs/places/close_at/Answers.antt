@@ -13,10 +13,10 @@ pub returns : goal.returns
 returns c = (
   record {
     was = c.take-connection.result;
-    is = c.close_connection.new.connection;
+    is = c.drop_closed.new.self;
     at = c.take-connection.ensures.taken;
-    set = put-back c.args.connections.now c.take-connection.new.self c.put.new.self c.args.index c.close_connection.new.connection c.take-connection.ensures.rest c.put.ensures;
+    set = put-back c.args.connections.now c.take-connection.new.self c.put.new.self c.args.index c.drop_closed.new.self c.take-connection.ensures.rest c.put.ensures;
   },
-  c.close_connection.ensures.closing,
-  c.close_connection.ensures.text,
+  c.drop_closed.ensures.closing,
+  c.drop_closed.ensures.text,
 )

@@ -2,7 +2,7 @@ use Rattle.std.proofs.Common.{◌≡◌, ◌==◌, sym, ap, ◌∙◌, subst, ma
 use Rattle.std.specs.List.{find}
 use Rattle.std.specs.Option.{option_map_or}
 use Rattle.audit_model.specs.Situation.{Connection, is_overlong}
-use Rattle.audit_situation.specs.Listings.{changed_at}
+use Rattle.audit_loads.specs.Numbered.{changed_at}
 use Rattle.audit_situation.specs.Standings.{fed_with}
 use Rattle.audit_situation.proofs.Listing.{found, follows, changed_is, unchanged_is, changed-listing}
 use Rattle.audit_situation.proofs.links.Links.feed.Goals as goal

@@ -2,9 +2,9 @@ use Rattle.std.proofs.Common.{◌≡◌, ◌∷◌, [], ℕ, List, refl, sym, ap
 use Rattle.std.specs.Prelude.{is_some}
 use Rattle.std.proofs.lemmas.Bool.{eq-eqb}
 use Rattle.audit_model.specs.Bytewise.{same}
-use Rattle.audit_situation.specs.Underway.{KeepsNumbers, load_of, number_at}
+use Rattle.audit_loads.specs.Underway.{KeepsNumbers, load_of, number_at}
 use Rattle.audit_situation.proofs.Listing.{follows}
-use Rattle.audit_situation.proofs.Waiting.{known, sent, more-joined, joins, either-way}
+use Rattle.audit_loads.proofs.Waiting.{known, sent, more-joined, joins, either-way}
 use Rattle.audit_situation.proofs.loads.LoadTable.send.Goals as goal
 
 pub invariant_of-self-inside-2 : goal.invariant_of-self-inside-2

@@ -1,7 +1,7 @@
 use Rattle.std.proofs.Common.{◌++◌, ◌∷◌, [], sym, ap, ◌∙◌, map}
 use Rattle.std.specs.Map.{values_of}
 use Rattle.audit_model.specs.Situation.{PendingLoad}
-use Rattle.audit_situation.specs.Listings.{changed_at}
+use Rattle.audit_loads.specs.Numbered.{changed_at}
 use Rattle.audit_situation.proofs.Listing.{follows, fails, changed_is, unchanged_is, put-back, changed-listing}
 use Rattle.audit_situation.proofs.numbered.Numbered.join.Goals as goal
 use Rattle.audit_situation.proofs.numbered.Numbered.join.Goals.{in-Some, in-None}

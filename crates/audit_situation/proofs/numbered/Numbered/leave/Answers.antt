@@ -1,6 +1,6 @@
 use Rattle.std.proofs.Common.{sym, ap, ◌∙◌, map}
 use Rattle.audit_model.specs.Situation.{PendingLoad, without_waiting}
-use Rattle.audit_situation.specs.Listings.{changed_at}
+use Rattle.audit_loads.specs.Numbered.{changed_at}
 use Rattle.audit_situation.proofs.Listing.{changed_is, unchanged_is, changed-listing}
 use Rattle.audit_situation.proofs.numbered.Numbered.leave.Goals as goal
 use Rattle.audit_situation.proofs.numbered.Numbered.leave.Goals.{in-Some, in_default}

@@ -4,4 +4,4 @@ use Rattle.cache_core.proofs.connection.telling.reply_with.Goals as goal
 pub invariant_of-connection-clause-fits : goal.invariant_of-connection-clause-fits
 invariant_of-connection-clause-fits g c =
     let old = c.args.connection.now in
-    fits-behind old.closing old.standing old.waited old.unread.bytes c.pass_line.new.unread.bytes c.requires.open c.requires.waits old.fits c.pass_line.ensures
+    fits-behind old.closing old.standing old.waited old.unread.bytes c.pass_line.new.unread.bytes c.requires.open c.requires.waits old.fits c.pass_line.ensures.bytes

@@ -1,15 +1,18 @@
-use Rattle.std.proofs.Common.{map, refl, ap, ◌∙◌}
+use Rattle.std.proofs.Common.{◌≡◌, ◌-◌, refl, length, ap, ◌∙◌, arith}
 use Rattle.audit_model.specs.Situation.{without_waiting}
-use Rattle.cache_commands.specs.Loads.Keys.{have_their_keys, pending_load, were_sent}
+use Rattle.cache_commands.specs.Loads.Keys.{are_in_turn, have_their_keys, were_sent}
+use Rattle.cache_commands.specs.Loads.Numbers.{SentLoads}
 use Rattle.cache_commands.proofs.loads.Keys.{keys-mapped, sent-mapped}
 use Rattle.cache_commands.proofs.loads.loads.Loads.leave.Goals as goal
 
-pub invariant_of-self-clause-sent_before : goal.invariant_of-self-clause-sent_before
-invariant_of-self-clause-sent_before c =
+pub invariant_of-self : goal.invariant_of-self
+invariant_of-self c =
     let old = c.args.self.now in
-    ap (were_sent old.sent) c.leave_all.ensures.left ∙ sent-mapped (without_waiting c.args.conn) (λ l. refl) old.sent (map pending_load old.under_way.items) old.sent_before
-
-pub invariant_of-self-clause-keyed : goal.invariant_of-self-clause-keyed
-invariant_of-self-clause-keyed c =
-    let old = c.args.self.now in
-    ap (λ ls. have_their_keys ls old.outgoing.items) c.leave_all.ensures.left ∙ keys-mapped (without_waiting c.args.conn) (λ l. refl) (λ l. refl) (map pending_load old.under_way.items) old.outgoing.items old.keyed
+    let is = c.leave.ensures in
+    let sent : c.leave.new.self.sent ≡ old.under_way.sent = ap (λ (t : SentLoads). t.sent) is in
+    record {
+      fewer = omega (arith, sent, old.fewer);
+      in_turn = ap (λ n. are_in_turn old.namespace (n - length old.outgoing.items) old.outgoing.items) sent ∙ old.in_turn;
+      sent_before = ap (λ (t : SentLoads). were_sent t.sent t.pending) is ∙ sent-mapped (without_waiting c.args.conn) (λ l. refl) old.under_way.sent old.under_way.pending old.sent_before;
+      keyed = ap (λ (t : SentLoads). have_their_keys t.pending old.outgoing.items) is ∙ keys-mapped (without_waiting c.args.conn) (λ l. refl) (λ l. refl) old.under_way.pending old.outgoing.items old.keyed;
+    }

@@ -1,15 +1,18 @@
-use Rattle.std.proofs.Common.{map, not, ◌==◌, ap, ◌∙◌}
+use Rattle.std.proofs.Common.{◌≡◌, ◌-◌, ◌==◌, not, length, ap, ◌∙◌, arith}
 use Rattle.audit_model.specs.Situation.{PendingLoad}
-use Rattle.cache_commands.specs.Loads.Keys.{have_their_keys, pending_load, were_sent}
+use Rattle.cache_commands.specs.Loads.Keys.{are_in_turn, have_their_keys, were_sent}
+use Rattle.cache_commands.specs.Loads.Numbers.{SentLoads}
 use Rattle.cache_commands.proofs.loads.Keys.{keys-filtered, sent-filtered}
 use Rattle.cache_commands.proofs.loads.loads.Loads.settle.Goals as goal
 
-pub invariant_of-self-clause-sent_before : goal.invariant_of-self-clause-sent_before
-invariant_of-self-clause-sent_before c =
+pub invariant_of-self : goal.invariant_of-self
+invariant_of-self c =
     let old = c.args.self.now in
-    ap (were_sent old.sent) c.take_out.ensures.left ∙ sent-filtered (λ (l : PendingLoad). not (l.number == c.args.number)) old.sent (map pending_load old.under_way.items) old.sent_before
-
-pub invariant_of-self-clause-keyed : goal.invariant_of-self-clause-keyed
-invariant_of-self-clause-keyed c =
-    let old = c.args.self.now in
-    ap (λ ls. have_their_keys ls old.outgoing.items) c.take_out.ensures.left ∙ keys-filtered (λ (l : PendingLoad). not (l.number == c.args.number)) (map pending_load old.under_way.items) old.outgoing.items old.keyed
+    let is = c.settle.ensures.left in
+    let sent : c.settle.new.self.sent ≡ old.under_way.sent = ap (λ (t : SentLoads). t.sent) is in
+    record {
+      fewer = omega (arith, sent, old.fewer);
+      in_turn = ap (λ n. are_in_turn old.namespace (n - length old.outgoing.items) old.outgoing.items) sent ∙ old.in_turn;
+      sent_before = ap (λ (t : SentLoads). were_sent t.sent t.pending) is ∙ sent-filtered (λ (l : PendingLoad). not (l.number == c.args.number)) old.under_way.sent old.under_way.pending old.sent_before;
+      keyed = ap (λ (t : SentLoads). have_their_keys t.pending old.outgoing.items) is ∙ keys-filtered (λ (l : PendingLoad). not (l.number == c.args.number)) old.under_way.pending old.outgoing.items old.keyed;
+    }

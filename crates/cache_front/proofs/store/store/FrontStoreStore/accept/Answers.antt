@@ -14,7 +14,7 @@ drain-told-requires g c =
     let store = c.self.inside in
     let word = word_of g.S.BuildHasher g.S.Hasher.Hasher in
     let d : FrontData (WordBuilder g.row.S.Denot) = record { config = store.config; made = store.made; dropped = store.dropped; queue = store.notices.items; stream = g.R.Rng.stream store.generator; front = store.front } in
-    let comes = accept word d c.insert.new.front store.count (deque_capacity store.notices) c.args.now c.args.key.now c.args.bytes.now c.args.milliseconds c.args.looked_up c.self.invariant (rw (← c.self.view_is) at c.requires.in_time) (rw (← c.self.view_is) at c.requires.fits) c.in_ok-value.ensures.few (rw c.in_ok-value.ensures.value at c.in_ok-insert.ensures.inserts) in
+    let comes = accept word d c.insert.new.front store.count (deque_capacity store.notices) c.args.now c.args.key.now c.args.bytes.now c.args.milliseconds c.args.looked_up c.self.invariant (rw (← c.self.view_is) at c.requires.in_time) (rw (← c.self.view_is) at c.requires.fits) c.in_ok-value.ensures.few (rw c.in_ok-value.ensures.value at c.in_ok-part.ensures.inserts) in
     let few = few_told word d c.insert.new.front (suc store.count) _ comes in
     let room = room_after word d c.prepare.new.notices.items store.count (deque_capacity c.prepare.new.notices) c.prepare.ensures.same c.in_ok-value.ensures.room in
     let same = ap length c.prepare.ensures.same in
@@ -25,7 +25,7 @@ overflow_sub-self g c =
     let store = c.self.inside in
     let word = word_of g.S.BuildHasher g.S.Hasher.Hasher in
     let d : FrontData (WordBuilder g.row.S.Denot) = record { config = store.config; made = store.made; dropped = store.dropped; queue = store.notices.items; stream = g.R.Rng.stream store.generator; front = store.front } in
-    let comes = accept word d c.insert.new.front store.count (deque_capacity store.notices) c.args.now c.args.key.now c.args.bytes.now c.args.milliseconds c.args.looked_up c.self.invariant (rw (← c.self.view_is) at c.requires.in_time) (rw (← c.self.view_is) at c.requires.fits) c.in_ok-value.ensures.few (rw c.in_ok-value.ensures.value at c.in_ok-insert.ensures.inserts) in
+    let comes = accept word d c.insert.new.front store.count (deque_capacity store.notices) c.args.now c.args.key.now c.args.bytes.now c.args.milliseconds c.args.looked_up c.self.invariant (rw (← c.self.view_is) at c.requires.in_time) (rw (← c.self.view_is) at c.requires.fits) c.in_ok-value.ensures.few (rw c.in_ok-value.ensures.value at c.in_ok-part.ensures.inserts) in
     let few = few_told word d c.insert.new.front (suc store.count) _ comes in
     let number = c.drain-told.ensures.number in
     omega (arith, few, number)
@@ -35,7 +35,7 @@ invariant_of-self-2 g c =
     let store = c.self.inside in
     let word = word_of g.S.BuildHasher g.S.Hasher.Hasher in
     let d : FrontData (WordBuilder g.row.S.Denot) = record { config = store.config; made = store.made; dropped = store.dropped; queue = store.notices.items; stream = g.R.Rng.stream store.generator; front = store.front } in
-    let comes = accept word d c.insert.new.front store.count (deque_capacity store.notices) c.args.now c.args.key.now c.args.bytes.now c.args.milliseconds c.args.looked_up c.self.invariant (rw (← c.self.view_is) at c.requires.in_time) (rw (← c.self.view_is) at c.requires.fits) c.in_ok-value.ensures.few (rw c.in_ok-value.ensures.value at c.in_ok-insert.ensures.inserts) in
+    let comes = accept word d c.insert.new.front store.count (deque_capacity store.notices) c.args.now c.args.key.now c.args.bytes.now c.args.milliseconds c.args.looked_up c.self.invariant (rw (← c.self.view_is) at c.requires.in_time) (rw (← c.self.view_is) at c.requires.fits) c.in_ok-value.ensures.few (rw c.in_ok-value.ensures.value at c.in_ok-part.ensures.inserts) in
     let few = few_told word d c.insert.new.front (suc store.count) _ comes in
     let number = c.drain-told.ensures.number in
     let room = room_after word d c.prepare.new.notices.items store.count (deque_capacity c.prepare.new.notices) c.prepare.ensures.same c.in_ok-value.ensures.room in
@@ -47,13 +47,13 @@ returns-clause-does g c =
     let store = c.self.inside in
     let word = word_of g.S.BuildHasher g.S.Hasher.Hasher in
     let d : FrontData (WordBuilder g.row.S.Denot) = record { config = store.config; made = store.made; dropped = store.dropped; queue = store.notices.items; stream = g.R.Rng.stream store.generator; front = store.front } in
-    let comes = accept word d c.insert.new.front store.count (deque_capacity store.notices) c.args.now c.args.key.now c.args.bytes.now c.args.milliseconds c.args.looked_up c.self.invariant (rw (← c.self.view_is) at c.requires.in_time) (rw (← c.self.view_is) at c.requires.fits) c.in_ok-value.ensures.few (rw c.in_ok-value.ensures.value at c.in_ok-insert.ensures.inserts) in
-    rw (← c.self.view_is, c.part-part.ensures.part) (shown word d c.insert.new.front c.drain-told.new.front c.drain-told.new.notices.items (suc store.count) _ comes (record { drained = c.drain-told.ensures.drained; queued = (c.drain-told.ensures.queued ∙ ap (λ ns. map note_from ns ++ waiting c.insert.new.front.parts) c.prepare.ensures.same) }))
+    let comes = accept word d c.insert.new.front store.count (deque_capacity store.notices) c.args.now c.args.key.now c.args.bytes.now c.args.milliseconds c.args.looked_up c.self.invariant (rw (← c.self.view_is) at c.requires.in_time) (rw (← c.self.view_is) at c.requires.fits) c.in_ok-value.ensures.few (rw c.in_ok-value.ensures.value at c.in_ok-part.ensures.inserts) in
+    rw (← c.self.view_is, c.in_ok-part.ensures.part) (shown word d c.insert.new.front c.drain-told.new.front c.drain-told.new.notices.items (suc store.count) _ comes (record { drained = c.drain-told.ensures.drained; queued = (c.drain-told.ensures.queued ∙ ap (λ ns. map note_from ns ++ waiting c.insert.new.front.parts) c.prepare.ensures.same) }))
 
-pub returns-in_err-insert-clause-used_up : goal.returns-in_err-insert-clause-used_up
-returns-in_err-insert-clause-used_up g c =
+pub returns-in_err-part-clause-used_up : goal.returns-in_err-part-clause-used_up
+returns-in_err-part-clause-used_up g c =
     let store = c.self.inside in
     let word = word_of g.S.BuildHasher g.S.Hasher.Hasher in
     let d : FrontData (WordBuilder g.row.S.Denot) = record { config = store.config; made = store.made; dropped = store.dropped; queue = store.notices.items; stream = g.R.Rng.stream store.generator; front = store.front } in
-    let p = err_from_is_err_and c.from_residual-in_err-insert.result c.from_residual-in_err-insert.ensures.1 in
-    rw (p.1, p.2, ← c.self.view_is) (λ used. lacks_tickets word d c.self.invariant.whole (c.in_err-insert.ensures.used_up cc))
+    let p = err_from_is_err_and c.from_residual-in_err-part.result c.from_residual-in_err-part.ensures.1 in
+    rw (p.1, p.2, ← c.self.view_is) (λ used. lacks_tickets word d c.self.invariant.whole (c.in_err-part.ensures.used_up cc))

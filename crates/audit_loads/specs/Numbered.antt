@@ -1,0 +1,6 @@
+-- What is kept by number.
+use Rattle.std.specs.Prelude.{ℕ, ◌==◌, if◌then◌else◌}
+
+-- changes what is of that number
+abbrev pub changed_at : {X : Type 0} → (X → ℕ) → ℕ → (X → X) → X → X
+changed_at number n f x = if number x == n then f x else x

@@ -1,0 +1,34 @@
+//! Numbers of loads by key.
+ghost use Rattle.std.specs.Prelude.{◌≡◌, ℕ, List, OnOk, OnErr, Some, None, cond};
+ghost use Rattle.audit_model.specs.Bytewise.{same};
+ghost use Rattle.audit_loads.specs.Underway.{number_at};
+
+use std::alloc::AllocError;
+use std::collections::BTreeMap;
+
+/// The number at a key.
+pub fn number_at(keys: &BTreeMap<Vec<u8>, u64>, key: &[u8]) -> Option<u64>
+    ensures { result ≡ number_at key.now keys.now }
+{
+    keys.get(key).copied()
+}
+
+/// Puts a number at a key.
+pub fn put_key(
+    keys: &mut BTreeMap<Vec<u8>, u64>,
+    key: Vec<u8>,
+    number: u64,
+) -> Result<(), AllocError>
+    ensures put { OnOk result ((q : List ℕ) → number_at q keys.new ≡ cond (same key.items q) (Some number) (number_at q keys.old)) }
+    ensures unchanged { OnErr result ((q : List ℕ) → number_at q keys.new ≡ number_at q keys.old) }
+{
+    keys.insert(key, number)?;
+    Ok(())
+}
+
+/// Takes a key out.
+pub fn remove_key(keys: &mut BTreeMap<Vec<u8>, u64>, key: &[u8])
+    ensures { (q : List ℕ) → number_at q keys.new ≡ cond (same key.now q) None (number_at q keys.old) }
+{
+    keys.remove(key);
+}

@@ -1,0 +1,234 @@
+-- Loads by number: what a look-up finds there, and what a change leaves.
+use Rattle.std.proofs.Common.{◌≡◌, ℕ, suc, ◌<◌, Bool, true, false, not, ◌==◌, ◌&&◌, cond, List, [], ◌∷◌, ◌++◌, map, Option, option_map, Some, None, Result, Ok, Err, OnOk, OnErr, Bor, if◌then◌else◌, refl, sym, ap, ◌∙◌, subst, arith}
+use Rattle.std.specs.Prelude.{nat_lt, ⊤}
+use Rattle.std.specs.List.{filter, list_all}
+use Rattle.std.specs.Map.{lookup, remove_entry, set_value}
+use Rattle.std.specs.BTreeMap.{insert_entry}
+use Rattle.std.specs.Option.{option_copied}
+use Rattle.std.specs.Ordering.{nat_cmp, is_eq, match_ordering}
+use Rattle.std.specs.declared.cmp.Ordering.{Ordering}
+use Rattle.std.specs.declared.cmp.Ordering.TheVariants.{Less, Equal, Greater}
+use Rattle.std.specs.declared.cmp.Reverse.{Reverse}
+use Rattle.std.proofs.lemmas.Bool.{and_from, and_parts, eq-eqb, eqb-true, ne_eqb}
+use Rattle.std.proofs.lemmas.Bool.Decides.{nat_tests}
+use Rattle.std.proofs.lemmas.Option.{none-some, same_Some}
+use Rattle.audit_model.specs.Situation.{PendingLoad}
+use Rattle.audit_loads.specs.Numbered.{changed_at}
+use Rattle.audit_loads.proofs.Waiting.{at-number}
+use Rattle.cache_commands.specs.Loads.Keys.{pending_load}
+use Rattle.cache_commands.specs.Loads.Numbers.{Entries, are_below, are_falling, have_own_numbers, load_numbered, loads_of}
+use Rattle.cache_commands.specs.declared.loads.load.Load.{Load}
+use Rattle.cache_commands.proofs.loads.Keys.{all-filter, all-mapped}
+
+-- ---- lists of loads that fall
+
+abbrev number_of : PendingLoad → ℕ
+number_of load = load.number
+
+-- a lower number is another one
+lower-other : (a n : ℕ) → nat_lt a n ≡ true → (a == n) ≡ false
+lower-other a n h = grind (arith, nat_tests)
+
+-- none has a number that they are below
+pub others-kept : (n : ℕ) (ps : List PendingLoad) → are_below n ps ≡ true → filter (λ p. not (p.number == n)) ps ≡ ps
+others-kept n [] below = refl
+others-kept n (p ∷ ps) below =
+    let parts = and_parts (nat_lt p.number n) (are_below n ps) below in
+    ap (λ b. cond (not b) (p ∷ filter (λ q. not (q.number == n)) ps) (filter (λ q. not (q.number == n)) ps)) (lower-other p.number n parts.0)
+    ∙ ap (λ qs. p ∷ qs) (others-kept n ps parts.1)
+
+pub others-same : (n : ℕ) (f : PendingLoad → PendingLoad) (ps : List PendingLoad) → are_below n ps ≡ true → map (changed_at number_of n f) ps ≡ ps
+others-same n f [] below = refl
+others-same n f (p ∷ ps) below =
+    let parts = and_parts (nat_lt p.number n) (are_below n ps) below in
+    ap (λ b. (if b then f p else p) ∷ map (changed_at number_of n f) ps) (lower-other p.number n parts.0)
+    ∙ ap (λ qs. p ∷ qs) (others-same n f ps parts.1)
+
+pub falling-filtered : (p : PendingLoad → Bool) (ps : List PendingLoad) → are_falling ps ≡ true → are_falling (filter p ps) ≡ true
+falling-filtered p [] falls = refl
+falling-filtered p (x ∷ xs) falls =
+    let parts = and_parts (are_below x.number xs) (are_falling xs) falls in
+    go (p x) (all-filter p (λ (l : PendingLoad). nat_lt l.number x.number) xs parts.0) (falling-filtered p xs parts.1)
+  where
+    go : (b : Bool) → are_below x.number (filter p xs) ≡ true → are_falling (filter p xs) ≡ true → are_falling (cond b (x ∷ filter p xs) (filter p xs)) ≡ true
+    go true below rest = and_from (are_below x.number (filter p xs)) (are_falling (filter p xs)) below rest
+    go false below rest = rest
+
+pub falling-mapped : (f : PendingLoad → PendingLoad) → ((p : PendingLoad) → (f p).number ≡ p.number) → (ps : List PendingLoad) → are_falling (map f ps) ≡ are_falling ps
+falling-mapped f numbers [] = refl
+falling-mapped f numbers (p ∷ ps) =
+    ap (λ n. are_below n (map f ps) && are_falling (map f ps)) (numbers p)
+    ∙ ap (λ b. b && are_falling (map f ps)) (all-mapped (λ (l : PendingLoad). nat_lt l.number p.number) f (λ l. ap (λ n. nat_lt n p.number) (numbers l)) ps)
+    ∙ ap (λ b. are_below p.number ps && b) (falling-mapped f numbers ps)
+
+-- ---- loads at their numbers
+
+abbrev at : ℕ → Reverse ℕ → Bool
+at n k = is_eq (nat_cmp k.0 n)
+
+abbrev order : Reverse ℕ → Reverse ℕ → Ordering
+order a b = nat_cmp b.0 a.0
+
+hit : (n : ℕ) (e : Reverse ℕ × Load) → (e.0.0 == e.1.number) ≡ true → at n e.0 ≡ (e.1.number == n)
+hit n e own = at-number e.0.0 n ∙ ap (λ m. m == n) (eqb-true e.0.0 e.1.number own)
+
+-- what a look-up lends
+pub shown : (r : Option (Bor Load)) → option_map (λ load. pending_load load.now) r ≡ option_map pending_load (option_copied r)
+shown None = refl
+shown (Some x) = refl
+
+pub found-at : (n : ℕ) (es : Entries) → have_own_numbers es ≡ true → option_map pending_load (lookup (at n) es) ≡ load_numbered n (loads_of es)
+found-at n [] own = refl
+found-at n (e ∷ es) own =
+    let parts = and_parts (e.0.0 == e.1.number) (have_own_numbers es) own in
+    ap (λ b. option_map pending_load (cond b (Some e.1) (lookup (at n) es))) (hit n e parts.0) ∙ go (e.1.number == n) (found-at n es parts.1)
+  where
+    go : (b : Bool) → option_map pending_load (lookup (at n) es) ≡ load_numbered n (loads_of es)
+        → option_map pending_load (cond b (Some e.1) (lookup (at n) es)) ≡ cond b (Some (pending_load e.1)) (load_numbered n (loads_of es))
+    go true next = refl
+    go false next = next
+
+-- a load taken out
+pub removed-is : (n : ℕ) (es : Entries) → have_own_numbers es ≡ true → are_falling (loads_of es) ≡ true → loads_of (remove_entry (at n) es) ≡ filter (λ p. not (p.number == n)) (loads_of es)
+removed-is n [] own falls = refl
+removed-is n (e ∷ es) own falls =
+    let parts = and_parts (e.0.0 == e.1.number) (have_own_numbers es) own in
+    let falling = and_parts (are_below e.1.number (loads_of es)) (are_falling (loads_of es)) falls in
+    ap (λ b. loads_of (cond b es (e ∷ remove_entry (at n) es))) (hit n e parts.0) ∙ go (e.1.number == n) refl falling.0 (removed-is n es parts.1 falling.1)
+  where
+    go : (b : Bool) → (e.1.number == n) ≡ b → are_below e.1.number (loads_of es) ≡ true → loads_of (remove_entry (at n) es) ≡ filter (λ p. not (p.number == n)) (loads_of es)
+        → loads_of (cond b es (e ∷ remove_entry (at n) es)) ≡ cond (not b) (pending_load e.1 ∷ filter (λ p. not (p.number == n)) (loads_of es)) (filter (λ p. not (p.number == n)) (loads_of es))
+    go true is below next = sym (others-kept n (loads_of es) (ap (λ m. are_below m (loads_of es)) (sym (eqb-true e.1.number n is)) ∙ below))
+    go false is below next = ap (λ ps. pending_load e.1 ∷ ps) next
+
+removed-own : (n : ℕ) (es : Entries) → have_own_numbers es ≡ true → have_own_numbers (remove_entry (at n) es) ≡ true
+removed-own n [] own = refl
+removed-own n (e ∷ es) own =
+    let parts = and_parts (e.0.0 == e.1.number) (have_own_numbers es) own in
+    go (at n e.0) parts.0 parts.1 (removed-own n es parts.1)
+  where
+    go : (b : Bool) → (e.0.0 == e.1.number) ≡ true → have_own_numbers es ≡ true → have_own_numbers (remove_entry (at n) es) ≡ true → have_own_numbers (cond b es (e ∷ remove_entry (at n) es)) ≡ true
+    go true here rest next = rest
+    go false here rest next = and_from (e.0.0 == e.1.number) (have_own_numbers (remove_entry (at n) es)) here next
+
+pub removed-kept : (n : ℕ) (es new : Entries) → new ≡ remove_entry (at n) es → have_own_numbers es ≡ true → are_falling (loads_of es) ≡ true → (have_own_numbers new ≡ true) × ((are_falling (loads_of new) ≡ true) × ⊤)
+removed-kept n es new is own falls =
+    let here : have_own_numbers new ≡ true = ap have_own_numbers is ∙ removed-own n es own in
+    let left : are_falling (loads_of new) ≡ true = ap (λ ds. are_falling (loads_of ds)) is ∙ ap are_falling (removed-is n es own falls) ∙ falling-filtered (λ p. not (p.number == n)) (loads_of es) falls in
+    (here, (left, tt))
+
+-- a load changed
+pub changed-is : (n : ℕ) (f : PendingLoad → PendingLoad) (es : Entries) (was is : Load) → have_own_numbers es ≡ true → are_falling (loads_of es) ≡ true → lookup (at n) es ≡ Some was → pending_load is ≡ f (pending_load was)
+    → loads_of (set_value (at n) es is) ≡ map (changed_at number_of n f) (loads_of es)
+changed-is n f [] was is own falls found does = absurd (none-some was found)
+changed-is n f (e ∷ es) was is own falls found does =
+    let parts = and_parts (e.0.0 == e.1.number) (have_own_numbers es) own in
+    let falling = and_parts (are_below e.1.number (loads_of es)) (are_falling (loads_of es)) falls in
+    let here = hit n e parts.0 in
+    ap (λ b. loads_of (cond b ((e.0, is) ∷ es) (e ∷ set_value (at n) es is))) here
+    ∙ go (e.1.number == n) refl falling.0 (ap (λ b. cond b (Some e.1) (lookup (at n) es)) (sym here) ∙ found) (λ h. changed-is n f es was is parts.1 falling.1 h does)
+  where
+    go : (b : Bool) → (e.1.number == n) ≡ b → are_below e.1.number (loads_of es) ≡ true → cond b (Some e.1) (lookup (at n) es) ≡ Some was
+        → (lookup (at n) es ≡ Some was → loads_of (set_value (at n) es is) ≡ map (changed_at number_of n f) (loads_of es))
+        → loads_of (cond b ((e.0, is) ∷ es) (e ∷ set_value (at n) es is)) ≡ (if b then f (pending_load e.1) else pending_load e.1) ∷ map (changed_at number_of n f) (loads_of es)
+    go true number below h next =
+        ap (λ p. p ∷ loads_of es) (does ∙ ap (λ (l : Load). f (pending_load l)) (sym (same_Some e.1 was h)))
+        ∙ ap (λ ps. f (pending_load e.1) ∷ ps) (sym (others-same n f (loads_of es) (ap (λ m. are_below m (loads_of es)) (sym (eqb-true e.1.number n number)) ∙ below)))
+    go false number below h next = ap (λ ps. pending_load e.1 ∷ ps) (next h)
+
+-- there is none to change
+pub unchanged-is : (n : ℕ) (f : PendingLoad → PendingLoad) (es : Entries) → have_own_numbers es ≡ true → lookup (at n) es ≡ None → map (changed_at number_of n f) (loads_of es) ≡ loads_of es
+unchanged-is n f [] own none = refl
+unchanged-is n f (e ∷ es) own none =
+    let parts = and_parts (e.0.0 == e.1.number) (have_own_numbers es) own in
+    let here = hit n e parts.0 in
+    go (e.1.number == n) (ap (λ b. cond b (Some e.1) (lookup (at n) es)) (sym here) ∙ none) (λ h. unchanged-is n f es parts.1 h)
+  where
+    go : (b : Bool) → cond b (Some e.1) (lookup (at n) es) ≡ None → (lookup (at n) es ≡ None → map (changed_at number_of n f) (loads_of es) ≡ loads_of es)
+        → (if b then f (pending_load e.1) else pending_load e.1) ∷ map (changed_at number_of n f) (loads_of es) ≡ pending_load e.1 ∷ loads_of es
+    go true h next = absurd (none-some e.1 (sym h))
+    go false h next = ap (λ ps. pending_load e.1 ∷ ps) (next h)
+
+changed-own : (n : ℕ) (es : Entries) (was is : Load) → have_own_numbers es ≡ true → lookup (at n) es ≡ Some was → is.number ≡ was.number → have_own_numbers (set_value (at n) es is) ≡ true
+changed-own n [] was is own found same = refl
+changed-own n (e ∷ es) was is own found same =
+    let parts = and_parts (e.0.0 == e.1.number) (have_own_numbers es) own in
+    go (at n e.0) parts.0 parts.1 found (λ h. changed-own n es was is parts.1 h same)
+  where
+    go : (b : Bool) → (e.0.0 == e.1.number) ≡ true → have_own_numbers es ≡ true → cond b (Some e.1) (lookup (at n) es) ≡ Some was
+        → (lookup (at n) es ≡ Some was → have_own_numbers (set_value (at n) es is) ≡ true) → have_own_numbers (cond b ((e.0, is) ∷ es) (e ∷ set_value (at n) es is)) ≡ true
+    go true here rest h next =
+        and_from (e.0.0 == is.number) (have_own_numbers es) (ap (λ m. e.0.0 == m) (same ∙ ap (λ (l : Load). l.number) (sym (same_Some e.1 was h))) ∙ here) rest
+    go false here rest h next = and_from (e.0.0 == e.1.number) (have_own_numbers (set_value (at n) es is)) here (next h)
+
+pub changed-number : (n : ℕ) (f : PendingLoad → PendingLoad) → ((p : PendingLoad) → (f p).number ≡ p.number) → (p : PendingLoad) → (changed_at number_of n f p).number ≡ p.number
+changed-number n f keeps p = go (p.number == n)
+  where
+    go : (b : Bool) → (if b then f p else p).number ≡ p.number
+    go true = keeps p
+    go false = refl
+
+pub changed-kept : (n : ℕ) (f : PendingLoad → PendingLoad) → ((p : PendingLoad) → (f p).number ≡ p.number) → (es new : Entries) (was is : Load) → have_own_numbers es ≡ true → are_falling (loads_of es) ≡ true → lookup (at n) es ≡ Some was
+    → new ≡ set_value (at n) es is → pending_load is ≡ f (pending_load was) → (have_own_numbers new ≡ true) × ((are_falling (loads_of new) ≡ true) × ⊤)
+changed-kept n f keeps es new was is own falls found set does =
+    let here : have_own_numbers new ≡ true = ap have_own_numbers set ∙ changed-own n es was is own found (ap number_of does ∙ keeps (pending_load was)) in
+    let left : are_falling (loads_of new) ≡ true =
+    ap (λ ds. are_falling (loads_of ds)) set ∙ ap are_falling (changed-is n f es was is own falls found does) ∙ falling-mapped (changed_at number_of n f) (changed-number n f keeps) (loads_of es) ∙ falls
+    in
+    (here, (left, tt))
+
+-- a load as it was
+pub same-is : (n : ℕ) (es : Entries) (was is : Load) → lookup (at n) es ≡ Some was → pending_load is ≡ pending_load was → loads_of (set_value (at n) es is) ≡ loads_of es
+same-is n [] was is found same = refl
+same-is n (e ∷ es) was is found same = go (at n e.0) found (λ h. same-is n es was is h same)
+  where
+    go : (b : Bool) → cond b (Some e.1) (lookup (at n) es) ≡ Some was → (lookup (at n) es ≡ Some was → loads_of (set_value (at n) es is) ≡ loads_of es)
+        → loads_of (cond b ((e.0, is) ∷ es) (e ∷ set_value (at n) es is)) ≡ pending_load e.1 ∷ loads_of es
+    go true h next = ap (λ p. p ∷ loads_of es) (same ∙ ap pending_load (sym (same_Some e.1 was h)))
+    go false h next = ap (λ ps. pending_load e.1 ∷ ps) (next h)
+
+-- a load for which one more waits, or as it was
+abbrev pub with_one : ℕ → PendingLoad → PendingLoad
+with_one conn p = record p { waiting = p.waiting ++ conn ∷ [] }
+
+pub joined-kept : {A E : Type 0} (r : Result A E) (n conn : ℕ) (es new : Entries) (was is : Load) → have_own_numbers es ≡ true → are_falling (loads_of es) ≡ true → lookup (at n) es ≡ Some was → new ≡ set_value (at n) es is
+    → OnOk r (pending_load is ≡ with_one conn (pending_load was)) → OnErr r (pending_load is ≡ pending_load was) → (have_own_numbers new ≡ true) × ((are_falling (loads_of new) ≡ true) × ⊤)
+joined-kept (Ok x) n conn es new was is own falls found set ok err = changed-kept n (with_one conn) (λ p. refl) es new was is own falls found set ok
+joined-kept (Err e) n conn es new was is own falls found set ok err = changed-kept n (λ p. p) (λ p. refl) es new was is own falls found set err
+
+-- where a call went well, what follows from what it left
+pub follows : {A E P Q : Type 0} (r : Result A E) → (P → Q) → OnOk r P → OnOk r Q
+follows (Ok x) f p = f p
+follows (Err e) f p = tt
+
+-- where it failed, the same
+pub fails : {A E P Q : Type 0} (r : Result A E) → (P → Q) → OnErr r P → OnErr r Q
+fails (Ok x) f p = tt
+fails (Err e) f p = f p
+
+-- ---- a load added
+
+newest-first : (n m : ℕ) (load : Load) (e : Reverse ℕ × Load) (es : Entries) → m ≡ e.0.0 → nat_lt m n ≡ true → insert_entry order (e ∷ es) (record { 0 = n }) load ≡ (record { 0 = n }, load) ∷ e ∷ es
+newest-first n m load e es is lower = ap (λ o. match_ordering o ((record { 0 = n }, load) ∷ e ∷ es) ((e.0, load) ∷ es) (e ∷ insert_entry order es (record { 0 = n }) load)) less
+  where
+    less : nat_cmp e.0.0 n ≡ Less
+    less = ap (λ b. cond b Less (cond (e.0.0 == n) Equal Greater)) (ap (λ k. nat_lt k n) (sym is) ∙ lower)
+
+pub put-first : (load : Load) (es : Entries) → have_own_numbers es ≡ true → are_below load.number (loads_of es) ≡ true → insert_entry order es (record { 0 = load.number }) load ≡ (record { 0 = load.number }, load) ∷ es
+put-first load [] own below = refl
+put-first load (e ∷ es) own below =
+    let parts = and_parts (e.0.0 == e.1.number) (have_own_numbers es) own in
+    let lower = and_parts (nat_lt e.1.number load.number) (are_below load.number (loads_of es)) below in
+    newest-first load.number e.1.number load e es (sym (eqb-true e.0.0 e.1.number parts.0)) lower.0
+
+pub added-kept : {A E : Type 0} (r : Result A E) (load : Load) (es new : Entries) → have_own_numbers es ≡ true → are_falling (loads_of es) ≡ true → are_below load.number (loads_of es) ≡ true
+    → OnOk r (new ≡ insert_entry order es (record { 0 = load.number }) load) → OnErr r (new ≡ es) → (have_own_numbers new ≡ true) × ((are_falling (loads_of new) ≡ true) × ⊤)
+added-kept (Ok x) load es new own falls below ok err =
+    let is = ok ∙ put-first load es own below in
+    let here : have_own_numbers new ≡ true = ap have_own_numbers is ∙ and_from (load.number == load.number) (have_own_numbers es) (eq-eqb load.number load.number refl) own in
+    let left : are_falling (loads_of new) ≡ true = ap (λ ds. are_falling (loads_of ds)) is ∙ and_from (are_below load.number (loads_of es)) (are_falling (loads_of es)) below falls in
+    (here, (left, tt))
+added-kept (Err e) load es new own falls below ok err =
+    let here : have_own_numbers new ≡ true = ap have_own_numbers err ∙ own in
+    let left : are_falling (loads_of new) ≡ true = ap (λ ds. are_falling (loads_of ds)) err ∙ falls in
+    (here, (left, tt))

@@ -1,0 +1,52 @@
+-- Loads under way by number and by key.
+use Rattle.std.specs.Prelude.{◌≡◌, ℕ, ◌==◌, ◌&&◌, nat_lt, is_some, true, Bool, List, [], ◌∷◌, map, Option, Some}
+use Rattle.std.specs.List.{find, list_all}
+use Rattle.std.specs.Option.{option_map}
+use Rattle.std.specs.declared.cmp.Reverse.{Reverse}
+use Rattle.audit_model.specs.Bytewise.{same}
+use Rattle.audit_model.specs.Situation.{PendingLoad}
+use Rattle.audit_loads.specs.Underway.{Keys, number_at}
+use Rattle.cache_commands.specs.Loads.Keys.{pending_load}
+use Rattle.cache_commands.specs.declared.loads.load.Load.{Load}
+
+-- how many loads were sent, and those under way, the newest first
+pub record SentLoads : Type 0 where
+  pub sent : ℕ
+  pub pending : List PendingLoad
+
+-- the key's load under way
+abbrev pub load_with_key : List ℕ → List PendingLoad → Option ℕ
+load_with_key key loads = option_map (λ load. load.number) (find (λ load. same load.key key) loads)
+
+-- the load under way of that number
+abbrev pub load_numbered : ℕ → List PendingLoad → Option PendingLoad
+load_numbered number loads = find (λ load. load.number == number) loads
+
+-- they have numbers below that one
+abbrev pub are_below : ℕ → List PendingLoad → Bool
+are_below number loads = list_all (λ load. nat_lt load.number number) loads
+
+-- each has a number below those before it
+abbrev pub are_falling : List PendingLoad → Bool
+are_falling [] = true
+are_falling (load ∷ loads) = are_below load.number loads && are_falling loads
+
+-- loads at their numbers, the highest first
+abbrev pub Entries : Type 0
+Entries = List (Reverse ℕ × Load)
+
+-- each stands at its own number
+abbrev pub have_own_numbers : Entries → Bool
+have_own_numbers entries = list_all (λ e. e.0.0 == e.1.number) entries
+
+-- the loads, with those that wait for them
+abbrev pub loads_of : Entries → List PendingLoad
+loads_of entries = map (λ e. pending_load e.1) entries
+
+-- each number at a key is one of a load under way
+abbrev pub AreUnderWay : Keys → List PendingLoad → Type 0
+AreUnderWay keys loads = (key : List ℕ) (n : ℕ) → number_at key keys ≡ Some n → is_some (load_numbered n loads) ≡ true
+
+-- the same numbers stand at the same keys
+abbrev pub SameKeys : Keys → Keys → Type 0
+SameKeys old new = (key : List ℕ) → number_at key new ≡ number_at key old

@@ -1,0 +1,76 @@
+//! What the errors of a service say.
+use audit_model::{Input, LineError, Outcome, ServiceError};
+use cache_run::RunError;
+use cache_spaces::{AnswerError, Refusal};
+use std::alloc::{AllocError, Global};
+use std::fmt::Display;
+
+const SERVICE_ERRORS: [(ServiceError, &str); 12] = [
+    (ServiceError::NoNamespace, "no namespace"),
+    (ServiceError::NoConnection, "no connection"),
+    (ServiceError::Closed, "closed"),
+    (ServiceError::NoLoad, "no load"),
+    (ServiceError::Moment, "moment"),
+    (ServiceError::OutOfMemory, "out of memory"),
+    (ServiceError::HeldAgain, "held again"),
+    (ServiceError::LineEnd, "line end"),
+    (ServiceError::TooLong, "too long"),
+    (ServiceError::Deadline, "deadline"),
+    (ServiceError::UsedUp, "used up"),
+    (ServiceError::Config, "config"),
+];
+
+const RUN_ERRORS: [(RunError, &str); 5] = [
+    (RunError::Read, "read"),
+    (RunError::Write, "write"),
+    (RunError::OutOfMemory, "out of memory"),
+    (RunError::UsedUp, "used up"),
+    (RunError::Moment, "moment"),
+];
+
+const LINE_ERRORS: [(LineError, &str); 4] = [
+    (LineError::Command, "command"),
+    (LineError::Syntax, "syntax"),
+    (LineError::Deadline, "deadline"),
+    (LineError::Number, "number"),
+];
+
+fn has_text<E: Display>(alloc: Global, error: &E, text: &str) -> Result<bool, AllocError> {
+    Ok(format!(in alloc; "{error}")?.as_str() == text)
+}
+
+/// Whether an error has its text, which is written once more where memory was refused.
+fn says<E: Display>(alloc: Global, error: &E, text: &str) -> bool {
+    has_text(alloc, error, text) == Ok(true) || has_text(alloc, error, text) == Ok(true)
+}
+
+fn all_say<E: Display>(alloc: Global, rows: &[(E, &str)]) -> bool {
+    for (error, text) in rows {
+        if !says(alloc, error, text) {
+            return false;
+        }
+    }
+    true
+}
+
+#[test]
+fn errors_have_texts(rt: HostRuntime) {
+    assert!(rt; all_say(rt.alloc(), SERVICE_ERRORS.as_slice()));
+    assert!(rt; all_say(rt.alloc(), RUN_ERRORS.as_slice()));
+    assert!(rt; all_say(rt.alloc(), LINE_ERRORS.as_slice()));
+}
+
+/// What is handed back says why.
+#[test]
+fn what_is_handed_back_says_why(rt: HostRuntime) {
+    let refusal = Refusal {
+        error: ServiceError::Closed,
+        input: Input::Open { namespace: 0 },
+    };
+    let answer = AnswerError {
+        error: ServiceError::NoLoad,
+        outcome: Outcome::None,
+    };
+    assert!(rt; says(rt.alloc(), &refusal, "closed"));
+    assert!(rt; says(rt.alloc(), &answer, "no load"));
+}
