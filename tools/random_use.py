@@ -52,6 +52,9 @@ MS = 1_000_000
 GRAIN = 4096
 FOR_EVER = 999_999_999_999
 SLACK = 300 * MS
+# How long nothing is to be told before a step counts as told whole, and how long a notice that has to come is waited for.
+QUIET = 25 * MS
+LATEST = 2_000 * MS
 
 
 # What is asked, and what a namespace is set up with.
@@ -1056,10 +1059,24 @@ class Turns:
         while link.pending:
             if not link.receive():
                 raise Broken(f"{self.space.name}: the server closed a connection")
-        before = len(self.server.told[self.space.name])
-        self.server.drain(lambda *_: 0)
-        notes = self.server.told[self.space.name][before:]
-        self.write(link.number, line, asked, notes)
+        self.write(link.number, line, asked, self.notes_of(line, asked))
+
+    def notes_of(self, line, asked):
+        """What the server told of the step. A notice is written by a thread of its own, maybe after the reply: one that has to come is
+        waited for, and others until none has come for a while."""
+        told = self.server.told[self.space.name]
+        before, start = len(told), time.monotonic_ns()
+        leaves = line.verb in ("SET", "ADD", "DEL") and not asked.reply.startswith((b"ERR", b"OFF")) and self.held.values[line.key]
+        last = start
+        while True:
+            count, now = len(told), time.monotonic_ns()
+            self.server.drain(lambda *_: 0)
+            if len(told) > count:
+                last = now
+            waits = leaves and all(it.key != line.key for it in told[before:]) and now - start < LATEST
+            if not waits and now - last > QUIET:
+                return told[before:]
+            time.sleep(0.0005)
 
     def write(self, conn, line, asked, notes):
         lines = [asked.reply, *(asked.keys or [])]
@@ -1447,7 +1464,7 @@ def main():
     if "sockets" in parts:
         failed += run("sockets", lambda seed, lies=None: play_sockets(server, seed, lying(lies)), words.rounds or (10 if words.lie else 40), words.seed)
     if "turns" in parts:
-        failed += run("turns", lambda seed, lies=None: play_turns(server, words.transcript, seed, lying(lies)), words.rounds or (10 if words.lie else 40), words.seed)
+        failed += run("turns", lambda seed, lies=None: play_turns(server, words.transcript, seed, lying(lies)), words.rounds or 4, words.seed)
     if "plays" in parts:
         failed += run_plays(words.transcript, words.plays or (200 if words.lie else 10_000), words.seed, words.lie)
     sys.exit(1 if failed else 0)

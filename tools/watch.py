@@ -1,22 +1,23 @@
 #!/usr/bin/env python3
-"""Shows what a server `cached --config` holds, and how many values leave it a second, by cause.
+"""Shows what a server `cached --config` holds, and how many values leave it per second, by cause.
 
     cached --config FILE | python3 tools/watch.py
     cached --config FILE > LOG &  python3 tools/watch.py --log LOG
 
-It reads the server's standard output: lines `listening NAME 127.0.0.1:PORT` say where the
-namespaces are, and the notices are counted. Each interval it asks `SYNC` on each port, which runs
-maintenance: what was cleared or has expired is let go then, and told.
+It reads the server's standard output: the lines `listening NAME 127.0.0.1:PORT` give the ports of
+the namespaces, and the notices are counted. Each interval it sends `SYNC` to each port, which runs
+maintenance: values that were cleared or have expired leave then, and are reported.
 
-    --log FILE           follow that file, from its beginning, in place of standard input
-    --interval SECONDS   between two tables, 2 where it is not given
-    --seconds N          end by itself then; else with the input, at a key q, or at an interrupt
-    --plain              print a table each interval; so it is where standard output is no terminal
+    --log FILE           follow this file, from its beginning, instead of standard input
+    --interval SECONDS   the time between two tables, 2 by default
+    --seconds N          exit after this time; otherwise at the end of the input, at the key q, or
+                         at an interrupt
+    --plain              print a table each interval; the default if standard output is no terminal
     --html FILE          write a page with pictures of the last minutes each interval
-    --minutes N          how many, 5 where it is not given
+    --minutes N          how many minutes, 5 by default
 
-Once the watcher of a pipe has ended, the server goes on and tells no more notices. One that is to
-tell them further writes to a file.
+After the watcher of a pipe has exited, the server continues and reports no more notices. To keep
+them, let the server write to a file and use `--log`.
 """
 import argparse
 import collections

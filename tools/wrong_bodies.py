@@ -5,9 +5,10 @@ usage: python3 tools/wrong_bodies.py [--jobs N] [--anew] [--list] [CRATE | CRATE
 The bodies of tools/wrong_bodies/CRATE are tried, and those in crates/CRATE/must-fail, which the gate tries too. Both
 have one form: a line `file: PATH`, then pairs of lines `old: TEXT` and `new: TEXT`, where TEXT stands once in the file.
 
-Each is tried in a copy of the tree, over what `rt check` kept in the crate's out/: prove the crates first, then a body
-takes 10 to 30 seconds. As many run side by side as --jobs says, or as there are processors. A body has a row as soon as
-it was tried, with the seconds that it took:
+Each is tried in a copy of the tree, over the libraries that the crates below have in their out/. Of a body that changes
+functions alone just these are checked (`rt check --only`), which takes 10 to 60 seconds, most of it loading; of any
+other the whole crate, over what `rt check` kept. As many run side by side as --jobs says, or as there are processors. A
+body has a row as soon as it was tried, with the seconds that it took:
 
   goal      refused at a goal: a contract is not met
   name      refused where a proof names what the body took away: this says little of the contract
@@ -113,9 +114,27 @@ def bodies_of(crate):
     return sorted(found.items())
 
 
+# What a check says where several functions have the name that it was given.
+SEVERAL = re.compile(r"several functions are named `\w+`: help: write one of (.*)")
+FUNCTION = re.compile(r"^( *)(?:pub(?:\([a-z]+\))? )?(?:const )?fn (\w+)", re.M)
+
+
+def function_at(text, at):
+    """The name of the function whose body has that place of a text, if there is one."""
+    found = [it for it in FUNCTION.finditer(text) if it.start() <= at]
+    if not found:
+        return None
+    indent, name = found[-1].groups()
+    # (the body begins with a brace that stands alone, or that ends a line of the signature)
+    begins = re.compile(rf"^(?:{indent}\{{|.*\) (?:-> .*)?\{{)$", re.M).search(text, found[-1].start())
+    ends = text.find(f"\n{indent}}}", begins.end()) if begins else -1
+    return name if begins and begins.end() <= at < ends else None
+
+
 def edited(body, folder):
-    """The texts of the files that a body changes, by their path in the crate's folder. A ValueError says why it can't be applied."""
-    texts, path, old = {}, "", None
+    """What a body changes: the texts of the files, by their path in the crate's folder, and the names of the functions, or None where it
+    changes more than functions. A ValueError says why it can't be applied."""
+    texts, path, old, names = {}, "", None, set()
     with open(body, encoding="utf-8") as file:
         lines = file.read().split("\n")
     for line in lines:
@@ -132,11 +151,12 @@ def edited(body, folder):
                 raise ValueError("a line `new:` without `file:` and `old:` before it")
             if texts[path].count(old) != 1:
                 raise ValueError(f"an `old:` text stands {texts[path].count(old)} times in {path}")
+            names.add(function_at(texts[path], texts[path].index(old)) if path.endswith(".rt") else None)
             texts[path] = texts[path].replace(old, new)
             old = None
     if not texts:
         raise ValueError("it changes nothing")
-    return texts
+    return texts, None if None in names else names
 
 
 def verdict(status, said, changed):
@@ -144,8 +164,10 @@ def verdict(status, said, changed):
     lines = said.rstrip("\n").split("\n")
     if status == 0:
         return "PASSED", ""
-    if not any(line.startswith("logic=not-proved") for line in lines):
-        return "BAD", lines[-1][:160]
+    # (a check of some functions alone says so many were to be proved, and so many were)
+    few = next((it for it in map(re.compile(r"only=(\d+) proved=(\d+)").match, lines) if it), None)
+    if not (few and int(few[2]) < int(few[1])) and not any(line.startswith("logic=not-proved") for line in lines):
+        return "BAD", next((line for line in lines if "error" in line), lines[-1])[:160]
     told = [line for line in lines if re.match(r"(note: )?\S+:\d+:\d+:.*error|note: \S+:\d+:\d+:", line)]
     for line in told:
         at = re.match(r"(?:\./)?(\S+?):\d+:\d+: error: (?!`)(.*)", line)
@@ -188,19 +210,34 @@ class Lane:
     def tried(self, crate, body):
         folder = os.path.join(self.room, "crates", crate)
         try:
-            texts = edited(body, folder)
+            texts, names = edited(body, folder)
         except (ValueError, OSError) as error:
             return "BAD", str(error)
-        self.kept(crate)
+        if names is None:
+            self.kept(crate)
         before = {}
         for path, text in texts.items():
             with open(os.path.join(folder, path), encoding="utf-8") as file:
                 before[path] = file.read()
             self.write(folder, path, text)
-        ran = subprocess.run(["rt", "check", "--jobs", "1"], cwd=folder, stdin=subprocess.DEVNULL, stdout=subprocess.PIPE, stderr=subprocess.STDOUT, text=True, errors="replace", check=False)
+        status, said = self.check(folder, names or ())
+        several = SEVERAL.search(said)
+        if several:
+            # (of functions that share a name, those of the files that are changed)
+            modules = ["::".join([crate, *re.sub(r"^src/|(/mod|/lib)?\.rt$", "", path).split("/")]).removesuffix("::lib") for path in texts]
+            names = [it for it in re.findall(r"`([^`]+)`", several[1]) if it.rpartition("::")[0].startswith(tuple(modules))]
+            if not names:
+                self.kept(crate)
+            status, said = self.check(folder, names)
         for path, text in before.items():
             self.write(folder, path, text)
-        return verdict(ran.returncode, ran.stdout, texts)
+        return verdict(status, said, texts)
+
+    @staticmethod
+    def check(folder, names):
+        words = [word for name in sorted(names) for word in ("--only", name)]
+        ran = subprocess.run(["rt", "check", "--jobs", "1", *words], cwd=folder, stdin=subprocess.DEVNULL, stdout=subprocess.PIPE, stderr=subprocess.STDOUT, text=True, errors="replace", check=False)
+        return ran.returncode, ran.stdout
 
     @staticmethod
     def write(folder, path, text):

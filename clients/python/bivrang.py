@@ -1,6 +1,6 @@
-"""A client of `cached`, the cache that is served by lines (docs/PROTOCOL.md).
+"""A client of `cached`, a cache server with a line protocol (docs/PROTOCOL.md).
 
-One file, on Python's standard library alone, for Python 3.8 or later.
+One file, which needs only Python's standard library, for Python 3.8 or later.
 
     import bivrang
 
@@ -15,15 +15,15 @@ One file, on Python's standard library alone, for Python 3.8 or later.
 for one thread at a time. `Servers` spreads keys over several servers. All three have a method for
 each line of the protocol.
 
-Keys are text of the characters `!` to `~`, or such bytes. Values are bytes, or text, which is sent
-as UTF-8; they are answered as bytes. Times to live are whole milliseconds; time limits are seconds,
+Keys are text or bytes of the characters `!` to `~`. Values are bytes, or text, which is sent as
+UTF-8; they are returned as bytes. Times to live are whole milliseconds; time limits are seconds,
 and may be fractions.
 
 Each exception of this module is a `BivrangError`. There are three kinds:
 
-    ArgumentError    an argument that the protocol cannot carry; nothing was sent
-    LinkError        no whole reply came; with `may_have_run` the request may have run, or not
-    ServerError      the server replied `ERR ..`; the connection goes on
+    ArgumentError    an argument that the protocol does not allow; nothing was sent
+    LinkError        no complete reply; if `may_have_run`, the request may or may not have run
+    ServerError      the server replied `ERR ..`; the connection stays open
 """
 import collections
 import math
@@ -83,24 +83,24 @@ __all__ = [
 ]
 
 LONGEST_LINE = 8192
-"""The most bytes that a request has before its line feed."""
+"""The maximum number of bytes of a request before its line feed."""
 
 LONGEST_KEY = 250
-"""The most bytes of a key or prefix."""
+"""The maximum number of bytes of a key or prefix."""
 
 LONGEST_LIFE = 999_999_999_999
-"""The most milliseconds that a value can be given to live."""
+"""The longest time to live of a value, in milliseconds."""
 
 GREATEST_NUMBER = 2**64 - 1
 """The greatest number that can be added, and the greatest sum."""
 
 LONGEST_REPLY_LINE = 16384
-"""A reply line with more bytes is none of the protocol's, whose values fit a line of 8192."""
+"""A reply line with more bytes is not of the protocol, whose values fit a line of 8192."""
 
 WINDOW = 16384
-"""So many bytes of requests are sent at most before their replies are read, or one request. The
-server reads nothing while replies of it wait to be sent; what it has not read stands in the
-sockets' buffers, which hold that much."""
+"""At most this many bytes of requests are sent before their replies are read, or one request. The
+server reads nothing while replies to it are unsent; what it has not read stays in the sockets'
+buffers, which hold that much."""
 
 RECEIVED_AT_ONCE = 65536
 
@@ -112,11 +112,11 @@ T = TypeVar("T")
 
 
 class BivrangError(Exception):
-    """What each exception of this module is."""
+    """The base class of all exceptions of this module."""
 
 
 class ArgumentError(BivrangError, ValueError):
-    """An argument is refused before anything is sent."""
+    """An argument was refused before anything was sent."""
 
 
 class KeyRefused(ArgumentError):
@@ -132,26 +132,26 @@ class DeadlineRefused(ArgumentError):
 
 
 class NumberRefused(ArgumentError):
-    """A number to be added is not 0 to 2**64 - 1."""
+    """A number to add is not 0 to 2**64 - 1."""
 
 
 class LinkError(BivrangError):
-    """No whole reply came."""
+    """There was no complete reply."""
 
     may_have_run: bool = False
     """Whether the request, or with a pipeline some of its requests, may have run all the same."""
 
 
 class ConnectFailed(LinkError):
-    """There is no connection to the server. Nothing was sent."""
+    """The connection could not be made. Nothing was sent."""
 
 
 class ConnectTimeout(ConnectFailed):
-    """There was no connection within `connect_seconds`. Nothing was sent."""
+    """The connection could not be made within `connect_seconds`. Nothing was sent."""
 
 
 class PoolTimeout(LinkError):
-    """All connections of the pool were in use for `wait_seconds`. Nothing was sent."""
+    """All connections of the pool were in use during `wait_seconds`. Nothing was sent."""
 
 
 class PoolClosed(LinkError):
@@ -159,12 +159,12 @@ class PoolClosed(LinkError):
 
 
 class ConnectionSpent(LinkError):
-    """The connection was closed before, by `close`, `quit` or an earlier `LinkError`. Nothing was
+    """The connection was already closed, by `close`, `quit` or an earlier `LinkError`. Nothing was
     sent."""
 
 
 class ConnectionBroken(LinkError):
-    """The connection was closed or reset before the reply was whole."""
+    """The connection was closed or reset before the reply was complete."""
 
     may_have_run = True
 
@@ -175,20 +175,20 @@ class ConnectionBroken(LinkError):
 
 
 class ReplyTimeout(LinkError):
-    """A line of the reply was not whole within `reply_seconds`."""
+    """A line of the reply was not complete within `reply_seconds`."""
 
     may_have_run = True
 
 
 class BadReply(LinkError):
-    """What came is no reply to the request."""
+    """The bytes received are not a reply to the request."""
 
     may_have_run = True
 
 
 class ServerError(BivrangError):
-    """The server replied `ERR ..`. A reply `ERR` of a word that this module does not know is of
-    this very type."""
+    """The server replied `ERR ..`. An `ERR` reply with a word that this module does not know is of
+    this type itself."""
 
 
 class CommandError(ServerError):
@@ -196,7 +196,7 @@ class CommandError(ServerError):
 
 
 class LineError(ServerError):
-    """`ERR syntax`: words are missing or too many, or a byte stands where none of its kind may."""
+    """`ERR syntax`: too few or too many words, or a byte that is not allowed."""
 
 
 class DeadlineError(ServerError):
@@ -204,8 +204,8 @@ class DeadlineError(ServerError):
 
 
 class NumberError(ServerError):
-    """`ERR number`: the key's value is no number, or the sum is above 2**64 - 1. The value is as it
-    was."""
+    """`ERR number`: the key's value is not a number, or the sum is above 2**64 - 1. The value is
+    unchanged."""
 
 
 class IdentifiersError(ServerError):
@@ -222,7 +222,7 @@ class LoadFailed(ServerError):
 
 
 class LoadAbandoned(ServerError):
-    """`ERR abandoned`: finding the value was given up each time that it was begun."""
+    """`ERR abandoned`: loading the value was given up each time it was tried."""
 
 
 SERVER_ERRORS: Dict[bytes, Type[ServerError]] = {
@@ -248,13 +248,12 @@ def _server_error(line: bytes) -> ServerError:
 
 
 class Held(NamedTuple):
-    """What `sync` answers."""
+    """The result of `sync`."""
 
     values: int
     """How many values are held."""
     weight: int
-    """What they weigh together: as many as they are, or with `weight = "bytes"` the bytes of the
-    values."""
+    """Their total weight: their number, or their bytes with `weight = "bytes"`."""
 
 
 _KEY = re.compile(rb"[!-~]{1,%d}" % LONGEST_KEY)
@@ -359,10 +358,10 @@ def _read_held(line: bytes, _more: NextLine) -> Held:
 
 
 class Request(Generic[T]):
-    """A request whose words were checked, for `pipeline`. Make one by the methods below; each is
-    the line of its name.
+    """A request whose words were checked, for `pipeline`. Create one by the methods below, one for
+    each line of the protocol.
 
-    What a request answers, and which errors it raises, says the method of that name of `Client`.
+    The method of the same name of `Client` says what a request returns and which errors it raises.
     """
 
     __slots__ = ("line", "key", "is_read", "_read")
@@ -377,9 +376,9 @@ class Request(Generic[T]):
         self.line: bytes = b" ".join(words) + b"\n"
         """The bytes that are sent."""
         self.key: Optional[bytes] = key
-        """The key, where the request is of one."""
+        """The key, if the request has one."""
         self.is_read: bool = is_read
-        """Whether it changes no value, so that it may be sent anew where a connection broke."""
+        """Whether it changes no value, so that it may be sent again if a connection broke."""
         self._read = read
         if len(self.line) > LONGEST_LINE + 1:
             raise ValueRefused(f"a line of {len(self.line) - 1} bytes, above {LONGEST_LINE}")
@@ -450,15 +449,15 @@ _QUIT: Request[None] = Request((b"QUIT",), _read_done)
 
 
 class KeyedCommands:
-    """The lines that are of one key. Each may raise a `LinkError`, and `KeyRefused` where the key
-    is none."""
+    """The requests with a key. Each may raise a `LinkError`, and `KeyRefused` if the key is not
+    allowed."""
 
     def _ask(self, request: Request[T]) -> T:
         raise NotImplementedError
 
     def set(self, key: Text, value: Text, milliseconds: Optional[int] = None) -> bool:
-        """Stores a value; it lives that long at most, where milliseconds are given. False where the
-        capacity is 0, so nothing is stored.
+        """Stores a value, which lives this many milliseconds at most, if given. Returns False if
+        the capacity is 0 and nothing is stored.
 
         Raises `ValueRefused`, `DeadlineRefused`, and `DeadlineError` for milliseconds in a
         namespace without `deadlines = true`.
@@ -466,20 +465,20 @@ class KeyedCommands:
         return self._ask(Request.set(key, value, milliseconds))
 
     def get(self, key: Text) -> Optional[bytes]:
-        """The key's live value, which is a use of it; None where it has none. Sent once more where
-        its connection broke before a reply."""
+        """Returns the key's live value, which counts as a use of it; None if it has none. Sent once
+        more if its connection broke before a reply."""
         return self._ask(Request.get(key))
 
     def has(self, key: Text) -> bool:
-        """Whether the key has a live value; no use of it. Sent once more where its connection broke
-        before a reply."""
+        """Returns whether the key has a live value. Does not count as a use. Sent once more if its
+        connection broke before a reply."""
         return self._ask(Request.has(key))
 
     def load(self, key: Text) -> Optional[bytes]:
-        """The key's live value; where it has none, the server finds one elsewhere and stores it.
-        None where there is none.
+        """Returns the key's live value; if it has none, the server loads one from elsewhere and
+        stores it. None if there is none.
 
-        Raises `LoadFailed` and `LoadAbandoned`. The reply may take as long as the finding takes.
+        Raises `LoadFailed` and `LoadAbandoned`. The reply may take as long as the load.
         """
         return self._ask(Request.load(key))
 
@@ -488,37 +487,38 @@ class KeyedCommands:
         self._ask(Request.delete(key))
 
     def add(self, key: Text, number: int, milliseconds: Optional[int] = None) -> Optional[int]:
-        """Adds to the key's number, 0 where it has no live value, stores the sum, and answers it.
-        None where the capacity is 0.
+        """Adds to the key's number (0 if it has no live value), stores the sum, and returns it.
+        None if the capacity is 0.
 
-        The sum lives that long at most, where milliseconds are given; without them it has no
-        deadline, whatever the value before had. Raises `NumberRefused`, `DeadlineRefused`,
-        `DeadlineError`, and `NumberError` where the value is no number or the sum too great.
+        The sum lives this many milliseconds at most, if given; otherwise it has no deadline,
+        whatever deadline the value had before. Raises `NumberRefused`, `DeadlineRefused`,
+        `DeadlineError`, and `NumberError` if the value is not a number or the sum is too large.
         """
         return self._ask(Request.add(key, number, milliseconds))
 
 
 class Commands(KeyedCommands):
-    """All lines but `QUIT`."""
+    """All requests except for `QUIT`."""
 
     def clear(self) -> None:
-        """Hides all values that are stored."""
+        """Hides all stored values."""
         self._ask(Request.clear())
 
     def drop_if(self, prefix: Text) -> None:
-        """Hides all values whose keys begin so. Raises `KeyRefused` and `IdentifiersError`."""
+        """Hides all values whose keys begin with the prefix. Raises `KeyRefused` and
+        `IdentifiersError`."""
         self._ask(Request.drop_if(prefix))
 
     def keys(self) -> List[bytes]:
-        """The keys that have a live value, in byte order; no use of them. There may be millions:
-        their lines come in one reply.
+        """Returns the keys that have a live value, in byte order. Does not count as a use. There
+        may be millions: they come in one reply.
 
-        Sent once more where its connection broke before a reply.
+        Sent once more if its connection broke before a reply.
         """
         return self._ask(Request.keys())
 
     def sync(self) -> Held:
-        """Runs maintenance, and says what is held then."""
+        """Runs maintenance, and returns what is held after it."""
         return self._ask(Request.sync())
 
 
@@ -526,7 +526,7 @@ class Commands(KeyedCommands):
 
 
 def _limit(seconds: float) -> float:
-    """A time limit. Raises ValueError where it is not above 0 and finite."""
+    """A time limit. Raises ValueError if it is not above 0 and finite."""
     if not (seconds > 0 and math.isfinite(seconds)):
         raise ValueError("a time limit is a number of seconds above 0")
     return seconds
@@ -541,15 +541,15 @@ def _only(results: Sequence[Any]) -> Any:
 
 
 class Connection(Commands):
-    """One connection to one namespace, for one thread at a time. Not made anew: after a `LinkError`
-    it is closed, and stays so.
+    """One connection to one namespace, for one thread at a time. It does not reconnect: after a
+    `LinkError` it is closed, and stays closed.
 
-    host, port: where the namespace is served.
-    connect_seconds: the longest that connecting may take.
-    reply_seconds: the longest that sending may take, and that each line of a reply may take, from
-        the sending or from the line before.
+    host, port: the address of the namespace.
+    connect_seconds: the time limit for connecting.
+    reply_seconds: the time limit for sending, and for each line of a reply, counted from the
+        sending or from the line before.
 
-    Raises `ConnectFailed` or `ConnectTimeout` where it cannot be made.
+    Raises `ConnectFailed` or `ConnectTimeout` if the connection cannot be made.
     """
 
     def __init__(
@@ -585,25 +585,25 @@ class Connection(Commands):
 
     @property
     def is_open(self) -> bool:
-        """Whether it can be used: it was not closed, and each reply came whole."""
+        """Whether it can be used: it was not closed, and each reply was complete."""
         return self._socket is not None
 
     def close(self) -> None:
-        """Closes it at once. Requests whose replies did not come may run all the same."""
+        """Closes it at once. Requests whose replies were not received may still run."""
         if self._socket is not None:
             self._socket.close()
             self._socket = None
 
     def quit(self) -> None:
-        """`QUIT`: the server says `OK` and closes; then so does this side."""
+        """`QUIT`: the server replies `OK` and closes the connection; then so does the client."""
         try:
             self._ask(_QUIT)
         finally:
             self.close()
 
     def is_quiet(self) -> bool:
-        """Whether it can be used and nothing came unasked, neither bytes nor the server's end. Does
-        not wait."""
+        """Whether it can be used and nothing came that nobody asked for, neither bytes nor the end
+        of the connection. Does not wait."""
         if self._socket is None or self._received:
             return False
         try:
@@ -616,11 +616,11 @@ class Connection(Commands):
         return False
 
     def pipeline(self, requests: Iterable[Request[Any]]) -> List[Any]:
-        """Sends requests without waiting for each one's reply. The results are in their order; a
-        `ServerError` stands in its request's place, and is not raised.
+        """Sends requests without waiting for each one's reply. The results are in the order of the
+        requests; a `ServerError` takes the place of its request's result, and is not raised.
 
-        At a `LinkError` the results are lost: with `may_have_run`, the first requests of them,
-        some, all or none, may have run.
+        At a `LinkError` the results are lost: if `may_have_run`, any number of requests, from the
+        first on, may have run.
         """
         batch: List[Request[Any]] = []
         results: List[Any] = []
@@ -638,8 +638,8 @@ class Connection(Commands):
         return result
 
     def _exchange(self, requests: Sequence[Request[Any]], is_first: bool) -> List[Any]:
-        """Sends requests at once and reads their replies; whether they are the first of their call.
-        What ends it early closes the connection."""
+        """Sends requests at once and reads their replies; `is_first`: they are the first of their
+        call. An early end closes the connection."""
         if self._socket is None:
             raise ConnectionSpent("the connection is closed")
         is_whole = False
@@ -708,19 +708,19 @@ class Connection(Commands):
 
 
 class Client(Commands):
-    """A pool of connections to one namespace, which threads share. Connections are made as they are
-    wanted, and kept.
+    """A pool of connections to one namespace, which threads share. Connections are made when they
+    are needed, and kept.
 
-    host, port: where the namespace is served.
-    connections: how many there are at most, at least 1.
-    connect_seconds, reply_seconds: the limits of each, as of `Connection`.
-    wait_seconds: the longest that a call waits for a connection while all are in use; then it
+    host, port: the address of the namespace.
+    connections: the maximum number of connections, at least 1.
+    connect_seconds, reply_seconds: the time limits of each, as in `Connection`.
+    wait_seconds: how long a call waits at most for a connection while all are in use; then it
         raises `PoolTimeout`.
 
-    A connection that broke, timed out or replied nonsense is closed and never used again. A request
-    that only reads (`GET`, `HAS`, `KEYS`) is sent once more, on a fresh connection, where the first
-    broke before a byte of the reply came; no other request is, since it may have run. Making a
-    `Client` connects to nothing.
+    A connection that broke, timed out or sent an invalid reply is closed and never used again. A
+    request that only reads (`GET`, `HAS`, `KEYS`) is sent once more, on a new connection, if the
+    first broke before a byte of the reply was received; no other request is, since it may have
+    run. Creating a `Client` does not connect yet.
     """
 
     def __init__(
@@ -756,16 +756,16 @@ class Client(Commands):
         self.close()
 
     def close(self) -> None:
-        """Closes the connections that are idle, and each other one once its call has ended. Later
-        calls raise `PoolClosed`."""
+        """Closes the idle connections, and each other one when its call has ended. Later calls
+        raise `PoolClosed`."""
         with self._lock:
             self._is_closed = True
             while self._idle:
                 self._idle.pop().close()
 
     def pipeline(self, requests: Iterable[Request[Any]]) -> List[Any]:
-        """As `Connection.pipeline`, on one connection. Where all requests only read, they are sent
-        once more as one such request is."""
+        """Like `Connection.pipeline`, on one connection. If all requests only read, they are sent
+        once more like a single one."""
         return self._run(list(requests))
 
     def _ask(self, request: Request[T]) -> T:
@@ -794,7 +794,7 @@ class Client(Commands):
         return Connection(self.host, self.port, self._connect_seconds, self._reply_seconds)
 
     def _take(self) -> Connection:
-        """The connection that was used last, if it is still quiet, or a fresh one."""
+        """The connection that was used last, if it is still quiet, or a new one."""
         while True:
             with self._lock:
                 if self._is_closed:
@@ -826,7 +826,7 @@ def hash_bytes(text: bytes) -> int:
 
 
 def mix(value: int) -> int:
-    """The output function of the generator SplitMix64: one to one on 64 bits."""
+    """The output function of the generator SplitMix64, a bijection on 64 bits."""
     value = (value ^ value >> 30) * 0xBF58476D1CE4E5B9 & GREATEST_NUMBER
     value = (value ^ value >> 27) * 0x94D049BB133111EB & GREATEST_NUMBER
     return value ^ value >> 31
@@ -838,10 +838,10 @@ class Server(NamedTuple):
     host: str
     port: int
     weight: int = 1
-    """Its share of the keys beside the other servers' weights, 1 to 1000."""
+    """Its share of the keys relative to the other servers' weights, 1 to 1000."""
     name: Optional[str] = None
-    """What its keys go by: `HOST:PORT` where it is None. With a name of its own a server can move
-    and keep its keys."""
+    """The name that determines its keys: `HOST:PORT` if it is None. With a name of its own a server
+    can move and keep its keys."""
 
     def known_as(self) -> str:
         """The name, or `HOST:PORT`."""
@@ -851,17 +851,17 @@ class Server(NamedTuple):
 class Servers(KeyedCommands):
     """Several servers, each a `Client`, over which keys are spread by rendezvous hashing.
 
-    A server of weight w stands for w virtual ones, `NAME#0` to `NAME#(w - 1)`, and a key belongs to
-    the server of the virtual one with the highest score for it. So where a server is added, the
-    only keys that move are those that it gets, and where one is taken away, those that it had. The
-    Rust client gives each key to the same server. There is no copy elsewhere: where a server is
-    gone, calls of its keys raise.
+    A server of weight w counts as w virtual ones, `NAME#0` to `NAME#(w - 1)`, and a key belongs to
+    the server of the virtual one with the highest score for it. So if a server is added, the only
+    keys that move are those that it gets, and if one is removed, those that it had. The Rust
+    client gives each key to the same server. There are no replicas: if a server is down, calls for
+    its keys raise.
 
     servers: the servers, with different names.
     options: those of `Client` (`connections`, `connect_seconds`, `reply_seconds`, `wait_seconds`),
         for each server.
 
-    Raises ValueError for no server, two of one name, or a weight out of range.
+    Raises ValueError for an empty list, two servers with one name, or a weight out of range.
     """
 
     def __init__(self, servers: Sequence[Server], **options: Any) -> None:
@@ -910,7 +910,7 @@ class Servers(KeyedCommands):
         """Sends each server its requests as one pipeline, one server after the other. The results
         are in the order of the requests.
 
-        Raises ValueError for a request that is of no key.
+        Raises ValueError for a request without a key.
         """
         results: List[Any] = []
         shares: Dict[str, List[Tuple[int, Request[Any]]]] = {}
@@ -926,21 +926,21 @@ class Servers(KeyedCommands):
         return results
 
     def clear(self) -> None:
-        """`clear` of each server, also where one of them raises: then the first error is raised
-        behind the last server."""
+        """Calls `clear` of each server, even if one of them raises: then the first error is raised
+        after the last server."""
         self._each(Client.clear)
 
     def drop_if(self, prefix: Text) -> None:
-        """`drop_if` of each server, as `clear`."""
+        """Calls `drop_if` of each server, like `clear`."""
         self._each(lambda client: client.drop_if(prefix))
 
     def keys(self) -> List[bytes]:
-        """The live keys of all servers, in byte order. A key that stands at two, since servers
-        changed meanwhile, is told once."""
+        """The live keys of all servers, in byte order. A key that two servers have, since the list
+        of servers changed, is returned once."""
         return sorted({key for keys in self._each(Client.keys).values() for key in keys})
 
     def sync(self) -> Dict[str, Held]:
-        """`sync` of each server, by name."""
+        """Calls `sync` of each server; the results by name."""
         return self._each(Client.sync)
 
     def _ask(self, request: Request[T]) -> T:

@@ -1,6 +1,7 @@
-//! A client of `cached`, the cache that is served by lines (`docs/PROTOCOL.md` of the repository).
+//! A client of `cached`, a cache server with a line protocol (`docs/PROTOCOL.md` of the
+//! repository).
 //!
-//! It blocks, and stands on the standard library alone.
+//! Its calls block. It needs only the standard library.
 //!
 //! ```no_run
 //! use bivrang::{Options, Pool, Reply, Request};
@@ -27,46 +28,46 @@ use std::net::{TcpStream, ToSocketAddrs};
 use std::sync::{Condvar, Mutex, MutexGuard, PoisonError};
 use std::time::{Duration, Instant};
 
-/// The most bytes that a request has before its line feed.
+/// The maximum number of bytes of a request before its line feed.
 pub const LONGEST_LINE: usize = 8192;
 
-/// The most bytes of a key or prefix.
+/// The maximum number of bytes of a key or prefix.
 pub const LONGEST_KEY: usize = 250;
 
-/// The most milliseconds that a value can be given to live.
+/// The longest time to live of a value, in milliseconds.
 pub const LONGEST_LIFE: u64 = 999_999_999_999;
 
-/// A reply line with more bytes is none of the protocol's, whose values fit a line of 8192.
+/// A reply line with more bytes than this is not of the protocol, whose values fit a line of 8192.
 const LONGEST_REPLY_LINE: usize = 16384;
 
-/// So many bytes of requests are sent at most before their replies are read, or one request. The
-/// server reads nothing while replies of it wait to be sent; what it has not read stands in the
+/// At most this many bytes of requests are sent before their replies are read, or one request. The
+/// server reads nothing while replies to it are unsent; what it has not read stays in the
 /// sockets' buffers, which hold that much.
 const WINDOW: usize = 16384;
 
 const RECEIVED_AT_ONCE: usize = 65536;
 
-// What can go wrong.
+// Errors.
 
-/// What the server says of a request where it replies `ERR ..`. The connection goes on.
+/// An `ERR ..` reply of the server. The connection stays open.
 #[derive(Clone, Debug, PartialEq, Eq)]
 pub enum ServerError {
     /// `ERR command`: the server does not know the command.
     Command,
-    /// `ERR syntax`: words are missing or too many, or a byte stands where none of its kind may.
+    /// `ERR syntax`: too few or too many words, or a byte that is not allowed.
     Syntax,
     /// `ERR deadline`: the namespace does not have `deadlines = true`.
     Deadline,
-    /// `ERR number`: the key's value is no number, or the sum is above 2^64 - 1. The value is as it
-    /// was.
+    /// `ERR number`: the key's value is not a number, or the sum is above 2^64 - 1. The value is
+    /// unchanged.
     Number,
     /// `ERR id`: no identifier was free for the prefix. It hides nothing.
     Identifiers,
     /// `ERR load text`: the server could not find the value elsewhere, and says why.
     LoadFailed(Vec<u8>),
-    /// `ERR abandoned`: finding the value was given up each time that it was begun.
+    /// `ERR abandoned`: loading the value was given up each time it was tried.
     LoadAbandoned,
-    /// A reply `ERR` of a word that this client does not know: all bytes behind `ERR `.
+    /// An `ERR` reply with a word that this client does not know: all bytes after `ERR `.
     Other(Vec<u8>),
 }
 
@@ -104,7 +105,7 @@ impl fmt::Display for ServerError {
 
 impl std::error::Error for ServerError {}
 
-/// Why a call answers nothing.
+/// Why a call failed.
 #[derive(Debug)]
 pub enum Error {
     /// A key or prefix is not 1 to 250 bytes, each from `!` to `~`. Nothing was sent.
@@ -115,35 +116,36 @@ pub enum Error {
     TooLong,
     /// A time to live is above 999,999,999,999 milliseconds. Nothing was sent.
     Deadline,
-    /// A pipeline over several servers has a request that is of no key. Nothing was sent.
+    /// A pipeline over several servers has a request without a key. Nothing was sent.
     NoKey,
-    /// There is no connection to the server. Nothing was sent.
+    /// The connection could not be made. Nothing was sent.
     Connect(io::Error),
-    /// There was no connection within the time limit. Nothing was sent.
+    /// The connection could not be made within the time limit. Nothing was sent.
     ConnectTimeout,
-    /// All connections of the pool were in use for the time limit. Nothing was sent.
+    /// All connections of the pool were in use during the time limit. Nothing was sent.
     PoolTimeout,
-    /// The connection was closed before, by an earlier error or `quit`. Nothing was sent.
+    /// The connection was already closed, by an earlier error or `quit`. Nothing was sent.
     Spent,
-    /// The connection was closed or reset before the reply was whole. The request, or some of a
+    /// The connection was closed or reset before the reply was complete. The request, or some of a
     /// pipeline's, may have run.
     Broken {
-        /// Whether a byte of a reply came.
+        /// Whether a byte of a reply was received.
         has_reply_begun: bool,
-        /// What the system says; none where the server closed the connection in good order.
+        /// The error of the system; `None` if the server closed the connection normally.
         cause: Option<io::Error>,
     },
-    /// A line of the reply was not whole within the time limit. The request may have run.
+    /// A line of the reply was not complete within the time limit. The request may have run.
     ReplyTimeout,
-    /// What came is no reply to the request. The request may have run.
+    /// The bytes received are not a reply to the request. The request may have run.
     BadReply(Vec<u8>),
     /// The server replied `ERR ..`.
     Server(ServerError),
 }
 
 impl Error {
-    /// Whether the request, or with a pipeline some of its requests, may have run although no whole
-    /// reply came.
+    /// Whether the request, or with a pipeline some of its requests, may have run although no
+    /// complete
+    /// reply was received.
     pub fn may_have_run(&self) -> bool {
         matches!(
             self,
@@ -190,14 +192,14 @@ impl std::error::Error for Error {
 
 // Requests and replies.
 
-/// A request, for `pipeline`. What each does says the method of its name of [`Pool`].
+/// A request, for `pipeline`. The method of the same name of [`Pool`] says what it does.
 #[derive(Clone, Copy, Debug, PartialEq, Eq)]
 pub enum Request<'a> {
     /// `SET key deadline value`
     Set {
         key: &'a [u8],
         value: &'a [u8],
-        /// How long the value lives at most; `-` where none.
+        /// How long the value lives at most; `None` is sent as `-`.
         milliseconds: Option<u64>,
     },
     /// `GET key`
@@ -212,7 +214,7 @@ pub enum Request<'a> {
     Add {
         key: &'a [u8],
         number: u64,
-        /// How long the sum lives at most; `-` where none.
+        /// How long the sum lives at most; `None` is sent as `-`.
         milliseconds: Option<u64>,
     },
     /// `CLEAR`
@@ -230,20 +232,20 @@ pub enum Request<'a> {
 pub struct Held {
     /// How many values are held.
     pub values: u64,
-    /// What they weigh together: as many as they are, or with `weight = "bytes"` their bytes.
+    /// Their total weight: their number, or their bytes with `weight = "bytes"`.
     pub weight: u64,
 }
 
 /// The reply to a request of a pipeline.
 #[derive(Clone, Debug, PartialEq, Eq)]
 pub enum Reply {
-    /// To `Set`: whether the value is stored; it is not where the capacity is 0.
+    /// To `Set`: whether the value was stored; false if the capacity is 0.
     Stored(bool),
     /// To `Get` and `Load`: the value, if there is one.
     Value(Option<Vec<u8>>),
     /// To `Has`: whether there is a value.
     Present(bool),
-    /// To `Add`: the sum; none where the capacity is 0.
+    /// To `Add`: the sum; `None` if the capacity is 0.
     Sum(Option<u64>),
     /// To `Delete`, `Clear` and `DropIf`.
     Done,
@@ -274,7 +276,7 @@ fn deadline_text(milliseconds: Option<u64>) -> Result<String, Error> {
 }
 
 impl<'a> Request<'a> {
-    /// The key, where the request is of one.
+    /// The key, if the request has one.
     pub fn key(&self) -> Option<&'a [u8]> {
         match *self {
             Request::Set { key, .. }
@@ -287,7 +289,7 @@ impl<'a> Request<'a> {
         }
     }
 
-    /// Whether it changes no value, so that it may be sent anew where a connection broke.
+    /// Whether it changes no value, so that it may be sent again if a connection broke.
     pub fn is_read(&self) -> bool {
         matches!(
             self,
@@ -295,7 +297,7 @@ impl<'a> Request<'a> {
         )
     }
 
-    /// The bytes that are sent. Fails with `Key`, `Value`, `TooLong` or `Deadline`.
+    /// The bytes to send. Fails with `Key`, `Value`, `TooLong` or `Deadline`.
     pub fn line(&self) -> Result<Vec<u8>, Error> {
         let mut line = match *self {
             Request::Set {
@@ -325,13 +327,13 @@ impl<'a> Request<'a> {
     }
 }
 
-/// A line of a word and a key.
+/// A line with a word and a key.
 fn word_line(word: &str, key: &[u8]) -> Result<Vec<u8>, Error> {
     check_key(key)?;
     Ok([word.as_bytes(), key].join(&b' '))
 }
 
-/// A line of a word, a key, a deadline and more bytes.
+/// A line with a word, a key, a deadline and more bytes.
 fn keyed_line(
     word: &str,
     key: &[u8],
@@ -362,8 +364,8 @@ fn number_of(text: &[u8]) -> Option<u64> {
     std::str::from_utf8(text).ok()?.parse().ok()
 }
 
-/// The first line of a reply, as the request lets it be read. `KEYS` has as many lines behind it as
-/// `Keys` is to hold. None where it is no reply to the request.
+/// The first line of a reply, as the request allows it. After `KEYS` come as many lines as
+/// `Keys` is to hold. `None` if it is not a reply to the request.
 fn read_first(request: &Request<'_>, line: &[u8]) -> Option<Reply> {
     match request {
         Request::Set { .. } => match line {
@@ -400,16 +402,16 @@ fn read_first(request: &Request<'_>, line: &[u8]) -> Option<Reply> {
     }
 }
 
-/// A reply of a kind that its request does not have cannot be: `read_first` gave it.
+/// A reply of a kind that its request does not have is impossible: `read_first` returned it.
 fn never<T>() -> T {
     unreachable!("a reply is read by its request")
 }
 
-/// The lines that are of one key, for a type with `ask`.
+/// The requests with a key, for a type with `ask`.
 macro_rules! keyed_commands {
     ($self:ident, $receiver:ty) => {
-        /// Stores a value; it lives so many milliseconds at most, where they are given. False where
-        /// the capacity is 0, so nothing is stored.
+        /// Stores a value, which lives this many milliseconds at most, if given. Returns false if
+        /// the capacity is 0 and nothing is stored.
         pub fn set(
             $self: $receiver,
             key: &[u8],
@@ -426,7 +428,7 @@ macro_rules! keyed_commands {
             }
         }
 
-        /// The key's live value, which is a use of it.
+        /// Returns the key's live value, which counts as a use of it.
         pub fn get($self: $receiver, key: &[u8]) -> Result<Option<Vec<u8>>, Error> {
             match $self.ask(&Request::Get { key })? {
                 Reply::Value(value) => Ok(value),
@@ -434,7 +436,7 @@ macro_rules! keyed_commands {
             }
         }
 
-        /// Whether the key has a live value; no use of it.
+        /// Returns whether the key has a live value. This does not count as a use.
         pub fn has($self: $receiver, key: &[u8]) -> Result<bool, Error> {
             match $self.ask(&Request::Has { key })? {
                 Reply::Present(present) => Ok(present),
@@ -442,8 +444,8 @@ macro_rules! keyed_commands {
             }
         }
 
-        /// The key's live value; where it has none, the server finds one elsewhere and stores it.
-        /// None where there is none. The reply may take as long as the finding takes.
+        /// Returns the key's live value; if it has none, the server loads one from elsewhere and
+        /// stores it. `None` if there is none. The reply may take as long as the load.
         pub fn load($self: $receiver, key: &[u8]) -> Result<Option<Vec<u8>>, Error> {
             match $self.ask(&Request::Load { key })? {
                 Reply::Value(value) => Ok(value),
@@ -457,9 +459,9 @@ macro_rules! keyed_commands {
             Ok(())
         }
 
-        /// Adds to the key's number, 0 where it has no live value, stores the sum, and answers it.
-        /// None where the capacity is 0. Without milliseconds the sum has no deadline, whatever the
-        /// value before had.
+        /// Adds to the key's number (0 if it has no live value), stores the sum, and returns it.
+        /// `None` if the capacity is 0. Without milliseconds the sum has no deadline, whatever
+        /// deadline the value had before.
         pub fn add(
             $self: $receiver,
             key: &[u8],
@@ -478,23 +480,23 @@ macro_rules! keyed_commands {
     };
 }
 
-/// The other lines, but for `QUIT`.
+/// The other requests, except for `QUIT`.
 macro_rules! whole_commands {
     ($self:ident, $receiver:ty) => {
-        /// Hides all values that are stored.
+        /// Hides all stored values.
         pub fn clear($self: $receiver) -> Result<(), Error> {
             $self.ask(&Request::Clear)?;
             Ok(())
         }
 
-        /// Hides all values whose keys begin so.
+        /// Hides all values whose keys begin with the prefix.
         pub fn drop_if($self: $receiver, prefix: &[u8]) -> Result<(), Error> {
             $self.ask(&Request::DropIf { prefix })?;
             Ok(())
         }
 
-        /// The keys that have a live value, in byte order; no use of them. There may be millions:
-        /// their lines come in one reply.
+        /// Returns the keys that have a live value, in byte order. This does not count as a use.
+        /// There may be millions: they come in one reply.
         pub fn keys($self: $receiver) -> Result<Vec<Vec<u8>>, Error> {
             match $self.ask(&Request::Keys)? {
                 Reply::Keys(keys) => Ok(keys),
@@ -502,7 +504,7 @@ macro_rules! whole_commands {
             }
         }
 
-        /// Runs maintenance, and says what is held then.
+        /// Runs maintenance, and returns what is held after it.
         pub fn sync($self: $receiver) -> Result<Held, Error> {
             match $self.ask(&Request::Sync)? {
                 Reply::Held(held) => Ok(held),
@@ -514,17 +516,17 @@ macro_rules! whole_commands {
 
 // Connections.
 
-/// Time limits, each above zero, and how many connections a pool has.
+/// Time limits, each above zero, and the size of a pool.
 #[derive(Clone, Copy, Debug, PartialEq, Eq)]
 pub struct Options {
-    /// The longest that connecting to an address may take. 2 s where not set.
+    /// The time limit for connecting to an address. 2 s by default.
     pub connect: Duration,
-    /// The longest that sending may take, and that each line of a reply may take, from the sending
-    /// or from the line before. 5 s where not set.
+    /// The time limit for sending, and for each line of a reply, counted from the sending
+    /// or from the line before. 5 s by default.
     pub reply: Duration,
-    /// The longest that a call waits for a connection while all are in use. 5 s where not set.
+    /// How long a call waits at most for a connection while all are in use. 5 s by default.
     pub wait: Duration,
-    /// How many connections a pool has at most; 0 counts as 1. 8 where not set.
+    /// The maximum number of connections of a pool; 0 counts as 1. 8 by default.
     pub connections: usize,
 }
 
@@ -543,12 +545,12 @@ impl Default for Options {
 pub type Replies = Vec<Result<Reply, ServerError>>;
 
 /// One connection to one namespace. After an error other than a refused argument or `Server` it is
-/// closed, and stays so.
+/// closed, and stays closed.
 #[derive(Debug)]
 pub struct Connection {
     stream: Option<TcpStream>,
     received: Vec<u8>,
-    /// So many bytes at the front of `received` were read.
+    /// How many bytes at the front of `received` were read.
     taken: usize,
     reply: Duration,
 }
@@ -557,7 +559,7 @@ fn is_timeout(error: &io::Error) -> bool {
     matches!(error.kind(), ErrorKind::WouldBlock | ErrorKind::TimedOut)
 }
 
-/// A connection to the first of an address's places that answers.
+/// A connection to the first socket address that accepts it.
 fn connect(address: &str, limit: Duration) -> io::Result<TcpStream> {
     let mut failed = io::Error::new(ErrorKind::NotFound, "the address names no place");
     for place in address.to_socket_addrs()? {
@@ -570,7 +572,7 @@ fn connect(address: &str, limit: Duration) -> io::Result<TcpStream> {
 }
 
 impl Connection {
-    /// Connects to an address, as `127.0.0.1:7411`. Fails with `Connect` or `ConnectTimeout`.
+    /// Connects to an address, such as `127.0.0.1:7411`. Fails with `Connect` or `ConnectTimeout`.
     pub fn open(address: &str, options: &Options) -> Result<Connection, Error> {
         let made = connect(address, options.connect).and_then(|stream| {
             stream.set_nodelay(true)?;
@@ -589,13 +591,13 @@ impl Connection {
         }
     }
 
-    /// Whether it can be used: it was not closed, and each reply came whole.
+    /// Returns whether it can be used: it was not closed, and each reply was complete.
     pub fn is_open(&self) -> bool {
         self.stream.is_some()
     }
 
-    /// Whether it can be used and nothing came unasked, neither bytes nor the server's end. Does
-    /// not wait.
+    /// Returns whether it can be used and nothing came that nobody asked for, neither bytes nor the
+    /// end of the connection. Does not wait.
     pub fn is_quiet(&self) -> bool {
         let Some(stream) = &self.stream else {
             return false;
@@ -608,7 +610,7 @@ impl Connection {
         is_silent && stream.set_nonblocking(false).is_ok()
     }
 
-    /// `QUIT`: the server says `OK` and closes; then so does this side.
+    /// `QUIT`: the server replies `OK` and closes the connection; then so does the client.
     pub fn quit(&mut self) -> Result<(), Error> {
         let told = self.exchange_lines(b"QUIT\n", true, |connection| {
             match connection.line(true)?.as_slice() {
@@ -620,16 +622,16 @@ impl Connection {
         told
     }
 
-    /// Sends requests without waiting for each one's reply. Where one of them cannot be sent, none
+    /// Sends requests without waiting for each one's reply. If one of them cannot be sent, none
     /// is.
     ///
-    /// Fails as a whole where a reply does not come whole: the first requests of them, some, all or
-    /// none, may have run.
+    /// Fails as a whole if a reply is incomplete: then any number of requests, from the first on,
+    /// may have run.
     pub fn pipeline(&mut self, requests: &[Request<'_>]) -> Result<Replies, Error> {
         self.exchange(requests, &lines_of(requests)?)
     }
 
-    /// Sends requests, whose lines are given, and reads their replies.
+    /// Sends requests, given as lines, and reads their replies.
     fn exchange(&mut self, requests: &[Request<'_>], lines: &[Vec<u8>]) -> Result<Replies, Error> {
         let mut replies = Vec::with_capacity(requests.len());
         while replies.len() < requests.len() {
@@ -653,8 +655,9 @@ impl Connection {
     keyed_commands!(self, &mut Self);
     whole_commands!(self, &mut Self);
 
-    /// Sends lines and reads their replies; whether they are the first of their call. What ends it
-    /// early closes the connection.
+    /// Sends lines and reads their replies; `is_first`: they are the first of their call. An early
+    /// end
+    /// closes the connection.
     fn exchange_lines<T>(
         &mut self,
         text: &[u8],
@@ -702,7 +705,7 @@ impl Connection {
         }
     }
 
-    /// The lines behind a line `KEYS n`.
+    /// The lines after a line `KEYS n`.
     fn read_keys(&mut self, line: &[u8], mut keys: Vec<Vec<u8>>) -> Result<Vec<Vec<u8>>, Error> {
         let count = line.strip_prefix(b"KEYS ").and_then(number_of);
         for _ in 0..count.unwrap_or(0) {
@@ -715,7 +718,7 @@ impl Connection {
         Ok(keys)
     }
 
-    /// The next line of replies, without its line feed; whether it is the first of its call.
+    /// The next line of the replies, without its line feed; whether it is the first of its call.
     fn line(&mut self, is_first: bool) -> Result<Vec<u8>, Error> {
         let start = Instant::now();
         let mut scanned = self.taken;
@@ -736,7 +739,7 @@ impl Connection {
         }
     }
 
-    /// Receives more bytes within that time.
+    /// Receives more bytes within this time.
     fn receive(&mut self, left: Duration, is_first: bool) -> Result<(), Error> {
         let Some(stream) = &mut self.stream else {
             return Err(Error::Spent);
@@ -768,7 +771,7 @@ impl Connection {
     }
 }
 
-/// The lines of requests. Fails where one of them cannot be sent.
+/// The lines of requests. Fails if one of them cannot be sent.
 fn lines_of(requests: &[Request<'_>]) -> Result<Vec<Vec<u8>>, Error> {
     requests.iter().map(Request::line).collect()
 }
@@ -799,13 +802,13 @@ struct Shelf {
     in_use: usize,
 }
 
-/// A pool of connections to one namespace, which threads share. Connections are made as they are
-/// wanted, and kept.
+/// A pool of connections to one namespace, which threads share. Connections are made when they are
+/// needed, and kept.
 ///
-/// A connection that broke, timed out or replied nonsense is closed and never used again. A request
-/// that only reads (`Get`, `Has`, `Keys`), or a pipeline of such, is sent once more, on a fresh
-/// connection, where the first broke before a byte of a reply came; no other request is, since it
-/// may have run.
+/// A connection that broke, timed out or sent an invalid reply is closed and never used again. A
+/// request that only reads (`Get`, `Has`, `Keys`), or a pipeline of such, is sent once more, on a
+/// new connection, if the first broke before a byte of a reply was received; no other request is,
+/// since it may have run.
 #[derive(Debug)]
 pub struct Pool {
     address: String,
@@ -815,7 +818,7 @@ pub struct Pool {
 }
 
 impl Pool {
-    /// A pool of connections to an address, as `127.0.0.1:7411`. Connects to nothing yet.
+    /// Creates a pool of connections to an address, such as `127.0.0.1:7411`. Does not connect yet.
     pub fn new(address: impl Into<String>, options: Options) -> Pool {
         Pool {
             address: address.into(),
@@ -828,12 +831,12 @@ impl Pool {
         }
     }
 
-    /// How many connections are kept and not in use.
+    /// Returns how many connections are open and not in use.
     pub fn idle(&self) -> usize {
         self.shelf().idle.len()
     }
 
-    /// As [`Connection::pipeline`], on one connection.
+    /// Like [`Connection::pipeline`], on one connection.
     pub fn pipeline(&self, requests: &[Request<'_>]) -> Result<Replies, Error> {
         let lines = lines_of(requests)?;
         let _ticket = self.enter()?;
@@ -880,7 +883,7 @@ impl Pool {
         Ok(Ticket { pool: self })
     }
 
-    /// The connection that was used last and is still quiet, or a fresh one.
+    /// The connection that was used last, if it is still quiet, or a new one.
     fn take(&self) -> Result<Connection, Error> {
         loop {
             let last = self.shelf().idle.pop();
@@ -906,7 +909,7 @@ impl Pool {
     }
 }
 
-/// The leave to use a connection of a pool.
+/// The permission to use a connection of a pool.
 struct Ticket<'a> {
     pool: &'a Pool,
 }
@@ -927,7 +930,7 @@ pub fn hash_bytes(text: &[u8]) -> u64 {
     })
 }
 
-/// The output function of the generator SplitMix64: one to one on 64 bits.
+/// The output function of the generator SplitMix64, a bijection on 64 bits.
 pub fn mix(value: u64) -> u64 {
     let value = (value ^ (value >> 30)).wrapping_mul(0xbf58_476d_1ce4_e5b9);
     let value = (value ^ (value >> 27)).wrapping_mul(0x94d0_49bb_1331_11eb);
@@ -937,16 +940,16 @@ pub fn mix(value: u64) -> u64 {
 /// One of several servers.
 #[derive(Clone, Debug, PartialEq, Eq)]
 pub struct Server {
-    /// What its keys go by. With a name other than the address a server can move and keep its keys.
+    /// The name that determines its keys. With a name of its own it can move and keep its keys.
     pub name: String,
-    /// Where it is, as `127.0.0.1:7411`.
+    /// Its address, such as `127.0.0.1:7411`.
     pub address: String,
-    /// Its share of the keys beside the other servers' weights, 1 to 1000.
+    /// Its share of the keys relative to the other servers' weights, 1 to 1000.
     pub weight: u32,
 }
 
 impl Server {
-    /// A server of weight 1 that goes by its address.
+    /// A server of weight 1 with its address as its name.
     pub fn at(address: impl Into<String>) -> Server {
         let address = address.into();
         Server {
@@ -957,7 +960,7 @@ impl Server {
     }
 }
 
-/// Servers that cannot be taken: none, two of one name, or a weight that is not 1 to 1000.
+/// The servers are refused: there are none, two have one name, or a weight is not 1 to 1000.
 #[derive(Clone, Copy, Debug, PartialEq, Eq)]
 pub struct BadServers;
 
@@ -971,11 +974,11 @@ impl std::error::Error for BadServers {}
 
 /// Several servers, each a [`Pool`], over which keys are spread by rendezvous hashing.
 ///
-/// A server of weight w stands for w virtual ones, `NAME#0` to `NAME#(w - 1)`, and a key belongs
-/// to the server of the virtual one with the highest score for it. So where a server is added, the
-/// only keys that move are those that it gets, and where one is taken away, those that it had. The
-/// Python client gives each key to the same server. There is no copy elsewhere: where a server is
-/// gone, calls of its keys fail.
+/// A server of weight w counts as w virtual ones, `NAME#0` to `NAME#(w - 1)`, and a key belongs
+/// to the server of the virtual one with the highest score for it. So if a server is added, the
+/// only keys that move are those that it gets, and if one is removed, those that it had. The
+/// Python client gives each key to the same server. There are no replicas: if a server is
+/// down, calls for its keys fail.
 #[derive(Debug)]
 pub struct Servers {
     pools: Vec<(String, Pool)>,
@@ -984,7 +987,7 @@ pub struct Servers {
 }
 
 impl Servers {
-    /// These servers, each with a pool of these options.
+    /// Uses these servers, each with a pool with these options.
     pub fn new(servers: &[Server], options: Options) -> Result<Servers, BadServers> {
         let names: HashSet<&str> = servers.iter().map(|server| server.name.as_str()).collect();
         let are_weights = servers
@@ -1007,13 +1010,13 @@ impl Servers {
         })
     }
 
-    /// The name and the pool of the server that a key belongs to.
+    /// Returns the name and the pool of the server that a key belongs to.
     pub fn server_of(&self, key: &[u8]) -> (&str, &Pool) {
         let (name, pool) = &self.pools[self.place_of(key)];
         (name, pool)
     }
 
-    /// The names and pools of all servers.
+    /// Returns the names and pools of all servers.
     pub fn pools(&self) -> impl Iterator<Item = (&str, &Pool)> {
         self.pools.iter().map(|(name, pool)| (name.as_str(), pool))
     }
@@ -1040,19 +1043,19 @@ impl Servers {
 
     keyed_commands!(self, &Self);
 
-    /// [`Pool::clear`] of each server, also where one of them fails: then the first error is told
-    /// behind the last server.
+    /// Calls [`Pool::clear`] of each server, even if one of them fails: then the first error is
+    /// returned after the last server.
     pub fn clear(&self) -> Result<(), Error> {
         self.each(Pool::clear).map(|_| ())
     }
 
-    /// [`Pool::drop_if`] of each server, as `clear`.
+    /// Calls [`Pool::drop_if`] of each server, like `clear`.
     pub fn drop_if(&self, prefix: &[u8]) -> Result<(), Error> {
         self.each(|pool| pool.drop_if(prefix)).map(|_| ())
     }
 
-    /// The live keys of all servers, in byte order. A key that stands at two, since servers changed
-    /// meanwhile, is told once.
+    /// Returns the live keys of all servers, in byte order. A key that two servers have, since the
+    /// list of servers changed, is returned once.
     pub fn keys(&self) -> Result<Vec<Vec<u8>>, Error> {
         let mut keys = self.each(Pool::keys)?.concat();
         keys.sort_unstable();
@@ -1060,7 +1063,7 @@ impl Servers {
         Ok(keys)
     }
 
-    /// [`Pool::sync`] of each server, in their order.
+    /// Calls [`Pool::sync`] of each server, in their order.
     pub fn sync(&self) -> Result<Vec<Held>, Error> {
         self.each(Pool::sync)
     }
