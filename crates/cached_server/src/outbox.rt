@@ -132,7 +132,11 @@ impl Outbox {
 fn line_length(name: &[u8], note: &Note) -> usize
     ensures { result ≡ min (length (named_note_line name.now note.now)) 18446744073709551615 }
 {
-    name.len().saturating_add(1).saturating_add(note.line_len())
+    name.len()
+        .saturating_add(note.cause.word().len())
+        .saturating_add(note.key.as_slice().len())
+        .saturating_add(note.value.as_slice().len())
+        .saturating_add(9)
 }
 
 /// Puts a text behind others, for which there is room.
@@ -151,6 +155,11 @@ fn push_line(lines: &mut Vec<u8>, name: &[u8], note: &Note)
     ensures room { vec_capacity lines.old ≤ vec_capacity lines.new }
 {
     push(lines, name);
+    push(lines, b" NOTE ");
+    push(lines, note.cause.word());
     push(lines, b" ");
-    note.write_to(lines).unwrap();
+    push(lines, note.key.as_slice());
+    push(lines, b" ");
+    push(lines, note.value.as_slice());
+    push(lines, b"\n");
 }

@@ -1,14 +1,18 @@
 -- The text of notes.
-use Rattle.std.specs.Prelude.{◌≡◌, ◌≤◌, ◌⊎◌, ◌-◌, ◌^◌, ℕ, List, [], length}
+use Rattle.std.specs.Prelude.{◌≡◌, ◌≤◌, ◌⊎◌, ◌-◌, ◌^◌, ℕ, List, [], ◌∷◌, ◌++◌, codes, length}
 use Rattle.std.specs.List.{flat_map, slice_get}
 use Rattle.std.specs.Option.{option_map_or}
 use Rattle.audit_model.specs.declared.transcript.Note.{Note}
-use Rattle.audit_model.specs.Notes.{note_text}
+use Rattle.audit_model.specs.Notes.{cause_word}
 use Rattle.cache_run.specs.Devices.Failures.{HasFailed}
 use Rattle.cache_run.specs.declared.devices.errors.RunError.{RunError}
 use Rattle.cache_run.specs.declared.devices.errors.RunError.TheVariants as error
 use Rattle.cache_spaces.specs.Bares.{BareSpace}
 use Rattle.cache_spaces.specs.Spaces.{notices_of}
+
+-- the line of a note
+abbrev pub note_text : Note → List ℕ
+note_text note = codes "NOTE " ++ cause_word note.cause ++ 32 ∷ [] ++ note.key ++ 32 ∷ [] ++ note.value ++ 10 ∷ []
 
 -- the lines of notes, in order
 abbrev pub notes_text : List Note → List ℕ

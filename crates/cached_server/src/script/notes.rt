@@ -1,11 +1,10 @@
 //! Notes, as lines of text.
 ghost use Rattle.std.specs.Prelude.{◌≡◌, ◌≤◌, ◌<◌, ◌∷◌, [], length, IfErr, IfNone, IfSome, OnOk};
 ghost use Rattle.std.specs.Io.KnownBytes.{Appends};
-ghost use Rattle.audit_model.specs.Notes.{note_text};
 ghost use Rattle.cache_run.specs.Devices.Failures.{HasFailed};
 ghost use Rattle.cache_run.specs.Devices.Watched.{device, failures};
 ghost use Rattle.cached_server.specs.Script.Gathering.{Gathers};
-ghost use Rattle.cached_server.specs.Script.Notes.{StopsTelling, notes_text, notices_at};
+ghost use Rattle.cached_server.specs.Script.Notes.{StopsTelling, note_text, notes_text, notices_at};
 
 use crate::script::gathering::{put, write_out};
 use audit_model::Note;
