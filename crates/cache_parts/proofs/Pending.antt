@@ -193,7 +193,7 @@ module _ {S : Type 0} where
     step-front s t h (writes w rest none e after) = ap front after ∙ ap (λ (x : Part S). take (suc n) (keys_used x)) (applied-write w rest s none e)
     step-front s t h (grows words a wants capacity is_set size after) = ap front after ∙ front-rest s _ a (record { reads = a.reads; writes = a.writes }) refl
     step-front s t h (leaves r why a there held due after) = absurd (none-due n now s r why h there held due)
-    step-front s t h (evicts r a above next after) =
+    step-front s t h (evicts r a clean above next after) =
         let u : Part S = with_left cause.Size s (Some r) in
         let is : t ≡ u = after ∙ ap (λ o. with_left cause.Size s o) (first-there s.records s.access r next) in
         let last = keys-evicted n s r h a.writes next in
@@ -236,7 +236,7 @@ module _ {S : Type 0} where
     step-still s t h a fits (writes w rest none e after) = absurd (let both : [] ≡ w ∷ rest = sym a.writes ∙ e in cc)
     step-still s t h a fits (grows words b wants capacity is_set size after) = subst (λ x. IsStill s x) (sym after) (record { records = refl; access = refl; reads = refl; writes = refl; settings = refl })
     step-still s t h a fits (leaves r why b there held due after) = absurd (none-due n now s r why h there held due)
-    step-still s t h a fits (evicts r b above next after) = absurd (true≢false (sym above ∙ fits))
+    step-still s t h a fits (evicts r b clean above next after) = absurd (true≢false (sym above ∙ fits))
     step-still s t h a fits (ends place p b there none after) = subst (λ x. IsStill s x) (sym after) (record { records = refl; access = refl; reads = refl; writes = refl; settings = refl })
 
     -- steps do

@@ -1,4 +1,4 @@
--- A part of the service's cache, and which values are held where there are these parts.
+-- A part of the service's cache, and which values these parts hold.
 use Rattle.std.specs.Prelude.{◌≡◌, ℕ, suc, zero, ◌+◌, ◌*◌, ◌≤◌, ◌||◌, nat_eq, true, false, List, [], ◌∷◌, ◌++◌, map, length, Option, option_map, Some, None, is_none, IsTrue, slice_get}
 use Rattle.std.specs.List.{starts_with}
 use Rattle.audit_model.specs.Bytewise.{same}
@@ -31,7 +31,7 @@ use Rattle.cache_store.specs.Promises.{Frame}
 
 -- ---- what a part keeps, and by which rules
 
--- a value's bytes, with the milliseconds for which it was to live by itself
+-- a value's bytes, with the milliseconds for which it may live by itself
 pub record Stored : Type 0 where
   pub bytes : List ℕ
   pub milliseconds : Option ℕ
@@ -53,7 +53,7 @@ abbrev pub policy_of : Policy → EvictionPolicy
 policy_of policy.TinyLfu = TinyLfu
 policy_of policy.Lru = Lru
 
--- what each part is made with
+-- the settings with which each part is created
 abbrev pub settings_of : Config → ℕ → Settings
 settings_of config made = record {
   capacity = option_map (share config) config.capacity;
@@ -69,7 +69,7 @@ settings_of config made = record {
 abbrev pub Part : Type 0 → Type 0
 Part S = State (List ℕ) Stored (List ℕ) S Weight
 
--- ---- what is told
+-- ---- what is reported
 
 abbrev pub cause_of : RemovalCause → Cause
 cause_of cause.Expired = says.Expired
@@ -88,12 +88,12 @@ pub record IsBrief (config : Config) : Type 0 where
   pub live : (ms : ℕ) → config.live_ms ≡ Some ms → ms ≤ 999999999999
   pub idle : (ms : ℕ) → config.idle_ms ≡ Some ms → ms ≤ 999999999999
 
--- what a write adds at most
+-- the most that a write adds
 abbrev pub write_weight : Write → ℕ
 write_weight (Put u) = u.weight
 write_weight (Removed number) = 0
 
--- each write is of at most so much
+-- each write adds at most this much
 abbrev pub AreLight : ℕ → List Write → Type 0
 AreLight most [] = Unit {0}
 AreLight most (w ∷ ws) = (write_weight w ≤ most) × AreLight most ws
@@ -114,7 +114,7 @@ abbrev pub value_of : ℕ → Entry (List ℕ) Stored → Value
 value_of part e = record { key = e.key; bytes = e.value.bytes; part = part; weight = e.weight; accepted_at = e.written; own_deadline = e.expires }
 
 module _ {S : Type 0} where
-  -- the entry as a value held, leaving aside whether it may be evicted
+  -- the entry as a held value, apart from whether it may be evicted
   abbrev pub held_of : ℕ → Part S → Entry (List ℕ) Stored → HeldValue
   held_of part s e = record { value = value_of part e; last_use = e.used; covered = is_covered service_answers s e; evictable = false }
 
@@ -133,11 +133,11 @@ module _ {S : Type 0} where
       → HasPoint s.settings.capacity s.writes (map (λ u. u.write) s.unsent) owner.number
       → (h : HeldValue) → value_at held owner.entry.key ≡ Some h → h.evictable ≡ true
 
-  -- the part when its notices were taken
+  -- the part after its notices were taken
   abbrev pub drained : Part S → Part S
   drained s = record s { notices = [] }
 
-  -- the parts with another in the place of one
+  -- the parts with one of them replaced
   abbrev pub with_part : ℕ → Part S → List (Part S) → List (Part S)
   with_part k t [] = []
   with_part zero t (x ∷ parts) = t ∷ parts
@@ -159,7 +159,7 @@ module _ {S : Type 0} where
   abbrev pub put_entry : Part S → List ℕ → Stored → ℕ → ℕ → Entry (List ℕ) Stored
   put_entry s key value now step = first_entry service_answers s key value now step
 
-  -- a key is removed, its entry is told, and the ticket is sent
+  -- a key is removed, its entry is reported, and the ticket is sent
   abbrev pub taken_out : List ℕ → ℕ → Part S → Part S
   taken_out key now s = go (held_at same s.records key)
     where

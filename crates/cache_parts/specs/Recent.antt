@@ -1,4 +1,4 @@
--- Exact recency: the keys of a part of a plain LRU namespace, the one used last first.
+-- Exact recency: the keys of a part of a plain LRU namespace, the most recently used first.
 use Rattle.std.specs.Prelude.{◌≡◌, ℕ, suc, ◌≤◌, Bool, true, false, List, [], ◌∷◌, map, take, reverse, length, Option, option_map, Some, None, slice_get, IsPermutation}
 use Rattle.std.specs.List.{filter_map}
 use Rattle.audit_model.specs.Bytewise.{same}
@@ -47,7 +47,7 @@ module _ {K V : Type 0} where
   keys_in rs ns = filter_map (λ n. key_at rs n) ns
 
 module _ {K V P S R : Type 0} where
-  -- the keys of the access list, the one used last first
+  -- the keys of the access list, the most recently used first
   abbrev pub keys_used : State K V P S R → List K
   keys_used s = reverse (keys_in s.records s.access)
 
@@ -73,7 +73,7 @@ module _ {S : Type 0} where
     pub apart : AreApart same (held_entries s.records)
     pub lasting : Each IsLasting s.records
 
-  -- its order of use: these are the keys, but for those that a run will take away. After a run there are no others
+  -- its order of use: these are the keys, except for those that a run will remove. After a run there are no others
   pub record IsRecent (n : ℕ) (s : Part S) (settled : Bool) (keys : List (List ℕ)) : Type 0 where
     pub cut : take (suc n) keys ≡ take (suc n) (keys_used (applied s))
     pub whole : settled ≡ true → (s.reads ≡ []) × (s.writes ≡ []) × (keys ≡ keys_used s)
@@ -87,12 +87,12 @@ module _ {S : Type 0} where
 module _ (S : Type 0) where
   -- ---- runs
 
-  -- a run to its end keeps the `suc n` keys used last
+  -- a run to its end keeps the `suc n` most recently used keys
   abbrev pub RunKeepsRecent : Type 0
   RunKeepsRecent =
       (n now : ℕ) (s new : Part S) (settled : Bool) (keys : List (List ℕ)) → IsPlain n s → IsRecent n s settled keys → RunsToEnd service_answers now s new → IsRecent n new true (take (suc n) keys)
 
-  -- a run that may be cut keeps them too
+  -- a run that may be cut short keeps them too
   abbrev pub CutRunKeepsRecent : Type 0
   CutRunKeepsRecent =
       (n now : ℕ) (s new : Part S) (settled : Bool) (keys : List (List ℕ)) → IsPlain n s → IsRecent n s settled keys → Runs service_answers now s new → IsRecent n new false keys
@@ -126,7 +126,7 @@ module _ (S : Type 0) where
   abbrev pub TakingKeepsRecent : Type 0
   TakingKeepsRecent = (n : ℕ) (s : Part S) (settled : Bool) (keys : List (List ℕ)) → IsRecent n s settled keys → IsRecent n (record s { notices = [] }) settled keys
 
-  -- ---- what it is of a new part, and of the keys held
+  -- ---- for a new part, and for the keys held
 
   abbrev pub NewIsRecent : Type 0
   NewIsRecent = (n : ℕ) (name : Option (List ℕ)) (settings : Settings) (hasher : S) (rules : Weight) (s : Part S) → IsNew name settings hasher rules s → IsRecent n s true []
@@ -134,7 +134,7 @@ module _ (S : Type 0) where
   abbrev pub RecentAreHeld : Type 0
   RecentAreHeld = (n : ℕ) (s : Part S) (keys : List (List ℕ)) → IsPlain n s → IsRecent n s true keys → IsPermutation (map (λ e. e.key) (held_entries s.records)) keys
 
-  -- what runs and calls keep of exact recency
+  -- how runs and calls keep exact recency
   pub record RecencyIsKept : Type 0 where
     pub run : RunKeepsRecent
     pub cut_run : CutRunKeepsRecent
@@ -149,7 +149,7 @@ module _ (S : Type 0) where
 -- ---- all parts
 
 module _ {S : Type 0} where
-  -- what recency needs of what a store keeps of a part
+  -- what recency requires of what a store keeps of a part
   pub record IsPartOf (frame : Frame) (part step : ℕ) (s : Part S) : Type 0 where
     pub settings : s.settings ≡ settings_of frame.config frame.made
     pub rules : s.rules ≡ frame.config.weight
@@ -164,7 +164,8 @@ module _ {S : Type 0} where
     pub number : length parts ≡ part_count frame.config
     pub each : (part : ℕ) (s : Part S) → slice_get parts part ≡ Some s → IsPartOf frame part step s
 
-  -- the order of use that a store of these parts knows: after a run of all they have just these keys; and under plain LRU its one part has them in their order of use
+  -- the order of use that a store of these parts knows: after a run of all they have exactly these keys; and under plain LRU its one part
+  -- has them in their order of use
   pub record IsRecentOver (config : Config) (parts : List (Part S)) (settled : Bool) (keys : List (List ℕ)) : Type 0 where
     pub held : settled ≡ true → AreKeysOf (items_of 0 parts) keys
     pub recent : (n part : ℕ) (s : Part S) → IsPlainLru config n → slice_get parts part ≡ Some s → IsRecent n s settled keys

@@ -36,7 +36,8 @@ module _ (S : Type 0) where
       (a : StoreOfParts S) (now : ℕ) (key : List ℕ) (s : Part S) → IsWhole a → slice_get a.parts (a.frame.part_of key) ≡ Some s
       → IsLive (view a) now key (option_map (λ value. value.bytes) (visible_value service_answers same s now key))
 
-  -- `count_live`, `write_live_keys`: of keys that are each there once, just those of which something is visible are the live keys, once in byte order
+  -- `count_live`, `write_live_keys`: of keys that are each there once, exactly those of which something is visible are the live keys, once
+  -- in byte order
   abbrev pub LiveKeysMeet : Type 0
   LiveKeysMeet =
       (a : StoreOfParts S) (now : ℕ) (keys : List (List ℕ)) → IsWhole a → are_distinct keys ≡ true
@@ -50,7 +51,7 @@ module _ (S : Type 0) where
       → CallsAt (a.frame.part_of key) (NotesLookUp service_answers same key hash now false) a.parts parts
       → Does now (using key) (view a) (view (after now next parts a)) × IsWhole (after now next parts a)
 
-  -- `accept`: a value is inserted, where there is room for one more
+  -- `accept`: a value is inserted, if there is room for one more
   abbrev pub AcceptMeets : Type 0
   AcceptMeets =
       (a : StoreOfParts S) (now next hash : ℕ) (key bytes : List ℕ) (milliseconds : Option ℕ) (looked_up : Bool) (parts : List (Part S)) → IsWhole a → ComesTo a now next
@@ -58,7 +59,7 @@ module _ (S : Type 0) where
       → CallsAt (a.frame.part_of key) (Inserts service_answers same key hash (stored bytes milliseconds) now next) a.parts parts
       → AcceptsValue now key bytes milliseconds looked_up (a.frame.part_of key) (view a) (view (after now next parts a)) × IsWhole (after now next parts a)
 
-  -- `remove`: the key is taken out, whether it is there or not
+  -- `remove`: the key is removed, whether it is there or not
   abbrev pub RemoveMeets : Type 0
   RemoveMeets =
       (a : StoreOfParts S) (now next : ℕ) (key : List ℕ) (parts : List (Part S)) → IsWhole a → ComesTo a now next
@@ -72,7 +73,7 @@ module _ (S : Type 0) where
       → CallsEach (λ s t. t ≡ cleared_by next s) a.parts parts
       → Does now (covering Everything) (view a) (view (passed now next parts a)) × IsWhole (passed now next parts a)
 
-  -- `drop_prefix`: all parts draw, and a predicate stands in each at the next step
+  -- `drop_prefix`: all parts draw, and a predicate is registered in each at the next step
   abbrev pub DropMeets : Type 0
   DropMeets =
       (a : StoreOfParts S) (now next : ℕ) (prefix : List ℕ) (stream : Stream) (ids : List ℕ) → IsWhole a → ComesTo a now next → a.step < next
@@ -80,11 +81,11 @@ module _ (S : Type 0) where
       → let b = record a { frame = record a.frame { dropped = true; latest = now }; parts = registered_in prefix next ids a.parts; stream = stream; step = next } in
       Does now (covering (Prefixed prefix)) (view a) (view b) × IsWhole b
 
-  -- or one of them drew in vain, and nothing else has changed
+  -- or one of them lacked identifiers, and nothing else has changed
   abbrev pub LacksMeets : Type 0
   LacksMeets = (a : StoreOfParts S) (stream : Stream) → IsWhole a → DrawsInVain a.parts a.stream stream → LacksIdentifiers (view a) (view (record a { stream = stream })) × IsWhole (record a { stream = stream })
 
-  -- the number and the weight of all parts, as of their last runs, up to the largest number of 64 bits
+  -- the number and the weight of all parts, as of their last runs, at most 2^64 - 1
   abbrev pub total_number : List (Part S) → ℕ
   total_number parts = min (sum_by (λ s. s.number) parts) 18446744073709551615
 
@@ -112,7 +113,7 @@ module _ (S : Type 0) where
     pub tickets : (a : StoreOfParts S) (part rooms : ℕ) (s : Part S) → IsWhole a → slice_get a.parts part ≡ Some s → rooms ≤ 2 → 2 ^ 64 ≤ s.next_ticket + s.reserved + rooms → IsSpent (view a)
     pub steps : (a : StoreOfParts S) → 2 ^ 64 ≤ suc a.step → IsSpent (view a)
 
-  -- a store that was just made holds nothing
+  -- a store that was just created holds nothing
   abbrev pub NewMeets : Type 0
   NewMeets =
       (a : StoreOfParts S) (name : Option (List ℕ)) (hasher : S) → length a.parts ≡ part_count a.frame.config → ((key : List ℕ) → a.frame.part_of key < part_count a.frame.config) → IsBrief a.frame.config
@@ -125,7 +126,8 @@ module _ (S : Type 0) where
     pub taken : (parts : List (Part S)) (n : Notice (List ℕ) Stored) → next_told parts ≡ Some n → (waiting parts ≡ note_from n ∷ waiting (without_told parts)) × (all_drained (without_told parts) ≡ all_drained parts)
     pub done : (parts : List (Part S)) → next_told parts ≡ None → (waiting parts ≡ []) × (all_drained parts ≡ parts)
 
-  -- a front's call left these parts (as `CallsPart` and `CallsAll` say it): the store over the front, when what they told was taken from them, and where nothing was told
+  -- a front's call left these parts (as `CallsPart` and `CallsAll` say it): the store over the front, after what they reported was taken
+  -- from them, and if nothing was reported
   pub record FrontMeets : Type 0 where
     pub told : (config : Config) (made : ℕ) (dropped : Bool) (hash : List ℕ → ℕ) (queue : List Note) (stream : Stream) (f g : Front (List ℕ) Stored (List ℕ) S Weight) (parts : List (Part S)) (now next : ℕ)
         → g ≡ front_passed now next (record f { parts = parts })

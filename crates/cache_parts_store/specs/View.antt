@@ -12,8 +12,8 @@ use Rattle.cache_parts.specs.Recent.{IsRecentOver}
 use Rattle.cache_parts_store.specs.PartsKept.Keeping.{AreKeptParts, at_moment}
 use Rattle.cache_parts_store.specs.PartsKept.Registering.{register_of}
 
--- What it was made with, its parts, the notes that were taken from them and not from it, the generator of identifiers, and the step of the
--- last call. `S` is the hasher of the parts.
+-- Its configuration and the moment of its creation, its parts, the notes that were taken from them and not from it, the generator of
+-- identifiers, and the step of the last call. `S` is the hasher of the parts.
 pub record StoreOfParts (S : Type 0) : Type 0 where
   pub frame : Frame
   pub parts : List (Part S)
@@ -22,7 +22,7 @@ pub record StoreOfParts (S : Type 0) : Type 0 where
   pub step : ℕ
 
 module _ {S : Type 0} where
-  -- the store of a front's parts: what it was made with, whether a `DROPIF` was accepted, how keys are hashed, its queue and its generator
+  -- the store of a front's parts: how it was created, whether a `DROPIF` was accepted, how keys are hashed, its queue and its generator
   abbrev pub over_front : (config : Config) (made : ℕ) (dropped : Bool) (hash : List ℕ → ℕ) → List Note → Stream → Front (List ℕ) Stored (List ℕ) S Weight → StoreOfParts S
   over_front config made dropped hash queue stream f = record {
     frame = record { config = config; part_of = λ key. part_of f.bits (hash key); made = made; dropped = dropped; latest = f.moment };
@@ -53,7 +53,7 @@ module _ {S : Type 0} where
   abbrev pub AreUnreserved : List (Part S) → Type 0
   AreUnreserved parts = (k : ℕ) (s : Part S) → slice_get parts k ≡ Some s → s.reserved ≡ 0
 
-  -- what is so between calls
+  -- what is true between calls
   pub record IsWhole (a : StoreOfParts S) : Type 0 where
     pub kept : AreKeptParts a.frame a.step a.parts
     pub small : length (items_of 0 a.parts) ≤ 2 ^ 50
@@ -77,12 +77,12 @@ module _ {S : Type 0} where
   all_drained [] = []
   all_drained (s ∷ parts) = drained s ∷ all_drained parts
 
-  -- ---- what a call makes of the store
+  -- ---- what a call does to the store
 
-  -- these are its parts then, and nothing was told
+  -- these are its parts afterwards, and nothing was reported
   abbrev pub passed : (now next : ℕ) (parts : List (Part S)) → StoreOfParts S → StoreOfParts S
   passed now next parts a = record a { frame = at_moment a.frame now; parts = parts; step = next }
 
-  -- these are its parts, and what they told was taken from them
+  -- these are its parts, and what they reported was taken from them
   abbrev pub after : (now next : ℕ) (parts : List (Part S)) → StoreOfParts S → StoreOfParts S
   after now next parts a = record a { frame = at_moment a.frame now; parts = all_drained parts; queue = a.queue ++ waiting parts; step = next }

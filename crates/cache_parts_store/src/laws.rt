@@ -36,7 +36,7 @@ pub fn drop_meets<S>()
     ensures { DropMeets S }
 {}
 
-/// Where a part drew in vain, so does the store.
+/// If a part lacks identifiers, so does the store.
 pub fn lacks_meets<S>()
     ensures { LacksMeets S }
 {}
@@ -56,12 +56,12 @@ pub fn notice_meets<S>()
     ensures { NoticeMeets S }
 {}
 
-/// Where a part has no tickets left, or there is no further step, the numbers are used up.
+/// If a part has no tickets left, or there is no further step, the numbers are used up.
 pub fn used_up_meets<S>()
     ensures { UsedUpMeets S }
 {}
 
-/// A store just made is whole, and holds nothing.
+/// A new store is whole, and holds nothing.
 pub fn new_meets<S>()
     ensures { NewMeets S }
 {}

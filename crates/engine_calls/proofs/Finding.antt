@@ -75,9 +75,6 @@ module _ {K V P S R : Type 0} (answers : Answers K V P R) (eq : K → K → Bool
   pub visible-as : (r : Record K V) (b : Bool) → held_at eq s.records key ≡ Some r → is_visible answers s now r.entry ≡ b → visible_record answers eq s now key ≡ cond b (Some r) None
   visible-as r b held e = ap (λ o. passing (λ x. is_visible answers s now x.entry) o) held ∙ ap (λ c. cond c (Some r) None) e
 
-  pub visible-none : held_at eq s.records key ≡ None → visible_record answers eq s now key ≡ None
-  visible-none none = ap (λ o. passing (λ x. is_visible answers s now x.entry) o) none
-
 module _ {K V P S R : Type 0} (eq : K → K → Bool) (t : Kept K V P S R) (hash place : ℕ) (key : K) where
   pub found-in : (r : Record K V) (o : Option (Record K V)) → kept_at t place ≡ Some r → held_at eq t.state.records key ≡ Some r → r.hash ≡ hash → o ≡ Some r → IsFoundIn t hash o place
   found-in r o there held hash_is is = record { found = r; is = is; there = there; held = (and_parts _ _ (held-match eq t.state.records key r held)).0; hash_is = hash_is }

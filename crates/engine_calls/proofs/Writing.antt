@@ -1,10 +1,11 @@
 -- What a write makes of the tables is what the reference cache says.
-use Rattle.std.proofs.Common.{◌≡◌, refl, ap, sym, ◌∙◌, ℕ, ◌+◌, ◌-◌, ◌≤◌, Bool, true, false, cond, arith, [], ◌∷◌, ◌++◌, Option, Some, None}
+use Rattle.std.proofs.Common.{◌≡◌, refl, ap, sym, ◌∙◌, ℕ, ◌+◌, ◌-◌, Bool, true, false, List, [], ◌∷◌, ◌++◌, Option, Some, None}
 use Rattle.engine_reference.specs.declared.rules.causes.RemovalCause.{RemovalCause}
 use Rattle.engine_reference.specs.declared.data.Entry.{Entry}
+use Rattle.engine_reference.specs.declared.data.Notice.{Notice}
 use Rattle.engine_reference.specs.declared.data.Record.{Record}
 use Rattle.engine_reference.specs.declared.data.Write.TheVariants.{Removed}
-use Rattle.engine_reference.specs.Calls.{removal_rooms, with_reserved_removal, with_put, with_written, first_entry, next_entry, used_entry, with_read}
+use Rattle.engine_reference.specs.Calls.{with_put, with_written, next_entry, used_entry, with_read}
 use Rattle.engine_reference.specs.declared.data.Read.TheVariants.{Hit}
 use Rattle.engine_reference.specs.Records.{record_at, changed_at}
 use Rattle.engine_reference.specs.State.{State, Answers}
@@ -15,14 +16,16 @@ use Rattle.engine_cells.specs.Kept.{Kept, kept_at}
 use Rattle.engine_calls.proofs.Finding.{changed-alike, changed-none, kept-changed, kept-number}
 
 module _ {K V : Type 0} where
-  abbrev pub first_record : ℕ → ℕ → Entry K V → Record K V
-  first_record number hash e = record { number = number; hash = hash; entry = e; is_held = true; writes = 1; applied = 0; counts = None }
-
   abbrev pub next_record : Entry K V → Record K V → Record K V
   next_record e r = record r { entry = e; writes = r.writes + 1 }
 
   abbrev pub used-as : ℕ → Option ℕ → Record K V → Record K V
   used-as moment expires x = record x { entry = record x.entry { used = moment; expires = expires } }
+
+  -- where nothing is told, the cause does not matter
+  told_alike : (tells : Bool) (why other : RemovalCause) (e : Entry K V) (ns : List (Notice K V)) → (tells ≡ true → why ≡ other) → told tells why e ns ≡ told tells other e ns
+  told_alike true why other e ns h = ap (λ w. told true w e ns) (h refl)
+  told_alike false why other e ns h = refl
 
   abbrev pub marked : Record K V → Record K V
   marked r = record r { is_held = false; writes = r.writes + 1 }
@@ -48,17 +51,12 @@ module _ {K V P S R : Type 0} (answers : Answers K V P R) where
   abbrev over_with : State K V P S R → Record K V → Entry K V → RemovalCause → ℕ → State K V P S R
   over_with s r e why hash = with_put answers r.number (r.writes + 1) e.weight hash (record s { records = changed_at r.number (next_record e) s.records; notices = told s.settings.tells why r.entry s.notices })
 
-  pub first-written : (s : State K V P S R) (key : K) (hash : ℕ) (value : V) (now step number : ℕ) (e : Entry K V) → e ≡ first_entry answers s key value now step → number ≡ s.next_number
-      → added s (first_record number hash e) ≡ with_written answers None s key hash value now step
-  first-written s key hash value now step number e ee en =
-      ap (λ m. added s (first_record m hash e)) en ∙ ap (λ x. added s (first_record s.next_number hash x)) ee
-
   pub over-written : (s : State K V P S R) (key : K) (hash : ℕ) (value : V) (now step : ℕ) (e : Entry K V) (why : RemovalCause) (r : Record K V)
-      → e ≡ next_entry answers s r.entry key value now step → why ≡ cause_of_write answers s now r.entry → r.hash ≡ hash
+      → e ≡ next_entry answers s r.entry key value now step → (s.settings.tells ≡ true → why ≡ cause_of_write answers s now r.entry) → r.hash ≡ hash
       → over s e why r ≡ with_written answers (Some r) s key hash value now step
   over-written s key hash value now step e why r ee ew eh =
       ap (λ x. over_with s r x why r.hash) ee
-      ∙ ap (λ w. over_with s r (next_entry answers s r.entry key value now step) w r.hash) ew
+      ∙ ap (λ ns. with_put answers r.number (r.writes + 1) (next_entry answers s r.entry key value now step).weight r.hash (record s { records = changed_at r.number (next_record (next_entry answers s r.entry key value now step)) s.records; notices = ns })) (told_alike s.settings.tells why (cause_of_write answers s now r.entry) r.entry s.notices ew)
       ∙ ap (λ h. over_with s r (next_entry answers s r.entry key value now step) (cause_of_write answers s now r.entry) h) eh
 
   abbrev pub used : State K V P S R → ℕ → Record K V → Record K V
@@ -98,11 +96,3 @@ module _ {K V P S R : Type 0} (answers : Answers K V P R) where
   -- a read of the record of a number, whichever it was
   pub read-alike : (s : State K V P S R) (r x : Record K V) (hash now : ℕ) → x.number ≡ r.number → with_read answers (Some x) hash now s ≡ with_read answers (Some r) hash now s
   read-alike s r x hash now same = ap (λ n. record s { records = changed_at n (used s now) s.records; reads = s.reads ++ Hit n hash ∷ [] }) same
-
-room-left : (n : ℕ) (tells : Bool) → cond tells 2 1 ≤ n → n - 1 ≡ cond tells ((n - cond tells 2 1) + 1) (n - cond tells 2 1)
-room-left n true enough = omega arith
-room-left n false enough = omega arith
-
-module _ {K V P S R : Type 0} where
-  pub removed-at : (s : State K V P S R) (r : Record K V) → removal_rooms s.settings ≤ s.reserved → taken s r ≡ with_reserved_removal (Some r) s
-  removed-at s r enough = ap (λ n. record (taken s r) { reserved = n }) (room-left s.reserved s.settings.tells enough)

@@ -6,7 +6,7 @@ use Rattle.engine_reference.specs.declared.rules.refusal.Refusal.TheVariants as 
 use Rattle.engine_reference.specs.Identifiers.Drawing.{AreInUse, is_registered}
 use Rattle.engine_reference.specs.State.{State}
 
--- the cause of a refusal, where the generator had one stream and another is left: an identifier was drawn only where all that were are in use
+-- the cause of a refusal, if the generator had one stream and another is left: an identifier was drawn only if all that were are in use
 abbrev pub IsCauseToRegister : {K V P S R : Type 0} → State K V P S R → Stream → Stream → Refusal → Type 0
 IsCauseToRegister s drawn left refusal.OutOfMemory = left ≡ drawn
 IsCauseToRegister s drawn left refusal.InvalidationClosuresDisabled = (left ≡ drawn) × (s.settings.takes_predicates ≡ false)

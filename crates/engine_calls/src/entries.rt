@@ -98,17 +98,21 @@ pub fn expires_after_use<K: Eq + Hash, V, S: BuildHasher, R: Rules<K, V>>(
     changed(now, answer, entry.expires)
 }
 
-/// What a write tells of the value in a place that it replaces.
+/// What a write tells of the value in a place that it replaces, where removals are told.
 pub fn cause_of_write<K: Eq + Hash, V, S: BuildHasher, R: Rules<K, V>>(
     tables: &Tables<K, V, S, R>,
     place: usize,
     now: u64,
 ) -> RemovalCause
     requires { is_some (kept_at tables.now place) ≡ true }
-    ensures { (r : Record K V) → kept_at tables.now place ≡ Some r → result ≡ cause_of_write (answers_of R.weight_of R.created R.read R.updated R.covers) tables.now.state now r.entry }
+    ensures { (r : Record K V) → kept_at tables.now place ≡ Some r → tables.now.state.settings.tells ≡ true → result ≡ cause_of_write (answers_of R.weight_of R.created R.read R.updated R.covers) tables.now.state now r.entry }
 {
+    let settings = tables.settings();
+    if !settings.tells {
+        return RemovalCause::Replaced;
+    }
     let entry = &tables.record_in(place).entry;
-    if is_dead(tables.settings(), now, entry) {
+    if is_dead(settings, now, entry) {
         return RemovalCause::Expired;
     }
     if tables.is_over(entry) {

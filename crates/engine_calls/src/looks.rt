@@ -1,4 +1,4 @@
-//! What is found under a key, and what is done with it.
+//! Look-ups by key, and what follows them.
 ghost use Rattle.std.specs.Prelude.{◌≡◌, ℕ, true, is_some, Option, Some, IfOk, option_map, option_copied};
 ghost use Rattle.std.specs.Fn.{FnOnceReturnsAt};
 ghost use Rattle.engine_calls.specs.Finding.{WasFound, PassesOver};
@@ -16,7 +16,7 @@ use engine_tables::Tables;
 use std::alloc::AllocError;
 use std::hash::{BuildHasher, Hash, Hasher};
 
-/// The record of a key, where it is held.
+/// The record of a key, if it is held.
 pub fn held<'a, K: Eq + Hash, V, S: BuildHasher, R: Rules<K, V>, Q: Names<K>>(
     tables: &'a Tables<K, V, S, R>,
     key: &Q,
@@ -31,7 +31,7 @@ pub fn held<'a, K: Eq + Hash, V, S: BuildHasher, R: Rules<K, V>, Q: Names<K>>(
     }
 }
 
-/// Whether the record in a place is alive, and nothing stands over it.
+/// Whether the record in a place is alive and not covered by a clear or a predicate.
 fn is_seen_at<K: Eq + Hash, V, S: BuildHasher, R: Rules<K, V>>(
     tables: &Tables<K, V, S, R>,
     place: usize,
@@ -99,7 +99,7 @@ pub fn look_up<'a, K: Eq + Hash, V, S: BuildHasher, R: Rules<K, V>, Q: Names<K>>
     }
 }
 
-/// A clone of a record's value, where there is one.
+/// A clone of a record's value, if there is one.
 pub fn clone_value<K, V: Clone>(found: Option<&Record<K, V>>) -> Result<Option<V>, AllocError>
     requires exact { (x y : V) → V.is_clone x y → y ≡ x }
     ensures { IfOk result (λ value. value ≡ option_map (λ r. r.entry.value) (option_copied found.entry)) }
@@ -113,7 +113,7 @@ pub fn clone_value<K, V: Clone>(found: Option<&Record<K, V>>) -> Result<Option<V
     }
 }
 
-/// A clone of a record's key, where there is one.
+/// A clone of a record's key, if there is one.
 pub fn clone_key<K: Clone, V>(found: Option<&Record<K, V>>) -> Result<Option<K>, AllocError>
     requires exact_key { (x y : K) → K.is_clone x y → y ≡ x }
     ensures { IfOk result (λ key. key ≡ option_map (λ r. r.entry.key) (option_copied found.entry)) }
@@ -167,7 +167,7 @@ fn is_ignored<K: Eq + Hash, V, S: BuildHasher, R: Rules<K, V>, F: FnOnce(&V) -> 
     says_of(ignore_if, &found.entry.value)
 }
 
-/// The place of what was found, where it is not one to pass over. What says so is asked only where something was found.
+/// The place of what was found, unless it is to be passed over. The test is called only if something was found.
 pub fn pass_over<K: Eq + Hash, V, S: BuildHasher, R: Rules<K, V>, F: FnOnce(&V) -> bool + Drop>(
     tables: &Tables<K, V, S, R>,
     place: Option<usize>,

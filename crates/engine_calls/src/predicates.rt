@@ -1,4 +1,4 @@
-//! Predicates that invalidate what they cover, in two halves: an identifier and room, and then the predicate.
+//! Predicates that invalidate what they cover, in two halves: first an identifier and room, then the predicate.
 ghost use Rattle.std.specs.Prelude.{◌≡◌, ◌+◌, ◌<◌, ◌≤◌, ◌^◌, ◌⊎◌, true, false, IfOk, IfErr, OnOk, OnErr};
 ghost use Rattle.std.specs.Result.{IsErrOf};
 ghost use Rattle.engine_calls.specs.Refusing.{IsCauseToRegister};
@@ -10,7 +10,7 @@ use engine_tables::Tables;
 use rand_core::Rng;
 use std::hash::{BuildHasher, Hash};
 
-/// Makes room for a predicate, where predicates are taken.
+/// Makes room for a predicate, if the cache accepts predicates.
 pub fn reserve<K: Eq + Hash, V, S: BuildHasher, R: Rules<K, V>>(
     tables: &mut Tables<K, V, S, R>,
 ) -> Result<(), Refusal>
@@ -44,7 +44,7 @@ pub fn draw_id<K: Eq + Hash, V, S: BuildHasher, R: Rules<K, V>, G: Rng>(
     }
 }
 
-/// Draws an identifier for a predicate and makes room for it. After a refusal nothing has changed; an identifier was drawn only where all that were are in use.
+/// Draws an identifier for a predicate and makes room for it. After a refusal nothing else has changed; a further identifier was drawn only if all earlier ones are in use.
 pub fn prepare<K: Eq + Hash, V, S: BuildHasher, R: Rules<K, V>, G: Rng>(
     tables: &mut Tables<K, V, S, R>,
     generator: &mut G,
@@ -66,7 +66,7 @@ pub fn prepare<K: Eq + Hash, V, S: BuildHasher, R: Rules<K, V>, G: Rng>(
     }
 }
 
-/// Registers a predicate under its identifier, for which there is room: it covers what was written at earlier steps.
+/// Registers a predicate under its identifier, in reserved room. It covers what was written at earlier steps.
 pub fn commit<K: Eq + Hash, V, S: BuildHasher, R: Rules<K, V>>(
     tables: &mut Tables<K, V, S, R>,
     id: u128,

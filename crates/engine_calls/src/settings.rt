@@ -6,7 +6,7 @@ ghost use Rattle.engine_reference.specs.Calls.{removal_rooms};
 use engine_reference::{Policy, Settings};
 use std::time::Duration;
 
-/// A time of so many nanoseconds, where there is one.
+/// A time of this many nanoseconds, if there is one.
 fn time_of(nanos: Option<u64>) -> Option<Duration>
     ensures { option_map as_nanos result ≡ nanos }
 {
@@ -31,7 +31,7 @@ pub fn policy_of(settings: Settings) -> Policy
     )
 }
 
-/// For how much a removal by key needs room: its own write, and where removals are told its notice.
+/// How much room a removal by key needs: for its own write and, if removals are reported, its notice.
 pub fn rooms_of_removal(settings: Settings) -> u64
     ensures { result ≡ removal_rooms settings }
 {

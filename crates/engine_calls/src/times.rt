@@ -46,7 +46,7 @@ fn earlier_of(a: Option<u64>, b: Option<u64>) -> Option<u64>
     }
 }
 
-/// How long it is until an entry's deadline: nothing where it has come.
+/// The time until an entry's deadline: zero if it has passed.
 pub fn time_left<K, V>(settings: Settings, now: u64, entry: &Entry<K, V>) -> Option<Duration>
     ensures { option_map as_nanos result ≡ time_left settings now entry.now }
 {

@@ -30,7 +30,7 @@ pub fn use_in<K: Eq + Hash, V, S: BuildHasher, R: Rules<K, V>>(
     tables.push_hit(place, hash);
 }
 
-/// A look-up that found the record of a number uses it, where it is still there, and its read waits to be counted.
+/// A look-up that found the record of a number uses it, if it is still there, and its read waits to be counted.
 pub fn use_found<K: Eq + Hash, V, S: BuildHasher, R: Rules<K, V>>(
     tables: &mut Tables<K, V, S, R>,
     number: u64,

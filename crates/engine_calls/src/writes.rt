@@ -68,7 +68,7 @@ fn write_over<K: Eq + Hash + Drop, V: Drop, S: BuildHasher, R: Rules<K, V>>(
     tables.write_over(place, entry, cause);
 }
 
-/// Writes a value under its key, for which there is room. What it replaces is told.
+/// Writes a value under its key, in reserved room. What it replaces is reported.
 pub fn write<K: Eq + Hash + Drop, V: Drop, S: BuildHasher, R: Rules<K, V>>(
     tables: &mut Tables<K, V, S, R>,
     key: K,
@@ -133,7 +133,7 @@ fn make_removal_room<K: Eq + Hash, V, S: BuildHasher, R: Rules<K, V>>(
     Ok(())
 }
 
-/// Clones of the key and value that are held under a key, and room for its removal, and for its notice where removals are told.
+/// Returns clones of the key and value that are held under a key, and makes room for its removal and, if removals are reported, for its notice.
 pub fn prepare_removal<
     K: Eq + Hash + Clone + Drop,
     Q: Names<K>,
@@ -175,7 +175,7 @@ fn remove_at<K: Eq + Hash, V, S: BuildHasher, R: Rules<K, V>, Q: Names<K>>(
     tables.mark_removed(place);
 }
 
-/// Removes a key in the room that was made for it, and answers its entry as it is now, of whose key and value these are clones, and the ticket of the removal.
+/// Removes a key in reserved room. Returns its entry as it is now, built of these clones of its key and value, and the ticket of the removal.
 pub fn remove_reserved<K: Eq + Hash + Drop, Q: Names<K>, V: Drop, S: BuildHasher, R: Rules<K, V>>(
     tables: &mut Tables<K, V, S, R>,
     key: &Q,
@@ -200,7 +200,7 @@ pub fn remove_reserved<K: Eq + Hash + Drop, Q: Names<K>, V: Drop, S: BuildHasher
     }
 }
 
-/// Tells an entry that was removed by its key, where removals are told.
+/// Reports an entry that was removed by its key, if removals are reported.
 pub fn tell_removed<K: Eq + Hash + Drop, V: Drop, S: BuildHasher, R: Rules<K, V>>(
     tables: &mut Tables<K, V, S, R>,
     entry: Entry<K, V>,

@@ -100,9 +100,6 @@ module _ {T : Type 0} (cs : List (Drawer T)) (len next : ℕ) (h : AreSound cs l
       fits = omega (arith, h.fits, length-set cs k (drawer.Taken v));
     }
 
-    pub rewritten_len : (v : T) → count_by is_some (map value_of (map entry_of (set cs k (drawer.Taken v)))) ≡ count_by is_some (map value_of es)
-    rewritten_len v = rw (map-set entry_of cs k (drawer.Taken v)) (omega (arith, count-set es k (Occupied taken.0) (Occupied v) taken.1))
-
   -- a write of one cell changes what its key finds, and no other
   pub updated : (s t : Slab T) (k : ℕ) (c : Drawer T) → k < length cs → s.slots ≡ map value_of es → t.slots ≡ map value_of (map entry_of (set cs k c)) → Updates s t k (value_of (entry_of c))
   updated s t k c within was is = Updates-set s t k (value_of (entry_of c)) (omega (arith, longs, ap length was, length-map es value_of)) (is ∙ ap (map value_of) (map-set entry_of cs k c) ∙ map-set value_of es k (entry_of c) ∙ ap (λ xs. set xs k (value_of (entry_of c))) (sym was))

@@ -1,10 +1,9 @@
 -- The held records in the order of their numbers, and their keys.
-use Rattle.std.proofs.Common.{◌≡◌, refl, ap, sym, ◌∙◌, ℕ, ◌+◌, ◌≤◌, suc, zero, arith, Bool, true, false, cond, eqb, List, [], ◌∷◌, ◌++◌, Option, Some, None, length, drop}
+use Rattle.std.proofs.Common.{◌≡◌, refl, ap, sym, ◌∙◌, ℕ, ◌+◌, suc, zero, arith, Bool, true, false, cond, eqb, List, [], ◌∷◌, ◌++◌, Option, Some, None, drop}
 use Rattle.std.specs.Prelude.{map, sum_by}
 use Rattle.std.specs.List.{AllByRecursion}
 use Rattle.std.specs.List.Sorted.{IsPermutation, IsNonDecreasingBy}
 use Rattle.std.proofs.lemmas.Bool.{eq-eqb, ne_eqb}
-use Rattle.std.proofs.lemmas.List.{append_assoc}
 use Rattle.std.proofs.lemmas.List.Elements.{All-from_recursion, recursion_from_All}
 use Rattle.std.proofs.lemmas.List.Sorted.{All-permutation, sum_by-IsPermutation}
 use Rattle.std.proofs.lemmas.List.Sums.{sum_by-cons}
@@ -21,15 +20,6 @@ use Rattle.engine_cells.proofs.Placed.{AllAbove, AreRising}
 use Rattle.engine_cells.proofs.Sorting.{count, AllFrom, NeverFall, same-counts, sorted-never_falls}
 use Rattle.engine_cells.proofs.Totals.{sum_over-is}
 
-one-more : (i : ℕ) → i + 1 ≡ suc i
-one-more i = omega arith
-
-pub drop-all : {X : Type 0} (n : ℕ) (xs : List X) → length xs ≤ n → drop n xs ≡ []
-drop-all zero [] h = refl
-drop-all zero (x ∷ xs) h = absurd (omega arith)
-drop-all (suc n) [] h = refl
-drop-all (suc n) (x ∷ xs) h = drop-all n xs (omega arith)
-
 listed-counted : (n : ℕ) (ss : List Stand) → count n (map (λ s. s.number) ss) ≡ sum_by (λ (s : Stand). cond (eqb s.number n) 1 0) ss
 listed-counted n [] = refl
 listed-counted n (s ∷ ss) = ap (λ m. cond (eqb s.number n) 1 0 + m) (listed-counted n ss) ∙ sym (sum_by-cons (λ (x : Stand). cond (eqb x.number n) 1 0) s ss)
@@ -42,16 +32,6 @@ module _ {K V : Type 0} where
   step [] k (suc i) = refl
   step (o ∷ cells) k zero = refl
   step (o ∷ cells) k (suc i) = step cells k i
-
-  pub stands-next : (found : List Stand) (cells : List (Option (Record K V))) (i : ℕ) → (found ++ stand_of i (cell_at cells i)) ++ stands_from (i + 1) (drop (i + 1) cells) ≡ found ++ stands_from i (drop i cells)
-  stands-next found cells i =
-      append_assoc found (stand_of i (cell_at cells i)) (stands_from (i + 1) (drop (i + 1) cells))
-      ∙ ap (λ n. found ++ (stand_of i (cell_at cells i) ++ stands_from (i + 1) (drop n cells))) (one-more i)
-      ∙ ap (λ l. found ++ l) (step cells i i)
-
-  pub keys-next : (keys : List K) (cells : List (Option (Record K V))) (ss : List Stand) (s : Stand) (i : ℕ) → drop i ss ≡ s ∷ drop (i + 1) ss
-      → (keys ++ key_of (cell_at cells s.place)) ++ keys_in cells (drop (i + 1) ss) ≡ keys ++ keys_in cells (drop i ss)
-  keys-next keys cells ss s i e = append_assoc keys (key_of (cell_at cells s.place)) (keys_in cells (drop (i + 1) ss)) ∙ ap (λ l. keys ++ keys_in cells l) (sym e)
 
   -- ---- numbers
 

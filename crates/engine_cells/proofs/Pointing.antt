@@ -72,7 +72,7 @@ told-room false n = omega arith
 module _ {K V : Type 0} where
   reads-map : (old new : List (Option (Record K V))) (m n : ℕ) → ((place number : ℕ) → AimsAt old m place number → AimsAt new n place number) → (ns : List Noted) → AreAimed old m ns → AreAimed new n ns
   reads-map old new m n f [] h = tt
-  reads-map old new m n f (Hit place number hash ∷ ns) h = (f place number h.0, reads-map old new m n f ns h.1)
+  reads-map old new m n f (Hit hash place number ∷ ns) h = (f place number h.0, reads-map old new m n f ns h.1)
   reads-map old new m n f (Miss hash ∷ ns) h = (tt, reads-map old new m n f ns h.1)
 
   writes-map : (old new : List (Option (Record K V))) (m n : ℕ) → ((place number : ℕ) → AimsAt old m place number → AimsAt new n place number) → (ws : List PlacedWrite) → AreWritesAimed old m ws → AreWritesAimed new n ws
@@ -175,7 +175,7 @@ module _ {K V : Type 0} where
       go (Some c) e = p.1 i c e (let f : Some c.number ≡ Some number = sym (number-in cells i ∙ ap (λ o. option_map (λ c. c.number) o) e) ∙ at in cc)
 
   pub is-right : (cells : List (Option (Record K V))) (next : ℕ) (n : Noted) → IsAimed cells next n → AimsRight (numbers_of cells) n
-  is-right cells next (Hit place number hash) p = points-to cells next place number p
+  is-right cells next (Hit hash place number) p = points-to cells next place number p
   is-right cells next (Miss hash) p = tt
 
   -- where the place has another, the record is gone

@@ -13,11 +13,11 @@ use Rattle.engine_cells.specs.Tallying.{held_part, admitted_part, sum_over, IsLi
 use Rattle.engine_cells.proofs.Changes.{Loses, Gets, was, place_of}
 use Rattle.engine_cells.proofs.Counting.{gets-set}
 
--- what is known of totals where there are fewer than 2^64 records
+-- what is known of totals where there are fewer than 2^32 records
 pub record IsFitting (t : Tally) : Type 0 where
-  pub held : t.held < 2 ^ 100
-  pub weight : t.weight < 2 ^ 100
-  pub number : t.number < 2 ^ 64
+  pub held : t.held + 2 ^ 32 ≤ 2 ^ 64
+  pub weight : t.weight + 2 ^ 32 ≤ 2 ^ 64
+  pub number : t.number + 2 ^ 32 ≤ 2 ^ 64
 
 module _ {K V : Type 0} where
   pub held-sum : (rs : List (Record K V)) → held_weight rs ≡ sum_by held_part rs
@@ -127,7 +127,7 @@ module _ {K V : Type 0} where
       let same : count_by is_some (Some x ∷ cells) ≡ 1 + count_by is_some cells = many in
       subst (λ n. f x + sum_over f cells ≤ most * n) (sym same) (omega (arith, rest, first))
 
-  pub tally-fits : (cells : List (Option (Record K V))) (t : Tally) → IsTallied cells t → count_by is_some cells < 2 ^ 64 → IsFitting t
+  pub tally-fits : (cells : List (Option (Record K V))) (t : Tally) → IsTallied cells t → count_by is_some cells < 2 ^ 32 → IsFitting t
   tally-fits cells t h few =
       let held : sum_over held_part cells ≤ 4294967295 * count_by is_some cells = sum_over-below held_part 4294967295 cells (λ i c there. held-small c c.is_held refl (h.light i c there).entry) in
       let weight : sum_over weight_at cells ≤ 4294967295 * count_by is_some cells = sum_over-below weight_at 4294967295 cells (λ i c there. let l = (h.light i c there).counted in omega (arith, l)) in

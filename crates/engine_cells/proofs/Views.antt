@@ -17,11 +17,6 @@ module _ {K V : Type 0} where
   abbrev pub shape_of : Record K V → Shape
   shape_of c = record { number = c.number; admitted = is_some c.counts }
 
-  pub same_shape : (c d : Record K V) → d.number ≡ c.number → is_some d.counts ≡ is_some c.counts → shape_of d ≡ shape_of c
-  same_shape c d number counts =
-      let mk : ℕ → Bool → Shape = λ n b. record { number = n; admitted = b } in
-      ap (λ n. mk n (is_some d.counts)) number ∙ ap (λ b. mk c.number b) counts
-
   abbrev pub AreAlike : List (Option (Record K V)) → List (Option (Record K V)) → Type 0
   AreAlike old new = (j : ℕ) → option_map shape_of (cell_at new j) ≡ option_map shape_of (cell_at old j)
 

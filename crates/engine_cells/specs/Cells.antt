@@ -1,9 +1,9 @@
--- What a slab of records stands for: records in order of making, and lists of their numbers.
+-- What a slab of records represents: records in the order of their creation, and lists of their numbers.
 use Rattle.std.specs.Prelude.{◌≡◌, ℕ, ◌<◌, nat_lt, Bool, false, List, [], ◌∷◌, map, Option, Some, None, is_some, if◌then◌else◌, slice_index_or, option_map, unwrap_or}
 use Rattle.policy_queue.specs.Indices.{AreApart, has_index}
 use Rattle.engine_reference.specs.declared.data.Record.{Record}
 
--- what stands in a place
+-- the content of a place
 abbrev pub cell_at : {X : Type 0} → List (Option X) → ℕ → Option X
 cell_at cells i = slice_index_or cells i None
 
@@ -13,7 +13,7 @@ module _ {K V : Type 0} where
   put_among r [] = r ∷ []
   put_among r (x ∷ xs) = if nat_lt r.number x.number then r ∷ x ∷ xs else x ∷ put_among r xs
 
-  -- the records of cells, by rising number, which is the order in which they were made
+  -- the records of cells, by rising number, which is the order of their creation
   abbrev pub records_by_number : List (Option (Record K V)) → List (Record K V)
   records_by_number [] = []
   records_by_number (None ∷ cells) = records_by_number cells
@@ -27,11 +27,11 @@ module _ {K V : Type 0} where
   abbrev pub place_number : List (Option (Record K V)) → ℕ → ℕ
   place_number cells i = unwrap_or (option_map (λ r. r.number) (cell_at cells i)) 0
 
-  -- the numbers for which places stand
+  -- the numbers that places represent
   abbrev pub numbers_in : List (Option (Record K V)) → List ℕ → List ℕ
   numbers_in cells places = map (λ i. place_number cells i) places
 
-  -- no number twice
+  -- no number occurs twice
   abbrev pub HaveOwnNumbers : List (Option (Record K V)) → Type 0
   HaveOwnNumbers cells = (i j : ℕ) (c d : Record K V) → cell_at cells i ≡ Some c → cell_at cells j ≡ Some d → c.number ≡ d.number → i ≡ j
 

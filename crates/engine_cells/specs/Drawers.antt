@@ -1,4 +1,4 @@
--- How the values of a slab lie in memory. No public clause cites this module.
+-- How the values of a slab are stored in memory. No public clause cites this module.
 use Rattle.std.specs.Prelude.{ℕ, ◌-◌, ◌≤◌, ◌^◌, List, map, length, Option}
 use Rattle.slab.specs.declared.Entry.{Entry}
 use Rattle.slab.specs.declared.Entry.TheVariants.{Vacant, Occupied}
@@ -7,7 +7,7 @@ use Rattle.engine_cells.specs.declared.cell_slab.Drawer.{Drawer}
 use Rattle.engine_cells.specs.declared.cell_slab.Drawer.TheVariants as drawer
 
 module _ {T : Type 0} where
-  -- a drawer, as the kit's slab has its entries
+  -- a drawer, in terms of the entries of the kit's slab
   abbrev pub entry_of : Drawer T → Entry T
   entry_of (drawer.Vacant next) = Vacant next
   entry_of (drawer.Taken value) = Occupied value

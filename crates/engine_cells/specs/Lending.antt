@@ -1,4 +1,4 @@
--- What a slab ends as, where a `&mut` to one of its values is returned.
+-- How a slab ends if a `&mut` to one of its values is returned.
 use Rattle.std.specs.Prelude.{ℕ}
 use Rattle.std.specs.Borrow.{Lends, Fml, RattleType, MutBor}
 use Rattle.slab.specs.Slab.{Slab, with_value}

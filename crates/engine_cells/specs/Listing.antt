@@ -10,7 +10,7 @@ module _ {K V : Type 0} where
   stand_of place None = []
   stand_of place (Some c) = if c.is_held then (record { number = c.number; place = place }) ∷ [] else []
 
-  -- the held records of cells, of which the first stands in this place
+  -- the held records of cells, the first of which is in this place
   abbrev pub stands_from : ℕ → List (Option (Record K V)) → List Stand
   stands_from place [] = []
   stands_from place (o ∷ cells) = stand_of place o ++ stands_from (place + 1) cells
@@ -20,7 +20,7 @@ module _ {K V : Type 0} where
   key_of None = []
   key_of (Some c) = c.entry.key ∷ []
 
-  -- the keys of records where they stand
+  -- the keys of records by their places
   abbrev pub keys_in : List (Option (Record K V)) → List Stand → List K
   keys_in cells [] = []
   keys_in cells (s ∷ ss) = key_of (cell_at cells s.place) ++ keys_in cells ss

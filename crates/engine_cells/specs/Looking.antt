@@ -6,7 +6,7 @@ use Rattle.engine_reference.specs.Runs.{first_of}
 use Rattle.engine_reference.specs.Times.{is_reached}
 use Rattle.engine_cells.specs.Cells.{cell_at, records_by_number, numbers_in}
 
--- the numbers of a list behind one of them
+-- the numbers of a list after one of them
 abbrev pub behind : ℕ → List ℕ → List ℕ
 behind number [] = []
 behind number (n ∷ ns) = if n == number then ns else behind number ns
@@ -21,6 +21,6 @@ module _ {K V : Type 0} where
   is_settled_as None = false
   is_settled_as (Some r) = is_settled r
 
-  -- a place has the first settled record of a list, for which these places stand
+  -- a place has the first settled record of a list that these places represent
   abbrev pub HasFirstSettled : List (Option (Record K V)) → List ℕ → ℕ → Type 0
   HasFirstSettled cells places place = (r : Record K V) × (cell_at cells place ≡ Some r) × (first_of (settled_in (records_by_number cells) (numbers_in cells places)) ≡ Some r)

@@ -14,7 +14,7 @@ use Rattle.engine_cells.specs.Kept.{numbered_at}
 
 -- the read, without the place
 abbrev pub read_of : Noted → Read
-read_of (Hit place number hash) = read.Hit number hash
+read_of (Hit hash place number) = read.Hit number hash
 read_of (Miss hash) = read.Miss hash
 
 -- the write, without the place
@@ -26,12 +26,12 @@ abbrev pub number_written : Write → ℕ
 number_written (Put u) = u.number
 number_written (Removed number) = number
 
--- whatever cell has the number stands in the place
+-- whatever cell has the number is in the place
 abbrev pub AimsAt : {K V : Type 0} → List (Option (Record K V)) → ℕ → ℕ → ℕ → Type 0
 AimsAt {K} {V} cells next place number = (number < next) × ((i : ℕ) (c : Record K V) → cell_at cells i ≡ Some c → c.number ≡ number → i ≡ place)
 
 abbrev pub IsAimed : {K V : Type 0} → List (Option (Record K V)) → ℕ → Noted → Type 0
-IsAimed cells next (Hit place number hash) = AimsAt cells next place number
+IsAimed cells next (Hit hash place number) = AimsAt cells next place number
 IsAimed cells next (Miss hash) = Unit {0}
 
 abbrev pub AreAimed : {K V : Type 0} → List (Option (Record K V)) → ℕ → List Noted → Type 0
@@ -57,5 +57,5 @@ abbrev pub AimsOnlyAt : List (Option ℕ) → ℕ → ℕ → Type 0
 AimsOnlyAt numbers place number = (i : ℕ) → numbered_at numbers i ≡ Some number → i ≡ place
 
 abbrev pub AimsRight : List (Option ℕ) → Noted → Type 0
-AimsRight numbers (Hit place number hash) = AimsOnlyAt numbers place number
+AimsRight numbers (Hit hash place number) = AimsOnlyAt numbers place number
 AimsRight numbers (Miss hash) = Unit {0}

@@ -4,12 +4,12 @@ use Rattle.slab.specs.Slab.{Slab, slab_len}
 use Rattle.policy_queue.specs.Indices.{Indices}
 use Rattle.engine_cells.specs.Keys.Spots.{Spots}
 
--- nothing changed, but that more cells may fit
+-- nothing changed, except that more cells may fit
 pub record OnlyMoreCells {X : Type 0} (old new : Slab X) : Type 0 where
   pub slots : new.slots ≡ old.slots
   pub capacity : old.capacity ≤ new.capacity
 
--- there is room for `more` records, where `waiting` of those that are there stand in no queue
+-- there is room for `more` records, where `waiting` of those that are there are in no queue
 pub record HasRooms {X : Type 0} (cells : Slab X) (access order : Indices) (keys : Spots) (more waiting : ℕ) : Type 0 where
   pub cells_fit : slab_len cells + more ≤ cells.capacity
   pub places_fit : length cells.slots ≤ cells.capacity

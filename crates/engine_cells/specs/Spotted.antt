@@ -22,27 +22,27 @@ module _ {K V : Type 0} where
   is_numbered number None = false
   is_numbered number (Some c) = c.number == number
 
-  -- the record of a number, where it is there, is held and has this hash
+  -- the record with a number, if it is there, is held and has this hash
   abbrev pub IsHeldUnder : ℕ → ℕ → List (Option (Record K V)) → Type 0
   IsHeldUnder number hash cells = (i : ℕ) (c : Record K V) → cell_at cells i ≡ Some c → is_numbered number (Some c) ≡ true → (c.is_held ≡ true) × (c.hash ≡ hash)
 
--- a place leaves from under a hash, where it is to
+-- a place is removed from under a hash, if it has to be
 abbrev pub LeavesIf : Bool → Spots → Spots → ℕ → ℕ → Type 0
 LeavesIf true old new hash place = LeavesFrom old new hash place
 LeavesIf false old new hash place = new ≡ old
 
 module _ {K V : Type 0} (eq : K → K → Bool) where
-  -- a cell's record is held, and its key compares alike
+  -- a cell's record is held, and its key compares equal
   abbrev pub is_match : K → Option (Record K V) → Bool
   is_match key None = false
   is_match key (Some c) = c.is_held && eq key c.entry.key
 
-  -- each held record's place stands under its hash, and nothing else does, and no two held records have keys alike
+  -- the place of each held record is under its hash, and nothing else is, and no two held records have equal keys
   pub record AreSpotted (cells : List (Option (Record K V))) (spots : Spots) : Type 0 where
     pub spotted : (i : ℕ) (c : Record K V) → cell_at cells i ≡ Some c → c.is_held ≡ true → IsUnder spots c.hash i
     pub only : (hash i : ℕ) → IsUnder spots hash i → HoldsAt cells hash i
     pub single : (key : K) (i j : ℕ) → is_match key (cell_at cells i) ≡ true → is_match key (cell_at cells j) ≡ true → i ≡ j
 
-  -- held records with keys alike have this hash
+  -- held records with equal keys have this hash
   abbrev pub HaveHash : K → ℕ → List (Option (Record K V)) → Type 0
   HaveHash key hash cells = (i : ℕ) (c : Record K V) → cell_at cells i ≡ Some c → is_match key (Some c) ≡ true → c.hash ≡ hash

@@ -1,4 +1,4 @@
--- Writes of records as they stand.
+-- Writes of records as they are.
 use Rattle.std.specs.Prelude.{◌≡◌, ℕ, ◌+◌, ◌-◌, Bool, true, [], ◌∷◌, ◌++◌, None}
 use Rattle.engine_reference.specs.declared.data.Record.{Record}
 use Rattle.engine_reference.specs.declared.data.Write.{Write}
@@ -7,7 +7,7 @@ use Rattle.engine_reference.specs.Records.{held_at, held_weight}
 use Rattle.engine_reference.specs.State.{State}
 
 module _ {K V : Type 0} where
-  -- the write of a record, where so much is held
+  -- the write of a record, if this much is held
   abbrev pub put_for : Record K V → ℕ → Write
   put_for r kept = Put (record { number = r.number; write = r.writes; weight = r.entry.weight; hash = r.hash; kept = kept })
 
@@ -19,7 +19,7 @@ module _ {K V : Type 0} where
     reserved = s.reserved - 1;
   }
 
--- a record comes whose key is not held
+-- a record is added whose key is not held
 pub record IsNewcomer {K V P S R : Type 0} (eq : K → K → Bool) (hash_of : K → ℕ) (s : State K V P S R) (r : Record K V) : Type 0 where
   pub numbered : r.number ≡ s.next_number
   pub uncounted : r.counts ≡ None

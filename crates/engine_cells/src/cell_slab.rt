@@ -1,7 +1,7 @@
 //! A slab whose keys have 32 bits.
 //!
-//! It does what the kit's `slab` does, and contracts see it as they see that; but its keys are below 2^32 - 1, and it
-//! refuses room for more.
+//! It does what the kit's `slab` does, with the same contracts; but its keys are below 2^32 - 1, and it refuses room for
+//! more.
 ghost use Rattle.std.specs.Prelude.{◌≡◌, ◌+◌, ◌-◌, ◌<◌, ◌≤◌, ◌^◌, [], length, max, IsOk, OnOk, IsSome, None, Some, option_copied, slice_set};
 ghost use Rattle.std.specs.Borrow.{Lends, sem};
 ghost use Rattle.slab.specs.Slab.{get, ContainsKey, slab_len, HasRoomFor, Updates};
@@ -21,7 +21,7 @@ pub struct CellSlab<T> {
     drawers: Vec<Drawer<T>>,
     // How many drawers are taken.
     len: usize,
-    // The first of the list of vacant drawers, or the number of drawers where there is none.
+    // The first of the list of vacant drawers, or the number of drawers if there is none.
     next: usize,
 }
 
@@ -69,7 +69,7 @@ impl<T> Drawer<T> {
 impl<T> CellSlab<T> {
     ghost use Rattle.engine_cells.specs.Lending.{lends_value};
 
-    /// A slab without values, which takes no memory.
+    /// A slab without values. Allocates nothing.
     pub fn new(alloc: Global) -> Self
         ensures { result.slots ≡ [] }
     {

@@ -19,7 +19,7 @@ fn is_match<K: Eq, Q: Names<K>, V>(cells: &CellSlab<Record<K, V>>, place: usize,
     }
 }
 
-/// Takes a place from under a hash, where it is to go.
+/// Removes a place from under a hash, if it is to be removed.
 pub fn take_if(keys: &mut Keys, goes: bool, hash: u64, place: usize)
     requires { goes ≡ true → IsUnder keys.old hash place }
     ensures { LeavesIf goes keys.old keys.new hash place }
@@ -29,7 +29,7 @@ pub fn take_if(keys: &mut Keys, goes: bool, hash: u64, place: usize)
     }
 }
 
-/// The place of a key's record, where it is held, by the key's hash.
+/// The place of a key's record, if it is held, by the key's hash.
 pub fn find_held<K: Eq, Q: Names<K>, V>(
     cells: &CellSlab<Record<K, V>>,
     keys: &Keys,
@@ -56,7 +56,7 @@ fn is_numbered<K, V>(cells: &CellSlab<Record<K, V>>, place: usize, number: u64) 
     }
 }
 
-/// The place of the record of a number, which is held under this hash where it is there.
+/// The place of the record of a number, if it is there; it is then held under this hash.
 pub fn find_number<K: Eq, V>(
     cells: &CellSlab<Record<K, V>>,
     keys: &Keys,

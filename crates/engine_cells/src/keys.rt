@@ -158,6 +158,14 @@ fn steps_on(many: usize, from: usize, steps: usize) -> usize
     }
 }
 
+/// The slot behind another: the first one behind the last.
+fn next_slot(many: usize, at: usize) -> usize
+    requires { at < many }
+    ensures { (from steps : ℕ) → from < many → steps < many → at ≡ steps_on many from steps → result ≡ steps_on many from (steps + 1) }
+{
+    if at + 1 < many { at + 1 } else { 0 }
+}
+
 /// How many steps lead from one slot to another.
 fn steps_to(many: usize, from: usize, to: usize) -> usize
     requires from { from < many }
@@ -189,11 +197,12 @@ fn vacant_for(slots: &Vec<Slot>, tag: u32) -> usize
 {
     let many = slots.len();
     let home = home_of(tag, many);
-    for steps in 0..many {
-        let at = steps_on(many, home, steps);
+    let mut at = home;
+    for _steps in 0..many {
         if slots[at].place == NOWHERE {
             return at;
         }
+        at = next_slot(many, at);
     }
     unreachable!()
 }
@@ -238,14 +247,16 @@ fn find<F: Fn(usize) -> bool>(slots: &Vec<Slot>, tag: u32, is_sought: F) -> Opti
 {
     let many = slots.len();
     let home = home_of(tag, many);
-    for steps in 0..many {
-        let slot = slots[steps_on(many, home, steps)];
+    let mut at = home;
+    for _steps in 0..many {
+        let slot = slots[at];
         if slot.place == NOWHERE {
             return None;
         }
         if slot.tag == tag && is_sought(slot.place as usize) {
             return Some(slot.place as usize);
         }
+        at = next_slot(many, at);
     }
     None
 }
@@ -257,12 +268,13 @@ fn slot_of(slots: &Vec<Slot>, tag: u32, place: u32) -> usize
 {
     let many = slots.len();
     let home = home_of(tag, many);
-    for steps in 0..many {
-        let at = steps_on(many, home, steps);
+    let mut at = home;
+    for _steps in 0..many {
         let slot = slots[at];
         if slot.tag == tag && slot.place == place {
             return at;
         }
+        at = next_slot(many, at);
     }
     unreachable!()
 }

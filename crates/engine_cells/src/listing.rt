@@ -16,7 +16,7 @@ pub struct Stand {
     place: usize,
 }
 
-/// Adds the record in a place, where it is held.
+/// Adds the record in a place, if it is held.
 fn push_held<K, V>(
     cells: &CellSlab<Record<K, V>>,
     place: usize,

@@ -46,8 +46,8 @@ fn first_due<K, V>(cells: &CellSlab<Record<K, V>>, now: u64) -> Option<usize>
     None
 }
 
-/// The place of a held record whose own expiration was reached, by the first timer. Every record is looked at only where
-/// there was no memory for a timer.
+/// The place of a held record whose own expiration was reached, by the first timer. Looks at every record only if there
+/// was no memory for a timer.
 pub fn first_expired<K, V>(
     cells: &CellSlab<Record<K, V>>,
     expirations: &Expirations,
@@ -86,7 +86,7 @@ fn is_settled_at<K, V>(cells: &CellSlab<Record<K, V>>, place: usize) -> bool
     }
 }
 
-/// The place of the first settled record of a list, whose places stand in this queue.
+/// The place of the first settled record of a list, whose places are in this queue.
 pub fn first_settled<K, V>(cells: &CellSlab<Record<K, V>>, queue: &IndexQueue) -> Option<usize>
     requires apart { HaveOwnNumbers cells.now.slots }
     requires listed { AreListed cells.now.slots queue.now.indices }

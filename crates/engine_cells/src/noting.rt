@@ -6,9 +6,9 @@ use engine_reference::Write;
 #[derive(Clone, Copy)]
 pub enum Noted {
     Hit {
+        hash: u64,
         place: usize,
         number: u64,
-        hash: u64,
     },
     Miss(u64),
 }

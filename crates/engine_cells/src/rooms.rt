@@ -9,8 +9,8 @@ use crate::keys::Keys;
 use engine_reference::Record;
 use policy_queue::IndexQueue;
 
-/// Makes room for `more` records, where `waiting` of those that are there stand in no queue, and answers whether there
-/// was memory for it.
+/// Makes room for `more` records, if `waiting` of those that are there are in no queue. Returns whether there was memory
+/// for it.
 pub fn grow<K, V>(
     cells: &mut CellSlab<Record<K, V>>,
     access: &mut IndexQueue,

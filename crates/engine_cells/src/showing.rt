@@ -9,7 +9,7 @@ use crate::noting::{Noted, PlacedWrite};
 use engine_pending::{Backlog, is_dead};
 use engine_reference::{Record, Rules};
 
-/// Whether a record is held, alive, and nothing stands over its entry.
+/// Whether a record is held and alive, and its entry is not covered.
 fn shows_value<K, V, S, R: Rules<K, V>>(
     found: &Record<K, V>,
     backlog: &Backlog<K, V, Noted, PlacedWrite, S, R>,
@@ -22,7 +22,7 @@ fn shows_value<K, V, S, R: Rules<K, V>>(
         && !backlog.is_over(&found.entry)
 }
 
-/// 1 where the record in a place shows a value, and else 0.
+/// 1 if the record in a place shows a value, otherwise 0.
 fn shown_at<K, V, S, R: Rules<K, V>>(
     cells: &CellSlab<Record<K, V>>,
     place: usize,

@@ -8,23 +8,23 @@ use engine_reference::Record;
 /// What all that is held weighs, what the admitted records weigh, and how many of these there are.
 #[derive(Clone, Copy)]
 pub struct Tally {
-    pub held: u128,
-    pub weight: u128,
-    pub number: u128,
+    pub held: u64,
+    pub weight: u64,
+    pub number: u64,
 }
 
 impl Tally {
     /// With one more record.
     pub fn with<K, V>(self, came: &Record<K, V>) -> Tally
-        requires held { self.held < 2 ^ 100 }
-        requires weight { self.weight < 2 ^ 100 }
-        requires number { self.number < 2 ^ 100 }
+        requires held { self.held + 2 ^ 32 ≤ 2 ^ 64 }
+        requires weight { self.weight + 2 ^ 32 ≤ 2 ^ 64 }
+        requires number { self.number + 2 ^ 32 ≤ 2 ^ 64 }
         ensures light { IsLightly came.now }
         ensures more { result ≡ record { held = self.held + held_part came.now; weight = self.weight + weight_at came.now; number = self.number + admitted_part came.now } }
     {
         Tally {
-            held: self.held + u128::from(weight_if_held(came)),
-            weight: self.weight + u128::from(came.counts.unwrap_or(0)),
+            held: self.held + u64::from(weight_if_held(came)),
+            weight: self.weight + u64::from(came.counts.unwrap_or(0)),
             number: self.number + one_if_admitted(came),
         }
     }
@@ -37,8 +37,8 @@ impl Tally {
         ensures { result ≡ record { held = self.held - held_part went.now; weight = self.weight - weight_at went.now; number = self.number - admitted_part went.now } }
     {
         Tally {
-            held: self.held - u128::from(weight_if_held(went)),
-            weight: self.weight - u128::from(went.counts.unwrap_or(0)),
+            held: self.held - u64::from(weight_if_held(went)),
+            weight: self.weight - u64::from(went.counts.unwrap_or(0)),
             number: self.number - one_if_admitted(went),
         }
     }
@@ -54,7 +54,7 @@ fn weight_if_held<K, V>(found: &Record<K, V>) -> u32
 }
 
 /// 1 for an admitted record, and 0 for another.
-fn one_if_admitted<K, V>(found: &Record<K, V>) -> u128
+fn one_if_admitted<K, V>(found: &Record<K, V>) -> u64
     ensures is { result ≡ admitted_part found.now }
     ensures most { result ≤ 1 }
 {

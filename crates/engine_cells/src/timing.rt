@@ -1,4 +1,4 @@
-//! Timers of what expires by itself.
+//! Timers of records that expire by themselves.
 ghost use Rattle.std.specs.Prelude.{◌≡◌, ◌+◌, ◌<◌, ◌≤◌, ℕ, true, Some, length};
 ghost use Rattle.engine_pending.specs.Timers.Awaited.{IsSet, KeepsOthers};
 ghost use Rattle.engine_cells.specs.Awaiting.{AreAwaited};
@@ -25,7 +25,7 @@ pub fn set_changed(
     }
 }
 
-/// When the record in a place expires by itself, where it is held.
+/// When the record in a place expires by itself, if it is held.
 fn expiration_at<K, V>(cells: &CellSlab<Record<K, V>>, place: usize) -> Option<u64>
     ensures { (c : Record K V) → cell_at cells.now.slots place ≡ Some c → c.is_held ≡ true → result ≡ c.entry.expires }
 {

@@ -1,5 +1,6 @@
--- What a contract sees of all that a cache of one part keeps beside its records and their lists: the fields of the reference cache's state that are not of records.
--- `O` is what is kept of a read, and `W` of a write: what the reference cache has of it, and where its record stands.
+-- Everything that a contract sees of a cache of one part apart from its records and their lists: the fields of the reference cache's state
+-- that are not about records. `O` is what is kept of a read, and `W` of a write: what the reference cache has of it, and the place of its
+-- record.
 use Rattle.std.specs.Prelude.{◌≡◌, ℕ, ◌+◌, ◌-◌, ◌≤◌, ◌==◌, nat_le, nat_lt, min, Bool, false, ◌&&◌, ◌||◌, if◌then◌else◌, List, [], ◌∷◌, ◌++◌, drop, length, Option, Some, None}
 use Rattle.std.specs.List.{list_any}
 use Rattle.policy_base.specs.Counts.{Sketch}
@@ -19,7 +20,7 @@ pub record Pending (K V O W P S R : Type 0) : Type 0 where
   pub reads : List O
   pub writes : List W
   pub notices : List (Notice K V)
-  -- how many more notices need no memory
+  -- how many more notices need no allocation
   pub notice_room : ℕ
   pub sketch : Sketch
   pub number : ℕ
@@ -76,7 +77,7 @@ module _ {K V O W P S R : Type 0} where
   abbrev pub ticket_sent : ℕ → Pending K V O W P S R → Pending K V O W P S R
   ticket_sent ticket s = with_sent_of ticket (ticketed_at s.unsent ticket) s
 
-  -- an entry that left is told, where it is to be
+  -- an entry that left is reported, if it has to be
   abbrev pub told_if : Bool → RemovalCause → Entry K V → Pending K V O W P S R → Pending K V O W P S R
   told_if is_told why e s = if is_told then record s { notices = s.notices ++ notice_of why e ∷ []; notice_room = s.notice_room - 1 } else s
 
@@ -84,7 +85,7 @@ module _ {K V O W P S R : Type 0} where
   abbrev pub notice_taken : Pending K V O W P S R → Pending K V O W P S R
   notice_taken s = record s { notices = drop 1 s.notices; notice_room = s.notice_room + min 1 (length s.notices) }
 
-  -- a clear of a later step than the write, or a predicate that was registered at a later step, stands over the entry
+  -- a clear of a later step than the write, or a predicate that was registered at a later step, covers the entry
   abbrev pub stands_over : (R → P → K → V → Bool) → Pending K V O W P S R → Entry K V → Bool
   stands_over covers s e = nat_lt e.step s.cleared || list_any (λ p. nat_lt e.step p.step && covers s.rules p.predicate e.key e.value) s.predicates
 
@@ -92,7 +93,7 @@ module _ {K V O W P S R : Type 0} where
   abbrev pub is_run_due : Pending K V O W P S R → ℕ → Bool
   is_run_due s now = nat_le 64 (length s.writes) || nat_le 64 (length s.reads) || is_reached (end_of s.ran (Some 300000000)) now
 
-  -- there is room for so many more writes or predicates, and for a notice of each record that is or may come
+  -- there is room for this many more writes or predicates, and for a notice of each record that is or may come
   pub record MakesRoom (by records : ℕ) (old new : Pending K V O W P S R) : Type 0 where
     pub room : ℕ
     pub enough : records + old.reserved + by ≤ room

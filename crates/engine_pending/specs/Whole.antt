@@ -1,4 +1,4 @@
--- The state of the reference cache, put together of its records with their lists and of what waits beside them.
+-- The state of the reference cache, composed of its records with their lists and of what is kept apart from them.
 use Rattle.std.specs.Prelude.{◌≡◌, ℕ, ◌+◌, ◌-◌, nat_le, Bool, List, [], ◌∷◌, ◌++◌, map, drop, length, option_map}
 use Rattle.engine_reference.specs.declared.rules.causes.RemovalCause.{RemovalCause}
 use Rattle.engine_reference.specs.declared.data.Entry.{Entry}
@@ -44,7 +44,7 @@ module _ {K V O W P S R : Type 0} (read_of : O → Read) (write_of : W → Write
   }
 
 module _ (K V O W P S R : Type 0) where
-  -- what is said of what waits is said of the state
+  -- what is said of the pending part is said of the state
   pub record AgreesWithState (read_of : O → Read) (write_of : W → Write) (records : List (Record K V)) (access order : List ℕ) (next : ℕ) : Type 0 where
     pub unsent : (ticket : ℕ) (p : Pending K V O W P S R) → unsent_at (whole read_of write_of records access order next p).unsent ticket ≡ option_map write_of (ticketed_at p.unsent ticket)
     pub sent : (ticket : ℕ) (p : Pending K V O W P S R) → whole read_of write_of records access order next (ticket_sent ticket p) ≡ sent ticket (whole read_of write_of records access order next p)
@@ -64,6 +64,6 @@ module _ (K V O W P S R : Type 0) where
     pub covered : (answers : Answers K V P R) (e : Entry K V) (p : Pending K V O W P S R) → stands_over answers.covers p e ≡ is_covered answers (whole read_of write_of records access order next p) e
     pub due : (now : ℕ) (p : Pending K V O W P S R) → is_run_due p now ≡ is_due (whole read_of write_of records access order next p) now
 
-  -- whatever is kept of reads and writes, and whichever records and lists stand beside it
+  -- whatever is kept of reads and writes, and whichever records and lists there are
   abbrev pub PendingAgrees : Type 0
   PendingAgrees = (read_of : O → Read) (write_of : W → Write) (records : List (Record K V)) (access order : List ℕ) (next : ℕ) → AgreesWithState read_of write_of records access order next

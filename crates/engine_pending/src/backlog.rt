@@ -8,7 +8,7 @@ ghost use Rattle.engine_pending.specs.Pending.{IsUntouched, MakesRoom, is_run_du
 ghost use Rattle.engine_pending.specs.declared.tickets.Ticketed.{Ticketed};
 
 use crate::covering::is_any_over;
-use crate::tickets::{Ticketed, place_of_ticket};
+use crate::tickets::{Ticketed, place_of_ticket, take_ticketed};
 use circular_buffer::HeapCircularBuffer;
 use engine_reference::{Entry, Notice, Refusal, Registered, RemovalCause, Rules, Settings};
 use policy_base::{FrequencySketch, MAX_NANOS};
@@ -429,7 +429,7 @@ impl<K, V, O, W, S, R: Rules<K, V>> Backlog<K, V, O, W, S, R> {
         requires found { (u : Ticketed W) × (slice_get self.old.unsent place ≡ Some u) × (ticketed_at self.old.unsent _ticket ≡ Some u.write) × (without_ticketed _ticket self.old.unsent ≡ remove self.old.unsent place) }
         ensures { self.new ≡ ticket_sent _ticket self.old }
     {
-        let sent = self.unsent.remove(place);
+        let sent = take_ticketed(&mut self.unsent, place);
         match self.writes.try_push_back(sent.write) {
             Ok(()) => {}
             Err(_) => unreachable!(),

@@ -1,4 +1,4 @@
-//! What a cache of one part keeps beside its records: what waits for maintenance, what was told, predicates, the sketch, counts and settings.
+//! What a cache of one part keeps beside its records: pending operations, notices, predicates, the sketch, counts and settings.
 #![tactic(auto)]
 
 mod backlog;

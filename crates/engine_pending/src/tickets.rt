@@ -1,5 +1,5 @@
 //! Writes under their tickets.
-ghost use Rattle.std.specs.Prelude.{◌≡◌, ◌<◌, length, remove, slice_get, Some, None, IfSome, IfNone};
+ghost use Rattle.std.specs.Prelude.{◌≡◌, ◌+◌, ◌<◌, length, vec_len, vec_capacity, remove, slice_get, Some, None, IfSome, IfNone};
 ghost use Rattle.engine_pending.specs.Pending.{ticketed_at, without_ticketed};
 ghost use Rattle.engine_pending.specs.declared.tickets.Ticketed.{Ticketed};
 
@@ -22,4 +22,21 @@ pub fn place_of_ticket<W>(unsent: &[Ticketed<W>], ticket: u64) -> Option<usize>
         }
     }
     None
+}
+
+/// Takes out the write at a place. If it is the last one, none has to move.
+pub fn take_ticketed<W>(unsent: &mut Vec<Ticketed<W>>, place: usize) -> Ticketed<W>
+    requires { place < vec_len unsent.old }
+    ensures item { slice_get unsent.old.items place ≡ Some result }
+    ensures rest { unsent.new.items ≡ remove unsent.old.items place }
+    ensures len { vec_len unsent.new + 1 ≡ vec_len unsent.old }
+    ensures capacity { vec_capacity unsent.new ≡ vec_capacity unsent.old }
+{
+    if place + 1 < unsent.len() {
+        return unsent.remove(place);
+    }
+    match unsent.pop() {
+        Some(last) => last,
+        None => unreachable!(),
+    }
 }

@@ -93,7 +93,7 @@ module _ (K V P S R : Type 0) where
   step-sketch answers now old new (writes w rest none e after) = kept (ap (λ s. s.sketch) after ∙ after_write-sketch w (record old { writes = rest }))
   step-sketch answers now old new (grows words applied wants capacity is_set size after) = made (no_table old.settings.capacity words (admitted_weight old.records) old.sketch wants)
   step-sketch answers now old new (leaves r why applied there held due after) = kept (ap (λ s. s.sketch) after ∙ left-sketch why r.number old)
-  step-sketch answers now old new (evicts r applied above next after) = kept (ap (λ s. s.sketch) after ∙ left-sketch cause.Size r.number old)
+  step-sketch answers now old new (evicts r applied clean above next after) = kept (ap (λ s. s.sketch) after ∙ left-sketch cause.Size r.number old)
   step-sketch answers now old new (ends place p applied there none after) = kept (ap (λ s. s.sketch) after)
 
   pub counts_are_kept : CountsAreKept K V P S R

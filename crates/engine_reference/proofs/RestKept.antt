@@ -65,7 +65,7 @@ module _ {K V P S R : Type 0} where
   step-rest answers now old new (writes w rest none e after) = ap (λ s. rest_of s) after ∙ after_write-rest w (record old { writes = rest })
   step-rest answers now old new (grows words applied wants capacity is_set size after) = ap (λ s. rest_of s) after
   step-rest answers now old new (leaves r why applied there held due after) = ap (λ s. rest_of s) after ∙ left-rest why r.number old
-  step-rest answers now old new (evicts r applied above next after) = ap (λ s. rest_of s) after ∙ left-rest cause.Size r.number old
+  step-rest answers now old new (evicts r applied clean above next after) = ap (λ s. rest_of s) after ∙ left-rest cause.Size r.number old
   step-rest answers now old new (ends place p applied there none after) = ap (λ s. rest_of s) after
 
   steps-rest : (answers : Answers K V P R) (now : ℕ) (old : State K V P S R) (mids : List (State K V P S R)) (new : State K V P S R) → Steps answers now old mids new → rest_of new ≡ rest_of old

@@ -292,7 +292,7 @@ module _ {K V P S R : Type 0} (answers : Answers K V P R) (now : ℕ) where
   step-sound old new h (writes w rest none e after) = subst (λ t. IsSound t) (sym after) (popped-is_sound old w rest e h)
   step-sound old new h (grows words applied wants capacity is_set size after) = subst (λ t. IsSound t) (sym after) (record { records = h.records; named = h.named })
   step-sound old new h (leaves r why applied there held due after) = subst (λ t. IsSound t) (sym after) (left-is_sound why r.number old h)
-  step-sound old new h (evicts r applied above next after) = subst (λ t. IsSound t) (sym after) (left-is_sound cause.Size r.number old h)
+  step-sound old new h (evicts r applied clean above next after) = subst (λ t. IsSound t) (sym after) (left-is_sound cause.Size r.number old h)
   step-sound old new h (ends place p applied there none after) = subst (λ t. IsSound t) (sym after) (record { records = h.records; named = h.named })
 
   pub steps-sound : (stages : List (State K V P S R)) (old new : State K V P S R) → IsSound old → Steps answers now old stages new → IsSound new

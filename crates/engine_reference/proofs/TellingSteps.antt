@@ -304,7 +304,7 @@ module _ {K V P S R : Type 0} (answers : Answers K V P R) (now : ℕ) where
   step_tells old new (leaves r why applied there held due after) =
       let h = left-tells why r.number old in
       rw after (record { removals = h.removals; tells = h.tells; keeps = cover answers old _ h.keeps; for_size = inl (h.only (not_for_size old r why due)) })
-  step_tells old new (evicts r applied above next after) =
+  step_tells old new (evicts r applied clean above next after) =
       let h = left-tells cause.Size r.number old in
       rw after (record {
         removals = h.removals;

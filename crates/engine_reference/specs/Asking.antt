@@ -1,4 +1,4 @@
--- What the rules of a cache answer, as the reference cache asks them.
+-- The results of a cache's rules, as the reference cache uses them.
 use Rattle.std.specs.Prelude.{ℕ, Bool, Option}
 use Rattle.engine_reference.specs.State.{Answers}
 

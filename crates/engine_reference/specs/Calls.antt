@@ -23,14 +23,14 @@ abbrev pub without_ticket : ℕ → List Unsent → List Unsent
 without_ticket ticket [] = []
 without_ticket ticket (u ∷ us) = if u.ticket == ticket then us else u ∷ without_ticket ticket us
 
--- for how much a removal needs room: its own write, and where removals are told its notice
+-- how much room a removal needs: for its own write, and for its notice if removals are reported
 abbrev pub removal_rooms : Settings → ℕ
 removal_rooms settings = if settings.tells then 2 else 1
 
 module _ {K V P S R : Type 0} where
   -- ---- sending
 
-  -- the queue of writes takes 128
+  -- the queue of writes holds 128
   abbrev pub is_full : State K V P S R → Bool
   is_full s = nat_le 128 (length s.writes)
 
@@ -53,16 +53,17 @@ module _ {K V P S R : Type 0} where
     reserved = if s.settings.tells then s.reserved + 1 else s.reserved;
   }
 
-  -- the key's record is no longer held, whether its deadline has come or not, and its removal waits to be sent. Where removals are told there is room then to tell it
+  -- the key's record is no longer held, whether its deadline has come or not, and its removal waits to be sent. If removals are reported,
+  -- there is then room to report it
   abbrev pub removed_by : (K → K → Bool) → K → State K V P S R → State K V P S R
   removed_by eq key s = with_removed (held_at eq s.records key) s
 
-  -- the first half makes the room of the key's removal, where it is held
+  -- the first half makes room for the removal of the key, if it is held
   abbrev pub with_removal_room : Option (Record K V) → State K V P S R → State K V P S R
   with_removal_room None s = s
   with_removal_room (Some r) s = record s { reserved = s.reserved + removal_rooms s.settings }
 
-  -- the second removes it in that room
+  -- the second half removes it in that room
   abbrev pub with_reserved_removal : Option (Record K V) → State K V P S R → State K V P S R
   with_reserved_removal None s = s
   with_reserved_removal (Some r) s = with_removed (Some r) (record s { reserved = s.reserved - removal_rooms s.settings })
@@ -79,7 +80,7 @@ module _ {K V P S R : Type 0} where
   abbrev pub with_room : State K V P S R → State K V P S R
   with_room s = record s { reserved = s.reserved + 1 }
 
-  -- the room of one write is given up
+  -- the room for one write is given up
   abbrev pub without_room : State K V P S R → State K V P S R
   without_room s = record s { reserved = s.reserved - 1 }
 
@@ -93,7 +94,7 @@ module _ {K V P S R : Type 0} where
 module _ {K V P S R : Type 0} (answers : Answers K V P R) where
   -- ---- writing
 
-  -- the entry of a key that is new
+  -- the entry of a new key
   abbrev pub first_entry : State K V P S R → K → V → ℕ → ℕ → Entry K V
   first_entry s key value now step = record {
     key = key;
@@ -105,8 +106,8 @@ module _ {K V P S R : Type 0} (answers : Answers K V P R) where
     weight = answers.weight_of s.rules key value;
   }
 
-  -- the entry after a write over it, with its expiration as it was: the write counts as its write and its use.
-  -- It has the new key, which compares alike; the old one is told
+  -- the entry after it was overwritten, with its expiration as it was: the write counts as its write and as its use. It has the new key,
+  -- which compares equal; the old one is reported
   abbrev pub written_over : State K V P S R → Entry K V → K → V → ℕ → ℕ → Entry K V
   written_over s e key value now step = record e {
     key = key;
@@ -117,13 +118,13 @@ module _ {K V P S R : Type 0} (answers : Answers K V P R) where
     weight = answers.weight_of s.rules key value;
   }
 
-  -- and what the rules make of its expiration
+  -- and how the rules change its expiration
   abbrev pub next_entry : State K V P S R → Entry K V → K → V → ℕ → ℕ → Entry K V
   next_entry s e key value now step =
       let w = written_over s e key value now step in
       record w { expires = changed_expiration now (answers.updated s.rules key value now (time_left s.settings now w)) e.expires }
 
-  -- a write of this record, with the weight of all that is held, waits to be sent
+  -- a write of this record, with the weight of everything that is held, waits to be sent
   abbrev pub with_put : (number write weight hash : ℕ) → State K V P S R → State K V P S R
   with_put number write weight hash s = record s {
     unsent = s.unsent ++ (record { ticket = s.next_ticket; write = Put (record { number = number; write = write; weight = weight; hash = hash; kept = held_weight s.records }) }) ∷ [];
@@ -145,7 +146,7 @@ module _ {K V P S R : Type 0} (answers : Answers K V P R) where
         notices = told s.settings.tells (cause_of_write answers s now r.entry) r.entry s.notices;
       })
 
-  -- a value is written under its key; what it replaces is told. It is visible at once, and its write waits to be sent
+  -- a value is written under its key, and what it replaces is reported. It is visible at once, and its write waits to be sent
   abbrev pub written : (K → K → Bool) → State K V P S R → K → ℕ → V → ℕ → ℕ → State K V P S R
   written eq s key hash value now step = with_written (held_at eq s.records key) s key hash value now step
 
@@ -166,28 +167,28 @@ module _ {K V P S R : Type 0} (answers : Answers K V P R) where
     reads = s.reads ++ Hit r.number hash ∷ [];
   }
 
-  -- maintenance comes where it is due, and is not cut
+  -- maintenance runs if it is due, and is not cut short
   abbrev pub MaintainsIfDue : ℕ → State K V P S R → State K V P S R → Type 0
   MaintainsIfDue now old new = MatchBool (is_due old now) (RunsToEnd answers now old new) (new ≡ old)
 
-  -- a look-up with its read: the answer is what is visible as it begins, then comes due maintenance, then the read
+  -- a look-up with its read: the result is what is visible as it begins, then maintenance runs if it is due, then the read is noted
   pub record LooksUp (eq : K → K → Bool) (key : K) (hash now : ℕ) (old new : State K V P S R) : Type 0 where
     pub mid : State K V P S R
     pub maintains : MaintainsIfDue now old mid
     pub reads : new ≡ with_read (visible_record answers eq old now key) hash now mid
 
-  -- ---- what a removal by key tells
+  -- ---- what a removal by key reports
 
-  -- the entry that was removed is told, in the room that its removal made
+  -- the entry that was removed is reported, in the room that its removal made
   abbrev pub removal_told : Entry K V → ℕ → State K V P S R → State K V P S R
   removal_told e now s = record s {
     notices = told s.settings.tells (cause_of_removal answers s now e) e s.notices;
     reserved = if s.settings.tells then s.reserved - 1 else s.reserved;
   }
 
--- ---- making
+-- ---- creating
 
--- a cache that was just made
+-- a cache that was just created
 pub record IsNew {K V P S R : Type 0} (name : Option (List ℕ)) (settings : Settings) (hasher : S) (rules : R) (s : State K V P S R) : Type 0 where
   pub records : s.records ≡ []
   pub access : s.access ≡ []

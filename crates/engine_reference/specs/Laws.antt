@@ -28,7 +28,7 @@ abbrev pub hash_of : Read → ℕ
 hash_of (Hit number hash) = hash
 hash_of (Miss hash) = hash
 
--- the part of a state that calls alone change
+-- the part of a state that only calls change
 pub record Rest (S R : Type 0) : Type 0 where
   pub unsent : List Unsent
   pub cleared : ℕ
@@ -54,7 +54,7 @@ rest_of s = record {
 }
 
 module _ (K V P S R : Type 0) where
-  -- what a step takes away it tells once; for weight it takes only where a capacity is set and a running weight is above it
+  -- a step reports what it removes once; it removes for weight only if a capacity is set and a running weight is above it
   pub record StepTells (answers : Answers K V P R) (old new : State K V P S R) : Type 0 where
     pub removals : List (Removal K V)
     pub tells : Tells old removals new
@@ -64,7 +64,7 @@ module _ (K V P S R : Type 0) where
   abbrev pub StepsTell : Type 0
   StepsTell = (answers : Answers K V P R) (now : ℕ) (old new : State K V P S R) → Step answers now old new → StepTells answers old new
 
-  -- the same of a run, or of a part of it
+  -- the same for a run, or a part of it
   pub record StretchTells (answers : Answers K V P R) (old new : State K V P S R) : Type 0 where
     pub removals : List (Removal K V)
     pub tells : Tells old removals new
@@ -78,12 +78,12 @@ module _ (K V P S R : Type 0) where
     pub tells : Tells old removals new
     pub none : NoneWith cause.Size removals
 
-  -- without a capacity nothing is told `Size`
+  -- without a capacity nothing is reported as `Size`
   abbrev pub NothingTakenForSize : Type 0
   NothingTakenForSize =
       (answers : Answers K V P R) (now : ℕ) (old new : State K V P S R) → old.settings.capacity ≡ None → Runs answers now old new → TakesNoneForSize old new
 
-  -- what was visible and was not taken away stays visible, and nothing else becomes visible
+  -- what was visible and was not removed stays visible, and nothing else becomes visible
   pub record RunKeepsVisible (eq : K → K → Bool) (answers : Answers K V P R) (old new : State K V P S R) : Type 0 where
     pub removals : List (Removal K V)
     pub tells : Tells old removals new
@@ -97,7 +97,7 @@ module _ (K V P S R : Type 0) where
 
   -- ---- what the sketch counts
 
-  -- a step changes the counts only where it counts a read, or makes the table
+  -- a step changes the counts only if it counts a read or makes the table
   pub data SketchStep (old new : State K V P S R) : Type 0 where
     kept : new.sketch ≡ old.sketch → SketchStep old new
     counted : (r : Read) (rest : List Read) → old.reads ≡ r ∷ rest → new.sketch ≡ incremented old.sketch (hash_of r) → SketchStep old new
@@ -113,14 +113,14 @@ module _ (K V P S R : Type 0) where
     pub covered : (p : Registered P) (s : State K V P S R) → (with_predicate p s).sketch ≡ s.sketch
     pub sent : (ticket : ℕ) (s : State K V P S R) → (sent ticket s).sketch ≡ s.sketch
 
-  -- ---- what maintenance has no part in
+  -- ---- what maintenance does not change
 
   abbrev pub RunsKeepRest : Type 0
   RunsKeepRest = (answers : Answers K V P R) (now : ℕ) (old new : State K V P S R) → Runs answers now old new → rest_of new ≡ rest_of old
 
-  -- ---- what the cache is called
+  -- ---- the name of the cache
 
-  -- no call changes it, and no run does
+  -- no call and no run changes it
   pub record NameIsKept : Type 0 where
     pub runs : (answers : Answers K V P R) (now : ℕ) (old new : State K V P S R) → Runs answers now old new → new.name ≡ old.name
     pub written : (eq : K → K → Bool) (answers : Answers K V P R) (s : State K V P S R) (key : K) (hash : ℕ) (value : V) (now step : ℕ) → (written answers eq s key hash value now step).name ≡ s.name
@@ -136,7 +136,7 @@ module _ (K V P S R : Type 0) where
 
   -- ---- calls in two halves
 
-  -- the halves of a predicate and of a removal are the whole, and room that is given up is as if it had never been made
+  -- the two halves of a predicate and of a removal equal the whole, and room that is given up is as if it had never been made
   pub record HalvesAreWhole : Type 0 where
     pub predicate : (p : Registered P) (s : State K V P S R) → registered p (with_room s) ≡ with_predicate p s
     pub removal : (eq : K → K → Bool) (key : K) (s : State K V P S R) → with_reserved_removal (held_at eq s.records key) (with_removal_room (held_at eq s.records key) s) ≡ removed_by eq key s
@@ -144,13 +144,13 @@ module _ (K V P S R : Type 0) where
 
   -- ---- look-ups and the order of sending
 
-  -- sending a ticket changes no look-up, whichever it is
+  -- sending a ticket changes no look-up, whichever ticket it is
   abbrev pub SendingKeepsVisible : Type 0
   SendingKeepsVisible =
       (eq : K → K → Bool) (answers : Answers K V P R) (ticket : ℕ) (s : State K V P S R) (moment : ℕ) (key : K)
       → visible answers eq (sent ticket s) moment key ≡ visible answers eq s moment key
 
-  -- a clear and a predicate show nothing that was not visible
+  -- a clear and a predicate make nothing visible that was not
   pub record CoverShowsNothing : Type 0 where
     pub cleared : (eq : K → K → Bool) (answers : Answers K V P R) (step : ℕ) (s : State K V P S R) (moment : ℕ) (key : K)
         → (visible answers eq (cleared_by step s) moment key ≡ visible answers eq s moment key) ⊎ (visible answers eq (cleared_by step s) moment key ≡ None)
@@ -159,14 +159,14 @@ module _ (K V P S R : Type 0) where
 
   -- ---- records with an unapplied write
 
-  -- the record of a number is there, and holds what it held
+  -- the record with this number is there, and holds what it held
   pub record IsStill (number : ℕ) (r : Record K V) (s : State K V P S R) : Type 0 where
     pub current : Record K V
     pub there : record_at s.records number ≡ Some current
     pub entry : current.entry ≡ r.entry
     pub held : current.is_held ≡ r.is_held
 
-  -- neither the writes of others, nor an older write of its own, nor the excess takes away a record that has an unapplied write
+  -- neither writes of other records, nor an older write of its own, nor the excess removes a record that has an unapplied write
   pub record UnappliedStay : Type 0 where
     pub writes : (s : State K V P S R) (u : Upsert) (number : ℕ) (r : Record K V)
         → record_at s.records number ≡ Some r → is_settled r ≡ false → (u.number ≡ number → is_overtaken u r ≡ true) → IsStill number r (after_write (Put u) s)
@@ -207,12 +207,13 @@ module _ (K V P S R : Type 0) where
 
   -- ---- evictions
 
-  -- the settled record used longest ago goes, again and again, each time because the weight is above the capacity
+  -- the least recently used settled record is evicted, again and again, each time because the weight is above the capacity
   abbrev pub Evictions : State K V P S R → List (Record K V) → State K V P S R → Type 0
   Evictions s [] t = t ≡ s
   Evictions s (r ∷ rs) t = (is_above s.settings.capacity (admitted_weight s.records) ≡ true) × (next_to_evict s ≡ Some r) × Evictions (left cause.Size r.number s) rs t
 
-  -- what goes until the weight is within the capacity is the shortest front of the settled records of the access list that reaches the excess
+  -- what is evicted until the weight is within the capacity is the shortest front of the settled records of the access list that reaches
+  -- the excess
   abbrev pub EvictsShortestFront : Type 0
   EvictsShortestFront =
       (s t : State K V P S R) (victims : List (Record K V)) (capacity : ℕ) → IsSound s → s.settings.capacity ≡ Some capacity

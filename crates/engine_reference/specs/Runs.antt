@@ -116,6 +116,32 @@ module _ {K V P S R : Type 0} where
   abbrev pub next_to_evict : State K V P S R → Option (Record K V)
   next_to_evict s = first_of (settled_in s.records s.access)
 
+  -- ---- what a run sees at the fronts of its lists
+
+  -- the first of the write list, where it is held, is neither past its live time nor of a step before the clear
+  pub record IsWrittenClean (now : ℕ) (s : State K V P S R) : Type 0 where
+    pub live : (r : Record K V) → first_of (admitted_in s.records s.order) ≡ Some r → r.is_held ≡ true → is_reached (end_of r.entry.written s.settings.live) now ≡ false
+    pub clear : (r : Record K V) → first_of (admitted_in s.records s.order) ≡ Some r → r.is_held ≡ true → nat_lt r.entry.step s.cleared ≡ false
+
+  -- the first of the access list, where it is held, is not past its idle time
+  abbrev pub IsUsedClean : ℕ → State K V P S R → Type 0
+  IsUsedClean now s = (r : Record K V) → first_of (admitted_in s.records s.access) ≡ Some r → r.is_held ≡ true → is_reached (end_of r.entry.used s.settings.idle) now ≡ false
+
+  -- own expirations are looked at once a tick: in a later one than the last run's
+  abbrev pub is_later_tick : State K V P S R → ℕ → Bool
+  is_later_tick s now = nat_lt (tick_of s.settings s.ran) (tick_of s.settings now)
+
+  -- in a later tick than the last run's no held record's own expiration was reached
+  abbrev pub IsTimerClean : ℕ → State K V P S R → Type 0
+  IsTimerClean now s = is_later_tick s now ≡ true → (r : Record K V) → record_at s.records r.number ≡ Some r → r.is_held ≡ true → is_reached r.entry.expires now ≡ false
+
+  -- nothing is left that a run finds and removes for its time, a clear or a predicate
+  pub record FrontsAreClean (now : ℕ) (s : State K V P S R) : Type 0 where
+    pub predicates : s.predicates ≡ []
+    pub written : IsWrittenClean now s
+    pub used : IsUsedClean now s
+    pub timer : IsTimerClean now s
+
 module _ {K V P S R : Type 0} (answers : Answers K V P R) where
   -- why a record may leave beside its weight: its deadline has come, or something covers it
   abbrev pub is_due_for : State K V P S R → ℕ → Record K V → RemovalCause → Bool
@@ -136,8 +162,8 @@ module _ {K V P S R : Type 0} (answers : Answers K V P R) where
     -- a held record leaves that is past its deadline or covered
     leaves : (r : Record K V) (why : RemovalCause) → IsApplied old → record_at old.records r.number ≡ Some r → r.is_held ≡ true
         → is_due_for old now r why ≡ true → new ≡ left why r.number old → Step now old new
-    -- the weight is above the capacity, and the settled record used longest ago goes
-    evicts : (r : Record K V) → IsApplied old → is_above old.settings.capacity (admitted_weight old.records) ≡ true
+    -- the weight is above the capacity though nothing else is left to remove, and the settled record used longest ago goes
+    evicts : (r : Record K V) → IsApplied old → FrontsAreClean now old → is_above old.settings.capacity (admitted_weight old.records) ≡ true
         → next_to_evict old ≡ Some r → new ≡ left cause.Size r.number old → Step now old new
     -- a predicate that covers nothing goes
     ends : (place : ℕ) (p : Registered P) → IsApplied old → slice_get old.predicates place ≡ Some p → covers_none answers old.rules p old.records ≡ true

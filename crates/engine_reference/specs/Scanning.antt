@@ -1,4 +1,4 @@
--- What is looked at without a read, and a look that passes over values.
+-- What is looked at without a read, and look-ups that pass over values.
 use Rattle.std.specs.Prelude.{◌≡◌, ℕ, Bool, true, false, List, Option, Some, None, map, filter, is_some, option_map}
 use Rattle.engine_reference.specs.declared.data.Record.{Record}
 use Rattle.engine_reference.specs.Calls.{MaintainsIfDue, with_read}
@@ -11,7 +11,7 @@ abbrev pub past : {X : Type 0} → Bool → Option X → Option X
 past true o = None
 past false o = o
 
--- the keys of all that is held, dead or covered ones too
+-- the keys of everything that is held, including what is dead or covered
 abbrev pub held_keys : {K V : Type 0} → List (Record K V) → List K
 held_keys rs = map (λ e. e.key) (held_entries rs)
 
@@ -20,13 +20,14 @@ module _ {K V P S R : Type 0} (answers : Answers K V P R) where
   abbrev pub visible_keys : (K → K → Bool) → State K V P S R → ℕ → List K
   visible_keys eq s now = filter (λ key. is_some (visible_value answers eq s now key)) (held_keys s.records)
 
-  -- a visible value is asked about, and one that is to be passed over is not found
+  -- the test is called on a visible value, and one that is to be passed over is not found
   pub record LooksPast (eq : K → K → Bool) (key : K) (now : ℕ) (Ignores : V → Bool → Type 0) (s : State K V P S R) (found : Option (ℕ × V)) : Type 0 where
     pub ignored : Bool
     pub asked : (r : Record K V) → visible_record answers eq s now key ≡ Some r → Ignores r.entry.value ignored
     pub answer : found ≡ option_map (λ r. (r.number, r.entry.value)) (past ignored (visible_record answers eq s now key))
 
-  -- the second half of a look-up, which is not refused: maintenance comes where it is due, and then the read of what was visible, where it was not passed over
+  -- the second half of a look-up, which is not refused: maintenance runs if it is due, and then the read of what was visible is noted,
+  -- unless that was passed over
   pub record NotesLookUp (eq : K → K → Bool) (key : K) (hash now : ℕ) (ignored : Bool) (old new : State K V P S R) : Type 0 where
     pub mid : State K V P S R
     pub maintains : MaintainsIfDue answers now old mid

@@ -1,4 +1,4 @@
--- What holds of each state that calls and runs lead to: every write of a record is applied, or pending.
+-- What holds in each state that calls and runs lead to: every write of a record is applied or pending.
 use Rattle.std.specs.Prelude.{◌≡◌, ◌⊎◌, ℕ, ◌<◌, ◌≤◌, true, false, List, [], ◌∷◌, map, Some, None, is_some}
 use Rattle.engine_reference.specs.declared.data.Record.{Record}
 use Rattle.engine_reference.specs.declared.data.Unsent.{Unsent}
@@ -41,7 +41,7 @@ module _ {K V : Type 0} where
   IsLastOf (Put u) r = (u.number ≡ r.number) × (u.write ≡ r.writes)
   IsLastOf (Removed number) r = (number ≡ r.number) × (r.is_held ≡ false)
 
-  -- a write that was made of this record; if it is the last, the record is held with its weight
+  -- a write that was made of this record; if it is the last one, the record is held with its weight
   pub record IsWriteOf (u : Upsert) (r : Record K V) : Type 0 where
     pub earlier : u.write ≤ r.writes
     pub last : u.write ≡ r.writes → (r.is_held ≡ true) × (u.weight ≡ r.entry.weight)
@@ -50,14 +50,14 @@ module _ {K V : Type 0} where
   Fits (Put u) r = u.number ≡ r.number → IsWriteOf u r
   Fits (Removed number) r = number ≡ r.number → r.is_held ≡ false
 
-  -- a settled record counts with its weight; of another the last write is pending
+  -- a settled record counts with its weight; of any other record the last write is pending
   pub record IsAccounted (unsent : List Unsent) (writes : List Write) (r : Record K V) : Type 0 where
     pub applied : r.applied ≤ r.writes
     pub counts : r.applied ≡ r.writes → (r.is_held ≡ true) × (r.counts ≡ Some r.entry.weight)
     pub waits : (r.applied ≡ r.writes → ⊥) → (w : Write) × IsPending unsent writes w × IsLastOf w r
     pub fits : (w : Write) → IsPending unsent writes w → Fits w r
 
-  -- the records and the access list, beside what is pending
+  -- the records and the access list, together with what is pending
   pub record AreSound (unsent : List Unsent) (writes : List Write) (next : ℕ) (records : List (Record K V)) (access : List ℕ) : Type 0 where
     pub numbered : AreNumbered records
     pub below : Each (λ r. r.number < next) records

@@ -1,4 +1,4 @@
--- The reference cache: all that a contract sees of a cache of one part.
+-- The reference cache: everything that a contract sees of a cache of one part.
 use Rattle.std.specs.Prelude.{ℕ, Bool, Option, List}
 use Rattle.policy_base.specs.Counts.{Sketch}
 use Rattle.engine_reference.specs.declared.data.Settings.{Settings}
@@ -9,12 +9,12 @@ use Rattle.engine_reference.specs.declared.data.Read.{Read}
 use Rattle.engine_reference.specs.declared.data.Write.{Write}
 use Rattle.engine_reference.specs.declared.data.Notice.{Notice}
 
--- what the rules answer: each answer is a function of its arguments
+-- the results of the rules: each is a function of its arguments
 pub record Answers (K V P R : Type 0) : Type 0 where
   pub weight_of : R → K → V → ℕ
-  -- the own expiration of a new value, by the moment: so long after it, or none
+  -- the own expiration of a new value, by the moment: this long after it, or none
   pub created : R → K → V → ℕ → Option ℕ
-  -- what a look-up or an update makes of it, by the moment and the time that is left: nothing, or what it becomes
+  -- how a look-up or an update changes it, by the moment and the remaining time: nothing, or what it becomes
   pub found : R → K → V → ℕ → Option ℕ → ℕ → Option (Option ℕ)
   pub updated : R → K → V → ℕ → Option ℕ → Option (Option ℕ)
   pub covers : R → P → K → V → Bool
@@ -31,12 +31,12 @@ pub record State (K V P S R : Type 0) : Type 0 where
   pub predicates : List (Registered P)
   -- writes that were made and not sent yet
   pub unsent : List Unsent
-  -- what maintenance has still to apply, the oldest first
+  -- what maintenance still has to apply, the oldest first
   pub reads : List Read
   pub writes : List Write
-  -- what was told and not taken, the oldest first
+  -- what was reported and not taken, the oldest first
   pub notices : List (Notice K V)
-  -- how often hashes were asked for
+  -- how often hashes were requested
   pub sketch : Sketch
   -- the number and the weight of admitted records at the end of the last run, and its moment
   pub number : ℕ
@@ -46,9 +46,9 @@ pub record State (K V P S R : Type 0) : Type 0 where
   pub table_refused : Bool
   pub next_number : ℕ
   pub next_ticket : ℕ
-  -- for how many writes there is room
+  -- how many writes there is room for
   pub reserved : ℕ
-  -- what it is called, as the bytes of a text, if it was given a name
+  -- the name, as the bytes of a text, if it was given one
   pub name : Option (List ℕ)
   pub settings : Settings
   pub hasher : S

@@ -1,4 +1,4 @@
--- What a stretch of maintenance tells, and what it leaves.
+-- What a stretch of maintenance reports, and what it leaves.
 use Rattle.std.specs.Prelude.{◌≡◌, ◌≢◌, ◌⊎◌, ℕ, Bool, if◌then◌else◌, List, [], ◌∷◌, ◌++◌, map, Option, Some, None, slice_get, remove}
 use Rattle.engine_reference.specs.declared.rules.causes.RemovalCause.{RemovalCause}
 use Rattle.engine_reference.specs.declared.data.Entry.{Entry}
@@ -7,7 +7,7 @@ use Rattle.engine_reference.specs.Records.{held_entries}
 use Rattle.engine_reference.specs.State.{State, Answers}
 use Rattle.engine_reference.specs.Visible.{notice_of, visible, is_covered}
 
--- an entry that was taken away, and why
+-- an entry that was removed, and why
 pub record Removal (K V : Type 0) : Type 0 where
   pub cause : RemovalCause
   pub entry : Entry K V
@@ -16,7 +16,7 @@ module _ {K V : Type 0} where
   abbrev pub notice_of_removal : Removal K V → Notice K V
   notice_of_removal gone = notice_of gone.cause gone.entry
 
-  -- what is told of removals, where removals are told
+  -- what is reported of removals, if removals are reported
   abbrev pub notices_of : Bool → List (Removal K V) → List (Notice K V)
   notices_of tells removals = if tells then map notice_of_removal removals else []
 
@@ -28,7 +28,7 @@ module _ {K V : Type 0} where
   NoneWith why [] = Unit {0}
   NoneWith why (gone ∷ removals) = (gone.cause ≢ why) × NoneWith why removals
 
-  -- entries are taken away, one after another, and the others stay in their order
+  -- entries are removed, one after another, and the others stay in their order
   abbrev pub TakesAway : List (Entry K V) → List (Entry K V) → List (Entry K V) → Type 0
   TakesAway [] old new = new ≡ old
   TakesAway (e ∷ gone) old new = (place : ℕ) × (slice_get old place ≡ Some e) × TakesAway gone (remove old place) new
@@ -38,7 +38,7 @@ module _ {K V : Type 0} where
   entry_of eq [] key = None
   entry_of eq (e ∷ es) key = if eq key e.key then Some e else entry_of eq es key
 
-  -- no two entries have keys that compare alike
+  -- no two entries have keys that compare equal
   abbrev pub AreApart : (K → K → Bool) → List (Entry K V) → Type 0
   AreApart eq [] = Unit {0}
   AreApart eq (e ∷ es) = (entry_of eq es e.key ≡ None) × AreApart eq es
@@ -49,12 +49,13 @@ module _ {K V : Type 0} where
   IsAmong gone (x ∷ xs) = (x ≡ gone) ⊎ IsAmong gone xs
 
 module _ {K V P S R : Type 0} where
-  -- each entry that was taken away is told once, in order, where removals are told, and nothing else is; the other entries stay as they are
+  -- each entry that was removed is reported once, in order, if removals are reported, and nothing else is; the other entries stay as they
+  -- are
   pub record Tells (old : State K V P S R) (removals : List (Removal K V)) (new : State K V P S R) : Type 0 where
     pub notices : new.notices ≡ old.notices ++ notices_of old.settings.tells removals
     pub entries : TakesAway (removed_entries removals) (held_entries old.records) (held_entries new.records)
 
-  -- what decides on visibility beside the entries
+  -- what decides about visibility apart from the entries
   pub record Keeps (old new : State K V P S R) : Type 0 where
     pub settings : new.settings ≡ old.settings
     pub cleared : new.cleared ≡ old.cleared
@@ -62,7 +63,7 @@ module _ {K V P S R : Type 0} where
     pub unsent : new.unsent ≡ old.unsent
     pub predicates : new.predicates ≡ old.predicates
 
-  -- predicates may go, but only such as cover nothing that is held
+  -- predicates may be dropped, but only those that cover nothing that is held
   pub record KeepsCover (answers : Answers K V P R) (old new : State K V P S R) : Type 0 where
     pub settings : new.settings ≡ old.settings
     pub cleared : new.cleared ≡ old.cleared
@@ -70,7 +71,7 @@ module _ {K V P S R : Type 0} where
     pub unsent : new.unsent ≡ old.unsent
     pub covered : (place : ℕ) (e : Entry K V) → slice_get (held_entries new.records) place ≡ Some e → is_covered answers new e ≡ is_covered answers old e
 
-  -- a look-up answers as before, or finds nothing, since what it found was taken away
+  -- a look-up returns what it did before, or finds nothing because what it found was removed
   abbrev pub StaysVisible : (K → K → Bool) → Answers K V P R → List (Removal K V) → State K V P S R → State K V P S R → ℕ → K → Type 0
   StaysVisible eq answers removals old new moment key =
       (visible answers eq new moment key ≡ visible answers eq old moment key)

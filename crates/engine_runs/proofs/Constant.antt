@@ -73,7 +73,7 @@ module _ {K V P S R : Type 0} where
   step-constant answers now old new (writes w rest none e after) = ap (λ s. constant_of s) after ∙ after_write-constant w (record old { writes = rest })
   step-constant answers now old new (grows words applied wants capacity is_set size after) = ap (λ s. constant_of s) after
   step-constant answers now old new (leaves r why applied there held due after) = ap (λ s. constant_of s) after ∙ left-constant why r.number old
-  step-constant answers now old new (evicts r applied above next after) = ap (λ s. constant_of s) after ∙ left-constant cause.Size r.number old
+  step-constant answers now old new (evicts r applied clean above next after) = ap (λ s. constant_of s) after ∙ left-constant cause.Size r.number old
   step-constant answers now old new (ends place p applied there none after) = ap (λ s. constant_of s) after
 
   pub steps-constant : (answers : Answers K V P R) (now : ℕ) (old : State K V P S R) (mids : List (State K V P S R)) (new : State K V P S R) → Steps answers now old mids new → constant_of new ≡ constant_of old

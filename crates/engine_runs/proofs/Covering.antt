@@ -106,14 +106,6 @@ module _ {K V P S R : Type 0} (answers : Answers K V P R) where
           ap (λ o. is_covered_as answers new.state (option_and_then (λ n. record_at new.state.records n) o)) number
           ∙ other-place old.state new.state r alike after (kept-number old.state.records (numbered_at old.numbers place) r here) covered (numbered_at old.numbers i) (scanned i (omega arith))
 
-  -- what stands in a place is not to leave
-  pub scanned-stays : (place : ℕ) (t : Kept K V P S R) → is_covered_as answers t.state (kept_at t place) ≡ false → IsScanned answers place t → IsScanned answers (place + 1) t
-  scanned-stays place t stays scanned i less = go (cases_eq i place)
-    where
-      go : (i ≡ place) ⊎ (i ≢ place) → is_covered_as answers t.state (kept_at t i) ≡ false
-      go (inl same) = ap (λ j. is_covered_as answers t.state (kept_at t j)) same ∙ stays
-      go (inr apart) = scanned i (omega arith)
-
   -- all places were scanned
   pub scanned-all : (below : ℕ) (t : Kept K V P S R) → length t.numbers ≤ below → IsScanned answers below t
       → ((r : Record K V) → record_at t.state.records r.number ≡ Some r → (i : ℕ) × (i < length t.numbers) × (kept_at t i ≡ Some r)) → NoneIsCovered answers t.state
@@ -150,7 +142,3 @@ last-there (x ∷ xs) some = (get_or (x ∷ xs) (length (x ∷ xs) - 1) x, slice
 
 pub fewer-left : {X : Type 0} (xs : List X) (i : ℕ) → i < length xs → length (remove xs i) < length xs
 fewer-left xs i less = let more = length-remove xs i less in omega (arith, more)
-
-pub none-left : {X : Type 0} (xs : List X) → (0 < length xs → ⊥) → xs ≡ []
-none-left [] h = refl
-none-left (x ∷ xs) h = absurd (h (omega arith))

@@ -92,12 +92,6 @@ module _ {K V P S R : Type 0} where
   pub nothing-left : (s : State K V P S R) (weight : ℕ) → weight ≡ 0 → displaced weight s ≡ s
   nothing-left s weight e = ap (λ o. without_victims o s) (front-none (settled_in s.records s.access) weight e)
 
-  pub none-settled : (s : State K V P S R) (weight : ℕ) → is_some (front_of weight s) ≡ true → (weight ≡ 0 → ⊥) → settled_in s.records s.access ≡ [] → ⊥
-  none-settled s weight front some none =
-      let e : is_some (shortest_front {K = K} {V = V} weight []) ≡ true = ap (λ xs. is_some (shortest_front weight xs)) (sym none) ∙ front in
-      let f : is_some (cond {A = Option (List (Record K V))} false (Some []) None) ≡ true = ap (λ b. is_some (cond {A = Option (List (Record K V))} b (Some []) None)) (sym (ne_eqb weight 0 some)) ∙ e in
-      cc
-
   -- ---- the write
 
   pub counting-at : (s : State K V P S R) (u : Upsert) (n : ℕ) → n ≡ u.number

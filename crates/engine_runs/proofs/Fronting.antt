@@ -2,7 +2,7 @@
 use Rattle.std.proofs.Common.{◌≡◌, refl, ap, sym, ◌∙◌, subst, ℕ, arith, Bool, true, false, not, ◌&&◌, cond, List, [], ◌∷◌, Option, Some, None, is_some}
 use Rattle.std.specs.Prelude.{min, nat_lt, slice_get}
 use Rattle.std.specs.Option.{option_and_then}
-use Rattle.std.proofs.lemmas.Bool.{and_parts, leb-true, le-leb}
+use Rattle.std.proofs.lemmas.Bool.{and_parts, leb-true, le-leb, le-ltb}
 use Rattle.engine_reference.specs.declared.rules.causes.RemovalCause.{RemovalCause}
 use Rattle.engine_reference.specs.declared.rules.causes.RemovalCause.TheVariants as cause
 use Rattle.engine_reference.specs.declared.data.Entry.{Entry}
@@ -10,11 +10,11 @@ use Rattle.engine_reference.specs.declared.data.Record.{Record}
 use Rattle.engine_reference.specs.declared.data.Settings.{Settings}
 use Rattle.engine_reference.specs.Records.{record_at, admitted_in, with_admitted}
 use Rattle.engine_reference.proofs.HeldRecords.{record_at-number}
-use Rattle.engine_reference.specs.Runs.{first_of}
+use Rattle.engine_reference.specs.Runs.{first_of, IsWrittenClean, IsUsedClean}
 use Rattle.engine_reference.specs.State.{State}
 use Rattle.engine_reference.specs.Times.{end_of, is_reached, earlier_of, has_come}
 use Rattle.engine_cells.specs.Looking.{is_expired}
-use Rattle.engine_runs.specs.Fronts.{why_written, why_used, MayLeave, dies, cleared, IsWrittenClean, IsUsedClean}
+use Rattle.engine_runs.specs.Fronts.{why_written, why_used, MayLeave, dies, cleared}
 
 -- ---- deadlines
 
@@ -109,6 +109,12 @@ module _ {K V P S R : Type 0} where
 
   -- ---- a front that is clean
 
+  pub never-written : (s : State K V P S R) (now : ℕ) → s.settings.live ≡ None → s.cleared ≡ 0 → IsWrittenClean now s
+  never-written s now live clear = record {
+    live = λ x at held. ap (λ t. is_reached (end_of x.entry.written t) now) live;
+    clear = λ x at held. ap (λ n. nat_lt x.entry.step n) clear ∙ le-ltb x.entry.step 0 (omega arith);
+  }
+
   pub written-clean : (s : State K V P S R) (now : ℕ) (r : Record K V) → slice_get s.order 0 ≡ Some r.number → record_at s.records r.number ≡ Some r → is_some r.counts ≡ true → why_written s.settings.live s.cleared now r ≡ None → IsWrittenClean now s
   written-clean s now r first there counts none =
       let stays = stays-by s.settings.live s.cleared now r none in
@@ -118,16 +124,8 @@ module _ {K V P S R : Type 0} where
         clear = λ x at. let same : r ≡ x = (let e : Some r ≡ Some x = sym front ∙ at in cc) in subst (λ y. y.is_held ≡ true → nat_lt y.entry.step s.cleared ≡ false) same stays.uncovered;
       }
 
-  pub written-none : (s : State K V P S R) (now : ℕ) → s.order ≡ [] → IsWrittenClean now s
-  written-none s now none =
-      let nothing : first_of (admitted_in s.records s.order) ≡ None = ap (λ ns. first_of (admitted_in s.records ns)) none in
-      record { live = λ x at. absurd (let e : None ≡ Some x = sym nothing ∙ at in cc); clear = λ x at. absurd (let e : None ≡ Some x = sym nothing ∙ at in cc) }
-
   pub used-clean : (s : State K V P S R) (now : ℕ) (r : Record K V) → slice_get s.access 0 ≡ Some r.number → record_at s.records r.number ≡ Some r → is_some r.counts ≡ true → why_used s.settings.idle now r ≡ None → IsUsedClean now s
   used-clean s now r first there counts none x at =
       let front = front-admitted s.records s.access r first there counts in
       let same : r ≡ x = (let e : Some r ≡ Some x = sym front ∙ at in cc) in
       subst (λ y. y.is_held ≡ true → is_reached (end_of y.entry.used s.settings.idle) now ≡ false) same (used-not s.settings.idle now r none)
-
-  pub used-none : (s : State K V P S R) (now : ℕ) → s.access ≡ [] → IsUsedClean now s
-  used-none s now none x at = absurd (let e : None ≡ Some x = sym (ap (λ ns. first_of (admitted_in s.records ns)) none) ∙ at in cc)

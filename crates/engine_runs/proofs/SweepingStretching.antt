@@ -101,8 +101,8 @@ module _ {K V P S R : Type 0} where
       leaves r why applied there held (ap (λ w. is_due_for answers s now r w) is ∙ come) after
   step-of answers s new now r why applied there (cleared held older is) after =
       leaves r why applied there held (ap (λ w. is_due_for answers s now r w) is ∙ ap (λ b. b || list_any (λ p. is_covered_by answers s.rules p r.entry) s.predicates) older) after
-  step-of answers s new now r why applied there (excess above next is) after =
-      evicts r applied above next (after ∙ ap (λ w. left w r.number s) is)
+  step-of answers s new now r why applied there (excess clean above next is) after =
+      evicts r applied clean above next (after ∙ ap (λ w. left w r.number s) is)
 
 module _ {K V P S R : Type 0} (answers : Answers K V P R) (now : ℕ) where
   pub stretch-start : (s : State K V P S R) → Stretch answers now s s
@@ -125,10 +125,10 @@ module _ {K V P S R : Type 0} where
   -- clean fronts are all that the law asks, by the state's own write list
   clean-swept : (now : ℕ) (old last : State K V P S R) → IsSound last → last.unsent ≡ [] → IsApplied last → KeepsRest old last → IsClean now last → IsSwept now old last
   clean-swept now old last sound sent applied rest clean = record {
-    live = λ r first. let p = first-admitted last.records last.order r first in clean.written.live r first (all-held last sound sent applied p.0 r p.1);
-    clear = λ r first. let p = first-admitted last.records last.order r first in clean.written.clear r first (all-held last sound sent applied p.0 r p.1);
-    idle = λ r first. let p = first-admitted last.records last.access r first in clean.used r first (all-held last sound sent applied p.0 r p.1);
-    own = λ later r there. clean.timer (ap (λ (t : Settings). nat_lt (tick_of t last.ran) (tick_of t now)) rest.settings ∙ ap (λ ran. nat_lt (tick_of old.settings ran) (tick_of old.settings now)) rest.ran ∙ later) r there (all-held last sound sent applied r.number r there);
+    live = λ r first. let p = first-admitted last.records last.order r first in clean.fronts.written.live r first (all-held last sound sent applied p.0 r p.1);
+    clear = λ r first. let p = first-admitted last.records last.order r first in clean.fronts.written.clear r first (all-held last sound sent applied p.0 r p.1);
+    idle = λ r first. let p = first-admitted last.records last.access r first in clean.fronts.used r first (all-held last sound sent applied p.0 r p.1);
+    own = λ later r there. clean.fronts.timer (ap (λ (t : Settings). nat_lt (tick_of t last.ran) (tick_of t now)) rest.settings ∙ ap (λ ran. nat_lt (tick_of old.settings ran) (tick_of old.settings now)) rest.ran ∙ later) r there (all-held last sound sent applied r.number r there);
   }
 
   -- a stretch that leaves the fronts clean, and then the counts, are a run to its end

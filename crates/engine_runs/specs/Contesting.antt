@@ -9,12 +9,13 @@ use Rattle.engine_cells.specs.Looking.{behind}
 use Rattle.engine_runs.specs.declared.contesting.Contest.{Contest}
 
 module _ {K V : Type 0} where
-  -- there are victims, and they were asked for less often in all
+  -- there are victims, and they were requested less often in all
   abbrev pub is_won : Sketch → ℕ → Option (List (Record K V)) → Bool
   is_won sketch ahead None = false
   is_won sketch ahead (Some victims) = nat_lt (frequencies sketch victims) ahead
 
-  -- what is left to reach and how far the newcomer is ahead, once a record was looked at, decide alike on the records behind it
+  -- what is left to reach and how far the newcomer is ahead, after a record was looked at, decide in the same way about the records after
+  -- it
   abbrev pub GoesPast : Sketch → ℕ → ℕ → Record K V → ℕ × ℕ → Type 0
   GoesPast sketch left ahead r after = (rest : List (Record K V)) → is_won sketch after.1 (shortest_front after.0 rest) ≡ is_won sketch ahead (shortest_front left (with_settled (Some r) rest))
 
@@ -33,7 +34,7 @@ module _ {K V P S R : Type 0} where
   abbrev pub IsOnList : Kept K V P S R → Option ℕ → Type 0
   IsOnList t next = IfSome next (λ place. (r : Record K V) × (kept_at t place ≡ Some r) × (is_some r.counts ≡ true))
 
-  -- what a contest under way comes to
+  -- the result of a contest that is under way
   abbrev pub outcome : Kept K V P S R → Contest → Bool
   outcome t c = is_won t.state.sketch c.ahead (shortest_front c.left (settled_in t.state.records (from_place t c.next)))
 

@@ -1,4 +1,4 @@
--- What a scan for predicates lets leave.
+-- Which records a scan for predicates removes.
 use Rattle.std.specs.Prelude.{◌≡◌, ℕ, ◌<◌, Bool, true, false, ◌&&◌, List, [], ◌∷◌, Option, Some, None}
 use Rattle.engine_reference.specs.declared.data.Record.{Record}
 use Rattle.engine_reference.specs.declared.data.Registered.{Registered}

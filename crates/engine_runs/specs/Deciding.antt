@@ -9,7 +9,7 @@ use Rattle.engine_runs.specs.declared.deciding.Decision.{Decision}
 use Rattle.engine_runs.specs.declared.deciding.Decision.TheVariants as decide
 
 module _ {K V : Type 0} where
-  -- what a verdict comes to, where this is what is done about a refused record
+  -- the result of a verdict, if this is what is done about a refused record
   abbrev pub decided : Decision → Verdict K V → Decision
   decided otherwise admit = decide.Count
   decided otherwise (displace victims) = decide.Displace

@@ -1,4 +1,4 @@
--- Settled records that go for a newcomer, those used longest ago first.
+-- Settled records that are evicted for a newcomer, those used longest ago first.
 use Rattle.std.specs.Prelude.{◌≡◌, ℕ, true, false, List, Option, Some, None, is_some}
 use Rattle.engine_reference.specs.declared.rules.causes.RemovalCause.TheVariants as cause
 use Rattle.engine_reference.specs.declared.data.Record.{Record}

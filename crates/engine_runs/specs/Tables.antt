@@ -6,7 +6,7 @@ use Rattle.engine_reference.specs.Runs.{lacks_table}
 use Rattle.engine_reference.specs.State.{State}
 
 module _ {K V P S R : Type 0} where
-  -- the table is to be made for so many hashes
+  -- the table is to be made for this many hashes
   pub record LacksTableFor (hashes : ℕ) (s : State K V P S R) : Type 0 where
     pub capacity : ℕ
     pub is_set : s.settings.capacity ≡ Some capacity

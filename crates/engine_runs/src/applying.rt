@@ -33,7 +33,7 @@ fn apply_found<K: Eq + Hash + Drop, V: Drop, S: BuildHasher, R: Rules<K, V>>(
     }
 }
 
-/// A write of a record is applied. The record, if there is one of its number, can only stand in this place.
+/// Applies a write of a record. The record, if there is one of its number, can only be in this place.
 pub fn apply_put<K: Eq + Hash + Drop, V: Drop, S: BuildHasher, R: Rules<K, V>>(
     tables: &mut Tables<K, V, S, R>,
     place: usize,
@@ -47,7 +47,7 @@ pub fn apply_put<K: Eq + Hash + Drop, V: Drop, S: BuildHasher, R: Rules<K, V>>(
     }
 }
 
-/// A write or the removal of a record is applied. The record, if there is one of its number, can only stand in this place.
+/// Applies a write or the removal of a record. The record, if there is one of its number, can only be in this place.
 pub fn apply_write<K: Eq + Hash + Drop, V: Drop, S: BuildHasher, R: Rules<K, V>>(
     tables: &mut Tables<K, V, S, R>,
     place: usize,

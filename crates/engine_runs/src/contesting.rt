@@ -11,8 +11,8 @@ use engine_reference::Rules;
 use engine_tables::Tables;
 use std::hash::{BuildHasher, Hash};
 
-/// A contest under way: what is left of the newcomer's weight for others to make room for, how much more often it was
-/// asked for than those that would go so far, and the place of the next record on the access list.
+/// A contest under way: how much of the newcomer's weight is left to make room for, how much more often it was requested
+/// than the records that would be evicted so far, and the place of the next record on the access list.
 #[derive(Clone, Copy)]
 struct Contest {
     left: u32,
@@ -30,7 +30,7 @@ fn first_place<K: Eq + Hash, V, S: BuildHasher, R: Rules<K, V>>(
     tables.oldest()
 }
 
-/// Where it goes on, behind a place.
+/// Where it continues after a place.
 fn place_behind<K: Eq + Hash, V, S: BuildHasher, R: Rules<K, V>>(
     tables: &Tables<K, V, S, R>,
     place: usize,
@@ -43,8 +43,8 @@ fn place_behind<K: Eq + Hash, V, S: BuildHasher, R: Rules<K, V>>(
     tables.next_used(place)
 }
 
-/// What is left of the weight, and how far the newcomer is ahead, once the record in a place was looked at: it would go
-/// where it is settled.
+/// How much of the weight is left, and how far the newcomer is ahead, after the record in a place: it would be evicted if
+/// it is settled.
 fn past<K: Eq + Hash, V, S: BuildHasher, R: Rules<K, V>>(
     tables: &Tables<K, V, S, R>,
     place: usize,
@@ -78,7 +78,7 @@ fn next_rival(contest: Contest) -> Option<usize>
     contest.next
 }
 
-/// A contest goes on past the next record.
+/// A contest continues past the next record.
 fn go_on<K: Eq + Hash, V, S: BuildHasher, R: Rules<K, V>>(
     tables: &Tables<K, V, S, R>,
     contest: Contest,
@@ -96,9 +96,9 @@ fn go_on<K: Eq + Hash, V, S: BuildHasher, R: Rules<K, V>>(
     Contest { left, ahead, next }
 }
 
-/// Whether a newcomer of a weight, asked for this often, wins its contest: there is a front of settled records that reaches
-/// the weight, and it was asked for more often than the shortest of these in all. Nothing behind that front is looked at,
-/// and nothing once the contest is lost.
+/// Whether a newcomer of a weight, requested this often, wins its contest: there is a front of settled records that
+/// reaches the weight, and it was requested more often than the shortest of these in all. Nothing after that front is
+/// looked at, and nothing once the contest is lost.
 pub(crate) fn is_won<K: Eq + Hash, V, S: BuildHasher, R: Rules<K, V>>(
     tables: &Tables<K, V, S, R>,
     weight: u32,

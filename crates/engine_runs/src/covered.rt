@@ -1,4 +1,4 @@
-//! Predicates: what they cover leaves, and then they go.
+//! Predicates: removes what they cover, and then the predicates.
 ghost use Rattle.std.specs.Prelude.{◌≡◌, ◌+◌, ◌<◌, [], false, length};
 ghost use Rattle.engine_cells.specs.Kept.{kept_at};
 ghost use Rattle.engine_cells.specs.Stretches.{Stretch, StepsFor};
@@ -12,7 +12,7 @@ use engine_reference::{RemovalCause, Rules};
 use engine_tables::Tables;
 use std::hash::{BuildHasher, Hash};
 
-/// Whether the record in a place is held, and a clear or a predicate stands over it.
+/// Whether the record in a place is held and covered by a clear or a predicate.
 fn is_covered_at<K: Eq + Hash, V, S: BuildHasher, R: Rules<K, V>>(
     tables: &Tables<K, V, S, R>,
     place: usize,
@@ -25,7 +25,7 @@ fn is_covered_at<K: Eq + Hash, V, S: BuildHasher, R: Rules<K, V>>(
     }
 }
 
-/// The record in a place leaves, where it is held and covered.
+/// Removes the record in a place, if it is held and covered.
 fn leave_covered<K: Eq + Hash + Drop, V: Drop, S: BuildHasher, R: Rules<K, V>>(
     tables: &mut Tables<K, V, S, R>,
     place: usize,
@@ -61,7 +61,7 @@ fn scan<K: Eq + Hash + Drop, V: Drop, S: BuildHasher, R: Rules<K, V>>(
     let _stand = tables.places();
 }
 
-/// The last predicate goes, as it covers nothing.
+/// Removes the last predicate, which covers nothing.
 fn end_last<K: Eq + Hash, V, S: BuildHasher, R: Rules<K, V>>(
     tables: &mut Tables<K, V, S, R>,
     now: u64,
@@ -80,7 +80,7 @@ fn end_last<K: Eq + Hash, V, S: BuildHasher, R: Rules<K, V>>(
     tables.end_predicate(last);
 }
 
-/// All predicates go, where none covers anything.
+/// Removes all predicates, none of which covers anything.
 fn end_all<K: Eq + Hash, V, S: BuildHasher, R: Rules<K, V>>(
     tables: &mut Tables<K, V, S, R>,
     now: u64,

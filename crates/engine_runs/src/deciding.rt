@@ -27,11 +27,11 @@ pub enum Decision {
 }
 
 /// Whether a capacity is set, and a weight is above it.
-fn is_above(capacity: Option<u64>, weight: u128) -> bool
+fn is_above(capacity: Option<u64>, weight: u64) -> bool
     ensures { result ≡ is_above capacity weight }
 {
     match capacity {
-        Some(capacity) => u128::from(capacity) < weight,
+        Some(capacity) => capacity < weight,
         None => false,
     }
 }
@@ -86,7 +86,7 @@ fn judge<K: Eq + Hash, V, S: BuildHasher, R: Rules<K, V>>(
     ensures { result ≡ decided refused (verdict tables.now.state write) }
 {
     let capacity = tables.settings().capacity;
-    let weight = u128::from(write.weight);
+    let weight = u64::from(write.weight);
     if !is_above(capacity, tables.admitted_weight() + weight) {
         return Decision::Count;
     }

@@ -9,7 +9,7 @@ use engine_reference::{RemovalCause, Rules, Upsert};
 use engine_tables::Tables;
 use std::hash::{BuildHasher, Hash};
 
-/// The place of the next to go, where some of the weight is left to reach.
+/// The place of the next record to evict, if the weight is not reached yet.
 fn next_victim<K: Eq + Hash, V, S: BuildHasher, R: Rules<K, V>>(
     tables: &Tables<K, V, S, R>,
     left: u32,
@@ -25,7 +25,7 @@ fn next_victim<K: Eq + Hash, V, S: BuildHasher, R: Rules<K, V>>(
     tables.first_settled()
 }
 
-/// The settled record used longest ago goes. What is left of the weight to reach is answered.
+/// Evicts the settled record used longest ago. Returns how much of the weight is left to reach.
 fn displace_one<K: Eq + Hash + Drop, V: Drop, S: BuildHasher, R: Rules<K, V>>(
     tables: &mut Tables<K, V, S, R>,
     place: usize,
@@ -43,7 +43,7 @@ fn displace_one<K: Eq + Hash + Drop, V: Drop, S: BuildHasher, R: Rules<K, V>>(
     left.saturating_sub(weight)
 }
 
-/// The shortest front of settled records that reaches a weight goes, of which there is one.
+/// Evicts the shortest front of settled records that reaches a weight; there is one.
 fn displace<K: Eq + Hash + Drop, V: Drop, S: BuildHasher, R: Rules<K, V>>(
     tables: &mut Tables<K, V, S, R>,
     weight: u32,

@@ -1,9 +1,10 @@
 //! The fronts at which a run looks.
-ghost use Rattle.std.specs.Prelude.{◌≡◌, IfSome, IfNone};
+ghost use Rattle.std.specs.Prelude.{◌≡◌, [], true, None, IfSome, IfNone};
 ghost use Rattle.engine_cells.specs.Kept.{kept_at};
+ghost use Rattle.engine_reference.specs.Runs.{FrontsAreClean, IsTimerClean, IsUsedClean, IsWrittenClean, is_later_tick};
 ghost use Rattle.engine_reference.specs.Times.{end_of, is_reached, tick_of};
 ghost use Rattle.engine_reference.specs.declared.data.Record.{Record};
-ghost use Rattle.engine_runs.specs.Fronts.{is_later_tick, why_written, why_used, MayLeave, IsWrittenClean, IsUsedClean, IsTimerClean, IsLight, IsClean};
+ghost use Rattle.engine_runs.specs.Fronts.{why_written, why_used, MayLeave, IsLight, IsClean};
 
 use engine_reference::{Record, RemovalCause, Rules, Settings};
 use engine_tables::Tables;
@@ -54,6 +55,13 @@ fn why_used<K, V>(found: &Record<K, V>, settings: Settings, now: u64) -> Option<
     }
 }
 
+/// Whether no record has to leave by its last write, whenever that was: there is no live time, and there was no clear.
+fn keeps_written(settings: Settings, cleared: u64) -> bool
+    ensures { result ≡ true → (settings.live ≡ None) × (cleared ≡ 0) }
+{
+    settings.live.is_none() && cleared == 0
+}
+
 /// The front of the write list, where it has to leave.
 fn written_leaving<K: Eq + Hash, V, S: BuildHasher, R: Rules<K, V>>(
     tables: &Tables<K, V, S, R>,
@@ -62,9 +70,14 @@ fn written_leaving<K: Eq + Hash, V, S: BuildHasher, R: Rules<K, V>>(
     ensures found { IfSome result (λ due. (r : Record K V) × (kept_at tables.now due.0 ≡ Some r) × MayLeave tables.now.state now r due.1) }
     ensures none { IfNone result (IsWrittenClean now tables.now.state) }
 {
+    let settings = tables.settings();
+    let cleared = tables.cleared();
+    if keeps_written(settings, cleared) {
+        return None;
+    }
     let place = tables.first_written()?;
     match tables.record(place) {
-        Some(found) => match why_written(found, tables.settings(), tables.cleared(), now) {
+        Some(found) => match why_written(found, settings, cleared, now) {
             Some(cause) => Some((place, cause)),
             None => None,
         },
@@ -80,9 +93,11 @@ fn used_leaving<K: Eq + Hash, V, S: BuildHasher, R: Rules<K, V>>(
     ensures found { IfSome result (λ due. (r : Record K V) × (kept_at tables.now due.0 ≡ Some r) × MayLeave tables.now.state now r due.1) }
     ensures none { IfNone result (IsUsedClean now tables.now.state) }
 {
+    let settings = tables.settings();
+    let _idle = settings.idle?;
     let place = tables.oldest()?;
     match tables.record(place) {
-        Some(found) => match why_used(found, tables.settings(), now) {
+        Some(found) => match why_used(found, settings, now) {
             Some(cause) => Some((place, cause)),
             None => None,
         },
@@ -125,11 +140,12 @@ fn timer_leaving<K: Eq + Hash, V, S: BuildHasher, R: Rules<K, V>>(
     }
 }
 
-/// The first settled record of the access list, where the weight is above the capacity.
+/// The first settled record of the access list, where the weight is above the capacity. Nothing else has to leave.
 fn excess_leaving<K: Eq + Hash, V, S: BuildHasher, R: Rules<K, V>>(
     tables: &Tables<K, V, S, R>,
     now: u64,
 ) -> Option<(usize, RemovalCause)>
+    requires { FrontsAreClean now tables.now.state }
     ensures found { IfSome result (λ due. (r : Record K V) × (kept_at tables.now due.0 ≡ Some r) × MayLeave tables.now.state now r due.1) }
     ensures none { IfNone result (IsLight tables.now.state) }
 {
@@ -143,11 +159,12 @@ fn excess_leaving<K: Eq + Hash, V, S: BuildHasher, R: Rules<K, V>>(
     }
 }
 
-/// The first record that has to leave, by the fronts, and why.
+/// The first record that has to leave, by the fronts, and why: for the weight only where none has to leave for another cause.
 pub fn next_leaving<K: Eq + Hash, V, S: BuildHasher, R: Rules<K, V>>(
     tables: &Tables<K, V, S, R>,
     now: u64,
 ) -> Option<(usize, RemovalCause)>
+    requires { tables.now.state.predicates ≡ [] }
     ensures found { IfSome result (λ due. (r : Record K V) × (kept_at tables.now due.0 ≡ Some r) × MayLeave tables.now.state now r due.1) }
     ensures none { IfNone result (IsClean now tables.now.state) }
 {

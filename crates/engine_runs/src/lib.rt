@@ -1,6 +1,5 @@
-//! Pending reads and writes applied on the fast tables, as the reference cache applies them.
-//! What a run does once all that is pending is applied: what is due leaves, found at the fronts alone.
-//! A run of the fast cache, from what waits to the counts.
+//! Maintenance of the fast cache: it applies pending reads and writes as the reference cache does, and then removes what is
+//! due, found at the fronts alone.
 #![tactic(auto)]
 
 mod applying;

@@ -16,9 +16,9 @@ use engine_tables::Tables;
 use std::alloc::AllocError;
 use std::hash::{BuildHasher, Hash};
 
-/// Runs maintenance to its end: all that waits is applied, what predicates cover leaves and they go, what is due leaves, and then the excess.
-/// Where all tickets were sent as it began, the counts are exact; where moments never fell and steps rose too, nothing that is kept is due.
-/// Where half the capacity is held and the sketch has no table, it is made first; an error tells that there was no memory for it, and the run is as whole without. Other memory is asked for only where there was none for a timer before.
+/// Runs maintenance to its end: applies everything that is pending, removes what predicates cover and then the predicates, then what is due, and then the excess.
+/// If all tickets were sent when it began, the counts are exact. If moments never fell and steps rose, nothing that is kept is due.
+/// If half the capacity is held and the sketch has no table, the table is made first. An error reports that there was no memory for it; the run is complete without it. Other memory is allocated only if there was none for a timer before.
 pub fn try_run<K: Eq + Hash + Drop, V: Drop, S: BuildHasher, R: Rules<K, V>>(
     tables: &mut Tables<K, V, S, R>,
     now: u64,
@@ -54,7 +54,7 @@ pub fn run<K: Eq + Hash + Drop, V: Drop, S: BuildHasher, R: Rules<K, V>>(
     let _grown = try_run(tables, now);
 }
 
-/// Runs maintenance where it is due: where 64 reads or 64 writes wait, or 300 milliseconds after the last run.
+/// Runs maintenance if it is due: if 64 reads or 64 writes wait, or 300 milliseconds after the last run.
 pub fn run_if_due<K: Eq + Hash + Drop, V: Drop, S: BuildHasher, R: Rules<K, V>>(
     tables: &mut Tables<K, V, S, R>,
     now: u64,

@@ -37,7 +37,8 @@ pub fn sweep<K: Eq + Hash + Drop, V: Drop, S: BuildHasher, R: Rules<K, V>>(
     tables: &mut Tables<K, V, S, R>,
     now: u64,
 )
-    requires { IsApplied tables.old.state }
+    requires applied { IsApplied tables.old.state }
+    requires predicates { tables.old.state.predicates ≡ [] }
     ensures stretch { (answers : Answers K V R.Predicate R) → Stretch answers now tables.old.state tables.new.state }
     ensures applied { IsApplied tables.new.state }
     ensures rest { KeepsRest tables.old.state tables.new.state }

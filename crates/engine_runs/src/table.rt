@@ -18,26 +18,24 @@ const LEAST_HASHES: u128 = 128;
 const MOST_HASHES: u128 = 4_294_967_295;
 
 /// For how many hashes the table is made: for the capacity, or where weight is held for as many of that weight as fit.
-fn sketch_room(capacity: u64, number: u64, weight: u128) -> u32
+fn sketch_room(capacity: u64, number: u64, weight: u64) -> u32
     ensures { result ≡ sketch_room capacity number weight }
 {
     let capacity = u128::from(capacity);
     let wanted = if weight == 0 {
         capacity
     } else {
-        capacity * u128::from(number) / weight
+        capacity * u128::from(number) / u128::from(weight)
     };
     wanted.max(LEAST_HASHES).min(MOST_HASHES) as u32
 }
 
 /// Whether half the capacity is held, and there is no table yet.
-fn wants_table(capacity: Option<u64>, sketch: &FrequencySketch, weight: u128) -> bool
+fn wants_table(capacity: Option<u64>, sketch: &FrequencySketch, weight: u64) -> bool
     ensures { result ≡ wants_table capacity sketch.now weight }
 {
     match capacity {
-        Some(capacity) => {
-            0 < capacity && !sketch.has_table() && u128::from(capacity / 2) <= weight
-        }
+        Some(capacity) => { 0 < capacity && !sketch.has_table() && capacity / 2 <= weight }
         None => false,
     }
 }

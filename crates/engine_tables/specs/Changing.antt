@@ -15,11 +15,11 @@ module _ {K V P S R : Type 0} where
   abbrev pub ChangesAt : (Record K V → Record K V) → ℕ → Kept K V P S R → Kept K V P S R → Type 0
   ChangesAt change place old new = (r : Record K V) × (kept_at old place ≡ Some r) × (new ≡ record old { state = record old.state { records = changed_at r.number change old.state.records } })
 
-  -- its number went to the back of the access list, where it is admitted
+  -- its number went to the back of the access list, if it is admitted
   abbrev pub GoesToBack : ℕ → Kept K V P S R → Kept K V P S R → Type 0
   GoesToBack place old new = (r : Record K V) × (kept_at old place ≡ Some r) × (is_some r.counts ≡ true → new ≡ record old { state = record old.state { access = moved_to_back r.number old.state.access } })
 
-  -- an entry stands there in place of the one before, which is told, and the write waits to be sent
+  -- an entry replaces the one before, which is reported, and the write waits to be sent
   abbrev pub IsWrittenOver : Entry K V → RemovalCause → ℕ → Kept K V P S R → Kept K V P S R → Type 0
   IsWrittenOver entry cause place old new = (r : Record K V) × (kept_at old place ≡ Some r) × (new ≡ record old { state = with_put_for (record r { entry = entry; writes = r.writes + 1 }) (record old.state { records = changed_at r.number (λ x. record x { entry = entry; writes = x.writes + 1 }) old.state.records; notices = told old.state.settings.tells cause r.entry old.state.notices }) })
 
@@ -31,14 +31,14 @@ module _ {K V P S R : Type 0} where
   abbrev pub CountsAt : ℕ → ℕ → ℕ → Kept K V P S R → Kept K V P S R → Type 0
   CountsAt write weight place old new = (r : Record K V) × (kept_at old place ≡ Some r) × (new ≡ record old { state = record old.state { records = changed_at r.number (λ x. record x { applied = write; counts = Some weight }) old.state.records; access = moved_to_back r.number old.state.access; order = moved_to_back r.number old.state.order } })
 
-  -- it went, and nothing is told
+  -- it was removed, and nothing is reported
   abbrev pub IsForgotten : ℕ → Kept K V P S R → Kept K V P S R → Type 0
   IsForgotten place old new = (r : Record K V) × (kept_at old place ≡ Some r) × (new ≡ record old { state = record old.state { records = without_record r.number old.state.records; access = without r.number old.state.access; order = without r.number old.state.order }; numbers = slice_set old.numbers place None })
 
-  -- it went, and is told with a cause where it was held and removals are told
+  -- it was removed, and is reported with a cause if it was held and removals are reported
   abbrev pub LeavesAt : RemovalCause → ℕ → Kept K V P S R → Kept K V P S R → Type 0
   LeavesAt cause place old new = (r : Record K V) × (kept_at old place ≡ Some r) × (new ≡ record old { state = record old.state { records = without_record r.number old.state.records; access = without r.number old.state.access; order = without r.number old.state.order; notices = if r.is_held then told old.state.settings.tells cause r.entry old.state.notices else old.state.notices }; numbers = slice_set old.numbers place None })
 
-  -- number and weight of the admitted records are taken down at the end of a run
+  -- number and weight of the admitted records are noted at the end of a run
   abbrev pub taken_down : ℕ → Bool → State K V P S R → State K V P S R
   taken_down now refused s = record s { number = admitted_number s.records; weight = min (admitted_weight s.records) 18446744073709551615; ran = now; table_refused = refused }

@@ -326,7 +326,7 @@ impl<K: Eq + Hash, V, S: BuildHasher, R: Rules<K, V>> Tables<K, V, S, R> {
         requires alike { (r : Record K V) → kept_at self.old place ≡ Some r → K.eq r.entry.key entry.key ≡ true }
         ensures { IsWrittenOver entry cause place self.old self.new }
     {
-        let _many = self.cells.len();
+        let _many = self.cells.capacity();
         let expires = entry.expires;
         let cell = &mut self.cells[place];
         let others = self.tally.without(cell);
@@ -348,7 +348,7 @@ impl<K: Eq + Hash, V, S: BuildHasher, R: Rules<K, V>> Tables<K, V, S, R> {
         requires fits { (r : Record K V) → kept_at self.old place ≡ Some r → r.writes < 2 ^ 64 - 1 }
         ensures { IsMarkedRemoved place self.old self.new }
     {
-        let _many = self.cells.len();
+        let _many = self.cells.capacity();
         let cell = &mut self.cells[place];
         let number = cell.number;
         let hash = cell.hash;
@@ -423,18 +423,18 @@ impl<K: Eq + Hash, V, S: BuildHasher, R: Rules<K, V>> Tables<K, V, S, R> {
     }
 
     /// What all that is held weighs, whether admitted or not.
-    pub fn held_weight(&self) -> u128
+    pub fn held_weight(&self) -> u64
         ensures { result ≡ held_weight self.now.state.records }
     {
         self.tally.held
     }
 
     /// What the admitted records weigh.
-    pub fn admitted_weight(&self) -> u128
+    pub fn admitted_weight(&self) -> u64
         ensures is { result ≡ admitted_weight self.now.state.records }
-        ensures light { result < 2 ^ 100 }
+        ensures light { result + 2 ^ 32 ≤ 2 ^ 64 }
     {
-        let _many = self.cells.len();
+        let _many = self.cells.capacity();
         self.tally.weight
     }
 
@@ -442,8 +442,7 @@ impl<K: Eq + Hash, V, S: BuildHasher, R: Rules<K, V>> Tables<K, V, S, R> {
     pub fn admitted_number(&self) -> u64
         ensures { result ≡ admitted_number self.now.state.records }
     {
-        let _many = self.cells.len();
-        self.tally.number as u64
+        self.tally.number
     }
 
     /// The record in a place leaves, and is told where it was held and removals are told.
@@ -528,7 +527,7 @@ impl<K: Eq + Hash, V, S: BuildHasher, R: Rules<K, V>> Tables<K, V, S, R> {
         ensures { result ≡ is_above self.now.state.settings.capacity (admitted_weight self.now.state.records) }
     {
         match self.backlog.settings().capacity {
-            Some(capacity) => u128::from(capacity) < self.tally.weight,
+            Some(capacity) => capacity < self.tally.weight,
             None => false,
         }
     }
@@ -621,10 +620,9 @@ impl<K: Eq + Hash, V, S: BuildHasher, R: Rules<K, V>> Tables<K, V, S, R> {
     pub fn finish_run(&mut self, now: u64, table_refused: bool)
         ensures { self.new ≡ record self.old { state = taken_down now table_refused self.old.state } }
     {
-        let _many = self.cells.len();
-        let number = self.tally.number as u64;
-        let weight = capped(self.tally.weight);
-        self.backlog.finish_run(number, weight, now, table_refused);
+        let _many = self.cells.capacity();
+        self.backlog
+            .finish_run(self.tally.number, self.tally.weight, now, table_refused);
     }
 
     /// Makes the sketch's table for so many hashes.
@@ -710,9 +708,9 @@ impl<K: Eq + Hash, V, S: BuildHasher, R: Rules<K, V>> Tables<K, V, S, R> {
     {
         let number = self.cells[place].number;
         self.backlog.push_read(Noted::Hit {
+            hash,
             place,
             number,
-            hash,
         });
     }
 
@@ -784,9 +782,9 @@ impl<K: Eq + Hash, V, S: BuildHasher, R: Rules<K, V>> Tables<K, V, S, R> {
     {
         match self.pop_read() {
             Noted::Hit {
+                hash,
                 place,
                 number,
-                hash,
             } => {
                 self.count_hash(hash);
                 self.hit(place, number);
@@ -803,7 +801,7 @@ impl<K: Eq + Hash, V, S: BuildHasher, R: Rules<K, V>> Tables<K, V, S, R> {
         let index = self.cells.index_of(place);
         put_last(&mut self.access, index);
         put_last(&mut self.order, index);
-        let _many = self.cells.len();
+        let _many = self.cells.capacity();
         let cell = &mut self.cells[place];
         let others = self.tally.without(cell);
         cell.applied = write;
@@ -858,7 +856,7 @@ fn is_admitted_as<K, V>(found: &Record<K, V>, number: u64) -> bool
 }
 
 /// The write of a record as it stands, where so much is held.
-fn put_of<K, V>(written: &Record<K, V>, kept: u128) -> Write
+fn put_of<K, V>(written: &Record<K, V>, kept: u64) -> Write
     ensures { result ≡ put_for written.now kept }
 {
     Write::Put(Upsert {
@@ -866,14 +864,6 @@ fn put_of<K, V>(written: &Record<K, V>, kept: u128) -> Write
         write: written.writes,
         weight: written.entry.weight,
         hash: written.hash,
-        kept,
+        kept: u128::from(kept),
     })
-}
-
-/// A weight as it is kept: at most the greatest that fits.
-fn capped(weight: u128) -> u64
-    ensures { result ≡ min weight 18446744073709551615 }
-{
-    let most = weight.min(18_446_744_073_709_551_615);
-    most as u64
 }

@@ -1,4 +1,4 @@
-//! Tests of the fast cache's keys, tables and timers, as far as memory is asked for.
+//! Tests of the fast cache's keys, tables and timers, as far as they allocate.
 mod keys;
 mod tables;
 mod timers;

@@ -1,4 +1,4 @@
-//! Rows on newcomers: under TinyLFU a newcomer comes in where it was asked for more often than
+//! Rows on newcomers: under TinyLFU a newcomer is admitted if it was requested more often than
 //! those that would go for it.
 use crate::rows::{CASE, Case, ITSELF, Look, Row, SECOND, SETTINGS, none_wrong};
 use engine_reference::{EvictionPolicy, RemovalCause, Settings};
@@ -8,14 +8,14 @@ const TINY_LFU: Settings = Settings {
     ..SETTINGS
 };
 
-// Keys 0 and 1 are asked for before there is a table, then 2, 0 and 1 once each: 2 was used longest
+// Keys 0 and 1 are requested before there is a table, then 2, 0 and 1 once each: 2 was used longest
 // ago. Key 3 comes and is refused, and is asked for, twice.
 const REFUSED_TWICE: &[Row<'static>] = &[
     Row::Puts(0, 5, 1),
     Row::Puts(1, 6, 2),
     Row::Shows(Look::Get, 0, Some(5)),
     Row::Shows(Look::Get, 1, Some(6)),
-    // the second makes the table where memory for it was refused to the first
+    // the second makes the table if memory for it was refused to the first
     Row::Runs,
     Row::Runs,
     Row::TableRefused(false),
@@ -71,7 +71,7 @@ const REFUSED_THRICE: &[Row<'static>] = &[
 ];
 
 const CASES: &[Case<'static>] = &[
-    // Weights of one: a newcomer comes in once it was asked for more often than the value used
+    // Weights of one: a newcomer is admitted once it was requested more often than the value used
     // longest ago.
     Case {
         settings: Settings {
@@ -88,7 +88,7 @@ const CASES: &[Case<'static>] = &[
         ],
         ..CASE
     },
-    // A clear takes the values, and not how often they were asked for.
+    // A clear removes the values, but not how often they were requested.
     Case {
         settings: Settings {
             capacity: Some(3),

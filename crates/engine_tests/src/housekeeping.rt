@@ -8,7 +8,7 @@ const MADE: u64 = 7;
 
 const LATER: u64 = 300_000_007;
 
-/// Whether runs are due where so many reads, then so many writes wait.
+/// Whether runs are due when this many reads, then this many writes wait.
 fn dues(housekeeper: &Housekeeper, waiting: usize, nanos: u64) -> (bool, bool) {
     let now = Instant::from_nanos(nanos.min(1_000_000_000_000));
     (

@@ -59,7 +59,7 @@ const TEXTS: [(Refusal, &str); 6] = [
     (Refusal::QueueFull, "queue full"),
     (
         Refusal::InvalidationClosuresDisabled,
-        "invalidation closures are disabled",
+        "invalidation closures disabled",
     ),
     (Refusal::IdsInUse, "ids in use"),
     (Refusal::UsedUp, "used up"),

@@ -51,7 +51,7 @@ const CASES: &[Case<'static>] = &[
             Row::Contains(1, false),
             Row::Contains(2, true),
             Row::Contains(3, true),
-            // a write over what is covered tells it so, and is visible
+            // a write over what is covered reports it so, and is visible
             Row::Puts(1, 10, 5),
             Row::Tells(RemovalCause::Explicit, 1, 10),
             Row::Contains(1, true),

@@ -1,4 +1,4 @@
-//! Rows of a cache of one part: what is asked of it, and what has to come of it.
+//! Rows of a cache of one part: calls and their expected results.
 mod calls;
 mod generators;
 mod rules;

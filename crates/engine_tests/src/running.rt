@@ -1,2 +1,2 @@
-//! Tests of the fast cache's run, as far as memory is asked for.
+//! Tests of the fast cache's maintenance, as far as it allocates.
 mod runs;

@@ -72,7 +72,7 @@ const CASES: &[Case<'static>] = &[
         ],
         ..CASE
     },
-    // The values used longest ago leave first, told in this order; those that are kept expire.
+    // The values used longest ago are removed first, reported in this order; those that are kept expire.
     Case {
         settings: Settings {
             capacity: Some(2),
@@ -143,7 +143,7 @@ const CASES: &[Case<'static>] = &[
         ],
         ..CASE
     },
-    // What a write tells of the value that it replaces: the first cause of three that holds.
+    // What a write reports of the value that it replaces: the first cause of three that holds.
     Case {
         settings: Settings {
             idle: Some(7 * SECOND),
@@ -189,7 +189,7 @@ const CASES: &[Case<'static>] = &[
         ],
         ..CASE
     },
-    // A removed key is told by its remover, dead or not, and once.
+    // A removed key is reported by its remover, dead or not, and once.
     Case {
         settings: Settings {
             live: Some(SECOND),

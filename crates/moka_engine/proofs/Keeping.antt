@@ -8,7 +8,7 @@ use Rattle.engine_reference.specs.declared.data.Record.{Record}
 use Rattle.engine_reference.specs.declared.data.Registered.{Registered}
 use Rattle.engine_reference.specs.declared.data.Settings.{Settings}
 use Rattle.engine_reference.specs.declared.data.Write.{Write}
-use Rattle.engine_reference.specs.Calls.{IsNew, MaintainsIfDue, sent, with_sent, unsent_at, written, with_written, removed_by, with_removed, with_removal_room, with_reserved_removal, removal_rooms, with_read, first_entry, next_entry, used_entry}
+use Rattle.engine_reference.specs.Calls.{IsNew, MaintainsIfDue, sent, with_sent, unsent_at, written, with_written, with_removed, with_removal_room, with_reserved_removal, removal_rooms, with_read, first_entry, next_entry, used_entry}
 use Rattle.engine_reference.specs.Records.{held_at, record_at, changed_at}
 use Rattle.engine_reference.specs.Runs.{RunsToEnd, is_due}
 use Rattle.engine_reference.specs.Soundness.{IsSound, AreNumbered}
@@ -163,9 +163,6 @@ module _ {K V P S R : Type 0} where
 
   pub well-reserved_removal : (eq : K → K → Bool) (key : K) (s : State K V P S R) → IsWellKept s → IsWellKept (with_reserved_removal (held_at eq s.records key) s)
   well-reserved_removal eq key s h = record { sound = ∥∥₁_map h.sound (reserved-sound eq key s); bounded = reserved-bounded (held_at eq s.records key) s h.bounded }
-
-  pub well-removed : (eq : K → K → Bool) (key : K) (s : State K V P S R) → IsWellKept s → IsWellKept (removed_by eq key s)
-  well-removed eq key s h = record { sound = ∥∥₁_map h.sound ((calls_stay_sound K V P S R).removed eq key s); bounded = removed-bounded (held_at eq s.records key) s h.bounded }
 
   pub well-removal_room : (o : Option (Record K V)) (s : State K V P S R) → IsWellKept s → IsWellKept (with_removal_room o s)
   well-removal_room None s h = h

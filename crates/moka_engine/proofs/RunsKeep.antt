@@ -131,7 +131,7 @@ module _ {K V P S R : Type 0} where
   step-keep answers now old new (writes w rest none e after) = subst (λ (s : State K V P S R). Keep old s) (sym after) (after_write-keep w (record old { writes = rest }))
   step-keep answers now old new (grows words applied wants capacity is_set size after) = subst (λ (s : State K V P S R). Keep old s) (sym after) (keep-same old.records)
   step-keep answers now old new (leaves r why applied there held due after) = subst (λ (s : State K V P S R). Keep old s) (sym after) (left-keep why r.number old)
-  step-keep answers now old new (evicts r applied above next after) = subst (λ (s : State K V P S R). Keep old s) (sym after) (left-keep cause.Size r.number old)
+  step-keep answers now old new (evicts r applied clean above next after) = subst (λ (s : State K V P S R). Keep old s) (sym after) (left-keep cause.Size r.number old)
   step-keep answers now old new (ends place p applied there none after) = subst (λ (s : State K V P S R). Keep old s) (sym after) (keep-same old.records)
 
   steps-keep : (answers : Answers K V P R) (now : ℕ) (old : State K V P S R) (mids : List (State K V P S R)) (new : State K V P S R) → Steps answers now old mids new → Keep old new

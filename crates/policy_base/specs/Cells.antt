@@ -1,4 +1,4 @@
--- How cells lie in memory. No public clause cites this module.
+-- How cells are stored in memory. No public clause cites this module.
 use Rattle.std.specs.Prelude.{ℕ, ◌-◌, ◌≤◌, ◌^◌, List, map, length}
 use Rattle.slab.specs.declared.Entry.{Entry}
 use Rattle.slab.specs.declared.Entry.TheVariants.{Vacant, Occupied}
@@ -7,7 +7,7 @@ use Rattle.policy_base.specs.declared.cells.Cell.{Cell}
 use Rattle.policy_base.specs.declared.cells.Cell.TheVariants as cell
 
 module _ {A B : Type 0} where
-  -- a cell, as a slab has its entries
+  -- a cell, in terms of a slab's entries
   abbrev pub entry_of : Cell A B → Entry (A × B)
   entry_of (cell.Vacant next) = Vacant next
   entry_of (cell.Taken first second) = Occupied (first, second)

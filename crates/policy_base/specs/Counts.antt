@@ -40,7 +40,7 @@ bump counts k = if nat_lt (slice_index counts k) 15 then slice_set counts k (sli
 abbrev pub count : Sketch → ℕ → ℕ → ℕ
 count s h i = slice_index s.counts (place s.words h i)
 
--- the least of the four counts of a hash
+-- the smallest of the four counts of a hash
 abbrev pub frequency_of : Sketch → ℕ → ℕ
 frequency_of s h = if s.words == 0 then 0 else min (min (count s h 0) (count s h 1)) (min (count s h 2) (count s h 3))
 
@@ -66,15 +66,15 @@ aged s = if nat_lt s.size s.sample then s else record s { counts = map half s.co
 abbrev pub incremented : Sketch → ℕ → Sketch
 incremented s h = if s.words == 0 then s else (aged (record s { counts = bumped s h; size = s.size + (if can_grow s h then 1 else 0) }))
 
--- what a table of words, a size and a sample are seen as
+-- the sketch that a table of words, a size and a sample represent
 abbrev pub sketch_of : ℕ → List ℕ → ℕ → ℕ → Sketch
 sketch_of words table size sample = record { words = words; counts = counts_of table; size = size; sample = sample }
 
--- a table of so many words, made for so many hashes
+-- a table of this many words, made for this many hashes
 abbrev pub fresh : ℕ → ℕ → Sketch
 fresh words capacity = record { words = words; counts = replicate (16 * words) 0; size = 0; sample = max (10 * min capacity (2 ^ 24)) 10 }
 
--- the sketch once there is a table of so many words, or a larger one
+-- the sketch once there is a table of this many words, or a larger one
 abbrev pub grown : Sketch → ℕ → ℕ → Sketch
 grown s words capacity = if nat_lt s.words words then fresh words capacity else s
 

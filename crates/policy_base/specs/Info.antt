@@ -19,7 +19,7 @@ pub record Info (K : Type 0) : Type 0 where
 abbrev pub kept_time : ℕ → ℕ
 kept_time t = min (t / 4096 * 4096) 0xFFFF_FFFF_FFFF_E000
 
--- an entry just made
+-- an entry that was just created
 abbrev pub new_info : {K : Type 0} → KeyHash K → ℕ → ℕ → Info K
 new_info key_hash moment weight = record {
   key_hash = key_hash;

@@ -1,24 +1,17 @@
 -- An array of places that an index leaves and that one comes to.
-use Rattle.std.proofs.Common.{◌≡◌, ◌≢◌, ℕ, ◌+◌, ◌-◌, ◌*◌, ◌/◌, ◌^◌, ◌<◌, ◌≤◌, true, false, List, [], ◌∷◌, ◌++◌, length, get_or, set, take, drop, replicate, min, Some, None, refl, sym, ap, ◌∙◌, inl, inr, arith, subst}
+use Rattle.std.proofs.Common.{◌≡◌, ◌≢◌, ℕ, ◌+◌, ◌-◌, ◌/◌, ◌^◌, ◌<◌, ◌≤◌, true, false, List, [], ◌∷◌, ◌++◌, length, get_or, set, take, drop, replicate, min, Some, None, refl, sym, ap, ◌∙◌, inl, inr, arith, subst}
 use Rattle.std.proofs.lemmas.Bool.{cases_lt, cases_eq, true≢false, cond-true, cond-false, lt-ltb, le-ltb}
 use Rattle.std.proofs.lemmas.List.{get_or_past, get_or-set_same, get_or-set_other, get_or_append_left, get_or-append_right, get_or-replicate, append-nil, drop_all, length_push, length-set, length-append, length-replicate}
 use Rattle.policy_queue.specs.declared.index_queue.Cursors.{Cursors}
 use Rattle.policy_queue.specs.Queue.{head, tail, final}
-use Rattle.policy_queue.specs.Indices.{Indices, vacant, order, Lacks, has_index, without_index, from_index, index_moved_to_back, AreSeated, AreArranged, Ends, EndsBut, IsGap, IsSeatedAt, IsCutShort, Trims, IsIndexed, indices_for}
+use Rattle.policy_queue.specs.Indices.{Indices, vacant, order, Lacks, has_index, without_index, from_index, index_moved_to_back, AreSeated, AreArranged, Ends, EndsBut, IsGap, IsSeatedAt, IsCutShort, Trims, indices_for}
 use Rattle.policy_queue.proofs.Order.{within, order_at, order_drop_some, order_drop_front, order_emptied, order_skip, length-emptied, Lacks-order}
 use Rattle.policy_queue.proofs.Listed.{without_at, from_at}
-use Rattle.policy_queue.proofs.Seats.{seated_none, seated_alike, seated_more, seated_emptied, seated_pushed, has_seat, has_seated, has_unseated, apart_front}
-use Rattle.policy_queue.proofs.Ends.{Ends-emptied, Ends-push, Ends-none, order_last, final-push}
+use Rattle.policy_queue.proofs.Seats.{seated_alike, seated_emptied, seated_pushed, has_seat, has_seated, has_unseated, apart_front}
+use Rattle.policy_queue.proofs.Ends.{Ends-emptied, Ends-push, order_last, final-push}
 
 pub no_gap : (ps : List ℕ) → IsGap ps 0 0
 no_gap ps = record { empty = λ k low lt. absurd (omega arith); ordered = omega arith; within = λ lt. absurd (omega arith) }
-
--- closing up begins anew, with all places unread
-pub arranged_unread : (ps ss : List ℕ) (cs : Cursors) → AreArranged ps ss cs → AreArranged ps ss (record { front = cs.front; carried = 0; unread = 0 })
-arranged_unread ps ss cs h = record { seated = h.seated; ends = h.ends; gap = no_gap ps; fits = h.fits; few = h.few }
-
-pub arranged_none : AreArranged [] [] (record { front = 0; carried = 0; unread = 0 })
-arranged_none = record { seated = seated_none; ends = Ends-none; gap = no_gap []; fits = omega arith; few = omega arith }
 
 -- an index comes to the back
 pub arranged_pushed : (ps ss : List ℕ) (cs : Cursors) (x : ℕ) → AreArranged ps ss cs → Lacks x (order ps) → x < length ss → length ps < 2 ^ 32 - 1 → AreArranged (ps ++ x ∷ []) (set ss x (length ps)) cs
@@ -139,10 +132,6 @@ module _ (ps ss : List ℕ) (cs : Cursors) (h : AreArranged ps ss cs) where
   pub final_last : 0 < length ps → final (order ps) ≡ Some (get_or ps (length ps - 1) vacant)
   final_last some = ap final (order_last ps cs.front h.ends some) ∙ final-push (order (take (length ps - 1) ps)) (get_or ps (length ps - 1) vacant)
 
-pub order_nothing : (ps : List ℕ) → length ps ≡ 0 → order ps ≡ []
-order_nothing [] e = refl
-order_nothing (p ∷ ps) e = absurd (omega arith)
-
 -- the first index from a place on
 pub head_from : (ps : List ℕ) (from k : ℕ) → from ≤ k → ((j : ℕ) → from ≤ j → j < k → get_or ps j vacant ≡ vacant) → get_or ps k vacant ≢ vacant → head (order (drop from ps)) ≡ Some (get_or ps k vacant)
 head_from ps from k le empty d = ap head (order_skip ps from k le empty ∙ order_drop_some ps k d)
@@ -157,46 +146,11 @@ indices_for_small cap lt = cond-true _ _ _ (lt-ltb cap (2 ^ 32 - 1) lt)
 indices_for_large : (cap : ℕ) → 2 ^ 32 - 1 ≤ cap → indices_for cap ≡ 2 ^ 32 - 2
 indices_for_large cap le = cond-false _ _ _ (le-ltb cap (2 ^ 32 - 1) le)
 
-pub indices_for-fits : (n cap : ℕ) → n ≤ 2 ^ 32 - 2 → min (2 * n) (2 ^ 32 - 1) ≤ cap → n ≤ indices_for cap
-indices_for-fits n cap most enough = elim (cases_lt cap (2 ^ 32 - 1)) [
-  | inl lt ↦ omega (arith, indices_for_small cap lt)
-  | inr ge ↦ omega (arith, indices_for_large cap ge)
-]
-
-pub indices_for-enough : (n cap : ℕ) → n ≤ indices_for cap → min (2 * n) (2 ^ 32 - 1) ≤ cap
-indices_for-enough n cap fits = elim (cases_lt cap (2 ^ 32 - 1)) [
-  | inl lt ↦ omega (arith, indices_for_small cap lt)
-  | inr ge ↦ omega (arith, indices_for_large cap ge)
-]
-
-pub indices_for-most : (n cap : ℕ) → n ≤ indices_for cap → n ≤ 2 ^ 32 - 2
-indices_for-most n cap fits = elim (cases_lt cap (2 ^ 32 - 1)) [
-  | inl lt ↦ omega (arith, indices_for_small cap lt)
-  | inr ge ↦ omega (arith, indices_for_large cap ge)
-]
-
 pub indices_for-place : (n cap : ℕ) → n < indices_for cap → n < min cap (2 ^ 32 - 1)
 indices_for-place n cap fits = elim (cases_lt cap (2 ^ 32 - 1)) [
   | inl lt ↦ omega (arith, indices_for_small cap lt)
   | inr ge ↦ omega (arith, indices_for_large cap ge)
 ]
-
-pub indices_for-more : (cap cap' : ℕ) → cap ≤ cap' → indices_for cap ≤ indices_for cap'
-indices_for-more cap cap' le = elim (cases_lt cap (2 ^ 32 - 1)) [
-  | inl lt ↦ elim (cases_lt cap' (2 ^ 32 - 1)) [
-    | inl lt' ↦ omega (arith, indices_for_small cap lt, indices_for_small cap' lt')
-    | inr ge ↦ omega (arith, indices_for_small cap lt, indices_for_large cap' ge)
-  ]
-  | inr ge ↦ omega (arith, indices_for_large cap ge, indices_for_large cap' (omega arith))
-]
-
--- more places and seats
-pub indexed_more : (ps qs : List ℕ) (cap cap' : ℕ) (ss ts : List ℕ) (len : ℕ) (cs : Cursors) → IsIndexed ps cap ss len cs → qs ≡ ps → cap ≤ cap' → ((k : ℕ) → get_or ts k vacant ≡ get_or ss k vacant) → length ts ≤ 2 ^ 32 - 1 → IsIndexed qs cap' ts len cs
-indexed_more ps qs cap cap' ss ts len cs h same more alike few = rw same (record {
-  arranged = record { seated = seated_more ps ss ts alike h.arranged.seated; ends = h.arranged.ends; gap = h.arranged.gap; fits = h.arranged.fits; few = few };
-  counted = h.counted;
-  enough = let enough = h.enough in omega (arith, indices_for-more cap cap' more);
-})
 
 -- two queues with the same parts are one
 pub same_indices : (a b : Indices) → a.indices ≡ b.indices → a.room ≡ b.room → a.bound ≡ b.bound → a ≡ b

@@ -1,26 +1,13 @@
 -- Closing up: indices are carried down over empty places.
-use Rattle.std.proofs.Common.{◌≡◌, ◌≢◌, ℕ, ◌+◌, ◌-◌, ◌^◌, ◌<◌, ◌≤◌, List, length, get_or, set, take, max, refl, sym, ap, ◌∙◌, inl, inr, arith}
+use Rattle.std.proofs.Common.{◌≡◌, ◌≢◌, ℕ, ◌+◌, ◌-◌, ◌^◌, ◌<◌, ◌≤◌, List, length, get_or, set, take, max, sym, ap, ◌∙◌, inl, inr, arith}
 use Rattle.std.proofs.lemmas.Bool.{cases_lt, cases_eq}
 use Rattle.std.proofs.lemmas.List.{get_or_past, get_or-set_same, get_or-set_other, get_or-take, length-set, length-take, length-take-le}
 use Rattle.policy_queue.specs.declared.index_queue.Cursors.{Cursors}
-use Rattle.policy_queue.specs.Indices.{vacant, order, AreSeated, AreEmpty, AreArranged, Carries}
+use Rattle.policy_queue.specs.Indices.{vacant, order, AreArranged, Carries}
 use Rattle.policy_queue.proofs.Order.{within, order_carried, order_take_all, all_taken}
 use Rattle.policy_queue.proofs.Seats.{seated_alike, seated_carried}
 
 module _ (ps : List ℕ) (to from : ℕ) (le : to ≤ from) where
-  pub Carries-start : (ss : List ℕ) → AreSeated ps ss → AreEmpty ps to from → Carries ps ps ss to from from to
-  Carries-start ss seated gap = record {
-    same = refl;
-    seated = seated;
-    low = omega arith;
-    high = omega arith;
-    before = λ k lt. refl;
-    taken = λ k low high. absurd (omega arith);
-    gap = gap;
-    behind = λ k low. refl;
-    moved = λ k low high. absurd (omega arith);
-  }
-
   module _ (qs ts : List ℕ) (k next : ℕ) (h : Carries ps qs ts to from k next) where
     -- an empty place is passed over
     pub Carries-none : get_or qs k vacant ≡ vacant → Carries ps qs ts to from (k + 1) next
@@ -81,9 +68,6 @@ module _ (ps ss : List ℕ) (cs : Cursors) (h : AreArranged ps ss cs) (some : 0 
   from_within =
       let first = (h.ends.first some).0 in
       elim (cases_lt 0 cs.unread) [ inl lt ↦ (let l = h.gap.within lt in omega arith) | inr ge ↦ omega arith ]
-
-  pub gap_before : AreEmpty ps cs.carried from
-  gap_before k low high = elim (cases_lt k cs.unread) [ inl lt ↦ h.gap.empty k low lt | inr ge ↦ h.ends.before k (omega arith) ]
 
   -- the front is among the carried places or the first that is read
   pub front_side : cs.front ≢ from → cs.front < cs.carried

@@ -1,7 +1,7 @@
 -- The first and the last index of an array of places.
-use Rattle.std.proofs.Common.{◌≡◌, ◌≢◌, ℕ, ◌+◌, ◌-◌, ◌<◌, ◌≤◌, List, [], ◌∷◌, ◌++◌, length, get_or, set, take, drop, min, refl, sym, ap, ◌∙◌, inl, inr, arith, Some}
+use Rattle.std.proofs.Common.{◌≡◌, ◌≢◌, ℕ, ◌+◌, ◌-◌, ◌<◌, ◌≤◌, List, [], ◌∷◌, ◌++◌, length, get_or, set, take, drop, refl, sym, ap, ◌∙◌, inl, inr, arith, Some}
 use Rattle.std.proofs.lemmas.Bool.{cases_lt, cases_eq}
-use Rattle.std.proofs.lemmas.List.{drop_all, length-set, length-take-le, get_or-set_same, get_or-set_other, get_or-take, get_or_append_left, get_or_at, length_push}
+use Rattle.std.proofs.lemmas.List.{drop_all, length-set, get_or-set_same, get_or-set_other, get_or_append_left, get_or_at, length_push}
 use Rattle.policy_queue.specs.Queue.{final}
 use Rattle.policy_queue.specs.Indices.{vacant, order, Ends, EndsBut}
 use Rattle.policy_queue.proofs.Order.{within, order_at}
@@ -29,26 +29,6 @@ Ends-emptied ps f k h there =
       empty = get_or-set_same ps k vacant vacant lt;
       first = λ other e. (h.first (omega arith)).1 (sym (get_or-set_other ps k f vacant vacant (λ e. other (sym e))) ∙ e);
       last = λ other e. h.last (omega arith) (sym (ap (λ i. get_or (set ps k vacant) (i - 1) vacant) len ∙ get_or-set_other ps k (length ps - 1) vacant vacant (omega arith)) ∙ e);
-    }
-
--- the empty places behind the last index are given up
-pub Ends-trimmed : (ps : List ℕ) (f k m : ℕ) → EndsBut ps f k → k + 1 ≡ length ps → m ≤ length ps → ((j : ℕ) → m ≤ j → get_or ps j vacant ≡ vacant) → (0 < m → get_or ps (m - 1) vacant ≢ vacant) → Ends (take m ps) (min f m)
-Ends-trimmed ps f k m h at_end le none last =
-    let len : length (take m ps) ≡ m = length-take-le m ps le in
-    let front : 0 < m → f < m = λ some. elim (cases_lt f m) [ inl lt ↦ lt | inr ge ↦ absurd (last some (h.before (m - 1) (omega arith))) ] in
-    let shorter : 0 < m → m ≤ k = λ some. elim (cases_lt k m) [
-      | inl lt ↦ let e : m - 1 ≡ k = omega arith in absurd (last some (ap (λ i. get_or ps i vacant) e ∙ h.empty))
-      | inr ge ↦ ge
-    ] in
-    record {
-      before = λ j lt. get_or-take m ps j vacant (omega arith) ∙ h.before j (omega arith);
-      first = λ some.
-          let lt : f < m = front (omega arith) in
-          let e : min f m ≡ f = omega arith in
-          let s = shorter (omega arith) in
-          (omega arith, λ g. h.first (omega arith) (sym (ap (λ i. get_or (take m ps) i vacant) e ∙ get_or-take m ps f vacant lt) ∙ g));
-      last = λ some g. last (omega arith) (sym (ap (λ i. get_or (take m ps) (i - 1) vacant) len ∙ get_or-take m ps (m - 1) vacant (omega arith)) ∙ g);
-      none = λ e. omega arith;
     }
 
 -- the front moves on to the next index
@@ -105,6 +85,3 @@ Ends-push ps f s d h =
             none = λ e. absurd (omega arith);
           }
     ]
-
-pub Ends-none : Ends [] 0
-Ends-none = record { before = λ j lt. absurd (omega arith); first = λ some. absurd (omega arith); last = λ some. absurd (omega arith); none = λ e. refl }

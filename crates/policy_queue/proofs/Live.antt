@@ -1,12 +1,11 @@
 -- Lemmas on lists of named nodes.
-use Rattle.std.proofs.Common.{◌≡◌, true, false, Bool, List, [], ◌∷◌, ◌++◌, Some, None, MatchOption, option_map, refl, sym, ap, ◌∙◌, subst}
+use Rattle.std.proofs.Common.{◌≡◌, true, false, Bool, List, [], ◌∷◌, ◌++◌, Some, None, refl, sym, ap, ◌∙◌}
 use Rattle.std.proofs.lemmas.Bool.{cond-true, cond-false}
-use Rattle.std.proofs.lemmas.Option.{none-some, same_Some}
+use Rattle.std.proofs.lemmas.Option.{none-some}
 use Rattle.policy_base.specs.declared.name.NodeId.{NodeId}
 use Rattle.policy_queue.specs.declared.places.Node.{Node}
 use Rattle.policy_base.specs.Region.{same_id}
-use Rattle.policy_base.proofs.Names.{same_id-refl}
-use Rattle.policy_queue.specs.Queue.{find, without_node, from_id, head}
+use Rattle.policy_queue.specs.Queue.{find, without_node, from_id}
 
 module _ {T : Type 0} where
   -- no node of the list has this name
@@ -38,16 +37,3 @@ module _ {T : Type 0} where
       go : (b : Bool) → same_id n.id id ≡ b → (find id rest ≡ None → from_id id rest ≡ []) → from_id id (n ∷ rest) ≡ []
       go true s more = absurd (none-some n (sym e ∙ cond-true (same_id n.id id) _ _ s))
       go false s more = cond-false (same_id n.id id) _ _ s ∙ more (sym (cond-false (same_id n.id id) _ _ s) ∙ e)
-
-  -- the first node is found by its name
-  pub front_named : (ns : List (Node T)) (id : NodeId) → option_map (λ (n : Node T). n.id) (head ns) ≡ Some id → find id ns ≡ head ns
-  front_named [] id e = refl
-  front_named (n ∷ rest) id e =
-      let same : n.id ≡ id = same_Some n.id id e in
-      cond-true (same_id n.id id) _ _ (ap (λ i. same_id i id) same ∙ same_id-refl id)
-
-  pub front_leaves : (ns : List (Node T)) (id : NodeId) (Q : Type 0) (P : NodeId → Type 0) → option_map (λ (n : Node T). n.id) (head ns) ≡ Some id → P id → MatchOption (head ns) Q (λ n. P n.id)
-  front_leaves [] id Q P e p = absurd (none-some id e)
-  front_leaves (n ∷ rest) id Q P e p =
-      let same : n.id ≡ id = same_Some n.id id e in
-      subst P (sym same) p

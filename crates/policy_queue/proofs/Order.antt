@@ -43,14 +43,6 @@ order_emptied ps k h =
 pub order_push : (ps : List ℕ) (p : ℕ) → p ≢ vacant → order (ps ++ p ∷ []) ≡ order ps ++ p ∷ []
 order_push ps p d = order-append ps (p ∷ []) ∙ ap (λ r. order ps ++ r) (order_taken p [] d)
 
--- no more indices than places
-pub length-order : (ps : List ℕ) → length (order ps) ≤ length ps
-length-order [] = omega arith
-length-order (p ∷ ps) = elim (cases_eq p vacant) [
-  | inl e ↦ omega (arith, length-order ps, ap length (order_empty p ps e))
-  | inr d ↦ omega (arith, length-order ps, ap length (order_taken p ps d))
-]
-
 -- empty places hold nothing
 pub order_skip : (ps : List ℕ) (from to : ℕ) → from ≤ to → ((j : ℕ) → from ≤ j → j < to → get_or ps j vacant ≡ vacant) → order (drop from ps) ≡ order (drop to ps)
 order_skip ps from to le h = go (to - from) from (omega arith) h

@@ -6,24 +6,11 @@ use Rattle.policy_queue.specs.Indices.{vacant, order, Lacks, AreApart, AreSeated
 use Rattle.policy_queue.proofs.Order.{within, order_empty, order_taken, order_at, Lacks-order, Lacks-at}
 use Rattle.policy_queue.proofs.Listed.{has_at, has_lacked}
 
-pub seated_none : AreSeated [] []
-seated_none = record {
-  placed = λ k d. absurd (d (get_or_past [] k vacant (omega arith)));
-  seated = λ i d. absurd (d (get_or_past [] i vacant (omega arith)));
-}
-
 -- the places read the same
 pub seated_alike : (ps qs ss : List ℕ) → ((k : ℕ) → get_or qs k vacant ≡ get_or ps k vacant) → AreSeated ps ss → AreSeated qs ss
 seated_alike ps qs ss same h = record {
   placed = λ k d. ap (λ i. get_or ss i vacant) (same k) ∙ h.placed k (λ e. d (same k ∙ e));
   seated = λ i d. same (get_or ss i vacant) ∙ h.seated i d;
-}
-
--- the seats read the same
-pub seated_more : (ps ss ts : List ℕ) → ((k : ℕ) → get_or ts k vacant ≡ get_or ss k vacant) → AreSeated ps ss → AreSeated ps ts
-seated_more ps ss ts same h = record {
-  placed = λ k d. same (get_or ps k vacant) ∙ h.placed k d;
-  seated = λ i d. ap (λ k. get_or ps k vacant) (same i) ∙ h.seated i (λ e. d (same i ∙ e));
 }
 
 -- what stands in one place each differs

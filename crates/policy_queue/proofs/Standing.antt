@@ -16,7 +16,7 @@ use Rattle.policy_queue.specs.Indices.{Lacks, AreApart, has_index, without_index
 use Rattle.policy_queue.specs.Places.{Nodes, node_of, with_node, nodes_of, AreTaken, slots_from, cursor_off}
 use Rattle.policy_queue.specs.Queue.{Queue, find, without_node, from_id, tail, head, final, cursor_moved, cursor_at, cursor_past, with_node_at_back, is_nonempty, LacksSerial, AreNamed}
 use Rattle.policy_queue.proofs.Live.{NoneIs, find_none, find_at, without_at as node_without_at, from_id_at}
-use Rattle.policy_queue.proofs.Listed.{has_here, split_at, has_at, without_at, from_at}
+use Rattle.policy_queue.proofs.Listed.{split_at, has_at, without_at, from_at}
 use Rattle.policy_queue.proofs.Names.{LacksSerial-others}
 
 pub from_has : (x : ℕ) (xs : List ℕ) → has_index x xs ≡ true → from_index x xs ≡ x ∷ tail (from_index x xs)
@@ -28,10 +28,6 @@ from_has x xs h =
 pub from_head : (xs : List ℕ) → slots_from (head xs) xs ≡ xs
 from_head [] = refl
 from_head (x ∷ xs) = cond-true _ _ _ (eq-eqb x x refl)
-
-pub head_has : (xs : List ℕ) (x : ℕ) → head xs ≡ Some x → has_index x xs ≡ true
-head_has [] x e = absurd (none-some x e)
-head_has (y ∷ xs) x e = has_here x y xs (same_Some y x e)
 
 pub length-split : (front back : List ℕ) (x : ℕ) → length (front ++ back) + 1 ≡ length (front ++ x ∷ back)
 length-split front back x = let a = length-append front back in let b = length-append front (x ∷ back) in omega arith

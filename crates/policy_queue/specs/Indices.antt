@@ -2,7 +2,7 @@
 use Rattle.std.specs.Prelude.{◌≡◌, ◌≢◌, ℕ, ◌+◌, ◌-◌, ◌<◌, ◌≤◌, ◌^◌, ◌/◌, ◌||◌, eqb, nat_lt, Bool, false, List, [], ◌∷◌, ◌++◌, length, slice_index_or, if◌then◌else◌}
 use Rattle.policy_queue.specs.declared.index_queue.Cursors.{Cursors}
 
--- the indices front to back, how many more need no memory, and below what bound they then are
+-- the indices front to back, how many more need no allocation, and below what bound they then are
 pub record Indices : Type 0 where
   pub indices : List ℕ
   pub room : ℕ
@@ -33,11 +33,11 @@ abbrev pub from_index : ℕ → List ℕ → List ℕ
 from_index index [] = []
 from_index index (i ∷ rest) = if eqb i index then i ∷ rest else from_index index rest
 
--- the list with this index, which it has, behind all others
+-- the list with this index, which it has, after all others
 abbrev pub index_moved_to_back : ℕ → List ℕ → List ℕ
 index_moved_to_back index indices = without_index index indices ++ index ∷ []
 
--- nothing changed, but that there may be more room, and for higher indices
+-- nothing changed, except that there may be more room, and for higher indices
 pub record OnlyGainsPlaces (old new : Indices) : Type 0 where
   pub same : new.indices ≡ old.indices
   pub room : old.room ≤ new.room
@@ -47,17 +47,17 @@ pub record OnlyGainsPlaces (old new : Indices) : Type 0 where
 abbrev pub vacant : ℕ
 vacant = 4294967295
 
--- the indices that stand in the places, front to back
+-- the indices in the places, front to back
 abbrev pub order : List ℕ → List ℕ
 order [] = []
 order (p ∷ rest) = if eqb p vacant then order rest else p ∷ order rest
 
--- each index has its place for a seat, and each seat that is taken names the place of its index
+-- each index has its place as its seat, and each seat that is taken names the place of its index
 pub record AreSeated (places seats : List ℕ) : Type 0 where
   pub placed : (k : ℕ) → slice_index_or places k vacant ≢ vacant → slice_index_or seats (slice_index_or places k vacant) vacant ≡ k
   pub seated : (index : ℕ) → slice_index_or seats index vacant ≢ vacant → slice_index_or places (slice_index_or seats index vacant) vacant ≡ index
 
--- indices stand in the place `front`, with none before it, and in the last place
+-- there are indices in the place `front`, with none before it, and in the last place
 pub record Ends (places : List ℕ) (front : ℕ) : Type 0 where
   pub before : (j : ℕ) → j < front → slice_index_or places j vacant ≡ vacant
   pub first : 0 < length places → (front < length places) × (slice_index_or places front vacant ≢ vacant)
@@ -77,13 +77,13 @@ pub record EndsBut (places : List ℕ) (front k : ℕ) : Type 0 where
 abbrev pub AreEmpty : List ℕ → ℕ → ℕ → Type 0
 AreEmpty places from to = (k : ℕ) → from ≤ k → k < to → slice_index_or places k vacant ≡ vacant
 
--- the places that closing up has emptied, which do not reach the last one
+-- the places that compacting has emptied, which do not reach the last one
 pub record IsGap (places : List ℕ) (carried unread : ℕ) : Type 0 where
   pub empty : AreEmpty places carried unread
   pub ordered : carried ≤ unread
   pub within : 0 < unread → unread < length places
 
--- indices stand in their places, from the front to the last one; each place and each index has a number of 32 bits
+-- indices are in their places, from the front to the last one; each place and each index is a 32-bit number
 pub record AreArranged (places seats : List ℕ) (cursors : Cursors) : Type 0 where
   pub seated : AreSeated places seats
   pub ends : Ends places cursors.front
@@ -91,23 +91,23 @@ pub record AreArranged (places seats : List ℕ) (cursors : Cursors) : Type 0 wh
   pub fits : length places ≤ 2 ^ 32 - 1
   pub few : length seats ≤ 2 ^ 32 - 1
 
--- the index stands in place k
+-- the index is in place k
 pub record IsSeatedAt (places seats : List ℕ) (index k : ℕ) : Type 0 where
   pub place : slice_index_or places k vacant ≡ index
   pub seat : slice_index_or seats index vacant ≡ k
   pub named : index ≢ vacant
 
--- empty places behind the last index were given up
+-- empty places after the last index were given up
 pub record Trims (old new : List ℕ) : Type 0 where
   pub order : order new ≡ order old
   pub places : (k : ℕ) → slice_index_or new k vacant ≡ slice_index_or old k vacant
 
--- so many places are left: closing up is done where all of them were carried
+-- this many places are left: compacting is done if all of them were moved
 pub record IsCutShort (len : ℕ) (old new : Cursors) : Type 0 where
   pub done : len ≤ old.unread → (new.carried ≡ 0) × (new.unread ≡ 0)
   pub more : old.unread < len → (new.carried ≡ old.carried) × (new.unread ≡ old.unread)
 
--- the indices in the places from `from` up to `end` went to those from `to` up to `next`
+-- the indices in the places from `from` up to `end` moved to those from `to` up to `next`
 pub record Carries (old new seats : List ℕ) (to from end next : ℕ) : Type 0 where
   pub same : order new ≡ order old
   pub seated : AreSeated new seats
@@ -119,7 +119,7 @@ pub record Carries (old new seats : List ℕ) (to from end next : ℕ) : Type 0 
   pub behind : (k : ℕ) → end ≤ k → slice_index_or new k vacant ≡ slice_index_or old k vacant
   pub moved : (k : ℕ) → from ≤ k → k < end → slice_index_or old k vacant ≢ vacant → to < next
 
--- for how many indices so many places are enough
+-- for how many indices this many places are enough
 abbrev pub indices_for : ℕ → ℕ
 indices_for capacity = if nat_lt capacity (2 ^ 32 - 1) then capacity / 2 else 2 ^ 32 - 2
 

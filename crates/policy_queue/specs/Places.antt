@@ -1,4 +1,4 @@
--- The nodes of a queue: a slab has each one's serial and element, and their slots stand in a queue of indices.
+-- The nodes of a queue: a slab has the serial and the element of each, and their slots are in a queue of indices.
 use Rattle.std.specs.Prelude.{◌≡◌, ℕ, ◌-◌, ◌≤◌, ◌^◌, min, List, [], ◌∷◌, Option, Some, None, length, if◌then◌else◌}
 use Rattle.slab.specs.Slab.{Slab, get, ContainsKey, slab_len}
 use Rattle.policy_base.specs.declared.name.CacheRegion.{CacheRegion}
@@ -18,7 +18,7 @@ Nodes T = Slab (ℕ × T)
 abbrev pub node_of : {T : Type 0} → CacheRegion → ℕ → ℕ × T → Node T
 node_of region slot value = record { id = record { serial = value.0; slot = slot; queue = region }; element = value.1 }
 
--- these nodes, behind the one of a slot
+-- these nodes, after the one of a slot
 abbrev pub with_node : {T : Type 0} → CacheRegion → ℕ → Option (ℕ × T) → List (Node T) → List (Node T)
 with_node region slot None nodes = nodes
 with_node region slot (Some value) nodes = node_of region slot value ∷ nodes
@@ -38,7 +38,7 @@ abbrev pub slots_from : Option ℕ → List ℕ → List ℕ
 slots_from None slots = []
 slots_from (Some slot) slots = from_index slot slots
 
--- where a cursor stands once this node leaves its place, with these behind it; where there are none, at `last`
+-- where a cursor is after this node leaves its place, with these nodes after it; if there are none, at `last`
 abbrev pub cursor_off : {T : Type 0} → Cursor → NodeId → Cursor → List (Node T) → Cursor
 cursor_off Unstarted id last behind = Unstarted
 cursor_off (At at) id last behind = if same_id at id then (if is_nonempty behind then cursor_at behind else last) else At at
@@ -51,6 +51,6 @@ pub record IsQueue {T : Type 0} (region : CacheRegion) (slots : Indices) (nodes 
   pub named : AreNamed region next (nodes_of region nodes slots.indices)
   pub seats : length nodes.slots ≤ slots.bound
 
--- how many pushes need no memory: places, a seat, a cell of the slab and a serial each
+-- how many pushes need no allocation: places, a seat, a cell of the slab and a serial each
 abbrev pub room_of : {T : Type 0} → Indices → Nodes T → ℕ → ℕ
 room_of slots nodes next = min (nodes.capacity - slab_len nodes) (min slots.room (min (slots.bound - slab_len nodes) (2 ^ 64 - 1 - next)))

@@ -1,4 +1,4 @@
--- What a queue ends as, once the element that a walk gave is no longer read.
+-- How a queue ends once the element that a walk returned is no longer read.
 use Rattle.std.specs.Prelude.{◌≡◌, ⊤}
 use Rattle.std.specs.Borrow.{follows_so, Fml, RattleType, MutBor}
 use mathlib.Core.Option.{none}

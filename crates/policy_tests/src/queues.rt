@@ -56,7 +56,7 @@ fn new_queue(alloc: Global) -> Queue {
     }
 }
 
-/// Keeps a name, at the second try where memory is refused.
+/// Keeps a name, on the second attempt if memory is refused.
 fn keep(names: &mut Vec<NodeId>, name: NodeId) -> bool {
     names.push(name).is_ok() || names.push(name).is_ok()
 }
@@ -66,7 +66,7 @@ fn seen(deque: &Deque<u64>) -> (usize, Option<u64>) {
     (deque.len(), deque.peek_back().copied())
 }
 
-/// Pushes, at the second try where memory is refused: then nothing has changed, and the element
+/// Pushes, on the second attempt if memory is refused: then nothing has changed, and the element
 /// comes back.
 fn push(deque: &mut Deque<u64>, element: u64) -> Option<NodeId> {
     let before = seen(deque);
@@ -83,7 +83,7 @@ fn push(deque: &mut Deque<u64>, element: u64) -> Option<NodeId> {
     }
 }
 
-/// Makes room, at the second try where memory is refused.
+/// Makes room, on the second attempt if memory is refused.
 fn reserve(deque: &mut Deque<u64>, n: usize) -> bool {
     match deque.reserve(n) {
         Ok(()) => true,
@@ -100,7 +100,7 @@ fn keep_pushed(names: &mut Vec<NodeId>, pushed: Option<NodeId>) -> bool {
     }
 }
 
-/// Moves the node of that number to the back, and answers whether it was there.
+/// Moves the node of that number to the back, and returns whether it was there.
 fn move_node(queue: &mut Queue, number: usize) -> bool {
     match queue.names.get(number) {
         Some(name) => queue.deque.move_to_back(*name).is_ok(),
@@ -108,7 +108,7 @@ fn move_node(queue: &mut Queue, number: usize) -> bool {
     }
 }
 
-/// Unlinks the node of that number, and answers whether it was there.
+/// Unlinks the node of that number, and returns whether it was there.
 fn unlink_node(queue: &mut Queue, number: usize) -> bool {
     match queue.names.get(number) {
         Some(name) => queue.deque.unlink_and_drop(*name).is_ok(),
@@ -195,7 +195,7 @@ fn number_at(queue: &Queue, place: usize) -> Option<Option<usize>> {
     }
 }
 
-/// Changes a queue, and answers whether it came out so.
+/// Changes a queue, and returns whether the result was the expected one.
 fn changes_so(queue: &mut Queue, act: Act) -> bool {
     match act {
         Act::Push(element) => keep_pushed(&mut queue.names, push(&mut queue.deque, element)),
@@ -221,7 +221,7 @@ fn first_from(deque: &Deque<u64>, least: u64) -> Option<u64> {
     deque.first_where(|element| *element >= least).copied()
 }
 
-/// Looks or walks, and answers whether it came out so.
+/// Looks or walks, and returns whether the result was the expected one.
 fn shows_so(deque: &mut Deque<u64>, act: Act) -> bool {
     match act {
         Act::Next(wanted) => deque.next().copied() == wanted,
@@ -236,8 +236,7 @@ fn shows_so(deque: &mut Deque<u64>, act: Act) -> bool {
     }
 }
 
-/// Does one after another on a new queue, and answers the place of the first that did not come out
-/// so.
+/// Performs one after another on a new queue, and returns the place of the first that failed.
 fn wrong_row(alloc: Global, acts: &[Act]) -> Option<usize> {
     let mut queue = new_queue(alloc);
     for (place, act) in acts.iter().enumerate() {
@@ -248,8 +247,8 @@ fn wrong_row(alloc: Global, acts: &[Act]) -> Option<usize> {
     None
 }
 
-/// Plays these cases, each on a new queue, and answers the first that did not come out so, and the
-/// place of its first row that did not.
+/// Plays these cases, each on a new queue, and returns the first that failed, and the place of its
+/// first failing row.
 fn first_wrong(alloc: Global, cases: &[&[Act]]) -> Option<(usize, usize)> {
     for (number, acts) in cases.iter().enumerate() {
         if let Some(place) = wrong_row(alloc, acts) {

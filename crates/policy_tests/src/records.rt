@@ -21,7 +21,7 @@ fn moment(nanos: u64) -> Instant {
     Instant::from_nanos(nanos.min(MAX_NANOS))
 }
 
-/// So many nanoseconds, and so many more.
+/// A number of nanoseconds, and a number of further ones.
 fn added(nanos: u64, more: u64) -> u64 {
     moment(nanos)
         .saturating_add(Duration::from_nanos(more))
@@ -41,7 +41,7 @@ fn moments_saturate(rt: HostRuntime) {
     );
 }
 
-/// A key, at the second try where memory is refused.
+/// A key, on the second attempt if memory is refused.
 fn key(alloc: Global) -> Option<Arc<u8>> {
     match Arc::new(alloc, 1u8) {
         Ok(key) => Some(key),
@@ -77,7 +77,7 @@ fn expiration(entry: &EntryInfo<u8>) -> Option<u64> {
     }
 }
 
-/// Does it, and answers whether it came out so.
+/// Performs it, and returns whether the result was the expected one.
 fn comes_so(entry: &mut EntryInfo<u8>, act: Act) -> bool {
     match act {
         Act::Set(nanos, wanted) => {
@@ -92,7 +92,7 @@ fn comes_so(entry: &mut EntryInfo<u8>, act: Act) -> bool {
     }
 }
 
-/// Does one after another, and answers the place of the first that did not come out so.
+/// Performs one after another, and returns the place of the first that failed.
 fn wrong_act(entry: &mut EntryInfo<u8>, acts: &[Act]) -> Option<usize> {
     for (place, act) in acts.iter().enumerate() {
         if !comes_so(entry, *act) {

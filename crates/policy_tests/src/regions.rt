@@ -22,7 +22,7 @@ struct Cache {
 enum Act {
     /// Adds the entry of that number behind all others, in both orders.
     Add(usize),
-    /// Makes room for so many in each queue.
+    /// Makes room for this many in each queue.
     Reserve(usize),
     /// Adds the entry of that number behind all others in order of writes, where there is room for
     /// it already.
@@ -59,7 +59,7 @@ fn new_cache(alloc: Global) -> Cache {
     }
 }
 
-/// An entry in no queue, at the second try where memory is refused.
+/// An entry in no queue, on the second attempt if memory is refused.
 fn slot(alloc: Global) -> Option<Slot<u8>> {
     let key = match Arc::new(alloc, 1u8) {
         Ok(key) => Some(key),
@@ -75,7 +75,7 @@ fn slot(alloc: Global) -> Option<Slot<u8>> {
     }
 }
 
-/// Makes room for one more entry, at the second try where memory is refused.
+/// Makes room for one more entry, on the second attempt if memory is refused.
 fn reserve_entry(entries: &mut Slab<Slot<u8>>) -> bool {
     entries.reserve(1).is_ok() || entries.reserve(1).is_ok()
 }
@@ -125,7 +125,7 @@ fn push_written(cache: &mut Cache, node: KeyHashDate) -> bool {
     }
 }
 
-/// Adds an entry, and answers whether it has that number.
+/// Adds an entry, and returns whether it has that number.
 fn add(cache: &mut Cache, number: usize) -> bool {
     match insert(cache) {
         Some(entry) => {
@@ -137,12 +137,12 @@ fn add(cache: &mut Cache, number: usize) -> bool {
     }
 }
 
-/// Makes room, at the second try where memory is refused.
+/// Makes room, on the second attempt if memory is refused.
 fn reserve(deques: &mut Deques<u8>, n: usize) -> bool {
     deques.reserve(n).is_ok() || deques.reserve(n).is_ok()
 }
 
-/// Adds an entry in order of writes within a reservation, and answers whether it has that number.
+/// Adds an entry in order of writes within a reservation, and returns whether it has that number.
 fn add_written(cache: &mut Cache, number: usize) -> bool {
     insert(cache) == Some(number)
         && cache
@@ -193,7 +193,7 @@ fn unlink_written_in_deque(cache: &mut Cache, entry: usize) -> Result<(), Stale>
     Deques::unlink_wo(queue, entry, &mut cache.entries)
 }
 
-/// Does what changes an entry's place, and answers whether it came out so.
+/// Does what changes an entry's place, and returns whether the result was the expected one.
 fn changes_so(cache: &mut Cache, act: Act) -> bool {
     match act {
         Act::Add(number) => add(cache, number),
@@ -222,7 +222,7 @@ fn entry_of(node: Option<KeyHashDate>) -> Option<usize> {
     }
 }
 
-/// Looks or walks, and answers whether it came out so.
+/// Looks or walks, and returns whether the result was the expected one.
 fn shows_so(cache: &mut Cache, act: Act) -> bool {
     match act {
         Act::ResetCursor => {
@@ -242,8 +242,7 @@ fn shows_so(cache: &mut Cache, act: Act) -> bool {
     }
 }
 
-/// Does one after another on new queues, and answers the place of the first that did not come out
-/// so.
+/// Performs one after another on new queues, and returns the place of the first that failed.
 fn wrong_row(alloc: Global, acts: &[Act]) -> Option<usize> {
     let mut cache = new_cache(alloc);
     for (place, act) in acts.iter().enumerate() {
@@ -254,8 +253,8 @@ fn wrong_row(alloc: Global, acts: &[Act]) -> Option<usize> {
     None
 }
 
-/// Plays these cases, each on new queues, and answers the first that did not come out so, and the
-/// place of its first row that did not.
+/// Plays these cases, each on new queues, and returns the first that failed, and the place of its
+/// first failing row.
 fn first_wrong(alloc: Global, cases: &[&[Act]]) -> Option<(usize, usize)> {
     for (number, acts) in cases.iter().enumerate() {
         if let Some(place) = wrong_row(alloc, acts) {

@@ -1,4 +1,4 @@
-//! The frequency sketch. A table that is refused for memory is asked for once more, and the sketch
+//! The frequency sketch. A table that is refused for lack of memory is requested once more, and the sketch
 //! is as it was; so the tests pass with any one allocation refused.
 use crate::outcome::none_wrong;
 use moka_policy::FrequencySketch;
@@ -16,7 +16,7 @@ enum Act {
 
 const HASH: u64 = 77;
 
-/// Makes the table larger, at the second try where memory is refused: then the count stays.
+/// Makes the table larger, on the second attempt if memory is refused: then the count stays.
 fn grow(sketch: &mut FrequencySketch, capacity: u32) -> bool {
     let before = sketch.frequency(HASH);
     if sketch.ensure_capacity(capacity).is_ok() {
@@ -31,7 +31,7 @@ fn count(sketch: &mut FrequencySketch, times: u32) {
     }
 }
 
-/// Does it, and answers whether it came out so.
+/// Performs it, and returns whether the result was the expected one.
 fn comes_so(sketch: &mut FrequencySketch, act: Act) -> bool {
     match act {
         Act::Grow(capacity) => grow(sketch, capacity),
@@ -43,8 +43,7 @@ fn comes_so(sketch: &mut FrequencySketch, act: Act) -> bool {
     }
 }
 
-/// Does one after another on a new sketch, and answers the place of the first that did not come out
-/// so.
+/// Performs one after another on a new sketch, and returns the place of the first that failed.
 fn wrong_row(alloc: Global, acts: &[Act]) -> Option<usize> {
     let mut sketch = FrequencySketch::default(alloc);
     for (place, act) in acts.iter().enumerate() {
@@ -55,8 +54,8 @@ fn wrong_row(alloc: Global, acts: &[Act]) -> Option<usize> {
     None
 }
 
-/// Plays these cases, each on a new sketch, and answers the first that did not come out so, and the
-/// place of its first row that did not.
+/// Plays these cases, each on a new sketch, and returns the first that failed, and the place of its
+/// first failing row.
 fn first_wrong(alloc: Global, cases: &[&[Act]]) -> Option<(usize, usize)> {
     for (number, acts) in cases.iter().enumerate() {
         if let Some(place) = wrong_row(alloc, acts) {

@@ -28,7 +28,7 @@ enum Act {
     /// A thousand new entries, due at the thousandth tick, the one before it, and so on to the
     /// first.
     ScheduleThousand,
-    /// Room is made for so many timers.
+    /// Room is made for this many timers.
     Reserve(usize),
     /// So many new entries that are due at that moment get timers within the reservation.
     ScheduleReserved(u64, u32),
@@ -67,7 +67,7 @@ fn new_timers(alloc: Global) -> Timers {
     }
 }
 
-/// An entry that is due at this moment, at the second try where memory is refused.
+/// An entry that is due at this moment, on the second attempt if memory is refused.
 fn slot(alloc: Global, time: u64) -> Option<Slot<u8>> {
     let key = match Arc::new(alloc, 1u8) {
         Ok(key) => Some(key),
@@ -105,7 +105,7 @@ fn place(timers: &mut Timers, entry: usize) -> Result<(), ScheduleError> {
     }
 }
 
-/// Schedules, at the second try where memory is refused: then nothing has changed.
+/// Schedules, on the second attempt if memory is refused: then nothing has changed.
 fn schedule(timers: &mut Timers, time: u64) -> bool {
     let Some(entry) = insert(timers, time) else {
         return false;
@@ -147,7 +147,7 @@ fn schedule_thousand(timers: &mut Timers) -> bool {
     true
 }
 
-/// Makes room, at the second try where memory is refused.
+/// Makes room, on the second attempt if memory is refused.
 fn reserve(wheel: &mut TimerWheel<u8>, n: usize) -> bool {
     wheel.reserve(n).is_ok() || wheel.reserve(n).is_ok()
 }
@@ -233,7 +233,7 @@ fn first_entry(timers: &Timers, now: u64) -> Option<usize> {
     }
 }
 
-/// Schedules, and answers whether it came out so.
+/// Schedules, and returns whether the result was the expected one.
 fn comes_so(timers: &mut Timers, act: Act) -> bool {
     match act {
         Act::Schedule(time) => schedule(timers, time),
@@ -248,7 +248,7 @@ fn comes_so(timers: &mut Timers, act: Act) -> bool {
     }
 }
 
-/// Advances or looks, and answers whether it came out so.
+/// Advances or looks, and returns whether the result was the expected one.
 fn shows_so(timers: &mut Timers, act: Act) -> bool {
     match act {
         Act::Expires(now) => is_expired(next_event(timers, now)),
@@ -263,8 +263,7 @@ fn shows_so(timers: &mut Timers, act: Act) -> bool {
     }
 }
 
-/// Does one after another with new timers, and answers the place of the first that did not come out
-/// so.
+/// Performs one after another with new timers, and returns the place of the first that failed.
 fn wrong_row(alloc: Global, acts: &[Act]) -> Option<usize> {
     let mut timers = new_timers(alloc);
     for (place, act) in acts.iter().enumerate() {
@@ -275,8 +274,8 @@ fn wrong_row(alloc: Global, acts: &[Act]) -> Option<usize> {
     None
 }
 
-/// Plays these cases, each with new timers, and answers the first that did not come out so, and the
-/// place of its first row that did not.
+/// Plays these cases, each with new timers, and returns the first that failed, and the place of its
+/// first failing row.
 fn first_wrong(alloc: Global, cases: &[&[Act]]) -> Option<(usize, usize)> {
     for (number, acts) in cases.iter().enumerate() {
         if let Some(place) = wrong_row(alloc, acts) {

@@ -86,7 +86,7 @@ module _ {K V P S R : Type 0} where
     step-predicates old new (writes w rest none e after) h = as-before old new (ap (λ s. s.predicates) after ∙ after_write-predicates w (record old { writes = rest })) h
     step-predicates old new (grows words applied wants capacity is_set size after) h = as-before old new (ap (λ s. s.predicates) after) h
     step-predicates old new (leaves r why applied there held due after) h = as-before old new (ap (λ s. s.predicates) after ∙ left-predicates why r.number old) h
-    step-predicates old new (evicts r applied above next after) h = as-before old new (ap (λ s. s.predicates) after ∙ left-predicates cause.Size r.number old) h
+    step-predicates old new (evicts r applied clean above next after) h = as-before old new (ap (λ s. s.predicates) after ∙ left-predicates cause.Size r.number old) h
     step-predicates old new (ends place p applied there none after) h = subst (λ ps. EachPredicate Q ps) (sym (ap (λ s. s.predicates) after)) (each-removed Q old.predicates place h)
 
     steps-predicates : (old : State K V P S R) (mids : List (State K V P S R)) (new : State K V P S R) → Steps answers now old mids new → EachPredicate Q old.predicates → EachPredicate Q new.predicates

@@ -28,7 +28,7 @@ use Rattle.front_reference.specs.Wholes.{DrawAll, registered_in}
 use Rattle.cache_parts_store.specs.PartsLaws.Does.{Touches}
 use Rattle.cache_parts_store.specs.PartsKept.Keeping.{at_moment, AreKeptParts, IsStorable}
 
--- a predicate of this step stands in a part, in room that was made before
+-- a predicate of this step is registered in a part, in room that was made before
 pub record CoversIn {S : Type 0} (next : ℕ) (s t : Part S) : Type 0 where
   pub room : ℕ
   pub predicate : Registered (List ℕ)
@@ -76,7 +76,7 @@ module _ (S : Type 0) where
   abbrev pub CoverKeeps : Type 0
   CoverKeeps = (frame : Frame) (step now next : ℕ) (parts news : List (Part S)) → Comes frame step now next → AreKeptParts frame step parts → CallsEach (CoversIn next) parts news → AreKeptParts (record frame { latest = now; dropped = true }) next news
 
-  -- a store that was just made
+  -- a store that was just created
   abbrev pub NewIsKept : Type 0
   NewIsKept =
       (frame : Frame) (name : Option (List ℕ)) (hasher : S) (parts : List (Part S)) → length parts ≡ part_count frame.config → ((key : List ℕ) → frame.part_of key < part_count frame.config) → IsBrief frame.config → frame.made < 2 ^ 63 → frame.latest ≡ frame.made
@@ -91,14 +91,14 @@ module _ (S : Type 0) where
     pub cover : CoverKeeps
     pub new : NewIsKept
 
-  -- ---- what the laws of a store of parts ask for
+  -- ---- what the laws of a store of parts require
 
   pub record KeptIsEnough : Type 0 where
     pub parted : (frame : Frame) (step : ℕ) (parts : List (Part S)) → AreKeptParts frame step parts → AreParted frame.part_of 0 parts
     pub parts_are : (frame : Frame) (step : ℕ) (parts : List (Part S)) → AreKeptParts frame step parts → (q : List ℕ) → (x : Part S) × (slice_get parts (frame.part_of q) ≡ Some x)
     pub knows : (frame : Frame) (step now part : ℕ) (parts : List (Part S)) (s : Part S) (held : List HeldValue) → AreKeptParts frame step parts → slice_get parts part ≡ Some s → Knows frame.config frame.part_of frame.made now part s parts held
     pub recent : (frame : Frame) (step : ℕ) (parts : List (Part S)) → AreKeptParts frame step parts → ArePartsOf frame step parts
-    -- maintenance that came where it was due
+    -- maintenance that ran if it was due
     pub maintained : (now : ℕ) (s new : Part S) → MaintainsIfDue service_answers now s new → Maintained now s new
     -- for a run of all: its parts are ready, and sent
     pub ready : (frame : Frame) (step now : ℕ) (parts : List (Part S)) → AreKeptParts frame step parts → EachPart now (IsReady now) parts × EachPart now IsSent parts
@@ -112,7 +112,7 @@ module _ (S : Type 0) where
         → (k : ℕ) (x : Part S) → slice_get news k ≡ Some x → IsRested frame.config frame.part_of frame.made news held parted c count settings now x
     pub fits : (frame : Frame) (step now : ℕ) (parts news : List (Part S)) → Comes frame step now step → AreKeptParts frame step parts → CallsEach (RunsDrained now) parts news
         → (k : ℕ) (x : Part S) → slice_get news k ≡ Some x → is_above x.settings.capacity (held_weight x.records) ≡ false
-    -- what is held weighs at most 8192 a value, so at 2^50 values less than 2^64
+    -- what is held weighs at most 8192 per value, so at 2^50 values less than 2^64
     pub weighs : (frame : Frame) (step : ℕ) (parts : List (Part S)) (held : List HeldValue) → AreKeptParts frame step parts → Stands parts held → sum_by (λ (h : HeldValue). h.value.weight) held ≤ length held * 8192
     -- no predicate before the first `DROPIF`
     pub undropped : (frame : Frame) (step : ℕ) (parts : List (Part S)) → AreKeptParts frame step parts → frame.dropped ≡ false → (part : ℕ) (s : Part S) → slice_get parts part ≡ Some s → s.predicates ≡ []
@@ -122,5 +122,5 @@ module _ (S : Type 0) where
     pub new_value : (frame : Frame) (step now next part : ℕ) (parts : List (Part S)) (s : Part S) (held : List HeldValue) (key : List ℕ) (hash : ℕ) (value : Stored) (k : Knows frame.config frame.part_of frame.made now part s parts held) (c : Corresponds (items_of 0 parts) held) (marked : AreMarked s held)
         → Comes frame step now next → AreKeptParts frame step parts → slice_get parts part ≡ Some s → IsStorable frame part key value → ((m : ℕ) → value.milliseconds ≡ Some m → m ≤ 999999999999)
         → IsNewValue frame.config frame.part_of frame.made now part s parts held k c marked key (put_entry s key value now next) (put key hash value now next s) (value_for frame now key value.bytes value.milliseconds)
-    -- a predicate that was drawn for in all parts stands in all
+    -- a predicate that was drawn for in all parts is registered in all
     pub covers : (next : ℕ) (prefix : List ℕ) (parts : List (Part S)) (old new : Stream) (ids : List ℕ) → DrawAll parts old new ids → CallsEach (CoversIn next) parts (registered_in prefix next ids parts)

@@ -15,7 +15,7 @@ use Rattle.cache_parts.specs.Recent.{IsFresh}
 abbrev pub at_moment : Frame → ℕ → Frame
 at_moment frame now = record frame { latest = now }
 
--- where it is held, it is as the service wrote it
+-- if it is held, it is as the service wrote it
 abbrev pub IsProperRecord : Frame → ℕ → ℕ → Record (List ℕ) Stored → Type 0
 IsProperRecord frame part step r = r.is_held ≡ true → IsProper frame part step r.entry
 
@@ -34,12 +34,13 @@ module _ {S : Type 0} where
     -- each pending write weighs at most 8192
     pub light : AreLight 8192 s.writes
 
-  -- what each part was made with
+  -- the settings with which each part was created
   abbrev pub common_by : Frame → S → Common S Weight
   common_by frame hasher = record { settings = settings_of frame.config frame.made; hasher = hasher; rules = frame.config.weight }
 
   pub record IsKeptPart (frame : Frame) (part step : ℕ) (s : Part S) : Type 0 where
-    -- what the front keeps: in order, sent, fewer than 64 writes, made alike, keys apart and of this part, bare at capacity 0, close, timely
+    -- what the front keeps: in order, sent, fewer than 64 writes, created alike, keys apart and of this part, empty at capacity 0, close,
+    -- timely
     pub hasher : S
     pub front : IsKept 63 same (common_by frame hasher) (belongs_to frame part) frame.latest step s
     pub own : IsOwn frame part step s

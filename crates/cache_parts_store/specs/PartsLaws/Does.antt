@@ -88,14 +88,14 @@ module _ (S : Type 0) where
       (which : Covering) (config : Config) (part_of : List ℕ → ℕ) (now : ℕ) (parts news : List (Part S)) (held : List HeldValue) (old new : List Note)
       → AllCover which parts news → AreParted part_of 0 parts → Stands parts held → HasParts part_of parts → new ≡ old → Done config now (covering which) held (Stands news) (TellsNone old new)
 
-  -- how many values are held and what they weigh; and what the engine counts after a run of all
+  -- how many values are held and their weight; and what the engine counts after a run of all
   pub record CountsAreSums : Type 0 where
     pub number : (parts : List (Part S)) (held : List HeldValue) → Stands parts held → length held ≡ sum_by (λ (s : Part S). length (held_entries s.records)) parts
     pub weight : (part_of : List ℕ → ℕ) (parts : List (Part S)) (held : List HeldValue) → AreParted part_of 0 parts → Stands parts held → sum_by (λ (h : HeldValue). h.value.weight) held ≡ sum_by (λ (s : Part S). held_weight s.records) parts
     pub after : (part_of : List ℕ → ℕ) (now : ℕ) (parts news : List (Part S)) (notes : List Note) (left : List HeldValue) → AllRan now parts news notes → EachPart now IsSent parts → AreParted part_of 0 news → Stands news left
         → sum_by (λ (h : HeldValue). h.value.weight) left ≤ 18446744073709551615 → CountsAreTold news left
 
-  -- what stands is within its bounds; after a run within its shares, and timely
+  -- the values held are within their bounds; after a run within their shares, and timely
   pub record StandsWithin : Type 0 where
     pub bounded : (config : Config) (part_of : List ℕ → ℕ) (made : ℕ) (parts : List (Part S)) (held : List HeldValue) (parted : AreParted part_of 0 parts) (stands : Stands parts held) (count : HasParts part_of parts)
         (settings : (k : ℕ) (x : Part S) → slice_get parts k ≡ Some x → x.settings ≡ settings_of config made)

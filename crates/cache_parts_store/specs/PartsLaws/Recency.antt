@@ -1,4 +1,4 @@
--- The clauses of a store on recency, of a store of parts.
+-- The clauses of a store about recency, for a store of parts.
 use Rattle.std.specs.Prelude.{◌≡◌, ℕ, suc, ◌≤◌, Bool, true, List, [], take, Option, Some, IsSome, IsTrue, slice_get}
 use Rattle.audit_model.specs.Bytewise.{same}
 use Rattle.audit_model.specs.Recency.{keys_without}
@@ -55,7 +55,7 @@ module _ (S : Type 0) where
       (frame : Frame) (step : ℕ) (parts : List (Part S)) (held : List HeldValue) (keys : List (List ℕ)) → ArePartsOf frame step parts → Stands parts held → IsRecentOver frame.config parts true keys
       → AreKeysOf held keys
 
-  -- a store that was just made, whatever its configuration
+  -- a store that was just created, whatever its configuration
   abbrev pub NewMoves : Type 0
   NewMoves =
       (config : Config) (name : Option (List ℕ)) (settings : Settings) (hasher : S) (rules : Weight) (parts : List (Part S)) → ((part : ℕ) (s : Part S) → slice_get parts part ≡ Some s → IsNew name settings hasher rules s) → IsRecentOver config parts true []

@@ -7,27 +7,27 @@ pub fn look_up_does<S>()
     ensures { LookUpDoes S }
 {}
 
-/// An acceptance does.
+/// An acceptance does what a store promises.
 pub fn accept_does<S>()
     ensures { AcceptDoes S }
 {}
 
-/// A removal does.
+/// A removal does what a store promises.
 pub fn remove_does<S>()
     ensures { RemoveDoes S }
 {}
 
-/// So does one of a key that is not there.
+/// So does a removal of a key that is not there.
 pub fn miss_does<S>()
     ensures { MissDoes S }
 {}
 
-/// A run of all parts does.
+/// A run of all parts does what a store promises.
 pub fn run_all_does<S>()
     ensures { RunAllDoes S }
 {}
 
-/// A clear and a predicate do.
+/// A clear and a predicate do what a store promises.
 pub fn cover_does<S>()
     ensures { CoverDoes S }
 {}
@@ -37,7 +37,7 @@ pub fn counts_are_sums<S>()
     ensures { CountsAreSums S }
 {}
 
-/// What stands is within its bounds.
+/// The values held are within their bounds.
 pub fn stands_within<S>()
     ensures { StandsWithin S }
 {}

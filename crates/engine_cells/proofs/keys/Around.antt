@@ -12,6 +12,10 @@ pub home-below : (tag many : ℕ) → 0 < many → home_of tag many < many
 unfolding home_of
 home-below tag many some = scaled (tag % 2 ^ 32) many (omega arith) some
 
+pub home-none : (tag : ℕ) → home_of tag 0 ≡ 0
+unfolding home_of
+home-none tag = omega arith
+
 -- how many steps lead from a slot to one before it, and to one that is not
 pub to_before : (many from to : ℕ) → to < from → steps_to many from to ≡ many - from + to
 to_before many from to less = ap (λ b. cond b (many - from + to) (to - from)) (lt-ltb to from less)
@@ -37,6 +41,13 @@ on-below many from steps f s = elim (cases_lt steps (many - from)) [
   | inr le ↦ omega (arith, on_around many from steps le)
 ]
 
+-- no step
+pub on-none : (many from : ℕ) → (0 < many → from < many) → (many ≡ 0 → from ≡ 0) → from ≡ steps_on many from 0
+on-none many from some none = elim (cases_lt 0 many) [
+  | inl more ↦ let f = some more in omega (arith, on_within many from 0 (omega arith))
+  | inr zero ↦ omega (arith, none (omega arith), on_around many from 0 (omega arith))
+]
+
 -- so many steps on stands what so many steps lead to
 pub on-to : (many from to : ℕ) → from < many → to < many → steps_on many from (steps_to many from to) ≡ to
 on-to many from to f t = elim (cases_lt to from) [
@@ -57,9 +68,6 @@ to-on many from steps f s = elim (cases_lt steps (many - from)) [
       let e = on_around many from steps le in
       omega (arith, e, to_before many from (steps_on many from steps) (omega (arith, e)))
 ]
-
-pub to-self : (many from : ℕ) → steps_to many from from ≡ 0
-to-self many from = omega (arith, to_behind many from from (omega arith))
 
 -- as many steps lead to one slot
 pub one_to : (many from a b : ℕ) → from < many → a < many → b < many → steps_to many from a ≡ steps_to many from b → a ≡ b

@@ -3,7 +3,7 @@ use Rattle.std.proofs.Common.{◌≡◌, ◌≢◌, refl, ap, sym, ◌∙◌, su
 use Rattle.std.proofs.lemmas.Bool.{cases_lt, cases_eq}
 use Rattle.engine_cells.specs.declared.keys.Slot.{Slot}
 use Rattle.engine_cells.specs.Keys.Slots.{nowhere, vacant, slot_at, IsTaken, taken_in, home_of, steps_to, IsOnWay, AreFound, AreFoundIn, IsHoled, LeavesOut, Loses}
-use Rattle.engine_cells.proofs.keys.Around.{home-below, to-below, to-self, one_to, passes, ahead, around}
+use Rattle.engine_cells.proofs.keys.Around.{home-below, to-below, one_to, passes, ahead, around}
 use Rattle.engine_cells.proofs.keys.Tables.{at-set, off-set, taken-within, along, still-taken, taken-same, taken-less, all-taken}
 
 -- so many steps on from where a place goes: all slots before are taken, and the free one is on the way of none behind it
@@ -13,25 +13,6 @@ pub record AreMoved (old now : List Slot) (from hole steps : ℕ) : Type 0 where
   pub seen : (k : ℕ) → k < length old → steps_to (length old) from k < steps → IsTaken now k
   pub behind : (k : ℕ) → k < length old → steps_to (length old) from hole < steps_to (length old) from k → steps_to (length old) from k < steps
       → IsOnWay (length old) (slot_at now k).tag k hole → ⊥
-
-pub moved-init : (old : List Slot) (from : ℕ) → IsTaken old from → AreFound old → AreMoved old old from from 1
-moved-init old from there found =
-    let within = taken-within old from there in
-    record {
-      holed = record {
-        long = refl;
-        within = within;
-        full = there;
-        count = refl;
-        others = λ k taken off. (k, off, refl);
-        only = λ j off taken. (j, off, refl);
-        once = λ k j off off' taken same. found.once k j taken same;
-        reached = λ k at off taken less way. found.reached k at taken less way;
-      };
-      before = omega (arith, to-self (length old) from);
-      seen = λ k less near. subst (λ i. IsTaken old i) (one_to (length old) from from k within within less (omega (arith, to-self (length old) from))) there;
-      behind = λ k less far near way. omega (arith, to-self (length old) from);
-    }
 
 module _ (old now : List Slot) (from hole steps at : ℕ) (f : from < length old) (moved : AreMoved old now from hole steps) (is : steps_to (length old) from at ≡ steps) (within : at < length old) where
   m : ℕ

@@ -1,14 +1,14 @@
 -- What comes into a table of slots, and what is looked for there.
-use Rattle.std.proofs.Common.{◌≡◌, ◌≢◌, refl, ap, sym, ◌∙◌, subst, ℕ, ◌+◌, ◌<◌, ◌≤◌, ◌⊎◌, inl, inr, arith, List, length, set, take, replicate, length-set, cond}
+use Rattle.std.proofs.Common.{◌≡◌, ◌≢◌, ap, sym, ◌∙◌, subst, ℕ, ◌+◌, ◌<◌, ◌≤◌, ◌⊎◌, inl, inr, arith, List, length, set, take, length-set}
 use Rattle.std.proofs.lemmas.Bool.{cases_lt, cases_eq, lt-ltb, le-ltb}
-use Rattle.std.proofs.lemmas.List.Sums.{count_by_more_yes, count_by_more_no, sum_by-take-le}
+use Rattle.std.proofs.lemmas.List.Sums.{count_by_more_yes, count_by_more_no}
 use Rattle.std.proofs.lemmas.List.{take_all}
 use Rattle.std.specs.Prelude.{nat_lt, Option, Some, None, IfNone}
 use Rattle.engine_cells.specs.declared.keys.Slot.{Slot}
-use Rattle.engine_cells.specs.Keys.Spots.{tag_of, Spots, ComesUnder, LeavesFrom, OnlyGainsSpace}
-use Rattle.engine_cells.specs.Keys.Slots.{entries_in, nowhere, vacant, slot_at, IsTaken, taken_in, home_of, steps_on, steps_to, IsOnWay, Has, HasAll, AreFound, AreFoundIn, IsFirstVacant, Adds, Loses}
-use Rattle.engine_cells.proofs.keys.Around.{home-below, to-below, on-to, one_to, reaches}
-use Rattle.engine_cells.proofs.keys.Tables.{at-set, off-set, taken-within, along, still-taken, taken-more, all-taken, vacant-there, none-taken, has-among, among-has, both}
+use Rattle.engine_cells.specs.Keys.Spots.{tag_of, ComesUnder, LeavesFrom, OnlyGainsSpace}
+use Rattle.engine_cells.specs.Keys.Slots.{entries_in, nowhere, vacant, slot_at, IsTaken, taken_in, home_of, steps_on, steps_to, IsOnWay, Has, HasAll, AreFound, IsFirstVacant, Adds, Loses}
+use Rattle.engine_cells.proofs.keys.Around.{home-below, to-below, on-to, reaches}
+use Rattle.engine_cells.proofs.keys.Tables.{at-set, off-set, taken-within, still-taken, taken-more, all-taken, has-among, among-has, both}
 
 -- what is so of each slot within so many steps from a home is so of each slot
 pub all-seen : (many home : ℕ) (P : ℕ → Type 0) → home < many → ((t : ℕ) → t < many → P (steps_on many home t)) → (k : ℕ) → k < many → P k
@@ -79,43 +79,6 @@ module _ (old : List Slot) (tag place at : ℕ) (room : taken_in old < length ol
 
   stays : (x : ℕ) → IsTaken old x → IsTaken (set old at (record { tag = tag; place = place })) x
   stays x t = still-taken old at (record { tag = tag; place = place }) first.within fits x t
-
-  pub put-adds : Adds old (set old at (record { tag = tag; place = place })) tag place
-  put-adds = record { at = at; within = first.within; was = first.vacant; is = refl }
-
-  put-reached : (k x : ℕ) → IsTaken (set old at (record { tag = tag; place = place })) k → x < length old → IsOnWay (length old) (slot_at (set old at (record { tag = tag; place = place })) k).tag k x → IsTaken (set old at (record { tag = tag; place = place })) x
-  put-reached k x t less way = elim (cases_eq x at) [
-    | inl e ↦ omega (arith, ap (λ i. (slot_at (set old at (record { tag = tag; place = place })) i).place) e, ap (λ s. s.place) here)
-    | inr ne ↦ stays x (
-        elim (cases_eq k at) [
-          | inl e ↦
-              let tag_is : (slot_at (set old at (record { tag = tag; place = place })) k).tag ≡ tag = ap (λ i. (slot_at (set old at (record { tag = tag; place = place })) i).tag) e ∙ ap (λ s. s.tag) here in
-              let w : IsOnWay (length old) tag at x = subst (λ i. IsOnWay (length old) tag i x) e (subst (λ h. IsOnWay (length old) h k x) tag_is way) in
-              first.before x less (
-              elim (cases_eq (steps_to (length old) (home_of tag (length old)) x) (steps_to (length old) (home_of tag (length old)) at)) [
-                | inl same ↦ absurd (ne (one_to (length old) (home_of tag (length old)) x at (home-below tag (length old) (omega arith)) less first.within same))
-                | inr other ↦ omega (arith, w, other)
-              ]
-              )
-          | inr other ↦ found.reached k x (along old (set old at (record { tag = tag; place = place })) k k (sym (off k other)) t) less (subst (λ h. IsOnWay (length old) h k x) (ap (λ s. s.tag) (off k other)) way)
-        ]
-        )
-  ]
-
-  put-once : (k j : ℕ) → IsTaken (set old at (record { tag = tag; place = place })) k → slot_at (set old at (record { tag = tag; place = place })) j ≡ slot_at (set old at (record { tag = tag; place = place })) k → j ≡ k
-  put-once k j t same = elim (cases_eq k at) [
-    | inl e ↦ elim (cases_eq j at) [
-      | inl e' ↦ e' ∙ sym e
-      | inr ne ↦ absurd (absent (j, sym (off j ne) ∙ same ∙ ap (λ i. slot_at (set old at (record { tag = tag; place = place })) i) e ∙ here, fits))
-    ]
-    | inr ne ↦ elim (cases_eq j at) [
-      | inl e' ↦ absurd (absent (k, sym (off k ne) ∙ sym same ∙ ap (λ i. slot_at (set old at (record { tag = tag; place = place })) i) e' ∙ here, fits))
-      | inr ne' ↦ found.once k j (along old (set old at (record { tag = tag; place = place })) k k (sym (off k ne)) t) (sym (off j ne') ∙ same ∙ off k ne)
-    ]
-  ]
-
-  pub put-found : AreFound (set old at (record { tag = tag; place = place }))
-  put-found = subst (λ n. AreFoundIn n (set old at (record { tag = tag; place = place }))) (sym (length-set old at (record { tag = tag; place = place }))) (record { reached = put-reached; once = put-once })
 
 -- what there is once a place came
 module _ (old new : List Slot) (tag place : ℕ) (fits : place < nowhere) (adds : Adds old new tag place) where
@@ -191,9 +154,6 @@ all-gain old new same s t le = record {
   space = le;
 }
 
-pub same-gain : (spots : Spots) → OnlyGainsSpace spots spots
-same-gain spots = record { others = λ h p u. u; only = λ h p u. u; space = omega arith }
-
 -- the places of the first slots of a table came into another
 pub record HasFirst (others now : List Slot) (many k : ℕ) : Type 0 where
   pub found : AreFound now
@@ -202,22 +162,7 @@ pub record HasFirst (others now : List Slot) (many k : ℕ) : Type 0 where
   pub has : (j : ℕ) → j < k → IsTaken others j → Has now (slot_at others j).tag (slot_at others j).place
   pub only : (h p : ℕ) → Has now h p → (j : ℕ) × (j < k) × (slot_at others j ≡ record { tag = h; place = p })
 
-pub first-init : (others now : List Slot) → now ≡ replicate (length now) vacant → HasFirst others now (length now) 0
-first-init others now is = record {
-  found = record { reached = λ k at t less way. absurd (never k t); once = λ k j t same. absurd (never k t) };
-  long = refl;
-  count = ap taken_in is ∙ none-taken (length now);
-  has = λ j less t. absurd (omega arith);
-  only = λ h p u. absurd (never u.0 (let at = u.1 in let less = u.2 in omega (arith, ap (λ s. s.place) at)));
-}
-  where
-    never : (k : ℕ) → IsTaken now k → ⊥
-    never k t = absurd (omega (arith, ap (λ xs. (slot_at xs k).place) is, vacant-there (length now) k))
-
 module _ (others now : List Slot) (many k : ℕ) (whole : AreFound others) (first : HasFirst others now many k) (within : k < length others) where
-  pub first-room : taken_in others < many → taken_in now < length now
-  first-room room = omega (arith, first.long, first.count, sum_by-take-le (λ q. cond (nat_lt q.place nowhere) 1 0) others k)
-
   pub first-absent : IsTaken others k → Has now (slot_at others k).tag (slot_at others k).place → ⊥
   first-absent t u =
       let o = first.only (slot_at others k).tag (slot_at others k).place u in

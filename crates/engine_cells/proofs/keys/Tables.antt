@@ -1,5 +1,5 @@
 -- Slots, one of which is written.
-use Rattle.std.proofs.Common.{◌≡◌, ◌≢◌, refl, ap, ◌∙◌, ℕ, zero, suc, ◌+◌, ◌<◌, ◌≤◌, inl, inr, arith, Bool, cond, true, false, List, [], ◌∷◌, length, get_or, set, replicate}
+use Rattle.std.proofs.Common.{◌≡◌, ◌≢◌, refl, ap, ◌∙◌, ℕ, zero, suc, ◌+◌, ◌<◌, ◌≤◌, inl, inr, arith, Bool, cond, true, false, List, [], ◌∷◌, length, get_or, set}
 use Rattle.std.proofs.lemmas.Bool.{cases_lt, cases_eq, lt-ltb, le-ltb, ltb-true}
 use Rattle.std.proofs.lemmas.List.{get_or-set_same, get_or-set_other, get_or_past, get_or_read_under}
 use Rattle.std.proofs.lemmas.List.Sums.{sum_by-set, sum_by-cons}
@@ -48,15 +48,6 @@ taken-less xs i within was = omega (arith, sum_by-set (λ q. cond (nat_lt q.plac
 pub all-taken : (xs : List Slot) → ((k : ℕ) → k < length xs → IsTaken xs k) → length xs ≤ taken_in xs
 all-taken [] h = omega arith
 all-taken (x ∷ xs) h = omega (arith, all-taken xs (λ k less. h (suc k) (omega arith)), sum_by-cons (λ q. cond (nat_lt q.place nowhere) 1 0) x xs, one x (h zero (omega arith)))
-
-pub none-taken : (n : ℕ) → taken_in (replicate n vacant) ≡ 0
-none-taken zero = refl
-none-taken (suc n) = omega (arith, none-taken n, sum_by-cons (λ q. cond (nat_lt q.place nowhere) 1 0) vacant (replicate n vacant), nil vacant (omega arith))
-
-pub vacant-there : (n k : ℕ) → nowhere ≤ (slot_at (replicate n vacant) k).place
-vacant-there zero k = omega arith
-vacant-there (suc n) zero = omega arith
-vacant-there (suc n) (suc k) = vacant-there n k
 
 -- the entries are what stands in the slots
 pub has-among : (xs : List Slot) (h p : ℕ) → Has xs h p → IsAmong (entries_in xs) h p

@@ -5,7 +5,7 @@ use Rattle.std.specs.Prelude.{◌≡◌, ℕ, ◌+◌, ◌*◌, ◌/◌, ◌%◌
 unfoldable pub tag_of : ℕ → ℕ
 tag_of hash = hash * 0x9E37_79B9_7F4A_7C15 % 2 ^ 64 / 2 ^ 32
 
--- what callers see: each place with its tag, and how many more places need no memory
+-- what callers see: each place with its tag, and how many more places need no allocation
 pub record Spots : Type 0 where
   pub entries : List (ℕ × ℕ)
   pub space : ℕ
@@ -15,24 +15,24 @@ abbrev pub IsAmong : List (ℕ × ℕ) → ℕ → ℕ → Type 0
 IsAmong [] tag place = ⊥
 IsAmong (entry ∷ rest) tag place = ((entry.0 ≡ tag) × (entry.1 ≡ place)) ⊎ IsAmong rest tag place
 
--- a place stands under a hash: under its tag
+-- a place is under a hash: under its tag
 abbrev pub IsUnder : Spots → ℕ → ℕ → Type 0
 IsUnder spots hash place = IsAmong spots.entries (tag_of hash) place
 
--- each place stands where it stood and no other does, and there may be more room
+-- each place is where it was and no other is, and there may be more room
 pub record OnlyGainsSpace (old new : Spots) : Type 0 where
   pub others : (h p : ℕ) → IsUnder old h p → IsUnder new h p
   pub only : (h p : ℕ) → IsUnder new h p → IsUnder old h p
   pub space : old.space ≤ new.space
 
--- a place came under a hash, and all others stand where they stood
+-- a place was added under a hash, and all others are where they were
 pub record ComesUnder (old new : Spots) (hash place : ℕ) : Type 0 where
   pub there : IsUnder new hash place
   pub others : (h p : ℕ) → IsUnder old h p → IsUnder new h p
   pub only : (h p : ℕ) → IsUnder new h p → IsUnder old h p ⊎ ((tag_of h ≡ tag_of hash) × (p ≡ place))
   pub space : old.space ≤ new.space + 1
 
--- a place left from under a hash, and all others stand where they stood
+-- a place was removed from under a hash, and all others are where they were
 pub record LeavesFrom (old new : Spots) (hash place : ℕ) : Type 0 where
   pub gone : IsUnder new hash place → ⊥
   pub others : (h p : ℕ) → IsUnder old h p → (tag_of h ≡ tag_of hash → p ≡ place → ⊥) → IsUnder new h p

@@ -1,7 +1,7 @@
 -- Timers come, move and go, and places know their names.
 use Rattle.std.proofs.Common.{◌≡◌, ◌≢◌, refl, ap, sym, ◌∙◌, subst, ℕ, zero, suc, ◌<◌, ◌≤◌, arith, length, Bool, true, false, cond, List, [], ◌∷◌, ◌++◌, Option, Some, None, get_or-set_same, get_or-set_other, inl, inr, ◌⊎◌}
 use Rattle.std.specs.Prelude.{slice_set, IfOk, OnOk, OnErr, Result, Ok, Err}
-use Rattle.std.specs.List.{Contains, All}
+use Rattle.std.specs.List.{Contains}
 use Rattle.std.proofs.lemmas.Bool.{cases_eq}
 use Rattle.std.proofs.lemmas.List.Sorted.{Contains-permutation, IsPermutation-sym}
 use Rattle.std.proofs.lemmas.Option.{same_Some}
@@ -25,10 +25,6 @@ lengthened false names after i e = ap (λ ns. name_at ns i) e
 
 first-contained : {X : Type 0} (x : X) (xs : List X) → Contains (x ∷ xs) x
 first-contained x xs = (0, omega arith, refl)
-
--- what holds of all holds of each
-pub all-contained : {X : Type 0} (P : X → Type 0) (xs : List X) (x : X) → All P xs → Contains xs x → P x
-all-contained P xs x h there = subst P there.2 (h there.0 x there.1)
 
 -- names alike lead to timers alike
 pub owned-alike : (wheel : Timers) (names after : List (Option NodeId)) → ((i : ℕ) → name_at after i ≡ name_at names i) → IsOwned wheel names → IsOwned wheel after
@@ -59,14 +55,6 @@ is-set a place (Some t) f = f t refl
 -- the timer of the name that a place knows is of this place
 own-place : (wheel : Timers) (names : List (Option NodeId)) (place : ℕ) (id : NodeId) (t : Timer) → IsOwned wheel names → name_at names place ≡ Some id → Contains wheel.timers t → t.id ≡ id → t.node.entry_info ≡ place
 own-place wheel names place id t h named there same = h.single t.node.entry_info place id (h.owned t there ∙ ap (λ x. Some x) same) named
-
--- where no timer has the name that the place knows, none is of the place
-pub none-named : (wheel : Timers) (names : List (Option NodeId)) (place : ℕ) (id : NodeId) → IsOwned wheel names → name_at names place ≡ Some id → All (λ (t : Timer). t.id ≢ id) wheel.timers → LacksPlace place wheel.timers
-none-named wheel names place id h named none t there of =
-    all-contained (λ (x : Timer). x.id ≢ id) wheel.timers t none there (same_Some _ _ (sym (h.owned t there) ∙ ap (λ i. name_at names i) of ∙ named))
-
-pub none-known : (wheel : Timers) (names : List (Option NodeId)) (place : ℕ) → IsOwned wheel names → name_at names place ≡ None → LacksPlace place wheel.timers
-none-known wheel names place h none t there of = absurd (let e : Some t.id ≡ None = sym (h.owned t there) ∙ ap (λ i. name_at names i) of ∙ none in cc)
 
 -- ---- a timer goes
 

@@ -9,7 +9,7 @@ pub record Awaited : Type 0 where
   pub timers : List Timer
   pub is_whole : Bool
 
--- a timer of the place comes no later than its time
+-- a timer of the place is no later than its time
 pub record IsTimed (timers : List Timer) (place time : ℕ) : Type 0 where
   pub timer : Timer
   pub there : Contains timers timer
@@ -19,7 +19,7 @@ pub record IsTimed (timers : List Timer) (place time : ℕ) : Type 0 where
 abbrev pub IsAwaited : Awaited → ℕ → ℕ → Type 0
 IsAwaited a place time = IsTimed a.timers place time
 
--- where all that were set are among the timers, the place's time is, if it has one
+-- if all that were set are among the timers, the place's time is, if it has one
 abbrev pub IsSet : Awaited → ℕ → Option ℕ → Type 0
 IsSet a place None = Unit {0}
 IsSet a place (Some time) = a.is_whole ≡ true → IsAwaited a place time

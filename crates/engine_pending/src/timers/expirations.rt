@@ -47,7 +47,7 @@ impl Expirations {
         self.is_whole
     }
 
-    /// As if there had been memory for all timers: whoever says so sets each place again.
+    /// As if there had been memory for all timers. The caller then sets each place again.
     pub fn start_again(&mut self)
         ensures { self.new ≡ record self.old { is_whole = true } }
     {
@@ -64,7 +64,7 @@ impl Expirations {
         self.is_whole = both(self.is_whole, is_set);
     }
 
-    /// The place that expires first, where its moment has come: its timer's at least.
+    /// The place that expires first, if its timer has come.
     pub fn first_due(&self, now: Instant) -> Option<usize>
         ensures found { IfSome result (λ place. IsAwaited self.now place now) }
         ensures none { IfNone result ((place time : ℕ) → IsAwaited self.now place time → now < time) }
@@ -76,7 +76,7 @@ impl Expirations {
     }
 }
 
-/// Where a timer stands for a moment in nanoseconds: no later.
+/// The time to which a timer is set for a moment in nanoseconds: no later.
 fn placed_for(time: Option<u64>) -> Option<Instant>
     ensures { (t : ℕ) → time ≡ Some t → (placed : ℕ) × (result ≡ Some placed) × (placed ≤ t) }
 {

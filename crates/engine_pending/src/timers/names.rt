@@ -15,7 +15,7 @@ fn name_at(names: &[Option<NodeId>], place: usize) -> Option<NodeId>
     }
 }
 
-/// Makes the names reach to a place, and answers whether there was memory for it.
+/// Extends the names up to a place. Returns whether there was memory for it.
 fn lengthen(names: &mut Vec<Option<NodeId>>, place: usize) -> bool
     ensures same { (i : ℕ) → name_at names.new.items i ≡ name_at names.old.items i }
     ensures reach { result ≡ true → place < length names.new.items }
@@ -38,7 +38,7 @@ fn at(time: Instant) -> Due
     }
 }
 
-/// Adds a timer for a place that has none, and answers whether there was memory for it.
+/// Adds a timer for a place that has none. Returns whether there was memory for it.
 fn start(
     wheel: &mut TimerWheel<()>,
     names: &mut Vec<Option<NodeId>>,
@@ -59,7 +59,7 @@ fn start(
     true
 }
 
-/// Puts the timer of this name, which the place knows, at a time, or adds one; answers whether there was memory for it.
+/// Sets the timer of this name, which the place knows, to a time, or adds one. Returns whether there was memory for it.
 fn restart(
     wheel: &mut TimerWheel<()>,
     names: &mut Vec<Option<NodeId>>,
@@ -79,7 +79,7 @@ fn restart(
     }
 }
 
-/// A place's timer goes, if there is one of its name.
+/// Removes a place's timer, if there is one of its name.
 fn stop(wheel: &mut TimerWheel<()>, names: &[Option<NodeId>], place: usize)
     requires owned { IsOwned wheel.old names.now }
     ensures owned { IsOwned wheel.new names.now }
@@ -90,7 +90,7 @@ fn stop(wheel: &mut TimerWheel<()>, names: &[Option<NodeId>], place: usize)
     }
 }
 
-/// A place has a timer at a time; answers whether there was memory for it.
+/// Sets a place's timer to a time. Returns whether there was memory for it.
 fn put(
     wheel: &mut TimerWheel<()>,
     names: &mut Vec<Option<NodeId>>,
@@ -108,7 +108,7 @@ fn put(
     }
 }
 
-/// A place has a timer at a time, or none where there is no time; answers whether there was memory for it.
+/// Sets a place's timer to a time, or removes it if there is no time. Returns whether there was memory for it.
 pub(crate) fn set(
     wheel: &mut TimerWheel<()>,
     names: &mut Vec<Option<NodeId>>,

@@ -113,7 +113,7 @@ module _ {K V P S R : Type 0} (answers : Answers K V P R) (now : ℕ) where
           (subst (λ t. IsSound t) after k) (record { reads = applied.reads; writes = applied.writes }) (record { alive = quiet.alive; uncovered = quiet.uncovered }) is_set in
           record { victims = h.victims; front = h.front; records = h.records; access = h.access; notices = h.notices }
       by_step mid (leaves r why a there held due after) k later = absurd (none_leaves s r why quiet there held due)
-      by_step mid (evicts r a above next after) k later = evicted
+      by_step mid (evicts r a clean above next after) k later = evicted
         where
           there : record_at s.records r.number ≡ Some r
           there = first-there s.records s.access r next

@@ -579,7 +579,7 @@ module _ {K V P S R : Type 0} (old : State K V P S R) (us : List Write) (us_are 
             let both : Some r ≡ Some x = sym there ∙ here in
             let same : r ≡ x = cc in
             subst (λ z. IsJust answers now old why z.entry) same (just-due done s r why g cov there held due)))
-        go (evicts r applied above next after) sound =
+        go (evicts r applied clean above next after) sound =
             subst (λ x. StepGoes s x) (sym after) (left-goes done s cause.Size r.number g (subst (λ x. IsSound x) after sound)
             (λ x here held.
             let k = first-settled s.records (settled_in s.records s.access) r (settled_in-settled s.records s.access) next in

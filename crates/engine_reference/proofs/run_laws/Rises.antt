@@ -359,7 +359,7 @@ module _ {K V P S R : Type 0} where
     step-front s t sound h (writes w rest none e after) = subst (λ x. IsFront x) (sym after) (write-front w rest s sound e h)
     step-front s t sound h (grows words applied wants capacity is_set size after) = subst (λ x. IsFront x) (sym after) h
     step-front s t sound h (leaves r why applied there held due after) = subst (λ x. IsFront x) (sym after) (left-front why r.number s h)
-    step-front s t sound h (evicts r applied above next after) = subst (λ x. IsFront x) (sym after) (left-front cause.Size r.number s h)
+    step-front s t sound h (evicts r applied clean above next after) = subst (λ x. IsFront x) (sym after) (left-front cause.Size r.number s h)
     step-front s t sound h (ends place p applied there none after) = subst (λ x. IsFront x) (sym after) h
 
     steps-front : (stages : List (State K V P S R)) (s t : State K V P S R) → IsSound s → IsFront s → Steps answers now s stages t → IsFront t

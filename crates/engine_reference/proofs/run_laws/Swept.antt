@@ -91,7 +91,7 @@ module _ {K V P S R : Type 0} (Q : Record K V → Type 0) (stable : (r : Record 
     each-step s t sound h (writes w rest none e after) = subst (λ x. Each Q x.records) (sym after) (each-write w (record s { writes = rest }) s.writes (record { records = sound.records; named = sound.named }) h)
     each-step s t sound h (grows words applied wants capacity is_set size after) = subst (λ x. Each Q x.records) (sym after) h
     each-step s t sound h (leaves r why applied there held due after) = subst (λ x. Each Q x.records) (sym after) (left-each Q why r.number s sound.records.numbered h)
-    each-step s t sound h (evicts r applied above next after) = subst (λ x. Each Q x.records) (sym after) (left-each Q cause.Size r.number s sound.records.numbered h)
+    each-step s t sound h (evicts r applied clean above next after) = subst (λ x. Each Q x.records) (sym after) (left-each Q cause.Size r.number s sound.records.numbered h)
     each-step s t sound h (ends place p applied there none after) = subst (λ x. Each Q x.records) (sym after) h
 
     each-steps : (stages : List (State K V P S R)) (s t : State K V P S R) → IsSound s → Each Q s.records → Steps answers now s stages t → Each Q t.records

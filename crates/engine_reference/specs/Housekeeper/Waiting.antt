@@ -1,7 +1,7 @@
--- When maintenance is to come.
+-- When maintenance is due.
 use Rattle.std.specs.Prelude.{ℕ, ◌+◌, nat_le, min, Bool, ◌||◌}
 
--- the moment from which a run is due for the time that passed since another: 300 milliseconds later, or the last moment
+-- the moment from which a run is due because of the time that has passed since another moment: 300 milliseconds later, or the last moment
 abbrev pub due_after : ℕ → ℕ
 due_after ran = min (ran + 300000000) 18446744073709551614
 

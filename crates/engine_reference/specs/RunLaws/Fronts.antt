@@ -1,4 +1,4 @@
--- What evictions within a run take.
+-- What evictions within a run remove.
 use Rattle.std.specs.Prelude.{◌≡◌, ◌-◌, ◌≤◌, ℕ, true, false, List, [], ◌∷◌, ◌++◌, map, Some}
 use Rattle.engine_reference.specs.declared.rules.causes.RemovalCause.TheVariants as cause
 use Rattle.engine_reference.specs.declared.data.Record.{Record}
@@ -21,7 +21,7 @@ module _ {K V : Type 0} where
   without_numbers [] ns = ns
   without_numbers (v ∷ vs) ns = without_numbers vs (without v.number ns)
 
-  -- they are taken away for weight
+  -- they are removed for weight
   abbrev pub for_size : List (Record K V) → List (Removal K V)
   for_size vs = map (λ v. record { cause = cause.Size; entry = v.entry }) vs
 
@@ -32,7 +32,7 @@ module _ {K V P S R : Type 0} (answers : Answers K V P R) where
     pub uncovered : (r : Record K V) → record_at s.records r.number ≡ Some r → r.is_held ≡ true → is_covered answers s r.entry ≡ false
 
 module _ {K V P S R : Type 0} where
-  -- the shortest front of the settled records that reaches the excess went, and was told; all else stays
+  -- the shortest front of the settled records that reaches the excess was evicted and reported; everything else stays
   pub record EvictsFront (capacity : ℕ) (old new : State K V P S R) : Type 0 where
     pub victims : List (Record K V)
     pub front : shortest_front (admitted_weight old.records - capacity) (settled_in old.records old.access) ≡ Some victims

@@ -1,4 +1,4 @@
--- Why a run takes away what it takes.
+-- Why a run removes what it removes.
 use Rattle.std.specs.Prelude.{◌≡◌, ℕ, true, List, [], ◌∷◌, Some}
 use Rattle.engine_reference.specs.declared.rules.causes.RemovalCause.{RemovalCause}
 use Rattle.engine_reference.specs.declared.rules.causes.RemovalCause.TheVariants as cause
@@ -14,7 +14,7 @@ use Rattle.engine_reference.specs.Records.{record_at}
 use Rattle.engine_reference.specs.RunLaws.Points.{IsInOrder, IsPointed}
 
 module _ {K V : Type 0} where
-  -- the record as it stood in an earlier list, but for what maintenance knows of it
+  -- the record as it was in an earlier list, except for what maintenance knows of it
   pub record ComesFrom (rs : List (Record K V)) (r : Record K V) : Type 0 where
     pub owner : Record K V
     pub there : record_at rs owner.number ≡ Some owner
@@ -28,14 +28,15 @@ module _ {K V : Type 0} where
   EachRemoval Q (gone ∷ removals) = Q gone.cause gone.entry × EachRemoval Q removals
 
 module _ {K V P S R : Type 0} (answers : Answers K V P R) (now : ℕ) (old : State K V P S R) where
-  -- a cause is just of an entry that was held as the run began: its deadline has come, it is covered, or its removal for weight has a point
+  -- a cause is just for an entry that was held as the run began: its deadline has come, it is covered, or its removal for weight has a
+  -- point
   abbrev pub IsJust : RemovalCause → Entry K V → Type 0
   IsJust cause.Expired e = has_come old.settings now e ≡ true
   IsJust cause.Explicit e = is_covered answers old e ≡ true
   IsJust cause.Replaced e = ⊥
   IsJust cause.Size e = IsPointed old e
 
--- what a run tells is just, and what stays stood there before it
+-- what a run reports is just, and what stays was there before it
 pub record RunTells {K V P S R : Type 0} (answers : Answers K V P R) (now : ℕ) (old new : State K V P S R) : Type 0 where
   pub removals : List (Removal K V)
   pub tells : Tells old removals new

@@ -1,4 +1,4 @@
--- Why a removal for weight is right: at a write that was pending, the weight of all that was held was above the capacity.
+-- Why a removal for weight is right: at a write that was pending, everything that was held weighed more than the capacity.
 use Rattle.std.specs.Prelude.{◌≡◌, ◌≢◌, ◌<◌, ◌≤◌, ◌==◌, ℕ, Bool, true, false, if◌then◌else◌, List, [], ◌∷◌, ◌++◌, map, Option, Some}
 use Rattle.engine_reference.specs.declared.rules.causes.RemovalCause.TheVariants as cause
 use Rattle.engine_reference.specs.declared.data.Entry.{Entry}
@@ -18,7 +18,7 @@ use Rattle.engine_reference.specs.Telling.{Removal, Tells}
 
 -- ---- what is pending, in the order in which it was made
 
--- the writes of a record rise from the latest that was applied
+-- the writes of a record rise from the last one that was applied
 abbrev pub AreRising : (number applied : ℕ) → List Write → Type 0
 AreRising number applied [] = Unit {0}
 AreRising number applied (Put u ∷ ws) = (u.number ≡ number → applied < u.write) × AreRising number (if u.number == number then u.write else applied) ws
@@ -29,28 +29,28 @@ abbrev pub NoneOf : ℕ → List Write → Type 0
 NoneOf number [] = Unit {0}
 NoneOf number (w ∷ ws) = (number_of w ≢ number) × NoneOf number ws
 
--- a weight is at most the one that is kept beside the write
+-- a weight is at most the one that is kept with the write
 abbrev pub IsKeptBy : Write → ℕ → Type 0
 IsKeptBy (Put u) weight = weight ≤ u.kept
 IsKeptBy (Removed number) weight = Unit {0}
 
 module _ {K V : Type 0} where
-  -- the records after a write, if nothing were refused and nothing left for it
+  -- the records after a write, if nothing were refused and nothing evicted for it
   abbrev pub with_write : Write → List (Record K V) → List (Record K V)
   with_write (Put u) rs = changed_at u.number (λ r. record r { applied = u.write; counts = Some u.weight }) rs
   with_write (Removed number) rs = without_record number rs
 
-  -- whichever of the writes was applied last, what counts then is at most what was held as it was made
+  -- whichever of the writes was applied last, what counts then is at most what was held when it was made
   abbrev pub AreKept : List Write → List (Record K V) → Type 0
   AreKept [] rs = Unit {0}
   AreKept (w ∷ ws) rs = IsKeptBy w (admitted_weight (with_write w rs)) × AreKept ws (with_write w rs)
 
 module _ {K V P S R : Type 0} where
-  -- what waits to be applied, where tickets are sent in the order in which they were made
+  -- what waits to be applied, if tickets are sent in the order in which they were made
   abbrev pub pending_of : State K V P S R → List Write
   pending_of s = s.writes ++ map (λ u. u.write) s.unsent
 
-  -- a sound state whose tickets were sent in the order in which they were made, and the weight that counts is within the capacity
+  -- a sound state whose tickets were sent in the order in which they were made, with the weight that counts within the capacity
   pub record IsInOrder (s : State K V P S R) : Type 0 where
     pub sound : IsSound s
     pub rising : Each (λ r. AreRising r.number r.applied (pending_of s)) s.records
@@ -59,7 +59,8 @@ module _ {K V P S R : Type 0} where
 
 -- ---- the point of a removal
 
--- one of the writes in the queue has a kept weight above the capacity, and none that was made after it, whether sent or not, is of this record
+-- one of the writes in the queue has a kept weight above the capacity, and no write that was made after it, whether sent or not, is of this
+-- record
 pub record HasPoint (capacity : Option ℕ) (queue unsent : List Write) (number : ℕ) : Type 0 where
   pub before : List Write
   pub peak : Upsert
@@ -69,13 +70,13 @@ pub record HasPoint (capacity : Option ℕ) (queue unsent : List Write) (number 
   pub last : NoneOf number (after ++ unsent)
 
 module _ {K V : Type 0} where
-  -- of what is removed for weight
+  -- about what is removed for weight
   abbrev pub EachForSize : (Entry K V → Type 0) → List (Removal K V) → Type 0
   EachForSize Q [] = Unit {0}
   EachForSize Q (gone ∷ removals) = (gone.cause ≡ cause.Size → Q gone.entry) × EachForSize Q removals
 
 module _ {K V P S R : Type 0} where
-  -- the entry was held as the run began, and a write that was in the queue then, made not before the entry's last one, is its point
+  -- the entry was held as the run began, and its point is a write that was in the queue then, made not before the entry's last one
   pub record IsPointed (old : State K V P S R) (e : Entry K V) : Type 0 where
     pub owner : Record K V
     pub there : record_at old.records owner.number ≡ Some owner
@@ -93,7 +94,8 @@ module _ (K V P S R : Type 0) where
   abbrev pub SizeHasPoint : Type 0
   SizeHasPoint = (answers : Answers K V P R) (now : ℕ) (old new : State K V P S R) → IsInOrder old → Runs answers now old new → RunPoints old new
 
-  -- an empty cache is in order, calls keep it so where the oldest ticket is sent first, and so does an uncut run begun with all tickets sent
+  -- an empty cache is in order, calls keep it so if the oldest ticket is sent first, and so does an uncut run that began with all tickets
+  -- sent
   pub record CallsStayInOrder : Type 0 where
     pub empty : (s : State K V P S R) → s.records ≡ [] → s.access ≡ [] → s.unsent ≡ [] → s.writes ≡ [] → IsInOrder s
     pub written : (eq : K → K → Bool) (answers : Answers K V P R) (s : State K V P S R) (key : K) (hash : ℕ) (value : V) (now step : ℕ) → IsInOrder s → IsInOrder (written answers eq s key hash value now step)

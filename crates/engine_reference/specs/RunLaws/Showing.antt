@@ -1,4 +1,4 @@
--- What calls show: nothing becomes visible but by a write.
+-- What calls make visible: nothing becomes visible except by a write.
 use Rattle.std.specs.Prelude.{◌≡◌, ◌⊎◌, ℕ, Bool, false, Option, None}
 use Rattle.std.specs.Cmp.{IsEquivalence}
 use Rattle.engine_reference.specs.declared.data.Entry.{Entry}
@@ -15,7 +15,7 @@ module _ (K V P S R : Type 0) where
     -- a write changes no look-up of another key
     pub written : (eq : K → K → Bool) → IsEquivalence eq → (answers : Answers K V P R) (s : State K V P S R) (key : K) (hash : ℕ) (value : V) (now step moment : ℕ) (other : K) → IsSound s → eq other key ≡ false
         → visible answers eq (written answers eq s key hash value now step) moment other ≡ visible answers eq s moment other
-    -- a removal shows nothing that was not visible
+    -- a removal makes nothing visible that was not
     pub removed : (eq : K → K → Bool) → IsEquivalence eq → (answers : Answers K V P R) (s : State K V P S R) (key : K) (moment : ℕ) (other : K) → AreApart eq (held_entries s.records)
         → (visible answers eq (removed_by eq key s) moment other ≡ visible answers eq s moment other) ⊎ (visible answers eq (removed_by eq key s) moment other ≡ None)
     -- after a look-up each key shows at its moment what it showed before, or nothing
@@ -27,7 +27,7 @@ module _ (K V P S R : Type 0) where
     pub released : (eq : K → K → Bool) (answers : Answers K V P R) (s : State K V P S R) (moment : ℕ) (other : K) → visible answers eq (without_room s) moment other ≡ visible answers eq s moment other
     pub taken : (eq : K → K → Bool) (answers : Answers K V P R) (s : State K V P S R) (moment : ℕ) (other : K) → visible answers eq (without_notice s) moment other ≡ visible answers eq s moment other
 
-  -- no call makes two entries whose keys compare alike
+  -- no call makes two entries whose keys compare equal
   pub record CallsKeepApart : Type 0 where
     pub written : (eq : K → K → Bool) → IsEquivalence eq → (answers : Answers K V P R) (s : State K V P S R) (key : K) (hash : ℕ) (value : V) (now step : ℕ) → IsSound s
         → AreApart eq (held_entries s.records) → AreApart eq (held_entries (written answers eq s key hash value now step).records)

@@ -14,7 +14,7 @@ use Rattle.engine_reference.specs.Times.{end_of, is_reached, tick_of}
 use Rattle.engine_reference.specs.RunLaws.Fronts.{NothingIsDue}
 use Rattle.engine_reference.specs.RunLaws.Points.{AreRising}
 
--- ---- the write list: the numbers of records, the one whose write was applied longest ago first. Records that are gone are passed over
+-- ---- the write list: the numbers of records; the one whose write was applied longest ago is first. Records that are gone are passed over
 
 -- the write list after these writes were applied
 abbrev pub order_after : List Write → List ℕ → List ℕ
@@ -23,7 +23,7 @@ order_after (Put u ∷ ws) ns = order_after ws (moved_to_back u.number ns)
 order_after (Removed number ∷ ws) ns = order_after ws ns
 
 module _ {K V : Type 0} where
-  -- each record of the list stands so to each that comes after it
+  -- each record of the list is in this relation to each one after it
   abbrev pub InOrderBy : (Record K V → Record K V → Type 0) → List (Record K V) → List ℕ → Type 0
   InOrderBy Rel rs [] = Unit {0}
   InOrderBy Rel rs (n ∷ ns) = ((m : ℕ) (y x : Record K V) → IsIn m ns → record_at rs n ≡ Some y → record_at rs m ≡ Some x → Rel y x) × InOrderBy Rel rs ns
@@ -46,42 +46,42 @@ module _ {K V P S R : Type 0} where
     pub clear : (r : Record K V) → record_at s.records r.number ≡ Some r → nat_lt r.entry.step s.cleared ≡ false
     -- none has an own expiration in an earlier tick
     pub own : (r : Record K V) → record_at s.records r.number ≡ Some r → (expires : ℕ) → r.entry.expires ≡ Some expires → tick_of s.settings now ≤ tick_of s.settings expires
-    -- none is 300 milliseconds or more past its last use plus the idle time, where none was used so long before one in front of it
+    -- none is 300 milliseconds or more past its last use plus the idle time, if none was used that long before one in front of it
     pub idle : InOrderBy IsUsedBefore s.records s.access → (r : Record K V) → record_at s.records r.number ≡ Some r → (time : ℕ) → s.settings.idle ≡ Some time → now < r.entry.used + time + 300000000
 
-  -- ---- where the writes of a record are applied in the order in which they were made
+  -- ---- if the writes of a record are applied in the order in which they were made
 
   pub record IsRising (s : State K V P S R) : Type 0 where
     -- the pending writes of a record rise, each above what was applied of it
     pub rising : Each (λ r. AreRising r.number r.applied s.writes) s.records
-    -- the write list has each admitted record, none twice, and none that is there and not admitted
+    -- the write list has each admitted record, none twice, and none that exists and is not admitted
     pub listed : Each (λ r. is_some r.counts ≡ true → IsIn r.number s.order) s.records
     pub off : Each (λ r. is_some r.counts ≡ false → IsIn r.number s.order → ⊥) s.records
     pub once : AreOnce s.order
     pub below : (n : ℕ) → IsIn n s.order → n < s.next_number
 
-  -- taken through what is pending, the state's own write list goes by steps and moments
+  -- with what is pending applied, the state's own write list is in the order of steps and moments
   abbrev pub IsOrdered : State K V P S R → Type 0
   IsOrdered s = InOrderBy IsWrittenBefore s.records (order_after s.writes s.order)
 
-  -- the state's own write list goes by steps and moments, and has each admitted record
+  -- the state's own write list is in the order of steps and moments, and has each admitted record
   pub record IsLeftInOrder (s : State K V P S R) : Type 0 where
     pub rising : IsRising s
     pub ordered : InOrderBy IsWrittenBefore s.records s.order
     pub listed : Each (λ r. is_some r.counts ≡ true → IsIn r.number s.order) s.records
 
-  -- ---- where moments never fell, and each ticket was sent before the next write or run
+  -- ---- if moments never fell, and each ticket was sent before the next write or run
 
   -- the last call came at this moment and step
   pub record IsTimely (moment step : ℕ) (s : State K V P S R) : Type 0 where
     pub sound : IsSound s
     pub sent : s.unsent ≡ []
     pub rising : IsRising s
-    -- once all that is pending is applied, the write list goes by steps and moments, and has every record that is held
+    -- once everything pending is applied, the write list is in the order of steps and moments, and has every record that is held
     pub ordered : IsOrdered s
     pub listed : Each (λ r. r.is_held ≡ true → IsIn r.number (order_after s.writes s.order)) s.records
     pub latest : Each (λ r. (r.entry.step ≤ step) × (r.entry.written ≤ moment)) s.records
-    -- no own expiration lies in an earlier tick than the last run
+    -- no own expiration is in an earlier tick than the last run
     pub own : Each (λ r. (expires : ℕ) → r.entry.expires ≡ Some expires → tick_of s.settings s.ran ≤ tick_of s.settings expires) s.records
     pub ran : s.ran ≤ moment
     pub range : moment ≤ 9223372036854775807
@@ -91,13 +91,13 @@ module _ (K V P S R : Type 0) where
   abbrev pub RunsLeaveOrder : Type 0
   RunsLeaveOrder = (answers : Answers K V P R) (now : ℕ) (old new : State K V P S R) → IsSound old → IsRising old → IsOrdered old → Runs answers now old new → IsLeftInOrder new
 
-  -- an uncut run leaves none that is due
+  -- an uncut run leaves nothing that is due
   abbrev pub UncutRunsLeaveNoneDue : Type 0
   UncutRunsLeaveNoneDue =
       (answers : Answers K V P R) (moment step now : ℕ) (old new : State K V P S R) → IsTimely moment step old → moment ≤ now → now ≤ 9223372036854775807
       → RunsToEnd answers now old new → LeavesNoneDue now new
 
-  -- and keeps it so
+  -- and keeps this so
   abbrev pub UncutRunsStayTimely : Type 0
   UncutRunsStayTimely =
       (answers : Answers K V P R) (moment step now : ℕ) (old new : State K V P S R) → IsTimely moment step old → moment ≤ now → now ≤ 9223372036854775807
@@ -108,7 +108,7 @@ module _ (K V P S R : Type 0) where
   LookingAtAllSweeps =
       (answers : Answers K V P R) (now : ℕ) (old new : State K V P S R) → IsSound old → old.unsent ≡ [] → Runs answers now old new → NothingIsDue answers now new → IsSwept now old new
 
-  -- as an empty cache is, and calls keep it, each at a moment and a step not before the last, with its ticket sent at once
+  -- so it is for an empty cache, and calls keep it, each at a moment and a step not before the last, if its ticket is sent at once
   pub record CallsStayTimely : Type 0 where
     pub empty : (s : State K V P S R) → s.records ≡ [] → s.access ≡ [] → s.order ≡ [] → s.unsent ≡ [] → s.writes ≡ [] → s.ran ≤ 9223372036854775807 → IsTimely s.ran 0 s
     pub written : (eq : K → K → Bool) (answers : Answers K V P R) (moment step : ℕ) (s : State K V P S R) (key : K) (hash : ℕ) (value : V) (now next : ℕ)

@@ -16,7 +16,7 @@ pub enum Refusal {
     #[error("queue full")]
     QueueFull,
     /// The cache was created without support for predicates.
-    #[error("invalidation closures are disabled")]
+    #[error("invalidation closures disabled")]
     InvalidationClosuresDisabled,
     /// Each identifier that was drawn is registered.
     #[error("ids in use")]

@@ -31,9 +31,9 @@ impl<K: Eq + Hash, V, S: BuildHasher, R: Rules<K, V>> Tables<K, V, S, R> {
         ensures { self.new ≡ record self.old { state = record self.old.state { reads = self.old.state.reads ++ Read.Hit number hash ∷ [] } } }
     {
         self.backlog.push_read(Noted::Hit {
+            hash,
             place: 0,
             number,
-            hash,
         });
     }
 

@@ -7,7 +7,7 @@ use Rattle.engine_reference.specs.declared.data.Record.{Record}
 use Rattle.engine_reference.specs.declared.data.Unsent.{Unsent}
 use Rattle.engine_reference.specs.Calls.{sent}
 use Rattle.engine_reference.specs.Records.{admitted_in}
-use Rattle.engine_reference.specs.Runs.{RunsToEnd, writes, leaves, evicts, first_of}
+use Rattle.engine_reference.specs.Runs.{FrontsAreClean, RunsToEnd, writes, leaves, evicts, first_of}
 use Rattle.engine_reference.specs.Times.{has_come, end_of, is_reached}
 use Rattle.engine_reference.specs.Visible.{is_covered}
 use Rattle.engine_tests.specs.Laws.Playing.{Small, small_answers, new_small, put, put_unsent}
@@ -52,12 +52,23 @@ rows_of_points = record { order = full-order; run = whole; told = refl; kept = r
     oldest : Record ℕ ℕ
     oldest = record { number = 0; hash = 1; entry = record { key = 1; value = 5; step = 1; written = 0; used = 0; expires = None; weight = 1 }; is_held = true; writes = 1; applied = 1; counts = Some 1 }
 
+    clean : FrontsAreClean 9 written_all
+    clean = record {
+      predicates = refl;
+      written = record {
+        live = λ r first held. refl;
+        clear = λ r first held. of_some (λ x. nat_lt x.entry.step 0) (first_of (admitted_in written_all.records written_all.order)) r refl first;
+      };
+      used = λ r first held. refl;
+      timer = λ later r there held. each-at (λ x. is_reached x.entry.expires 9 ≡ false) written_all.records r.number r (refl, (refl, (refl, tt))) there;
+    }
+
     whole : RunsToEnd small_answers 9 full (ended 9 evicted)
     whole = record {
       runs = record {
         stages = applied_one full ∷ applied_one (applied_one full) ∷ written_all ∷ evicted ∷ [];
         last = evicted;
-        steps = (writes _ _ refl refl refl, (writes _ _ refl refl refl, (writes _ _ refl refl refl, (evicts oldest (record { reads = refl; writes = refl }) refl refl refl, refl))));
+        steps = (writes _ _ refl refl refl, (writes _ _ refl refl refl, (writes _ _ refl refl refl, (evicts oldest (record { reads = refl; writes = refl }) clean refl refl refl, refl))));
         applied = record { reads = refl; writes = refl };
         refused = true;
         after = refl;

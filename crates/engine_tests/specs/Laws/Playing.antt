@@ -15,7 +15,7 @@ use Rattle.engine_reference.specs.Visible.{visible_record, visible_value}
 use Rattle.engine_reference.specs.Runs.{after_read, after_write, is_due_for, covers_none, next_to_evict, left}
 use Rattle.engine_reference.specs.Calls.{written, sent, with_read, removed_by}
 
--- each value weighs one (rules 0) or what it is (rules 1); an own expiration of so many nanoseconds (rules above 1)
+-- each value weighs one (rules 0) or what it is (rules 1); an own expiration of this many nanoseconds (rules above 1)
 abbrev pub small_answers : Answers ℕ ℕ ℕ ℕ
 small_answers = record {
   weight_of = λ rules key value. if rules == 1 then value else 1;
@@ -31,7 +31,7 @@ small_answers = record {
 abbrev pub Small : Type 0
 Small = State ℕ ℕ ℕ ℕ ℕ
 
--- a cache of this policy and capacity, made at moment 0
+-- a cache with this policy and capacity, created at moment 0
 abbrev pub new_small : EvictionPolicy → Option ℕ → Option ℕ → Option ℕ → ℕ → Small
 new_small policy capacity live idle rules = record {
   records = [];
@@ -75,7 +75,7 @@ take_out key s = sent s.next_ticket (removed_by nat_eq key s)
 abbrev pub look : (key now : ℕ) → Small → Small
 look key now s = with_read small_answers (visible_record small_answers nat_eq s now key) key now s
 
--- one more than the value that a look-up answers, or 0
+-- one more than the value that a look-up returns, or 0
 abbrev pub seen : (key now : ℕ) → Small → ℕ
 seen key now s = shown (visible_value small_answers nat_eq s now key)
   where
@@ -93,7 +93,7 @@ abbrev write_all : List Write → Small → Small
 write_all [] s = s
 write_all (w ∷ rest) s = write_all rest (after_write w (record s { writes = rest }))
 
--- small capacities want a table of 128 words
+-- small capacities have a table of 128 words
 abbrev with_table : Small → Small
 with_table s = if wants_table s.settings.capacity s.sketch (admitted_weight s.records) then record s { sketch = fresh 128 128 } else s
 
@@ -120,13 +120,13 @@ counted now s = record s { number = admitted_number s.records; weight = admitted
 abbrev applied : Small → Small
 applied s = let t = read_all s.reads s in write_all t.writes t
 
--- all that is pending is applied, then what is dead or covered leaves, then the excess
+-- everything pending is applied, then what is dead or covered leaves, then the excess
 abbrev pub run : ℕ → Small → Small
 run now s =
     let t = with_table (applied s) in
     counted now (evict 8 (end_predicates (sweep now t.records t)))
 
--- ---- what is told, as a number: two digits for each notice, its cause (1 expired, 2 explicit, 3 replaced, 4 size) and its key
+-- ---- what is reported, as a number: two digits for each notice, its cause (1 expired, 2 explicit, 3 replaced, 4 size) and its key
 
 abbrev code_of : RemovalCause → ℕ
 code_of cause.Expired = 1

@@ -1,4 +1,4 @@
--- The rows: what the small cache tells, counts and shows.
+-- The rows: what the small cache reports, counts and shows.
 use Rattle.std.specs.Prelude.{◌≡◌, ℕ, suc, zero, Some, None, true, false, length}
 use Rattle.engine_reference.specs.declared.rules.settings.EvictionPolicy.TheVariants.{TinyLfu, Lru}
 use Rattle.engine_reference.specs.Calls.{is_full, sent, cleared_by, with_predicate}
@@ -21,7 +21,7 @@ pub record RowsOfTimes : Type 0 where
   pub used : seen 1 13999999998 (look 1 6999999999 (put 1 5 0 1 living)) ≡ 6
   -- and does not lengthen the live time
   pub at_live : seen 1 16000000000 (look 1 13000000000 (look 1 6500000000 (put 1 5 0 1 living))) ≡ 0
-  -- a write over a value whose idle time has ended tells it `Expired`, and one just before `Replaced`
+  -- a write over a value whose idle time has ended reports it as `Expired`, and one right before as `Replaced`
   pub expired : told_by (put 1 6 7000000000 2 (put 1 5 0 1 living)) ≡ 11
   pub replaced : told_by (put 1 6 6999999999 2 (put 1 5 0 1 living)) ≡ 31
   -- own expiration 1 s, kept in steps of 4096: an absent value is held until a run
@@ -57,7 +57,7 @@ pub record RowsOfCoverage : Type 0 where
   pub run_tells : told_by (run 9 with_rule) ≡ 21
   pub predicate_left : length (run 9 with_rule).predicates ≡ 0
   pub number : (run 9 with_rule).number ≡ 3
-  -- a removed key is told by whoever removed it, and by no run
+  -- a removed key is reported by whoever removed it, and by no run
   pub removed : told_by (run 9 (take_out 1 (put 1 5 9 1 endless))) ≡ 0
   pub removed_number : (run 9 (take_out 1 (put 1 5 9 1 endless))).number ≡ 0
 
@@ -79,10 +79,10 @@ pub record RowsOfLeastRecentlyUsed : Type 0 where
   -- the record with an unapplied write is passed over: 3 for the write over key 0, 4 for key 1
   pub told_four : told_by (run 0 of_four) ≡ 3041
   pub number_four : (run 0 of_four).number ≡ 4
-  -- its ticket is sent: nothing more is told
+  -- its ticket is sent: nothing more is reported
   pub told_later : told_by (run 0 (sent 1 (run 0 of_four))) ≡ 3041
   pub number_later : (run 0 (sent 1 (run 0 of_four))).number ≡ 4
-  -- without a capacity nothing goes
+  -- without a capacity nothing is evicted
   pub endless_number : (run 0 (put 3 5 0 3 (put 2 5 0 2 (put 1 5 0 1 endless)))).number ≡ 3
   -- what alone is heavier than the capacity is refused
   pub too_heavy : told_by (run 0 (put 1 9 0 1 (new_small Lru (Some 3) None None 1))) ≡ 41
@@ -118,24 +118,24 @@ abbrev heavy_in : Small
 heavy_in = run 0 (put 3 15 0 7 (heavy_asked_for 6 (heavy_asked_for 5 (heavy_asked_for 4 heavy))))
 
 pub record RowsOfFrequencies : Type 0 where
-  -- its weight takes two victims, 2 and then 0, and it has to be asked for more often than both together
+  -- its weight takes two victims, 2 and then 0, and it has to be requested more often than both together
   pub two_victims : told_by heavy_in ≡ 4343434240
-  -- 1 grows to 20, and the one used longest ago goes for the excess
+  -- 1 grows to 20, and the least recently used one is evicted
   pub grown : told_by (run 0 (put 1 20 0 8 heavy_in)) ≡ 43434342403143
   pub grown_weight : (run 0 (put 1 20 0 8 heavy_in)).weight ≡ 20
-  -- refused twice, while it was not asked for more often than the one used longest ago
+  -- refused twice, while it was not requested more often than the least recently used one
   pub once : told_by (asked_for 4 warm) ≡ 43
   pub twice : told_by (asked_for 5 (asked_for 4 warm)) ≡ 4343
-  -- then it comes in for 2
+  -- then it is admitted for 2
   pub third : told_by (run 0 (put 3 5 0 6 (asked_for 5 (asked_for 4 warm)))) ≡ 434342
   pub shown : seen 3 0 (run 0 (put 3 5 0 6 (asked_for 5 (asked_for 4 warm)))) ≡ 6
-  -- a refused write of a record that was written since tells nothing; the later one is judged by itself
+  -- a refused write of a record that was written since reports nothing; the later one is judged by itself
   pub shrunk : told_by (run 0 shrinking) ≡ 32
   pub shrunk_weight : (run 0 shrinking).weight ≡ 11
   -- writes are judged in order: 2 is refused before 1 shrinks
   pub in_order : told_by (run 0 shrinking_other) ≡ 3142
   pub in_order_weight : (run 0 shrinking_other).weight ≡ 1
-  -- counts are kept over a clear: 0, 1, 2 are told, come again, and then 3 comes in for 0
+  -- counts are kept over a clear: 0, 1, 2 are reported, come again, and then 3 is admitted for 0
   pub kept_counts : told_by (run 0 (put 3 5 0 10 (run 0 (put 2 5 0 9 (put 1 5 0 8 (put 0 5 0 7 (run 0 (cleared_by 6 (asked_for 5 (asked_for 4 warm)))))))))) ≡ 434320212240
 
 -- ---- sending

@@ -21,7 +21,7 @@ applied_one s = go s.writes
     go [] = s
     go (w ∷ rest) = after_write w (record s { writes = rest })
 
--- the end of a run, which found no memory for the sketch's table where it lacks one
+-- the end of a run, which found no memory for the sketch's table if it lacks one
 abbrev pub ended : ℕ → Small → Small
 ended now s = record s { number = admitted_number s.records; weight = min (admitted_weight s.records) 18446744073709551615; ran = now; table_refused = lacks_table s }
 
@@ -59,10 +59,10 @@ abbrev sent_sorted : Small
 sent_sorted = sent 2 (sent 1 (sent 0 (put_unsent 2 5 0 3 (put_unsent 1 1 0 2 (put_unsent 1 10 0 1 (new_small TinyLfu (Some 10) None None 1))))))
 
 pub record RowsOfOrder : Type 0 where
-  -- the second key is refused, though never more than 10 was held
+  -- the second key is refused, although never more than 10 was held
   pub kept : kept_weights sent_unsorted.writes ≡ 10 ∷ 6 ∷ 1 ∷ []
   pub refused : told_by (run 9 sent_unsorted) ≡ 3142
-  -- sent in order it comes in
+  -- sent in order it is admitted
   pub kept_sorted : kept_weights sent_sorted.writes ≡ 10 ∷ 1 ∷ 6 ∷ []
   pub admitted : told_by (run 9 sent_sorted) ≡ 31
   pub weight : (run 9 sent_sorted).weight ≡ 6

@@ -5,7 +5,7 @@ ghost use Rattle.engine_cells.specs.Keys.Spots.{IsUnder, OnlyGainsSpace};
 use engine_cells::{Keys, MOST_PLACES};
 use std::alloc::Global;
 
-/// Makes room, at the second try where memory is refused.
+/// Makes room, on the second attempt if memory is refused.
 fn makes_room(keys: &mut Keys, room: usize) -> bool
     ensures stays { OnlyGainsSpace keys.old keys.new }
     ensures room { result ≡ true → room ≤ keys.new.space }
@@ -35,7 +35,7 @@ fn a_place_is_found_by_its_hash_and_a_test(rt: HostRuntime) {
     assert_eq!(rt; found(rt.alloc()), Some((Some(10), None, None)));
 }
 
-/// The hash of a place: one of so many, at these bits.
+/// The hash of a place: one of a number of hashes, at these bits.
 fn hash_of(place: usize, hashes: u64, shift: u32) -> u64
     requires hashes { 0 < hashes }
     requires shift { shift < 64 }
@@ -57,7 +57,7 @@ fn count_found(keys: &Keys, many: usize, hashes: u64, shift: u32) -> usize
     count
 }
 
-/// Puts each place below `many`, and answers whether there was memory for it.
+/// Puts each place below `many`, and returns whether there was memory for it.
 fn put_many(keys: &mut Keys, many: usize, hashes: u64, shift: u32) -> bool
     requires hashes { 0 < hashes }
     requires shift { shift < 64 }
@@ -73,8 +73,8 @@ fn put_many(keys: &mut Keys, many: usize, hashes: u64, shift: u32) -> bool
     true
 }
 
-/// Takes a place where it stands, and puts it where it does not; answers whether it stands then, or
-/// nothing where memory is refused.
+/// Removes a place that is there, and adds one that is not. Returns whether it is there then, or
+/// nothing if memory is refused.
 fn turn(keys: &mut Keys, hash: u64, place: usize) -> Option<bool>
     requires { place < 2 ^ 32 - 1 }
 {

@@ -55,7 +55,7 @@ fn makes_table(tables: &mut OneTable) -> bool {
 }
 
 /// What tables hold: their weight, the place used longest ago, and the first that is due.
-fn held(tables: &OneTable) -> (u128, Option<usize>, Option<usize>) {
+fn held(tables: &OneTable) -> (u64, Option<usize>, Option<usize>) {
     (tables.held_weight(), tables.oldest(), tables.first_due(0))
 }
 

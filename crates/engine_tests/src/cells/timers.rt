@@ -3,7 +3,7 @@ use engine_pending::Expirations;
 use policy_base::Instant;
 use std::alloc::Global;
 
-/// Sets a place, at the second try where memory is refused.
+/// Sets a place, on the second attempt if memory is refused.
 fn set(expirations: &mut Expirations, place: usize, time: Option<u64>) {
     expirations.set(place, time);
     if !expirations.is_whole() {
@@ -36,7 +36,7 @@ fn the_place_that_expires_first_is_found(rt: HostRuntime) {
     assert_eq!(rt; found(rt.alloc()), (None, Some(1), Some(0), Some(2)));
 }
 
-/// Whether there was memory for a timer, at the second try where it is refused.
+/// Whether there was memory for a timer, on the second attempt if it is refused.
 fn is_set(alloc: Global) -> bool {
     let mut expirations = Expirations::new(alloc);
     set(&mut expirations, 3, Some(7));

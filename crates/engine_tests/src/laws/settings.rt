@@ -25,21 +25,27 @@ fn says(alloc: Global, error: PredicateError, text: &str) -> Result<bool, AllocE
     Ok(format!(in alloc; "{error}")?.as_str() == text)
 }
 
+/// Whether a policy is shown so, at the second try if memory is refused.
+fn is_shown(alloc: Global, policy: EvictionPolicy, text: &str) -> bool {
+    shows(alloc, policy, text) == Ok(true) || shows(alloc, policy, text) == Ok(true)
+}
+
 #[test]
 fn texts_of_policies(rt: HostRuntime) {
-    let tiny_lfu = shows(rt.alloc(), EvictionPolicy::default(), "TinyLfu");
-    let lru = shows(rt.alloc(), EvictionPolicy::lru(), "Lru");
-    assert_eq!(rt; (tiny_lfu, lru), (Ok(true), Ok(true)));
+    let tiny_lfu = is_shown(rt.alloc(), EvictionPolicy::default(), "TinyLfu");
+    let lru = is_shown(rt.alloc(), EvictionPolicy::lru(), "Lru");
+    assert_eq!(rt; (tiny_lfu, lru), (true, true));
+}
+
+/// Whether an error has a text, at the second try if memory is refused.
+fn is_said(alloc: Global, error: PredicateError, text: &str) -> bool {
+    says(alloc, error, text) == Ok(true) || says(alloc, error, text) == Ok(true)
 }
 
 #[test]
 fn text_of_a_refusal(rt: HostRuntime) {
-    let refused = says(
-        rt.alloc(),
-        PredicateError::InvalidationClosuresDisabled,
-        "invalidation closures are disabled",
-    );
-    assert_eq!(rt; refused, Ok(true));
+    let refused = PredicateError::InvalidationClosuresDisabled;
+    assert!(rt; is_said(rt.alloc(), refused, "invalidation closures disabled"));
 }
 
 fn times_of(times: &ExpirationPolicy) -> (Option<Duration>, Option<Duration>) {

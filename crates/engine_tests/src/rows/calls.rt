@@ -24,7 +24,7 @@ fn put_once(
     Ok(cache.do_insert_with_hash(key, hash, value, now, step))
 }
 
-/// Writes a value, and answers the ticket.
+/// Writes a value, and returns the ticket.
 pub fn put(
     cache: &mut Numbers,
     key: u32,
@@ -58,7 +58,7 @@ fn remove_once(cache: &mut Numbers, key: u32, now: Instant) -> Removed {
     }
 }
 
-/// Removes a key, and tells its entry.
+/// Removes a key, and reports its entry.
 pub fn remove(cache: &mut Numbers, key: u32, now: Instant) -> Removed {
     match remove_once(cache, key, now) {
         Err(Refusal::OutOfMemory) => remove_once(cache, key, now),

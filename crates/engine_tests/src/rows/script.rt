@@ -37,7 +37,7 @@ pub enum Look {
     Held,
 }
 
-/// What is asked, and what has to come of it.
+/// A call and its expected result.
 #[derive(Clone, Copy)]
 pub enum Row<'a> {
     /// From here on it is that moment, in nanoseconds.
@@ -50,7 +50,7 @@ pub enum Row<'a> {
     HoldsBack(u32, u32, u64, u64),
     /// The write of a ticket is sent.
     Sends(u64, Result<(), Refusal>),
-    /// A key is removed and its entry told: its value, and the ticket of the removal, which is not
+    /// A key is removed and its entry reported: its value, and the ticket of the removal, which is not
     /// sent.
     Removes(u32, Result<Option<(u32, u64)>, Refusal>),
     /// The same in two halves.
@@ -76,7 +76,7 @@ pub enum Row<'a> {
     /// A look at a key is refused.
     Refuses(Look, u32),
     Contains(u32, bool),
-    /// What `get_key_with_hash` answers.
+    /// What `get_key_with_hash` returns.
     Key(u32, Option<u32>),
     /// The keys of the first segment, in any order.
     Keys(&'a [u32]),
@@ -88,12 +88,12 @@ pub enum Row<'a> {
     Number(u64),
     /// What they weigh.
     Weight(u64),
-    /// A value of a key is told next, with its cause.
+    /// The next notice is of a value of a key, with its cause.
     Tells(RemovalCause, u32, u32),
-    /// The keys 0 to 2 are told next, cleared, in any order.
+    /// The next notices are of the keys 0 to 2, cleared, in any order.
     TellsThreeCleared,
     TellsNone,
-    /// Whether removals are told.
+    /// Whether removals are reported.
     Notifies(bool),
     Capacity(Option<u64>),
     /// How long values live after a write and after a use, in nanoseconds.
@@ -103,7 +103,7 @@ pub enum Row<'a> {
     Named(Option<&'a str>),
 }
 
-/// A cache, and what is asked of it.
+/// A cache, and the calls on it.
 #[derive(Clone, Copy)]
 pub struct Case<'a> {
     pub name: Option<&'a str>,
@@ -111,12 +111,12 @@ pub struct Case<'a> {
     /// How long each value lives by its own time, in nanoseconds.
     pub own: Option<u64>,
     pub weighs: Weighs,
-    /// What is asked first, where other cases ask it too.
+    /// The calls that come first, if other cases have them too.
     pub before: &'a [Row<'a>],
     pub rows: &'a [Row<'a>],
 }
 
-/// The least recently used leaves above the capacity, if there is one; removals are told,
+/// The least recently used leaves above the capacity, if there is one; removals are reported,
 /// predicates are taken, and there are no times.
 pub const SETTINGS: Settings = Settings {
     capacity: None,
@@ -128,7 +128,7 @@ pub const SETTINGS: Settings = Settings {
     made: 0,
 };
 
-/// A case without a name, with these settings and weights of one, of which nothing is asked.
+/// A case without a name and without calls, with these settings and weights of one.
 pub const CASE: Case<'static> = Case {
     name: None,
     settings: SETTINGS,
@@ -162,13 +162,13 @@ fn puts_often(cache: &mut Numbers, key: u32, value: u32, now: Instant, end: u64)
     true
 }
 
-/// A run for which there is memory, at the second try where it is refused: the first has done all
+/// A run for which there is memory, on the second attempt if it is refused: the first has done all
 /// the rest.
 fn runs_whole(cache: &mut Numbers, now: Instant) -> bool {
     cache.try_run_pending_tasks(now).is_ok() || cache.try_run_pending_tasks(now).is_ok()
 }
 
-/// The keys of a segment, at the second try where memory is refused.
+/// The keys of a segment, on the second attempt if memory is refused.
 fn keys(cache: &Numbers, segment: usize) -> Result<Option<Vec<u32>>, AllocError> {
     match cache.keys(segment) {
         Ok(found) => Ok(found),
@@ -238,7 +238,7 @@ fn has_times(cache: &Numbers, live: Option<u64>, idle: Option<u64>) -> bool {
     policy.time_to_live() == duration(live) && policy.time_to_idle() == duration(idle)
 }
 
-/// Writes, sends, removes or clears, and answers whether it came out so.
+/// Writes, sends, removes or clears, and returns whether the result was the expected one.
 fn writes_so(cache: &mut Numbers, now: Instant, row: Row<'_>) -> bool {
     match row {
         Row::At(_) => true,
@@ -258,7 +258,7 @@ fn writes_so(cache: &mut Numbers, now: Instant, row: Row<'_>) -> bool {
     }
 }
 
-/// Registers a predicate or runs, and answers whether it came out so.
+/// Registers a predicate or runs, and returns whether the result was the expected one.
 fn runs_so(cache: &mut Numbers, now: Instant, row: Row<'_>) -> bool {
     match row {
         Row::Invalidates(value, step, word, wanted) => {
@@ -284,7 +284,7 @@ fn runs_so(cache: &mut Numbers, now: Instant, row: Row<'_>) -> bool {
     }
 }
 
-/// Looks for keys or is told of them, and answers whether it came out so.
+/// Looks for keys or takes notices, and returns whether the result was the expected one.
 fn looks_so(cache: &mut Numbers, now: Instant, row: Row<'_>) -> bool {
     match row {
         Row::Shows(by, key, wanted) => shown(cache, by, key, now) == Ok(wanted),
@@ -325,8 +325,8 @@ fn moment_from(row: Row<'_>, now: Instant) -> Instant {
     }
 }
 
-/// Asks one row after another from moment 0 on, and answers the place of the first that did not
-/// come out so, counted from the first of those before.
+/// Asks one row after another from moment 0 on, and returns the place of the first that failed,
+/// counted from the first of those before.
 fn wrong_row(cache: &mut Numbers, case: &Case<'_>) -> Option<usize> {
     let mut now = at(0);
     for (place, row) in case.before.iter().chain(case.rows.iter()).enumerate() {
@@ -363,7 +363,7 @@ fn made(alloc: Global, case: &Case<'_>) -> Result<Numbers, AllocError> {
     )
 }
 
-/// The same, at the second try where memory is refused.
+/// The same, on the second attempt if memory is refused.
 pub fn empty_cache(alloc: Global, case: &Case<'_>) -> Result<Numbers, AllocError> {
     match made(alloc, case) {
         Ok(cache) => Ok(cache),
@@ -380,8 +380,7 @@ fn wrong_row_of(alloc: Global, case: &Case<'_>) -> Option<usize> {
     }
 }
 
-/// Plays these cases, and answers the first that did not come out so, and the place of its first
-/// row that did not.
+/// Plays these cases, and returns the first that failed, and the place of its first failing row.
 fn first_wrong(alloc: Global, cases: &[Case<'_>]) -> Option<(usize, usize)> {
     for (number, case) in cases.iter().enumerate() {
         if let Some(place) = wrong_row_of(alloc, case) {

@@ -4,7 +4,7 @@ use std::alloc::AllocError;
 /// The number of which there is no clone.
 pub const NOT_CLONED: u32 = 13;
 
-/// A number whose clone is refused where it is `NOT_CLONED`, as if memory were refused.
+/// A number whose clone is refused if it is `NOT_CLONED`, as if memory were refused.
 #[derive(Drop)]
 pub struct Brittle {
     pub number: u32,

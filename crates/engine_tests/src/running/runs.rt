@@ -33,7 +33,7 @@ fn tables_of(
     Tables::new(alloc, None, SETTINGS, hasher, rules)
 }
 
-/// New tables, at the second try where memory is refused.
+/// New tables, on the second attempt if memory is refused.
 fn made(alloc: Global) -> Result<OneTable, AllocError>
     ensures { IfOk result (λ made. ∥ IsSound made.state ∥₁) }
 {
@@ -43,7 +43,7 @@ fn made(alloc: Global) -> Result<OneTable, AllocError>
     }
 }
 
-/// Runs, at the second try where memory is refused.
+/// Runs, on the second attempt if memory is refused.
 fn run(tables: &mut OneTable) -> Result<(), AllocError>
     requires { ∥ IsSound tables.old.state ∥₁ }
 {

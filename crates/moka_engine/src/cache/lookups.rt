@@ -53,7 +53,7 @@ impl<K: Eq + Hash, V, S: BuildHasher, R: Rules<K, V>> BaseCache<K, V, S, R> {
         Ok(value)
     }
 
-    /// A look-up without a clone: `see` is handed the visible value of a key, if there is one, and what is behind `output`. Where it answers `Ok` this is a use of the value, and maintenance runs before it where it is due. An `Err` changes nothing.
+    /// A look-up without a clone: `see` is handed the visible value of a key, if there is one, and what is behind `output`. If it returns `Ok`, this is a use of the value, and maintenance runs before it if it is due. An `Err` changes nothing.
     pub fn look_up_with_hash<
         Q: Names<K>,
         O,

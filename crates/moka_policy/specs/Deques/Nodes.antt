@@ -21,7 +21,7 @@ abbrev pub with_access_at : {K : Type 0} → Option (Slot K) → ℕ → Option 
 with_access_at None entry name entries = entries
 with_access_at (Some s) entry name entries = with_value entries entry (record s { nodes = record s.nodes { access_queue = name } })
 
--- the entries, one of them under this name in the access-order queues
+-- the entries, with one of them under this name in the access-order queues
 abbrev pub with_access_node : {K : Type 0} → ℕ → Option NodeId → Slab (Slot K) → Slab (Slot K)
 with_access_node entry node entries = with_access_at (get entries entry) entry node entries
 
@@ -29,17 +29,17 @@ abbrev pub with_write_at : {K : Type 0} → Option (Slot K) → ℕ → Option N
 with_write_at None entry name entries = entries
 with_write_at (Some s) entry name entries = with_value entries entry (record s { nodes = record s.nodes { write_queue = name } })
 
--- the entries, one of them under this name in the write-order queue
+-- the entries, with one of them under this name in the write-order queue
 abbrev pub with_write_node : {K : Type 0} → ℕ → Option NodeId → Slab (Slot K) → Slab (Slot K)
 with_write_node entry node entries = with_write_at (get entries entry) entry node entries
 
--- an entry came to the back of a queue, and knows its node
+-- an entry was appended to a queue, and knows its node
 pub record PushesEntry {K : Type 0} (knows : ℕ → Option NodeId → Slab (Slot K) → Slab (Slot K)) (region : CacheRegion) (node : KeyHashDate) (old new : Queues) (before after : Slab (Slot K)) : Type 0 where
   pub id : NodeId
   pub pushed : Changes region (λ o n. Pushes o n id node) old new
   pub known : after ≡ knows node.entry (Some id) before
 
--- an entry without a node stays as it is; else it forgets its node
+-- an entry without a node stays as it is; otherwise it forgets its node
 abbrev pub forgets : {K : Type 0} → (ℕ → Option NodeId → Slab (Slot K) → Slab (Slot K)) → ℕ → Option NodeId → Slab (Slot K) → Slab (Slot K)
 forgets knows entry None entries = entries
 forgets knows entry (Some id) entries = knows entry None entries

@@ -19,14 +19,14 @@ pub record Queues : Type 0 where
   pub protected : Queue KeyHashDate
   pub write_order : Queue KeyHashDate
 
--- the queue of a region; `Other` is the write-order queue's
+-- the queue of a region; that of `Other` is the write-order queue
 abbrev pub queue_of : CacheRegion → Queues → Entries
 queue_of Window queues = queues.window
 queue_of MainProbation queues = queues.probation
 queue_of MainProtected queues = queues.protected
 queue_of Other queues = queues.write_order
 
--- the queues, with another in the place of that of a region
+-- the queues, with another one in the place of that of a region
 abbrev pub with_queue : CacheRegion → Queues → Entries → Queues
 with_queue Window queues queue = record queues { window = queue }
 with_queue MainProbation queues queue = record queues { probation = queue }
@@ -47,7 +47,7 @@ pub record IsNewQueue (region : CacheRegion) (queue : Entries) : Type 0 where
   pub cursor : queue.cursor ≡ Unstarted
   pub next_serial : queue.next_serial ≡ 0
 
--- one queue changed in this way, and the others are as they were
+-- one queue is changed like this, and the others are as they were
 pub record Changes (region : CacheRegion) (P : Entries → Entries → Type 0) (old new : Queues) : Type 0 where
   pub others : new ≡ with_queue region old (queue_of region new)
   pub changed : P (queue_of region old) (queue_of region new)
@@ -57,12 +57,12 @@ abbrev pub HasNode : Option NodeId → Entries → Type 0
 HasNode None queue = ⊤
 HasNode (Some id) queue = IsSome (find id queue.nodes)
 
--- a node, if there is one, went to the back of this queue
+-- a node, if there is one, was moved to the back of this queue
 abbrev pub MovesNode : Option NodeId → Entries → Entries → Type 0
 MovesNode None old new = new ≡ old
 MovesNode (Some id) old new = MovesToBack old new id
 
--- a node, if there is one, left this queue
+-- a node, if there is one, was removed from this queue
 abbrev pub LosesNode : Option NodeId → Entries → Entries → Type 0
 LosesNode None old new = new ≡ old
 LosesNode (Some id) old new = Leaves old new id
@@ -72,30 +72,30 @@ abbrev pub HasAccessNode : Option NodeId → Queues → Type 0
 HasAccessNode None queues = ⊤
 HasAccessNode (Some id) queues = IsSome (find id (access_nodes id.queue queues))
 
--- a node, if there is one, went to the back of its queue
+-- a node, if there is one, was moved to the back of its queue
 abbrev pub MovesAccessNode : Option NodeId → Queues → Queues → Type 0
 MovesAccessNode None old new = new ≡ old
 MovesAccessNode (Some id) old new = Changes id.queue (λ o n. MovesToBack o n id) old new
 
--- a node, if there is one, left its queue
+-- a node, if there is one, was removed from its queue
 abbrev pub LosesAccessNode : Option NodeId → Queues → Queues → Type 0
 LosesAccessNode None old new = new ≡ old
 LosesAccessNode (Some id) old new = Changes id.queue (λ o n. Leaves o n id) old new
 
--- nothing changed, but that more pushes may need no memory
+-- nothing changed, except that more pushes may need no allocation
 pub record AllStay (old new : Queues) : Type 0 where
   pub window : Stays old.window new.window
   pub probation : Stays old.probation new.probation
   pub protected : Stays old.protected new.protected
   pub write_order : Stays old.write_order new.write_order
 
--- so many pushes on each queue need no memory
+-- this many pushes on each queue need no allocation
 pub record HaveRoom (n : ℕ) (queues : Queues) : Type 0 where
   pub window : n ≤ queues.window.room
   pub probation : n ≤ queues.probation.room
   pub protected : n ≤ queues.protected.room
   pub write_order : n ≤ queues.write_order.room
 
--- one of the queues has not so many serials left
+-- one of the queues does not have this many serials left
 abbrev pub LackSerials : ℕ → Queues → Type 0
 LackSerials n queues = (region : CacheRegion) × (2 ^ 64 - 1 < (queue_of region queues).next_serial + n)

@@ -12,10 +12,6 @@ use Rattle.policy_queue.specs.declared.timers.events.TimerEvent.TheVariants.{Exp
 use Rattle.policy_queue.specs.Timers.Entries.{due_of}
 use Rattle.policy_queue.specs.Timers.Events.{Step}
 
--- a timer's record
-abbrev pub TheNode : Type 0
-TheNode = TimerNode
-
 -- the entry's time has come
 pub record IsDue {K : Type 0} (entries : Slab (Slot K)) (now entry : ℕ) : Type 0 where
   pub due : Due
@@ -35,8 +31,8 @@ abbrev pub given_of : {K : Type 0} → Slab (Slot K) → List Timer → List Tim
 given_of entries [] = []
 given_of entries (t ∷ rest) = given_at (due_of entries t.node.entry_info) t.node (given_of entries rest)
 
--- what an advance run to its end gives: each timer that it gives is due; and where all were placed under their entries' times, the timers that
--- left are those that it gives, each once, and some without a time, and all others stay
+-- what an advance that runs to its end returns: each timer that it returns is due; and if all were placed under their entries' times, the
+-- timers that left are those that it returns, each once, and some without a time, and all others stay
 pub record Drains {K : Type 0} (entries : Slab (Slot K)) (now : ℕ) (before after : List Timer) (nodes : List TimerNode) : Type 0 where
   pub due : All (λ node. IsDue entries now node.entry_info) nodes
   pub later : All (λ t. now < t.placed) after
@@ -44,14 +40,14 @@ pub record Drains {K : Type 0} (entries : Slab (Slot K)) (now : ℕ) (before aft
   pub given : given_of entries left ≡ nodes
   pub parts : ArePlaced entries before → IsPermutation before (left ++ after)
 
--- the records of the timers that these events give
+-- the records of the timers that these events return
 abbrev pub nodes_of : List TimerEvent → List TimerNode
 nodes_of [] = []
 nodes_of (Expired node ∷ rest) = node ∷ nodes_of rest
 nodes_of (Rescheduled u ∷ rest) = nodes_of rest
 nodes_of (Descheduled ∷ rest) = nodes_of rest
 
--- an advance in a later tick that gives these events and then ends
+-- an advance in a later tick that returns these events and then ends
 abbrev pub Advances : {K : Type 0} → List TimerEvent → Slab (Slot K) → ℕ → List Timer → List Timer → Type 0
 Advances {K} [] entries now before after = (new : Slab (Slot K)) × Step entries new now before after None
 Advances {K} (event ∷ rest) entries now before after = (new : Slab (Slot K)) × (next : List Timer) × Step entries new now before next (Some event) × Advances rest new now next after

@@ -26,11 +26,11 @@ abbrev pub AreBelow : ℕ → List Timer → Type 0
 AreBelow next [] = Unit {0}
 AreBelow next (t ∷ rest) = (t.id.serial < next) × AreBelow next rest
 
--- what the slab has of a timer: when it was placed, and its serial
+-- what the slab has for a timer: when it was placed, and its serial
 abbrev pub stored_of : Timer → ℕ × ℕ
 stored_of t = (t.placed, t.id.serial)
 
--- the slab says of each timer's name which its key is
+-- the slab says for each timer's name which key it has
 abbrev pub AreStored : Slab (ℕ × ℕ) → List Timer → Type 0
 AreStored slots [] = Unit {0}
 AreStored slots (t ∷ rest) = (get slots t.id.slot ≡ Some (stored_of t)) × AreStored slots rest
@@ -46,7 +46,7 @@ pub record IsWheel (timers : List Timer) (slots : Slab (ℕ × ℕ)) (next : ℕ
   pub arranged : IsArranged timers slots
   pub below : AreBelow next timers
 
--- a timer, the one in the place of this number, was put at another time
+-- a timer, the one in the place with this number, was moved to another time
 pub record MovesTo (k : ℕ) (old new : List Timer) (t : Timer) (time generation : ℕ) : Type 0 where
   pub before : List Timer
   pub after : List Timer

@@ -20,7 +20,7 @@ pending now ts = count_by (λ t. nat_le t.placed now) ts
 abbrev pub HaveNoTime : {K : Type 0} → Slab (Slot K) → List Timer → Type 0
 HaveNoTime entries ts = All (λ t. due_of entries t.node.entry_info ≡ None) ts
 
--- a timer leaves, since its entry's time has come
+-- a timer leaves, because its entry's time has come
 pub record Expires {K : Type 0} (entries : Slab (Slot K)) (now : ℕ) (before after : List Timer) (node : TimerNode) : Type 0 where
   pub timer : Timer
   pub recorded : timer.node ≡ node
@@ -30,7 +30,7 @@ pub record Expires {K : Type 0} (entries : Slab (Slot K)) (now : ℕ) (before af
   pub reached : due.time ≤ now
   pub placed : timer.placed ≤ now
 
--- a timer stays, since its entry's time is yet to come, and stands there from now on
+-- a timer stays, because its entry's time is yet to come, and has that time from now on
 pub record Postpones {K : Type 0} (entries : Slab (Slot K)) (now : ℕ) (before after : List Timer) : Type 0 where
   pub timer : Timer
   pub others : List Timer
@@ -48,7 +48,7 @@ EventIs entries now before after (Some (Expired node)) = Expires entries now bef
 EventIs entries now before after (Some (Rescheduled u)) = Postpones entries now before after
 EventIs entries now before after (Some Descheduled) = ⊥
 
--- the entries after an event: the entry of a timer that expired has no timer, and all else is as it was
+-- the entries after an event: the entry of a timer that expired has no timer, and everything else is as it was
 abbrev pub entries_after : {K : Type 0} → Option TimerEvent → Slab (Slot K) → Slab (Slot K)
 entries_after None entries = entries
 entries_after (Some (Expired node)) entries = forgotten node.entry_info entries

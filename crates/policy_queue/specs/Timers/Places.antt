@@ -10,7 +10,7 @@ use Rattle.policy_queue.specs.Timers.Array.{key_at, key_of}
 abbrev pub ThePlace : Type 0
 ThePlace = Place
 
--- the timer that stands in a place
+-- the timer in a place
 abbrev pub timer_at : Place → Timer
 timer_at p = record { placed = p.placed; id = record { queue = Other; serial = p.serial; slot = p.slot }; node = record { entry_info = p.entry; expiry_gen = p.expiry_gen } }
 
@@ -35,7 +35,7 @@ abbrev pub taken : List Place → List Timer
 taken [] = []
 taken (p ∷ ps) = with_timer p.is_taken (timer_at p) (taken ps)
 
--- these places may stand behind one of this key
+-- these places may come after one with this key
 abbrev pub AreAbove : ℕ → List Place → Type 0
 AreAbove low [] = Unit {0}
 AreAbove low (p ∷ ps) = (low < height_in p) × AreAbove low ps
@@ -65,26 +65,26 @@ abbrev pub StartsTaken : List Place → Type 0
 StartsTaken [] = Unit {0}
 StartsTaken (p ∷ ps) = p.is_taken ≡ true
 
--- the place of this number is spare
+-- the place with this number is spare
 abbrev pub IsSpare : List Place → ℕ → Type 0
 IsSpare ps k = (k < length ps) × ((d : Place) → (slice_index_or ps k d).is_taken ≡ false)
 
--- a timer stands in the place of this number
+-- there is a timer in the place with this number
 abbrev pub IsTaken : List Place → ℕ → Type 0
 IsTaken ps k = (k < length ps) × ((d : Place) → (slice_index_or ps k d).is_taken ≡ true)
 
--- a timer of this name stands in the place of this number
+-- there is a timer with this name in the place with this number
 abbrev pub IsNamed : List Place → NodeId → ℕ → Type 0
 IsNamed ps id k = (k < length ps) × ((d : Place) → ((slice_index_or ps k d).is_taken ≡ true) × ((timer_at (slice_index_or ps k d)).id ≡ id))
 
--- a timer came
+-- a timer was added
 pub record Comes (old new : List Timer) (t : Timer) : Type 0 where
   pub before : List Timer
   pub after : List Timer
   pub was : old ≡ before ++ after
   pub is : new ≡ before ++ t ∷ after
 
--- a timer left: the one in the place of this number
+-- a timer was removed: the one in the place with this number
 pub record Goes (k : ℕ) (old new : List Timer) (t : Timer) : Type 0 where
   pub before : List Timer
   pub after : List Timer
@@ -92,7 +92,7 @@ pub record Goes (k : ℕ) (old new : List Timer) (t : Timer) : Type 0 where
   pub was : old ≡ before ++ t ∷ after
   pub is : new ≡ before ++ after
 
--- this timer stands in the first place
+-- this timer is in the first place
 abbrev pub IsFirst : List Place → Timer → Type 0
 IsFirst [] t = ⊥
 IsFirst (p ∷ ps) t = (p.is_taken ≡ true) × (t ≡ timer_at p)
@@ -103,7 +103,7 @@ pub record IsRow (front : ℕ) (places : List Place) : Type 0 where
   pub spread : IsSpread (drop front places)
   pub starts : StartsTaken (drop front places)
 
--- the places, how many fit with no memory, and how many of those behind the last
+-- the places, how many fit without allocating, and how many of those after the last
 pub record Spread : Type 0 where
   pub places : List Place
   pub capacity : ℕ

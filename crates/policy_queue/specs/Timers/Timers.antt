@@ -1,4 +1,4 @@
--- A wheel as its callers see it: a moment and a collection of timers, in no order of note.
+-- A wheel as its callers see it: a moment and an unordered collection of timers.
 use Rattle.std.specs.Prelude.{◌≡◌, ◌≢◌, ℕ, ◌+◌, ◌-◌, ◌/◌, ◌^◌, ◌<◌, ◌≤◌, List, ◌∷◌, Option, Some, None, Bool}
 use Rattle.std.specs.List.{All}
 use Rattle.std.specs.List.Sorted.{IsPermutation}
@@ -14,8 +14,8 @@ use Rattle.policy_queue.specs.declared.timers.wheel.ScheduleError.{ScheduleError
 use Rattle.policy_queue.specs.declared.timers.wheel.ScheduleError.TheVariants.{OutOfMemory, UsedUp}
 use Rattle.policy_queue.specs.Timers.Entries.{due_of}
 
--- whether it is enabled, the moment of its making, the moment up to which timers were given, the timers, the next serial, and how many more
--- timers fit with no memory
+-- whether it is enabled, the moment of its creation, the moment up to which timers were returned, the timers, the next serial, and how many
+-- more timers need no allocation
 pub record Timers : Type 0 where
   pub is_enabled : Bool
   pub origin : ℕ
@@ -32,11 +32,11 @@ TheTimer = Timer
 abbrev pub moved : Timer → ℕ → ℕ → Timer
 moved t time generation = record t { placed = time; node = record t.node { expiry_gen = generation } }
 
--- the number of a moment's tick, counted from the making
+-- the number of a moment's tick, counted from the creation
 abbrev pub tick : ℕ → ℕ → ℕ
 tick origin moment = (moment - origin) / 2 ^ 30
 
--- all but the timers and the room is as it was, and there is no less room
+-- everything but the timers and the room is as it was, and there is no less room
 pub record Keeps (old new : Timers) : Type 0 where
   pub is_enabled : new.is_enabled ≡ old.is_enabled
   pub origin : new.origin ≡ old.origin
@@ -44,12 +44,12 @@ pub record Keeps (old new : Timers) : Type 0 where
   pub next_serial : new.next_serial ≡ old.next_serial
   pub room : old.room ≤ new.room
 
--- nothing changed, but that there may be more room
+-- nothing changed, except that there may be more room
 pub record OnlyGainsRoom (old new : Timers) : Type 0 where
   pub same : new ≡ record old { room = new.room }
   pub room : old.room ≤ new.room
 
--- a timer came, under a new name
+-- a timer was added, under a new name
 pub record Schedules (old new : Timers) (entry : ℕ) (id : NodeId) (due : Due) : Type 0 where
   pub timers : IsPermutation ((record { placed = due.time; id = id; node = record { entry_info = entry; expiry_gen = due.expiry_gen } }) ∷ old.timers) new.timers
   pub serial : id.serial ≡ old.next_serial
@@ -70,14 +70,14 @@ abbrev pub TimerRefusedWell : Timers → ScheduleError → Type 0
 TimerRefusedWell w OutOfMemory = (w.room ≡ 0) × (w.next_serial < 2 ^ 64 - 1)
 TimerRefusedWell w UsedUp = 2 ^ 64 - 1 ≤ w.next_serial
 
--- the timer of this name left, and nothing else changed
+-- the timer of this name was removed, and nothing else changed
 pub record TimerLeaves (old new : List Timer) (id : NodeId) (node : TimerNode) : Type 0 where
   pub timer : Timer
   pub named : timer.id ≡ id
   pub recorded : timer.node ≡ node
   pub timers : IsPermutation old (timer ∷ new)
 
--- a timer was put at its entry's time, and keeps its name
+-- a timer was moved to its entry's time, and keeps its name
 pub record Moves {K : Type 0} (entries : Slab (Slot K)) (old new : List Timer) (id : NodeId) : Type 0 where
   pub timer : Timer
   pub named : timer.id ≡ id
@@ -87,7 +87,7 @@ pub record Moves {K : Type 0} (entries : Slab (Slot K)) (old new : List Timer) (
   pub is_due : due_of entries timer.node.entry_info ≡ Some due
   pub after : IsPermutation (moved timer due.time due.expiry_gen ∷ others) new
 
--- a timer was put at another time, and keeps its name
+-- a timer was moved to another time, and keeps its name
 pub record Replaces (old new : List Timer) (id : NodeId) (due : Due) : Type 0 where
   pub timer : Timer
   pub named : timer.id ≡ id

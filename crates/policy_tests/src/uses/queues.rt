@@ -29,7 +29,7 @@ fn push_reserved(queue: &mut Deque<u64>, element: u64)
     }
 }
 
-/// Puts a node to the back where the queue still has it, and says whether it does.
+/// Moves a node to the back if the queue still has it, and returns whether it does.
 fn use_again(queue: &mut Deque<u64>, id: NodeId) -> bool
     ensures found { IsTrue result ↔ IsSome (find id queue.old.nodes) }
     ensures moved { OnTrue result (MovesToBack queue.old queue.new id) }

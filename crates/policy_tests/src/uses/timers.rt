@@ -61,7 +61,7 @@ fn schedules_all(wheel: &mut TimerWheel<u8>, entries: &Slab<Slot<u8>>) -> bool {
     true
 }
 
-/// Whether a wheel is enabled and stands at the moment 0.
+/// Whether a wheel is enabled and is at the moment 0.
 fn is_at_start(wheel: &TimerWheel<u8>) -> bool
     ensures enabled { result ≡ true → wheel.now.is_enabled ≡ true }
     ensures moment { result ≡ true → wheel.now.moment ≡ 0 }

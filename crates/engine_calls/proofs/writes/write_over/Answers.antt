@@ -1,4 +1,4 @@
-use Rattle.std.proofs.Common.{◌≡◌, ap, sym, ◌∙◌}
+use Rattle.std.proofs.Common.{◌≡◌, true, ap, sym, ◌∙◌}
 use Rattle.std.proofs.lemmas.Bool.{and_parts}
 use Rattle.std.proofs.lemmas.Option.{same_Some}
 use Rattle.engine_reference.specs.Asking.{answers_of}
@@ -27,7 +27,7 @@ returns g c =
     let h = c.requires.held in
     let l = c.write_over.ensures in
     let same : l.0 ≡ h.0 = same_Some _ _ (sym l.1 ∙ h.1) in
-    let why = c.cause_of_write-cause.ensures h.0 h.1 ∙ ap (λ n. cause_of_write a s n (h.0).entry) c.as_nanos.ensures.nanos in
+    let why : s.settings.tells ≡ true → c.cause_of_write-cause.result ≡ cause_of_write a s c.args.now (h.0).entry = λ tells. c.cause_of_write-cause.ensures h.0 h.1 tells ∙ ap (λ n. cause_of_write a s n (h.0).entry) c.as_nanos.ensures.nanos in
     ap (λ t. t.state) l.2
     ∙ ap (λ (x : Record g.row.K.Denot g.row.V.Denot). over s c.next_entry-entry.result c.cause_of_write-cause.result x) same
     ∙ over-written a s c.args.key c.args.hash c.args.value c.args.now c.args.step c.next_entry-entry.result c.cause_of_write-cause.result h.0 (c.next_entry-entry.ensures h.0 h.1) why h.3

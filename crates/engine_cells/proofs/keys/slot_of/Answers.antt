@@ -12,4 +12,4 @@ unreachable-requires c =
     let fits = c.requires.2 in
     let within = taken-within xs c.requires.0 (omega (arith, ap (λ s. s.place) there)) in
     all-seen (length xs) c.home_of-home.result (λ k. slot_at xs k ≡ record { tag = c.args.tag; place = c.args.place } → ⊥) (omega (arith, c.home_of-home.ensures.within))
-    (λ t less. subst (λ n. slot_at xs (steps_on n c.home_of-home.result t) ≡ record { tag = c.args.tag; place = c.args.place } → ⊥) many (c.loop-steps.invariant t (omega arith))) c.requires.0 within there
+    (λ t less. subst (λ n. slot_at xs (steps_on n c.home_of-home.result t) ≡ record { tag = c.args.tag; place = c.args.place } → ⊥) many (c.loop-steps.invariant.seen t (omega arith))) c.requires.0 within there

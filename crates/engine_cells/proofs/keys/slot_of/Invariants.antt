@@ -3,4 +3,7 @@ use Rattle.engine_cells.specs.Keys.Slots.{slot_at, steps_on}
 use Rattle.engine_cells.proofs.keys.slot_of.Given as goal
 
 abbrev pub invariant-loop-steps : goal.invariant-loop-steps
-invariant-loop-steps l = (t : ℕ) → t < l.steps → slot_at l.slots.items (steps_on l.many l.home t) ≡ record { tag = l.tag; place = l.place } → ⊥
+invariant-loop-steps l = record {
+  at : l.at ≡ steps_on l.many l.home l._steps;
+  seen : (t : ℕ) → t < l._steps → slot_at l.slots.items (steps_on l.many l.home t) ≡ record { tag = l.tag; place = l.place } → ⊥;
+}

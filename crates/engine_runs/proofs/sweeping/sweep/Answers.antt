@@ -4,7 +4,7 @@ use Rattle.engine_runs.proofs.sweeping.sweep.Goals as goal
 pub loop-place-init : goal.loop-place-init
 loop-place-init g c = record {
   stretch = λ answers. stretch-start answers c.args.now c.args.tables.now.state;
-  applied = c.requires;
+  applied = c.requires.applied;
   rest = rest-start c.args.tables.now.state;
 }
 

@@ -105,7 +105,7 @@ returns-clause-vacant g c =
 
 pub with-self-inside-requires : goal.with-self-inside-requires
 with-self-inside-requires g c =
-    let fits = tally-fits c.self.inside.cells.slots c.self.inside.tally c.self.invariant.tallied (omega (arith, c.capacity-many.ensures.holds_all, c.capacity-many.type_inv)) in
+    let fits = tally-fits c.self.inside.cells.slots c.self.inside.tally c.self.invariant.tallied (omega (arith, c.capacity-many.ensures.holds_all, c.capacity-many.ensures.fits)) in
     let number = fits.number in
     record { held = fits.held; weight = fits.weight; number = omega (arith, number) }
 

@@ -98,7 +98,7 @@ without-others-requires g c =
 
 pub with-self-inside-requires : goal.with-self-inside-requires
 with-self-inside-requires g c =
-    let fits = tally-fits c.self.inside.cells.slots c.self.inside.tally c.self.invariant.tallied (omega (arith, c.len-many.ensures, c.len-many.type_inv)) in
+    let fits = tally-fits c.self.inside.cells.slots c.self.inside.tally c.self.invariant.tallied (omega (arith, c.capacity-many.ensures.holds_all, c.capacity-many.ensures.fits)) in
     let less = fits-less c.self.inside.tally c.without-others.result c.index_mut-cell.result.now fits c.without-others.ensures in
     let number = less.number in
     record { held = less.held; weight = less.weight; number = omega (arith, number) }

@@ -5,11 +5,6 @@ use Rattle.engine_cells.proofs.Spotting.{spotted-roomier}
 use Rattle.engine_cells.proofs.Totals.{number-below, places-gained, places-grown}
 use Rattle.engine_tables.proofs.tables.Tables.make_more_room.Goals as goal
 
-pub overflow_cast-waiting : goal.overflow_cast-waiting
-overflow_cast-waiting g c =
-    let below = number-below c.self.inside.cells.slots c.self.inside.tally c.self.invariant.tallied in
-    omega (arith, below, c.len.ensures, c.len.type_inv)
-
 pub overflow_sub-waiting : goal.overflow_sub-waiting
 overflow_sub-waiting g c =
     let below = number-below c.self.inside.cells.slots c.self.inside.tally c.self.invariant.tallied in

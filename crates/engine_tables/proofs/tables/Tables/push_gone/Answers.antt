@@ -22,7 +22,7 @@ invariant_of-self g c =
       order = c.self.invariant.order;
       notices = c.self.invariant.notices;
       tallied = c.self.invariant.tallied;
-      aimed = aims-noted cells c.self.inside.next_number (Hit 0 c.args.number c.args.hash) (
+      aimed = aims-noted cells c.self.inside.next_number (Hit c.args.hash 0 c.args.number) (
         made,
         λ i d at same.
             let e : None ≡ Some d = sym gone ∙ ap (λ n. record_at (records_by_number cells) n) (sym same) ∙ record_at-there cells i d c.self.invariant.kept.apart at in
@@ -38,4 +38,4 @@ invariant_of-self g c =
     })
 
 pub returns : goal.returns
-returns g c = rw (← c.self.view_is, c.push_read.ensures, map-append read_of c.self.inside.backlog.reads (Hit 0 c.args.number c.args.hash ∷ [])) refl
+returns g c = rw (← c.self.view_is, c.push_read.ensures, map-append read_of c.self.inside.backlog.reads (Hit c.args.hash 0 c.args.number ∷ [])) refl

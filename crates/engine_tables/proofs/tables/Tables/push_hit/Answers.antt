@@ -25,7 +25,7 @@ invariant_of-self g c =
       order = c.self.invariant.order;
       notices = c.self.invariant.notices;
       tallied = c.self.invariant.tallied;
-      aimed = aims-noted cells c.self.inside.next_number (Hit c.args.place x.number c.args.hash) (aims-there cells c.self.inside.next_number c.args.place x c.self.invariant.kept c.index.ensures) c.self.invariant.aimed;
+      aimed = aims-noted cells c.self.inside.next_number (Hit c.args.hash c.args.place x.number) (aims-there cells c.self.inside.next_number c.args.place x c.self.invariant.kept c.index.ensures) c.self.invariant.aimed;
       reserved = c.self.invariant.reserved;
       tickets = c.self.invariant.tickets;
       numbers = c.self.invariant.numbers;
@@ -41,5 +41,5 @@ returns g c =
     let x = c.index.result.now in (
       x,
       ap (λ t. kept_at t c.args.place) (sym c.self.view_is) ∙ kept-in cells c.args.place c.self.invariant.kept.apart ∙ c.index.ensures,
-      rw (← c.self.view_is, c.push_read.ensures, map-append read_of c.self.inside.backlog.reads (Hit c.args.place x.number c.args.hash ∷ [])) refl,
+      rw (← c.self.view_is, c.push_read.ensures, map-append read_of c.self.inside.backlog.reads (Hit c.args.hash c.args.place x.number ∷ [])) refl,
     )
