@@ -1,6 +1,7 @@
 pub mod Data
 pub mod Making
 pub mod Listing
+pub mod Draining
 -- of crates below, for the store above
 pub use Rattle.cache_front.specs.Laws.Laws
 pub use Rattle.cache_front.specs.Laws.State

@@ -7,7 +7,7 @@ mod making;
 use crate::entries::StoredValue;
 use audit_model::{Key, Weight};
 pub use calling::{bytes_found, clear, cover, insert, invalidate, prepare, read_bytes};
-pub use draining::{drain, note_of};
+pub use draining::{drain, drain_at, note_of};
 use front_reference::Shared;
 pub use front_state::{LentState, Notice, Segmented};
 pub use listing::write_keys;

@@ -4,3 +4,5 @@ pub mod Found
 pub mod Turned
 pub mod Newness
 pub mod Shown
+pub mod Indexed
+pub mod Searching

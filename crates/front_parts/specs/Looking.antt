@@ -1,4 +1,4 @@
--- A look-up with an operation after it, and what that did.
+-- A look-up followed by an operation, and what that did.
 use Rattle.std.specs.Prelude.{◌≡◌, ℕ, Bool, false, Option, Some, Result, Ok}
 use Rattle.engine_reference.specs.State.{State, Answers}
 use Rattle.engine_reference.specs.Records.{held_entries}
@@ -18,15 +18,15 @@ pub record IsOpen {K V P S R : Type 0} (eq : K → K → Bool) (hash_by : S → 
   pub apart : AreApart eq (held_entries s.records)
 
 module _ {K V P S R : Type 0} (answers : Answers K V P R) where
-  -- the visible value of a key, if there is one, is asked about
+  -- the test is called on the visible value of a key, if there is one
   abbrev pub AsksPart : (eq : K → K → Bool) → K → (now : ℕ) → (Ignores : V → Bool → Type 0) → State K V P S R → (ignored : Bool) → Type 0
   AsksPart eq key now Ignores s ignored = (value : V) → visible_value answers eq s now key ≡ Some value → Ignores value ignored
 
-  -- a coalesced call, over what the closure that makes answers: what it answers, and whether that was made now
+  -- a coalesced call, by what the closure that makes a value returns: its result, and whether that was made now
   abbrev pub CoalescesPart : {F E : Type 0} → (eq : K → K → Bool) → K → (hash : ℕ) → At → (Ignores : V → Bool → Type 0) → (Makes : Result (Made V F) E → Type 0) → State K V P S R → State K V P S R → Made V F × Bool → Type 0
   CoalescesPart eq key hash at Ignores Makes old new answer = Coalesces answers eq key hash at.now at.step Ignores (λ made. Makes (Ok made)) old new answer.0 answer.1
 
-  -- the key is removed after the look-up, and the value that is held then is answered
+  -- the key is removed after the look-up, and the value that is held then is returned
   pub record RemovesAfterLook (eq : K → K → Bool) (key : K) (hash now step : ℕ) (old new : State K V P S R) (removed : Option V) : Type 0 where
     pub acts : Acts answers eq key hash now step false op.Remove old new
     pub gives : removed ≡ held_value eq acts.mid key

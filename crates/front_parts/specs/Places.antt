@@ -1,3 +1,5 @@
 pub mod Calls
 pub mod Turning
 pub mod Making
+pub mod Told
+pub mod Indexing

@@ -10,7 +10,7 @@ use Rattle.front_reference.specs.Keeping.{Common, IsKept}
 abbrev pub part_of : (bits hash : ℕ) → ℕ
 part_of bits hash = hash / 2 ^ (64 - bits)
 
--- the share of each part of a wanted capacity: the ceiling
+-- the share of each part of a configured capacity, rounded up
 abbrev pub share_of : (parts capacity : ℕ) → ℕ
 share_of parts capacity = (capacity + (parts - 1)) / parts
 
@@ -27,7 +27,7 @@ module _ {K : Type 0} where
   turn_of eq [] kind key = None
   turn_of eq (t ∷ ts) kind key = if same_kind t.kind kind && eq key t.key then Some t else turn_of eq ts kind key
 
-  -- the turn of a number
+  -- the turn with a number
   abbrev pub turn_at : List (OpenTurn K) → ℕ → Option (OpenTurn K)
   turn_at [] number = None
   turn_at (t ∷ ts) number = if t.number == number then Some t else turn_at ts number
@@ -36,12 +36,12 @@ module _ {K : Type 0} where
   without_turn number [] = []
   without_turn number (t ∷ ts) = if t.number == number then ts else t ∷ without_turn number ts
 
-  -- at most one turn of a kind and a key, no number twice, each below the next, and each hash its key's
+  -- at most one turn of each kind and key, no number twice, each below the next one, and each hash that of its key
   abbrev pub AreTurns : (K → K → Bool) → (K → ℕ) → (next : ℕ) → List (OpenTurn K) → Type 0
   AreTurns eq hash next [] = Unit {0}
   AreTurns eq hash next (t ∷ ts) = (turn_of eq ts t.kind t.key ≡ None) × (turn_at ts t.number ≡ None) × (t.number < next) × (t.hash ≡ hash t.key) × AreTurns eq hash next ts
 
--- the one at a place is changed
+-- the part at a place is changed
 pub record CallsAt {X : Type 0} (place : ℕ) (Rel : X → X → Type 0) (old new : List X) : Type 0 where
   pub before : X
   pub after : X
@@ -49,20 +49,20 @@ pub record CallsAt {X : Type 0} (place : ℕ) (Rel : X → X → Type 0) (old ne
   pub does : Rel before after
   pub changed : new ≡ slice_set old place after
 
--- each is changed
+-- each part is changed
 pub record CallsEach {X : Type 0} (Rel : X → X → Type 0) (old new : List X) : Type 0 where
   pub count : length new ≡ length old
   pub each : (place : ℕ) (before : X) → slice_get old place ≡ Some before → (after : X) × (slice_get new place ≡ Some after) × Rel before after
 
 pub record Front (K V P S R : Type 0) : Type 0 where
   pub parts : List (State K V P S R)
-  -- how many bits of a hash say its part
+  -- how many bits of a hash determine its part
   pub bits : ℕ
-  -- what it is called, as the bytes of a text, if it was given a name
+  -- the name, as the bytes of a text, if it was given one
   pub name : Option (List ℕ)
-  -- the wanted capacity, of which each part has its share
+  -- the configured capacity, of which each part has its share
   pub capacity : Option ℕ
-  -- what each part was made with
+  -- the settings with which each part was created
   pub common : Common S R
   -- the turns that are under way, the oldest first, and the number of the next one
   pub turns : List (OpenTurn K)
@@ -72,7 +72,7 @@ pub record Front (K V P S R : Type 0) : Type 0 where
   pub step : ℕ
 
 module _ {K V P S R : Type 0} where
-  -- a call comes at no earlier moment and step than the last
+  -- a call comes at a moment and a step that are not before the last
   pub record ComesAfter (now step : ℕ) (f : Front K V P S R) : Type 0 where
     pub later : f.moment ≤ now
     pub further : f.step ≤ step
@@ -97,9 +97,9 @@ module _ {K V P S R : Type 0} where
   abbrev pub part_by_hash : Front K V P S R → ℕ → Option (State K V P S R)
   part_by_hash f hash = slice_get f.parts (part_of f.bits hash)
 
-  -- what the front keeps. Keys are hashed so
+  -- what the front keeps, if keys are hashed like this
   pub record IsSteady (eq : K → K → Bool) (hash : K → ℕ) (f : Front K V P S R) : Type 0 where
-    -- each part, to which the keys belong whose hash says it
+    -- each part, to which the keys belong whose hash leads to it
     pub kept : (place : ℕ) (s : State K V P S R) → slice_get f.parts place ≡ Some s → IsKept 63 eq f.common (λ key. part_of f.bits (hash key) == place) f.moment f.step s
     pub count : length f.parts ≡ 2 ^ f.bits
     pub few : f.bits ≤ 16

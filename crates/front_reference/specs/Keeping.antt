@@ -1,4 +1,4 @@
--- What the front keeps of each part, so that the laws of the reference cache hold of each of its runs.
+-- What the front keeps of each part, so that the laws of the reference cache hold for each of its runs.
 use Rattle.std.specs.Prelude.{◌≡◌, ◌≤◌, ℕ, nat_le, Bool, true, [], length, Some}
 use Rattle.engine_reference.specs.declared.data.Settings.{Settings}
 use Rattle.engine_reference.specs.Records.{held_entries}
@@ -9,7 +9,7 @@ use Rattle.engine_reference.specs.RunLaws.Points.{IsInOrder}
 use Rattle.engine_reference.specs.RunLaws.Sweeping.{IsTimely}
 use Rattle.front_reference.specs.Closeness.{IsClose}
 
--- what all parts were made with
+-- the settings with which all parts were created
 pub record Common (S R : Type 0) : Type 0 where
   pub settings : Settings
   pub hasher : S
@@ -19,16 +19,16 @@ module _ {K V P S R : Type 0} where
   abbrev pub common_of : State K V P S R → Common S R
   common_of s = record { settings = s.settings; hasher = s.hasher; rules = s.rules }
 
-  -- nothing is held, and nothing waits to be applied to what is held
+  -- nothing is held, and nothing that is held has anything pending
   pub record IsBare (s : State K V P S R) : Type 0 where
     pub records : s.records ≡ []
     pub access : s.access ≡ []
     pub writes : s.writes ≡ []
 
-  -- The last call came at this moment and step at the latest. At most so many writes are unapplied: 63 between calls, 64 before a call looks whether a run is due.
-  -- Only keys that belong to the part are written to it
+  -- The last call came at this moment and step at the latest. At most this many writes are unapplied: 63 between calls, 64 before a call
+  -- checks whether a run is due. Only keys that belong to the part are written to it
   pub record IsKept (limit : ℕ) (eq : K → K → Bool) (common : Common S R) (belongs : K → Bool) (moment step : ℕ) (s : State K V P S R) : Type 0 where
-    -- tickets were sent in the order in which they were made, none waits
+    -- tickets were sent in the order in which they were made, and none waits
     pub ordered : IsInOrder s
     pub sent : s.unsent ≡ []
     pub few : length s.writes ≤ limit
@@ -38,7 +38,7 @@ module _ {K V P S R : Type 0} where
     pub belong : Each (λ r. belongs r.entry.key ≡ true) s.records
     -- a part of capacity 0 takes nothing
     pub bare : common.settings.capacity ≡ Some 0 → IsBare s
-    -- runs leave the access list in the order of uses, but for 300 milliseconds
+    -- runs leave the access list in the order of uses, except for 300 milliseconds
     pub close : IsClose (nat_le 64 limit) moment s
-    -- and the write list in the order of writes, where moments did not pass 2^63 - 1
+    -- and the write list in the order of writes, if moments did not pass 2^63 - 1
     pub timely : moment ≤ 9223372036854775807 → IsTimely moment step s

@@ -1,4 +1,4 @@
--- What the front's calls do to one part: each ticket is sent in its own call, and then maintenance comes where it is due.
+-- What the front's calls do to one part: each ticket is sent in its own call, and then maintenance runs if it is due.
 use Rattle.std.specs.Prelude.{◌≡◌, ℕ, zero, suc, ◌+◌, ◌-◌, ◌^◌, ◌<◌, ◌≤◌, Bool, true, false, if◌then◌else◌, [], length, Option, Some, None, option_map, MatchOption, Result, Ok, Err}
 use Rattle.engine_reference.specs.declared.data.Record.{Record}
 use Rattle.engine_reference.specs.Calls.{written, sent, with_removed, removal_told, with_room, MaintainsIfDue}
@@ -15,25 +15,25 @@ use Rattle.front_reference.specs.declared.data.Made.TheVariants as made
 use Rattle.front_reference.specs.declared.data.Op.{Op}
 use Rattle.front_reference.specs.declared.data.Op.TheVariants as op
 
--- a cache of this capacity takes nothing: it is 0
+-- a cache with this capacity takes nothing: it is 0
 abbrev pub takes_nothing : Option ℕ → Bool
 takes_nothing None = false
 takes_nothing (Some zero) = true
 takes_nothing (Some (suc c)) = false
 
 module _ {V : Type 0} where
-  -- what is to be done with what was made: a value is written
+  -- what is done with what was made: a value is written
   abbrev pub op_of_made : {F : Type 0} → Made V F → Op V
   op_of_made (made.Value value) = op.Put value
   op_of_made made.Nothing = op.Nop
   op_of_made (made.Fault fault) = op.Nop
 
-  -- what is to be done where a closure decided: nothing where it failed
+  -- what is done after a closure decided: nothing if it failed
   abbrev pub op_decided : {E : Type 0} → Result (Op V) E → Op V
   op_decided (Ok does) = does
   op_decided (Err e) = op.Nop
 
-  -- what an operation did, by the value that was visible before it and the one that is held as it comes
+  -- what an operation did, by the value that was visible before it and the one that is held when it begins
   abbrev pub computed_as : Op V → (seen held : Option V) → Computed V
   computed_as op.Nop None held = did.StillNone
   computed_as op.Nop (Some v) held = did.Unchanged v
@@ -42,32 +42,32 @@ module _ {V : Type 0} where
   computed_as op.Remove seen None = did.StillNone
   computed_as op.Remove seen (Some v) = did.Removed v
 
-  -- what a compute call answers: the closure's error where it failed
+  -- what a compute call returns: the closure's error if it failed
   abbrev pub computed_by : {E : Type 0} → Result (Op V) E → (seen held : Option V) → Result (Computed V) E
   computed_by (Ok does) seen held = Ok (computed_as does seen held)
   computed_by (Err e) seen held = Err e
 
 module _ {K V P S R : Type 0} where
-  -- as a part is between calls: each ticket was sent, and the queue of writes has room
+  -- a part between calls: each ticket was sent, and the queue of writes has room
   pub record IsReady (s : State K V P S R) : Type 0 where
     pub sent : s.unsent ≡ []
     pub room : length s.writes < 128
 
-  -- why a call is refused for which so much room is to be made: there was no memory, or the tickets of 64 bits do not suffice
+  -- why a call that needs this much room is refused: there was no memory, or the 64-bit tickets do not suffice
   abbrev pub IsCause : (rooms : ℕ) → State K V P S R → CacheError → Type 0
   IsCause rooms s errors.OutOfMemory = Unit {0}
   IsCause rooms s errors.UsedUp = 2 ^ 64 ≤ s.next_ticket + s.reserved + rooms
   IsCause rooms s other = ⊥
 
-  -- room for a value is made, where one is taken
+  -- room for a value is made, if values are taken
   abbrev pub with_put_room : State K V P S R → State K V P S R
   with_put_room s = if takes_nothing s.settings.capacity then s else with_room s
 
-  -- so much room is given up
+  -- this much room is given up
   abbrev pub freed : ℕ → State K V P S R → State K V P S R
   freed rooms s = record s { reserved = s.reserved - rooms }
 
-  -- the value that is held, which a removal answers
+  -- the value that is held, which a removal returns
   abbrev pub held_value : (K → K → Bool) → State K V P S R → K → Option V
   held_value eq s key = option_map (λ r. r.entry.value) (held_at eq s.records key)
 
@@ -78,11 +78,11 @@ module _ {K V P S R : Type 0} (answers : Answers K V P R) where
   abbrev pub put_sent : (K → K → Bool) → K → ℕ → V → ℕ → ℕ → State K V P S R → State K V P S R
   put_sent eq key hash value now step s = sent s.next_ticket (written answers eq s key hash value now step)
 
-  -- room is made, and a value written and sent
+  -- room is made, and a value is written and sent
   abbrev pub inserted : (K → K → Bool) → K → ℕ → V → ℕ → ℕ → State K V P S R → State K V P S R
   inserted eq key hash value now step s = put_sent eq key hash value now step (with_room s)
 
-  -- a value is inserted, and then maintenance comes where it is due; at capacity 0 nothing happens
+  -- a value is inserted, and then maintenance runs if it is due; at capacity 0 nothing happens
   pub record Inserts (eq : K → K → Bool) (key : K) (hash : ℕ) (value : V) (now step : ℕ) (old new : State K V P S R) : Type 0 where
     pub off : takes_nothing old.settings.capacity ≡ true → new ≡ old
     pub takes : takes_nothing old.settings.capacity ≡ false → MaintainsIfDue answers now (inserted eq key hash value now step old) new
@@ -94,11 +94,12 @@ module _ {K V P S R : Type 0} (answers : Answers K V P R) where
 
   -- ---- removing
 
-  -- a record is no longer held, and its removal is sent and told
+  -- a record is no longer held, and its removal is sent and reported
   abbrev pub taken_out : Record K V → ℕ → State K V P S R → State K V P S R
   taken_out r now s = removal_told answers r.entry now (sent s.next_ticket (with_removed (Some r) s))
 
-  -- the key's record is taken out, whether its deadline has come or not, and then maintenance comes where it is due; where the key is not held nothing happens
+  -- the key's record is removed, whether its deadline has come or not, and then maintenance runs if it is due; if the key is not held,
+  -- nothing happens
   abbrev pub TakesOut : (K → K → Bool) → K → ℕ → State K V P S R → State K V P S R → Type 0
   TakesOut eq key now old new = MatchOption (held_at eq old.records key) (new ≡ old) (λ r. MaintainsIfDue answers now (taken_out r now old) new)
 
@@ -109,7 +110,8 @@ module _ {K V P S R : Type 0} (answers : Answers K V P R) where
   Operates eq key hash now step (op.Put value) old new = Inserts eq key hash value now step old new
   Operates eq key hash now step op.Remove old new = TakesOut eq key now old new
 
-  -- the second half of a look-up, and then an operation. Room for so many writes and notices is made before, so that nothing is refused between them
+  -- the second half of a look-up, and then an operation. Room for this many writes and notices is made before, so that nothing is refused
+  -- between them
   pub record Acts (eq : K → K → Bool) (key : K) (hash now step : ℕ) (ignored : Bool) (does : Op V) (old new : State K V P S R) : Type 0 where
     pub rooms : ℕ
     pub mid : State K V P S R
@@ -118,7 +120,8 @@ module _ {K V P S R : Type 0} (answers : Answers K V P R) where
 
   -- ---- coalesced calls
 
-  -- a visible value that is not passed over is answered, with its read; else something is made, and a value that was made is inserted after the read
+  -- a visible value that is not passed over is returned, with its read; otherwise something is made, and if that is a value it is inserted
+  -- after the read
   pub record Coalesces {F : Type 0} (eq : K → K → Bool) (key : K) (hash now step : ℕ) (Ignores : V → Bool → Type 0) (Makes : Made V F → Type 0) (old new : State K V P S R) (answer : Made V F) (is_fresh : Bool) : Type 0 where
     pub ignored : Bool
     pub asked : (value : V) → visible_value answers eq old now key ≡ Some value → Ignores value ignored
@@ -128,7 +131,7 @@ module _ {K V P S R : Type 0} (answers : Answers K V P R) where
 
   -- ---- compute calls
 
-  -- a closure decides by the visible value what is to be done; it is done after the read
+  -- a closure decides by the visible value what is done; it is done after the read
   pub record Computes {E : Type 0} (eq : K → K → Bool) (key : K) (hash now step : ℕ) (Decides : Option V → Result (Op V) E → Type 0) (old new : State K V P S R) (answer : Result (Computed V) E) : Type 0 where
     pub decided : Result (Op V) E
     pub decides : Decides (visible_value answers eq old now key) decided

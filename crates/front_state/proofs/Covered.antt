@@ -24,6 +24,7 @@ use Rattle.front_parts.proofs.wholes.Drawn.{draws-long}
 use Rattle.front_reference.specs.declared.errors.CacheError.{CacheError}
 use Rattle.front_reference.specs.declared.errors.CacheError.TheVariants as errors
 use Rattle.front_parts.specs.Wholes.Covering.{CoversEach, IsCoverCause, TakeAll}
+use Rattle.front_parts.specs.Places.Told.{without_told_at}
 use Rattle.front_parts.specs.Places.Calls.{IsSteadyBy, Ways, hash_in, keys_of, visible_in, visible_of}
 use Rattle.front_state.specs.Covering.{CoversAll, IsCauseToCover, keys_in}
 use Rattle.front_parts.specs.Iterator.Coming.{all_pairs, source_at}
@@ -85,6 +86,18 @@ module _ {K V P S R : Type 0} where
       go (n ∷ ns) zero others at = let same : without_notice x ≡ t = cc in (x, refl, inr (sym same))
       go (n ∷ ns) (suc place) others at = (t, at, inl refl)
 
+  without_told_at-long : (place : ℕ) (ss : List (State K V P S R)) → length (without_told_at place ss) ≡ length ss
+  without_told_at-long place [] = refl
+  without_told_at-long zero (x ∷ ss) = refl
+  without_told_at-long (suc place) (x ∷ ss) = ap suc (without_told_at-long place ss)
+
+  left-at : (place : ℕ) (ss : List (State K V P S R)) (k : ℕ) (t : State K V P S R) → slice_get (without_told_at place ss) k ≡ Some t → (s : State K V P S R) × (slice_get ss k ≡ Some s) × Left s t
+  left-at place [] k t at = absurd (let no : ⊥ = cc in no)
+  left-at zero (x ∷ ss) zero t at = let same : without_notice x ≡ t = cc in (x, refl, inr (sym same))
+  left-at zero (x ∷ ss) (suc k) t at = (t, at, inl refl)
+  left-at (suc place) (x ∷ ss) zero t at = let same : x ≡ t = cc in (x, refl, inl (sym same))
+  left-at (suc place) (x ∷ ss) (suc k) t at = left-at place ss k t at
+
 module _ {K V P S R : Type 0} (ways : Ways K V P S R) where
   pub covering_keeps : (now step : ℕ) → KeepsEach ways now step (Registers {K = K} {V = V} {P = P} {S = S} {R = R})
   covering_keeps now step common belongs moment last s t later less does old =
@@ -95,24 +108,30 @@ module _ {K V P S R : Type 0} (ways : Ways K V P S R) where
       → CoversAll p at drawn left first g (passed at.now at.step (record f { parts = parts }))
   covers_all f g p at drawn left first parts same each = subst (λ (x : Front K V P S R). CoversAll p at drawn left first x (passed at.now at.step (record f { parts = parts }))) same (record { parts = parts; covers = each; changed = refl })
 
-  steady-told : (f : Front K V P S R) → IsSteadyBy ways f → IsSteadyBy ways (record f { parts = without_told f.parts })
-  steady-told f k = record {
+  -- notices are taken of parts
+  steady-left : (f : Front K V P S R) (parts : List (State K V P S R)) → length parts ≡ length f.parts
+      → ((place : ℕ) (t : State K V P S R) → slice_get parts place ≡ Some t → (s : State K V P S R) × (slice_get f.parts place ≡ Some s) × Left s t) → IsSteadyBy ways f → IsSteadyBy ways (record f { parts = parts })
+  steady-left f parts long left k = record {
     kept = λ place t at.
-        let l = left-there f.parts place t at in
+        let l = left place t at in
         let belongs = λ (key : K). part_of f.bits (hash_in ways f key) == place in
         let old = k.kept place l.0 l.1 in
         elim l.2 [
           | inl same ↦ subst (λ x. IsKept 63 ways.eq f.common belongs f.moment f.step x) (sym same) old
           | inr taken ↦ subst (λ x. IsKept 63 ways.eq f.common belongs f.moment f.step x) (sym taken) ((calls_keep K V P S R).taken f.common 63 ways.eq belongs f.moment f.step l.0 old)
         ];
-    count = without_told-long f.parts ∙ k.count;
+    count = long ∙ k.count;
     few = k.few;
-    share = k.share ∙ ap (λ n. option_map (share_of n) f.capacity) (sym (without_told-long f.parts));
+    share = k.share ∙ ap (λ n. option_map (share_of n) f.capacity) (sym long);
     turns = k.turns;
   }
 
   pub stays_told : (f : Front K V P S R) (parts : List (State K V P S R)) → parts ≡ without_told f.parts → Keeps ways f → Keeps ways (record f { parts = parts })
-  stays_told f parts is k = subst (λ xs. Keeps ways (record f { parts = xs })) (sym is) (∥∥₁_map k (λ x. steady-told f x))
+  stays_told f parts is k = subst (λ xs. Keeps ways (record f { parts = xs })) (sym is) (∥∥₁_map k (λ x. steady-left f (without_told f.parts) (without_told-long f.parts) (left-there f.parts) x))
+
+  pub stays_told_at : (f : Front K V P S R) (place : ℕ) (parts : List (State K V P S R)) → parts ≡ without_told_at place f.parts → Keeps ways f → Keeps ways (record f { parts = parts })
+  stays_told_at f place parts is k =
+      subst (λ xs. Keeps ways (record f { parts = xs })) (sym is) (∥∥₁_map k (λ x. steady-left f (without_told_at place f.parts) (without_told_at-long place f.parts) (left-at place f.parts) x))
 
   pub takes_of : (f g : Front K V P S R) → f ≡ g → Keeps ways f → g.common.settings.takes_predicates ≡ true → TakeAll f.parts
   takes_of f g same k takes place s at =

@@ -4,7 +4,7 @@ use Rattle.std.proofs.Math.Logic.{∥∥₁_elim, ∥∥₁_map}
 use Rattle.std.proofs.Props.{props}
 use Rattle.std.proofs.lemmas.Bool.{eq-eqb}
 use Rattle.std.proofs.lemmas.Option.{slice_get_within, slice_get-get_or}
-use Rattle.std.specs.Prelude.{slice_get, option_map, ◌==◌, Result, IfOk, Ok, Err, remove}
+use Rattle.std.specs.Prelude.{slice_get, option_map, ◌==◌, Result, IfOk, Ok, Err, All, is_some}
 use Rattle.std.specs.Cmp.{IsEquivalence}
 use Rattle.engine_reference.specs.Records.{held_entries}
 use Rattle.engine_reference.specs.Calls.{cleared_by}
@@ -15,8 +15,7 @@ use Rattle.engine_reference.specs.Telling.{AreApart, entry_of}
 use Rattle.front_reference.specs.Keeping.{Common, IsKept}
 use Rattle.front_reference.specs.Parts.{Inserts, TakesOut}
 use Rattle.front_reference.specs.Wholes.{RunsPart}
-use Rattle.front_reference.specs.Fronts.{Front, CallsAll, CallsAt, ComesAfter, passed, share_of, part_of, CallsEach, CallsPart, turn_of, part_by_hash, without_turn}
-use Rattle.engine_reference.specs.declared.data.Settings.{Settings}
+use Rattle.front_reference.specs.Fronts.{Front, CallsAll, CallsAt, ComesAfter, passed, share_of, part_of, CallsEach, CallsPart, turn_at, turn_of, part_by_hash, without_turn}
 use Rattle.front_reference.specs.declared.errors.CacheError.{CacheError}
 use Rattle.front_reference.specs.declared.errors.CacheError.TheVariants as errors
 use Rattle.front_reference.specs.Parts.{Coalesces, Computes}
@@ -31,8 +30,8 @@ use Rattle.front_reference.specs.declared.data.TurnKind.{TurnKind}
 use Rattle.front_reference.specs.declared.data.OpenTurn.{OpenTurn}
 use Rattle.front_reference.specs.declared.data.TurnStart.{TurnStart}
 use Rattle.front_reference.specs.declared.data.TurnStart.TheVariants.{Found, Wait, Lead}
-use Rattle.front_parts.specs.Places.Turning.{IsCauseAt, IsFinishCause, IsTurnPlace, Leads, WaitsOrLeads, EndsTurn}
-use Rattle.front_parts.proofs.places.Turned.{turns-append, turns-without, turn-hashed}
+use Rattle.front_parts.specs.Places.Turning.{IsFinishCause, Leads, WaitsOrLeads, EndsTurn, EndsTurnOf}
+use Rattle.front_parts.proofs.places.Turned.{numbers_low, stand_under, turns-append, turns-without, turn-hashed}
 use Rattle.front_reference.specs.declared.data.TurnKind.TheVariants as turns
 use Rattle.front_reference.specs.declared.data.Op.TheVariants as op
 use Rattle.front_parts.specs.Places.Calls.{Ways, IsCauseOf, IsOpenAt, IsSteadyBy, hash_in, CoalescesIn, ComputesIn, visible_of}
@@ -219,9 +218,22 @@ module _ {K V P S R : Type 0} (ways : Ways K V P S R) where
   abbrev pub BeginsTurn : TurnKind → K → ℕ → Front K V P S R → List (OpenTurn K) → Type 0
   BeginsTurn kind key h f ts = ts ≡ (with_turn kind key h f).turns
 
-  pub begun_turns : (old before after : List (OpenTurn K)) (next : ℕ) (kind : TurnKind) (key : K) (h : ℕ) (t : OpenTurn K) → after ≡ before ++ t ∷ [] → before ≡ old → t ≡ (record { number = next; kind = kind; key = key; hash = h })
+  pub begun_turns : (old after : List (OpenTurn K)) (next : ℕ) (kind : TurnKind) (key : K) (h : ℕ) (t : OpenTurn K) → after ≡ old ++ t ∷ [] → t ≡ (record { number = next; kind = kind; key = key; hash = h })
       → after ≡ old ++ (record { number = next; kind = kind; key = key; hash = h }) ∷ []
-  begun_turns old before after next kind key h t pushed same is = pushed ∙ ap (λ xs. xs ++ t ∷ []) same ∙ ap (λ x. old ++ x ∷ []) is
+  begun_turns old after next kind key h t added is = added ∙ ap (λ x. old ++ x ∷ []) is
+
+  -- the number of the next turn is above the others
+  pub comes_last : IsEquivalence ways.eq → (f : Front K V P S R) (t : OpenTurn K) → t.number ≡ f.next_turn → Keeps f → All (λ (u : OpenTurn K). u.number < t.number) f.turns
+  comes_last laws f t is k =
+      subst (λ n. All (λ (u : OpenTurn K). u.number < n) f.turns) (sym is)
+      (∥∥₁_elim k (Prim.hlevel props) (λ x. numbers_low ways.eq laws (ways.hash f.common.hasher) f.next_turn f.turns x.turns))
+
+  -- the turns of a key have its hash
+  pub stand_for : IsEquivalence ways.eq → (f : Front K V P S R) (key : K) (h : ℕ) → ((x y : K) → ways.eq x y ≡ true → hash_in ways f x ≡ hash_in ways f y) → h ≡ hash_in ways f key → Keeps f
+      → All (λ (t : OpenTurn K). ways.eq key t.key ≡ true → t.hash ≡ h) f.turns
+  stand_for laws f key h respects is k =
+      subst (λ n. All (λ (t : OpenTurn K). ways.eq key t.key ≡ true → t.hash ≡ n) f.turns) (sym is)
+      (∥∥₁_elim k (Prim.hlevel props) (λ x. stand_under ways.eq laws (ways.hash f.common.hasher) respects f.next_turn key f.turns x.turns))
 
   pub noted_key : (place h now : ℕ) (ignored : Bool) (k key : K) (parts new : List (State K V P S R)) → k ≡ key → CallsAt place (NotesLookUp ways.answers ways.eq k h now ignored) parts new → CallsAt place (NotesLookUp ways.answers ways.eq key h now ignored) parts new
   noted_key place h now ignored k key parts new is call = subst (λ x. CallsAt place (NotesLookUp ways.answers ways.eq x h now ignored) parts new) is call
@@ -372,13 +384,9 @@ module _ {K V P S R : Type 0} (ways : Ways K V P S R) where
   pub ended_turn : (f g : Front K V P S R) (now step n : ℕ) (ts : List (OpenTurn K)) → f ≡ g → ts ≡ without_turn n f.turns → record (passed now step f) { turns = ts } ≡ abandoned n now step g
   ended_turn f g now step n ts same gone = ap (λ (us : List (OpenTurn K)). record (passed now step f) { turns = us }) gone ∙ ap (λ (x : Front K V P S R). abandoned n now step x) same
 
-  -- the turns that are left
-  pub left_turns : (f g : Front K V P S R) (n place : ℕ) (ts : List (OpenTurn K)) → f ≡ g → without_turn n g.turns ≡ remove g.turns place → ts ≡ remove f.turns place → ts ≡ without_turn n f.turns
-  left_turns f g n place ts same gone is = is ∙ ap (λ (x : Front K V P S R). remove x.turns place) same ∙ sym gone ∙ ap (λ (x : Front K V P S R). without_turn n x.turns) (sym same)
-
   -- the hash of a turn is its key's
-  pub turn_hashed : IsEquivalence ways.eq → (f g : Front K V P S R) (place : ℕ) (t : OpenTurn K) → f ≡ g → Keeps f → slice_get f.turns place ≡ Some t → t.hash ≡ hash_in ways f t.key
-  turn_hashed laws f g place t same k at = ∥∥₁_elim k (Prim.hlevel props) (λ x. turn-hashed ways.eq laws (ways.hash f.common.hasher) f.next_turn f.turns place t x.turns at)
+  pub turn_hashed : IsEquivalence ways.eq → (f : Front K V P S R) (n : ℕ) (t : OpenTurn K) → Keeps f → turn_at f.turns n ≡ Some t → t.hash ≡ hash_in ways f t.key
+  turn_hashed laws f n t k at = ∥∥₁_elim k (Prim.hlevel props) (λ x. turn-hashed ways.eq laws (ways.hash f.common.hasher) f.next_turn f.turns n t x.turns at)
 
   -- a value is inserted for a turn, which ends
   pub finishes_steadily : IsEquivalence ways.eq → (f g : Front K V P S R) (now step place n : ℕ) (t : OpenTurn K) (value : V) (parts : List (State K V P S R)) (ts : List (OpenTurn K))
@@ -403,25 +411,29 @@ module _ {K V P S R : Type 0} (ways : Ways K V P S R) where
     ends = ap (λ (us : List (OpenTurn K)). record (passed at.now at.step (record f { parts = parts })) { turns = us }) gone;
   }
 
-  pub finished_for : (f g : Front K V P S R) (at : At) (place n i : ℕ) (t : OpenTurn K) (value : V) (parts : List (State K V P S R)) (ts : List (OpenTurn K))
-      → f ≡ g → place ≡ part_of f.bits t.hash → CallsAt place (Inserts ways.answers ways.eq t.key t.hash value at.now at.step) f.parts parts → ts ≡ without_turn n f.turns → slice_get f.turns i ≡ Some t
-      → (u : OpenTurn K) → slice_get g.turns i ≡ Some u → EndsTurn ways n u (op.Put value) at g (record (passed at.now at.step (record f { parts = parts })) { turns = ts })
-  finished_for f g at place n i t value parts ts same placed call gone here u there =
-      let both : Some t ≡ Some u = sym here ∙ ap (λ (x : Front K V P S R). slice_get x.turns i) same ∙ there in
+  pub finished_for : (f g : Front K V P S R) (at : At) (place n : ℕ) (t : OpenTurn K) (value : V) (parts : List (State K V P S R)) (ts : List (OpenTurn K))
+      → f ≡ g → place ≡ part_of f.bits t.hash → CallsAt place (Inserts ways.answers ways.eq t.key t.hash value at.now at.step) f.parts parts → ts ≡ without_turn n f.turns → turn_at f.turns n ≡ Some t
+      → EndsTurnOf ways n (op.Put value) at g (record (passed at.now at.step (record f { parts = parts })) { turns = ts })
+  finished_for f g at place n t value parts ts same placed call gone here u there =
+      let both : Some t ≡ Some u = sym here ∙ ap (λ (x : Front K V P S R). turn_at x.turns n) same ∙ there in
       let one : t ≡ u = cc in
       subst (λ x. EndsTurn ways n x (op.Put value) at g (record (passed at.now at.step (record f { parts = parts })) { turns = ts })) one (finished f g at place n t value parts ts same placed call gone)
 
-  pub cause_for : (f g : Front K V P S R) (rooms : Settings → ℕ) (place i : ℕ) (t : OpenTurn K) (e : CacheError) → f ≡ g → place ≡ part_of f.bits t.hash → slice_get f.turns i ≡ Some t → IsCauseOf ways rooms (slice_get f.parts place) e
-      → (u : OpenTurn K) → slice_get g.turns i ≡ Some u → IsCauseOf ways rooms (part_by_hash g u.hash) e
-  cause_for f g rooms place i t e same placed here cause u there =
-      let both : Some t ≡ Some u = sym here ∙ ap (λ (x : Front K V P S R). slice_get x.turns i) same ∙ there in
-      let one : t ≡ u = cc in
-      subst (λ o. IsCauseOf ways rooms o e) (same_part f g place t.hash same placed ∙ ap (λ (x : OpenTurn K). part_by_hash g x.hash) one) cause
+  pub finish_caused : (f g : Front K V P S R) (place n : ℕ) (t : OpenTurn K) (e : CacheError) → f ≡ g → place ≡ part_of f.bits t.hash → turn_at f.turns n ≡ Some t → IsCauseOf ways (λ settings. 1) (slice_get f.parts place) e → IsFinishCause ways n g e
+  finish_caused f g place n t e same placed here cause =
+      by_kind e (ap (λ (x : Front K V P S R). turn_at x.turns n) (sym same) ∙ here) (subst (λ o. IsCauseOf ways (λ settings. 1) o e) (same_part f g place t.hash same placed) cause)
+    where
+      by_kind : (e : CacheError) → turn_at g.turns n ≡ Some t → IsCauseOf ways (λ settings. 1) (part_by_hash g t.hash) e → IsFinishCause ways n g e
+      by_kind errors.OutOfMemory there cause = (t, there, cause)
+      by_kind errors.UsedUp there cause = (t, there, cause)
+      by_kind errors.InvalidationClosuresDisabled there cause = (t, there, cause)
+      by_kind errors.IdsInUse there cause = (t, there, cause)
+      by_kind errors.UnknownTurn there cause = absurd cause
+      by_kind errors.Abandoned there cause = (t, there, cause)
 
-  pub finish-caused : (f : Front K V P S R) (n place : ℕ) (e : CacheError) → IsTurnPlace n f.turns place → IsCauseAt ways place f e → IsFinishCause ways n f e
-  finish-caused f n place errors.OutOfMemory h cause = (h.0, h.2, cause h.0 h.1)
-  finish-caused f n place errors.UsedUp h cause = (h.0, h.2, cause h.0 h.1)
-  finish-caused f n place errors.InvalidationClosuresDisabled h cause = (h.0, h.2, cause h.0 h.1)
-  finish-caused f n place errors.IdsInUse h cause = (h.0, h.2, cause h.0 h.1)
-  finish-caused f n place errors.UnknownTurn h cause = absurd (cause h.0 h.1)
-  finish-caused f n place errors.Abandoned h cause = (h.0, h.2, cause h.0 h.1)
+  -- no turn of this number is under way
+  pub unknown_caused : (f : Front K V P S R) (n : ℕ) (e : CacheError) → (e ≡ errors.UnknownTurn) × (turn_at f.turns n ≡ None) → IsFinishCause ways n f e
+  unknown_caused f n e h = subst (λ x. IsFinishCause ways n f x) (sym h.0) h.1
+
+  pub known_by : (f g : Front K V P S R) (n : ℕ) (t : OpenTurn K) → f ≡ g → Some t ≡ turn_at f.turns n → is_some (turn_at g.turns n) ≡ true
+  known_by f g n t same here = ap is_some (ap (λ (x : Front K V P S R). turn_at x.turns n) (sym same) ∙ sym here)

@@ -1,11 +1,11 @@
 -- What a front says of its calls to selectors, and what its calls that make a value answer.
-use Rattle.std.specs.Prelude.{◌≡◌, ⊤, Bool, Option, Some, None, MatchOption, Result, Ok, Err}
+use Rattle.std.specs.Prelude.{◌≡◌, ⊤, Bool, Option, None, MatchOption, Result, Ok}
 use Rattle.front_parts.specs.Access.Answering.{IsCoalesced, IsComputed, IsOptionOf, IsResultOf, IsValueOf, made_option, made_result, passes_none}
 use Rattle.front_reference.specs.Fronts.{ComesAfter, Front, turn_of}
 use Rattle.front_reference.specs.declared.data.At.{At}
 use Rattle.front_reference.specs.declared.data.Computed.{Computed}
 use Rattle.front_reference.specs.declared.data.Made.{Made}
-use Rattle.front_reference.specs.declared.data.Made.TheVariants.{Value, Nothing, Fault}
+use Rattle.front_reference.specs.declared.data.Made.TheVariants.{Value}
 use Rattle.front_reference.specs.declared.data.Op.{Op}
 use Rattle.front_reference.specs.declared.data.TurnKind.{TurnKind}
 use Rattle.front_parts.specs.Places.Calls.{CoalescesIn, ComputesIn, Ways, visible_in}

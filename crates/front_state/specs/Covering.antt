@@ -11,7 +11,8 @@ use Rattle.front_reference.specs.Wholes.{HasGiven}
 use Rattle.front_parts.specs.Wholes.Covering.{CoversEach, IsCoverCause}
 
 module _ {K V P S R : Type 0} where
-  -- all parts draw an identifier each and register the predicate under it, and nothing else changes but the moment and the step; the first identifier is answered
+  -- all parts draw an identifier each and register the predicate under it, and nothing else changes but the moment and the step; the first
+  -- identifier is returned
   pub record CoversAll (predicate : P) (at : At) (drawn left : Stream) (first : ℕ) (old new : Front K V P S R) : Type 0 where
     pub parts : List (State K V P S R)
     pub covers : CoversEach predicate at.step drawn left first old.parts parts
@@ -26,6 +27,7 @@ module _ {K V P S R : Type 0} where
   abbrev pub keys_in : Front K V P S R → ℕ → List K
   keys_in f place = keys_of (slice_get f.parts place)
 
--- an iterator gives this at a moment, if it is asked to its end: each key that is visible in any part, once, with its value, and no other
+-- what an iterator returns that began at a moment, if it is called to its end: each key that is visible in any part, once, with its value,
+-- and no other
 abbrev pub GivesVisible : {K V P S R : Type 0} → Ways K V P S R → (now : ℕ) → Front K V P S R → List (K × V) → Type 0
 GivesVisible ways now f given = HasGiven ways.answers ways.eq (λ key. hash_in ways f key) now f (length f.parts) given

@@ -4,7 +4,7 @@ use Rattle.std.specs.Duration.{as_nanos}
 use Rattle.engine_reference.specs.declared.rules.settings.Policy.{Policy}
 use Rattle.front_reference.specs.Fronts.{Front}
 
--- the wanted capacity, the number of parts, and the times
+-- the configured capacity, the number of parts, and the times
 pub record ShowsPolicy {K V P S R : Type 0} (f : Front K V P S R) (p : Policy) : Type 0 where
   pub capacity : p.max_capacity ≡ f.capacity
   pub segments : p.num_segments ≡ length f.parts

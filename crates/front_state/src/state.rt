@@ -11,12 +11,10 @@ ghost use Rattle.front_parts.specs.Places.Calls.{CoalescesBy, ComputesIn, Insert
 
 use engine_reference::{Names, Rules, Settings};
 use front_parts::{
-    BaseCache, clear_all, coalesce_at, compute_at, contains_key_at, get_at, hash_key, insert_at,
-    invalidate_at, is_table_refused, place_of, remove_at, run_all,
+    BaseCache, Turns, clear_all, coalesce_at, compute_at, contains_key_at, get_at, hash_key,
+    insert_at, invalidate_at, is_table_refused, place_of, remove_at, run_all,
 };
-use front_reference::{
-    At, CacheError, Computed, IntoKey, LentKey, Made, Op, OpenTurn, OwnedKey, Shared,
-};
+use front_reference::{At, CacheError, Computed, IntoKey, LentKey, Made, Op, OwnedKey, Shared};
 use policy_base::Instant;
 use std::alloc::{AllocError, Global};
 use std::hash::{BuildHasher, Hash, Hasher};
@@ -58,7 +56,7 @@ pub struct LentState<K: Eq + Hash, V, S: BuildHasher, R: Rules<K, V>, C = Single
     settings: Settings,
     hasher: Shared<S>,
     rules: Shared<R>,
-    turns: Vec<OpenTurn<Shared<K>>>,
+    turns: Turns<Shared<K>>,
     next_turn: u64,
     moment: Instant,
     step: u64,
@@ -79,7 +77,7 @@ impl<K: Eq + Hash, V, S: BuildHasher, R: Rules<K, V>, C> Model for LentState<K, 
       name = option_map string_bytes c.name;
       capacity = c.capacity;
       common = record { settings = c.settings; hasher = c.hasher; rules = c.rules };
-      turns = c.turns.items;
+      turns = c.turns;
       next_turn = c.next_turn;
       moment = c.moment;
       step = c.step;
@@ -91,7 +89,7 @@ impl<K: Eq + Hash, V, S: BuildHasher, R: Rules<K, V>, C> Model for LentState<K, 
       name = option_map string_bytes c.name;
       capacity = c.capacity;
       common = record { settings = c.settings; hasher = c.hasher; rules = c.rules };
-      turns = c.turns.items;
+      turns = c.turns;
       next_turn = c.next_turn;
       moment = c.moment;
       step = c.step;
@@ -247,8 +245,27 @@ impl<K: Eq + Hash, V, S: BuildHasher, R: Rules<K, V>, C> LentState<K, V, S, R, C
         ensures err { OnErr result (self.new ≡ self.old) }
         ensures cause { IfErr result (IsCauseIn (ways_by R.Rules K.eq K.hash_input S.BuildHasher S.Hasher.Hasher) removal_rooms self.old key.now) }
     {
-        let At { now, step } = at;
         let hash = hash_key(&self.hasher, key);
+        self.invalidate_with_hash(key, hash, at)
+    }
+
+    /// Like `invalidate`, with the hash of the key.
+    /// ```
+    /// let hash = cache.hash(&7);
+    /// cache.invalidate_with_hash(&7, hash, at)?;
+    /// ```
+    pub fn invalidate_with_hash(&mut self, key: &K, hash: u64, at: At) -> Result<(), CacheError>
+    where
+        K: Drop,
+        V: Clone + Drop,
+        requires hashed { hash ≡ hash_in (ways_by R.Rules K.eq K.hash_input S.BuildHasher S.Hasher.Hasher) self.old key.now }
+        requires exact { (x y : V) → V.is_clone x y → y ≡ x }
+        requires follows { ComesAfter at.now at.step self.old }
+        ensures takes_out { OnOk result (TakesOutIn (ways_by R.Rules K.eq K.hash_input S.BuildHasher S.Hasher.Hasher) key.now at self.old self.new) }
+        ensures err { OnErr result (self.new ≡ self.old) }
+        ensures cause { IfErr result (IsCauseIn (ways_by R.Rules K.eq K.hash_input S.BuildHasher S.Hasher.Hasher) removal_rooms self.old key.now) }
+    {
+        let At { now, step } = at;
         let place = place_of(self.bits, hash);
         invalidate_at(&mut self.parts, place, &LentKey { key }, hash, now)?;
         self.moment = now;

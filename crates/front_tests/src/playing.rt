@@ -1,4 +1,4 @@
-//! Rows of a cache that is lent: what is asked of it, what it is to answer, and what plays them.
+//! Rows of a cache that is lent: calls, their expected results, and what plays them.
 mod closures;
 mod hashing;
 mod rules;

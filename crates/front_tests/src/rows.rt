@@ -304,6 +304,21 @@ const APART: &[(u64, Call)] = &[
     (0, Call::Get(FAR, Some(20))),
 ];
 
+/// What one part told is taken, and what the other told waits.
+const TOLD_APART: &[(u64, Call)] = &[
+    (0, Call::Insert(1, 10)),
+    (0, Call::Insert(FAR, 20)),
+    (1, Call::Invalidate(1)),
+    (1, Call::Invalidate(FAR)),
+    (
+        1,
+        Call::ToldOfPart(FAR, Some((FAR, RemovalCause::Explicit))),
+    ),
+    (1, Call::ToldOfPart(FAR, None)),
+    (1, Call::ToldOfPart(1, Some((1, RemovalCause::Explicit)))),
+    (1, Call::NoneTold),
+];
+
 const MAKING: &[Case<'static>] = &[
     Case {
         form: SHORT,
@@ -335,6 +350,10 @@ const LEAVING: &[Case<'static>] = &[
     Case {
         form: SMALL,
         calls: LOOKED_UP,
+    },
+    Case {
+        form: HALVES,
+        calls: TOLD_APART,
     },
 ];
 

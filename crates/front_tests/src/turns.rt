@@ -6,6 +6,9 @@ use front_reference::{CacheError, TurnKind};
 /// A cache of four parts.
 const FOUR: Form = Form { segments: 4, ..ONE };
 
+/// A cache whose keys all have the same hash.
+const COLLIDING: Form = Form { factor: 0, ..ONE };
+
 const UNKNOWN: Result<(), CacheError> = Err(CacheError::UnknownTurn);
 
 /// One turn of a kind and a key; a value that was made is inserted whatever happened to the key
@@ -28,6 +31,35 @@ const TURNS: &[(u64, Call)] = &[
     (4, Call::Begin(TurnKind::Compute, 7, Start::Wait(2))),
     (4, Call::Abandon(2, Ok(()))),
     (4, Call::Begin(TurnKind::Compute, 7, Start::Lead(3))),
+];
+
+/// Turns of several keys, each found, whatever began or ended before or after it.
+const CROWDED: &[(u64, Call)] = &[
+    (0, Call::Begin(TurnKind::With, 1, Start::Lead(0))),
+    (0, Call::Begin(TurnKind::With, 2, Start::Lead(1))),
+    (0, Call::Begin(TurnKind::Try, 1, Start::Lead(2))),
+    (0, Call::Begin(TurnKind::With, 3, Start::Lead(3))),
+    (0, Call::Begin(TurnKind::With, 3, Start::Wait(3))),
+    (0, Call::Begin(TurnKind::Try, 1, Start::Wait(2))),
+    (0, Call::Begin(TurnKind::With, 2, Start::Wait(1))),
+    (0, Call::IsFree(TurnKind::Try, 2, true)),
+    (1, Call::Finish(1, 20, Ok(()))),
+    (1, Call::IsFree(TurnKind::With, 2, true)),
+    (1, Call::IsFree(TurnKind::With, 1, false)),
+    (1, Call::Begin(TurnKind::With, 3, Start::Wait(3))),
+    (1, Call::Begin(TurnKind::With, 2, Start::Found(20))),
+    (2, Call::Abandon(0, Ok(()))),
+    (2, Call::Begin(TurnKind::With, 1, Start::Lead(4))),
+    (2, Call::Begin(TurnKind::Try, 1, Start::Wait(2))),
+    (2, Call::Abandon(3, Ok(()))),
+    (2, Call::Finish(3, 30, UNKNOWN)),
+    (2, Call::IsFree(TurnKind::With, 3, true)),
+    (3, Call::Finish(2, 10, Ok(()))),
+    (3, Call::Get(1, Some(10))),
+    (3, Call::IsFree(TurnKind::With, 1, false)),
+    (3, Call::Finish(4, 11, Ok(()))),
+    (3, Call::IsFree(TurnKind::With, 1, true)),
+    (3, Call::Get(1, Some(11))),
 ];
 
 /// Values come, are used, leave, and are counted after a run.
@@ -58,6 +90,18 @@ const CASES: &[Case<'static>] = &[
     Case {
         form: FOUR,
         calls: TURNS,
+    },
+    Case {
+        form: COLLIDING,
+        calls: TURNS,
+    },
+    Case {
+        form: COLLIDING,
+        calls: CROWDED,
+    },
+    Case {
+        form: FOUR,
+        calls: CROWDED,
     },
     Case {
         form: ONE,

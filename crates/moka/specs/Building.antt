@@ -36,11 +36,11 @@ as_limit (Some time) = Some (min (as_nanos time) 18446744073709551614)
 abbrev pub blank : Plan
 blank = record { name = None; max_capacity = None; initial_capacity = 0; segments = 1; policy = TinyLfu; expiration = record { time_to_live = None; time_to_idle = None }; tells = false; takes_predicates = false }
 
--- what is wrong with what is set, if anything: the first of it
+-- the first thing that is wrong with the settings, if anything is
 abbrev pub fault_of : Plan → Option BuildError
 fault_of p = first_fault (time_fault p.expiration.time_to_live p.expiration.time_to_idle) (segments_fault p.segments)
 
--- what all segments together are made with
+-- the settings with which all segments together are created
 abbrev pub settings_of : Plan → (made : ℕ) → Settings
 settings_of p made = record {
   capacity = p.max_capacity;
@@ -52,7 +52,7 @@ settings_of p made = record {
   made = made;
 }
 
--- a new cache of the fewest parts, a power of two, that are as many as asked for
+-- a new cache of the fewest parts, a power of two, that are at least as many as requested
 pub record IsBuilt {K V Q S X W P F : Type 0} (p : Plan) (expiry : X) (weigher : W) (hasher : S) (moment : ℕ) (f : Front K V Q S (Bundle X W P F)) : Type 0 where
   pub rules : Bundle X W P F
   pub expires : rules.expiry ≡ expiry
@@ -62,7 +62,7 @@ pub record IsBuilt {K V Q S X W P F : Type 0} (p : Plan) (expiry : X) (weigher :
   pub least : (n : ℕ) → p.segments ≤ 2 ^ n → bits ≤ n
   pub made : IsMadeWith (option_map string_bytes p.name) bits (settings_of p moment) hasher rules f
 
--- the same, of plain rules: with this capacity and so many segments, and nothing else set
+-- the same with plain rules: with this capacity and this many segments, and nothing else set
 pub record IsBuiltPlainly {K V Q S X W P F : Type 0} (max_capacity segments moment : ℕ) (f : Front K V Q S (Bundle X W P F)) : Type 0 where
   pub expiry : X
   pub weigher : W

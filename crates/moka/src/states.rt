@@ -30,7 +30,7 @@ pub type SegmentedState<K, V, S = StdHasher, R = PlainRules> = LentState<K, V, S
 
 /// Creates a cache of one segment.
 pub trait NewState: Sized {
-    // it is new, and was made with this capacity at this moment, and else with nothing set
+    // it is new, and was created with this capacity at this moment, and with nothing else set
     ghost is_new: { Self → (max_capacity moment : ℕ) → Type 0 };
 
     /// Creates a cache that holds at most this weight, at this moment. Nothing else is set, and keys are hashed with std's hasher (without
@@ -52,7 +52,7 @@ pub trait NewState: Sized {
 
 /// Creates a cache of several segments.
 pub trait NewSegmentedState: Sized {
-    // it is new, and was made with this capacity and at least so many segments at this moment, and else with nothing set
+    // it is new, and was created with this capacity and at least this many segments at this moment, and with nothing else set
     ghost is_new: { Self → (max_capacity segments moment : ℕ) → Type 0 };
 
     /// Creates a cache that holds at most this weight in this many segments, rounded up to a power of two, at this moment. Nothing else is

@@ -1,6 +1,6 @@
 -- why calls are refused
 pub use Rattle.sync_desk.specs.Slots.Refusals
--- what a builder is refused for
+-- why a builder is refused
 pub use Rattle.moka.specs.Building
 pub mod Turning
 pub mod Accessing

@@ -1,4 +1,4 @@
--- What a call that makes a value answers, where none is waited for.
+-- What a call that makes a value returns if it waits for nobody.
 use Rattle.std.specs.Prelude.{◌≡◌, ◌⊎◌, ℕ, Bool, true, false}
 use Rattle.front_reference.specs.Fronts.{Front, ComesAfter}
 use Rattle.front_reference.specs.Turns.{abandoned}
@@ -11,6 +11,7 @@ IsMadeOrFound Makes answer true = Makes answer
 IsMadeOrFound Makes (Value v) false = Unit {0}
 IsMadeOrFound Makes other false = ⊥
 
--- the turn of a number ended with nothing, at a moment and step that follow; or nothing changed, as it is not under way or the steps are used up
+-- the turn with this number ended with nothing, at a moment and step that follow; or nothing changed, because it is not under way or the
+-- steps are used up
 abbrev pub GivesUp : {K V P S R : Type 0} → (number : ℕ) → Front K V P S R → Front K V P S R → Type 0
 GivesUp number old new = (new ≡ old) ⊎ ((now step : ℕ) × ComesAfter now step old × (new ≡ abandoned number now step old))

@@ -12,11 +12,11 @@ use Rattle.front_state.specs.Turning.{FinishesBy}
 use Rattle.sync_desk.specs.declared.turns.Start.{Start}
 use Rattle.sync_desk.specs.declared.turns.Start.TheVariants.{Found, Wait, Lead}
 
--- this is drawn for the next call: a moment that is no earlier than the last one, and the step after the last
+-- what is drawn for the next call: a moment that is no earlier than the last one, and the step after the last
 abbrev pub IsDrawn : {K V P S R : Type 0} → Front K V P S R → At → Type 0
 IsDrawn f at = ComesAfter at.now at.step f × (at.step ≡ f.step + 1)
 
--- how a call that makes a value begins, as the state says it
+-- how a call that makes a value begins, in terms of the state
 abbrev pub state_start : {A V : Type 0} → Start A V → TurnStart V
 state_start (Found value) = state.Found value
 state_start (Wait number asked) = state.Wait number
@@ -35,6 +35,6 @@ module _ {K V P S R : Type 0} (ways : Ways K V P S R) where
   abbrev pub BeginsAsDrawn : {A : Type 0} → TurnKind → K → (Ignores : V → Bool → Type 0) → Front K V P S R → Front K V P S R → Start A V → Type 0
   BeginsAsDrawn kind key Ignores old new start = (at : At) × IsDrawn old at × BeginsBy ways kind key (hash_in ways old key) at Ignores old new (state_start start)
 
-  -- the turn of a number ends with what was made
+  -- the turn with a number ends with what was made
   abbrev pub FinishesAsDrawn : {F : Type 0} → (number : ℕ) → Made V F → Front K V P S R → Front K V P S R → Type 0
   FinishesAsDrawn number made old new = (at : At) × IsDrawn old at × FinishesBy ways number made at old new

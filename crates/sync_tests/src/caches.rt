@@ -77,7 +77,7 @@ pub fn make_four(alloc: Global) -> Option<Dialled<Segmented>> {
     dialled_by(alloc, CacheBuilder::new(500).segments(4).faults::<u64>())
 }
 
-/// Waits until a dial was read so often. False where it never is.
+/// Waits until a dial was read this often. False if it never is.
 pub fn wait_for_readings(dial: &Dial, readings: u64) -> bool {
     for _ in 0..LOOKS {
         if readings <= dial.readings() {

@@ -37,14 +37,14 @@ const CALLS: [Call; 20] = [
     Call::Clear,
     Call::Get(1, None),
     Call::Remove(7, None),
-    // A value stays where it is not to be replaced, and is made anew where it is.
+    // A value stays if it is not to be replaced, and is made anew if it is.
     Call::MakeIf(0, 5, 5, 5),
     Call::MakeIf(0, 6, 6, 5),
     Call::MakeIf(0, 6, 5, 6),
     Call::Get(0, Some(6)),
 ];
 
-/// Whether a call answers what it is to.
+/// Whether a call returns the expected result.
 fn is_so<H: Wait, C: Drop>(rt: &H, cache: &Numbers<C>, call: Call) -> bool {
     match call {
         Call::Insert(key, value) => cache.insert(rt, key, value) == Ok(()),
@@ -62,7 +62,7 @@ fn is_so<H: Wait, C: Drop>(rt: &H, cache: &Numbers<C>, call: Call) -> bool {
     }
 }
 
-/// Whether each call answers what it is to. Where it was refused for memory it is made once more.
+/// Whether each call returns the expected result. A call that was refused for lack of memory is made once more.
 fn are_so<H: Wait, C: Drop>(rt: &H, cache: &Numbers<C>) -> bool {
     for call in &CALLS {
         if !is_so(rt, cache, *call) && !is_so(rt, cache, *call) {

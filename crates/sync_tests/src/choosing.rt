@@ -61,7 +61,7 @@ fn is_covered<H: Wait, C: Drop>(rt: &H, cache: &Covered<C>) -> bool {
         && cache.entry_count(rt) == 2
 }
 
-/// A predicate on one segment is answered by its identifier.
+/// A predicate on one segment returns its identifier.
 fn covers<H: Wait>(rt: &H, alloc: Global) -> bool {
     match make_covered(alloc) {
         Ok(cache) => fills(rt, &cache) && is_named(rt, &cache) && is_covered(rt, &cache),
@@ -91,7 +91,7 @@ type Handle<H> = Attached<
     H,
 >;
 
-/// Whether a selector answers this value, made anew or not, with none replaced by it.
+/// Whether a selector returns this value, made anew or not, with none replaced by it.
 fn is_entry(entry: Result<Entry<u64, u64>, CacheError>, value: u64, is_fresh: bool) -> bool {
     match entry {
         Ok(entry) => {

@@ -10,7 +10,7 @@ use std::thread::Threads;
 /// What each of four threads does.
 #[derive(Clone, Copy)]
 enum Work {
-    /// It asks for one key, and a closure that runs waits until the dial was read so often.
+    /// It requests one key, and a closure that runs waits until the dial was read this often.
     Make(u64),
     /// It counts one key up 25 times.
     Count,
@@ -18,7 +18,7 @@ enum Work {
     Write,
 }
 
-/// 70 for the closure that runs first, or 99 where the dial is not read so often.
+/// 70 for the closure that runs first, or 99 if the dial is not read this often.
 fn make(shared: &Dialled, readings: u64) -> u64 {
     let number = shared.runs.fetch_add(1, Ordering::SeqCst);
     if wait_for_readings(&shared.dial, readings) {

@@ -1,4 +1,4 @@
-//! What leaves a cache and is told: by predicates, for want of room, and in time.
+//! What is removed from a cache and reported: by predicates, for lack of room, and in time.
 ghost use Rattle.std.specs.Prelude.{◌==◌, ◌||◌};
 
 use crate::caches::{Moments, make_dial, moments_of};
@@ -37,7 +37,7 @@ impl Predicate<u64, u64> for IsEither {
     }
 }
 
-/// A cache that evicts what was used least recently, tells what leaves, and takes such predicates.
+/// A cache that evicts what was used least recently, reports removals, and accepts such predicates.
 type Told<C> = SharedCache<
     u64,
     u64,
@@ -98,7 +98,7 @@ fn are_told<H: Wait, C: Drop>(
     }
 }
 
-/// Whether what is told is so.
+/// Whether the notices are the expected ones.
 fn is_told_so<H: Wait, C: Drop>(rt: &H, cache: &Told<C>, row: Row) -> bool {
     match row {
         Row::Is(key, cause) => told(rt, cache, cause) == Some(key),
@@ -108,7 +108,7 @@ fn is_told_so<H: Wait, C: Drop>(rt: &H, cache: &Told<C>, row: Row) -> bool {
     }
 }
 
-/// Does it, and answers whether it came out so.
+/// Performs it, and returns whether the result was the expected one.
 fn comes_so<H: Wait, C: Drop>(rt: &H, stage: &Stage<C>, row: Row) -> bool {
     match row {
         Row::At(nanos) => {
@@ -153,7 +153,7 @@ const ANY: Form = Form {
     own: None,
 };
 
-/// What builds a cache whose values live so many seconds of their own.
+/// What builds a cache whose values live a number of seconds of their own.
 fn start(own: Option<u64>) -> ToldBuilder<Single> {
     let lasting = match own {
         Some(seconds) => Lasting(Some(Duration::from_secs(seconds))),
@@ -352,7 +352,7 @@ const TABLES: &[(Form, &[Row])] = &[
     (LIVE, REMOVED_TOO_LATE),
 ];
 
-/// The place of the first row that does not come out so of a new cache; the first where it cannot be made.
+/// The place of the first row that fails on a new cache; the first if the cache cannot be made.
 fn wrong_row_anew<H: Wait>(rt: &H, alloc: Global, form: Form, rows: &[Row]) -> Option<usize> {
     match build(alloc, plan(form)) {
         Ok(stage) => wrong_row(rt, &stage, rows),

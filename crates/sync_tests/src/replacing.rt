@@ -45,7 +45,7 @@ fn writes_eight<H: Wait>(rt: &H, shared: &Dialled, before: u64) -> bool {
         && shared.cache.insert(rt, 1, 8) == Ok(())
 }
 
-/// Whether a value that is written while the closure is asked is asked about in its place.
+/// Whether the closure, if a value is written while it runs, is called again with that value.
 fn asks_again<R: Threads + Wait + Sync>(rt: &R, shared: &Dialled) -> bool {
     if shared.cache.insert(rt, 1, 7) != Ok(()) {
         return false;

@@ -10,7 +10,7 @@ use std::alloc::Global;
 use std::sync::{Arc, Wait};
 use std::time::Duration;
 
-/// What is asked where an answer is not known. It may take long, and threads ask it at the same time.
+/// What is asked if an answer is not known. It may take long, and threads ask it at the same time.
 pub trait Upstream {
     /// The address of a name.
     fn ask(&self, name: &str) -> Result<u32, Unresolved>;
@@ -32,7 +32,7 @@ pub struct Resolver<U, E> {
 }
 
 impl<U: Upstream + Drop, E: Env + Drop> Resolver<U, E> {
-    /// A resolver that keeps at most so many answers, each for this time.
+    /// A resolver that keeps at most this many answers, each for this time.
     pub fn new(
         alloc: Global,
         answers: u64,
@@ -51,7 +51,7 @@ impl<U: Upstream + Drop, E: Env + Drop> Resolver<U, E> {
         })
     }
 
-    /// The address of a name. Where threads ask for a name at the same time, one asks the upstream, and the others wait for its answer.
+    /// The address of a name. If threads ask for a name at the same time, one asks the upstream, and the others wait for its answer.
     pub fn resolve<H: Wait>(
         &self,
         rt: &H,

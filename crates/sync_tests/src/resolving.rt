@@ -68,7 +68,7 @@ fn are_resolved<H: Wait>(rt: &H, names: &Names) -> bool {
     true
 }
 
-/// Four threads resolve the same names, and each is asked for once; a name that has no address is asked for each time.
+/// Four threads resolve the same names, and each is requested once; a name that has no address is requested each time.
 fn asks_once<R: Threads + Wait + Sync>(rt: &R, alloc: Global, names: &Names) -> bool {
     each_says_yes(thread::map_indices(rt, alloc, 4, &|_: usize| are_resolved(rt, names)))
         && names.questions.load(Ordering::SeqCst) == 4

@@ -7,7 +7,7 @@ use std::sync::atomic::Ordering;
 use std::thread;
 use std::thread::Threads;
 
-/// A turn of two callers for a key: its kind, and the value that its leader makes and both are answered. A leader that makes none ends a
+/// A turn of two callers for a key: its kind, and the value that its leader makes and both receive. A leader that makes none ends a
 /// call of `Try` with the fault 7.
 #[derive(Clone, Copy)]
 struct Turn {
@@ -24,7 +24,7 @@ struct Making {
 }
 
 const TURNS: [Turn; 5] = [
-    // What makes no value is answered to both; then a value is.
+    // Both receive the error of a call that makes no value; then both receive a value.
     Turn {
         key: 1,
         kind: TurnKind::Try,
@@ -53,7 +53,7 @@ const TURNS: [Turn; 5] = [
     },
 ];
 
-/// Runs a closure: what it makes, or 99 where the dial is not read so often.
+/// Runs a closure: what it makes, or 99 if the dial is not read this often.
 fn make(shared: &Dialled, making: Making) -> Option<u64> {
     shared.runs.fetch_add(1, Ordering::SeqCst);
     if wait_for_readings(&shared.dial, making.readings) {
@@ -63,7 +63,7 @@ fn make(shared: &Dialled, making: Making) -> Option<u64> {
     }
 }
 
-/// Whether a call whose making may fail is answered what its turn makes.
+/// Whether a call whose closure may fail returns what its turn makes.
 fn is_tried<H: Wait>(rt: &H, shared: &Dialled, turn: Turn, making: Making) -> bool {
     let answer = shared
         .cache
@@ -77,7 +77,7 @@ fn is_tried<H: Wait>(rt: &H, shared: &Dialled, turn: Turn, making: Making) -> bo
     }
 }
 
-/// Whether a call of the turn's kind is answered what its turn makes.
+/// Whether a call of the turn's kind returns what its turn makes.
 fn is_answered<H: Wait>(rt: &H, shared: &Dialled, turn: Turn, making: Making) -> bool {
     match turn.kind {
         TurnKind::Try => is_tried(rt, shared, turn, making),
@@ -96,13 +96,13 @@ fn is_answered<H: Wait>(rt: &H, shared: &Dialled, turn: Turn, making: Making) ->
     }
 }
 
-/// Whether a call that leads is answered so: its closure runs on once another waits.
+/// Whether a call that leads returns the expected result: its closure continues once another waits.
 fn leads<H: Wait>(rt: &H, shared: &Dialled, turn: Turn, readings: u64) -> bool {
     let made = turn.made;
     is_answered(rt, shared, turn, Making { made, readings })
 }
 
-/// Whether, once the other leads, a look-up sees nothing, and a call that waits is answered so.
+/// Whether, once the other leads, a look-up sees nothing, and a call that waits returns the expected result.
 fn follows<H: Wait>(rt: &H, shared: &Dialled, turn: Turn, readings: u64) -> bool {
     wait_for_readings(&shared.dial, readings)
         && shared.cache.get(rt, &turn.key) == Ok(None)
@@ -117,7 +117,7 @@ fn other(made: u64) -> Making {
     }
 }
 
-/// Whether one of two calls makes it, and both are answered it.
+/// Whether one of two calls makes it, and both return it.
 fn is_shared<R: Threads + Wait + Sync>(rt: &R, shared: &Dialled, turn: Turn) -> bool {
     let before = shared.dial.readings();
     let runs = shared.runs.load(Ordering::SeqCst);
@@ -129,7 +129,7 @@ fn is_shared<R: Threads + Wait + Sync>(rt: &R, shared: &Dialled, turn: Turn) -> 
     led && followed && shared.runs.load(Ordering::SeqCst) == runs.saturating_add(1)
 }
 
-/// Whether a turn comes out so. A value is answered to a third caller too.
+/// Whether a turn has the expected result. A third caller gets the value too.
 fn is_right<R: Threads + Wait + Sync>(rt: &R, shared: &Dialled, turn: Turn) -> bool {
     is_shared(rt, shared, turn) && (turn.made.is_none() || is_answered(rt, shared, turn, other(97)))
 }

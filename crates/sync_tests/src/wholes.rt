@@ -1,4 +1,4 @@
-//! Whole caches: iterators beside writers, evictions that are told, no room at all, printed text, what builders make.
+//! Whole caches: iterators beside writers, reported evictions, no room at all, printed text, what builders make.
 use crate::caches::{Moments, each_says_yes, make_moments};
 use moka_sync::{
     Build, BuildError, CacheBuilder, CacheError, Made, PlainCache, PlainRules, RemovalCause,
@@ -41,7 +41,7 @@ fn does<H: Wait, C: Drop>(rt: &H, cache: &PlainForm<u64, u64, C>, deed: Deed, ke
     }
 }
 
-/// Whether it is done with each of so many keys.
+/// Whether it is done with each of this many keys.
 fn does_all<H: Wait, C: Drop>(
     rt: &H,
     cache: &PlainForm<u64, u64, C>,

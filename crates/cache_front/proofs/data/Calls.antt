@@ -1,5 +1,5 @@
 -- What the calls of a front come to in the store over it.
-use Rattle.std.proofs.Common.{◌≡◌, ◌≢◌, refl, ap, ◌∙◌, sym, subst, ℕ, suc, ◌+◌, ◌≤◌, ◌<◌, ◌^◌, arith, Bool, true, false, List, [], ◌∷◌, ◌++◌, length, map, Option, option_map, Some, None, slice_get, if◌then◌else◌, true≢false, Result, Ok, Err, IfOk, OnErr}
+use Rattle.std.proofs.Common.{◌≡◌, ◌≢◌, refl, ap, ◌∙◌, sym, subst, ℕ, suc, ◌+◌, ◌≤◌, ◌<◌, ◌^◌, arith, Bool, true, false, List, [], ◌∷◌, ◌++◌, length, map, Option, option_map, Some, None, slice_get, slice_set, if◌then◌else◌, true≢false, Result, Ok, Err, IfOk, OnErr}
 use Rattle.std.proofs.lemmas.List.{length-append, length-map}
 use Rattle.rand_core.specs.Stream.{Stream}
 use Rattle.audit_model.specs.Bytewise.{same}
@@ -29,8 +29,10 @@ use Rattle.cache_parts_store.specs.Meets.{stored, total_number, total_weight}
 use Rattle.cache_parts_store.specs.View.{ComesTo, IsWhole, StoreOfParts, all_drained, view, waiting}
 use Rattle.cache_parts_store.proofs.Settling.{sound, used_up}
 use Rattle.cache_parts_store.proofs.Standing.{some_held, some_stand}
+use Rattle.cache_front.specs.Data.Draining.{drained_at, waiting_at}
 use Rattle.cache_front.specs.Laws.Laws.{Lent, seen_in, settled}
 use Rattle.cache_front.specs.Laws.State.{IsFit, store_of}
+use Rattle.cache_front.proofs.data.Drains.{one_told}
 use Rattle.cache_front.proofs.laws.Calls.{accepted, cleared, dropped_by, given, lacking, ran, removed}
 use Rattle.cache_front.proofs.laws.Storing.{looked-up, peeked, taken}
 use Rattle.cache_front.specs.Data.Data.{FrontData, InsertsBy, IsAnswerTo, LackTickets, TakesOutBy, parted_by}
@@ -50,6 +52,20 @@ module _ {S : Type 0} (hash : S → List ℕ → ℕ) where
   pub record Takes (d : FrontData S) (g h : Lent S) (queue : List (Notice (List ℕ) Stored)) : Type 0 where
     pub drained : h ≡ record g { parts = all_drained g.parts }
     pub queued : map note_from queue ≡ map note_from d.queue ++ waiting g.parts
+
+  -- a call came to one part: what waits there is all that waits
+  pub told_there : (d : FrontData S) (g : Lent S) (h now step place : ℕ) (Rel : Part S → Part S → Type 0) → IsWhole (parted_by hash d) → CallsPart h now step Rel d.front g → place ≡ part_of d.front.bits h
+      → (waiting_at place g.parts ≡ waiting g.parts) × (drained_at place g.parts ≡ all_drained g.parts)
+  told_there d g h now step place Rel w call is =
+      let t = one_told place d.front.parts call.call.after (λ k s there. (w.kept.each k s there).taken) in
+      let parts_are : g.parts ≡ slice_set d.front.parts place call.call.after =
+      ap (λ (x : Lent S). x.parts) call.changed ∙ call.call.changed ∙ ap (λ n. slice_set d.front.parts n call.call.after) (sym is)
+      in
+      (subst (λ ps. waiting_at place ps ≡ waiting ps) (sym parts_are) t.0, subst (λ ps. drained_at place ps ≡ all_drained ps) (sym parts_are) t.1)
+
+  pub takes_there : (d : FrontData S) (g h : Lent S) (queue : List (Notice (List ℕ) Stored)) (place : ℕ) → (waiting_at place g.parts ≡ waiting g.parts) × (drained_at place g.parts ≡ all_drained g.parts)
+      → h ≡ record g { parts = drained_at place g.parts } → map note_from queue ≡ map note_from d.queue ++ waiting_at place g.parts → Takes d g h queue
+  takes_there d g h queue place t drained queued = record { drained = drained ∙ ap (λ (ps : List (Part S)). record g { parts = ps }) t.1; queued = queued ∙ ap (λ ns. map note_from d.queue ++ ns) t.0 }
 
   -- the data then
   abbrev pub with_front : FrontData S → List (Notice (List ℕ) Stored) → Lent S → FrontData S

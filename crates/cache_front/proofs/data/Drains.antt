@@ -1,25 +1,19 @@
--- Notices that are taken one by one.
-use Rattle.std.proofs.Common.{◌≡◌, refl, ap, ◌∙◌, sym, suc, ◌+◌, ◌≤◌, ℕ, arith, List, [], ◌∷◌, ◌++◌, length, map, Some, None, Result, Ok, Err, true≢false, if◌then◌else◌}
-use Rattle.std.proofs.lemmas.List.{append-nil, append_assoc, length-append, length-map, map-append}
-use Rattle.audit_model.specs.declared.transcript.Note.{Note}
-use Rattle.cache_front.specs.Laws.Laws.{Lent}
-use Rattle.cache_parts.specs.Parts.{Part, Stored, note_from}
-use Rattle.cache_parts_store.specs.View.{all_drained, waiting}
-use Rattle.cache_parts_store.proofs.Settling.{drains}
-use Rattle.engine_reference.specs.declared.data.Notice.{Notice}
-use Rattle.engine_reference.specs.Calls.{without_notice}
-use Rattle.front_reference.specs.Wholes.{first_or, next_told, taken_or, without_told}
+-- Notices that are taken one by one from a part, and from one part after another.
+use Rattle.std.proofs.Common.{◌≡◌, refl, ap, ◌∙◌, sym, subst, ℕ, zero, suc, ◌+◌, ◌≤◌, arith, List, [], ◌∷◌, ◌++◌, drop, length, map, Some, None, Result, Ok, Err, true≢false, if◌then◌else◌}
+use Rattle.std.specs.Prelude.{slice_get, slice_set}
 use Rattle.std.specs.Result.{IsOk, is_ok}
+use Rattle.std.proofs.lemmas.List.{append-nil, append_assoc, length-append, length-map, map-append}
 use Rattle.std.proofs.lemmas.Option.{none-some}
-
--- where no part has one nothing is taken
-none-taken : {S : Type 0} (parts : List (Part S)) → next_told parts ≡ None → without_told parts ≡ parts
-none-taken [] none = refl
-none-taken (s ∷ parts) none = go s.notices none (λ h. none-taken parts h)
-  where
-    go : (ns : List (Notice (List ℕ) Stored)) → first_or ns (next_told parts) ≡ None → (next_told parts ≡ None → without_told parts ≡ parts) → taken_or ns (without_notice s ∷ parts) (s ∷ without_told parts) ≡ s ∷ parts
-    go [] none later = ap (λ ps. s ∷ ps) (later none)
-    go (n ∷ ns) none later = absurd (none-some n (sym none))
+use Rattle.audit_model.specs.declared.transcript.Note.{Note}
+use Rattle.cache_front.specs.Data.Draining.{drained_at, waiting_at}
+use Rattle.cache_front.specs.Laws.Laws.{Lent}
+use Rattle.cache_parts.specs.Parts.{Part, Stored, drained, note_from}
+use Rattle.cache_parts_store.specs.View.{all_drained, waiting}
+use Rattle.cache_parts_store.proofs.Changing.{AreTaken, all_drained-none, drained-none, waiting-none}
+use Rattle.engine_reference.specs.Calls.{without_notice}
+use Rattle.engine_reference.specs.declared.data.Notice.{Notice}
+use Rattle.front_parts.specs.Places.Told.{told_at, without_told_at}
+use Rattle.front_parts.proofs.wholes.Told.{NoneTold}
 
 -- how many came
 pub how_many : (had queue : List (Notice (List ℕ) Stored)) (told : List Note) → map note_from queue ≡ map note_from had ++ told → length queue ≡ length had + length told
@@ -35,50 +29,173 @@ pub pushed_if : {X T E : Type 0} (r : Result T E) (now more old : X) → IsOk r 
 pushed_if (Ok t) now more old ok is = is
 pushed_if (Err e) now more old ok is = absurd (true≢false (sym ok))
 
-module _ {S : Type 0} (was : Lent S) (had : List (Notice (List ℕ) Stored)) where
-  -- some were taken from the front, and stand in the queue
-  pub record Drains (front : Lent S) (queue : List (Notice (List ℕ) Stored)) : Type 0 where
-    pub rest : front ≡ record was { parts = front.parts }
-    pub same : all_drained front.parts ≡ all_drained was.parts
-    pub queued : map note_from queue ++ waiting front.parts ≡ map note_from had ++ waiting was.parts
+-- ---- one part
 
-  pub none_yet : Drains was had
-  none_yet = record { rest = refl; same = refl; queued = refl }
+module _ {S : Type 0} where
+  told-none : (place : ℕ) (parts : List (Part S)) → told_at place parts ≡ None → (waiting_at place parts ≡ []) × (drained_at place parts ≡ parts) × (without_told_at place parts ≡ parts)
+  told-none place [] none = (refl, refl, refl)
+  told-none zero (s ∷ parts) none = go s.notices refl none
+    where
+      go : (ns : List (Notice (List ℕ) Stored)) → s.notices ≡ ns → slice_get ns 0 ≡ None → (map note_from s.notices ≡ []) × (drained s ∷ parts ≡ s ∷ parts) × (without_notice s ∷ parts ≡ s ∷ parts)
+      go [] is none = (
+        ap (map note_from) is,
+        ap (λ y. y ∷ parts) (drained-none s is),
+        ap (λ ns. record s { notices = drop 1 ns } ∷ parts) is ∙ ap (λ y. y ∷ parts) (drained-none s is),
+      )
+      go (n ∷ ns) is none = absurd (none-some n (sym none))
+  told-none (suc place) (s ∷ parts) none = let t = told-none place parts none in (t.0, ap (λ ps. s ∷ ps) t.1, ap (λ ps. s ∷ ps) t.2)
+
+  told-some : (place : ℕ) (parts : List (Part S)) (n : Notice (List ℕ) Stored) → told_at place parts ≡ Some n
+      → (waiting_at place parts ≡ note_from n ∷ waiting_at place (without_told_at place parts)) × (drained_at place (without_told_at place parts) ≡ drained_at place parts)
+  told-some place [] n told = absurd (none-some n told)
+  told-some zero (s ∷ parts) n told = (go s.notices refl told, refl)
+    where
+      go : (ns : List (Notice (List ℕ) Stored)) → s.notices ≡ ns → slice_get ns 0 ≡ Some n → map note_from s.notices ≡ note_from n ∷ map note_from (drop 1 s.notices)
+      go [] is told = absurd (none-some n told)
+      go (x ∷ ns) is told =
+          let same : x ≡ n = cc in
+          ap (map note_from) is ∙ ap (λ y. note_from y ∷ map note_from ns) same ∙ ap (λ xs. note_from n ∷ map note_from (drop 1 xs)) (sym is)
+  told-some (suc place) (s ∷ parts) n told = let t = told-some place parts n told in (t.0, ap (λ ps. s ∷ ps) t.1)
+
+module _ {S : Type 0} (place : ℕ) (was : Lent S) (had : List (Notice (List ℕ) Stored)) where
+  -- some were taken from the part, and stand in the queue
+  pub record DrainsAt (front : Lent S) (queue : List (Notice (List ℕ) Stored)) : Type 0 where
+    pub rest : front ≡ record was { parts = front.parts }
+    pub same : drained_at place front.parts ≡ drained_at place was.parts
+    pub queued : map note_from queue ++ waiting_at place front.parts ≡ map note_from had ++ waiting_at place was.parts
 
   -- there is room for each
-  pub all_fit : (front : Lent S) (queue : List (Notice (List ℕ) Stored)) (room : ℕ) → Drains front queue → length had + length (waiting was.parts) ≤ room → length queue + length (waiting front.parts) ≤ room
+  pub all_fit : (front : Lent S) (queue : List (Notice (List ℕ) Stored)) (room : ℕ) → DrainsAt front queue → length had + length (waiting_at place was.parts) ≤ room → length queue + length (waiting_at place front.parts) ≤ room
   all_fit front queue room d fits =
       let e = ap length d.queued in
-      let a = length-append (map note_from queue) (waiting front.parts) in
-      let b = length-append (map note_from had) (waiting was.parts) in
+      let a = length-append (map note_from queue) (waiting_at place front.parts) in
+      let b = length-append (map note_from had) (waiting_at place was.parts) in
       let m = length-map queue note_from in
       let n = length-map had note_from in
       omega (arith, e, a, b, m, n, fits)
 
-  pub fewer : (front : Lent S) (n : Notice (List ℕ) Stored) → next_told front.parts ≡ Some n → suc (length (waiting (without_told front.parts))) ≡ length (waiting front.parts)
-  fewer front n told = sym (ap length (drains.taken front.parts n told).0)
+  pub fewer : (front : Lent S) (n : Notice (List ℕ) Stored) → told_at place front.parts ≡ Some n → suc (length (waiting_at place (without_told_at place front.parts))) ≡ length (waiting_at place front.parts)
+  fewer front n told = sym (ap length (told-some place front.parts n told).0)
 
-  pub one_more : (front later : Lent S) (queue queue_then : List (Notice (List ℕ) Stored)) (n : Notice (List ℕ) Stored) → Drains front queue → next_told front.parts ≡ Some n
-      → later ≡ record front { parts = without_told front.parts } → queue_then ≡ queue ++ n ∷ [] → Drains later queue_then
+  pub one_more : (front later : Lent S) (queue queue_then : List (Notice (List ℕ) Stored)) (n : Notice (List ℕ) Stored) → DrainsAt front queue → told_at place front.parts ≡ Some n
+      → later ≡ record front { parts = without_told_at place front.parts } → queue_then ≡ queue ++ n ∷ [] → DrainsAt later queue_then
   one_more front later queue queue_then n d told is pushed =
-      let t = drains.taken front.parts n told in
-      let parts_are : later.parts ≡ without_told front.parts = ap (λ (x : Lent S). x.parts) is in
+      let t = told-some place front.parts n told in
+      let rest = waiting_at place (without_told_at place front.parts) in
+      let parts_are : later.parts ≡ without_told_at place front.parts = ap (λ (x : Lent S). x.parts) is in
       record {
-        rest = is ∙ ap (λ (x : Lent S). record x { parts = without_told front.parts }) d.rest ∙ ap (λ (ps : List (Part S)). record was { parts = ps }) (sym parts_are);
-        same = ap all_drained parts_are ∙ t.1 ∙ d.same;
+        rest = is ∙ ap (λ (x : Lent S). record x { parts = without_told_at place front.parts }) d.rest ∙ ap (λ (ps : List (Part S)). record was { parts = ps }) (sym parts_are);
+        same = ap (λ ps. drained_at place ps) parts_are ∙ t.1 ∙ d.same;
         queued =
-            ap (λ (ps : List (Part S)). map note_from queue_then ++ waiting ps) parts_are
-            ∙ ap (λ ns. map note_from ns ++ waiting (without_told front.parts)) pushed
-            ∙ ap (λ ns. ns ++ waiting (without_told front.parts)) (map-append note_from queue (n ∷ []))
-            ∙ append_assoc (map note_from queue) (note_from n ∷ []) (waiting (without_told front.parts))
+            ap (λ (ps : List (Part S)). map note_from queue_then ++ waiting_at place ps) parts_are
+            ∙ ap (λ ns. map note_from ns ++ rest) pushed
+            ∙ ap (λ ns. ns ++ rest) (map-append note_from queue (n ∷ []))
+            ∙ append_assoc (map note_from queue) (note_from n ∷ []) rest
             ∙ ap (λ ns. map note_from queue ++ ns) (sym t.0)
             ∙ d.queued;
       }
 
-  pub all_taken : (front later : Lent S) (queue : List (Notice (List ℕ) Stored)) → Drains front queue → next_told front.parts ≡ None → later ≡ record front { parts = without_told front.parts }
-      → (later ≡ record was { parts = all_drained was.parts }) × (map note_from queue ≡ map note_from had ++ waiting was.parts)
+  pub all_taken : (front later : Lent S) (queue : List (Notice (List ℕ) Stored)) → DrainsAt front queue → told_at place front.parts ≡ None → later ≡ record front { parts = without_told_at place front.parts }
+      → (later ≡ record was { parts = drained_at place was.parts }) × (map note_from queue ≡ map note_from had ++ waiting_at place was.parts)
   all_taken front later queue d none is =
-      let t = drains.done front.parts none in (
-        is ∙ ap (λ (ps : List (Part S)). record front { parts = ps }) (none-taken front.parts none) ∙ d.rest ∙ ap (λ (ps : List (Part S)). record was { parts = ps }) (sym t.1 ∙ d.same),
+      let t = told-none place front.parts none in (
+        is ∙ ap (λ (ps : List (Part S)). record front { parts = ps }) t.2 ∙ d.rest ∙ ap (λ (ps : List (Part S)). record was { parts = ps }) (sym t.1 ∙ d.same),
         sym (append-nil (map note_from queue)) ∙ ap (λ ns. map note_from queue ++ ns) (sym t.0) ∙ d.queued,
       )
+
+-- ---- one part after another
+
+module _ {S : Type 0} where
+  waiting-split : (place : ℕ) (parts : List (Part S)) → NoneTold place parts → waiting parts ≡ waiting_at place parts ++ waiting (drained_at place parts)
+  waiting-split place [] none = refl
+  waiting-split zero (s ∷ parts) none = refl
+  waiting-split (suc place) (s ∷ parts) none =
+      ap (λ ns. map note_from ns ++ waiting parts) none.0 ∙ waiting-split place parts none.1 ∙ ap (λ ns. waiting_at place parts ++ (map note_from ns ++ waiting (drained_at place parts))) (sym none.0)
+
+  none-more : (place : ℕ) (parts : List (Part S)) → NoneTold place parts → NoneTold (suc place) (drained_at place parts)
+  none-more place [] none = tt
+  none-more zero (s ∷ parts) none = (refl, tt)
+  none-more (suc place) (s ∷ parts) none = (none.0, none-more place parts none.1)
+
+  all_drained-at : (place : ℕ) (parts : List (Part S)) → all_drained (drained_at place parts) ≡ all_drained parts
+  all_drained-at place [] = refl
+  all_drained-at zero (s ∷ parts) = refl
+  all_drained-at (suc place) (s ∷ parts) = ap (λ ps. drained s ∷ ps) (all_drained-at place parts)
+
+  length-drained_at : (place : ℕ) (parts : List (Part S)) → length (drained_at place parts) ≡ length parts
+  length-drained_at place [] = refl
+  length-drained_at zero (s ∷ parts) = refl
+  length-drained_at (suc place) (s ∷ parts) = ap suc (length-drained_at place parts)
+
+  none-waits : (place : ℕ) (parts : List (Part S)) → length parts ≤ place → NoneTold place parts → (waiting parts ≡ []) × (all_drained parts ≡ parts)
+  none-waits place [] past none = (refl, refl)
+  none-waits zero (s ∷ parts) past none = absurd (omega arith)
+  none-waits (suc place) (s ∷ parts) past none =
+      let t = none-waits place parts (omega arith) none.1 in
+      (ap (λ ns. map note_from ns ++ waiting parts) none.0 ∙ t.0, ap (λ y. y ∷ all_drained parts) (drained-none s none.0) ∙ ap (λ ps. s ∷ ps) t.1)
+
+module _ {S : Type 0} (was : Lent S) (had : List (Notice (List ℕ) Stored)) where
+  -- what so many first parts told was taken, and stands in the queue
+  pub record Drains (count : ℕ) (front : Lent S) (queue : List (Notice (List ℕ) Stored)) : Type 0 where
+    pub rest : front ≡ record was { parts = front.parts }
+    pub number : length front.parts ≡ length was.parts
+    pub none : NoneTold count front.parts
+    pub same : all_drained front.parts ≡ all_drained was.parts
+    pub queued : map note_from queue ++ waiting front.parts ≡ map note_from had ++ waiting was.parts
+
+  pub none_yet : Drains 0 was had
+  none_yet = record { rest = refl; number = refl; none = tt; same = refl; queued = refl }
+
+  pub part_fits : (place : ℕ) (front : Lent S) (queue : List (Notice (List ℕ) Stored)) (room : ℕ) → Drains place front queue → length had + length (waiting was.parts) ≤ room → length queue + length (waiting_at place front.parts) ≤ room
+  part_fits place front queue room d fits =
+      let e = ap length d.queued in
+      let a = length-append (map note_from queue) (waiting front.parts) in
+      let b = length-append (map note_from had) (waiting was.parts) in
+      let s = ap length (waiting-split place front.parts d.none) in
+      let t = length-append (waiting_at place front.parts) (waiting (drained_at place front.parts)) in
+      let m = length-map queue note_from in
+      let n = length-map had note_from in
+      omega (arith, e, a, b, s, t, m, n, fits)
+
+  pub one_part : (place : ℕ) (front later : Lent S) (queue queue_then : List (Notice (List ℕ) Stored)) → Drains place front queue → later ≡ record front { parts = drained_at place front.parts }
+      → map note_from queue_then ≡ map note_from queue ++ waiting_at place front.parts → Drains (place + 1) later queue_then
+  one_part place front later queue queue_then d is queued =
+      let more : suc place ≡ place + 1 = omega arith in
+      let parts_are : later.parts ≡ drained_at place front.parts = ap (λ (x : Lent S). x.parts) is in
+      record {
+        rest = is ∙ ap (λ (x : Lent S). record x { parts = drained_at place front.parts }) d.rest ∙ ap (λ (ps : List (Part S)). record was { parts = ps }) (sym parts_are);
+        number = ap length parts_are ∙ length-drained_at place front.parts ∙ d.number;
+        none = subst (λ ps. NoneTold (place + 1) ps) (sym parts_are) (subst (λ n. NoneTold n (drained_at place front.parts)) more (none-more place front.parts d.none));
+        same = ap all_drained parts_are ∙ all_drained-at place front.parts ∙ d.same;
+        queued =
+            ap (λ (ps : List (Part S)). map note_from queue_then ++ waiting ps) parts_are
+            ∙ ap (λ ns. ns ++ waiting (drained_at place front.parts)) queued
+            ∙ append_assoc (map note_from queue) (waiting_at place front.parts) (waiting (drained_at place front.parts))
+            ∙ ap (λ ns. map note_from queue ++ ns) (sym (waiting-split place front.parts d.none))
+            ∙ d.queued;
+      }
+
+  pub each_part : (count : ℕ) (front : Lent S) (queue : List (Notice (List ℕ) Stored)) → Drains count front queue → length was.parts ≤ count
+      → (front ≡ record was { parts = all_drained was.parts }) × (map note_from queue ≡ map note_from had ++ waiting was.parts)
+  each_part count front queue d past =
+      let long = d.number in
+      let t = none-waits count front.parts (omega arith) d.none in (
+        d.rest ∙ ap (λ (ps : List (Part S)). record was { parts = ps }) (sym t.1 ∙ d.same),
+        sym (append-nil (map note_from queue)) ∙ ap (λ ns. map note_from queue ++ ns) (sym t.0) ∙ d.queued,
+      )
+
+-- ---- a part alone
+
+-- where one of them changed
+pub one_told : {S : Type 0} (place : ℕ) (parts : List (Part S)) (t : Part S) → AreTaken parts
+    → (waiting_at place (slice_set parts place t) ≡ waiting (slice_set parts place t)) × (drained_at place (slice_set parts place t) ≡ all_drained (slice_set parts place t))
+one_told place [] t taken = (refl, refl)
+one_told zero (x ∷ parts) t taken =
+    let others : AreTaken parts = λ k s there. taken (suc k) s there in
+    (sym (append-nil (map note_from t.notices)) ∙ ap (λ ns. map note_from t.notices ++ ns) (sym (waiting-none parts others)), ap (λ ps. drained t ∷ ps) (sym (all_drained-none parts others)))
+one_told (suc place) (x ∷ parts) t taken =
+    let u = one_told place parts t (λ k s there. taken (suc k) s there) in
+    let none = taken 0 x refl in (
+      u.0 ∙ ap (λ ns. map note_from ns ++ waiting (slice_set parts place t)) (sym none),
+      ap (λ ps. x ∷ ps) u.1 ∙ ap (λ y. y ∷ all_drained (slice_set parts place t)) (sym (drained-none x none)),
+    )

@@ -8,13 +8,13 @@ use Rattle.engine_reference.specs.Scanning.{held_keys}
 use Rattle.front_reference.specs.Fronts.{Front, part_by_hash}
 use Rattle.front_state.specs.Calls.{visible_of}
 
--- the keys of all parts, those of dead and covered values among them
+-- the keys of all parts, including those of dead and covered values
 abbrev pub held_by_all : {S : Type 0} → List (Part S) → List (List ℕ)
 held_by_all [] = []
 held_by_all (s ∷ parts) = held_keys s.records ++ held_by_all parts
 
 module _ {S : Type 0} (hash : S → List ℕ → ℕ) (now : ℕ) (f : Front (List ℕ) Stored (List ℕ) S Weight) where
-  -- a key has a visible value, where keys are hashed so
+  -- a key has a visible value, if keys are hashed like this
   abbrev pub is_seen : List ℕ → Bool
   is_seen q = is_some (visible_of (record { answers = service_answers; eq = same; hash = hash }) (part_by_hash f (hash f.common.hasher q)) now q)
 

@@ -1,4 +1,4 @@
--- What the front of a store is made with, and a store that was just made.
+-- The settings of the front of a store, and a store that was just created.
 use Rattle.std.specs.Prelude.{◌≡◌, ℕ, ◌^◌, true, false, List, []}
 use Rattle.rand_core.specs.Stream.{Stream}
 use Rattle.audit_model.specs.History.{part_count}
@@ -8,11 +8,11 @@ use Rattle.cache_store.specs.Values.{Values}
 use Rattle.engine_reference.specs.declared.data.Settings.{Settings}
 use Rattle.front_reference.specs.Fronts.{part_of}
 
--- what all parts together are made with: the capacity is not shared out yet
+-- the settings of all parts together: the capacity is not divided yet
 abbrev pub whole_settings : Config → (made : ℕ) → Settings
 whole_settings config made = record (settings_of config made) { capacity = config.capacity }
 
--- it holds nothing and told nothing, and no identifier is registered; a key's part is the upper bits of its hash
+-- it holds nothing and has reported nothing, and no identifier is registered; a key's part is the upper bits of its hash
 pub record IsJustMade (config : Config) (hash : List ℕ → ℕ) (made : ℕ) (stream : Stream) (v : Values) : Type 0 where
   pub bits : ℕ
   pub counts : 2 ^ bits ≡ part_count config

@@ -1,4 +1,4 @@
--- What the calls of a front make of the store over it.
+-- What the calls of a front do to the store over it.
 use Rattle.std.specs.Prelude.{◌≡◌, ℕ, suc, ◌+◌, ◌<◌, ◌^◌, Bool, true, false, List, ◌∷◌, ◌++◌, length, map, Option, Some, None, slice_get}
 use Rattle.std.specs.Option.{option_map, option_to_list}
 use Rattle.rand_core.specs.Stream.{Stream}
@@ -31,13 +31,13 @@ module _ (S : Type 0) where
   abbrev pub Lent : Type 0
   Lent = Front (List ℕ) Stored (List ℕ) S Weight
 
-  -- a call that covers nothing tells each note of another value, so by as many fewer values are held, but for the one that it accepts
+  -- a call that covers nothing reports each note of another value: that many fewer values are held, not counting the one that it accepts
   abbrev pub TellsEachOnce : Type 0
   TellsEachOnce =
       (a b : StoreOfParts S) (now : ℕ) (deed : Deed) → IsWhole a → deed.covers ≡ Nothing → Does now deed (view a) (view b)
       → length (items_of 0 b.parts) + length b.queue ≡ length (items_of 0 a.parts) + length a.queue + length (option_to_list (option_map newly_held deed.value))
 
-  -- the store over a front whose notices were just taken, behind those of a queue
+  -- the store over a front whose notices were just taken, after those of a queue
   abbrev pub settled : (hash : S → List ℕ → ℕ) → Config → (made : ℕ) → (dropped : Bool) → List (Notice (List ℕ) Stored) → Stream → Lent → StoreOfParts S
   settled hash config made dropped queue stream g = over_front config made dropped (hash g.common.hasher) (map note_from queue ++ waiting g.parts) stream (record g { parts = all_drained g.parts })
 
@@ -61,7 +61,7 @@ module _ (S : Type 0) where
       → h ≡ record g { parts = all_drained g.parts } → map note_from queue_then ≡ map note_from queue ++ waiting g.parts
       → store_of hash config made dropped queue_then stream h ≡ settled hash config made dropped queue stream g
 
-  -- a value that the front inserts, where there is room for one more
+  -- a value that the front inserts, if there is room for one more
   abbrev pub AcceptsOver : Type 0
   AcceptsOver =
       (hash : S → List ℕ → ℕ) (config : Config) (made : ℕ) (dropped : Bool) (queue : List (Notice (List ℕ) Stored)) (stream : Stream) (f g : Lent) (now next : ℕ) (key bytes : List ℕ) (milliseconds : Option ℕ) (looked_up : Bool)
@@ -70,7 +70,7 @@ module _ (S : Type 0) where
       → CallsPart (hash f.common.hasher key) now next (Inserts service_answers same key (hash f.common.hasher key) (stored bytes milliseconds) now next) f g
       → AcceptsValue now key bytes milliseconds looked_up (part_of f.bits (hash f.common.hasher key)) (view a) (view b) × IsWhole b × (length (items_of 0 b.parts) + length (waiting g.parts) ≡ suc (length (items_of 0 a.parts)))
 
-  -- a key that the front takes out, or does not have
+  -- a key that the front removes, or does not have
   abbrev pub RemovesOver : Type 0
   RemovesOver =
       (hash : S → List ℕ → ℕ) (config : Config) (made : ℕ) (dropped : Bool) (queue : List (Notice (List ℕ) Stored)) (stream : Stream) (f g : Lent) (now next : ℕ) (key : List ℕ)
@@ -94,7 +94,7 @@ module _ (S : Type 0) where
       IsWhole a → ComesTo a now next → f.step < next → CallsAll now next (λ s t. t ≡ cleared_by next s) f g
       → Does now (covering Everything) (view a) (view b) × IsWhole b
 
-  -- a predicate that stands in all parts of the front at the next step, after each drew an identifier
+  -- a predicate that is registered in all parts of the front at the next step, after each drew an identifier
   abbrev pub DropsOver : Type 0
   DropsOver =
       (hash : S → List ℕ → ℕ) (config : Config) (made : ℕ) (dropped : Bool) (queue : List (Notice (List ℕ) Stored)) (stream left : Stream) (f g : Lent) (now next : ℕ) (prefix : List ℕ) (ids : List ℕ)
@@ -102,7 +102,7 @@ module _ (S : Type 0) where
       IsWhole a → ComesTo a now next → f.step < next → DrawAll f.parts stream left ids → g ≡ passed now next (record f { parts = registered_in prefix next ids f.parts })
       → Does now (covering (Prefixed prefix)) (view a) (view b) × IsWhole b
 
-  -- or a part of the front drew in vain, and the front is as it was
+  -- or a part of the front lacked identifiers, and the front is as it was
   abbrev pub LacksOver : Type 0
   LacksOver =
       (hash : S → List ℕ → ℕ) (config : Config) (made : ℕ) (dropped : Bool) (queue : List (Notice (List ℕ) Stored)) (stream left : Stream) (f : Lent)

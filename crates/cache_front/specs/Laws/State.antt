@@ -14,7 +14,7 @@ abbrev pub hash_by : {H S : Type 0} → (H → ℕ) → (H → List ℕ → H) �
 hash_by finish write build_hasher hasher key = hash_of_key finish write build_hasher (λ (k : List ℕ). k ∷ []) hasher key
 
 module _ {S : Type 0} where
-  -- the store of a front's parts, whose keys are hashed so
+  -- the store of a front's parts, with keys hashed like this
   abbrev pub store_of : (hash : S → List ℕ → ℕ) → Config → (made : ℕ) → (dropped : Bool) → List (Notice (List ℕ) Stored) → Stream → Front (List ℕ) Stored (List ℕ) S Weight → StoreOfParts S
   store_of hash config made dropped queue stream f = over_front config made dropped (hash f.common.hasher) (map note_from queue) stream f
 

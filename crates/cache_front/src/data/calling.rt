@@ -1,4 +1,4 @@
-//! Calls of a front: at the step of the last call, or, where they cover what was written before, at the next one.
+//! Calls of a front: at the step of the last call, or, if they cover earlier writes, at the next one.
 ghost use Rattle.std.specs.Prelude.{◌≡◌, suc, ◌+◌, ◌<◌, ◌≤◌, ◌^◌, ◌⊎◌, true, false, IfOk, OnOk, OnErr, length, option_map};
 ghost use Rattle.std.specs.Result.{IsErrOf};
 ghost use Rattle.std.specs.VecDeque.{deque_capacity};
@@ -19,10 +19,10 @@ use rand_core::Rng;
 use std::alloc::{AllocError, Global};
 use std::hash::BuildHasher;
 
-/// A store holds at most so many values, so that what they weigh is a number of 64 bits.
+/// A store holds at most this many values, so that their weight is a 64-bit number.
 const MOST_VALUES: usize = 1 << 50;
 
-/// What is kept of a value, where there may be one more beside so many, with room in the queue for a notice of each.
+/// What is kept of a value, if there may be one more than this many, with room in the queue for a notice of each.
 pub fn prepare(
     alloc: Global,
     notices: &mut Notices,
@@ -77,7 +77,7 @@ fn refusal_of(error: CacheError) -> StoreError
     }
 }
 
-/// Inserts a value, and answers its part.
+/// Inserts a value, and returns its part.
 pub fn insert<S: BuildHasher>(
     alloc: Global,
     front: &mut Front<S>,
@@ -105,25 +105,28 @@ pub fn insert<S: BuildHasher>(
     }
 }
 
-/// Takes a key out.
+/// Takes a key out, and answers its part.
 pub fn invalidate<S: BuildHasher>(
     front: &mut Front<S>,
     key: &Key,
     now: u64,
-) -> Result<(), StoreError>
+) -> Result<usize, StoreError>
     requires later { front.old.moment ≤ now }
     requires moment { now < 2 ^ 63 }
     ensures takes_out { OnOk result (TakesOutBy (hash_with S.BuildHasher S.Hasher.Hasher) key.now now front.old front.new) }
+    ensures part { IfOk result (λ part. part ≡ part_of front.old.bits (hash_with S.BuildHasher S.Hasher.Hasher front.old.common.hasher key.now)) }
     ensures used_up { IsErrOf result StoreError.UsedUp → LackTickets front.old.parts }
     ensures err { OnErr result (front.new ≡ front.old) }
 {
     let At { step, .. } = front.last_call();
+    let hash = front.hash(key);
+    let part = front.part_with_hash(hash);
     let at = At {
         now: Instant::from_nanos(now),
         step,
     };
-    match front.invalidate(key, at) {
-        Ok(()) => Ok(()),
+    match front.invalidate_with_hash(key, hash, at) {
+        Ok(()) => Ok(part),
         Err(error) => Err(refusal_of(error)),
     }
 }
@@ -157,7 +160,7 @@ pub fn clear<S: BuildHasher>(front: &mut Front<S>, now: u64) -> Result<(), Store
     Ok(())
 }
 
-/// Covers the keys of a prefix in all parts, and answers true; or, where a part drew in vain, in none, and answers false.
+/// Covers the keys of a prefix in all parts, and returns true; or, if a part lacked identifiers, in none, and returns false.
 pub fn cover<S: BuildHasher, R: Rng>(
     alloc: Global,
     front: &mut Front<S>,

@@ -11,12 +11,13 @@ pub fn peeks_over<S>()
     ensures { PeeksOver S }
 {}
 
-/// A look-up of a front, with what it told taken, is a `look_up` of the store over it, and as many fewer values are held as notices were told.
+/// A look-up of a front, with what it reported taken, is a `look_up` of the store over it, and as many fewer values are held as notices
+/// were reported.
 pub fn looks_up_over<S>()
     ensures { LooksUpOver S }
 {}
 
-/// Where notices were taken from a front as they waited, they stand in the queue of the store over it.
+/// If notices were taken from a front in their order, they are in the queue of the store over it.
 pub fn takes_notices<S>()
     ensures { TakesNotices S }
 {}
@@ -46,7 +47,7 @@ pub fn drops_over<S>()
     ensures { DropsOver S }
 {}
 
-/// Where a part of a front drew in vain, the store over it lacks identifiers.
+/// If a part of a front lacks identifiers, so does the store over it.
 pub fn lacks_over<S>()
     ensures { LacksOver S }
 {}

@@ -5,8 +5,8 @@ ghost use Rattle.cache_front.specs.Data.Data.{shown_by, word_of};
 ghost use Rattle.cache_front.specs.Data.Making.{IsJustMade};
 
 use crate::data::{
-    LentState, Notice, Segmented, bits_of, bytes_found, clear, cover, drain, insert, invalidate,
-    note_of, prepare, read_bytes, settings_of, write_keys,
+    LentState, Notice, Segmented, bits_of, bytes_found, clear, cover, drain, drain_at, insert,
+    invalidate, note_of, prepare, read_bytes, settings_of, write_keys,
 };
 use crate::entries::{StoredValue, WordBuilder};
 use audit_model::{Config, Key, Note, Weight};
@@ -21,8 +21,8 @@ use std::marker::Model;
 
 /// The values of a namespace, in the parts of a front.
 ///
-/// Calls come at the step of the last one, but for those that cover, which come at the next. What the front tells is taken after each call
-/// that tells and waits in one queue, in which a place is kept for each value, so that only an acceptance takes memory for it.
+/// Calls come at the step of the last one, except for those that cover, which come at the next. What the front reports is taken after each
+/// call that reports, and waits in one queue, in which a place is kept for each value, so that only an acceptance allocates for it.
 #[derive(Drop)]
 pub struct FrontStore<R: Rng + Drop, S: BuildHasher + Drop> {
     alloc: Global,
@@ -52,8 +52,8 @@ impl<R: Rng + Drop, S: BuildHasher + Drop> Model for FrontStore<R, S> {
 }
 
 impl<R: Rng + Drop, S: BuildHasher + Drop> FrontStore<R, S> {
-    /// Nothing is held, and nothing was told. The hasher says in which part a key is; where keys come from strangers it is to be one that they
-    /// cannot foresee.
+    /// Creates a store that holds nothing and has reported nothing. The hasher determines the part of a key; if untrusted clients choose
+    /// the keys, it should be one that they cannot predict.
     pub fn new(
         alloc: Global,
         config: Config,
@@ -119,13 +119,16 @@ impl<R: Rng + Drop, S: BuildHasher + Drop> Store for FrontStore<R, S> {
         output: &mut Vec<u8>,
         read: F,
     ) -> Result<T, E> {
+        let hash = self.front.hash(key);
+        let part = self.front.part_with_hash(hash);
+        let now = Instant::from_nanos(now);
         match self
             .front
-            .look_up(key, Instant::from_nanos(now), output, |found, output| {
+            .look_up_with_hash(key, hash, now, output, |found, output| {
                 read_bytes(found, output, read)
             }) {
             Ok(answer) => {
-                let told = drain(&mut self.front, &mut self.notices);
+                let told = drain_at(&mut self.front, part, &mut self.notices);
                 self.count -= told;
                 Ok(answer)
             }
@@ -149,14 +152,14 @@ impl<R: Rng + Drop, S: BuildHasher + Drop> Store for FrontStore<R, S> {
             milliseconds,
         )?;
         let part = insert(self.alloc, &mut self.front, key, value, now)?;
-        let told = drain(&mut self.front, &mut self.notices);
+        let told = drain_at(&mut self.front, part, &mut self.notices);
         self.count = self.count + 1 - told;
         Ok(part as u64)
     }
 
     fn remove(&mut self, key: &Key, now: u64) -> Result<(), StoreError> {
-        invalidate(&mut self.front, key, now)?;
-        let told = drain(&mut self.front, &mut self.notices);
+        let part = invalidate(&mut self.front, key, now)?;
+        let told = drain_at(&mut self.front, part, &mut self.notices);
         self.count -= told;
         Ok(())
     }

@@ -1,61 +1,14 @@
--- Turns that are found, begun and ended.
-use Rattle.std.proofs.Common.{◌≡◌, refl, ap, sym, ◌∙◌, subst, ℕ, zero, suc, ◌+◌, ◌≤◌, arith, Bool, true, false, cond, ◌&&◌, List, [], ◌∷◌, ◌++◌, drop, take, length, Option, Some, None, option_map, ◌==◌}
-use Rattle.std.proofs.lemmas.Bool.{eq-eqb, ne_eqb}
+-- Turns that begin and end.
+use Rattle.std.proofs.Common.{◌≡◌, refl, ap, sym, ◌∙◌, subst, ℕ, ◌+◌, ◌<◌, arith, Bool, true, false, cond, ◌&&◌, List, [], ◌∷◌, ◌++◌, Option, Some, None, ◌==◌}
+use Rattle.std.proofs.lemmas.Bool.{ne_eqb}
+use Rattle.std.proofs.lemmas.List.Elements.{All-from_recursion}
 use Rattle.std.specs.Cmp.{IsEquivalence}
-use Rattle.std.specs.Prelude.{slice_get, remove, IfSome}
+use Rattle.std.specs.List.{AllByRecursion}
+use Rattle.std.specs.Prelude.{All}
 use Rattle.front_reference.specs.declared.data.OpenTurn.{OpenTurn}
 use Rattle.front_reference.specs.declared.data.TurnKind.{TurnKind}
 use Rattle.front_reference.specs.declared.data.TurnKind.TheVariants as turns
 use Rattle.front_reference.specs.Fronts.{AreTurns, same_kind, turn_at, turn_of, without_turn}
-
-one_more : (n : ℕ) → suc n ≡ n + 1
-one_more n = omega arith
-
-drop-there : {X : Type 0} (xs : List X) (i : ℕ) (x : X) → slice_get xs i ≡ Some x → drop i xs ≡ x ∷ drop (suc i) xs
-drop-there [] i x h = absurd (cc)
-drop-there (y ∷ xs) zero x h = let same : y ≡ x = cc in ap (λ z. z ∷ xs) same
-drop-there (y ∷ xs) (suc i) x h = drop-there xs i x h
-
-drop_past : {X : Type 0} (xs : List X) (i : ℕ) → length xs ≤ i → drop i xs ≡ []
-drop_past [] zero h = refl
-drop_past [] (suc i) h = refl
-drop_past (x ∷ xs) zero h = absurd (omega arith)
-drop_past (x ∷ xs) (suc i) h = drop_past xs i (omega arith)
-
--- ---- finding
-
-module _ {K : Type 0} (eq : K → K → Bool) where
-  pub turn_of-here : (ts : List (OpenTurn K)) (i : ℕ) (t : OpenTurn K) (kind : TurnKind) (key : K) → slice_get ts i ≡ Some t → (same_kind t.kind kind && eq key t.key) ≡ true → turn_of eq (drop i ts) kind key ≡ Some t
-  turn_of-here ts i t kind key there is = ap (λ l. turn_of eq l kind key) (drop-there ts i t there) ∙ ap (λ b. cond b (Some t) (turn_of eq (drop (suc i) ts) kind key)) is
-
-  pub turn_of-past : (ts : List (OpenTurn K)) (i : ℕ) (t : OpenTurn K) (kind : TurnKind) (key : K) → slice_get ts i ≡ Some t → (same_kind t.kind kind && eq key t.key) ≡ false → turn_of eq (drop i ts) kind key ≡ turn_of eq ts kind key
-      → turn_of eq (drop (i + 1) ts) kind key ≡ turn_of eq ts kind key
-  turn_of-past ts i t kind key there is h =
-      sym (ap (λ l. turn_of eq l kind key) (drop-there ts i t there) ∙ ap (λ b. cond b (Some t) (turn_of eq (drop (suc i) ts) kind key)) is ∙ ap (λ k. turn_of eq (drop k ts) kind key) (one_more i)) ∙ h
-
-  pub turn_of-end : (ts : List (OpenTurn K)) (i : ℕ) (kind : TurnKind) (key : K) → length ts ≤ i → turn_of eq (drop i ts) kind key ≡ turn_of eq ts kind key → None ≡ option_map (λ t. t.number) (turn_of eq ts kind key)
-  turn_of-end ts i kind key past h = ap (λ o. option_map (λ t. t.number) o) (sym (ap (λ l. turn_of eq l kind key) (drop_past ts i past)) ∙ h)
-
-module _ {K : Type 0} where
-  turn_at-here : (ts : List (OpenTurn K)) (i n : ℕ) (t : OpenTurn K) → slice_get ts i ≡ Some t → t.number ≡ n → turn_at (drop i ts) n ≡ Some t
-  turn_at-here ts i n t there same = ap (λ l. turn_at l n) (drop-there ts i t there) ∙ ap (λ b. cond b (Some t) (turn_at (drop (suc i) ts) n)) (eq-eqb t.number n same)
-
-  without_turn-here : (ts : List (OpenTurn K)) (i n : ℕ) (t : OpenTurn K) → slice_get ts i ≡ Some t → t.number ≡ n → without_turn n (drop i ts) ≡ drop (suc i) ts
-  without_turn-here ts i n t there same = ap (λ l. without_turn n l) (drop-there ts i t there) ∙ ap (λ b. cond b (drop (suc i) ts) (t ∷ without_turn n (drop (suc i) ts))) (eq-eqb t.number n same)
-
-  pub turn-found : (ts : List (OpenTurn K)) (i n : ℕ) (t : OpenTurn K) → slice_get ts i ≡ Some t → t.number ≡ n → turn_at (drop i ts) n ≡ turn_at ts n → without_turn n ts ≡ take i ts ++ without_turn n (drop i ts)
-      → (u : OpenTurn K) × (slice_get ts i ≡ Some u) × (turn_at ts n ≡ Some u) × (without_turn n ts ≡ remove ts i)
-  turn-found ts i n t there same at others = (t, there, sym at ∙ turn_at-here ts i n t there same, others ∙ ap (λ l. take i ts ++ l) (without_turn-here ts i n t there same))
-
-  pub found_in : (r : Option ℕ) (number : ℕ) (a b : List (OpenTurn K)) → a ≡ b → IfSome r (λ i. (t : OpenTurn K) × (slice_get a i ≡ Some t) × (turn_at a number ≡ Some t) × (without_turn number a ≡ remove a i))
-      → IfSome r (λ i. (t : OpenTurn K) × (slice_get b i ≡ Some t) × (turn_at b number ≡ Some t) × (without_turn number b ≡ remove b i))
-  found_in r number a b same h = subst (λ x. IfSome r (λ i. (t : OpenTurn K) × (slice_get x i ≡ Some t) × (turn_at x number ≡ Some t) × (without_turn number x ≡ remove x i))) same h
-
-  pub turn_at-past : (ts : List (OpenTurn K)) (i n : ℕ) (t : OpenTurn K) → slice_get ts i ≡ Some t → (t.number ≡ n → ⊥) → turn_at (drop i ts) n ≡ turn_at ts n → turn_at (drop (i + 1) ts) n ≡ turn_at ts n
-  turn_at-past ts i n t there other h =
-      sym (ap (λ l. turn_at l n) (drop-there ts i t there) ∙ ap (λ b. cond b (Some t) (turn_at (drop (suc i) ts) n)) (ne_eqb t.number n other) ∙ ap (λ k. turn_at (drop k ts) n) (one_more i)) ∙ h
-
--- ---- what is kept of turns
 
 same_kind-symm : (a b : TurnKind) → same_kind a b ≡ same_kind b a
 same_kind-symm turns.With turns.With = refl
@@ -140,7 +93,27 @@ module _ {K : Type 0} (eq : K → K → Bool) (laws : IsEquivalence eq) (hash : 
       by_number false later = (of-without n xs x.kind x.key h.0, at-without n xs x.number h.1, h.2, h.3, later)
 
   -- the hash of a turn is its key's
-  pub turn-hashed : (next : ℕ) (ts : List (OpenTurn K)) (i : ℕ) (t : OpenTurn K) → AreTurns eq hash next ts → slice_get ts i ≡ Some t → t.hash ≡ hash t.key
-  turn-hashed next [] i t h at = absurd (let no : ⊥ = cc in no)
-  turn-hashed next (x ∷ xs) zero t h at = let same : x ≡ t = cc in subst (λ y. y.hash ≡ hash y.key) same h.3
-  turn-hashed next (x ∷ xs) (suc i) t h at = turn-hashed next xs i t h.4 at
+  pub turn-hashed : (next : ℕ) (ts : List (OpenTurn K)) (n : ℕ) (t : OpenTurn K) → AreTurns eq hash next ts → turn_at ts n ≡ Some t → t.hash ≡ hash t.key
+  turn-hashed next [] n t h at = absurd (let no : ⊥ = cc in no)
+  turn-hashed next (x ∷ xs) n t h at = by_number (x.number == n) at (λ e. turn-hashed next xs n t h.4 e)
+    where
+      by_number : (b : Bool) → cond b (Some x) (turn_at xs n) ≡ Some t → (turn_at xs n ≡ Some t → t.hash ≡ hash t.key) → t.hash ≡ hash t.key
+      by_number true e later = let same : x ≡ t = cc in subst (λ y. y.hash ≡ hash y.key) same h.3
+      by_number false e later = later e
+
+  -- each number is below the next
+  numbers_low-rec : (next : ℕ) (ts : List (OpenTurn K)) → AreTurns eq hash next ts → AllByRecursion (λ t. t.number < next) ts
+  numbers_low-rec next [] h = tt
+  numbers_low-rec next (x ∷ xs) h = (h.2, numbers_low-rec next xs h.4)
+
+  pub numbers_low : (next : ℕ) (ts : List (OpenTurn K)) → AreTurns eq hash next ts → All (λ t. t.number < next) ts
+  numbers_low next ts h = All-from_recursion (λ t. t.number < next) ts (numbers_low-rec next ts h)
+
+  -- the turns of a key have its hash
+  module _ (respects : (x y : K) → eq x y ≡ true → hash x ≡ hash y) where
+    stand_under-rec : (next : ℕ) (key : K) (ts : List (OpenTurn K)) → AreTurns eq hash next ts → AllByRecursion (λ t. eq key t.key ≡ true → t.hash ≡ hash key) ts
+    stand_under-rec next key [] h = tt
+    stand_under-rec next key (x ∷ xs) h = (λ same. h.3 ∙ sym (respects key x.key same), stand_under-rec next key xs h.4)
+
+    pub stand_under : (next : ℕ) (key : K) (ts : List (OpenTurn K)) → AreTurns eq hash next ts → All (λ t. eq key t.key ≡ true → t.hash ≡ hash key) ts
+    stand_under next key ts h = All-from_recursion (λ t. eq key t.key ≡ true → t.hash ≡ hash key) ts (stand_under-rec next key ts h)

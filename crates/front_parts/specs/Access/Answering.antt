@@ -1,4 +1,4 @@
--- What calls with closures answer, by what a cache does with values: which it sees and what it answers then.
+-- What calls with closures return, by what a cache does with values: which ones it sees and what it returns then.
 use Rattle.std.specs.Prelude.{◌≡◌, Bool, true, false, Option, Some, None, MatchOption, Result, Ok, Err}
 use Rattle.front_reference.specs.declared.data.Computed.{Computed}
 use Rattle.front_reference.specs.declared.data.Computed.TheVariants.{Inserted, ReplacedWith, Removed, StillNone, Unchanged}
@@ -11,24 +11,24 @@ use Rattle.front_reference.specs.declared.data.TurnKind.TheVariants.{Optionally,
 use Rattle.front_reference.specs.Parts.{op_decided}
 
 module _ {V F : Type 0} where
-  -- which outcomes a call of a kind may have; a call that is of no kind, and so waits for none, makes a value
+  -- which outcomes a call of a kind may have; a call without a kind, which waits for nobody, makes a value
   abbrev pub Suits : Option TurnKind → Made V F → Type 0
   Suits kind (Value v) = Unit {0}
   Suits (Some Optionally) Nothing = Unit {0}
   Suits (Some Try) (Fault f) = Unit {0}
   Suits kind other = ⊥
 
-  -- what was made, where there may be none
+  -- what was made, which may be nothing
   abbrev pub made_option : Option V → Made V F
   made_option (Some value) = Value value
   made_option None = Nothing
 
-  -- what was made, or why not
+  -- what was made, or why nothing was
   abbrev pub made_result : Result V F → Made V F
   made_result (Ok value) = Value value
   made_result (Err fault) = Fault fault
 
-  -- a value was made, and such a one
+  -- a value was made, with this property
   abbrev pub IsValueOf : (V → Type 0) → Made V F → Type 0
   IsValueOf Makes (Value v) = Makes v
   IsValueOf Makes Nothing = ⊥
@@ -46,7 +46,7 @@ module _ {V F : Type 0} where
   IsResultOf Makes Nothing = ⊥
   IsResultOf Makes (Fault f) = Makes (Err f)
 
-  -- a coalesced call: what is seen is asked about, a fresh answer is one that was made, and the cache did what it does with them
+  -- a coalesced call: the test is called on what is seen, a fresh result is one that was made, and the cache did what it does with them
   pub record Gives (Sees : Option V → Type 0) (Does : Bool → Made V F → Bool → Type 0) (Ignores : V → Bool → Type 0) (Makes : Made V F → Type 0) (answer : Made V F) (is_fresh : Bool) : Type 0 where
     pub seen : Option V
     pub sees : Sees seen
@@ -55,7 +55,7 @@ module _ {V F : Type 0} where
     pub made : is_fresh ≡ true → Makes answer
     pub does : Does ignored answer is_fresh
 
--- a coalesced call of a cache, by the words in which the cache says what it sees and does
+-- a coalesced call of a cache, by the definitions of what the cache sees and does
 abbrev pub IsCoalesced : {C W K V F : Type 0} → (C → W → K → Option V → Type 0) → (C → W → Option TurnKind → K → Bool → Made V F → Bool → C → Type 0)
     → Option TurnKind → W → K → (old new : C) → (Ignores : V → Bool → Type 0) → (Makes : Made V F → Type 0) → Made V F → Bool → Type 0
 IsCoalesced sees coalesced kind when key old new Ignores Makes answer is_fresh =
@@ -76,12 +76,12 @@ module _ {V : Type 0} where
   IsOutcomeOf Remove StillNone = Unit {0}
   IsOutcomeOf does done = ⊥
 
-  -- what is answered where a closure decided: what was done, or its error
+  -- what is returned after a closure decided: what was done, or its error
   abbrev pub done_as : {E : Type 0} → Result (Op V) E → Computed V → Result (Computed V) E
   done_as (Ok does) done = Ok done
   done_as (Err e) done = Err e
 
-  -- a compute call: a closure decides by what is seen, and the cache did that
+  -- a compute call: a closure decides by what is seen, and the cache does that
   pub record Decides {E : Type 0} (Sees : Option V → Type 0) (Does : Op V → Computed V → Type 0) (Says : Option V → Result (Op V) E → Type 0) (answer : Result (Computed V) E) : Type 0 where
     pub seen : Option V
     pub sees : Sees seen
@@ -92,7 +92,7 @@ module _ {V : Type 0} where
     pub fits : IsOutcomeOf (op_decided decided) done
     pub answers : answer ≡ done_as decided done
 
--- a compute call of a cache, by its words
+-- a compute call of a cache, by its definitions
 abbrev pub IsComputed : {C W K V E : Type 0} → (C → W → K → Option V → Type 0) → (C → W → K → Op V → Computed V → C → Type 0)
     → W → K → (old new : C) → (Says : Option V → Result (Op V) E → Type 0) → Result (Computed V) E → Type 0
 IsComputed sees computed when key old new Says answer = Decides (sees old when key) (λ does done. computed old when key does done new) Says answer

@@ -7,7 +7,7 @@ use Rattle.front_parts.specs.declared.access.entry.CompResult.{CompResult}
 use Rattle.front_parts.specs.declared.access.entry.CompResult.TheVariants.{StillNone, Unchanged, Inserted, ReplacedWith, Removed}
 
 module _ {K V : Type 0} where
-  -- a key with a value: whether the value was made or put, and whether in the place of a visible one
+  -- a key with a value: whether the value was made or put, and whether it replaced a visible one
   abbrev pub entry_with : K → V → Bool → Bool → Entry K V
   entry_with key value is_fresh is_replaced = record { key = key; value = value; is_fresh = is_fresh; is_old_value_replaced = is_replaced }
 
@@ -36,7 +36,7 @@ module _ {K V : Type 0} where
   result_shown key (Ok done) = Ok (shown_as key done)
   result_shown key (Err e) = Err e
 
-  -- what is seen, as a closure gets it
+  -- what is seen, as a closure receives it
   abbrev pub seen_entry : K → Option V → Option (Entry K V)
   seen_entry key None = None
   seen_entry key (Some v) = Some (found_entry key v)

@@ -30,13 +30,13 @@ abbrev pub IsRefusedBy : (Refuses : CacheError → Type 0) → CacheError → Ty
 IsRefusedBy Refuses e = (e ≡ OutOfMemory) ⊎ Refuses e
 
 module _ {K V F : Type 0} where
-  -- the entry of what was answered, where it is a value
+  -- the entry of what was returned, if it is a value
   abbrev pub option_shown : K → Bool → Made V F → Option (Entry K V)
   option_shown key is_fresh (Value v) = Some (entry_with key v is_fresh false)
   option_shown key is_fresh Nothing = None
   option_shown key is_fresh (Fault f) = None
 
-  -- the entry of what was answered, or the fault
+  -- the entry of what was returned, or the fault
   abbrev pub IsResultShown : K → Bool → Made V F → Result (Entry K V) F → Type 0
   IsResultShown key is_fresh (Value v) shown = shown ≡ Ok (entry_with key v is_fresh false)
   IsResultShown key is_fresh (Fault f) shown = shown ≡ Err f
@@ -69,7 +69,7 @@ pub record ComputesEntry {C W K V E : Type 0} (sees : C → W → K → Option V
   pub computes : IsComputed sees computed s.when s.key s.owner.now new Says answer
   pub shows : shown ≡ result_shown s.key answer
 
--- a closure that never fails decided so
+-- a closure that never fails decided this
 abbrev pub DecidesAlways : {V E : Type 0} → (Option V → Op V → Type 0) → Option V → Result (Op V) E → Type 0
 DecidesAlways Says seen (Ok does) = Says seen does
 DecidesAlways Says seen (Err e) = ⊥
@@ -79,7 +79,7 @@ abbrev pub PutsAlways : {V E : Type 0} → (Option V → V → Type 0) → Optio
 PutsAlways Makes seen (Ok (Put value)) = Makes seen value
 PutsAlways Makes seen other = ⊥
 
--- a closure made a value of what was seen, which was put, and the entry shows it
+-- a closure made a value from what was seen, it was put, and the entry shows it
 pub record PutsEntry {C W K V : Type 0} (sees : C → W → K → Option V → Type 0) (computed : C → W → K → Op V → Computed V → C → Type 0)
     (s : EntrySelector K C W) (new : C) (Makes : Option V → V → Type 0) (shown : Entry K V) : Type 0 where
   pub done : CompResult K V

@@ -1,4 +1,4 @@
--- What a call does to a front, said of the part that its key belongs to.
+-- What a call does to a front, in terms of the part that its key belongs to.
 use Rattle.std.specs.Prelude.{◌≡◌, ℕ, ◌+◌, ◌^◌, ◌<◌, ◌≤◌, Bool, false, List, [], Option, Some, None, Result, Ok, Vec, length, slice_get}
 use Rattle.std.specs.declared.hash.Hasher as hashers
 use Rattle.std.specs.declared.hash.BuildHasher as builders
@@ -20,13 +20,13 @@ use Rattle.front_reference.specs.declared.errors.CacheError.{CacheError}
 use Rattle.front_reference.specs.declared.errors.CacheError.TheVariants as errors
 use Rattle.engine_reference.specs.Asking.{answers_of}
 
--- what rules answer, which keys are equal, and how a hasher hashes a key
+-- the results of rules, which keys are equal, and how a hasher hashes a key
 pub record Ways (K V P S R : Type 0) : Type 0 where
   pub answers : Answers K V P R
   pub eq : K → K → Bool
   pub hash : S → K → ℕ
 
--- by what rules, hashers and their builders have as traits
+-- the same, from the traits of rules, hashers and their builders
 abbrev pub ways_by : {K V P F S R H : Type 0} → rules.Ghosts R K V P F → (K → K → Bool) → (K → List (List ℕ)) → builders.Ghosts S H → hashers.Ghosts H → Ways K V P S R
 ways_by r eq hash_input b h = record {
   answers = answers_of r.weight_of r.created r.read r.updated r.covers;
@@ -61,11 +61,11 @@ module _ {K V P S R : Type 0} (ways : Ways K V P S R) where
   abbrev pub visible_in : Front K V P S R → (now : ℕ) → K → Option V
   visible_in f now key = visible_of (part_with f key) now key
 
-  -- what is visible of a key in a part is asked about
+  -- the test is called on what is visible of a key in a part
   abbrev pub AsksOf : Option (State K V P S R) → (now : ℕ) → K → (Ignores : V → Bool → Type 0) → (ignored : Bool) → Type 0
   AsksOf o now key Ignores ignored = (value : V) → visible_of o now key ≡ Some value → Ignores value ignored
 
-  -- the same, as the first of two answers
+  -- the same for the first of two results
   abbrev pub IsAskedFirst : Option (State K V P S R) → (now : ℕ) → K → (Ignores : V → Bool → Type 0) → Bool × Option V → Type 0
   IsAskedFirst o now key Ignores answer = AsksOf o now key Ignores answer.0
 
@@ -81,12 +81,12 @@ module _ {K V P S R : Type 0} (ways : Ways K V P S R) where
   abbrev pub held_value_in : Front K V P S R → K → Option V
   held_value_in f key = held_of (part_with f key) key
 
-  -- the tickets of 64 bits do not suffice in a part for so much room
+  -- the 64-bit tickets do not suffice in a part for this much room
   abbrev pub LacksTickets : (rooms : Settings → ℕ) → Option (State K V P S R) → Type 0
   LacksTickets rooms None = ⊥
   LacksTickets rooms (Some s) = 2 ^ 64 ≤ s.next_ticket + s.reserved + rooms s.settings
 
-  -- why a call on a part is refused for which so much room is to be made
+  -- why a call on a part that needs this much room is refused
   abbrev pub IsCauseOf : (rooms : Settings → ℕ) → Option (State K V P S R) → CacheError → Type 0
   IsCauseOf rooms o errors.OutOfMemory = Unit {0}
   IsCauseOf rooms o errors.UsedUp = LacksTickets rooms o
@@ -114,19 +114,19 @@ module _ {K V P S R : Type 0} (ways : Ways K V P S R) where
   abbrev pub InsertsIn : K → V → At → Front K V P S R → Front K V P S R → Type 0
   InsertsIn key value at = CallsKey key at (λ hash. Inserts ways.answers ways.eq key hash value at.now at.step)
 
-  -- a key is taken out
+  -- a key is removed
   abbrev pub TakesOutIn : K → At → Front K V P S R → Front K V P S R → Type 0
   TakesOutIn key at = CallsKey key at (λ hash. TakesOut ways.answers ways.eq key at.now)
 
-  -- a coalesced call, over what its closures may answer: what it answers, and whether that was made now
+  -- a coalesced call, by what its closures may return: its result, and whether that was made now
   abbrev pub CoalescesIn : {F : Type 0} → K → At → (Ignores : V → Bool → Type 0) → (Makes : Made V F → Type 0) → Front K V P S R → Front K V P S R → Made V F → (is_fresh : Bool) → Type 0
   CoalescesIn key at Ignores Makes old new answer is_fresh = CallsKey key at (λ hash s t. Coalesces ways.answers ways.eq key hash at.now at.step Ignores Makes s t answer is_fresh) old new
 
-  -- a compute call, over what its closure may decide
+  -- a compute call, by what its closure may decide
   abbrev pub ComputesIn : {E : Type 0} → K → At → (Decides : Option V → Result (Op V) E → Type 0) → Front K V P S R → Front K V P S R → Result (Computed V) E → Type 0
   ComputesIn key at Decides old new answer = CallsKey key at (λ hash s t. Computes ways.answers ways.eq key hash at.now at.step Decides s t answer) old new
 
-  -- the same, of a part at a place, and over what the closure that makes answers
+  -- the same for a part at a place, by what the closure that makes a value returns
   abbrev pub CoalescesAt : {F E G : Type 0} → (place : ℕ) → K → (hash : ℕ) → At → (Ignores : V → Bool → Type 0) → (Makes : Result (Made V F) E → Type 0) → Vec (State K V P S R) G → Vec (State K V P S R) G → Made V F × Bool → Type 0
   CoalescesAt place key hash at Ignores Makes old new answer = CallsAt place (λ s t. Coalesces ways.answers ways.eq key hash at.now at.step Ignores (λ made. Makes (Ok made)) s t answer.0 answer.1) old.items new.items
 

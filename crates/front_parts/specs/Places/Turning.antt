@@ -1,7 +1,7 @@
 -- What turns are begun and ended for, said of the part that a key belongs to.
-use Rattle.std.specs.Prelude.{◌≡◌, ℕ, ◌+◌, ◌^◌, ◌≤◌, Bool, List, Some, None, remove, slice_get}
+use Rattle.std.specs.Prelude.{◌≡◌, ℕ, ◌+◌, ◌^◌, ◌≤◌, Bool, Some, None}
 use Rattle.engine_reference.specs.Scanning.{NotesLookUp}
-use Rattle.front_reference.specs.Fronts.{Front, CallsPart, part_by_hash, turn_at, turn_of, without_turn}
+use Rattle.front_reference.specs.Fronts.{Front, CallsPart, part_by_hash, turn_at, turn_of}
 use Rattle.front_reference.specs.Turns.{Begins, abandoned, turn_ended, with_turn, wait_or_lead}
 use Rattle.front_reference.specs.Parts.{Operates}
 use Rattle.front_reference.specs.declared.data.At.{At}
@@ -15,10 +15,6 @@ use Rattle.front_reference.specs.declared.data.TurnStart.{TurnStart}
 use Rattle.front_reference.specs.declared.errors.CacheError.{CacheError}
 use Rattle.front_reference.specs.declared.errors.CacheError.TheVariants as errors
 use Rattle.front_parts.specs.Places.Calls.{IsCauseOf, Ways}
-
--- the turn of a number stands at this place, and is the one that leaves with the number
-abbrev pub IsTurnPlace : {K : Type 0} → (number : ℕ) → List (OpenTurn K) → (place : ℕ) → Type 0
-IsTurnPlace {K} number turns place = (t : OpenTurn K) × (slice_get turns place ≡ Some t) × (turn_at turns number ≡ Some t) × (without_turn number turns ≡ remove turns place)
 
 -- why no turn is begun: there was no memory, or the numbers of 64 bits are used up
 abbrev pub IsTurnCause : (next_turn : ℕ) → CacheError → Type 0
@@ -50,17 +46,13 @@ module _ {K V P S R : Type 0} (ways : Ways K V P S R) where
     pub writes : CallsPart turn.hash at.now at.step (Operates ways.answers ways.eq turn.key turn.hash at.now at.step does) old mid
     pub ends : new ≡ turn_ended number mid
 
-  -- the turn at a place ends so
-  abbrev pub EndsTurnAt : (place number : ℕ) → (does : Op V) → At → Front K V P S R → Front K V P S R → Type 0
-  EndsTurnAt place number does at old new = (turn : OpenTurn K) → slice_get old.turns place ≡ Some turn → EndsTurn number turn does at old new
-
-  -- why the value of the turn at a place is refused
-  abbrev pub IsCauseAt : (place : ℕ) → Front K V P S R → CacheError → Type 0
-  IsCauseAt place f e = (turn : OpenTurn K) → slice_get f.turns place ≡ Some turn → IsCauseOf ways (λ settings. 1) (part_by_hash f turn.hash) e
+  -- the turn of a number ends so
+  abbrev pub EndsTurnOf : (number : ℕ) → (does : Op V) → At → Front K V P S R → Front K V P S R → Type 0
+  EndsTurnOf number does at old new = (turn : OpenTurn K) → turn_at old.turns number ≡ Some turn → EndsTurn number turn does at old new
 
   -- a turn ends with what was made: a value is inserted, and else nothing is done
   abbrev pub FinishesBy : {F : Type 0} → (number : ℕ) → Made V F → At → Front K V P S R → Front K V P S R → Type 0
-  FinishesBy number (made.Value value) at old new = (turn : OpenTurn K) → turn_at old.turns number ≡ Some turn → EndsTurn number turn (op.Put value) at old new
+  FinishesBy number (made.Value value) at old new = EndsTurnOf number (op.Put value) at old new
   FinishesBy number made.Nothing at old new = new ≡ abandoned number at.now at.step old
   FinishesBy number (made.Fault fault) at old new = new ≡ abandoned number at.now at.step old
 

@@ -27,7 +27,7 @@ module _ {K V P S R : Type 0} where
   abbrev pub HaveRoom : List (State K V P S R) → Type 0
   HaveRoom parts = (place : ℕ) (s : State K V P S R) → slice_get parts place ≡ Some s → 0 < s.reserved
 
-  -- one part has no room for one more, as the tickets of 64 bits do not suffice
+  -- one part has no room for one more, as the 64-bit tickets do not suffice
   abbrev pub SomeLacksTickets : List (State K V P S R) → Type 0
   SomeLacksTickets parts = (place : ℕ) × (s : State K V P S R) × (slice_get parts place ≡ Some s) × (2 ^ 64 ≤ s.next_ticket + s.reserved + 1)
 
@@ -48,7 +48,7 @@ module _ {K V P S R : Type 0} where
   IsCoverCause parts old new errors.IdsInUse = DrawsInVain parts old new
   IsCoverCause parts old new other = ⊥
 
-  -- all parts draw an identifier each, and register the predicate under it; the first identifier is answered
+  -- all parts draw an identifier each, and register the predicate under it; the first identifier is returned
   pub record CoversEach (predicate : P) (step : ℕ) (drawn left : Stream) (first : ℕ) (old new : List (State K V P S R)) : Type 0 where
     pub ids : List ℕ
     pub draws : DrawAll old drawn left ids

@@ -28,7 +28,7 @@ pub trait Access<K, V: Clone> {
     // what is visible of a key
     ghost sees: { Self → Self.When → K → Option V → Type 0 };
 
-    // what a coalesced call does, where a visible value is passed over or not: its answer, whether it is fresh, and the cache after it
+    // what a coalesced call does, whether a visible value is passed over or not: its result, whether it is fresh, and the cache after it
     ghost coalesced: { Self → Self.When → Option TurnKind → K → Bool → Made V Self.Fault → Bool → Self → Type 0 };
 
     // what an operation does to a key: what it is said to have done, and the cache after it

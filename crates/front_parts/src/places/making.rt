@@ -1,4 +1,4 @@
-//! Parts that were just made.
+//! Parts that were just created.
 ghost use Rattle.std.specs.Prelude.{◌≡◌, ◌<◌, ◌≤◌, None, IfOk, length};
 ghost use Rattle.engine_reference.specs.Calls.{IsNew};
 ghost use Rattle.front_reference.specs.Fronts.{share_of};
@@ -10,7 +10,7 @@ use policy_base::HousekeeperConfig;
 use std::alloc::{AllocError, Global};
 use std::hash::{BuildHasher, Hash};
 
-/// The share of each of so many parts of a wanted capacity: its ceiling.
+/// The share of each of this many parts of a configured capacity, rounded up.
 fn share_of(parts: u64, capacity: u64) -> u64
     requires some { 0 < parts }
     requires few { parts ≤ 65536 }
@@ -20,7 +20,7 @@ fn share_of(parts: u64, capacity: u64) -> u64
     (wanted / u128::from(parts)) as u64
 }
 
-/// What each of so many parts is made with: its share of the capacity of all.
+/// What each of this many parts is made with: its share of the capacity of all.
 pub fn for_part(parts: u64, settings: Settings) -> Settings
     requires some { 0 < parts }
     requires few { parts ≤ 65536 }
@@ -41,7 +41,7 @@ pub fn for_part(parts: u64, settings: Settings) -> Settings
     }
 }
 
-/// So many parts, each with room for so many entries.
+/// This many parts, each with room for this many entries.
 pub fn new_parts<
     K: Eq + Hash + Drop,
     V: Drop,

@@ -7,11 +7,12 @@ ghost use Rattle.engine_reference.specs.Asking.{answers_of};
 ghost use Rattle.front_reference.specs.Parts.{Inserts, TakesOut};
 ghost use Rattle.front_reference.specs.Fronts.{CallsAt};
 ghost use Rattle.front_parts.specs.Places.Calls.{CoalescesAt, ComputesAt, IsAskedFirst, IsCauseOf, IsOpenAt, seen_of, visible_of, held_of, ways_by};
+ghost use Rattle.front_parts.specs.Places.Told.{told_at, without_told_at};
 ghost use Rattle.moka_engine.specs.Showing.{IsShown};
 
 use crate::{
-    BaseCache, coalesce, compute, contains_key, get, insert, insert_or_back, invalidate, look,
-    remove,
+    BaseCache, Notice, coalesce, compute, contains_key, get, insert, insert_or_back, invalidate,
+    look, remove,
 };
 use engine_reference::{Names, Rules};
 use front_reference::{At, CacheError, Computed, IntoKey, Made, Op};
@@ -19,7 +20,7 @@ use policy_base::Instant;
 use std::alloc::AllocError;
 use std::hash::{BuildHasher, Hash, Hasher};
 
-/// `get` of the part at a place.
+/// Calls `get` of the part at a place.
 pub fn get_at<K: Eq + Hash + Drop, V: Clone + Drop, S: BuildHasher, R: Rules<K, V>, Q: Names<K>>(
     parts: &mut Vec<BaseCache<K, V, S, R>>,
     place: usize,
@@ -102,7 +103,7 @@ pub fn remove_at<
     }
 }
 
-/// `invalidate` of the part at a place.
+/// Calls `invalidate` of the part at a place.
 pub fn invalidate_at<
     K: Eq + Hash + Clone + Drop,
     V: Clone + Drop,
@@ -239,7 +240,7 @@ pub fn note_at<K: Eq + Hash + Drop, V: Drop, S: BuildHasher, R: Rules<K, V>, Q: 
     part.note_look_up(key, hash, now, ignored);
 }
 
-/// `look_up_with_hash` of the part at a place.
+/// Calls `look_up_with_hash` of the part at a place.
 pub fn look_up_at<
     K: Eq + Hash + Drop,
     V: Drop,
@@ -272,7 +273,7 @@ pub fn look_up_at<
     }
 }
 
-/// `insert` into the part at a place, of a value that is handed back where it is refused.
+/// `insert` into the part at a place; a refused value is returned.
 pub fn insert_or_back_at<K: Eq + Hash + Drop, V: Drop, S: BuildHasher, R: Rules<K, V>>(
     parts: &mut Vec<BaseCache<K, V, S, R>>,
     place: usize,
@@ -292,4 +293,19 @@ pub fn insert_or_back_at<K: Eq + Hash + Drop, V: Drop, S: BuildHasher, R: Rules<
         Ok(()) => Ok(()),
         Err((refused, value)) => Err((refused, value)),
     }
+}
+
+/// Takes the oldest notice of the part at a place, or none if there is no such part.
+pub fn next_notice_at<K: Eq + Hash, V, S: BuildHasher, R: Rules<K, V>>(
+    parts: &mut Vec<BaseCache<K, V, S, R>>,
+    place: usize,
+) -> Option<Notice<K, V>>
+    ensures notice { result ≡ told_at place parts.old.items }
+    ensures taken { parts.new.items ≡ without_told_at place parts.old.items }
+{
+    if place >= parts.len() {
+        return None;
+    }
+    let part = &mut parts[place];
+    part.next_notice()
 }

@@ -425,7 +425,7 @@ module _ {K V P S R : Type 0} (b : ℕ) where
         left-going why n s h =
             let q = left-frame why n s in
             subst (λ l. Closing l (left why n s).writes (left why n s)) (sym q.reads) (subst (λ l. Closing s.reads l (left why n s)) (sym q.writes) (closing-left s.reads s.writes why n s h))
-    closing-step s t sound h (evicts r applied above next after) = subst (λ x. Closing x.reads x.writes x) (sym after) (left-going cause.Size r.number s h)
+    closing-step s t sound h (evicts r applied clean above next after) = subst (λ x. Closing x.reads x.writes x) (sym after) (left-going cause.Size r.number s h)
       where
         left-going : (why : RemovalCause) (n : ℕ) (s : State K V P S R) → Closing s.reads s.writes s → Closing (left why n s).reads (left why n s).writes (left why n s)
         left-going why n s h =

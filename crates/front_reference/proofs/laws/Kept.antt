@@ -76,7 +76,7 @@ module _ {K V P S R : Type 0} where
     bare-step s t h (writes w rest none e after) = absurd (let both : [] ≡ w ∷ rest = sym h.writes ∙ e in cc)
     bare-step s t h (grows words applied wants capacity is_set size after) = subst (λ x. IsBare x) (sym after) (record { records = h.records; access = h.access; writes = h.writes })
     bare-step s t h (leaves r why applied there held due after) = absurd (let both : None ≡ Some r = sym (ap (λ rs. record_at rs r.number) h.records) ∙ there in cc)
-    bare-step s t h (evicts r applied above next after) = absurd (let both : None ≡ Some r = sym (ap (λ ns. first_of (settled_in s.records ns)) h.access) ∙ next in cc)
+    bare-step s t h (evicts r applied clean above next after) = absurd (let both : None ≡ Some r = sym (ap (λ ns. first_of (settled_in s.records ns)) h.access) ∙ next in cc)
     bare-step s t h (ends place p applied there none after) = subst (λ x. IsBare x) (sym after) (record { records = h.records; access = h.access; writes = h.writes })
 
     bare-steps : (stages : List (State K V P S R)) (s t : State K V P S R) → IsBare s → Steps answers now s stages t → IsBare t

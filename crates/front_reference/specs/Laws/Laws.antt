@@ -22,7 +22,7 @@ use Rattle.front_reference.specs.Keeping.{Common, IsKept}
 use Rattle.front_reference.specs.Parts.{Inserts, TakesOut, Operates, Acts, Coalesces, Computes}
 
 module _ (K V P S R : Type 0) where
-  -- calls come at moments that do not fall and at steps that do not, and keys belong to the part
+  -- calls come at moments and steps that do not fall, and keys belong to the part
   pub record CallsKeep : Type 0 where
     -- time may pass
     pub later : (common : Common S R) (limit : ℕ) (eq : K → K → Bool) (belongs : K → Bool) (moment step now next : ℕ) (s : State K V P S R)
@@ -40,17 +40,18 @@ module _ (K V P S R : Type 0) where
         → moment ≤ now → step ≤ next → belongs key ≡ true → Operates answers eq key hash now next does old new → IsKept 63 eq common belongs moment step old → IsKept 63 eq common belongs now next new
     pub acted : (common : Common S R) (eq : K → K → Bool) → IsEquivalence eq → (belongs : K → Bool) (answers : Answers K V P R) (moment step now next : ℕ) (old new : State K V P S R) (key : K) (hash : ℕ) (ignored : Bool) (does : Op V)
         → moment ≤ now → step ≤ next → belongs key ≡ true → Acts answers eq key hash now next ignored does old new → IsKept 63 eq common belongs moment step old → IsKept 63 eq common belongs now next new
-    -- a run that is asked for
+    -- a run that was requested
     pub ran : (common : Common S R) (eq : K → K → Bool) → IsEquivalence eq → (belongs : K → Bool) (answers : Answers K V P R) (moment step now next : ℕ) (old new : State K V P S R)
         → moment ≤ now → step ≤ next → RunsToEnd answers now old new → IsKept 63 eq common belongs moment step old → IsKept 63 eq common belongs now next new
-    -- clears, predicates, room that is made or given back, notices; and a part that was just made is so
+    -- clears, predicates, room that is made or given up, notices; and it holds for a part that was just created
     pub cleared : (common : Common S R) (limit : ℕ) (eq : K → K → Bool) (belongs : K → Bool) (moment step at : ℕ) (s : State K V P S R) → IsKept limit eq common belongs moment step s → IsKept limit eq common belongs moment step (cleared_by at s)
     pub covered : (common : Common S R) (limit : ℕ) (eq : K → K → Bool) (belongs : K → Bool) (moment step : ℕ) (p : Registered P) (s : State K V P S R) → IsKept limit eq common belongs moment step s → IsKept limit eq common belongs moment step (with_predicate p s)
     pub reserved : (common : Common S R) (limit : ℕ) (eq : K → K → Bool) (belongs : K → Bool) (moment step number : ℕ) (s : State K V P S R) → IsKept limit eq common belongs moment step s → IsKept limit eq common belongs moment step (record s { reserved = number })
     pub taken : (common : Common S R) (limit : ℕ) (eq : K → K → Bool) (belongs : K → Bool) (moment step : ℕ) (s : State K V P S R) → IsKept limit eq common belongs moment step s → IsKept limit eq common belongs moment step (without_notice s)
     pub empty : (common : Common S R) (eq : K → K → Bool) (belongs : K → Bool) (name : Option (List ℕ)) (s : State K V P S R) → IsNew name common.settings common.hasher common.rules s → IsKept 63 eq common belongs common.settings.made 0 s
 
-  -- single calls and runs keep a part close, where moments do not fall; a read comes less than 300 milliseconds after the last run, since a run is due else
+  -- single calls and runs keep a part close if moments do not fall; a read comes less than 300 milliseconds after the last run, since
+  -- otherwise a run is due
   pub record CallsStayClose : Type 0 where
     pub empty : (s : State K V P S R) → s.records ≡ [] → s.access ≡ [] → IsClose false s.ran s
     pub later : (late : Bool) (moment now : ℕ) (s : State K V P S R) → moment ≤ now → IsClose late moment s → IsClose late now s
@@ -65,10 +66,10 @@ module _ (K V P S R : Type 0) where
     pub covered : (p : Registered P) (late : Bool) (moment : ℕ) (s : State K V P S R) → IsClose late moment s → IsClose late moment (with_predicate p s)
     pub reserved : (number : ℕ) (late : Bool) (moment : ℕ) (s : State K V P S R) → IsClose late moment s → IsClose late moment (record s { reserved = number })
     pub taken : (late : Bool) (moment : ℕ) (s : State K V P S R) → IsClose late moment s → IsClose late moment (without_notice s)
-    -- a run, to its end or cut, that began with all tickets sent
+    -- a run, to its end or cut short, that began with all tickets sent
     pub run : (answers : Answers K V P R) (late : Bool) (moment now : ℕ) (old new : State K V P S R)
         → IsInOrder old → old.unsent ≡ [] → moment ≤ now → Runs answers now old new → IsClose late moment old → IsClose false now new
-    -- maintenance where it is due, after which less than 300 milliseconds have passed since the last run
+    -- maintenance if it is due, after which less than 300 milliseconds have passed since the last run
     pub maintained : (answers : Answers K V P R) (late : Bool) (now : ℕ) (old new : State K V P S R)
         → IsInOrder old → old.unsent ≡ [] → MaintainsIfDue answers now old new → IsClose late now old → IsClose false now new × (now < new.ran + 300000000)
 
@@ -76,7 +77,7 @@ module _ (K V P S R : Type 0) where
     -- after a run no record was used 300 milliseconds or more before one in front of it on the access list
     pub ordered : (common : Common S R) (limit : ℕ) (eq : K → K → Bool) (belongs : K → Bool) (answers : Answers K V P R) (moment step now : ℕ) (old new : State K V P S R)
         → moment ≤ now → Runs answers now old new → IsKept limit eq common belongs moment step old → InOrderBy IsUsedBefore new.records new.access
-    -- none is 300 milliseconds or more past its last use plus the idle time, where the first of the access list is not past that
+    -- none is 300 milliseconds or more past its last use plus the idle time, if the first of the access list is not past that
     pub idle : (common : Common S R) (limit : ℕ) (eq : K → K → Bool) (belongs : K → Bool) (answers : Answers K V P R) (moment step now : ℕ) (old new : State K V P S R)
         → moment ≤ now → Runs answers now old new → ((r : Record K V) → first_of (admitted_in new.records new.access) ≡ Some r → is_reached (end_of r.entry.used new.settings.idle) now ≡ false)
         → IsKept limit eq common belongs moment step old → (time : ℕ) → common.settings.idle ≡ Some time → Each (λ r. now < r.entry.used + time + 300000000) new.records
@@ -86,7 +87,7 @@ module _ (K V P S R : Type 0) where
         → (time : ℕ) → common.settings.idle ≡ Some time → Each (λ r. now < r.entry.used + time + 300000000) new.records
 
 module _ (K V P S R F : Type 0) where
-  -- a coalesced call keeps its part, whatever its closures answer
+  -- a coalesced call keeps its part, whatever its closures return
   abbrev pub CoalescesKeep : Type 0
   CoalescesKeep =
       (common : Common S R) (eq : K → K → Bool) → IsEquivalence eq → (belongs : K → Bool) (answers : Answers K V P R) (moment step now next : ℕ) (old new : State K V P S R) (key : K) (hash : ℕ) (end : Made V F) (is_fresh : Bool)

@@ -4,6 +4,7 @@ ghost use Rattle.std.specs.Result.{IsErrOf};
 ghost use Rattle.std.specs.String.{string_bytes};
 ghost use Rattle.front_reference.specs.Fronts.{ComesAfter, part_of};
 ghost use Rattle.front_reference.specs.Wholes.{next_told, without_told};
+ghost use Rattle.front_parts.specs.Places.Told.{told_at, without_told_at};
 ghost use Rattle.front_parts.specs.Places.Calls.{IsSteadyBy, hash_in, visible_in, ways_by};
 ghost use Rattle.front_reference.specs.declared.errors.CacheError.TheVariants as errors;
 ghost use Rattle.front_state.specs.Covering.{CoversAll, GivesVisible, IsCauseToCover, keys_in};
@@ -12,8 +13,8 @@ ghost use Rattle.front_parts.specs.Wholes.Covering.{id_text};
 use crate::state::{LentState, PredicateId, Segmented, Single};
 use engine_reference::Rules;
 use front_parts::{
-    Iter, Notice, ScanningGet, clone_each, cover_all, hash_key, keys_at, next_notice, place_of,
-    scan_at, write_id,
+    Iter, Notice, ScanningGet, clone_each, cover_all, hash_key, keys_at, next_notice,
+    next_notice_at, place_of, scan_at, write_id,
 };
 use front_reference::{At, CacheError, LentKey, Shared};
 use policy_base::Instant;
@@ -69,6 +70,20 @@ impl<K: Eq + Hash, V, S: BuildHasher, R: Rules<K, V>, C> LentState<K, V, S, R, C
         ensures taken { self.new ≡ record self.old { parts = without_told self.old.parts } }
     {
         next_notice(&mut self.parts)
+    }
+
+    /// Takes the oldest notice of a part, or none if there is no such part. After a call on one key only its part may have further notices.
+    /// ```
+    /// let segment = cache.part(&7);
+    /// while let Some(notice) = cache.next_notice_of_part(segment) {
+    ///     log(&notice.key, notice.cause);
+    /// }
+    /// ```
+    pub fn next_notice_of_part(&mut self, part: usize) -> Option<Notice<Shared<K>, V>>
+        ensures notice { result ≡ told_at part self.old.parts }
+        ensures taken { self.new ≡ record self.old { parts = without_told_at part self.old.parts } }
+    {
+        next_notice_at(&mut self.parts, part)
     }
 
     /// Registers a predicate in all parts, or in none if it is refused. It covers what was written at earlier steps, so it needs a later

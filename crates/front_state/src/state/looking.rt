@@ -2,7 +2,7 @@
 ghost use Rattle.std.specs.Prelude.{◌≡◌, ◌≤◌, OnOk, OnErr, option_map};
 ghost use Rattle.engine_reference.specs.Asking.{answers_of};
 ghost use Rattle.front_reference.specs.Wholes.{visible_number};
-ghost use Rattle.front_parts.specs.Places.Calls.{LooksUpIn, visible_in, ways_by};
+ghost use Rattle.front_parts.specs.Places.Calls.{LooksUpIn, hash_in, visible_in, ways_by};
 ghost use Rattle.front_parts.specs.Showing.{IsShown};
 
 use crate::state::LentState;
@@ -35,8 +35,9 @@ impl<K: Eq + Hash, V, S: BuildHasher, R: Rules<K, V>, C> LentState<K, V, S, R, C
         count_visible(self.parts.as_slice(), now)
     }
 
-    /// A look-up without a clone: `see` is handed what is visible of a key, if anything is, and what is behind `output`. Where it answers `Ok` this is a use of the value, or a miss that is counted; where it answers `Err` nothing has changed. The step stays as it was.
-    /// The key is hashed and found once.
+    /// Looks a key up without a clone: `see` is passed the visible value, if there is one, and the value behind `output`. If it returns
+    /// `Ok`, this is a use of the value, or a miss that is counted; if it returns `Err` nothing has changed. The step stays as it was. The
+    /// key is hashed and found once.
     /// ```
     /// cache.look_up(&7, now, &mut lengths, |found, lengths| match found {
     ///     Some(text) => lengths.push(text.len()),
@@ -60,6 +61,35 @@ impl<K: Eq + Hash, V, S: BuildHasher, R: Rules<K, V>, C> LentState<K, V, S, R, C
         ensures err { OnErr result (self.new ≡ self.old) }
     {
         let hash = hash_key(&self.hasher, key);
+        self.look_up_with_hash(key, hash, now, output, see)
+    }
+
+    /// Like `look_up`, with the hash of the key.
+    /// ```
+    /// let hash = cache.hash(&7);
+    /// cache.look_up_with_hash(&7, hash, now, &mut lengths, |found, lengths| match found {
+    ///     Some(text) => lengths.push(text.len()),
+    ///     None => Ok(()),
+    /// })?;
+    /// ```
+    pub fn look_up_with_hash<O, T, E, F: FnOnce(Option<&V>, &mut O) -> Result<T, E> + Drop>(
+        &mut self,
+        key: &K,
+        hash: u64,
+        now: Instant,
+        output: &mut O,
+        see: F,
+    ) -> Result<T, E>
+    where
+        K: Drop,
+        V: Drop,
+        requires hashed { hash ≡ hash_in (ways_by R.Rules K.eq K.hash_input S.BuildHasher S.Hasher.Hasher) self.old key.now }
+        requires later { self.old.moment ≤ now }
+        requires callable { F.IsAlwaysCallable see }
+        ensures shown { IsShown F.FnOnce see (visible_in (ways_by R.Rules K.eq K.hash_input S.BuildHasher S.Hasher.Hasher) self.old now key.now) output.old result output.new }
+        ensures used { OnOk result (LooksUpIn (ways_by R.Rules K.eq K.hash_input S.BuildHasher S.Hasher.Hasher) key.now (record { now = now; step = self.old.step }) self.old self.new) }
+        ensures err { OnErr result (self.new ≡ self.old) }
+    {
         let place = place_of(self.bits, hash);
         match look_up_at(
             &mut self.parts,

@@ -5,7 +5,7 @@ ghost use Rattle.front_parts.specs.Places.Making.{IsMadeWith};
 
 use super::LentState;
 use engine_reference::{Rules, Settings};
-use front_parts::{for_part, new_parts};
+use front_parts::{Turns, for_part, new_parts};
 use front_reference::Shared;
 use policy_base::Instant;
 use std::alloc::{AllocError, Global};
@@ -54,7 +54,7 @@ impl<K: Eq + Hash + Drop, V: Drop, S: BuildHasher + Drop, R: Rules<K, V> + Drop,
             settings,
             hasher,
             rules,
-            turns: Vec::new(alloc),
+            turns: Turns::new(alloc),
             next_turn: 0,
             moment: Instant::from_nanos(settings.made),
             step: 0,

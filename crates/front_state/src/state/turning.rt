@@ -1,23 +1,20 @@
 //! Turns: calls that make a value, one at a time for a kind and a key.
-ghost use Rattle.std.specs.Prelude.{◌≡◌, ◌+◌, ◌<◌, true, Some, None, IfOk, IfErr, IfSome, IfNone, OnOk, OnErr, is_none, is_some, length, option_map, remove, slice_get};
+ghost use Rattle.std.specs.Prelude.{◌≡◌, true, None, IfOk, IfErr, OnOk, OnErr, is_none, is_some, option_map};
 ghost use Rattle.std.specs.Fn.{FnOnceReturnsAt};
 ghost use Rattle.engine_reference.specs.Scanning.{NotesLookUp};
 ghost use Rattle.engine_reference.specs.Asking.{answers_of};
-ghost use Rattle.front_reference.specs.Fronts.{CallsPart, ComesAfter, part_by_hash, passed, turn_at, turn_of, without_turn};
+ghost use Rattle.front_reference.specs.Fronts.{CallsPart, ComesAfter, part_by_hash, passed, turn_at, turn_of};
 ghost use Rattle.front_reference.specs.Turns.{abandoned, begun_compute, with_turn};
 ghost use Rattle.front_reference.specs.declared.data.Op.TheVariants as op;
-ghost use Rattle.front_reference.specs.declared.data.OpenTurn.{OpenTurn};
 ghost use Rattle.front_reference.specs.declared.data.TurnKind.TheVariants as turns;
 ghost use Rattle.front_reference.specs.declared.errors.CacheError.TheVariants.{UnknownTurn};
 ghost use Rattle.front_parts.specs.Places.Calls.{IsAskedFirst, hash_in, seen_of, ways_by};
-ghost use Rattle.front_parts.specs.Places.Turning.{BeginsIn, EndsTurnAt, FinishesBy, IsCauseAt, IsFinishCause, IsTurnCause, IsTurnPlace, Leads, WaitsOrLeads};
+ghost use Rattle.front_parts.specs.Places.Turning.{BeginsIn, EndsTurnOf, FinishesBy, IsFinishCause, IsTurnCause, Leads, WaitsOrLeads};
 ghost use Rattle.front_state.specs.Beginning.{BeginsBy};
 
 use crate::state::LentState;
 use engine_reference::{Names, Rules};
-use front_parts::{
-    find_turn, insert_or_back_at, look_at, make_turn, note_at, place_of, place_of_turn,
-};
+use front_parts::{hash_key, insert_or_back_at, look_at, make_turn, note_at, place_of};
 use front_reference::{At, CacheError, IntoKey, LentKey, Made, Shared, TurnKind, TurnStart};
 use policy_base::Instant;
 use std::alloc::AllocError;
@@ -33,14 +30,16 @@ impl<K: Eq + Hash, V, S: BuildHasher, R: Rules<K, V>, C> LentState<K, V, S, R, C
     pub fn is_turn_free(&self, kind: TurnKind, key: &K) -> bool
         ensures { result ≡ is_none (turn_of K.eq self.now.turns kind key.now) }
     {
-        self.turn_number(kind, &LentKey { key }).is_none()
+        let hash = hash_key(&self.hasher, key);
+        self.turn_number(kind, &LentKey { key }, hash).is_none()
     }
 
     /// The number of the turn of a kind and a key.
-    fn turn_number<Q: Names<Shared<K>>>(&self, kind: TurnKind, key: &Q) -> Option<u64>
+    fn turn_number<Q: Names<Shared<K>>>(&self, kind: TurnKind, key: &Q, hash: u64) -> Option<u64>
+        requires { hash ≡ hash_in (ways_by R.Rules K.eq K.hash_input S.BuildHasher S.Hasher.Hasher) self.now (Q.named_key key.now) }
         ensures { result ≡ option_map (λ t. t.number) (turn_of K.eq self.now.turns kind (Q.named_key key.now)) }
     {
-        find_turn(self.turns.as_slice(), kind, key)
+        self.turns.find(kind, key, hash)
     }
 
     /// A clone of the visible value of a key, unless `replace_if` says yes of it; then it is passed over, which the first of the two answers. It is no use of it.
@@ -103,9 +102,10 @@ impl<K: Eq + Hash, V, S: BuildHasher, R: Rules<K, V>, C> LentState<K, V, S, R, C
         let At { now, step } = at;
         let place = place_of(self.bits, hash);
         let number = self.next_turn;
-        let turn = make_turn(&mut self.turns, number, kind, name, hash)?;
-        note_at(&mut self.parts, place, &turn.key, hash, now, ignored);
-        self.turns.push_reserved(turn);
+        let turn = make_turn(number, kind, name, hash)?;
+        let key = turn.key.clone()?;
+        self.turns.add(turn)?;
+        note_at(&mut self.parts, place, &key, hash, now, ignored);
         self.next_turn = number + 1;
         self.moment = now;
         self.step = step;
@@ -131,7 +131,7 @@ impl<K: Eq + Hash, V, S: BuildHasher, R: Rules<K, V>, C> LentState<K, V, S, R, C
         ensures err { OnErr result (self.new ≡ self.old) }
         ensures cause { IfErr result (IsTurnCause self.old.next_turn) }
     {
-        match self.turn_number(kind, &name) {
+        match self.turn_number(kind, &name, hash) {
             Some(number) => {
                 self.note(&name, hash, at, ignored);
                 Ok(TurnStart::Wait(number))
@@ -204,8 +204,8 @@ impl<K: Eq + Hash, V, S: BuildHasher, R: Rules<K, V>, C> LentState<K, V, S, R, C
     {
         let At { now, step } = at;
         let number = self.next_turn;
-        let turn = make_turn(&mut self.turns, number, TurnKind::Compute, name, hash)?;
-        self.turns.push_reserved(turn);
+        let turn = make_turn(number, TurnKind::Compute, name, hash)?;
+        self.turns.add(turn)?;
         self.next_turn = number + 1;
         self.moment = now;
         self.step = step;
@@ -228,7 +228,7 @@ impl<K: Eq + Hash, V, S: BuildHasher, R: Rules<K, V>, C> LentState<K, V, S, R, C
         ensures err { OnErr result (self.new ≡ self.old) }
         ensures cause { IfErr result (IsTurnCause self.old.next_turn) }
     {
-        match self.turn_number(TurnKind::Compute, &name) {
+        match self.turn_number(TurnKind::Compute, &name, hash) {
             Some(number) => {
                 self.pass(at);
                 Ok(TurnStart::Wait(number))
@@ -275,30 +275,6 @@ impl<K: Eq + Hash, V, S: BuildHasher, R: Rules<K, V>, C> LentState<K, V, S, R, C
         }
     }
 
-    /// The place of the turn of a number.
-    fn turn_place(&self, number: u64) -> Option<usize>
-        ensures found { IfSome result (IsTurnPlace number self.now.turns) }
-        ensures within { IfSome result (λ i. i < length self.now.turns) }
-        ensures none { IfNone result (turn_at self.now.turns number ≡ None) }
-    {
-        place_of_turn(self.turns.as_slice(), number)
-    }
-
-    /// Ends the turn at a place.
-    fn end_turn(&mut self, place: usize, number: u64, at: At)
-    where
-        K: Drop,
-        requires follows { ComesAfter at.now at.step self.old }
-        requires within { place < length self.old.turns }
-        requires there { without_turn number self.old.turns ≡ remove self.old.turns place }
-        ensures { self.new ≡ abandoned number at.now at.step self.old }
-    {
-        let At { now, step } = at;
-        let _ended = self.turns.remove(place);
-        self.moment = now;
-        self.step = step;
-    }
-
     /// Gives up a turn. Only a number under which no turn is under way is refused.
     /// ```
     /// cache.abandon(turn, at)?;
@@ -312,36 +288,31 @@ impl<K: Eq + Hash, V, S: BuildHasher, R: Rules<K, V>, C> LentState<K, V, S, R, C
         ensures err { OnErr result (self.new ≡ self.old) }
         ensures cause { IfErr result (λ e. (e ≡ UnknownTurn) × (turn_at self.old.turns number ≡ None)) }
     {
-        match self.turn_place(number) {
-            Some(place) => {
-                self.end_turn(place, number, at);
-                Ok(())
-            }
-            None => Err(CacheError::UnknownTurn),
+        let At { now, step } = at;
+        if !self.turns.end(number) {
+            return Err(CacheError::UnknownTurn);
         }
+        self.moment = now;
+        self.step = step;
+        Ok(())
     }
 
-    /// Ends the turn at a place with a value that is inserted under its key, or handed back where it is refused.
-    fn finish_with_value(
-        &mut self,
-        place: usize,
-        number: u64,
-        value: V,
-        at: At,
-    ) -> Result<(), (CacheError, V)>
+    /// Ends the turn of a number with a value that is inserted under its key, or handed back where it is refused.
+    fn finish_with_value(&mut self, number: u64, value: V, at: At) -> Result<(), (CacheError, V)>
     where
         K: Drop,
         V: Drop,
-        requires follows { ComesAfter at.now at.step self.old }
-        requires within { place < length self.old.turns }
-        requires there { without_turn number self.old.turns ≡ remove self.old.turns place }
-        ensures ends { OnOk result (EndsTurnAt (ways_by R.Rules K.eq K.hash_input S.BuildHasher S.Hasher.Hasher) place number (op.Put value) at self.old self.new) }
+        requires { ComesAfter at.now at.step self.old }
+        ensures ends { OnOk result (EndsTurnOf (ways_by R.Rules K.eq K.hash_input S.BuildHasher S.Hasher.Hasher) number (op.Put value) at self.old self.new) }
+        ensures known { OnOk result (is_some (turn_at self.old.turns number) ≡ true) }
         ensures err { OnErr result (self.new ≡ self.old) }
         ensures back { IfErr result (λ refused. refused.1 ≡ value) }
-        ensures cause { IfErr result (λ refused. IsCauseAt (ways_by R.Rules K.eq K.hash_input S.BuildHasher S.Hasher.Hasher) place self.old refused.0) }
+        ensures cause { IfErr result (λ refused. IsFinishCause (ways_by R.Rules K.eq K.hash_input S.BuildHasher S.Hasher.Hasher) number self.old refused.0) }
     {
         let At { now, step } = at;
-        let turn = &self.turns[place];
+        let Some(turn) = self.turns.get(number) else {
+            return Err((CacheError::UnknownTurn, value));
+        };
         let hash = turn.hash;
         let part = place_of(self.bits, hash);
         let key = match turn.key.clone() {
@@ -350,7 +321,7 @@ impl<K: Eq + Hash, V, S: BuildHasher, R: Rules<K, V>, C> LentState<K, V, S, R, C
         };
         match insert_or_back_at(&mut self.parts, part, key, hash, value, At { now, step }) {
             Ok(()) => {
-                let _ended = self.turns.remove(place);
+                self.turns.end(number);
                 self.moment = now;
                 self.step = step;
                 Ok(())
@@ -383,23 +354,19 @@ impl<K: Eq + Hash, V, S: BuildHasher, R: Rules<K, V>, C> LentState<K, V, S, R, C
         ensures back { IfErr result (λ refused. refused.1 ≡ end) }
         ensures cause { IfErr result (λ refused. IsFinishCause (ways_by R.Rules K.eq K.hash_input S.BuildHasher S.Hasher.Hasher) number self.old refused.0) }
     {
-        let place = match self.turn_place(number) {
-            Some(place) => place,
-            None => return Err((CacheError::UnknownTurn, end)),
-        };
         match end {
-            Made::Value(value) => match self.finish_with_value(place, number, value, at) {
+            Made::Value(value) => match self.finish_with_value(number, value, at) {
                 Ok(()) => Ok(()),
                 Err((refused, value)) => Err((refused, Made::Value(value))),
             },
-            Made::Nothing => {
-                self.end_turn(place, number, at);
-                Ok(())
-            }
-            Made::Fault(_fault) => {
-                self.end_turn(place, number, at);
-                Ok(())
-            }
+            Made::Nothing => match self.abandon(number, at) {
+                Ok(()) => Ok(()),
+                Err(refused) => Err((refused, Made::Nothing)),
+            },
+            Made::Fault(fault) => match self.abandon(number, at) {
+                Ok(()) => Ok(()),
+                Err(refused) => Err((refused, Made::Fault(fault))),
+            },
         }
     }
 }

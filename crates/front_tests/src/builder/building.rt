@@ -93,7 +93,7 @@ fn built(alloc: Global, row: &Row) -> Result<usize, BuildError> {
     }
 }
 
-/// Whether that is what the row says, at the second try where memory is refused.
+/// Whether that is what the row says, on the second attempt if memory is refused.
 fn is_right(alloc: Global, row: &Row) -> bool {
     built(alloc, row) == row.built || built(alloc, row) == row.built
 }
@@ -112,7 +112,7 @@ fn rows_of_builders(rt: HostRuntime) {
     assert_eq!(rt; first_wrong_row(rt.alloc()), ROWS.len());
 }
 
-/// Whether a cache shows what its builder was told.
+/// Whether a cache shows the settings of its builder.
 fn shows(state: &Numbers) -> bool {
     let policy = state.policy();
     policy.max_capacity() == Some(100)

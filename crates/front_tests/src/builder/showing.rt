@@ -76,7 +76,7 @@ fn refuses_predicates(cache: &mut Numbers) -> bool {
     }
 }
 
-/// The value stays, and nothing is told.
+/// The value stays, and nothing is reported.
 fn keeps_its_value(cache: &mut Numbers) -> bool {
     let now = cache.last_call().now;
     let is_there = match cache.peek(&1, now) {

@@ -28,7 +28,7 @@ fn made_at() -> Instant {
     Instant::from_nanos(3)
 }
 
-/// How many segments a cache without times shows; 0 where it shows other settings.
+/// How many segments a cache without times shows; 0 if it shows other settings.
 fn shown_segments(cache: &Segments, capacity: u64) -> usize {
     let policy = cache.policy();
     let is_plain = policy.max_capacity() == Some(capacity)

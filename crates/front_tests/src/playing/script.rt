@@ -100,6 +100,8 @@ pub enum Call {
     IsFree(TurnKind, u64, bool),
     /// The oldest notice is of this key and cause.
     Told(u64, RemovalCause),
+    /// The key and the cause of the oldest notice of a key's part, if it has one.
+    ToldOfPart(u64, Option<(u64, RemovalCause)>),
     /// No notice is left.
     NoneTold,
     /// The two oldest notices are of these keys, in any order, and of this cause.
@@ -355,6 +357,15 @@ fn told(state: &mut Numbers, cause: RemovalCause) -> Option<u64> {
     }
 }
 
+/// Whether the oldest notice of a key's part is of this key and cause, or there is none.
+fn is_told_of_part(state: &mut Numbers, key: u64, expected: Option<(u64, RemovalCause)>) -> bool {
+    let part = state.part(&key);
+    match state.next_notice_of_part(part) {
+        Some(notice) => expected == Some((*notice.key, notice.cause)),
+        None => expected.is_none(),
+    }
+}
+
 fn are_told(state: &mut Numbers, first: u64, second: u64, cause: RemovalCause) -> bool {
     match (told(state, cause), told(state, cause)) {
         (Some(key), Some(next)) => {
@@ -392,6 +403,7 @@ fn perform(alloc: Global, state: &mut Numbers, nanos: u64, call: Call) -> Result
         Call::With(closure) => perform_closure(state, at, closure),
         Call::Told(key, cause) => Ok(told(state, cause) == Some(key)),
         Call::ToldBoth(first, second, cause) => Ok(are_told(state, first, second, cause)),
+        Call::ToldOfPart(key, expected) => Ok(is_told_of_part(state, key, expected)),
         Call::NoneTold => Ok(state.next_notice().is_none()),
         Call::Cover(first, second, zeros, answer) => {
             cover(state, at, IsEither(first, second), zeros, answer)

@@ -8,14 +8,14 @@ use Rattle.sync_desk.specs.declared.slots.slot.Ending.{Ending}
 use Rattle.sync_desk.specs.declared.slots.slot.Ending.TheVariants.{Underway, Done, GivenUp}
 
 module _ {V F : Type 0} where
-  -- whether a turn of a kind may end with this: with a value, with none where that may be, with a fault where that may be
+  -- whether a turn of a kind may end with this: with a value, with none if that is allowed, with a fault if that is allowed
   abbrev pub suits : TurnKind → Made V F → Bool
   suits kind (Value v) = true
   suits Optionally Nothing = true
   suits Try (Fault f) = true
   suits kind other = false
 
-  -- whether it can have ended so
+  -- whether it can have ended like this
   abbrev pub fits : TurnKind → Ending V F → Bool
   fits kind Underway = true
   fits kind (Done made) = suits kind made

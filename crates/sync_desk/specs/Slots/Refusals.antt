@@ -3,21 +3,22 @@ use Rattle.std.specs.Prelude.{◌≡◌, ◌⊎◌}
 use Rattle.front_reference.specs.declared.errors.CacheError.{CacheError}
 use Rattle.front_reference.specs.declared.errors.CacheError.TheVariants.{OutOfMemory, InvalidationClosuresDisabled, IdsInUse, UsedUp, UnknownTurn, Abandoned}
 
--- there was no memory, or the numbers of 64 bits are used up
+-- there was no memory, or the 64-bit numbers are used up
 abbrev pub IsShortage : CacheError → Type 0
 IsShortage OutOfMemory = Unit {0}
 IsShortage UsedUp = Unit {0}
 IsShortage other = ⊥
 
--- a turn does not end: for want of memory or numbers, or as it is not under way
+-- a turn does not end: for lack of memory or numbers, or because it is not under way
 abbrev pub IsEndRefusal : CacheError → Type 0
 IsEndRefusal e = IsShortage e ⊎ (e ≡ UnknownTurn)
 
--- a call that makes a value is refused: as its turn does not end, or as each of 200 turns that it waited for was given up
+-- a call that makes a value is refused: because its turn does not end, or because each of 200 turns that it waited for was given up
 abbrev pub IsTurnRefusal : CacheError → Type 0
 IsTurnRefusal e = IsEndRefusal e ⊎ (e ≡ Abandoned)
 
--- a predicate is not taken: for want of memory or numbers, as none are taken, or as each identifier that was drawn is in use
+-- a predicate is not accepted: for lack of memory or numbers, because the cache takes none, or because each identifier that was drawn is in
+-- use
 abbrev pub IsCoverRefusal : CacheError → Type 0
 IsCoverRefusal InvalidationClosuresDisabled = Unit {0}
 IsCoverRefusal IdsInUse = Unit {0}

@@ -13,15 +13,15 @@ abbrev pub SlotsByNumber : (V F : Type 0) → Type 0
 SlotsByNumber V F = HashMap ℕ (TurnSlot V F) (BuildHasherDefault FoldHasher)
 
 module _ {V F : Type 0} where
-  -- the slot of a number
+  -- the slot with a number
   abbrev pub slot_at : ℕ → SlotsByNumber V F → Option (TurnSlot V F)
   slot_at number slots = get nat_eq slots number
 
-  -- a slot for which one more waits, where it is of a kind
+  -- a slot for which one more caller waits, if it is of a kind
   abbrev pub slot_joined : TurnKind → TurnSlot V F → TurnSlot V F
   slot_joined kind slot = if same_kind slot.kind kind then record slot { waiting = slot.waiting + 1 } else slot
 
-  -- a turn that is under way, and for which none waits, stands at its number
+  -- a turn that is under way, and for which nobody waits, is at its number
   pub record OpensAt (kind : TurnKind) (number : ℕ) (old new : SlotsByNumber V F) : Type 0 where
     pub slot : TurnSlot V F
     pub put : Updates nat_eq old new number (Some slot)
@@ -29,6 +29,6 @@ module _ {V F : Type 0} where
     pub waiting : slot.waiting ≡ 0
     pub ending : slot.ending ≡ Underway
 
-  -- one more waits for the turn of a kind and a number, if there is one
+  -- one more caller waits for the turn of a kind with a number, if there is one
   abbrev pub JoinsAt : TurnKind → (number : ℕ) → (old new : SlotsByNumber V F) → Type 0
   JoinsAt kind number old new = (n : ℕ) → slot_at n new ≡ option_map (λ slot. if number == n then slot_joined kind slot else slot) (slot_at n old)

@@ -5,7 +5,7 @@ use engine_reference::Names;
 use front_reference::{ClonedKey, IntoKey, OwnedKey, Shared};
 use std::alloc::AllocError;
 
-/// What names a key, shows it, and becomes it where a turn begins.
+/// Names a key, shows it, and becomes it if a turn begins.
 pub trait Asked<K: PartialEq>: IntoKey<Shared<K>> {
     /// The key.
     fn key(&self) -> &K

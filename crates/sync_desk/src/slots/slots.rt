@@ -147,7 +147,7 @@ impl<V: Drop, F: Drop> Slots<V, F> {
         }
     }
 
-    /// A turn ends, and is kept only where some wait for it. Answers the hash of its key, if it was under way.
+    /// Ends a turn, which is kept only if some wait for it. Returns the hash of its key, if it was under way.
     pub fn end(&mut self, kind: TurnKind, number: u64, ending: Ending<V, F>) -> Option<u64>
         requires { fits kind ending ≡ true }
     {
@@ -161,7 +161,7 @@ impl<V: Drop, F: Drop> Slots<V, F> {
         Some(hash)
     }
 
-    /// Takes out a turn of this kind, and answers how it ended.
+    /// Removes a turn of this kind, and returns how it ended.
     fn take(&mut self, kind: TurnKind, number: u64) -> Ending<V, F>
         requires { IfSome (slot_at number self.old.slots) (λ slot. slot.kind ≡ kind) }
         ensures { fits kind result ≡ true }
@@ -174,7 +174,8 @@ impl<V: Drop, F: Drop> Slots<V, F> {
 }
 
 impl<V: Clone + Drop, F: Clone + Drop> Slots<V, F> {
-    /// What became of a turn that the caller waits for. Where it ended the caller waits no longer, and the last that waits takes what it ended with; the others get a clone.
+    /// Returns the state of a turn that the caller waits for. If it ended, the caller no longer waits, and the last that waits takes the
+    /// result; the others get a clone.
     pub fn look(&mut self, kind: TurnKind, number: u64) -> Result<Ending<V, F>, AllocError>
         ensures { IfOk result (λ ending. fits kind ending ≡ true) }
     {

@@ -1,4 +1,4 @@
-//! Values that are made where there is none.
+//! Values that are made if there is none.
 use crate::caches::make_moments;
 use moka_sync::{BuildError, Cache, CacheError, Env, PlainCache};
 use std::alloc::Global;

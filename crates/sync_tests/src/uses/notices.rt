@@ -1,4 +1,4 @@
-//! What left is told as notices.
+//! Removals are reported as notices.
 use crate::caches::make_moments;
 use moka_sync::{Build, BuildError, CacheBuilder, Env, PlainCache};
 use std::alloc::Global;
@@ -27,7 +27,7 @@ fn count_evicted<H: Wait, E: Env + Drop>(rt: &H, files: &Files<E>) -> u64 {
 }
 // end
 
-/// Whether of three files one is let go, and none is where one is closed.
+/// Whether one of three files is evicted, and none if one is closed.
 fn tells<H: Wait, E: Env + Drop>(rt: &H, files: &Files<E>) -> bool {
     files.insert(rt, 1, 10) == Ok(())
         && files.insert(rt, 2, 20) == Ok(())

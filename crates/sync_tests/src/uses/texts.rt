@@ -29,7 +29,7 @@ fn is_written<H: Wait, E: Env + Drop>(rt: &H, alloc: Global, texts: &Texts<E>) -
     }
 }
 
-/// Whether a refused making is answered as such, and leaves nothing.
+/// Whether a closure's refusal is returned as such, and leaves nothing.
 fn is_refused<H: Wait, E: Env + Drop>(rt: &H, texts: &Texts<E>) -> bool {
     match texts.get_with_alloc(rt, 7, || Err(AllocError)) {
         Ok(_) => false,

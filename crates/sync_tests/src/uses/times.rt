@@ -21,7 +21,7 @@ fn make_logins<E: Env + Drop>(alloc: Global, env: E) -> Result<Logins<E>, BuildE
 /// The nanoseconds of a minute.
 const MINUTE: u64 = 60_000_000_000;
 
-/// Whether a log-in is there after so many minutes.
+/// Whether a log-in is there after this many minutes.
 fn is_there<H: Wait, E: Env + Drop>(rt: &H, dial: &Dial, logins: &Logins<E>, minutes: u64) -> bool {
     dial.set(minutes.wrapping_mul(MINUTE));
     logins.get(rt, &1) == Ok(Some(5))

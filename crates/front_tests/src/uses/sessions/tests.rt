@@ -71,7 +71,7 @@ enum Story {
     Ends,
 }
 
-/// Whether it comes out so.
+/// Whether the result is the expected one.
 fn comes_so(sessions: &mut Hashed, story: Story) -> bool {
     match story {
         Story::EndsWhenIdle => ends_when_idle(sessions),
@@ -80,7 +80,7 @@ fn comes_so(sessions: &mut Hashed, story: Story) -> bool {
     }
 }
 
-/// Whether it comes out so where there are no sessions yet.
+/// Whether the result is the expected one if there are no sessions yet.
 fn begins_so(alloc: Global, story: Story) -> bool {
     match open(alloc) {
         Some(mut sessions) => comes_so(&mut sessions, story),
@@ -88,7 +88,7 @@ fn begins_so(alloc: Global, story: Story) -> bool {
     }
 }
 
-/// The same, at the second try where memory is refused.
+/// The same, on the second attempt if memory is refused.
 fn is_so(alloc: Global, story: Story) -> bool {
     begins_so(alloc, story) || begins_so(alloc, story)
 }

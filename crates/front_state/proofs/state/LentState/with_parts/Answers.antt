@@ -11,4 +11,4 @@ invariant_of-result g c =
     let ways = (ways_by g.R.Rules g.K.PartialEq.eq g.K.Hash.hash_input g.S.BuildHasher g.S.Hasher.Hasher) in
     let count : length c.in_ok-parts.parts.items ≡ 2 ^ c.args.bits = c.in_ok-parts.ensures.count ∙ c.pow-count.ensures in
     let shared = ap (λ (s : Settings). s.capacity) c.for_part-settings.ensures ∙ ap (λ n. option_map (share_of n) c.args.settings.capacity) (sym c.in_ok-parts.ensures.count) in
-    ∣ new_steady ways _ c.in_ok-parts.ensures.new count c.requires.few shared c.new-3.ensures.items c.from_nanos.ensures refl ∣₁
+    ∣ new_steady ways _ c.in_ok-parts.ensures.new count c.requires.few shared c.new-3.ensures c.from_nanos.ensures refl ∣₁
