@@ -1,4 +1,4 @@
--- Two transcripts of one list of events.
+-- Two transcripts of the same events.
 use Rattle.std.specs.Prelude.{◌≡◌, ℕ, Bool, true, false, List, [], ◌∷◌, Option, Some, is_some, codes}
 use Rattle.std.specs.Option.{option_eq}
 use Rattle.audit_model.specs.Bytewise.{same, text_line}
@@ -37,28 +37,28 @@ pub record AnswersAlike (config : Config) (x y : Step) : Type 0 where
   pub accepted : is_some x.accepted ≡ is_some y.accepted
   pub reply : reads_sync config x ≡ false → x.reply ≡ y.reply
 
--- as many steps, each alike
+-- as many steps, each pair alike
 abbrev pub AnswerAlike : Config → List Step → List Step → Type 0
 AnswerAlike config [] [] = Unit {0}
 AnswerAlike config [] (y ∷ ys) = ⊥
 AnswerAlike config (x ∷ xs) [] = ⊥
 AnswerAlike config (x ∷ xs) (y ∷ ys) = AnswersAlike config x y × AnswerAlike config xs ys
 
--- the same event, and the same steps held back or refused; and nothing is told `Size`
+-- the same event, and the same steps held back or refused; and nothing is reported as `Size`
 pub record HappensAlike (x y : Record) : Type 0 where
   pub event : x.event ≡ y.event
   pub taken : TakenAlike x.steps y.steps
   pub sizeless : none_with_size (notes_of x) ≡ true
   pub sizeless_too : none_with_size (notes_of y) ≡ true
 
--- as many records, of each two of which that is true
+-- as many records, with this true of each pair
 abbrev pub HappenAlike : List Record → List Record → Type 0
 HappenAlike [] [] = Unit {0}
 HappenAlike [] (y ∷ ys) = ⊥
 HappenAlike (x ∷ xs) [] = ⊥
 HappenAlike (x ∷ xs) (y ∷ ys) = HappensAlike x y × HappenAlike xs ys
 
--- as many records, whose steps answer alike
+-- as many records, whose steps have the same replies
 abbrev pub ReplyAlike : Config → List Record → List Record → Type 0
 ReplyAlike config [] [] = Unit {0}
 ReplyAlike config [] (y ∷ ys) = ⊥

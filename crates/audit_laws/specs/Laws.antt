@@ -37,7 +37,7 @@ use Rattle.audit_laws.specs.Breaking.{first_break_from, IsFaultless, BreaksFirst
 use Rattle.audit_laws.specs.Orderly.{IsOrderly, idle_deed, is_asking}
 use Rattle.audit_laws.specs.Telling.{notes_of, none_with_size}
 
--- a front of an obeying transcript obeys
+-- a front of a transcript that obeys obeys
 abbrev pub FrontsObey : Type 0
 FrontsObey =
     (config : Config) (made : Instant) (front rest : List Record)
@@ -53,14 +53,14 @@ RecordsLead =
     (config : Config) (made : ℕ) (records : List Record)
     → IsTrue (is_some (after_records config (empty_situation made) records)) → LeadsToSummary config made records
 
--- where records follow one another, each step has the same place in the whole history and in the situations
+-- if records follow one another, each step has the same place in the whole history and in the situations
 abbrev pub PlacesAgree : Type 0
 PlacesAgree =
     (config : Config) (transcript : Transcript)
     → IsTrue (is_some (after_records config (empty_situation transcript.made.nanos) transcript.records))
     → placed_steps config transcript ≡ all_placed_in config (empty_situation transcript.made.nanos) transcript.records
 
--- steps may be taken one after the other: what follows some steps is what follows from the stage to which they lead
+-- steps may be taken one after the other: what follows after some steps is what follows from the stage to which they lead
 pub record StepsInParts : Type 0 where
   pub stages : (config : Config) (stage : Stage) (front rest : List Step)
       → stage_after config stage (front ++ rest) ≡ option_and_then (λ reached. stage_after config reached rest) (stage_after config stage front)
@@ -71,14 +71,14 @@ pub record StepsInParts : Type 0 where
       → placed_steps_in config stage.situation stage.left (front ++ rest)
       ≡ placed_steps_in config stage.situation stage.left front ++ placed_steps_in config reached.situation reached.left rest
 
--- a transcript that leads to a situation leads on with a record that follows
+-- a transcript that leads to a situation leads on with one more record that follows
 abbrev pub LeadsOn : Type 0
 LeadsOn =
     (config : Config) (made : Instant) (records : List Record) (added : Record) (s t : Situation)
     → LeadsTo config (record { made = made; records = records }) s → Follows config s added t
     → LeadsTo config (record { made = made; records = records ++ added ∷ [] }) t
 
--- the same with the parts of keys: each value that the record accepts has its key's part
+-- the same with the parts of keys: each value that the record accepts is in the part of its key
 abbrev pub LeadsOnBy : Type 0
 LeadsOnBy =
     (config : Config) (part_of : List ℕ → ℕ) (made : Instant) (records : List Record) (added : Record) (s t : Situation)
@@ -92,13 +92,13 @@ LedObeys =
     (config : Config) (part_of : List ℕ → ℕ) (transcript : Transcript) (s : Situation)
     → LeadsBy config part_of transcript s → Obeys config transcript × IsAdmitted config transcript
 
--- the first record of which the front is not good is the first that does not follow, or with which a key has two parts
+-- the first record that ends a front that is not good is the first one that does not follow, or with which a key has two parts
 abbrev pub BreaksAgree : Type 0
 BreaksAgree =
     (config : Config) (transcript : Transcript)
     → first_break config transcript ≡ first_break_from config (empty_situation transcript.made.nanos) [] 0 transcript.records
 
--- where each key has one part, it is the first that does not follow
+-- if each key has one part, it is the first one that does not follow
 abbrev pub BreaksWhereUnfollowed : Type 0
 BreaksWhereUnfollowed =
     (config : Config) (transcript : Transcript) → IsTrue (agree_on_parts (accepted_values (placed_steps config transcript)))
@@ -109,19 +109,19 @@ BreaksWhereUnfollowed =
 abbrev pub GoodIsFaultless : Type 0
 GoodIsFaultless = (config : Config) (transcript : Transcript) → IsTrue (is_good config transcript) ↔ IsFaultless config transcript
 
--- there is no first break exactly where the transcript is faultless; else it ends the shortest front that has a fault
+-- there is no first break exactly if the transcript is faultless; otherwise it ends the shortest front that has a fault
 abbrev pub FirstBreakIsFirst : Type 0
 FirstBreakIsFirst =
     (config : Config) (transcript : Transcript) → MatchOption (first_break config transcript) (IsFaultless config transcript) (BreaksFirstAt config transcript)
 
--- with no capacity an obeying transcript tells nothing `Size`
+-- without a capacity a transcript that obeys reports nothing as `Size`
 abbrev pub NothingToldSize : Type 0
 NothingToldSize =
     (config : Config) (transcript : Transcript) → config.capacity ≡ None → Obeys config transcript
     → IsTrue (list_all (λ entry. none_with_size (notes_of entry)) transcript.records)
 
--- what is not live becomes live only by a newly accepted value: where records lead from one situation to another and a key has no live
--- value in the first, its live value in the second is one that those records accept
+-- what is not live becomes live only by a newly accepted value: if records lead from one situation to another and a key has no live value
+-- in the first, its live value in the second is one that those records accept
 abbrev pub LiveByAcceptance : Type 0
 LiveByAcceptance =
     (config : Config) (records : List Record) (s t : Situation) (key : List ℕ) (value : Value)
@@ -146,7 +146,7 @@ pub record OrderlyStays : Type 0 where
 abbrev pub IdleKeeps : Type 0
 IdleKeeps = (config : Config) (now : ℕ) (held : List HeldValue) → IsOrderly config held → all_held_after config now held idle_deed [] ≡ held
 
--- a step of `HAS` or `KEYS` changes nothing of the situation but its own connection, which may close
+-- a step of `HAS` or `KEYS` changes nothing of the situation except its own connection, which may close
 abbrev pub AskingChangesNothing : Type 0
 AskingChangesNothing =
     (config : Config) (s : Situation) (task : Option Task) (step : Step)
@@ -154,7 +154,7 @@ AskingChangesNothing =
     → after_step config s task step (placed_step_in config s task step).effect
     ≡ option_map_or (λ c. with_connection false (connection_after task step (placed_step_in config s task step).effect c) s) (connection_in step.conn s) s
 
--- the reply lists keys; each stands before the later ones in byte order; and they are those that have a live value
+-- the reply lists keys; each comes before the later ones in byte order; and they are those that have a live value
 pub record ListsLiveKeys (config : Config) (s : Situation) (reply_of_step : Option (List ℕ)) : Type 0 where
   pub reply : reply_of_step ≡ Some (keys_listed (live_keys_at config s.latest s.held))
   pub rising : IsStrictlySortedBy (slice_cmp nat_cmp) (live_keys_at config s.latest s.held)
@@ -175,7 +175,7 @@ pub record BelongsStepByStep : Type 0 where
       → BelongsIn config namespace (empty_situation made.nanos) inputs records last
       → LeadsTo config (record { made = made; records = records }) last × Belongs config namespace (record { made = made; records = records }) inputs
 
--- records that belong to inputs belong to one more: with no record of it, or with one that is its event's and follows
+-- records that belong to inputs belong to one more input: with no record of it, or with one that is of its event and follows
 pub record BelongsOn : Type 0 where
   pub none : (config : Config) (namespace : ℕ) (s : Situation) → BelongsIn config namespace s [] [] s
   pub left_out : (config : Config) (namespace : ℕ) (inputs : List Input) (i : Input) (records : List Record) (s last : Situation)
@@ -187,15 +187,15 @@ pub record BelongsOn : Type 0 where
       → BelongsIn config namespace s inputs records t → BelongsIn config namespace t later more u
       → BelongsIn config namespace s (inputs ++ later) (records ++ more) u
 
--- where no command is held, a feed may be cut in two, and two feeds of a connection at one moment joined, with each step put where the byte
--- that lets it run came; the second is left out where the first closes the connection
+-- if no command is held back, a feed may be cut in two, and two feeds of a connection at one moment joined, with each step in the feed that
+-- brought the byte that lets it run; the second is left out if the first closes the connection
 pub record FeedsMayBeCut : Type 0 where
   pub cut : (config : Config) (s t : Situation) (conn : ℕ) (moment : Instant) (front rest : List ℕ) (steps : List Step)
       → IsTrue (none_held steps) → Follows config s (feed_record conn moment (front ++ rest) steps) t → FollowsInTwo config s conn moment front rest steps t
   pub joined : (config : Config) (s t : Situation) (conn : ℕ) (moment : Instant) (front rest : List ℕ) (first second : List Step)
       → IsTrue (none_held first) → LeadsInTwo config s conn moment front rest first second t → Follows config s (feed_record conn moment (front ++ rest) (first ++ second)) t
 
--- so a transcript that obeys, and has no refused event, stays so where a feed of it is cut in two, and where two neighbouring feeds are joined
+-- so a transcript that obeys, and has no refused event, stays so if a feed of it is cut in two, and if two neighbouring feeds are joined
 pub record TranscriptsMayBeCut : Type 0 where
   pub cut : (config : Config) (made : Instant) (before after : List Record) (conn : ℕ) (moment : Instant) (front rest : List ℕ) (steps : List Step)
       → IsTrue (none_held steps) → IsFaultless config (record { made = made; records = before ++ feed_record conn moment (front ++ rest) steps ∷ after })
@@ -204,9 +204,9 @@ pub record TranscriptsMayBeCut : Type 0 where
       → IsTrue (none_held first) → FaultlessInTwo config made before after conn moment front rest first second
       → IsFaultless config (record { made = made; records = before ++ feed_record conn moment (front ++ rest) (first ++ second) ∷ after })
 
--- the same of transcripts that obey, whether or not some of their events are refused ones: where no command is held, a feed may be cut in two, and
--- two neighbouring feeds of one connection at one moment joined, with each step put where the byte that lets it run came; where the first closes
--- the connection, the second may be left out
+-- the same for transcripts that obey, whether or not some of their events are refused: if no command is held back, a feed may be cut in
+-- two, and two neighbouring feeds of one connection at one moment joined, with each step in the feed that brought the byte that lets it
+-- run; if the first closes the connection, the second may be left out
 pub record ObeyingMayBeCut : Type 0 where
   pub cut : (config : Config) (made : Instant) (before after : List Record) (conn : ℕ) (moment : Instant) (front rest : List ℕ) (steps : List Step)
       → IsTrue (none_held steps) → Obeys config (in_one made before after conn moment (front ++ rest) steps) → ObeyingParts config made before after conn moment front rest steps
@@ -217,9 +217,9 @@ pub record ObeyingMayBeCut : Type 0 where
       → IsTrue (none_held first) → ClosesItsConnection config made before conn moment front first → Obeys config (in_one made before after conn moment front first)
       → Obeys config (in_one made before after conn moment (front ++ rest) first)
 
--- two faultless transcripts of the same events, whose configurations differ at most in capacity, eviction policy and number of parts, and both
--- accept values or neither does: where nothing is told `Size`, the same steps are held back and the same `DROPIF`s refused, both have the same
--- steps with the same replies, but for those to `SYNC`
+-- two faultless transcripts of the same events, whose configurations differ at most in capacity, eviction policy and number of parts, and
+-- both accept values or neither does: if nothing is reported as `Size`, the same steps are held back and the same `DROPIF`s refused, both
+-- have the same steps with the same replies, except for those to `SYNC`
 abbrev pub RepliesByCommands : Type 0
 RepliesByCommands =
     (config : Config) (capacity : Option ℕ) (policy : EvictionPolicy) (parts : ℕ) (made : Instant) (xs ys : List Record)
@@ -227,7 +227,7 @@ RepliesByCommands =
     → IsFaultless config (record { made = made; records = xs }) → IsFaultless (otherwise config capacity policy parts) (record { made = made; records = ys })
     → HappenAlike xs ys → ReplyAlike config xs ys
 
--- where there is one part, what follows from the empty situation obeys, and none of its events is refused
+-- if there is one part, what follows from the empty situation obeys, and none of its events is refused
 abbrev pub OnePartObeys : Type 0
 OnePartObeys =
     (config : Config) (transcript : Transcript) (s : Situation) → part_count config ≡ 1 → LeadsTo config transcript s → Obeys config transcript × IsAdmitted config transcript

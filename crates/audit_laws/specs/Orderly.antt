@@ -1,4 +1,4 @@
--- What holds of the values held in each situation that records lead to.
+-- What holds for the values held in each situation that records lead to.
 use Rattle.std.specs.Prelude.{Bool, true, false, not, ◌||◌, List, map, None, IsTrue}
 use Rattle.std.specs.List.{list_all, IsDistinct}
 use Rattle.audit_model.specs.Bytewise.{same}
@@ -9,7 +9,7 @@ use Rattle.audit_model.specs.Situation.{HeldValue}
 use Rattle.audit_model.specs.declared.command.Command.TheVariants as says
 use Rattle.audit_model.specs.declared.config.Config.{Config}
 
--- of values held, each one of a part that is over its share is evictable, and no two have one key
+-- each held value of a part that exceeds its share is evictable, and no two held values have the same key
 pub record IsOrderly (config : Config) (held : List HeldValue) : Type 0 where
   pub marked : IsTrue (list_all (λ h. not (is_over config h.value.part (map (λ k. k.value) held)) || h.evictable) held)
   pub distinct : IsDistinct same (map (λ h. h.value.key) held)

@@ -12,7 +12,7 @@ use Rattle.audit_model.specs.declared.config.Config.{Config}
 use Rattle.audit_model.specs.declared.transcript.Record.{Record}
 use Rattle.audit_model.specs.declared.transcript.Step.{Step}
 
--- steps in their places, where those tasks are due
+-- steps in their places, if these tasks are due
 abbrev pub placed_steps_in : Config → Situation → List Task → List Step → List PlacedStep
 placed_steps_in config s tasks [] = []
 placed_steps_in config s tasks (step ∷ steps) =
@@ -20,7 +20,7 @@ placed_steps_in config s tasks (step ∷ steps) =
     let placed = placed_step_in config s (first_due now_due) step in
     placed ∷ placed_steps_in config (after_step config s placed.task step placed.effect) (left_after now_due) steps
 
--- a record's steps in their places
+-- the steps of a record in their places
 abbrev pub placed_in : Config → Situation → Record → List PlacedStep
 placed_in config s entry = placed_steps_in config (after_event entry.event s) (tasks_in s entry.event) (steps_of entry)
 
@@ -33,12 +33,12 @@ abbrev pub all_placed_in : Config → Situation → List Record → List PlacedS
 all_placed_in config s [] = []
 all_placed_in config s (entry ∷ entries) = placed_in config s entry ++ option_map_or (λ t. all_placed_in config t entries) (after_record config s entry) []
 
--- where a record stands in the middle of its steps
+-- a point in the middle of a record's steps
 pub record Stage : Type 0 where
   pub situation : Situation
   pub left : List Task
 
--- the stage after these steps, if they are as they should be; more may come behind them
+-- the stage after these steps, if they are right; more may come after them
 abbrev pub stage_after : Config → Stage → List Step → Option Stage
 stage_after config stage [] = Some stage
 stage_after config stage (step ∷ steps) =

@@ -1,4 +1,4 @@
--- What records tell.
+-- What records report.
 use Rattle.std.specs.Prelude.{Bool, not, List, ◌++◌}
 use Rattle.std.specs.List.{list_all, flat_map}
 use Rattle.audit_model.specs.Notes.{same_cause}

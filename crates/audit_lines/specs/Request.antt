@@ -37,7 +37,7 @@ verb_of word.Keys = keys
 verb_of word.Sync = sync
 verb_of word.Quit = quit
 
--- there are milliseconds only where there are own deadlines, and they have at most twelve digits
+-- there are milliseconds only if there are own deadlines, and they have at most twelve digits
 abbrev pub IsOwn : Config → Option ℕ → Type 0
 IsOwn config deadline = IfSome deadline (λ ms. (ms ≤ 999999999999) × IsTrue config.own_deadlines)
 

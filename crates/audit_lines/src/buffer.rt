@@ -52,7 +52,7 @@ impl Buffer {
         }
     }
 
-    /// Makes room for `n` more bytes. It is refused only where there was less.
+    /// Makes room for `n` more bytes. It is refused only if there was less room.
     pub fn reserve(&mut self, n: usize) -> Result<(), AllocError>
         ensures ok { OnOk result (n ≤ self.new.room) }
         ensures bytes { self.new.bytes ≡ self.old.bytes }
@@ -128,7 +128,7 @@ impl Buffer {
     }
 }
 
-/// Moves what no line has used to the front, where that is at most half of all bytes, and gives where it begins.
+/// Moves what no line has used to the front, if that is at most half of all bytes, and returns where it begins.
 fn compact(bytes: &mut Vec<u8>, start: usize) -> usize
     requires { start ≤ vec_len bytes.old }
     ensures rest { drop result bytes.new.items ≡ drop start bytes.old.items }

@@ -28,7 +28,7 @@ pub fn milliseconds(word: &[u8]) -> Option<u64>
     Some(value)
 }
 
-/// The number that at most twenty digits write, where it is at most 2^64 - 1.
+/// The number that at most twenty digits write, if it is at most 2^64 - 1.
 pub fn number(word: &[u8]) -> Option<u64>
     ensures { result ≡ number_in word.now }
 {
@@ -55,7 +55,7 @@ fn are_digits(word: &[u8]) -> bool
     word.iter().all(|b| b.is_ascii_digit())
 }
 
-/// The number with one digit more, where it is at most 2^64 - 1.
+/// The number with one more digit, if it is at most 2^64 - 1.
 fn with_digit(value: u64, digit: u8) -> Option<u64>
     requires { 48 ≤ digit }
     ensures { SomeIff result (value * 10 + (digit - 48) < 2 ^ 64) (value * 10 + (digit - 48)) }

@@ -1,4 +1,4 @@
-//! What a line says, with its words where they stand in it.
+//! What a line says, with its words as they are in it.
 ghost use Rattle.std.specs.Prelude.{◌≡◌, ◌≤◌, ℕ, List, [], IsTrue, IfSome, MatchOption, option_map, position, not};
 ghost use Rattle.audit_model.specs.Bytewise.{cut_at, words, words_up_to};
 ghost use Rattle.audit_model.specs.Grammar.{is_key, is_key_byte, is_value, deadline_in, read_words, read_verb, words_behind, set, get, has, load, del, add, dropif, verb_in, reading};
@@ -12,7 +12,7 @@ use memchr::{memchr, memchr2};
 /// A key has at most this many bytes.
 const MAX_KEY: usize = 250;
 
-/// A line that was read, with its words where they stand in the line, or its first fault.
+/// A line that was read, with its words as they are in the line, or its first fault.
 #[derive(Clone, Copy)]
 pub enum Request<'a> {
     Set {
@@ -268,7 +268,7 @@ fn cut(line: &[u8]) -> (&[u8], Option<&[u8]>)
     }
 }
 
-/// The key before the first space, and what stands behind that space; none where there is no such key.
+/// The key before the first space, and what comes after that space; none if there is no such key.
 fn cut_key(rest: &[u8]) -> Option<(&[u8], &[u8])>
     ensures { MatchOption result (LacksKey (cut_at 32 rest.now))
         (λ r. (cut_at 32 rest.now ≡ (r.0.now, Some r.1.now)) × IsTrue (is_key r.0.now)) }
@@ -299,7 +299,7 @@ fn value_fits(bytes: &[u8]) -> bool
     memchr2(b'\n', b'\r', bytes).is_none()
 }
 
-/// The milliseconds that a deadline says, or that it says none; nothing where it is no deadline.
+/// The milliseconds of a deadline, or that it has none; nothing if it is not a deadline.
 fn read_deadline(config: &Config, word: &[u8]) -> Option<Option<u64>>
     ensures said { result ≡ deadline_in config.now word.now }
     ensures own { IfSome result (IsOwn config.now) }

@@ -8,20 +8,20 @@ use Rattle.audit_model.specs.declared.event.Event.{Event}
 use Rattle.audit_model.specs.declared.input.Input.{Input}
 use Rattle.audit_model.specs.declared.transcript.Record.{Record}
 
--- the record is the event's and follows, and the rest goes on from the situation to which it leads
+-- the record is of this event and follows, and the rest continues from the situation to which it leads
 pub record Taken (config : Config) (s : Situation) (happened : Event) (entry : Record) (Rest : Situation → Type 0) : Type 0 where
   pub event : entry.event ≡ happened
   pub next : Situation
   pub follows : Follows config s entry next
   pub rest : Rest next
 
--- the next record is the event's and follows, or the event was left out for want of memory
+-- the next record is of this event and follows, or the event was left out for lack of memory
 abbrev pub TakenOrNotIn : Config → Situation → Event → List Record → (Situation → List Record → Type 0) → Type 0
 TakenOrNotIn config s happened [] Rest = Rest s []
 TakenOrNotIn config s happened (entry ∷ entries) Rest = Taken config s happened entry (λ t. Rest t entries) ⊎ Rest s (entry ∷ entries)
 
--- the records follow one another from this situation to the last one, and their events are the namespace's inputs in order, without those
--- that are refused, and without some for want of memory
+-- the records follow one another from this situation to the last one, and their events are the namespace's inputs in order, except those
+-- that are refused and some that were left out for lack of memory
 abbrev pub BelongsIn : Config → ℕ → Situation → List Input → List Record → Situation → Type 0
 BelongsIn config namespace s [] entries last = (entries ≡ []) × (s ≡ last)
 BelongsIn config namespace s (i ∷ inputs) entries last =

@@ -15,7 +15,7 @@ use Rattle.audit_model.specs.declared.transcript.Step.{Step}
 
 -- ---- values
 
--- a value just accepted
+-- a value that was just accepted
 abbrev pub newly_held : Value → HeldValue
 newly_held value = record { value = value; last_use = value.accepted_at; covered = false; evictable = false }
 
@@ -23,17 +23,17 @@ newly_held value = record { value = value; last_use = value.accepted_at; covered
 abbrev pub left_held : List HeldValue → Deed → List Note → List HeldValue
 left_held held deed notes = untold (λ h. h.value.key) notes (held ++ option_to_list (option_map newly_held deed.value))
 
--- a look-up that finds the value live uses it
+-- a look-up that finds the value live is a use of it
 abbrev pub use_after : Config → ℕ → Deed → HeldValue → ℕ
 use_after config now deed h = if is_this h.value.key deed.uses && is_live_at config now h then now else h.last_use
 
--- earlier points count no more after a `SYNC`, and after a step that tells a value of the part with `Size`
+-- earlier points no longer count after a `SYNC`, or after a step that reports a value of the part as `Size`
 abbrev pub is_evictable_after : Config → ℕ → List HeldValue → Deed → List Note → List Value → HeldValue → Bool
 is_evictable_after config now held deed notes values h =
     let starts_anew = deed.syncs || tells_size h.value.part (map (λ c. c.value) (candidates_of config (map (candidate_at config now) held) deed)) notes in
     is_over config h.value.part values || (not starts_anew && h.evictable)
 
--- a value that the step leaves held among these
+-- these values, if the step leaves them held
 abbrev pub held_after : Config → ℕ → List HeldValue → Deed → List Note → List Value → HeldValue → HeldValue
 held_after config now held deed notes values h =
     record { value = h.value; last_use = use_after config now deed h; covered = h.covered || covers_key h.value.key deed.covers; evictable = is_evictable_after config now held deed notes values h }
@@ -46,7 +46,7 @@ all_held_after config now held deed notes =
 
 -- ---- connections and loads
 
--- the connection after a step of its own
+-- the connection after one of its own steps
 abbrev pub connection_after : Option Task → Step → Effect → Connection → Connection
 connection_after task step effect c = record { number = c.number; unread = read_by task; standing = stands; waited = waits }
   where
@@ -60,7 +60,7 @@ connection_after task step effect c = record { number = c.number; unread = read_
     waits : ℕ
     waits = if is_some effect.reply then 0 else ((if is_waiting effect then 1 else 0) + c.waited)
 
--- a `LOAD` that waits joins its key's load, or the load that it sent
+-- a `LOAD` that waits joins the load of its key, or the load that it sent
 abbrev pub join_by : ℕ → Bool → Option (List ℕ) → Option ℕ → Situation → Situation
 join_by conn waits None load s = s
 join_by conn waits (Some key) (Some number) s =
@@ -71,7 +71,7 @@ join_by conn waits (Some key) None s = if waits then record s { pending = map (w
 abbrev pub join_load : ℕ → Effect → Situation → Situation
 join_load conn effect s = join_by conn (is_waiting effect) (key_loaded effect.action) effect.load s
 
--- the situation after what a step does to its connection and to the loads; an answer's own step has neither
+-- the situation after what a step does to its connection and to the loads; an answer's own step does neither
 abbrev pub with_connection_after : Option Task → Step → Effect → Situation → Situation
 with_connection_after (Some (Store key outcome)) step effect s = s
 with_connection_after task step effect s =

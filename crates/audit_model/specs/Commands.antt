@@ -12,7 +12,7 @@ pub data Covering : Type 0 where
   Everything : Covering
   Prefixed : (prefix : List ℕ) → Covering
 
--- what a step does to values: it looks a key up, accepts a value, deletes a key's value, covers some, runs all parts
+-- what a step does to values: it looks a key up, accepts a value, deletes the value of a key, covers some values, or runs all parts
 pub record Deed : Type 0 where
   pub uses : Option (List ℕ)
   pub value : Option Value
@@ -32,7 +32,7 @@ key_used (Running (says.Load key)) = Some key
 key_used (Running (says.Add key ms number)) = Some key
 key_used action = None
 
--- a `DEL` deletes its key's value
+-- a `DEL` deletes the value of its key
 abbrev pub key_deleted : Action → Option (List ℕ)
 key_deleted (Running (says.Del key)) = Some key
 key_deleted action = None
@@ -41,7 +41,7 @@ key_deleted action = None
 abbrev pub replies_ok : Effect → Bool
 replies_ok effect = option_map_or (λ reply. same reply (text_line (codes "OK"))) effect.reply false
 
--- a `CLEAR` covers each key, a `DROPIF` that is accepted each one of its prefix
+-- a `CLEAR` covers every key, and a `DROPIF` that is accepted covers those with its prefix
 abbrev pub covering_of : Effect → Covering
 covering_of effect = go effect.action
   where

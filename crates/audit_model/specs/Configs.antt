@@ -1,4 +1,4 @@
--- Which configurations are taken.
+-- Which configurations are accepted.
 use Rattle.std.specs.Prelude.{◌≡◌, ℕ, Bool, true, not, ◌&&◌, ◌||◌, nat_le, Option, Some, None, is_some, IsTrue, if◌then◌else◌}
 use Rattle.std.specs.Option.{option_map}
 use Rattle.audit_model.specs.History.{Value}
@@ -10,19 +10,20 @@ abbrev pub is_time : Option ℕ → Bool
 is_time None = true
 is_time (Some ms) = nat_le 1 ms && nat_le ms 999999999999
 
--- 1 to 256 parts, times in range, and no live time beside own deadlines
+-- 1 to 256 parts, times in range, and no live time together with own deadlines
 abbrev pub is_valid : Config → Bool
 is_valid config =
     nat_le 1 config.parts && nat_le config.parts 256 && is_time config.live_ms && is_time config.idle_ms
     && not (config.own_deadlines && is_some config.live_ms)
 
--- the deadline where own deadlines stand alone, and else the live and the idle time
+-- the own deadline, if the configuration allows own deadlines; otherwise the earlier of live and idle time
 abbrev pub deadline_apart : Config → Value → ℕ → Option ℕ
 deadline_apart config value last_use =
     if config.own_deadlines then value.own_deadline
     else earlier_of (option_map (after_ms value.accepted_at) config.live_ms) (option_map (after_ms last_use) config.idle_ms)
 
--- where no idle time stands beside own deadlines, and no value has an own deadline without them, the two deadlines agree
+-- if there is no idle time together with own deadlines, and no value has an own deadline unless the configuration allows it, the two
+-- deadlines agree
 abbrev pub DeadlinesAgree : Type 0
 DeadlinesAgree =
     (config : Config) (value : Value) (last_use : ℕ)

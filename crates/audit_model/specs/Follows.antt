@@ -30,7 +30,7 @@ tasks_in s (event.GiveUp load moment) = tasks_to_give_up (waiting_in load s)
 abbrev pub without_load : ℕ → ℕ → Situation → Situation
 without_load number moment s = record s { latest = max moment s.latest; pending = filter (λ load. not (load.number == number)) s.pending }
 
--- the situation in which an event's first step runs
+-- the situation in which the first step of an event runs
 abbrev pub after_event : Event → Situation → Situation
 after_event (event.Open conn) s = record s { opened = suc s.opened; connections = s.connections ++ record { number = conn; unread = []; standing = Ready; waited = 0 } ∷ [] }
 after_event (event.Close conn) s = without_connection conn s
@@ -59,7 +59,7 @@ placed_step_in config s task step =
     let effect = effect_in config seen (action_in config (option_map_or (λ c. c.waited) connection 0) task step) step in
     record { task = task; line = line_in task connection; seen = seen; step = step; effect = effect; held = map (λ h. h.value) (left_held s.held (deed_of effect) effect.notes) }
 
--- the situation after these steps, if they are as they should be
+-- the situation after these steps, if they are right
 abbrev pub after_steps : Config → Situation → List Task → List Step → Option Situation
 after_steps config s tasks [] = if is_empty (due (may_run_in s) tasks) then Some s else None
 after_steps config s tasks (step ∷ steps) =
@@ -73,30 +73,30 @@ abbrev pub known_in : Situation → Known
 known_in s =
     record { was_opened = λ conn. nat_lt 0 conn && nat_le conn s.opened; is_open = λ conn. is_some (connection_in conn s); is_under_way = λ load. is_some (key_in load s) }
 
--- the situation after a record, if it is as it should be
+-- the situation after a record, if it is right
 abbrev pub after_record : Config → Situation → Record → Option Situation
 after_record config s entry =
     let rest = after_steps config (after_event entry.event s) (tasks_in s entry.event) (steps_of entry) in
     if is_none (refusal_of config (known_in s) entry.event) && is_numbered s.opened entry.event && has_right_own_value entry then rest else None
 
--- the situation after these records, if they are as they should be
+-- the situation after these records, if they are right
 abbrev pub after_records : Config → Situation → List Record → Option Situation
 after_records config s [] = Some s
 after_records config s (entry ∷ entries) = option_and_then (λ t. after_records config t entries) (after_record config s entry)
 
--- the record leads from the one situation to the other
+-- the record leads from one situation to the other
 abbrev pub Follows : Config → Situation → Record → Situation → Type 0
 Follows config s entry t = after_record config s entry ≡ Some t
 
--- a transcript obeys, and none of its events is refused, exactly where each key has one part and its records follow one another from the
--- empty situation
+-- a transcript obeys, and none of its events is refused, exactly if each key has one part and its records follow one another from the empty
+-- situation
 abbrev pub AgreesWithHistory : Config → Transcript → Type 0
 AgreesWithHistory config transcript =
     (Obeys config transcript × IsAdmitted config transcript)
     ↔ (IsTrue (agree_on_parts (accepted_values (placed_steps config transcript)))
     × IsTrue (is_some (after_records config (empty_situation transcript.made.nanos) transcript.records)))
 
--- how many records follow one another from the front on
+-- how many records follow one another, from the first on
 abbrev pub followed : Config → Situation → List Record → ℕ
 followed config s [] = 0
 followed config s (entry ∷ entries) = option_map_or (λ t. suc (followed config t entries)) (after_record config s entry) 0

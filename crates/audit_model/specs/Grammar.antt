@@ -33,7 +33,7 @@ is_numeral n word = nat_le 1 (length word) && nat_le (length word) n && list_all
 abbrev pub number_in : List ℕ → Option ℕ
 number_in word = if is_numeral 20 word && nat_lt (digits_value 10 word) (2 ^ 64) then Some (digits_value 10 word) else None
 
--- a deadline is `-` for none, or, where there are own deadlines, 1 to 12 digits of milliseconds
+-- a deadline is `-` for none, or 1 to 12 digits of milliseconds if own deadlines are allowed
 abbrev pub deadline_in : Config → List ℕ → Option (Option ℕ)
 deadline_in config word =
     if same word (codes "-") then Some None
@@ -43,7 +43,7 @@ deadline_in config word =
 pub data Verb : Type 0 where
   set get has load del add clear dropif keys sync quit : Verb
 
--- the table of command words, in capitals
+-- the table of command words, in capital letters
 abbrev pub verb_in : List ℕ → Option Verb
 verb_in word =
     if same word (codes "SET") then Some set
@@ -58,11 +58,11 @@ verb_in word =
     else (if same word (codes "SYNC") then Some sync
     else (if same word (codes "QUIT") then Some quit else None))))))))))
 
--- what reading a line comes to: a command, or a fault
+-- the result of reading a line: a command or a fault
 abbrev pub Reading : Type 0
 Reading = Result Command LineError
 
--- the command, where its key is one
+-- the command, if its key is a key
 abbrev pub with_key : List ℕ → Command → Reading
 with_key key command = if is_key key then Ok command else Err fault.Syntax
 
@@ -77,7 +77,7 @@ read_add key None number = Err fault.Deadline
 read_add key (Some deadline) None = Err fault.Number
 read_add key (Some deadline) (Some number) = Ok (says.Add key deadline number)
 
--- a command's word with the words behind it
+-- a command's word with the words after it
 abbrev pub read_words : Config → Verb → List (List ℕ) → Reading
 read_words config set (key ∷ deadline ∷ value ∷ []) = if is_key key && is_value value then read_set key value (deadline_in config deadline) else Err fault.Syntax
 read_words config get (key ∷ []) = with_key key (says.Get key)
@@ -92,13 +92,13 @@ read_words config sync [] = Ok says.Sync
 read_words config quit [] = Ok says.Quit
 read_words config verb _ = Err fault.Syntax
 
--- the words behind the command's word; a value is the rest of its line, spaces and all
+-- the words after the command's word; a value is the rest of its line, with its spaces
 abbrev pub words_behind : Verb → Option (List ℕ) → List (List ℕ)
 words_behind verb None = []
 words_behind set (Some rest) = words_up_to 2 rest
 words_behind verb (Some rest) = words rest
 
--- what stands behind the command's word, if that is one
+-- what comes after the command's word, if there is one
 abbrev pub read_verb : Config → Option Verb → Option (List ℕ) → Reading
 read_verb config None rest = Err fault.Command
 read_verb config (Some verb) rest = read_words config verb (words_behind verb rest)

@@ -18,8 +18,8 @@ pub record Value : Type 0 where
   pub accepted_at : ℕ
   pub own_deadline : Option ℕ
 
--- what a step does: it runs a command; answers a line that cannot be read; holds a command back for want of memory; hands a waiting `LOAD`
--- its outcome; gives a `LOAD` up for good; or, first of an answer's steps, stores the outcome under the load's key
+-- what a step does: it runs a command; replies to a line that cannot be read; holds a command back for lack of memory; delivers an outcome
+-- to a waiting `LOAD`; abandons a `LOAD`; or, as the first step of an answer, stores the outcome under the load's key
 pub data Action : Type 0 where
   Running : Command → Action
   Faulting : LineError → Action
@@ -37,7 +37,7 @@ pub record Effect : Type 0 where
   pub value : Option Value
   pub notes : List Note
 
--- a load is settled by an answer or a give-up; the step that stores an answer is no connection's
+-- a load is settled by an answer or a give-up; the step that stores an answer belongs to no connection
 pub data Happening : Type 0 where
   Opened : ℕ → Happening
   Closed : ℕ → Happening
@@ -50,7 +50,7 @@ pub data Happening : Type 0 where
 abbrev pub History : Type 0
 History = List Happening
 
--- the greatest of the making's moment and of all moments handed in so far
+-- the latest of the moment of creation and of all moments passed in so far
 abbrev pub latest_moment : ℕ → History → ℕ
 latest_moment made [] = made
 latest_moment made (Fed conn piece moment ∷ past) = max moment (latest_moment made past)

@@ -7,7 +7,7 @@ use Rattle.audit_model.specs.History.{History, Settled, Ran, Effect, Action, Run
 use Rattle.audit_model.specs.Stream.{is_waiting, is_open}
 use Rattle.audit_model.specs.declared.command.Command.TheVariants as says
 
--- a load that went out
+-- a load that was sent
 pub record Sent : Type 0 where
   pub number : ℕ
   pub key : List ℕ
@@ -38,11 +38,11 @@ is_settled number (h ∷ past) = is_settled number past
 abbrev pub loads_under_way : History → List Sent
 loads_under_way past = filter (λ sent. not (is_settled sent.number past)) (loads_sent past)
 
--- the key's load under way
+-- the load of the key that is under way
 abbrev pub load_of_key : List ℕ → History → Option ℕ
 load_of_key key past = option_map (λ sent. sent.number) (find (λ sent. same sent.key key) (loads_under_way past))
 
--- the key of a load under way
+-- the key of a load that is under way
 abbrev pub key_of_load : ℕ → History → Option (List ℕ)
 key_of_load number past = option_map (λ sent. sent.key) (find (λ sent. sent.number == number) (loads_under_way past))
 
@@ -63,14 +63,14 @@ waits_for key effect = is_waiting effect && is_key_of key (key_loaded effect.act
 abbrev pub sends_for : List ℕ → Effect → Bool
 sends_for key effect = is_some effect.load && is_key_of key (key_loaded effect.action)
 
--- the connections whose last step waits for the key's last load, in the order of those steps
+-- the connections whose last step waits for the key's last load, in the order of these steps
 abbrev pub joined : List ℕ → History → List ℕ
 joined key [] = []
 joined key (Ran conn effect ∷ past) =
     (if sends_for key effect then [] else filter (λ c. not (c == conn)) (joined key past)) ++ (if waits_for key effect then conn ∷ [] else [])
 joined key (h ∷ past) = joined key past
 
--- the connections that wait for the key's load, in the order in which they joined; closed ones are left out
+-- the connections that wait for the key's load, in the order in which they joined, without those that closed
 abbrev pub waiting_for : Option (List ℕ) → History → List ℕ
 waiting_for None past = []
 waiting_for (Some key) past = filter (λ conn. is_open conn past) (joined key past)

@@ -1,4 +1,4 @@
--- Which values a step tells, and with which causes.
+-- Which values a step reports, and with which causes.
 use Rattle.std.specs.Prelude.{ℕ, Bool, true, false, not, ◌&&◌, ◌||◌, ◌==◌, nat_lt, List, [], ◌∷◌, ◌++◌, map, Option, Some, None, if◌then◌else◌, is_some, is_none, codes}
 use Rattle.std.specs.List.{list_all, list_any, find, filter, sum_by}
 use Rattle.std.specs.Option.{option_to_list, option_map, option_map_or}
@@ -44,21 +44,21 @@ is_over config part values = go config.capacity
 abbrev pub is_within : Config → List Value → Bool
 is_within config values = list_all (λ v. not (is_over config v.part values)) values
 
--- the values held just after a step's acceptance: the key's other value is gone
+-- the values held right after the step's acceptance: the key's older value is gone
 abbrev pub just_accepted : List Value → Option Value → List Value
 just_accepted values None = values
 just_accepted values (Some value) = without_key (λ v. v.key) value.key values ++ value ∷ []
 
--- the value that a step accepts may be told by the same step
+-- the step may report the value that it accepts itself
 abbrev pub newcomer : Config → Value → Candidate
 newcomer config value =
     record { value = value; dead = has_come (deadline config value value.accepted_at) value.accepted_at; covered = false; evictable = false; new = true }
 
--- the values that a step may tell: those held before it, oldest first, and the one that it accepts
+-- the values that a step may report: those held before it, oldest first, and the one that it accepts
 abbrev pub candidates_of : Config → List Candidate → Deed → List Candidate
 candidates_of config held deed = held ++ option_to_list (option_map (newcomer config) deed.value)
 
--- the part is over its share just after the step's acceptance
+-- the part exceeds its share right after the step's acceptance
 abbrev pub overfills : Config → List Candidate → Deed → ℕ → Bool
 overfills config held deed part = is_some deed.value && is_over config part (just_accepted (map (λ c. c.value) held) deed.value)
 
@@ -77,38 +77,40 @@ is_true_cause config held deed c Explicit = c.covered || (is_this c.value.key de
 is_true_cause config held deed c Replaced = is_rewritten deed c && not c.dead && not c.covered
 is_true_cause config held deed c Size = c.evictable || overfills config held deed c.value.part
 
--- the first of `Expired`, `Explicit`, `Replaced` that is true of an older value which the step writes over or deletes
+-- the first of `Expired`, `Explicit`, `Replaced` that is true of an older value that the step overwrites or deletes
 abbrev pub first_cause : Config → List Candidate → Deed → Candidate → RemovalCause
 first_cause config held deed c =
     if is_true_cause config held deed c Expired then Expired else (if is_true_cause config held deed c Explicit then Explicit else Replaced)
 
--- a write or a removal tells its key's older value with the first cause; not one that looks the value up before it writes
+-- a write or a removal reports the older value of its key with the first cause that is true; this does not apply to one that looks the
+-- value up before it writes
 abbrev pub is_told_first : Deed → Candidate → Bool
 is_told_first deed c = is_succeeded deed c && is_none deed.uses
 
--- the note has the value's bytes, and a cause that it may have
+-- the note has the bytes of the value, and a cause that it may have
 abbrev pub is_true_note : Config → List Candidate → Deed → Note → Option Candidate → Bool
 is_true_note config held deed note None = false
 is_true_note config held deed note (Some c) =
     same note.value c.value.bytes
     && (if is_told_first deed c then same_cause note.cause (first_cause config held deed c) else is_true_cause config held deed c note.cause)
 
--- the key's first value among these
+-- the first value of the key among these
 abbrev pub first_of : List ℕ → List Candidate → Option Candidate
 first_of key cs = find (λ c. same key c.value.key) cs
 
--- each note tells its key's first value that is not told yet, with a true cause; and no older value of a written or deleted key is left
+-- each note reports the first value of its key that is not reported yet, with a true cause; and no older value of a written or deleted key
+-- is left
 abbrev pub are_true_notes : Config → List Candidate → Deed → List Candidate → List Note → Bool
 are_true_notes config held deed cs [] = list_all (λ c. not (is_succeeded deed c)) cs
 are_true_notes config held deed cs (note ∷ notes) =
     is_true_note config held deed note (first_of note.key cs) && are_true_notes config held deed (without_key (λ c. c.value.key) note.key cs) notes
 
--- one of the notes tells one of these values, in this part, with `Size`
+-- one of the notes reports one of these values, in this part, as `Size`
 abbrev pub tells_size : ℕ → List Value → List Note → Bool
 tells_size part values notes =
     list_any (λ n. same_cause n.cause Size && option_map_or (λ v. v.part == part) (find (λ v. same n.key v.key) values) false) notes
 
--- steps that tell nothing
+-- steps that report nothing
 abbrev pub is_silent : Action → Bool
 is_silent (Running (says.Has key)) = true
 is_silent (Running says.Keys) = true

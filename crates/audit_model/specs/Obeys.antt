@@ -17,7 +17,7 @@ abbrev pub is_numbered : ℕ → Event → Bool
 is_numbered opened (event.Open conn) = conn == suc opened
 is_numbered opened other = true
 
--- where it opens a connection, that has the next number
+-- if it opens a connection, that has the next number
 abbrev pub has_right_number : PlacedRecord → Bool
 has_right_number placed = is_numbered (opened_count placed.before) placed.entry.event
 
@@ -25,7 +25,7 @@ has_right_number placed = is_numbered (opened_count placed.before) placed.entry.
 abbrev pub is_finished : PlacedRecord → Bool
 is_finished placed = is_empty placed.walked.left
 
--- only an answer has a value of its own, and notes of its own only beside that value
+-- only an answer has a value of its own, and it has notes of its own only together with that value
 abbrev pub has_right_own_value : Record → Bool
 has_right_own_value entry = go entry.event
   where
@@ -37,12 +37,12 @@ has_right_own_value entry = go entry.event
 abbrev pub accepted_values : List PlacedStep → List Value
 accepted_values steps = filter_map (λ placed. placed.effect.value) steps
 
--- a key has one part
+-- each key has one part
 abbrev pub agree_on_parts : List Value → Bool
 agree_on_parts [] = true
 agree_on_parts (v ∷ vs) = list_all (λ w. not (same v.key w.key) || (v.part == w.part)) vs && agree_on_parts vs
 
--- each record and each step of the transcript is as it should be
+-- each record and each step of the transcript is right
 pub record Obeys (config : Config) (transcript : Transcript) : Type 0 where
   pub numbered : IsTrue (list_all has_right_number (placed_records config transcript))
   pub finished : IsTrue (list_all is_finished (placed_records config transcript))
@@ -58,7 +58,7 @@ pub record Obeys (config : Config) (transcript : Transcript) : Type 0 where
   pub within : IsTrue (list_all (keeps_shares config) (placed_steps config transcript))
   pub parts : IsTrue (agree_on_parts (accepted_values (placed_steps config transcript)))
 
--- the same as one test, but for the parts of keys
+-- the same as one test, except for the parts of keys
 abbrev pub is_right_record : Config → PlacedRecord → Bool
 is_right_record config placed = has_right_number placed && is_finished placed && has_right_own_value placed.entry && list_all (is_right config) placed.walked.placed_steps
 

@@ -1,4 +1,4 @@
--- A transcript's steps, each in its place in the whole history.
+-- The steps of a transcript, each in its place in the whole history.
 use Rattle.std.specs.Prelude.{ℕ, Bool, false, List, [], ◌∷◌, ◌++◌, map, Option, Some, None, if◌then◌else◌}
 use Rattle.std.specs.List.{flat_map}
 use Rattle.audit_model.specs.History.{History, Happening, Opened, Closed, Fed, Settled, Stored, Ran, Effect, latest_moment}
@@ -15,7 +15,8 @@ use Rattle.audit_model.specs.declared.transcript.Record.{Record}
 use Rattle.audit_model.specs.declared.transcript.Step.{Step}
 use Rattle.audit_model.specs.declared.transcript.Transcript.{Transcript}
 
--- to hand an answer out: it is stored, then each waiting `LOAD` is answered in order, then each one's lines run in the same order
+-- what an answer makes due: its value is stored, then each waiting `LOAD` is answered in order, then the lines of each of these connections
+-- run in the same order
 abbrev pub tasks_to_answer : Option (List ℕ) → Outcome → List ℕ → List Task
 tasks_to_answer key outcome conns = Store key outcome ∷ map (λ conn. Deliver conn outcome) conns ++ map RunLines conns
 
@@ -23,11 +24,11 @@ tasks_to_answer key outcome conns = Store key outcome ∷ map (λ conn. Deliver 
 abbrev pub tasks_to_give_up : List ℕ → List Task
 tasks_to_give_up conns = flat_map (λ conn. RunAgain conn ∷ RunLines conn ∷ []) conns
 
--- a feed runs the connection's held command, and then its lines
+-- a feed runs the command that the connection holds back, and then its lines
 abbrev pub tasks_to_feed : ℕ → Bool → List Task
 tasks_to_feed conn held = (if held then RunHeld conn ∷ [] else []) ++ RunLines conn ∷ []
 
--- what an event makes due, after all that happened before it
+-- what an event makes due after all that happened before it
 abbrev pub tasks_of : History → Event → List Task
 tasks_of past (event.Open conn) = []
 tasks_of past (event.Close conn) = []
@@ -44,7 +45,7 @@ happening_of (event.Feed conn piece moment) = Fed conn piece moment.nanos
 happening_of (event.Answer load outcome moment) = Settled load moment.nanos
 happening_of (event.GiveUp load moment) = Settled load moment.nanos
 
--- the tasks from the one that is due now: lines are due while one may run
+-- the tasks from the one that is due now on: lines are due as long as one may run
 abbrev pub due : (ℕ → Bool) → List Task → List Task
 due may [] = []
 due may (RunLines conn ∷ tasks) = if may conn then RunLines conn ∷ tasks else due may tasks
@@ -55,7 +56,7 @@ abbrev pub first_due : List Task → Option Task
 first_due [] = None
 first_due (task ∷ tasks) = Some task
 
--- the tasks that are left when a step of the first has run; lines stay due
+-- the tasks that are left after a step of the first one has run; lines stay due
 abbrev pub left_after : List Task → List Task
 left_after [] = []
 left_after (RunLines conn ∷ tasks) = RunLines conn ∷ tasks
@@ -66,7 +67,7 @@ abbrev pub step_happens : Option Task → Step → Effect → Happening
 step_happens (Some (Store key outcome)) step effect = Stored effect
 step_happens task step effect = Ran step.conn effect
 
--- the line that is due: the first of the connection's that has no reply yet; an answer's own step has none
+-- the line that is due: the first line of the connection without a reply; an answer's own step has none
 abbrev pub line_due : Option Task → ℕ → History → Option (List ℕ)
 line_due (Some (Store key outcome)) conn past = Some []
 line_due task conn past = first_line (unanswered conn past)
@@ -78,7 +79,7 @@ placed_step config made past task step =
     let effect = effect_in config seen (action_in config (times_waited step.conn past) task step) step in
     record { task = task; line = line_due task step.conn past; seen = seen; step = step; effect = effect; held = held_values (step_happens task step effect ∷ past) }
 
--- steps in their places, what is due when they have run, and all that happened until then
+-- steps in their places, what is due after they have run, and all that happened until then
 pub record Walk : Type 0 where
   pub placed_steps : List PlacedStep
   pub left : List Task
@@ -118,7 +119,7 @@ placed_records_after config made past [] = []
 placed_records_after config made past (entry ∷ entries) =
     let placed = placed_record config made past entry in placed ∷ placed_records_after config made placed.walked.after entries
 
--- all that happened, when those records have run
+-- all that has happened after these records have run
 abbrev pub history_after : Config → ℕ → History → List Record → History
 history_after config made past [] = past
 history_after config made past (entry ∷ entries) = history_after config made (placed_record config made past entry).walked.after entries

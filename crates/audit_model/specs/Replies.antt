@@ -25,16 +25,16 @@ abbrev pub value_or_none : Option Value → List ℕ
 value_or_none None = text_line (codes "NONE")
 value_or_none (Some value) = value_reply value.bytes
 
--- `YES` where there is a live value
+-- `YES` if there is a live value, otherwise `NO`
 abbrev pub yes_or_no : Option Value → List ℕ
 yes_or_no None = text_line (codes "NO")
 yes_or_no (Some value) = text_line (codes "YES")
 
--- `OFF` where no value is accepted
+-- `OFF` if no value is accepted
 abbrev pub ok_or_off : Config → List ℕ
 ok_or_off config = if accepts_values config.capacity then text_line (codes "OK") else text_line (codes "OFF")
 
--- the sum that an `ADD` stores: a missing value counts as 0; none where the value is no number or the sum is too large
+-- the sum that an `ADD` stores: a missing value counts as 0; none if the value is not a number or the sum is too large
 abbrev pub sum_with : Option Value → ℕ → Option ℕ
 sum_with None number = Some number
 sum_with (Some value) number =
@@ -45,11 +45,11 @@ abbrev pub sum_or_error : Option ℕ → List ℕ
 sum_or_error None = text_line (codes "ERR number")
 sum_or_error (Some sum) = value_reply (decimal sum)
 
--- how many keys there are, then each on a line of its own
+-- how many keys there are, then each on its own line
 abbrev pub keys_listed : List (List ℕ) → List ℕ
 keys_listed keys = text_line (codes "KEYS " ++ decimal (length keys)) ++ concat (map text_line keys)
 
--- how many values there are, and what they weigh together
+-- how many values there are, and their total weight
 abbrev pub count_and_weight : List Value → List ℕ
 count_and_weight values = text_line (codes "SYNC " ++ decimal (length values) ++ codes " " ++ decimal (sum_by (λ v. v.weight) values))
 
@@ -60,13 +60,13 @@ fault_text fault.Syntax = text_line (codes "ERR syntax")
 fault_text fault.Deadline = text_line (codes "ERR deadline")
 fault_text fault.Number = text_line (codes "ERR number")
 
--- the reply to a waiting `LOAD` that is handed this outcome
+-- the reply to a waiting `LOAD` to which this outcome is delivered
 abbrev pub outcome_text : Outcome → List ℕ
 outcome_text (came.Value bytes ms) = value_reply bytes
 outcome_text came.None = text_line (codes "NONE")
 outcome_text (came.Fault text) = text_line (codes "ERR load " ++ text)
 
--- the reply to a command, where those values are held after its step; none of a `LOAD` that begins to wait
+-- the reply to a command, if these values are held after its step; none for a `LOAD` that begins to wait
 abbrev pub reply_to : Config → View → List Value → Command → Option (List ℕ)
 reply_to config seen held (says.Set key ms value) = Some (ok_or_off config)
 reply_to config seen held (says.Get key) = Some (value_or_none (seen.live key))
@@ -101,18 +101,18 @@ is_reply config seen effect held =
     option_eq same effect.reply (reply_of config seen held effect.action)
     || (may_refuse seen effect.action && option_eq same effect.reply (Some (text_line (codes "ERR id"))))
 
--- the load that a step sends: a `LOAD` that finds neither a live value nor a load under way
+-- the load that a step sends, if it is a `LOAD` that finds neither a live value nor a load under way
 abbrev pub load_sent_by : View → Action → Option ℕ
 load_sent_by seen (Running (says.Load key)) = if is_some (seen.live key) || is_some (seen.load_of_key key) then None else Some seen.next_load
 load_sent_by seen action = None
 
--- a key with what it is to hold, and its milliseconds to live
+-- a key with the bytes that are offered for it, and how many milliseconds they live
 pub record Offer : Type 0 where
   pub key : List ℕ
   pub bytes : List ℕ
   pub ms : Option ℕ
 
--- what a step would have accepted, if values are: the value of a `SET`, the sum of an `ADD`, an answer's value
+-- what a step would store if values are accepted: the value of a `SET`, the sum of an `ADD`, the value of an answer
 abbrev pub offered : View → Action → Option Offer
 offered seen (Running (says.Set key ms value)) = Some (record { key = key; bytes = value; ms = ms })
 offered seen (Running (says.Add key ms number)) =
@@ -120,16 +120,16 @@ offered seen (Running (says.Add key ms number)) =
 offered seen (Storing (Some key) (came.Value bytes ms)) = Some (record { key = key; bytes = bytes; ms = ms })
 offered seen action = None
 
--- the offer, where values are accepted
+-- the offer, if values are accepted
 abbrev pub taken_where : Bool → Option Offer → Option Offer
 taken_where accepts None = None
 taken_where accepts (Some offer) = if accepts then Some offer else None
 
--- the value that a step offers, which is accepted exactly where the capacity is not 0
+-- the value that a step offers, which is accepted exactly if the capacity is not 0
 abbrev pub offer_of : Config → View → Action → Option Offer
 offer_of config seen action = taken_where (accepts_values config.capacity) (offered seen action)
 
--- the value that an offer becomes in that part at that moment
+-- the value that an offer becomes, in this part at this moment
 abbrev pub value_with : Config → ℕ → ℕ → Offer → Value
 value_with config now part offer =
     record { key = offer.key; bytes = offer.bytes; part = part; weight = weight_of config.weight offer.bytes; accepted_at = now; own_deadline = own_deadline_from now offer.ms }

@@ -9,13 +9,13 @@ use Rattle.audit_model.specs.Values.{deadline, has_come, sorted}
 use Rattle.audit_model.specs.View.{View, Candidate}
 use Rattle.audit_model.specs.declared.config.Config.{Config}
 
--- a connection runs lines, or holds a line back, or its `LOAD` waits
+-- a connection runs lines, holds a line back, or its `LOAD` waits
 pub data Standing : Type 0 where
   Ready : Standing
   Held : (line : List ℕ) → Standing
   Waiting : (line : List ℕ) → Standing
 
--- an open connection: its unread bytes, and how often its `LOAD` that has no reply yet began to wait
+-- an open connection: its unread bytes, and how often its `LOAD` without a reply began to wait
 pub record Connection : Type 0 where
   pub number : ℕ
   pub unread : List ℕ
@@ -28,7 +28,7 @@ pub record PendingLoad : Type 0 where
   pub key : List ℕ
   pub waiting : List ℕ
 
--- a value held, with its last use; evictable where its part was over its share at a point that still counts for it
+-- a held value, with its last use; evictable if its part exceeded its share at a point that still counts for it
 pub record HeldValue : Type 0 where
   pub value : Value
   pub last_use : ℕ
@@ -79,24 +79,24 @@ may_run_in s conn = option_map_or (λ c. is_ready c.standing && is_some (first_l
 abbrev pub is_holding_in : Situation → ℕ → Bool
 is_holding_in s conn = option_map_or (λ c. is_holding c.standing) (connection_in conn s) false
 
--- it closes for too long a line, or for too many bytes behind its waiting `LOAD`
+-- it closes because a line is too long, or because too many bytes come after its waiting `LOAD`
 abbrev pub is_overlong : Connection → Bool
 is_overlong c =
     (is_ready c.standing && nat_lt 8192 (length (cut_at 10 c.unread).0)) || (is_waiting_now c.standing && nat_lt 8192 (length c.unread))
 
--- a load without that connection among those that wait for it
+-- a load without this connection among those that wait for it
 abbrev pub without_waiting : ℕ → PendingLoad → PendingLoad
 without_waiting conn load = record load { waiting = filter (λ n. not (n == conn)) load.waiting }
 
--- the connections but for that one
+-- the connections without this one
 abbrev pub without_number : ℕ → List Connection → List Connection
 without_number conn connections = filter (λ c. not (c.number == conn)) connections
 
--- the situation when that connection has closed; its load stays under way
+-- the situation after this connection has closed; its load stays under way
 abbrev pub without_connection : ℕ → Situation → Situation
 without_connection conn s = record s { connections = without_number conn s.connections; pending = map (without_waiting conn) s.pending }
 
--- the situation with that connection as it now is, which closes after a `QUIT` or where it must
+-- the situation with this connection as it is now; the connection closes after a `QUIT`, or if it has to
 abbrev pub with_connection : Bool → Connection → Situation → Situation
 with_connection quits connection s =
     let closes = quits || is_overlong connection in
@@ -115,21 +115,21 @@ with_waiting conn key load = if same load.key key then record load { waiting = l
 abbrev pub load_in : Situation → List ℕ → Option ℕ
 load_in s key = option_map (λ load. load.number) (find (λ load. same load.key key) s.pending)
 
--- the load under way of that number
+-- the load under way with this number
 abbrev pub pending_in : ℕ → Situation → Option PendingLoad
 pending_in number s = find (λ load. load.number == number) s.pending
 
--- the key of the load under way of that number
+-- the key of the load under way with this number
 abbrev pub key_in : ℕ → Situation → Option (List ℕ)
 key_in number s = option_map (λ load. load.key) (pending_in number s)
 
--- the connections that wait for that load, in the order in which they joined
+-- the connections that wait for this load, in the order in which they joined
 abbrev pub waiting_in : ℕ → Situation → List ℕ
 waiting_in number s = option_map_or (λ load. load.waiting) (pending_in number s) []
 
 -- ---- what a step sees
 
--- its deadline has come at that moment
+-- its deadline has come at this moment
 abbrev pub is_dead_at : Config → ℕ → HeldValue → Bool
 is_dead_at config now held = has_come (deadline config held.value held.last_use) now
 
@@ -145,7 +145,7 @@ live_at config now held key = option_map (λ h. h.value) (find (λ h. same key h
 abbrev pub live_keys_at : Config → ℕ → List HeldValue → List (List ℕ)
 live_keys_at config now held = sorted (map (λ h. h.value.key) (filter (is_live_at config now) held))
 
--- a held value, with what is true of it at that moment
+-- a held value, with what is true of it at this moment
 abbrev pub candidate_at : Config → ℕ → HeldValue → Candidate
 candidate_at config now held =
     record { value = held.value; dead = is_dead_at config now held; covered = held.covered; evictable = held.evictable; new = false }

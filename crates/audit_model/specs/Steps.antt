@@ -1,4 +1,4 @@
--- When a step is as it should be: in its turn, with its line, reply, load, value and notes.
+-- When a step is right: in its turn, with its line, reply, load, value and notes.
 use Rattle.std.specs.Prelude.{ℕ, Bool, true, false, not, ◌&&◌, ◌||◌, ◌==◌, nat_lt, nat_le, nat_eq, List, Option, Some, None, Ok, Err, if◌then◌else◌, is_some}
 use Rattle.std.specs.Option.{option_eq, option_map}
 use Rattle.audit_model.specs.Commands.{syncs, deed_of}
@@ -12,8 +12,8 @@ use Rattle.audit_model.specs.declared.config.Config.{Config}
 use Rattle.audit_model.specs.declared.event.Outcome.{Outcome}
 use Rattle.audit_model.specs.declared.transcript.Step.{Step}
 
--- what can be due: to store an answer under its load's key; to hand it to a connection's waiting `LOAD`; to run a connection's given-up
--- `LOAD` again; to run its held command; to run its lines, while one may run
+-- what can be due: storing an answer under its load's key; delivering it to a connection's waiting `LOAD`; running a connection's given-up
+-- `LOAD` again; running its held command; running its lines, as long as one may run
 pub data Task : Type 0 where
   Store : Option (List ℕ) → Outcome → Task
   Deliver : ℕ → Outcome → Task
@@ -21,7 +21,7 @@ pub data Task : Type 0 where
   RunHeld : ℕ → Task
   RunLines : ℕ → Task
 
--- what a line does that was read so
+-- what a line does, by what it was read as
 abbrev pub action_by : Reading → Action
 action_by (Ok command) = Running command
 action_by (Err error) = Faulting error
@@ -51,7 +51,7 @@ pub record PlacedStep : Type 0 where
   pub effect : Effect
   pub held : List Value
 
--- the task is that connection's; an answer's own step is no connection's
+-- the task belongs to this connection; an answer's own step belongs to none
 abbrev pub is_task_of : ℕ → Option Task → Bool
 is_task_of conn None = false
 is_task_of conn (Some (Store key outcome)) = true
@@ -60,17 +60,17 @@ is_task_of conn (Some (RunAgain c)) = c == conn
 is_task_of conn (Some (RunHeld c)) = c == conn
 is_task_of conn (Some (RunLines c)) = c == conn
 
--- it is of the connection that is due
+-- it belongs to the connection that is due
 abbrev pub is_in_turn : PlacedStep → Bool
 is_in_turn placed = is_task_of placed.step.conn placed.task
 
--- a given-up `LOAD` and a line may be held; not what is abandoned, handed out or held already
+-- a given-up `LOAD` and a line may be held back, but nothing that is abandoned, delivered or already held
 abbrev pub may_hold : Option Task → Action → Bool
 may_hold (Some (RunAgain conn)) Holding = true
 may_hold (Some (RunLines conn)) Holding = true
 may_hold task action = false
 
--- it is held only where it may be
+-- it is held back only if it may be
 abbrev pub is_held_rightly : PlacedStep → Bool
 is_held_rightly placed = not placed.step.held || may_hold placed.task placed.effect.action
 
@@ -82,11 +82,11 @@ has_right_line placed = option_eq same placed.line (Some placed.step.line)
 abbrev pub has_right_reply : Config → PlacedStep → Bool
 has_right_reply config placed = is_reply config placed.seen placed.effect placed.held
 
--- it sends the load that it should, with its number, or none
+-- it sends the load that it should send, with its number, or none
 abbrev pub has_right_load : PlacedStep → Bool
 has_right_load placed = option_eq nat_eq placed.step.load (load_sent_by placed.seen placed.effect.action)
 
--- a value is accepted exactly where one is offered, into one of the parts
+-- a value is accepted exactly if one is offered, into one of the parts
 abbrev pub has_right_acceptance : Config → PlacedStep → Bool
 has_right_acceptance config placed = go (option_map (λ a. a.part) placed.step.accepted) (is_some (offer_of config placed.seen placed.effect.action))
   where
@@ -94,12 +94,12 @@ has_right_acceptance config placed = go (option_map (λ a. a.part) placed.step.a
     go None offers = not offers
     go (Some part) offers = offers && nat_lt part (part_count config)
 
--- each note tells a value that is held, or that this step accepts, with a true cause
+-- each note reports a value that is held, or that this step accepts, with a true cause
 abbrev pub has_right_notes : Config → PlacedStep → Bool
 has_right_notes config placed =
     let deed = deed_of placed.effect in are_true_notes config placed.seen.held deed (candidates_of config placed.seen.held deed) placed.effect.notes
 
--- a step that tells nothing has no notes
+-- a step that reports nothing has no notes
 abbrev pub is_quiet_where_silent : PlacedStep → Bool
 is_quiet_where_silent placed = not (is_silent placed.effect.action) || is_empty placed.effect.notes
 

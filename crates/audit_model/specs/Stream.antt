@@ -19,13 +19,13 @@ was_opened conn [] = false
 was_opened conn (Opened c ∷ past) = (c == conn) || was_opened conn past
 was_opened conn (h ∷ past) = was_opened conn past
 
--- its close was asked for
+-- its closing was requested
 abbrev pub was_closed : ℕ → History → Bool
 was_closed conn [] = false
 was_closed conn (Closed c ∷ past) = (c == conn) || was_closed conn past
 was_closed conn (h ∷ past) = was_closed conn past
 
--- the connection's pieces, joined
+-- the connection's pieces, concatenated
 abbrev pub bytes_of : ℕ → History → List ℕ
 bytes_of conn [] = []
 bytes_of conn (Fed c piece moment ∷ past) = bytes_of conn past ++ (if c == conn then piece else [])
@@ -43,7 +43,7 @@ replies_of conn [] = 0
 replies_of conn (Ran c effect ∷ past) = (if (c == conn) && is_some effect.reply then 1 else 0) + replies_of conn past
 replies_of conn (h ∷ past) = replies_of conn past
 
--- it is a line held back
+-- it is a line that was held back
 abbrev pub is_held : Effect → Bool
 is_held effect = go effect.action
   where
@@ -59,20 +59,20 @@ is_waiting effect = is_none effect.reply && not (is_held effect)
 abbrev pub holds : ℕ → History → Bool
 holds conn past = option_map_or is_held (last_effect conn past) false
 
--- its last step was a `LOAD` that has no reply yet
+-- its last step was a `LOAD` without a reply
 abbrev pub waits : ℕ → History → Bool
 waits conn past = option_map_or is_waiting (last_effect conn past) false
 
--- the bytes behind the first n lines
+-- the bytes after the first n lines
 abbrev pub behind_lines : ℕ → List ℕ → List ℕ
 behind_lines zero bytes = bytes
 behind_lines (suc n) bytes = behind_lines n (unwrap_or (cut_at 10 bytes).1 [])
 
--- the bytes from the first line that has no reply yet
+-- the bytes from the first line without a reply on
 abbrev pub unanswered : ℕ → History → List ℕ
 unanswered conn past = behind_lines (replies_of conn past) (bytes_of conn past)
 
--- the bytes that are not read yet: a held command and a waiting `LOAD` are read
+-- the bytes that are not read yet: a held command and a waiting `LOAD` have been read
 abbrev pub unread : ℕ → History → List ℕ
 unread conn past = if holds conn past || waits conn past then behind_lines 1 (unanswered conn past) else unanswered conn past
 
@@ -82,7 +82,7 @@ without_return [] = []
 without_return (b ∷ []) = if b == 13 then [] else b ∷ []
 without_return (b ∷ c ∷ bs) = b ∷ without_return (c ∷ bs)
 
--- the first line, once its line feed has come
+-- the first line, once its line feed has arrived
 abbrev pub first_line : List ℕ → Option (List ℕ)
 first_line bytes = if is_some (cut_at 10 bytes).1 then Some (without_return (cut_at 10 bytes).0) else None
 
@@ -92,11 +92,11 @@ has_quit conn [] = false
 has_quit conn (Ran c effect ∷ past) = ((c == conn) && quits effect) || has_quit conn past
 has_quit conn (h ∷ past) = has_quit conn past
 
--- 8193 bytes stand behind its waiting `LOAD`
+-- 8193 bytes come after its waiting `LOAD`
 abbrev pub is_behind : ℕ → History → Bool
 is_behind conn past = waits conn past && nat_lt 8192 (length (unread conn past))
 
--- every line before was run, and the next one has 8193 bytes without a line feed
+-- every line before has run, and the next one has 8193 bytes without a line feed
 abbrev pub is_long : ℕ → History → Bool
 is_long conn past = not (waits conn past) && not (holds conn past) && nat_lt 8192 (length (cut_at 10 (unread conn past)).0)
 
@@ -116,7 +116,7 @@ is_open conn past = was_opened conn past && is_none (closing conn past)
 abbrev pub may_run : ℕ → History → Bool
 may_run conn past = is_open conn past && not (waits conn past) && not (holds conn past) && is_some (first_line (unread conn past))
 
--- how often its `LOAD` that has no reply yet began to wait
+-- how often its `LOAD` without a reply began to wait
 abbrev pub times_waited : ℕ → History → ℕ
 times_waited conn [] = 0
 times_waited conn (Ran c effect ∷ past) = if c == conn then (if is_some effect.reply then 0 else ((if is_waiting effect then 1 else 0) + times_waited conn past)) else times_waited conn past

@@ -18,7 +18,7 @@ opened_conns [] = []
 opened_conns (Opened conn ∷ past) = opened_conns past ++ conn ∷ []
 opened_conns (h ∷ past) = opened_conns past
 
--- whether it runs lines, holds one back, or waits, by its history
+-- whether it runs lines, holds one back or waits, according to its history
 abbrev pub standing_of : ℕ → History → Standing
 standing_of conn past =
     let line = unwrap_or (first_line (unanswered conn past)) [] in

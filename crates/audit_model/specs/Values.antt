@@ -1,4 +1,4 @@
--- Values: accepted, used, covered, told, held, live.
+-- Values: accepted, used, covered, reported, held, live.
 use Rattle.std.specs.Prelude.{ℕ, ◌+◌, ◌-◌, ◌*◌, ◌%◌, min, Bool, false, not, ◌&&◌, ◌||◌, nat_le, List, [], ◌∷◌, ◌++◌, Option, Some, None, if◌then◌else◌, is_some}
 use Rattle.std.specs.List.{list_any, filter_map}
 use Rattle.std.specs.Option.{option_map, option_map_or, option_to_list}
@@ -12,32 +12,32 @@ use Rattle.audit_model.specs.declared.transcript.Note.{Note}
 abbrev pub rounded : ℕ → ℕ
 rounded moment = moment - moment % 4096
 
--- the moment that many milliseconds later
+-- the moment this many milliseconds later
 abbrev pub after_ms : ℕ → ℕ → ℕ
 after_ms moment ms = moment + ms * 1000000
 
--- a value accepted at a moment with that many milliseconds to live
+-- a value that is accepted at a moment and lives this many milliseconds
 abbrev pub own_deadline_from : ℕ → Option ℕ → Option ℕ
 own_deadline_from moment ms = option_map (λ n. rounded (after_ms moment n)) ms
 
--- the earlier one, of those that there are
+-- the earlier one, of those that exist
 abbrev pub earlier_of : Option ℕ → Option ℕ → Option ℕ
 earlier_of None b = b
 earlier_of (Some a) None = Some a
 earlier_of (Some a) (Some b) = Some (min a b)
 
--- the earliest of the value's own deadline, its acceptance plus the live time, and its last use plus the idle time
+-- the earliest of the value's own deadline, its acceptance plus the live time, and its last use plus the idle time, of those that exist
 abbrev pub deadline : Config → Value → ℕ → Option ℕ
 deadline config value last_use =
     earlier_of value.own_deadline
     (earlier_of (option_map (after_ms value.accepted_at) config.live_ms) (option_map (after_ms last_use) config.idle_ms))
 
--- there is a deadline, and it is at or before that moment
+-- there is a deadline, and it is at or before this moment
 abbrev pub has_come : Option ℕ → ℕ → Bool
 has_come None now = false
 has_come (Some moment) now = nat_le moment now
 
--- there is a value, and it is the key's
+-- there is a value, and it is of this key
 abbrev pub is_value_of : List ℕ → Option Value → Bool
 is_value_of key None = false
 is_value_of key (Some value) = same key value.key
@@ -46,50 +46,50 @@ is_value_of key (Some value) = same key value.key
 abbrev pub accepts : List ℕ → Happening → Bool
 accepts key h = is_value_of key (value_of h)
 
--- the key's last accepted value
+-- the last accepted value of the key
 abbrev pub last_accepted : List ℕ → History → Option Value
 last_accepted key [] = None
 last_accepted key (h ∷ past) = if accepts key h then value_of h else last_accepted key past
 
--- since the key's last acceptance a `CLEAR` or an accepted `DROPIF` of a prefix of it came
+-- since the key's last acceptance there was a `CLEAR`, or an accepted `DROPIF` of a prefix of it
 abbrev pub is_covered : List ℕ → History → Bool
 is_covered key [] = false
 is_covered key (h ∷ past) = if accepts key h then false else (is_step_that (covers key) h || is_covered key past)
 
--- since the key's last acceptance a `DEL` of it came
+-- since the key's last acceptance there was a `DEL` of it
 abbrev pub is_deleted : List ℕ → History → Bool
 is_deleted key [] = false
 is_deleted key (h ∷ past) = if accepts key h then false else (is_step_that (deletes key) h || is_deleted key past)
 
--- the list without the first one of the key
+-- the list without the first value of the key
 abbrev pub without_key : {A : Type 0} → (A → List ℕ) → List ℕ → List A → List A
 without_key key_of key [] = []
 without_key key_of key (x ∷ xs) = if same key (key_of x) then xs else x ∷ without_key key_of key xs
 
--- what is left when each note tells its key's first one
+-- what is left after each note has reported the first value of its key
 abbrev pub untold : {A : Type 0} → (A → List ℕ) → List Note → List A → List A
 untold key_of [] xs = xs
 untold key_of (note ∷ notes) xs = untold key_of notes (without_key key_of note.key xs)
 
--- the values held after what happened: a step's own one is added, and those that it tells go
+-- the values held after what happened: a step's own value is added, and those that it reports leave
 abbrev pub untold_after : Option Effect → List Value → List Value
 untold_after None values = values
 untold_after (Some effect) values = untold (λ v. v.key) effect.notes (values ++ option_to_list effect.value)
 
--- the values held, oldest first: accepted, and not told
+-- the values held, oldest first: accepted, and not reported
 abbrev pub held_values : History → List Value
 held_values [] = []
 held_values (h ∷ past) = untold_after (effect_of h) (held_values past)
 
--- no value of the key is held: its last accepted one, if there is one, was told
+-- no value of the key is held: its last accepted one, if there is one, was reported
 abbrev pub is_told : List ℕ → History → Bool
 is_told key past = not (list_any (λ v. same key v.key) (held_values past))
 
--- the value was not covered, deleted or told before, and its deadline has not come
+-- the value was not covered, deleted or reported before, and its deadline has not come
 abbrev pub lives : Config → List ℕ → History → ℕ → ℕ → Value → Bool
 lives config key past last_use now value = not (is_deleted key past) && not (is_covered key past) && not (is_told key past) && not (has_come (deadline config value last_use) now)
 
--- the value, where it lives
+-- the value, if it is live
 abbrev pub if_lives : Config → List ℕ → History → ℕ → ℕ → Option Value → Option Value
 if_lives config key past last_use now None = None
 if_lives config key past last_use now (Some value) = if lives config key past last_use now value then Some value else None
@@ -106,7 +106,7 @@ last_use config key (h ∷ past) =
     if accepts key h then moment_of h
     else (if is_step_that (looks_up key) h && is_some (if_lives config key past used (moment_of h) (last_accepted key past)) then moment_of h else used)
 
--- the key's live value at a moment, after all that happened
+-- the live value of the key at a moment, after all that happened
 abbrev pub live_value : Config → List ℕ → History → ℕ → Option Value
 live_value config key past now = if_lives config key past (last_use config key past) now (last_accepted key past)
 

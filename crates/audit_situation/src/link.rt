@@ -235,7 +235,7 @@ fn read_where(link: &mut Link, reads: bool)
     }
 }
 
-/// Does to a connection what a step of its own does.
+/// Does to a connection what its own step does.
 pub fn move_on(alloc: Global, link: &mut Link, moving: Moving<'_>) -> Result<(), AllocError>
     ensures moved { OnOk result (link.new ≡ moved_as moving.entry link.old) }
     ensures number { link.new.number ≡ link.old.number }
@@ -254,7 +254,7 @@ fn closes(link: &Link, quits: bool) -> bool
     quits || is_overlong(link)
 }
 
-/// Feeds a connection, and answers whether it has to close.
+/// Feeds a connection, and returns whether it has to close.
 pub fn feed_link(link: &mut Link, piece: &[u8]) -> Result<bool, AllocError>
     ensures closes { IfOk result (λ b. b ≡ is_overlong (fed_with piece.now link.old)) }
     ensures fed { OnOk result (link.new ≡ fed_with piece.now link.old) }
@@ -264,7 +264,7 @@ pub fn feed_link(link: &mut Link, piece: &[u8]) -> Result<bool, AllocError>
     Ok(is_overlong(link))
 }
 
-/// Does to a connection what a step of its own does, and answers whether it closes.
+/// Does to a connection what its own step does, and returns whether it closes.
 pub fn move_link(
     alloc: Global,
     link: &mut Link,

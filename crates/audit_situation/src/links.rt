@@ -50,7 +50,7 @@ impl Links {
         self.cache.peek(&conn)
     }
 
-    /// Adds a connection, as the last. An `Err` is want of memory, or one of that number is open.
+    /// Adds a connection, as the last one. An `Err` is a lack of memory, or one with this number is open.
     pub fn add(&mut self, link: Link) -> Result<(), AllocError>
         ensures { OnOk result (self.new ≡ self.old ++ link ∷ []) }
     {
@@ -70,7 +70,7 @@ impl Links {
         self.cache.pop(&conn);
     }
 
-    /// Feeds a connection, and answers whether it has to close.
+    /// Feeds a connection, and returns whether it has to close.
     pub fn feed(&mut self, conn: u64, piece: &[u8]) -> Result<bool, AllocError>
         ensures closes { IfOk result (λ b. b ≡ option_map_or (λ c. is_overlong (fed_with piece.now c)) (find (λ c. c.number == conn) self.old) false) }
         ensures fed { OnOk result (self.new ≡ map (changed_at (λ c. c.number) conn (fed_with piece.now)) self.old) }
@@ -81,7 +81,7 @@ impl Links {
         }
     }
 
-    /// Does to a connection what a step of its own does, and answers whether it closes.
+    /// Does to a connection what its own step does, and returns whether it closes.
     pub fn move_on(
         &mut self,
         alloc: Global,

@@ -76,8 +76,8 @@ impl LoadTable {
         }
     }
 
-    /// Adds a load of a key, for which a connection waits. An `Err` is want of memory, or the number is none above the earlier ones, or the key
-    /// has a load, or the connection waits for one.
+    /// Adds a load of a key, for which a connection waits. An `Err` is a lack of memory, or the number is not above the earlier ones, or
+    /// the key has a load, or the connection waits for one.
     pub fn send(&mut self, number: u64, key: &[u8], conn: u64) -> Result<(), AllocError>
         ensures { OnOk result (self.new ≡ record { number = number; key = key.now; waiting = conn ∷ [] } ∷ self.old) }
     {
@@ -95,8 +95,8 @@ impl LoadTable {
         self.table.add(load)
     }
 
-    /// Has a connection join those that wait for the load of a key, if there is one. An `Err` is want of memory, or the connection waits for a
-    /// load.
+    /// Makes a connection join those that wait for the load of a key, if there is one. An `Err` is a lack of memory, or the connection
+    /// waits for a load.
     pub fn join(&mut self, conn: u64, key: &[u8]) -> Result<(), AllocError>
         ensures { OnOk result (self.new ≡ map (with_waiting conn key.now) self.old) }
     {

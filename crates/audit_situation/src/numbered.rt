@@ -48,7 +48,7 @@ impl Numbered {
         self.cache.peek(&number)
     }
 
-    /// Adds a load, as the first. An `Err` is want of memory, or there is one of that number.
+    /// Adds a load, as the first one. An `Err` is a lack of memory, or there is one with this number.
     pub fn add(&mut self, load: Pending) -> Result<(), AllocError>
         ensures added { OnOk result (self.new ≡ load ∷ self.old) }
         ensures unchanged { OnErr result (self.new ≡ self.old) }

@@ -70,7 +70,7 @@ impl Pending {
         self.waiting.remove(conn);
     }
 
-    /// A connection joins those that wait for it. An `Err` is want of memory, or it is among them.
+    /// A connection joins those that wait for it. An `Err` is a lack of memory, or it is already among them.
     pub fn join(&mut self, conn: u64) -> Result<(), AllocError>
         ensures joined { OnOk result (self.new ≡ record self.old { waiting = self.old.waiting ++ conn ∷ [] }) }
         ensures unchanged { OnErr result (self.new ≡ self.old) }

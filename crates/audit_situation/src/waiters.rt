@@ -47,7 +47,7 @@ impl Waiters {
         self.cache.iter()
     }
 
-    /// Adds a connection, as the last. An `Err` is want of memory, or it is there.
+    /// Adds a connection, as the last one. An `Err` is a lack of memory, or it is already there.
     pub fn push(&mut self, conn: u64) -> Result<(), AllocError>
         ensures added { OnOk result (self.new ≡ self.old ++ conn ∷ []) }
         ensures unchanged { OnErr result (self.new ≡ self.old) }

@@ -32,11 +32,11 @@ config_words config =
     ∷ (codes "weight=" ++ weight_word config.weight)
     ∷ deadline_words config
 
--- the moment of the making
+-- the moment of creation
 abbrev pub made_words : ℕ → List (List ℕ)
 made_words moment = codes "made" ∷ decimal moment ∷ []
 
--- what a loader answered
+-- what a loader returned
 abbrev pub outcome_words : Outcome → List (List ℕ)
 outcome_words (outcome.Value bytes ms) = codes "value" ∷ bytes_word bytes ∷ option_word decimal ms ∷ []
 outcome_words outcome.None = codes "none" ∷ []
@@ -54,7 +54,7 @@ event_words (event.GiveUp load moment) = codes "giveup" ∷ decimal load ∷ dec
 abbrev pub part_word : Accepted → List ℕ
 part_word accepted = decimal accepted.part
 
--- the part of the value that an answer's own step accepted; no line where there is none
+-- the part of the value that an answer's own step accepted; no line if there is none
 abbrev pub own_text : Option Accepted → List ℕ
 own_text None = []
 own_text (Some accepted) = line (codes "own" ∷ part_word accepted ∷ [])
@@ -75,7 +75,7 @@ step_words step =
     ∷ option_word part_word step.accepted
     ∷ []
 
--- a step with its notes behind it
+-- a step followed by its notes
 abbrev pub step_text : Step → List ℕ
 step_text step = line (step_words step) ++ flat_map (note_line (codes "note")) step.notices
 

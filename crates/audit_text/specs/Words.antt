@@ -14,7 +14,7 @@ hex_digit n = if nat_lt n 10 then 48 + n else 87 + n
 abbrev pub byte_digits : ℕ → List ℕ
 byte_digits b = hex_digit (b / 16) ∷ hex_digit (b % 16) ∷ []
 
--- bytes: `x`, and two digits a byte
+-- bytes: `x`, and two digits for each byte
 abbrev pub bytes_word : List ℕ → List ℕ
 bytes_word bytes = 120 ∷ flat_map byte_digits bytes
 
@@ -41,7 +41,7 @@ abbrev pub weight_word : Weight → List ℕ
 weight_word weight.One = codes "one"
 weight_word weight.Bytes = codes "bytes"
 
--- a line: its words, parted by one space, and a line feed
+-- a line: its words, separated by one space, and a line feed
 abbrev pub line : List (List ℕ) → List ℕ
 line [] = 10 ∷ []
 line (w ∷ []) = w ++ 10 ∷ []

@@ -55,7 +55,7 @@ fn put_number_setting(
     Ok(())
 }
 
-/// Writes the moment of the making.
+/// Writes the moment of creation.
 pub fn put_made(text: &mut Vec<u8>, made: Instant) -> Result<(), AllocError>
     ensures { OnOk result (text.new.items ≡ text.old.items ++ line (made_words made.nanos)) }
 {

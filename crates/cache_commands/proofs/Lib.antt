@@ -4,3 +4,4 @@ pub mod Drawn
 pub mod LoadSteps
 pub mod Ordering
 pub mod Answered
+pub mod Taking

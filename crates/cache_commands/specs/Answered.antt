@@ -1,4 +1,4 @@
--- What is owed of a line that is answered.
+-- What the reply to a line guarantees.
 use Rattle.std.specs.Prelude.{◌≡◌, ℕ, ◌+◌, ◌≤◌, ◌++◌, ◌||◌, Bool, true, false, is_some, List, length, Option, Some, None, Ok, IfSome, IsTrue, codes}
 use Rattle.std.specs.List.{list_all}
 use Rattle.audit_model.specs.Bytewise.{is_empty}
@@ -21,7 +21,7 @@ use Rattle.cache_commands.specs.Order.{MovesOrder}
 use Rattle.cache_commands.specs.Right.{RepliesRightly, KeepsFrame}
 use Rattle.cache_store.specs.Values.{Values}
 
--- the store stands for the situation at that moment
+-- the store stands for the situation at this moment
 pub record Agrees (v : Values) (now : ℕ) (s : Situation) : Type 0 where
   pub at : s.latest ≡ now
   pub dropped : s.dropped ≡ v.frame.dropped
@@ -33,7 +33,7 @@ key_written (Ok (says.Set key ms value)) = Some key
 key_written (Ok (says.Add key ms number)) = Some key
 key_written reading = None
 
--- a value that a line may hand in: not too long, with an own deadline only where there are such
+-- a value that a line may store: not too long, with an own deadline only if these are allowed
 pub record IsTakable (config : Config) (bytes : List ℕ) (milliseconds : Option ℕ) : Type 0 where
   pub short : length bytes ≤ 8192
   pub own : IsOwn config milliseconds
@@ -43,8 +43,9 @@ abbrev pub says_drop : Reading → Bool
 says_drop (Ok (says.DropIf prefix)) = true
 says_drop reading = false
 
--- A line that reads so was answered: its reply stands behind what was written, and its step is right in each situation that the store stood for.
--- A `SYNC` left timely values; a `DROPIF` drew as it may; the order of use is known again; one 64-bit number was spent at most.
+-- A line that reads like this was answered: its reply was appended to what was written, and its step is right in each situation that the
+-- store stood for. A `SYNC` left timely values; a `DROPIF` drew as it may; the order of use is known again; at most one 64-bit number was
+-- used up.
 pub record IsAnswered (now : ℕ) (reading : Reading) (accepted : Option Accepted) (was is : Values) (old new : List ℕ) : Type 0 where
   pub right : (s : Situation) → Agrees was now s → RepliesRightly was.frame.config s (action_by reading) accepted is.Stands is.frame.dropped (AppendsNotes was.untaken is.untaken) old new
   pub part : IfSome accepted (λ a. IfSome (key_written reading) (λ key. a.part ≡ was.frame.part_of key))
@@ -56,7 +57,7 @@ pub record IsAnswered (now : ℕ) (reading : Reading) (accepted : Option Accepte
   pub used_up : says_drop reading ≡ true → new ≡ old ++ codes "ERR id\n" → AreUsedUp (part_count was.frame.config) was.stream is.stream was.registered
   pub order : MovesOrder was.frame.config was.Used is.Used reading
 
--- An answer's value was stored under the load's key: the step is right in each situation that the store stood for, and tells nothing where
+-- An answer's value was stored under the load's key: the step is right in each situation that the store stood for, and reports nothing if
 -- no part took a value.
 pub record IsStored (now : ℕ) (key : List ℕ) (outcome : Outcome) (accepted : Option Accepted) (was is : Values) : Type 0 where
   pub right : (s : Situation) → s.latest ≡ now → was.Stands s.held → (x : Stores was.frame.config s key outcome accepted is.Stands (AppendsNotes was.untaken is.untaken)) × ((is_some accepted || is_empty x.told) ≡ true)

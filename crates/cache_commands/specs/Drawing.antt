@@ -4,7 +4,7 @@ use Rattle.audit_model.specs.Bytewise.{same}
 use Rattle.rand_core.specs.Stream.{Stream}
 use Rattle.cache_store.specs.Identifiers.{Register, stream_after, identifier_at}
 
--- so many identifiers are drawn, and each part registers one of them at most
+-- this many identifiers are drawn, and each part registers one of them at most
 pub record DrawsForParts (old_stream new_stream : Stream) (old new : Register) : Type 0 where
   pub number : ℕ
   pub stream : new_stream ≡ stream_after number old_stream

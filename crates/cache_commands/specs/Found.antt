@@ -1,4 +1,4 @@
--- What is written of what a look-up found.
+-- What is written for what a look-up found.
 use Rattle.std.specs.Prelude.{ℕ, List, Option, Some, None, codes}
 use Rattle.audit_model.specs.Bytewise.{text_line}
 use Rattle.audit_model.specs.Replies.{value_reply}

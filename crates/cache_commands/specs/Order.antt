@@ -1,4 +1,4 @@
--- The order of use of keys, line by line: which keys are held where the least recently used leaves.
+-- The order of use of keys, line by line: which keys are held under LRU.
 use Rattle.std.specs.Prelude.{◌≡◌, ℕ, suc, ◌≤◌, Bool, true, List, length, take, Ok}
 use Rattle.audit_model.specs.Grammar.{Reading}
 use Rattle.audit_model.specs.Recency.{recency_after}
@@ -7,14 +7,14 @@ use Rattle.audit_model.specs.declared.command.Command.TheVariants as says
 use Rattle.audit_model.specs.declared.config.Config.{Config}
 use Rattle.cache_store.specs.Recency.{IsPlainLru}
 
--- What is known of the keys held: just these, since the last line was a `SYNC`, or none ran yet; just these once a `SYNC` runs next; or
--- nothing.
+-- What is known of the keys held: exactly these, since the last line was a `SYNC`, or none ran yet; exactly these once a `SYNC` runs next;
+-- or nothing.
 pub data Order : Type 0 where
   Settled : (keys : List (List ℕ)) → Order
   Used : (keys : List (List ℕ)) → Order
   Unknown : Order
 
--- a command of a recency list ran, over so many places
+-- a command of a recency list ran, over this many places
 abbrev pub used_by : ℕ → Command → Order → Order
 used_by n command (Settled keys) = Used (recency_after n keys command)
 used_by n command order = Unknown
@@ -25,8 +25,8 @@ settled (Settled keys) = Settled keys
 settled (Used keys) = Settled keys
 settled Unknown = Unknown
 
--- A line ran, over so many places. Where a `SYNC` ran last, a `SET`, `GET`, `HAS`, `DEL` or `KEYS` changes the list; a `SYNC` settles it. Behind
--- any other line nothing is known.
+-- A line ran, over this many places. If a `SYNC` ran last, a `SET`, `GET`, `HAS`, `DEL` or `KEYS` changes the list; a `SYNC` settles it.
+-- After any other line nothing is known.
 abbrev pub order_by : ℕ → Reading → Order → Order
 order_by n (Ok (says.Set key ms value)) order = used_by n (says.Set key ms value) order
 order_by n (Ok (says.Get key)) order = used_by n (says.Get key) order
@@ -49,6 +49,6 @@ AgreesWith Recency number (Settled keys) = Recency true keys × (length keys ≤
 AgreesWith Recency number (Used keys) = IsUsed Recency number keys
 AgreesWith Recency number Unknown = Unit {0}
 
--- it agrees again when a line ran
+-- it agrees again after a line has run
 pub record MovesOrder (config : Config) (Old New : Bool → List (List ℕ) → Type 0) (reading : Reading) : Type 0 where
   pub moves : (number : ℕ) (order : Order) → IsPlainLru config number → AgreesWith Old number order → AgreesWith New number (order_by (suc number) reading order)

@@ -11,7 +11,7 @@ use Rattle.cache_commands.specs.declared.running.Ran.{Ran}
 use Rattle.cache_commands.specs.declared.running.Ran.TheVariants.{Answered, Misses}
 use Rattle.cache_store.specs.Values.{IsLive, Values}
 
--- a request whose words a store takes
+-- a request whose words a store accepts
 abbrev pub FitsStore : Config → Request → Type 0
 FitsStore config (Set key deadline value) = IsTakable config value.now deadline
 FitsStore config (Add key deadline number) = IsOwn config deadline
@@ -33,7 +33,7 @@ pub record MissesLive (now : ℕ) (reading : Reading) (was is : Values) (old new
   pub none : IsLive was now key None
   pub unwritten : new ≡ old
 
--- a line that reads so was answered, or misses
+-- a line that reads like this was answered, or misses
 abbrev pub RunsRequest : ℕ → Reading → Ran → Values → Values → List ℕ → List ℕ → Type 0
 RunsRequest now reading (Answered accepted) was is old new = IsAnswered now reading accepted was is old new
 RunsRequest now reading Misses was is old new = MissesLive now reading was is old new

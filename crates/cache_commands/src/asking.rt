@@ -11,7 +11,7 @@ use cache_store::Store;
 use itoa::Buffer;
 use std::alloc::AllocError;
 
-/// Answers a `HAS`, which is no use of the value.
+/// Replies to a `HAS`, which is not a use of the value.
 pub fn has<S: Store>(store: &S, key: &Key, now: u64, output: &mut Vec<u8>) -> Result<(), AllocError>
     requires { IsMoment (S.view store.now) now }
     ensures ok { OnOk result (IsAnswered now (Ok (says.Has key.now)) None (S.view store.now) (S.view store.now) output.old.items output.new.items) }
@@ -26,7 +26,7 @@ pub fn has<S: Store>(store: &S, key: &Key, now: u64, output: &mut Vec<u8>) -> Re
     Ok(())
 }
 
-/// Answers a `KEYS`.
+/// Replies to a `KEYS`.
 pub fn keys<S: Store>(store: &S, now: u64, output: &mut Vec<u8>) -> Result<(), AllocError>
     requires { IsMoment (S.view store.now) now }
     ensures ok { OnOk result (IsAnswered now (Ok says.Keys) None (S.view store.now) (S.view store.now) output.old.items output.new.items) }
@@ -56,7 +56,7 @@ fn write_number_of_keys(output: &mut Vec<u8>, number: usize)
     write(output, b"\n");
 }
 
-/// Answers a `QUIT`.
+/// Replies to a `QUIT`.
 pub fn quit<S: Store>(store: &S, now: u64, output: &mut Vec<u8>) -> Result<(), AllocError>
     requires { IsMoment (S.view store.now) now }
     ensures ok { OnOk result (IsAnswered now (Ok says.Quit) None (S.view store.now) (S.view store.now) output.old.items output.new.items) }

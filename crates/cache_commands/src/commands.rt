@@ -17,7 +17,7 @@ use std::alloc::AllocError;
 /// Room for each text of a reply that has no value and no key in it.
 pub const SHORT: usize = 96;
 
-/// Answers a `GET`.
+/// Replies to a `GET`.
 pub fn get<S: Store>(
     store: &mut S,
     key: &Key,
@@ -67,7 +67,7 @@ pub(crate) fn write_short(output: &mut Vec<u8>, text: &[u8]) -> Result<(), Alloc
     Ok(())
 }
 
-/// Answers a `SET`, and says which part took the value; none at capacity 0.
+/// Replies to a `SET`, and returns which part took the value; none at capacity 0.
 pub fn set<S: Store>(
     store: &mut S,
     key: &Key,
@@ -104,7 +104,7 @@ pub fn accepts(capacity: Option<u64>) -> bool
     }
 }
 
-/// Answers a `DEL`.
+/// Replies to a `DEL`.
 pub fn del<S: Store>(
     store: &mut S,
     key: &Key,
@@ -124,7 +124,7 @@ pub fn del<S: Store>(
     Ok(())
 }
 
-/// Answers a `SYNC`.
+/// Replies to a `SYNC`.
 pub fn sync<S: Store>(store: &mut S, now: u64, output: &mut Vec<u8>) -> Result<(), AllocError>
     requires { IsMoment (S.view store.old) now }
     ensures ok { OnOk result (IsAnswered now (Ok says.Sync) None (S.view store.old) (S.view store.new) output.old.items output.new.items) }
@@ -152,7 +152,7 @@ fn write_counts(output: &mut Vec<u8>, counts: Counts)
     write(output, b"\n");
 }
 
-/// Answers a line that cannot be read.
+/// Replies to a line that cannot be read.
 pub fn fault<S: Store>(
     store: &S,
     error: LineError,

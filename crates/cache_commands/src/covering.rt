@@ -9,7 +9,7 @@ use crate::commands::SHORT;
 use crate::writing::write;
 use cache_store::{Store, StoreError};
 
-/// Answers a `CLEAR`.
+/// Replies to a `CLEAR`.
 pub fn clear<S: Store>(store: &mut S, now: u64, output: &mut Vec<u8>) -> Result<(), StoreError>
     requires { IsMoment (S.view store.old) now }
     ensures ok { OnOk result (IsAnswered now (Ok says.Clear) None (S.view store.old) (S.view store.new) output.old.items output.new.items) }
@@ -24,7 +24,7 @@ pub fn clear<S: Store>(store: &mut S, now: u64, output: &mut Vec<u8>) -> Result<
     Ok(())
 }
 
-/// Answers a `DROPIF`: `ERR id` where one part drew 1000 identifiers and each was registered there.
+/// Replies to a `DROPIF`: `ERR id` if one part drew 1000 identifiers and each was registered there.
 pub fn drop_prefix<S: Store>(
     store: &mut S,
     prefix: &[u8],

@@ -73,8 +73,8 @@ impl<S: Store> Keyed<S> {
         run_request(&mut self.store, &mut self.key, request, now, reply)
     }
 
-    /// Stores the value of a load's outcome under the load's key, and says which part took it; none at capacity 0, and where the outcome is
-    /// no value. An `Err` changes nothing.
+    /// Stores the value of a load's outcome under the load's key, and returns which part took it; none at capacity 0, and if the outcome is
+    /// not a value. An `Err` changes nothing.
     pub fn store_outcome(
         &mut self,
         key: &[u8],
@@ -93,7 +93,7 @@ impl<S: Store> Keyed<S> {
         store_outcome(&mut self.store, &self.key, outcome, now)
     }
 
-    /// Takes the note that was told first.
+    /// Takes the note that was reported first.
     pub fn next_notice(&mut self) -> Option<Note>
         ensures taken { TakesFirstNote (S.view self.old).untaken (S.view self.new).untaken result }
         ensures gives { GivesNote (S.view self.old) (S.view self.new) }

@@ -14,7 +14,7 @@ use audit_model::{Accepted, Key, Outcome};
 use cache_store::{Store, StoreError};
 use std::alloc::AllocError;
 
-/// Answers a `LOAD` that finds a live value, which is a use of it, and says whether it found one. Where it found none, nothing has
+/// Replies to a `LOAD` if it finds a live value, which is a use of it, and returns whether it found one. If it found none, nothing has
 /// changed and nothing was written.
 pub fn load<S: Store>(
     store: &mut S,
@@ -61,8 +61,8 @@ fn write_live(output: &mut Vec<u8>, found: Option<&[u8]>) -> Result<(), Unanswer
     }
 }
 
-/// Stores the value of a load's outcome under the load's key, and says which part took it; none at capacity 0, and where the outcome is no
-/// value. An `Err` changes nothing.
+/// Stores the value of a load's outcome under the load's key, and returns which part took it; none at capacity 0, and if the outcome is not
+/// a value. An `Err` changes nothing.
 pub fn store_outcome<S: Store>(
     store: &mut S,
     key: &Key,
@@ -89,7 +89,7 @@ pub fn store_outcome<S: Store>(
     }
 }
 
-/// Writes the reply to a waiting `LOAD` that is handed this outcome, in reserved room.
+/// Writes the reply to a waiting `LOAD` with this outcome, in reserved room.
 pub fn write_outcome(outcome: &Outcome, output: &mut Vec<u8>)
     requires { vec_len output.old + length (outcome_text outcome.now) ≤ vec_capacity output.old }
     ensures { output.new.items ≡ output.old.items ++ outcome_text outcome.now }

@@ -15,7 +15,7 @@ use audit_model::{Accepted, Key};
 use cache_store::{Store, StoreError};
 use itoa::Buffer;
 
-/// Answers an `ADD`, and says which part took the sum; none at capacity 0, and where there is no sum.
+/// Replies to an `ADD`, and returns which part took the sum; none at capacity 0, and if there is no sum.
 pub fn add<S: Store>(
     store: &mut S,
     key: &Key,
@@ -81,7 +81,7 @@ fn write_unsummed(output: &mut Vec<u8>, found: Option<&[u8]>, added: u64) -> Res
     }
 }
 
-/// What is found and the number added to it, where what is found is a number and the sum is at most 2^64 - 1.
+/// The sum of what is found and the number, if what is found is a number and the sum is at most 2^64 - 1.
 fn sum_of(found: Option<&[u8]>, added: u64) -> Option<u64>
     ensures { result ≡ sum_of_bytes (option_map (λ bytes. bytes.now) found.entry) added }
 {

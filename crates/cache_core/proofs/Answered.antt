@@ -49,6 +49,7 @@ use Rattle.cache_core.specs.Settled.{Absent, Moves, Piece, course_at, middle_of}
 use Rattle.cache_core.specs.Settling.{AllLookAsBefore, BeginsAnswer, Happens, HandsOut, answering, but_for, known_of_loads, waiting_on}
 use Rattle.cache_core.specs.State.{IsInOrder, State, at_number, situation_with, state_of}
 use Rattle.cache_core.specs.Turned.{Turned, own_steps, replies_to, with_record}
+use Rattle.cache_core.proofs.Sending.{sends-behind}
 use Rattle.cache_core.proofs.Happening.{closings-moved, orders-lost, settled-kept, started-some}
 use Rattle.cache_core.proofs.Orders.{order-turned}
 use Rattle.cache_core.proofs.Touched.{all-closings, all-courses, all-listed, all-texts}
@@ -188,6 +189,7 @@ module _ {S T : Type 0} (view : S → Values) (tape : T → Option Taped) (base 
             made = ap (λ (f : Frame). f.made) out.parts.frame.rest ∙ ap (λ (f : Frame). f.made) begun-frame ∙ ap (λ (f : Frame). f.made) starts.stored.frame.rest;
             namespace = goes_on.namespace;
             taken = goes_on.taken;
+            sends = sends-behind view tape base (record { store = new_base.store; loads = new_base.loads; tape = final }) latest now old ds _ x.0 (record { held = sound.some; stands = sound.stands; is = refl }) x.2 goes_on;
           };
         },
         order-turned view tape (state_of base latest old) last _ x.0 (record { held = sound.some; stands = sound.stands; is = refl }) x.2 order config-stays out.parts.frame.latest low,

@@ -15,6 +15,7 @@ use Rattle.cache_lines.specs.Making.{making_of}
 use Rattle.cache_lines.specs.Waiting.{is_load, under_way}
 use Rattle.cache_lines.specs.Whole.{held_line}
 use Rattle.cache_lines.specs.declared.base.Base.{Base}
+use Rattle.cache_commands.proofs.Taking.{taken-same}
 use Rattle.cache_commands.specs.Loads.Pending.{SameTaken}
 use Rattle.cache_commands.specs.declared.loads.loads.Loads.{Loads}
 use Rattle.cache_commands.specs.declared.loads.standing.Standing.TheVariants as now_is
@@ -54,8 +55,8 @@ can-run-of view tape now base cs i c at lt amid =
     subst (λ (t : List ℕ). CanRun now (record { stage = stage (view base.store) t (tape base.tape); loads = under_way base.loads })) (text-is cs i c at) (can-run view tape now base cs i 0 lt amid)
 
 -- the same loads were taken, where they are the same
-pub taken-same : (old new : Loads) → new ≡ old → SameTaken old new
-taken-same old new e = subst (SameTaken old) (sym e) (record { taken = refl; namespace = refl })
+pub taken-stays : (old new : Loads) → new ≡ old → SameTaken old new
+taken-stays old new e = subst (SameTaken old) (sym e) (taken-same old)
 
 -- what a call does to the connection at a place
 pub record Stepped {S T : Type 0} (view : S → Values) (tape : T → Option Taped) (now : ℕ) (base new_base : Base S T) (cs ds : List Presence) (i : ℕ) (task : Task) : Type 0 where

@@ -23,6 +23,7 @@ use Rattle.cache_lines.specs.Making.{making_of}
 use Rattle.cache_lines.specs.Ordered.{HaveKeys}
 use Rattle.cache_lines.specs.Waiting.{under_way, when_left}
 use Rattle.cache_lines.specs.declared.base.Base.{Base}
+use Rattle.cache_commands.proofs.Taking.{taken-on}
 use Rattle.cache_commands.specs.Loads.Pending.{SameTaken}
 use Rattle.cache_commands.specs.Loads.Standings.{holds_line, waits_for_load}
 use Rattle.cache_commands.specs.declared.loads.loads.Loads.{Loads}
@@ -41,6 +42,7 @@ use Rattle.cache_core.specs.Connections.Presence.{Here, Presence, closing_at, te
 use Rattle.cache_core.proofs.Orders.{order-turned}
 use Rattle.cache_core.proofs.Own.{all-own, feed-own, own-all}
 use Rattle.cache_core.proofs.Records.{KeptBy, kept-by}
+use Rattle.cache_core.proofs.Sending.{sends-behind}
 use Rattle.cache_core.proofs.connections.Getting.{at-replaced}
 use Rattle.cache_core.proofs.Spots.{closing-is, replaced-is, text-is}
 use Rattle.cache_core.proofs.Turning.{closings-by, found-open, holding-shown, known-open, leb-above, outputs-by, put-situation, sit, waiting-shown}
@@ -136,9 +138,9 @@ module _ {S T : Type 0} (view : S → Values) (tape : T → Option Taped) (base 
         },
       )
 
-  pub turns-fed : IsSoundStore behind → under_way left ≡ when_left (is_none new.closing) m (under_way new_base.loads) → SameTaken base.loads new_base.loads → SameTaken new_base.loads left
+  pub turns-fed : IsSoundStore before → IsSoundStore behind → under_way left ≡ when_left (is_none new.closing) m (under_way new_base.loads) → SameTaken base.loads new_base.loads → SameTaken new_base.loads left
       → Turns view tape (state_of base latest cs) (state_of (record new_base { loads = left }) (max moment latest) (slice_set cs i (Here new))) (feeding m piece moment) is_held
-  turns-fed sound leaves goes leaves_goes = record {
+  turns-fed sound_before sound leaves goes leaves_goes = record {
     turned = λ s st. subst (λ x. (entry : Record) × IsRecordOf (feeding m piece moment) is_held entry × Turned view tape (state_of base latest cs) (state_of (record new_base { loads = left }) (max moment latest) (slice_set cs i (Here new))) x entry) (sym st.is)
         (turned-fed sound leaves st.held st.stands);
     stays = record {
@@ -147,6 +149,10 @@ module _ {S T : Type 0} (view : S → Values) (tape : T → Option Taped) (base 
       made = ap (λ (f : Frame). f.made) turn.ran.frame.rest;
       namespace = leaves_goes.namespace ∙ goes.namespace;
       taken = leaves_goes.taken ∙ goes.taken;
+      sends =
+          let x = turned-fed sound leaves sound_before.some sound_before.stands in
+          sends-behind view tape base (record new_base { loads = left }) latest (max moment latest) cs (slice_set cs i (Here new)) _ x.0 (record { held = sound_before.some; stands = sound_before.stands; is = refl }) x.2
+          (taken-on goes leaves_goes);
     };
   }
 
@@ -185,6 +191,6 @@ fed-turns {S} {T} view tape base new_base left latest now m i moment cs ds piece
         let is_open : p.was.closing ≡ None = sym (closing-is cs i p.was p.at) ∙ open_at in
         let turned = turned-fed view tape base new_base left latest i moment cs p.was p.is piece is_held p.at is_open low order.rests f sound_behind l sound.some sound.stands in
         let last = order.moment in (
-          turns-fed view tape base new_base left latest i moment cs p.was p.is piece is_held p.at is_open low order.rests f sound_behind l goes leaves_goes,
+          turns-fed view tape base new_base left latest i moment cs p.was p.is piece is_held p.at is_open low order.rests f sound sound_behind l goes leaves_goes,
           order-turned view tape (state_of base latest cs) (behind_at (max moment latest) (slice_set cs i (Here p.is))) _ turned.0 (record { held = sound.some; stands = sound.stands; is = refl }) turned.2 order (ap (λ (fr : Frame). fr.config) f.ran.frame.rest) f.ran.frame.latest (omega (arith, low, last)),
         )

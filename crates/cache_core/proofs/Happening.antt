@@ -46,6 +46,7 @@ use Rattle.cache_core.specs.Settled.{Absent, Closed, Course, Moves, Resting, Run
 use Rattle.cache_core.specs.Settling.{Happens, PartsUnknown, but_for, giving_up, known_of_loads, waiting_on}
 use Rattle.cache_core.specs.State.{IsInOrder, State, at_number, known_of, situation_with, state_of}
 use Rattle.cache_core.specs.Turned.{RefusesBy, Turned, closing_behind, own_steps, reason_of, replies_to, with_record}
+use Rattle.cache_core.proofs.Sending.{sends-behind}
 use Rattle.cache_core.proofs.Orders.{order-turned}
 use Rattle.cache_core.proofs.Table.{found-first, listed_as, listed_of, none-below, passed-over}
 use Rattle.cache_core.proofs.Turning.{other-number, sit}
@@ -252,6 +253,7 @@ module _ {S T : Type 0} (view : S → Values) (tape : T → Option Taped) (base 
             made = ap (λ (f : Frame). f.made) parts.frame.rest;
             namespace = goes.namespace;
             taken = goes.taken;
+            sends = sends-behind view tape base (record { store = new_base.store; loads = new_base.loads; tape = final }) latest now cs ds _ x.0 (record { held = sound.some; stands = sound.stands; is = refl }) x.2 goes;
           };
         },
         order-turned view tape (state_of base latest cs) last _ x.0 (record { held = sound.some; stands = sound.stands; is = refl }) x.2 order config-stays parts.frame.latest low,

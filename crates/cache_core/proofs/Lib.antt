@@ -12,6 +12,7 @@ mod Opened
 mod Orders
 mod Own
 mod Records
+mod Sending
 mod Spots
 mod Steps
 mod Suiting

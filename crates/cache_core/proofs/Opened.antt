@@ -22,6 +22,7 @@ use Rattle.cache_lines.specs.Lines.{ready}
 use Rattle.cache_lines.specs.Waiting.{under_way, when_left}
 use Rattle.cache_lines.specs.declared.base.Base.{Base}
 use Rattle.cache_lines.proofs.Drawn.{spends-same}
+use Rattle.cache_commands.proofs.Taking.{taken-same}
 use Rattle.cache_commands.specs.Loads.Pending.{SameTaken, loads_pending, sent_of}
 use Rattle.cache_commands.specs.declared.loads.loads.Loads.{Loads}
 use Rattle.cache_commands.specs.declared.loads.standing.Standing.TheVariants as now
@@ -34,6 +35,7 @@ use Rattle.cache_core.specs.State.{IsInOrder, State, at_number, situation_with, 
 use Rattle.cache_core.specs.Turned.{Turned, Turns, closing_behind, reason_of, with_record}
 use Rattle.cache_core.specs.declared.connection.connection.Connection.{Connection}
 use Rattle.cache_core.specs.Connections.Presence.{Here, Presence, closing_of, open_from, reply_text_of}
+use Rattle.cache_core.proofs.Sending.{sends-behind}
 use Rattle.cache_core.proofs.Orders.{order-turned}
 use Rattle.cache_core.proofs.connections.Getting.{map-same}
 use Rattle.cache_core.proofs.Table.{dropped-at, opened-last}
@@ -135,7 +137,15 @@ module _ {S T : Type 0} (view : S → Values) (tape : T → Option Taped) (base 
   pub turns-open : IsSoundStore (view base.store) → Turns view tape (state_of base latest cs) last (event.Open m) false
   turns-open sound = record {
     turned = λ s st. (record_of (event.Open m), record { event_is = refl; ends = refl }, subst (λ x. Turned view tape (state_of base latest cs) last x (record_of (event.Open m))) (sym st.is) (turned-open sound st.held st.stands));
-    stays = record { config = refl; part_of = refl; made = refl; namespace = refl; taken = refl };
+    stays = record {
+      config = refl;
+      part_of = refl;
+      made = refl;
+      namespace = refl;
+      taken = refl;
+      sends = sends-behind view tape base (record { store = base.store; loads = base.loads; tape = final }) latest latest cs (cs ++ Here new ∷ []) _ _ (record { held = sound.some; stands = sound.stands; is = refl })
+          (turned-open sound sound.some sound.stands) (taken-same base.loads);
+    };
   }
 
   pub order-open : IsSoundStore (view base.store) → IsInOrder view tape (state_of base latest cs) → IsInOrder view tape last
@@ -185,7 +195,15 @@ module _ {S T : Type 0} (view : S → Values) (tape : T → Option Taped) (base 
   pub turns-close : IsSoundStore (view base.store) → SameTaken base.loads left → Turns view tape (state_of base latest cs) closed_last (event.Close m) false
   turns-close sound goes = record {
     turned = λ s st. (record_of (event.Close m), record { event_is = refl; ends = refl }, subst (λ x. Turned view tape (state_of base latest cs) closed_last x (record_of (event.Close m))) (sym st.is) (turned-close sound st.held st.stands));
-    stays = record { config = refl; part_of = refl; made = refl; namespace = goes.namespace; taken = goes.taken };
+    stays = record {
+      config = refl;
+      part_of = refl;
+      made = refl;
+      namespace = goes.namespace;
+      taken = goes.taken;
+      sends = sends-behind view tape base (record { store = base.store; loads = left; tape = final }) latest latest cs ds _ _ (record { held = sound.some; stands = sound.stands; is = refl })
+          (turned-close sound sound.some sound.stands) goes;
+    };
   }
 
   pub order-close : IsSoundStore (view base.store) → IsInOrder view tape (state_of base latest cs) → IsInOrder view tape closed_last

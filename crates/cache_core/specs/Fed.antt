@@ -20,7 +20,7 @@ use Rattle.cache_core.specs.Connections.Presence.{Here, Presence, text_at}
 abbrev pub with_tape : Option Taped → Seen → Seen
 with_tape t x = record { stage = stage x.stage.values x.stage.text t; loads = x.loads }
 
--- An open connection took a piece: steps of it ran in a record that was begun, and that is ended.
+-- An open connection took a piece: steps of it ran in a record that was begun, and that has ended.
 pub record FedTurn (now number moment : ℕ) (old : Connection) (piece : List ℕ) (new : Connection) (is_held : Bool) (was is : Seen) : Type 0 where
   pub middle : Option Taped
   pub ran : FedRan now number old piece new is_held (with_tape (option_map (started 1) was.stage.tape) was) (with_tape middle is)
@@ -36,17 +36,17 @@ pub record BaseStays {S T : Type 0} (old new : Base S T) : Type 0 where
   pub tape_is : new.tape ≡ old.tape
   pub loads_are : SameLoads old.loads new.loads
 
--- a turn may begin: at that moment, with no record under way
+-- a turn may begin: at this moment, with no record under way
 pub record CanTurn (now : ℕ) (x : Seen) : Type 0 where
   pub in_time : IsMoment x.stage.values now
   pub clear : IsFresh (gathered x.stage)
   pub rests : IsAtRest x.stage.tape
 
--- memory was wanted, again only where a line is held back
+-- memory was lacking, again only if a line is held back
 abbrev pub WantsMemory : (held : Bool) → ServiceError → Type 0
 WantsMemory held e = (e ≡ error.OutOfMemory) ⊎ ((e ≡ error.HeldAgain) × (held ≡ true))
 
--- one connection that is here was put in the place of another
+-- one connection that is here replaced another
 pub record ReplacedAt (old new : List Presence) (index : ℕ) : Type 0 where
   pub was : Connection
   pub is : Connection

@@ -28,9 +28,9 @@ use Rattle.cache_core.specs.State.{at_number}
 use Rattle.cache_core.specs.Turned.{own_steps, replies_to}
 use Rattle.cache_core.specs.Connections.Presence.{Gone, Here, Out, Presence, closing_of, open_from, reply_text_of}
 
--- ---- what a connection is at
+-- ---- the state of a connection
 
--- it was not opened; or is closed; or runs lines; or rests before one that is held back, or waits
+-- it was not opened; or is closed; or runs lines; or has a line that is held back, or waits
 pub data Course : Type 0 where
   Absent : Course
   Closed : (why : Closing) → Course
@@ -43,22 +43,22 @@ course_of None now_is.Ready = Running
 course_of None now_is.Held = Resting
 course_of None now_is.Waiting = Resting
 
--- what one that was opened is at
+-- the state of one that was opened
 abbrev pub course_in : Presence → Course
 course_in (Here c) = course_of c.closing c.standing
 course_in Out = Closed by.Asked
 course_in (Gone why) = Closed why
 
--- that of the connection of a number
+-- the state of the connection with a number
 abbrev pub course_at : List Presence → ℕ → Course
 course_at connections number = at_number Absent (map course_in connections) number
 
--- why it closes by these steps of its own
+-- why these steps of its own close it
 abbrev pub closing_of_steps : Config → List Step → Closing
 closing_of_steps config own = closing_by false (ends_quit config own) (ends_silent own)
 
--- It goes from one to the other by these steps of its own: it closes for the reason that they give; and where it runs lines, the last of them
--- was neither a `QUIT` nor of a `LOAD` that waits.
+-- Its state changes from one to the other by these steps of its own: it closes for the reason that they give; and if it runs lines, the
+-- last of them was neither a `QUIT` nor a `LOAD` that waits.
 abbrev pub Moves : Config → List Step → Course → Course → Type 0
 Moves config own Absent new = new ≡ Absent
 Moves config own (Closed why) new = (new ≡ Closed why) × (own ≡ [])
@@ -73,13 +73,13 @@ Moves config own Resting Resting = Unit {0}
 
 -- ---- a piece of a record
 
--- the situation at that moment, by what lines run over, and the connections
+-- the situation at this moment, by what lines run over, and the connections
 abbrev pub middle_of : Values → ℕ → UnderWay → List Presence → List HeldValue → Situation
 middle_of v now l cs held =
     record { latest = now; opened = length (map closing_of cs); sent = l.sent; connections = open_from 1 cs; pending = l.pending; held = held; dropped = v.frame.dropped }
 
--- Where these values were held, steps for these tasks ran, whatever is due behind them. Where a record is made they stand in it; else their
--- replies and notes stand behind those that were not taken. Each connection went on by its own steps.
+-- If these values were held, steps for these tasks ran, whatever is due after them. If a record is made, they are in it; otherwise their
+-- replies and notes are appended to those that were not taken. Each connection went on by its own steps.
 pub record Piece {S T : Type 0} (view : S → Values) (tape : T → Option Taped) (making : Making) (now : ℕ) (was is : Base S T) (old new : List Presence) (tasks : List Task) (held : List HeldValue) : Type 0 where
   pub steps : List Step
   pub left : List HeldValue
@@ -90,7 +90,7 @@ pub record Piece {S T : Type 0} (view : S → Values) (tape : T → Option Taped
   pub notes : (view is.store).untaken ≡ (view was.store).untaken ++ (if is_some (tape was.tape) then [] else flat_map (λ step. step.notices) steps)
   pub moves : (n : ℕ) → Moves making.config (own_steps n steps) (course_at old n) (course_at new n)
 
--- what goes through a record: at that moment, with nothing beside a record, and so many lines of room
+-- what is kept through a record: this moment, nothing outside the record, and this many lines of room
 pub record IsAmid {S T : Type 0} (view : S → Values) (tape : T → Option Taped) (now : ℕ) (base : Base S T) (connections : List Presence) (lines : ℕ) : Type 0 where
   pub in_time : IsMoment (view base.store) now
   pub untaken : is_some (tape base.tape) ≡ true → (view base.store).untaken ≡ []

@@ -52,22 +52,22 @@ giving_up load moment = event.GiveUp load (record { nanos = moment })
 abbrev pub known_of_loads : List PendingLoad → Known
 known_of_loads pending = known_in (record { latest = 0; opened = 0; sent = 0; connections = []; pending = pending; held = []; dropped = false })
 
--- those that wait for that load
+-- those that wait for this load
 abbrev pub waiting_on : ℕ → UnderWay → List ℕ
 waiting_on number loads = option_map_or (λ load. load.waiting) (load_numbered number loads.pending) []
 
--- the loads under way, but for that one
+-- the loads under way, except for this one
 abbrev pub but_for : ℕ → UnderWay → UnderWay
 but_for number loads = record { sent = loads.sent; pending = filter (λ load. not (load.number == number)) loads.pending }
 
--- the event happened: each situation that the old state stood for goes on by a record of it
+-- the event happened: each situation that the old state stood for is continued by a record of it
 pub record Happens {S T : Type 0} (view : S → Values) (tape : T → Option Taped) (was is : State S T) (happened : Event) : Type 0 where
   pub turned : (s : Situation) → StandsFor view was s → (entry : Record) × (entry.event ≡ happened) × Turned view tape was is s entry
   pub stays : Stays view was is
 
 -- ---- connections that wait
 
--- the connection of that number is there and open, and its first unread line is a `LOAD` that waits
+-- the connection with this number is there and open, and its first unread line is a `LOAD` that waits
 pub record IsWaitingAt (config : Config) (connections : List Presence) (number : ℕ) : Type 0 where
   pub index : ℕ
   pub place : number ≡ suc index
@@ -77,7 +77,7 @@ pub record IsWaitingAt (config : Config) (connections : List Presence) (number :
   pub is_open : is.closing ≡ None
   pub load : is_load (reading config (held_line is.unread.bytes)) ≡ true
 
--- each of them is so, and stands among them once
+-- each of them is like this, and is among them once
 pub record AreWaiting (config : Config) (connections : List Presence) (numbers : List ℕ) : Type 0 where
   pub once : (n : ℕ) → times_in n numbers ≤ 1
   pub each : (n : ℕ) → 1 ≤ times_in n numbers → IsWaitingAt config connections n
@@ -86,15 +86,15 @@ pub record AreWaiting (config : Config) (connections : List Presence) (numbers :
 abbrev pub AreThere : List Presence → List ℕ → Type 0
 AreThere connections numbers = (n : ℕ) → 1 ≤ times_in n numbers → (1 ≤ n) × (n ≤ length connections)
 
--- the connection at a place, if one is here, has room for so many bytes more of replies
+-- the connection at a place, if one is here, has room for this many bytes more of replies
 abbrev pub HasReplyRoomAt : List Presence → ℕ → ℕ → Type 0
 HasReplyRoomAt connections size index = (c : Connection) → slice_get connections index ≡ Some (Here c) → vec_len c.output.text + size ≤ vec_capacity c.output.text
 
--- each of those connections has it
+-- each of these connections has it
 abbrev pub HaveReplyRoom : List Presence → ℕ → List ℕ → Type 0
 HaveReplyRoom connections size numbers = (n : ℕ) → 1 ≤ times_in n numbers → HasReplyRoomAt connections size (n - 1)
 
--- one that was opened is the same to whoever looks at it
+-- one that was opened looks the same
 abbrev pub LooksLike : (old new : Presence) → Type 0
 LooksLike (Here c) (Here d) = LooksAsBefore c d
 LooksLike (Here c) Out = ⊥
@@ -102,14 +102,14 @@ LooksLike (Here c) (Gone why) = ⊥
 LooksLike Out new = new ≡ Out
 LooksLike (Gone why) new = new ≡ Gone why
 
--- each of them is
+-- each of them does
 abbrev pub AllLookAsBefore : (old new : List Presence) → Type 0
 AllLookAsBefore [] [] = Unit {0}
 AllLookAsBefore [] (d ∷ ds) = ⊥
 AllLookAsBefore (c ∷ cs) [] = ⊥
 AllLookAsBefore (c ∷ cs) (d ∷ ds) = LooksLike c d × AllLookAsBefore cs ds
 
--- no connection but the one at that place was touched
+-- no connection except the one at this place was touched
 pub record LeavesOthers (old new : List Presence) (index : ℕ) : Type 0 where
   pub count : length new ≡ length old
   pub others : (place : ℕ) → place ≢ index → slice_get new place ≡ slice_get old place
@@ -130,7 +130,7 @@ runs_at (Some (Here c)) = runs_with c.closing c.standing
 runs_at (Some Out) = false
 runs_at (Some (Gone why)) = false
 
--- A value was stored under the load's key, and what that told was taken, or was not.
+-- A value was stored under the load's key, and what this reported was taken, or was not.
 pub record StoresNoted {S : Type 0} (view : S → Values) (takes : Bool) (now : ℕ) (key : List ℕ) (outcome : Outcome) (accepted : Option Accepted) (notes : List Note) (old new : S) : Type 0 where
   pub middle : S
   pub stored : IsStored now key outcome accepted (view old) (view middle)
@@ -139,32 +139,32 @@ pub record StoresNoted {S : Type 0} (view : S → Values) (takes : Bool) (now : 
   pub notes_are : takes ≡ true → notes ≡ (view middle).untaken
 
 module _ {S T : Type 0} (view : S → Values) (tape : T → Option Taped) where
-  -- the lines of the connection at a place ran, as in a feed of nothing
+  -- the lines of the connection at a place ran, as in a feed of an empty piece
   pub record ResumesAt (now index : ℕ) (old new : Base S T) (were are : List Presence) : Type 0 where
     pub put : ReplacedAt were are index
     pub is_held : Bool
     pub ran : FedRan now (index + 1) put.was [] put.is is_held (seen_at view tape old were index) (seen_at view tape new are index)
 
-  -- a part of a record that has a step, behind whose first nothing is known of the order of use
+  -- a part of a record that has a step, after the first of which nothing is known about the order of use
   pub record Reruns (now : ℕ) (was is : Base S T) (old new : List Presence) (tasks : List Task) : Type 0 where
     pub ran : (held : List HeldValue) → (view was.store).Stands held → (p : Piece view tape (making_of (view was.store).frame) now was is old new tasks held) × BeginsUnknown (view was.store).frame.config p.steps × (is_empty p.steps ≡ false)
     pub frame : KeepsFrame (view was.store).frame (view is.store).frame now
 
-  -- the same of one that may have no step, and then has done nothing
+  -- the same for one that may have no step, and then did nothing
   pub record PartsUnknown (now : ℕ) (was is : Base S T) (old new : List Presence) (tasks : List Task) : Type 0 where
     pub ran : (held : List HeldValue) → (view was.store).Stands held → (p : Piece view tape (making_of (view was.store).frame) now was is old new tasks held) × BeginsUnknown (view was.store).frame.config p.steps × (is_empty p.steps ≡ true → is.store ≡ was.store)
     pub frame : KeepsFrame (view was.store).frame (view is.store).frame now
 
   -- ---- an answer's own step
 
-  -- a load may be settled at that moment: no record is under way, and where any are kept no note waits beside them
+  -- a load may be settled at this moment: no record is under way, and if records are kept no note waits outside them
   pub record CanSettle (now : ℕ) (base : Base S T) : Type 0 where
     pub in_time : IsMoment (view base.store) now
     pub rests : IsAtRest (tape base.tape)
     pub untaken : is_some (tape base.tape) ≡ true → (view base.store).untaken ≡ []
 
-  -- The record of an answer was begun, with so many lines of room, and its value stored under the load's key; where records are kept, what that
-  -- told was taken.
+  -- The record of an answer was begun, with this many lines of room, and its value stored under the load's key; if records are kept, what
+  -- this reported was taken.
   pub record BeginsAnswer (now load : ℕ) (outcome : Outcome) (accepted : Option Accepted) (notes : List Note) (room : ℕ) (old new : Base S T) : Type 0 where
     pub key : List ℕ
     pub keyed : option_map (λ l. l.key) (load_numbered load (loads_pending old.loads)) ≡ Some key
@@ -176,13 +176,13 @@ module _ {S T : Type 0} (view : S → Values) (tape : T → Option Taped) where
     pub begun : tape new.tape ≡ option_map (started room) (tape old.tape)
     pub loads_are : new.loads ≡ old.loads
 
-  -- The load was taken out, and parts of a record followed for those that waited for it.
+  -- The load was removed, and parts of a record followed for those that waited for it.
   pub record HandsOut (now load : ℕ) (old new : Base S T) (were are : List Presence) (tasks : List ℕ → List Task) : Type 0 where
     pub left : Loads
     pub left_is : under_way left ≡ but_for load (under_way old.loads)
     pub parts : Parts view tape now (record { store = old.store; loads = left; tape = old.tape }) new were are (tasks (waiting_on load (under_way old.loads)))
 
-  -- the same, behind whose first step nothing is known of the order of use
+  -- the same, with nothing known about the order of use after the first step
   pub record RunsAgain (now load : ℕ) (old new : Base S T) (were are : List Presence) (tasks : List ℕ → List Task) : Type 0 where
     pub left : Loads
     pub left_is : under_way left ≡ but_for load (under_way old.loads)

@@ -1,4 +1,4 @@
--- What a namespace is to whoever calls it.
+-- A namespace as its callers see it.
 use Rattle.std.specs.Prelude.{◌≡◌, ℕ, zero, suc, ◌-◌, ◌<◌, ◌≤◌, ◌^◌, Bool, true, nat_lt, nat_le, ◌&&◌, List, [], length, map, Option, None, is_none, is_some, unwrap_or, IsTrue}
 use Rattle.std.specs.List.{slice_get}
 use Rattle.audit_model.specs.Belongs.{Known}
@@ -16,7 +16,7 @@ use Rattle.cache_commands.specs.Loads.Keys.{were_sent}
 use Rattle.cache_commands.specs.Loads.Pending.{loads_pending, namespace_of_loads, outgoing_loads, sent_of}
 use Rattle.cache_core.specs.Connections.Presence.{Presence, closing_of, open_from, reply_text_of}
 
--- A namespace: its store, and the tape of its records; the latest moment; the open connections; of each connection that was opened why it
+-- A namespace: its store, and the tape of its records; the latest moment; the open connections; for each connection that was opened why it
 -- closed, if it did, and its replies that were not taken; how many loads were sent, and those under way; those that went out and were not
 -- taken; and its own number.
 pub record State (S T : Type 0) : Type 0 where
@@ -31,13 +31,13 @@ pub record State (S T : Type 0) : Type 0 where
   pub outgoing : List (LoadId × List ℕ)
   pub namespace : ℕ
 
--- what stands in a list under that number, counted from 1
+-- the element of a list with this number, counted from 1
 abbrev pub at_number : {A : Type 0} → A → List A → ℕ → A
 at_number other xs zero = other
 at_number other xs (suc place) = unwrap_or (slice_get xs place) other
 
 module _ {S T : Type 0} where
-  -- why the connection of that number has closed, if it has
+  -- why the connection with this number has closed, if it has
   abbrev pub closing_in : State S T → ℕ → Option Closing
   closing_in n number = at_number None n.closings number
 
@@ -53,22 +53,22 @@ module _ {S T : Type 0} where
   abbrev pub loads_taken_of : State S T → ℕ
   loads_taken_of n = n.sent - length n.outgoing
 
-  -- the situation, where these values are held
+  -- the situation, if these values are held
   abbrev pub situation_with : (S → Values) → State S T → List HeldValue → Situation
   situation_with view n held =
       record { latest = n.latest; opened = length n.closings; sent = n.sent; connections = n.connections; pending = n.pending; held = held; dropped = (view n.store).frame.dropped }
 
-  -- it stands for that situation
+  -- it stands for this situation
   pub record StandsFor (view : S → Values) (n : State S T) (s : Situation) : Type 0 where
     pub held : List HeldValue
     pub stands : (view n.store).Stands held
     pub is : s ≡ situation_with view n held
 
-  -- what a refusal goes by
+  -- what a refusal depends on
   abbrev pub known_of : (S → Values) → State S T → Known
   known_of view n = known_in (situation_with view n [])
 
-  -- ---- of what it is made
+  -- ---- its parts
 
   -- a namespace without connections
   abbrev pub new_state : S → T → ℕ → ℕ → State S T
@@ -90,8 +90,8 @@ module _ {S T : Type 0} where
     namespace = namespace_of_loads base.loads;
   }
 
-  -- No moment of the store lies behind the latest one, which is below 2^63; no record is under way; and where records are kept, replies and
-  -- notes stand in them alone.
+  -- No moment of the store is after the latest one, which is below 2^63; no record is under way; and if records are kept, only they contain
+  -- replies and notes.
   pub record IsInOrder (view : S → Values) (tape : T → Option Taped) (n : State S T) : Type 0 where
     pub in_time : (view n.store).frame.latest ≤ n.latest
     pub moment : n.latest < 2 ^ 63
@@ -102,8 +102,8 @@ module _ {S T : Type 0} where
     pub tidy : Tidy [] (situation_with view n [])
     pub reads : WaitForLoads (view n.store).frame.config (situation_with view n [])
 
--- how its parts suit one another: a connection that was opened has replies, and is listed just while it has not closed; no load was not sent,
--- and no more went out than were
+-- how its parts agree: a connection that was opened has replies, and is listed exactly while it has not closed; loads under way were sent,
+-- and no more went out than were sent
 pub record SuitsItself {S T : Type 0} (view : S → Values) (n : State S T) : Type 0 where
   pub listed : (number : ℕ) → was_opened n number ≡ true → is_some (model.connection_in number (situation_with view n [])) ≡ is_none (closing_in n number)
   pub counted : length n.outputs ≡ length n.closings

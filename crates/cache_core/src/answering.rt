@@ -1,4 +1,4 @@
-//! An answer: its value is stored, those that wait are handed its outcome, and then their lines run.
+//! An answer: its value is stored, the waiting connections receive its outcome, and then their lines run.
 ghost use Rattle.std.specs.Prelude.{◌≡◌, ◌+◌, ◌≤◌, ◌++◌, [], None, true, is_some, length, map, IfOk, OnOk, OnErr, vec_capacity, if◌then◌else◌};
 ghost use Rattle.audit_model.specs.Belongs.{refusal_of_outcome};
 ghost use Rattle.audit_model.specs.Replies.{outcome_text};
@@ -26,11 +26,11 @@ use std::alloc::{AllocError, Global};
 pub struct Stored {
     /// The part that took the value, if any.
     pub accepted: Option<Accepted>,
-    /// What storing it told, where records are kept.
+    /// What storing it reported, if records are kept.
     pub notes: Vec<Note>,
 }
 
-/// How many bytes the reply has to a waiting `LOAD` that is handed this outcome.
+/// How many bytes the reply to a waiting `LOAD` with this outcome has.
 fn reply_len(outcome: &Outcome) -> usize
     requires { length (outcome_text outcome.now) ≤ 8202 }
     ensures { result ≡ length (outcome_text outcome.now) }
@@ -42,7 +42,7 @@ fn reply_len(outcome: &Outcome) -> usize
     }
 }
 
-/// Room for the notes of an answer's own step, where records are kept.
+/// Room for the notes of an answer's own step, if records are kept.
 fn notes_where<S: Store>(
     alloc: Global,
     store: &Keyed<S>,
@@ -57,8 +57,8 @@ fn notes_where<S: Store>(
     Vec::with_capacity(alloc, most_notes(store))
 }
 
-/// Stores an answer's value under its load's key, and says which part took it; what that told is taken where records are kept, for which there
-/// is room. An `Err` changes nothing; a number that is used up counts as want of memory.
+/// Stores an answer's value under its load's key, and returns which part took it; what this reported is taken if records are kept, and
+/// there is room for it. An `Err` changes nothing; a number that is used up counts as a lack of memory.
 fn store_noted<S: Store>(
     store: &mut Keyed<S>,
     keeps: bool,
@@ -125,7 +125,7 @@ pub fn begin_answer<S: Store, T: Tape>(
     }
 }
 
-/// Takes the load out, whose answer was stored: its outcome is handed to those that wait for it, in order, and then their lines run in the
+/// Removes the load whose answer was stored: its outcome is delivered to those that wait for it, in order, and then their lines run in the
 /// same order.
 pub fn hand_out<S: Store, T: Tape>(
     base: &mut Base<S, T>,

@@ -76,7 +76,7 @@ impl<S: Store, T: Tape> Namespace<S, T> {
         })
     }
 
-    /// Opens a connection, and answers its number. An `Err` changes nothing.
+    /// Opens a connection, and returns its number. An `Err` changes nothing.
     pub fn open(&mut self) -> Result<u64, AllocError>
         ensures turned { IfOk result (λ number. (number ≡ length self.old.closings + 1) × Turns S.view T.view self.old self.new (event.Open number) false) }
         ensures unchanged { OnErr result (self.new ≡ self.old) }
@@ -98,7 +98,7 @@ impl<S: Store, T: Tape> Namespace<S, T> {
         }
     }
 
-    /// Takes a piece of a connection's bytes, and answers whether its last command is held back. An `Err` changes nothing.
+    /// Takes a piece of a connection's bytes, and returns whether its last command is held back. An `Err` changes nothing.
     pub fn feed(&mut self, number: u64, piece: &[u8], moment: Instant) -> Result<bool, ServiceError>
         ensures turned { IfOk result (λ is_held. Turns S.view T.view self.old self.new (feeding number piece.now moment.nanos) is_held) }
         ensures refused { IfErr result (RefusesBy S.view self.old (feeding number piece.now moment.nanos) (is_holding_in (situation_with S.view self.old []) number)) }
@@ -132,7 +132,7 @@ impl<S: Store, T: Tape> Namespace<S, T> {
         }
     }
 
-    /// Closes a connection, and drops what came and was not used. It takes no memory but the record's, and an `Err` changes nothing.
+    /// Closes a connection, and drops the bytes that were not used. It allocates nothing but the record, and an `Err` changes nothing.
     pub fn close(&mut self, number: u64) -> Result<(), ServiceError>
         ensures turned { OnOk result (Turns S.view T.view self.old self.new (event.Close number) false) }
         ensures refused { IfErr result (RefusesBy S.view self.old (event.Close number) false) }
@@ -156,8 +156,8 @@ impl<S: Store, T: Tape> Namespace<S, T> {
         Ok(())
     }
 
-    /// Answers a load under way: its value is stored, those that wait are handed the outcome in order, and then their lines run in the same
-    /// order. An `Err` hands the outcome back, and changes nothing.
+    /// Answers a load under way: its value is stored, those that wait receive the outcome in order, and then their lines run in the same
+    /// order. An `Err` returns the outcome, and changes nothing.
     pub fn answer(
         &mut self,
         load: u64,
@@ -208,9 +208,9 @@ impl<S: Store, T: Tape> Namespace<S, T> {
         }
     }
 
-    /// Gives a load under way up: each `LOAD` that waits for it runs again as a whole command, in order, followed by its connection's lines;
-    /// one that finds no memory is held back, and at its 200th give-up it is answered so. It takes no memory that it cannot do without but
-    /// the record's, and an `Err` changes nothing.
+    /// Gives a load under way up: each `LOAD` that waits for it runs again as a whole command, in order, followed by its connection's
+    /// lines; one that finds no memory is held back, and at its 200th give-up it is abandoned. It allocates nothing that it needs except
+    /// the record, and an `Err` changes nothing.
     pub fn give_up(&mut self, load: u64, moment: Instant) -> Result<(), ServiceError>
         ensures turned { OnOk result (Happens S.view T.view self.old self.new (giving_up load moment.nanos)) }
         ensures refused { IfErr result (RefusesBy S.view self.old (giving_up load moment.nanos) false) }
@@ -240,7 +240,7 @@ impl<S: Store, T: Tape> Namespace<S, T> {
         Ok(())
     }
 
-    /// The reply bytes of a connection since the last taking, moved out. Takes no memory.
+    /// The reply bytes of a connection since the last taking, moved out. This allocates nothing.
     pub fn take_output(&mut self, number: u64) -> Result<Vec<u8>, ServiceError>
         ensures taken { IfOk result (λ text. (text.items ≡ output_in self.old number) × (self.new ≡ record self.old { outputs = slice_set self.old.outputs (number - 1) [] })) }
         ensures refused { IsErr result ↔ (was_opened self.old number ≡ false) }
@@ -253,7 +253,7 @@ impl<S: Store, T: Tape> Namespace<S, T> {
         Ok(take_at(self.alloc, &mut self.connections, index))
     }
 
-    /// The loads that went out and were not taken, moved out, behind those that were taken before. Takes no memory.
+    /// The loads that went out and were not taken, moved out, in the order after those that were taken before. This allocates nothing.
     pub fn take_loads(&mut self) -> Vec<(LoadId, Bytes)>
         ensures taken { (result.items ≡ self.old.outgoing) × (self.new ≡ record self.old { outgoing = [] }) }
         ensures in_turn { IsTrue (are_in_turn self.old.namespace (loads_taken_of self.old) result.items) }
@@ -262,7 +262,7 @@ impl<S: Store, T: Tape> Namespace<S, T> {
         self.base.loads.take(self.alloc)
     }
 
-    /// The note that was told first. Takes no memory.
+    /// The note that was reported first. This allocates nothing.
     pub fn next_notice(&mut self) -> Option<Note>
         ensures taken { TakesFirstNote (S.view self.old.store).untaken (S.view self.new.store).untaken result }
         ensures gives { GivesNote (S.view self.old.store) (S.view self.new.store) }
@@ -304,7 +304,7 @@ impl<S: Store, T: Tape> Namespace<S, T> {
         self.base.loads.count() as u64
     }
 
-    /// The tape of its records, moved out. Takes no memory.
+    /// The tape of its records, moved out. This allocates nothing.
     pub fn into_tape(self) -> T
         ensures { result ≡ self.tape }
     {

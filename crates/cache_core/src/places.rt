@@ -42,7 +42,7 @@ pub fn find_open(connections: &Connections, number: u64) -> Result<usize, Servic
     }
 }
 
-/// Takes the connection at a place out of those that wait, where it is closed.
+/// Removes the connection at a place from those that wait, if it is closed.
 pub fn leave_closed(loads: &mut Loads, number: u64, connections: &Connections, index: usize)
     requires { index < length connections.now }
     ensures left { under_way loads.new ≡ when_left (is_none (closing_at connections.now index)) number (under_way loads.old) }
@@ -113,7 +113,7 @@ fn take_text(alloc: Global, connection: &mut Connection) -> Vec<u8>
     mem::replace(&mut connection.output.text, Vec::new(alloc))
 }
 
-/// Moves out the replies of the connection at a place, of which little stays where it has closed.
+/// Moves out the replies of the connection at a place, of which little stays if it has closed.
 pub fn take_at(alloc: Global, connections: &mut Connections, index: usize) -> Vec<u8>
     requires { index < length connections.old }
     ensures rest { IsTakenAt connections.old connections.new index }

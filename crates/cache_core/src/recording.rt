@@ -18,7 +18,7 @@ use cache_lines::{Base, Tape};
 use cache_store::Store;
 use std::alloc::{AllocError, Global};
 
-/// A copy of a piece, where records are kept.
+/// A copy of a piece, if records are kept.
 fn copy_where(alloc: Global, keeps: bool, piece: &[u8]) -> Result<Bytes, AllocError>
     ensures { keeps ≡ true → IfOk result (λ copy. copy ≡ piece.now) }
 {
@@ -28,7 +28,7 @@ fn copy_where(alloc: Global, keeps: bool, piece: &[u8]) -> Result<Bytes, AllocEr
     Ok(Seq::from_vec(Vec::from_slice(alloc, piece)?))
 }
 
-/// Begins a record, where any are kept, with room to add so many lines to it without memory; else it takes none.
+/// Begins a record, if any are kept, with room to add this many lines to it without allocating; otherwise does nothing.
 pub fn begin_kept<T: Tape>(tape: &mut T, spare: usize) -> Result<(), AllocError>
     requires { IsAtRest (T.view tape.old) }
     ensures started { OnOk result (T.view tape.new ≡ option_map (started spare) (T.view tape.old)) }
@@ -41,7 +41,8 @@ pub fn begin_kept<T: Tape>(tape: &mut T, spare: usize) -> Result<(), AllocError>
     tape.start(spare)
 }
 
-/// Begins the record of a feed: makes room for the piece, and for a line that is held back, and answers the event. An `Err` changes nothing.
+/// Begins the record of a feed: makes room for the piece, and for a line that is held back, and returns the event. An `Err` changes
+/// nothing.
 fn begin_feed<S: Store, T: Tape>(
     base: &mut Base<S, T>,
     number: u64,
@@ -68,7 +69,7 @@ fn begin_feed<S: Store, T: Tape>(
     })
 }
 
-/// Takes a piece of an open connection's bytes, and answers whether a line is held back then. An `Err` changes nothing.
+/// Takes a piece of an open connection's bytes, and returns whether a line is held back then. An `Err` changes nothing.
 pub fn feed_recorded<S: Store, T: Tape>(
     base: &mut Base<S, T>,
     now: u64,
@@ -101,7 +102,7 @@ pub fn feed_recorded<S: Store, T: Tape>(
     }
 }
 
-/// Takes a piece of the bytes of the open connection at a place, and answers whether a line is held back then. An `Err` changes nothing.
+/// Takes a piece of the bytes of the open connection at a place, and returns whether a line is held back then. An `Err` changes nothing.
 pub fn feed_at<S: Store, T: Tape>(
     base: &mut Base<S, T>,
     now: u64,

@@ -80,7 +80,7 @@ pub fn refuse_load(config: &Config, loads: &Loads, load: u64, moment: u64) -> Op
     None
 }
 
-/// Why a load is not answered, want of memory aside.
+/// Why a load is not answered, apart from a lack of memory.
 pub fn refuse_answer(
     config: &Config,
     loads: &Loads,

@@ -10,7 +10,7 @@ use crate::connection::Connection;
 use crate::connections::Connections;
 use std::alloc::AllocError;
 
-/// Makes room for so many more bytes of replies. An `Err` changes nothing that is seen.
+/// Makes room for this many more bytes of replies. An `Err` changes nothing that can be seen.
 fn reserve(connection: &mut Connection, size: usize) -> Result<(), AllocError>
     ensures same { LooksAsBefore connection.old connection.new }
     ensures room { OnOk result (vec_len connection.new.output.text + size ≤ vec_capacity connection.new.output.text) }
@@ -18,7 +18,7 @@ fn reserve(connection: &mut Connection, size: usize) -> Result<(), AllocError>
     connection.output.text.try_reserve(size)
 }
 
-/// Makes room for so many more bytes of replies of the connection at a place. An `Err` changes nothing that is seen.
+/// Makes room for this many more bytes of replies of the connection at a place. An `Err` changes nothing that can be seen.
 fn reserve_there(connections: &mut Connections, index: usize, size: usize) -> Result<(), AllocError>
     requires { is_here (slice_get connections.old index) ≡ true }
     ensures same { (p : ReplacedAt connections.old connections.new index) × LooksAsBefore p.was p.is }
@@ -30,7 +30,7 @@ fn reserve_there(connections: &mut Connections, index: usize, size: usize) -> Re
     reserved
 }
 
-/// Makes room for so many more bytes of replies of a connection, if it is there. An `Err` changes nothing that is seen.
+/// Makes room for this many more bytes of replies of a connection, if it is there. An `Err` changes nothing that can be seen.
 fn reserve_at(connections: &mut Connections, number: u64, size: usize) -> Result<(), AllocError>
     ensures same { AllLookAsBefore connections.old connections.new }
     ensures others { (place : ℕ) → place ≢ number - 1 → slice_get connections.new place ≡ slice_get connections.old place }
@@ -43,7 +43,7 @@ fn reserve_at(connections: &mut Connections, number: u64, size: usize) -> Result
     reserve_there(connections, index, size)
 }
 
-/// Makes room for so many more bytes of replies of each of those connections. An `Err` changes nothing that is seen.
+/// Makes room for this many more bytes of replies of each of these connections. An `Err` changes nothing that can be seen.
 pub fn reserve_all(
     connections: &mut Connections,
     waiting: &[u64],

@@ -1,4 +1,4 @@
-//! The connections that waited for a load that is settled: each is handed its outcome, or runs its `LOAD` again, and then its lines run.
+//! The connections that waited for a load that is settled: each receives its outcome, or runs its `LOAD` again, and then its lines run.
 ghost use Rattle.std.specs.Prelude.{◌≡◌, ◌+◌, ◌<◌, ◌≤◌, ◌∷◌, ℕ, [], Some, true, length, map, suc};
 ghost use Rattle.std.specs.List.{slice_get};
 ghost use Rattle.audit_model.specs.Places.{tasks_to_give_up};
@@ -64,7 +64,7 @@ fn resume_there<S: Store, T: Tape>(
     connections.put(index, connection);
 }
 
-/// Runs the lines of the connection at a place, where it is open and runs lines.
+/// Runs the lines of the connection at a place, if it is open and runs lines.
 pub fn resume_at<S: Store, T: Tape>(
     base: &mut Base<S, T>,
     now: u64,

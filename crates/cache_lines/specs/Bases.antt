@@ -13,15 +13,15 @@ pub record Seen : Type 1 where
   pub stage : Stage
   pub loads : UnderWay
 
--- by what the store and the tape show
+-- in terms of what the store and the tape show
 abbrev pub seen : {S T : Type 0} → (S → Values) → (T → Option Taped) → Base S T → ReplyBuffer → Seen
 seen view tape base output = record { stage = stage (view base.store) output.text.items (tape base.tape); loads = under_way base.loads }
 
--- where a record is made, nothing waits beside it
+-- if a record is made, nothing waits outside it
 abbrev pub IsClear : Seen → Type 0
 IsClear x = IsFresh (gathered x.stage)
 
--- the moment is one, nothing waits beside a record, and there is room to hold a line back
+-- the moment is valid, nothing waits outside a record, and there is room to hold a line back
 pub record CanRun (now : ℕ) (x : Seen) : Type 0 where
   pub in_time : IsMoment x.stage.values now
   pub clear : IsClear x

@@ -27,17 +27,17 @@ identifiers_in v = identifiers v.stream v.registered
 abbrev pub refuses_id : Config → Step → Bool
 refuses_id config step = says_drop (reading config step.line) && option_eq same step.reply (Some (codes "ERR id\n"))
 
--- some are drawn, and none is registered that was not
+-- some are drawn, and none is registered that was not before
 abbrev pub Spends : Identifiers → Identifiers → Type 0
 Spends old new = DrawsAlone old.stream new.stream old.registered new.registered
 
--- The step draws some, and each part registers one of them at most; where it is refused for its identifier, one part drew a thousand, each
--- of which was registered there.
+-- The step draws some, and each part registers one of them at most; if it is refused for its identifier, one part drew a thousand, each of
+-- which was registered there.
 pub record StepDraws (config : Config) (step : Step) (old new : Identifiers) : Type 0 where
   pub draws : DrawsForParts old.stream new.stream old.registered new.registered
   pub used_up : refuses_id config step ≡ true → AreUsedUp (part_count config) old.stream new.stream old.registered
 
--- a step draws after some were spent, and others draw after it
+-- a step draws after some were drawn, and others draw after it
 pub record DrawsThen (config : Config) (step : Step) (Rest : Identifiers → Identifiers → Type 0) (old new : Identifiers) : Type 0 where
   pub before : Identifiers
   pub behind : Identifiers

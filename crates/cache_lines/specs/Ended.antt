@@ -22,23 +22,24 @@ use Rattle.cache_lines.specs.Whole.{has_line, held_line}
 use Rattle.cache_lines.specs.declared.looping.End.{End}
 use Rattle.cache_lines.specs.declared.looping.End.TheVariants as at
 
--- how many lines can be added to the record without memory; none where none is made
+-- how many lines can be added to the record without allocating; none if none is made
 abbrev pub spare_of : Option Taped → ℕ
 spare_of tape = unwrap_or (spare_in tape) 0
 
--- the last step is held
+-- the last step is held back
 abbrev pub ends_held : List Step → Bool
 ends_held [] = false
 ends_held (step ∷ []) = step.held
 ends_held (step ∷ next ∷ steps) = ends_held (next ∷ steps)
 
--- the last step is of a `LOAD` that waits: it is neither held nor has it a reply
+-- the last step is of a `LOAD` that waits: it is not held back, and has no reply
 abbrev pub ends_silent : List Step → Bool
 ends_silent [] = false
 ends_silent (step ∷ []) = is_none step.reply && not step.held
 ends_silent (step ∷ next ∷ steps) = ends_silent (next ∷ steps)
 
--- the connection then, with those bytes left: it runs lines, or its first line is held back, or a `LOAD` that waits for that many times
+-- the connection then, with these bytes left: it runs lines, or its first line is held back, or is a `LOAD` that has begun to wait this
+-- often
 abbrev pub left_by : ℕ → End → (times : ℕ) → List ℕ → Connection
 left_by number at.More times rest = ready number rest
 left_by number at.TooLong times rest = ready number rest
@@ -46,8 +47,8 @@ left_by number at.Held times rest = holding number (held_line rest) (behind_line
 left_by number at.Waits times rest = waiting number (held_line rest) (behind_lines 1 rest) times
 left_by number at.Quit times rest = ready number rest
 
--- Steps ran from that situation, all that were due by those tasks; the last one may be held, a `QUIT`, or a `LOAD` that waits. What they leave
--- stands for that situation.
+-- Steps ran from this situation, all that these tasks made due; the last one may be held back, a `QUIT`, or a `LOAD` that waits. What they
+-- leave stands for this situation.
 pub record RanTasks (making : Making) (s : Situation) (tasks : List Task) (quit is_held is_silent : Bool) (target : List HeldValue → Situation) (old new : Stage) : Type 0 where
   pub steps : List Step
   pub left : List HeldValue
@@ -74,7 +75,8 @@ EndsFor at.Held rest = IsTrue (has_line rest)
 EndsFor at.Waits rest = IsTrue (has_line rest)
 EndsFor at.Quit rest = Unit {0}
 
--- Lines of a connection that is ready ran until those bytes were left, and ended so, in each situation that the values and the loads stood for.
+-- Lines of a connection that is ready ran until these bytes were left, and ended like this, in each situation that the values and the loads
+-- stood for.
 pub record RunsReady (now number : ℕ) (bytes rest : List ℕ) (end : End) (old new : Seen) : Type 0 where
   pub ran : (s : Situation) → Agrees old.stage.values now s → IsThere number s → loads_in s ≡ old.loads
       → RanReady (making_of old.stage.values.frame) number s s.held bytes (ends_by_quit end) (holds_back end) (waits_now end) (λ left. situation_behind (ends_by_quit end) (with_under_way new.loads (with_drops new.stage.values.frame.dropped s)) left (left_by number end 1 rest)) old.stage new.stage
@@ -82,6 +84,6 @@ pub record RunsReady (now number : ℕ) (bytes rest : List ℕ) (end : End) (old
   pub frame : KeepsFrame old.stage.values.frame new.stage.values.frame now
   pub fresh : IsFresh (gathered new.stage)
 
--- the connection of that number, which holds its first line back and began to wait for it so often, with those bytes and a piece more
+-- the connection with this number, which holds its first line back and began to wait for it this often, with these bytes and one more piece
 abbrev pub held_with : ℕ → ℕ → List ℕ → List ℕ → Connection
 held_with number times bytes piece = holding_load number (held_line bytes) (behind_lines 1 bytes ++ piece) times

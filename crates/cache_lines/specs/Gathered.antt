@@ -20,7 +20,7 @@ stage values text tape = record { values = values; text = text; tape = tape }
 abbrev pub written : Taped → Taped
 written t = record { journal = t.journal; begun = t.begun; steps = t.steps; spare = 0; drafted = None }
 
--- the replies written and not taken, what the tape keeps, if anything, and the notes told and not taken
+-- the replies written and not taken, what the tape keeps, if anything, and the notes reported and not taken
 pub record Gathered : Type 0 where
   pub text : List ℕ
   pub kept : Option Taped
@@ -32,11 +32,11 @@ gathered g = record { text = g.text; kept = option_map written g.tape; waiting =
 abbrev pub reply_in : Step → List ℕ
 reply_in step = unwrap_or step.reply []
 
--- these steps stand behind those of the record under way
+-- these steps come after those of the record under way
 abbrev pub adds : List Step → Taped → Taped
 adds steps t = record { journal = t.journal; begun = t.begun; steps = t.steps ++ steps; spare = t.spare; drafted = t.drafted }
 
--- what is gathered when these steps have run: where a record is made they hold their own replies and notes
+-- what is gathered after these steps have run: if a record is made, they contain their own replies and notes
 abbrev pub gather : Gathered → List Step → Gathered
 gather g steps = go g.kept
   where
@@ -44,10 +44,10 @@ gather g steps = go g.kept
     go None = record { text = g.text ++ flat_map reply_in steps; kept = None; waiting = g.waiting ++ flat_map (λ step. step.notices) steps }
     go (Some t) = record { text = g.text; kept = Some (adds steps t); waiting = g.waiting }
 
--- where a record is made, nothing waits beside it
+-- if a record is made, nothing waits outside it
 abbrev pub IsFresh : Gathered → Type 0
 IsFresh g = MatchOption g.kept (Unit {0}) (λ t. (g.text ≡ []) × (g.waiting ≡ []))
 
--- how many lines can be added to the record without memory, where one is made
+-- how many lines can be added to the record without allocating, if one is made
 abbrev pub spare_in : Option Taped → Option ℕ
 spare_in tape = option_map (λ t. t.spare) tape

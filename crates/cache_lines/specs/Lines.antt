@@ -20,15 +20,15 @@ use Rattle.audit_model.specs.declared.transcript.Step.{Step}
 use Rattle.cache_store.specs.Running.{is_timely}
 use Rattle.cache_lines.specs.Making.{Making}
 
--- a connection that runs lines, with those bytes unread
+-- a connection that runs lines, with these bytes unread
 abbrev pub ready : ℕ → List ℕ → Connection
 ready number bytes = record { number = number; unread = bytes; standing = Ready; waited = 0 }
 
--- a connection that holds a line back, with those bytes unread behind it
+-- a connection that holds a line back, with these bytes unread after it
 abbrev pub holding : ℕ → List ℕ → List ℕ → Connection
 holding number line bytes = record { number = number; unread = bytes; standing = Held line; waited = 0 }
 
--- the situation, but with those values held and that connection as it now is
+-- the situation, with these values held and this connection as it is now
 abbrev pub set_in : Situation → List HeldValue → Connection → Situation
 set_in base held connection = with_connection false connection (record base { held = held })
 
@@ -36,7 +36,7 @@ set_in base held connection = with_connection false connection (record base { he
 abbrev pub with_drops : Bool → Situation → Situation
 with_drops dropped s = record s { dropped = dropped }
 
--- the situation, but with those values held and that connection as it now is, or closed by a `QUIT`
+-- the situation, with these values held and this connection as it is now, or closed by a `QUIT`
 abbrev pub situation_behind : Bool → Situation → List HeldValue → Connection → Situation
 situation_behind quit base held connection = if quit then without_connection connection.number (record base { held = held }) else set_in base held connection
 
@@ -47,11 +47,11 @@ IsThere number s = IsTrue (is_some (connection_in number s))
 abbrev pub effect_of_step : Config → ℕ → Situation → Step → Effect
 effect_of_step config number s step = (placed_step_in config s (Some (RunLines number)) step).effect
 
--- the value that the step accepts, if any, stands in its key's part
+-- the value that the step accepts, if any, is in the part of its key
 abbrev pub has_its_part : (List ℕ → ℕ) → Effect → Bool
 has_its_part part_of effect = option_map_or (is_parted part_of) effect.value true
 
--- each value that these steps accept stands in its key's part
+-- each value that these steps accept is in the part of its key
 abbrev pub ArePartedIn : Config → (List ℕ → ℕ) → Situation → List Task → List Step → Type 0
 ArePartedIn config part_of s tasks steps = IsTrue (list_all (is_parted part_of) (accepted_values (placed_steps_in config s tasks steps)))
 
@@ -59,7 +59,7 @@ ArePartedIn config part_of s tasks steps = IsTrue (list_all (is_parted part_of) 
 abbrev pub is_timely_after : Config → ℕ → Effect → Situation → Bool
 is_timely_after config made effect t = not (syncs effect) || list_all (is_timely config made t.latest) t.held
 
--- nor do those of these steps
+-- the same for these steps
 abbrev pub are_timely : Config → ℕ → Situation → List Task → List Step → Bool
 are_timely config made s tasks [] = true
 are_timely config made s tasks (step ∷ steps) =
@@ -68,7 +68,8 @@ are_timely config made s tasks (step ∷ steps) =
     let t = after_step config s placed.task step placed.effect in
     is_timely_after config made placed.effect t && are_timely config made t (left_after now_due) steps
 
--- these steps of the connection's lines ran, each in its turn and right, each value in its key's part, and each `SYNC` left timely values
+-- these steps of the connection's lines ran, each in its turn and right, each value in the part of its key, and each `SYNC` left timely
+-- values
 abbrev pub Runs : Making → ℕ → Situation → List Step → Situation → Type 0
 Runs making number s [] t = t ≡ s
 Runs making number s (step ∷ steps) t =
@@ -77,7 +78,7 @@ Runs making number s (step ∷ steps) t =
     × IsTrue (is_timely_after making.config making.made (effect_of_step making.config number s step) (after_step making.config s (Some (RunLines number)) step (effect_of_step making.config number s step)))
     × Runs making number (after_step making.config s (Some (RunLines number)) step (effect_of_step making.config number s step)) steps t
 
--- a step that does nothing but to values, and may close its connection; it joins no load
+-- a step that does something only to values, and may close its connection; it joins no load
 pub record IsPlain (effect : Effect) (quit : Bool) : Type 0 where
   pub stays : is_held effect ≡ false
   pub quits : quits effect ≡ quit

@@ -1,9 +1,9 @@
--- What a store was made with.
+-- How a store was created.
 use Rattle.std.specs.Prelude.{ℕ, List}
 use Rattle.audit_model.specs.declared.config.Config.{Config}
 use Rattle.cache_store.specs.Promises.{Frame}
 
--- the configuration, the part of each key, and the moment of the making
+-- the configuration, the part of each key, and the moment of creation
 pub record Making : Type 0 where
   pub config : Config
   pub part_of : List ℕ → ℕ

@@ -21,12 +21,12 @@ abbrev pub order_behind : Config → ℕ → Order → List Step → Order
 order_behind config n order [] = order
 order_behind config n order (step ∷ steps) = order_behind config n (order_behind_step config n order step) steps
 
--- where a `SYNC` ran last, the values held have just the keys that are known
+-- if a `SYNC` ran last, the values held have exactly the keys that are known
 abbrev pub HasKeys : Order → List HeldValue → Type 0
 HasKeys (Settled keys) held = AreKeysOf held keys
 HasKeys order held = Unit {0}
 
--- so after each of these steps
+-- this is so after each of these steps
 abbrev pub HaveKeys : Config → ℕ → Order → Situation → List Task → List Step → Type 0
 HaveKeys config n order s tasks [] = Unit {0}
 HaveKeys config n order s tasks (step ∷ steps) =
@@ -35,15 +35,15 @@ HaveKeys config n order s tasks (step ∷ steps) =
     let t = after_step config s placed.task step placed.effect in
     HasKeys (order_behind_step config n order step) t.held × HaveKeys config n (order_behind_step config n order step) t (left_after now_due) steps
 
--- the same of a connection's lines
+-- the same for the lines of a connection
 abbrev pub HaveKeysBehind : Config → ℕ → ℕ → Order → Situation → List Step → Type 0
 HaveKeysBehind config number n order s [] = Unit {0}
 HaveKeysBehind config number n order s (step ∷ steps) =
     let t = after_step config s (Some (RunLines number)) step (effect_of_step config number s step) in
     HasKeys (order_behind_step config n order step) t.held × HaveKeysBehind config number n (order_behind_step config n order step) t steps
 
--- Where a store that evicts the least recently used agreed with what was known, it agrees with what is known behind these steps, and after each
--- of them just the keys that are known are held.
+-- If a store under LRU agreed with what was known, it agrees with what is known after these steps, and after each of them exactly the keys
+-- that are known are held.
 abbrev pub OrdersSteps : Config → (old new : Bool → List (List ℕ) → Type 0) → Situation → List Task → List Step → Type 0
 OrdersSteps config old new s tasks steps =
     (places : ℕ) (order : Order) → IsPlainLru config places → AgreesWith old places order

@@ -26,7 +26,7 @@ use Rattle.cache_lines.specs.Ordered.{HasKeys, OrdersLines}
 use Rattle.cache_lines.specs.declared.running.LineOutcome.{LineOutcome}
 use Rattle.cache_lines.specs.declared.running.LineOutcome.TheVariants.{Stays, Quits, Waits}
 
--- The line's step was right but for its turn, its values stand, and its reply and notes were gathered.
+-- The line's step was right except for its turn, its values are held, and its reply and notes were gathered.
 pub record RanOne (making : Making) (number : ℕ) (s : Situation) (line : List ℕ) (quit : Bool) (old new : Stage) : Type 0 where
   pub reply : List ℕ
   pub accepted : Option Accepted
@@ -56,7 +56,7 @@ pub record IsMiss (config : Config) (now : ℕ) (line : List ℕ) (Stands : List
   pub reads : reading config line ≡ Ok (says.Load key)
   pub none : (held : List HeldValue) → Stands held → live_at config now held key ≡ None
 
--- such a line begins to wait for its key's load, which it sends where none is under way
+-- such a line begins to wait for its key's load, which it sends if none is under way
 pub record WaitsLine (now number : ℕ) (line : List ℕ) (old new : Seen) : Type 0 where
   pub is_miss : IsMiss old.stage.values.frame.config now line old.stage.values.Stands
   pub gathered_is : gathered new.stage ≡ gather (gathered old.stage) (step_silent number line (load_sent_for is_miss.key old.loads) None [] ∷ [])
@@ -74,8 +74,8 @@ begins_to_wait Stays = false
 begins_to_wait Quits = false
 begins_to_wait Waits = true
 
--- From that situation, with those values held and those bytes unread, lines of the connection ran until those bytes were left, or the last one
--- was a `QUIT`, and what they left stands.
+-- From this situation, with these values held and these bytes unread, lines of the connection ran until those bytes were left, or the last
+-- one was a `QUIT`, and what they left is the result.
 pub record RanLines (making : Making) (number : ℕ) (base : Situation) (held : List HeldValue) (bytes : List ℕ) (quit : Bool) (rest : List ℕ) (old new : Stage) : Type 0 where
   pub steps : List Step
   pub left : List HeldValue

@@ -12,7 +12,7 @@ use Rattle.cache_lines.specs.declared.looping.End.{End}
 use Rattle.cache_lines.specs.declared.looping.End.TheVariants as at
 use Rattle.cache_lines.specs.declared.running.LineOutcome.TheVariants.{Stays, Quits, Waits}
 
--- the line of that many bytes at the front, without one carriage return
+-- the line with this many bytes at the front, without one carriage return
 abbrev pub line_at : List ℕ → ℕ → List ℕ
 line_at bytes n = without_return (take n bytes)
 
@@ -43,7 +43,7 @@ waits_now at.Waits = true
 waits_now at.Quit = false
 
 -- Lines stop at these bytes: less than a line is left, or more than a line may have; or a line is held back, or is a `LOAD` that begins to
--- wait; or it is a `QUIT`, and ran.
+-- wait; or it is a `QUIT`, and has run.
 abbrev pub StopsBy : (now number : ℕ) (bytes : List ℕ) → End → (old new : Seen) → Type 0
 StopsBy now number bytes at.More old new = IsPartial bytes × AddsSteps [] old new
 StopsBy now number bytes at.TooLong old new = (8192 < length (cut_at 10 bytes).0) × AddsSteps [] old new
@@ -51,7 +51,7 @@ StopsBy now number bytes at.Held old new = (n : ℕ) × IsLine bytes n × AddsSt
 StopsBy now number bytes at.Waits old new = (n : ℕ) × IsLine bytes n × RunsAs now number (line_at bytes n) Waits old new
 StopsBy now number bytes at.Quit old new = (n : ℕ) × IsLine bytes n × RunsAs now number (line_at bytes n) Quits old new
 
--- the first line of the bytes ran, and has that many, or lines stop at it
+-- the first line of the bytes ran, and has this many bytes, or lines stop at it
 abbrev pub RunsFirst : (now number : ℕ) (bytes : List ℕ) → Result ℕ End → (old new : Seen) → Type 0
 RunsFirst now number bytes (Ok n) old new = IsLine bytes n × RunsAs now number (line_at bytes n) Stays old new
 RunsFirst now number bytes (Err end) old new = StopsBy now number bytes end old new

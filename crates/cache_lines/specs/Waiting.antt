@@ -6,15 +6,15 @@ use Rattle.audit_model.specs.Situation.{Situation, Connection, PendingLoad, Held
 use Rattle.cache_commands.specs.Loads.Pending.{number_to_send, loads_pending, sent_of, when_joined, when_sent}
 use Rattle.cache_commands.specs.declared.loads.loads.Loads.{Loads}
 
--- a connection whose `LOAD` waits, with those bytes unread behind it; how often it began to wait
+-- a connection whose `LOAD` waits, with these bytes unread after it, and how often it began to wait
 abbrev pub waiting : ℕ → List ℕ → List ℕ → ℕ → Connection
 waiting number line bytes times = record { number = number; unread = bytes; standing = Waiting line; waited = times }
 
--- a connection that holds a `LOAD` back which began to wait so often before
+-- a connection that holds a `LOAD` back that had begun to wait this often
 abbrev pub holding_load : ℕ → List ℕ → List ℕ → ℕ → Connection
 holding_load number line bytes times = record { number = number; unread = bytes; standing = Held line; waited = times }
 
--- the situation, but with so many loads sent and those under way
+-- the situation, with this many loads sent and these under way
 abbrev pub with_loads : ℕ → List PendingLoad → Situation → Situation
 with_loads sent pending s = record s { sent = sent; pending = pending }
 
@@ -26,11 +26,11 @@ pub record UnderWay : Type 0 where
 abbrev pub no_loads : UnderWay
 no_loads = record { sent = 0; pending = [] }
 
--- as a table has them
+-- in terms of a table
 abbrev pub under_way : Loads → UnderWay
 under_way loads = record { sent = sent_of loads; pending = loads_pending loads }
 
--- when a connection stayed open, or closed and waits no more
+-- after a connection stayed open, or closed and no longer waits
 abbrev pub when_left : Bool → ℕ → UnderWay → UnderWay
 when_left true number loads = loads
 when_left false number loads = record { sent = loads.sent; pending = map (without_waiting number) loads.pending }
@@ -39,7 +39,7 @@ when_left false number loads = record { sent = loads.sent; pending = map (withou
 abbrev pub loads_in : Situation → UnderWay
 loads_in s = record { sent = s.sent; pending = s.pending }
 
--- the situation, but with those loads under way
+-- the situation, with these loads under way
 abbrev pub with_under_way : UnderWay → Situation → Situation
 with_under_way loads s = with_loads loads.sent loads.pending s
 
@@ -48,10 +48,10 @@ abbrev pub is_load : Reading → Bool
 is_load (Ok (says.Load key)) = true
 is_load reading = false
 
--- the number of the load that a connection sends which begins to wait for that key: none where the key's load is under way
+-- the number of the load that a connection sends that begins to wait for this key: none if the key's load is under way
 abbrev pub load_sent_for : List ℕ → UnderWay → Option ℕ
 load_sent_for key loads = number_to_send key loads.sent loads.pending
 
--- the loads when the connection waits for the key's load, which it sends where none is under way
+-- the loads after the connection waits for the key's load, which it sends if none is under way
 abbrev pub when_waiting : ℕ → List ℕ → UnderWay → UnderWay
 when_waiting conn key loads = record { sent = when_sent (load_sent_for key loads) loads.sent; pending = when_joined conn key (load_sent_for key loads) loads.pending }

@@ -55,8 +55,8 @@ fn drain_where<S: Store>(store: &mut Keyed<S>, takes: bool, notes: &mut Vec<Note
     }
 }
 
-/// Adds the step of the line for which there is room, where a record is made: with what was written as its reply, and the notes that
-/// wait. Where none is made, both stay where they are.
+/// If a record is made, adds the step of the line for which there is room, with what was written as its reply, and the notes that wait. If
+/// none is made, both stay where they are.
 pub fn end_step<S: Store, T: Tape>(
     store: &mut Keyed<S>,
     tape: &mut T,

@@ -15,7 +15,7 @@ pub fn told_waits()
     ensures waits { ToldWaits }
 {}
 
-/// A waiting `LOAD` that is handed its load's outcome lets its connection run lines again.
+/// A waiting `LOAD` that receives its load's outcome lets its connection run lines again.
 pub fn delivered_leads()
     ensures { DeliveredLeads }
 {}
@@ -28,13 +28,14 @@ pub fn run_again_leads()
     ensures abandoned { AbandonedLeads }
 {}
 
-/// A connection's lines run with other tasks behind them as they do alone, and none runs where none may.
+/// A connection's lines run with other tasks after them as they do alone, and none runs if none may.
 pub fn lines_lead()
     ensures some { LinesLead }
     ensures none { NoLinesLead }
 {}
 
-/// The record of an answer follows, whose value was stored, and whose waiting connections were told and ran their lines in order.
+/// The record of an answer follows, whose value was stored, and whose waiting connections received the outcome and ran their lines in
+/// order.
 pub fn answer_settles()
     ensures { AnswerSettles }
 {}

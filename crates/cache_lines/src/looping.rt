@@ -29,8 +29,8 @@ pub enum End {
     Quit,
 }
 
-/// Runs the first line of the bytes, and answers how many it has, or how lines end there: a line for which memory was wanted is held back,
-/// in the room for one that the tape has.
+/// Runs the first line of the bytes, and returns how many bytes it has, or how lines end there: a line for which memory was lacking is held
+/// back, in the room that the tape has for one.
 fn run_first<S: Store, T: Tape>(
     base: &mut Base<S, T>,
     now: u64,
@@ -73,7 +73,7 @@ pub fn behind(bytes: &[u8], used: usize) -> &[u8]
     &bytes[used..]
 }
 
-/// Runs the lines that stand in these bytes, one after another, and answers how many bytes those had that ran, a `QUIT` aside, and how they
+/// Runs the lines in these bytes, one after another, and returns how many bytes those that ran have, not counting a `QUIT`, and how they
 /// ended.
 pub fn run_bytes<S: Store, T: Tape>(
     base: &mut Base<S, T>,

@@ -53,9 +53,9 @@ fn key_of<'a>(request: &Request<'a>) -> &'a [u8]
     key
 }
 
-/// Runs a line, at a moment below 2^63 nanoseconds: its reply stands behind the others, or in its step where a record is made, as do its
-/// notes. A `LOAD` of a key that has no live value begins to wait. An `Err` changes nothing that is seen; a number that is used up counts as
-/// want of memory.
+/// Runs a line, at a moment below 2^63 nanoseconds: its reply is appended to the others, or put into its step if a record is made, and so
+/// are its notes. A `LOAD` of a key that has no live value begins to wait. An `Err` changes nothing that can be seen; a number that is used
+/// up counts as a lack of memory.
 pub fn run_line<S: Store, T: Tape>(
     base: &mut Base<S, T>,
     now: u64,

@@ -1,4 +1,4 @@
--- What becomes of the loads of a namespace.
+-- What happens to the loads of a namespace.
 use Rattle.std.specs.Prelude.{◌≡◌, ℕ, ◌≤◌, ◌==◌, ◌||◌, ◌&&◌, not, nat_lt, nat_le, Bool, List, IsTrue}
 use Rattle.std.specs.List.{list_all, list_any}
 use Rattle.audit_model.specs.Bytewise.{is_empty}
@@ -20,12 +20,12 @@ were_under_way before loads = are_all (λ n. is_under_way n before) loads
 abbrev pub AddsNoLoads : BareSpace → BareSpace → Type 0
 AddsNoLoads was is = IsTrue (were_under_way (pending_of was) (pending_of is))
 
--- no load was taken, and none is under way that was not
+-- no load was taken, and none is under way that was not under way before
 pub record KeepsLoads (was is : BareSpace) : Type 0 where
   pub taken : taken_of is ≡ taken_of was
   pub loads : AddsNoLoads was is
 
--- no load was taken, and each that is under way was so before, or has not been taken
+-- no load was taken, and each that is under way was under way before, or has not been taken
 pub record SendsLater (was is : BareSpace) : Type 0 where
   pub taken : taken_of is ≡ taken_of was
   pub loads : IsTrue (are_old_or_later (pending_of was) (taken_of was) (pending_of is))
@@ -35,7 +35,7 @@ pub record SettlesLoad (number : ℕ) (was is : BareSpace) : Type 0 where
   pub later : SendsLater was is
   pub settled : number ≤ taken_of was → IsTrue (are_others number (pending_of is))
 
--- a load of that number is one of those that were taken and are left
+-- a load with this number is one of those that were taken and are left
 abbrev pub is_left : ℕ → List (LoadId × List ℕ) → Bool
 is_left number outs = list_any (λ out. out.0.number == number) outs
 
@@ -47,7 +47,7 @@ were_taken taken outs = list_all (λ out. nat_le out.0.number taken) outs
 abbrev pub are_accounted : (ℕ → Bool) → List (LoadId × List ℕ) → ℕ → List PendingLoad → Bool
 are_accounted is_kept outs taken loads = are_all (λ n. is_kept n || (is_left n outs || nat_lt taken n)) loads
 
--- loads that are kept, left or not taken stay accounted for: none is lost sight of
+-- loads that are kept, left or not taken stay accounted for: none is lost
 pub record Accounts (was is : BareSpace) (before after : List (LoadId × List ℕ)) : Type 0 where
   pub taken : IsTrue (were_taken (taken_of was) before) → IsTrue (were_taken (taken_of is) after)
   pub loads : (is_kept : ℕ → Bool) → IsTrue (were_taken (taken_of was) before) → IsTrue (are_accounted is_kept before (taken_of was) (pending_of was))
@@ -57,16 +57,16 @@ pub record Accounts (was is : BareSpace) (before after : List (LoadId × List �
 abbrev pub has_no_waiting : List PendingLoad → Bool
 has_no_waiting loads = list_all (λ load. is_empty load.waiting) loads
 
--- nobody waits for a load, none was taken, and each load under way was so before and was not dropped
+-- nobody waits for a load, none was taken, and each load under way was under way before and was not dropped
 pub record DropsLoads (is_dropped : ℕ → Bool) (was is : BareSpace) : Type 0 where
   pub taken : taken_of is ≡ taken_of was
   pub nobody : IsTrue (has_no_waiting (pending_of is))
   pub loads : IsTrue (are_all (λ n. is_under_way n (pending_of was) && not (is_dropped n)) (pending_of is))
 
--- where nobody waits for a load, these loads are dropped
+-- if nobody waits for a load, these loads are dropped
 abbrev pub DropsUnwaited : (ℕ → Bool) → BareSpace → BareSpace → Type 0
 DropsUnwaited is_dropped was is = IsTrue (has_no_waiting (pending_of was)) → DropsLoads is_dropped was is
 
--- where nobody waits for a load, each load under way was so before, is none of these, and had been taken
+-- if nobody waits for a load, each load under way was under way before, is none of these, and had been taken
 abbrev pub DropsAll : List (LoadId × List ℕ) → BareSpace → BareSpace → Type 0
 DropsAll outs was is = IsTrue (has_no_waiting (pending_of was)) → IsTrue (are_all (λ n. is_under_way n (pending_of was) && (not (is_left n outs) && nat_le n (taken_of was))) (pending_of is))

@@ -21,11 +21,11 @@ open_records number opens = if opens then record_of (event.Open number) [] ∷ [
 abbrev pub close_records : ℕ → Bool → List Record
 close_records number closes = if closes then record_of (event.Close number) [] ∷ [] else []
 
--- the records of a connection: it opens or not, these turns come, it closes or not, and then loads are given up
+-- the records of a connection: it opens or not, has these turns, closes or not, and then loads are given up
 abbrev pub records_of : ℕ → Bool → List Turn → Bool → List Record → List Record
 records_of number opens turns closes drops = (open_records number opens ++ flat_map (records_in number) turns) ++ (close_records number closes ++ drops)
 
--- what an error leaves behind the last turn: the clock told late, lost was read, the loader was asked, and unsent was not written
+-- what an error leaves after the last turn: the clock read `late`, `lost` was read, the loader was asked, and `unsent` was not written
 pub record Left : Type 0 where
   pub late : List ℕ
   pub lost : List ℕ
@@ -35,8 +35,8 @@ pub record Left : Type 0 where
 abbrev pub nothing_left : Left
 nothing_left = record { late = []; lost = []; asked = []; unsent = [] }
 
--- From one world to another a connection's records followed: its pieces, and then what was lost, were read, its replies but for those
--- unsent were written, and the clock told its moments, and the loader its answers.
+-- From one world to another the records of a connection followed: its pieces, and then what was lost, were read, its replies except for
+-- those unsent were written, the clock read its moments, and the loader returned its results.
 pub record Carried {C L : Type 0} (config : Config) (number : ℕ) (reads : C → ℕ → C → Type 0) (loads : L → List ℕ → Option Outcome → L → Type 0) (a b : World C L) (opens closes : Bool) (drops : List Record) (left : Left) : Type 0 where
   pub turns : List Turn
   pub right : AreRight config turns

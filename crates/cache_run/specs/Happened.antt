@@ -1,4 +1,4 @@
--- What happens in a run: pieces are fed, and loads are settled by what the loader says of their keys.
+-- What happens in a run: pieces are fed, and loads are settled by what the loader returns for their keys.
 use Rattle.std.specs.Prelude.{◌≡◌, ℕ, true, List, [], ◌∷◌, Option, None, Some, IfSome, is_some, ◌⊎◌}
 use Rattle.std.specs.List.{flat_map}
 use Rattle.audit_model.specs.Belongs.{refusal_of_outcome}
@@ -16,12 +16,12 @@ use Rattle.cache_core.specs.Settling.{answering, giving_up}
 use Rattle.cache_core.specs.Turned.{feeding, notes_in}
 use Rattle.cache_lines.specs.Gathered.{reply_in}
 
--- the record of an event that is no answer
+-- the record of an event that is not an answer
 abbrev pub record_of : Event → List Step → Record
 record_of happened steps = record { event = happened; own = None; notices = []; steps = steps }
 
--- a piece was fed at a moment, and these steps ran; or the loader was asked, and at that moment the load was settled by that record; or the
--- load of that number was not under way any more, and what the loader said was dropped
+-- a piece was fed at a moment, and these steps ran; or the loader was asked, and at this moment the load was settled by this record; or the
+-- load with this number was no longer under way, and what the loader returned was dropped
 pub data Turn : Type 0 where
   Fed : (piece : List ℕ) → (moment : ℕ) → (steps : List Step) → Turn
   Settled : (asking : Asking) → (moment : ℕ) → (entry : Record) → Turn
@@ -39,7 +39,7 @@ moment_in (Fed piece moment steps) = moment
 moment_in (Settled asking moment entry) = moment
 moment_in (Dropped asking moment load) = moment
 
--- what the loader was asked
+-- the request to the loader
 abbrev pub asked_in : Turn → List Asking
 asked_in (Fed piece moment steps) = []
 asked_in (Settled asking moment entry) = asking ∷ []
@@ -61,15 +61,15 @@ replies_in number turn = flat_map record_replies (records_in number turn)
 abbrev pub turn_notes : ℕ → Turn → List Note
 turn_notes number turn = flat_map notes_in (records_in number turn)
 
--- what a loader was asked, and what it said
+-- the request to the loader, and its result
 abbrev pub asking_of : List ℕ → Option Outcome → Asking
 asking_of key answer = record { key = key; answer = answer }
 
--- a load is given up only where the loader gave no answer, or one that is refused for its bytes or its time
+-- a load is given up only if the loader returned nothing, or an outcome that is refused for its bytes or its time
 abbrev pub IsGivenUpFor : Config → Option Outcome → Type 0
 IsGivenUpFor config answer = IfSome answer (λ outcome. is_some (refusal_of_outcome config outcome) ≡ true)
 
--- a load is answered with what the loader said, or given up
+-- a load is answered with what the loader returned, or given up
 abbrev pub IsSettledBy : Config → Option Outcome → ℕ → Event → Type 0
 IsSettledBy config answer moment happened =
     ((load : ℕ) × (outcome : Outcome) × (answer ≡ Some outcome) × (happened ≡ answering load outcome moment))
@@ -84,20 +84,20 @@ abbrev pub AreRight : Config → List Turn → Type 0
 AreRight config [] = Unit {0}
 AreRight config (turn ∷ turns) = IsRight config turn × AreRight config turns
 
--- that is the key of the load under way that is answered or given up
+-- this is the key of the load under way that is answered or given up
 abbrev pub IsKeyOf : Situation → Event → List ℕ → Type 0
 IsKeyOf s (event.Answer load outcome moment) key = key_in load s ≡ Some key
 IsKeyOf s (event.GiveUp load moment) key = key_in load s ≡ Some key
 IsKeyOf s happened key = Unit {0}
 
--- in the situation before it, the key of which the loader is asked is that of the load that is settled, and what it said is dropped only of
--- a load that is not under way
+-- in the situation before it, the key that the loader is asked for is that of the load that is settled; what it returned is dropped only
+-- for a load that is not under way
 abbrev pub IsInPlace : Situation → Turn → Type 0
 IsInPlace s (Fed piece moment steps) = Unit {0}
 IsInPlace s (Settled asking moment entry) = IsKeyOf s entry.event asking.key
 IsInPlace s (Dropped asking moment load) = key_in load s ≡ None
 
--- each turn is so in the situation that the turns before it lead to
+-- each turn is like this in the situation to which the turns before it lead
 abbrev pub AreInPlace : Config → ℕ → Situation → List Turn → Type 0
 AreInPlace config number s [] = Unit {0}
 AreInPlace config number s (turn ∷ turns) = IsInPlace s turn × ((t : Situation) → after_records config s (records_in number turn) ≡ Some t → AreInPlace config number t turns)

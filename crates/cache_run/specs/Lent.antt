@@ -1,4 +1,4 @@
--- What comes of an exchange where a service is lent to the driver, in the words of the service's own calls.
+-- The result of an exchange if a service is lent to the driver, in terms of the service's own calls.
 use Rattle.std.specs.Prelude.{◌≡◌, ℕ, Bool, true, false, is_some, List, [], Option, None, Some, ◌⊎◌}
 use Rattle.std.specs.Option.{option_map}
 use Rattle.audit_model.specs.Belongs.{refusal_of, refusal_of_outcome}
@@ -30,8 +30,8 @@ GivesUpOr load moment was is = Settled bare_tape was is (giving_up load moment) 
 abbrev pub AnswersOr : ℕ → Outcome → ℕ → BareSpace → BareSpace → Type 0
 AnswersOr load outcome moment was is = Settled bare_tape was is (answering load outcome moment) ⊎ ((is ≡ was) × ((known_of was).is_under_way load ≡ false))
 
--- That was done. A load is given up only where the loader gave no answer, or one that is refused for its bytes or its time; it is dropped only
--- where it is not under way.
+-- This was done. A load is given up only if the loader returned nothing, or an outcome that is refused for its bytes or its time; it is
+-- dropped only if it is not under way.
 abbrev pub Does : ℕ → Doing → BareSpace → BareSpace → Type 0
 Does number (Fed piece moment held) was is = ServesEvent bare_tape was is (feeding number piece moment) held
 Does number (Answered load key outcome moment) was is = Settled bare_tape was is (answering load outcome moment)
@@ -44,7 +44,7 @@ abbrev pub MayGiveLoads : Option Outs → BareSpace → BareSpace → Type 0
 MayGiveLoads None was is = is ≡ was
 MayGiveLoads (Some loads) was is = GivesLoads loads was is
 
--- that was done, then the replies of the connection were taken, and then loads, where they were wanted
+-- this was done, then the replies of the connection were taken, and then loads, if they were requested
 pub record Comes (number : ℕ) (was : BareSpace) (exchange : Exchange) (is : BareSpace) : Type 0 where
   pub done : BareSpace
   pub told : BareSpace
@@ -55,7 +55,7 @@ pub record Comes (number : ℕ) (was : BareSpace) (exchange : Exchange) (is : Ba
   pub gives : MayGiveLoads exchange.loads told is
   pub closing : exchange.closing ≡ closing_of is number
 
--- its replies were taken, and then loads, where they were wanted
+-- its replies were taken, and then loads, if they were requested
 pub record Gives (number : ℕ) (given : Given) (was is : BareSpace) : Type 0 where
   pub told : BareSpace
   pub text : List ℕ
@@ -74,7 +74,7 @@ pub record ClosesIt (number : ℕ) (was is : BareSpace) : Type 0 where
   pub closes : ServesEvent bare_tape was is (event.Close number) false ⊎ IsClosedBefore number was is
   pub behind : IsSound bare_tape is
 
--- loads were given up, and where nobody waits for a load, these are gone
+-- loads were given up, and if nobody waits for a load, these are gone
 pub record Drops (number : ℕ) (is_dropped : ℕ → Bool) (was is : BareSpace) : Type 0 where
   pub gives : GivesUpLoads number was is
   pub gone : DropsUnwaited is_dropped was is
@@ -101,7 +101,7 @@ ComesAt conn old exchange new = At old new conn.namespace (λ was is. Comes conn
 abbrev pub RefusesOutcome : Conn → Outcome → List BareSpace → List BareSpace → Type 0
 RefusesOutcome conn outcome old new = (new ≡ old) × InSpace old conn.namespace (λ was. is_some (refusal_of_outcome (config_of was) outcome) ≡ true)
 
--- whatever the key, a load was settled by what the loader said
+-- whatever the key, a load was settled by what the loader returned
 abbrev pub SettlesAt : Conn → ℕ → Option Outcome → ℕ → List BareSpace → List BareSpace → Type 0
 SettlesAt conn load said moment old new = (key : List ℕ) → (doing : Doing) × SettlesBy load moment (record { key = key; answer = said }) doing × At old new conn.namespace (Does conn.number doing)
 

@@ -24,12 +24,12 @@ SameButLoads was is = is ≡ record was { outgoing = is.outgoing }
 abbrev pub GivesLoads : List (LoadId × List ℕ) → BareSpace → BareSpace → Type 0
 GivesLoads loads was is = IsSound bare_tape was × TakesLoads was is loads
 
--- each of the loads that were taken was sent, and where it is under way it has the key that it was taken with
+-- each of the loads that were taken was sent, and if it is under way it has the key that it was taken with
 abbrev pub AreKnown : List (LoadId × List ℕ) → Situation → Type 0
 AreKnown [] s = Unit {0}
 AreKnown (out ∷ outs) s = IsKnown out.0.number out.1 s × AreKnown outs s
 
--- loads were given up at moment 0, and nothing else came
+-- loads were given up at moment 0, and nothing else happened
 pub record OnlyGivesUp (config : Config) (s t : Situation) (before after : List Note) : Type 0 where
   pub drops : List Record
   pub dropped : AreDrops drops

@@ -1,4 +1,4 @@
--- What stands inside and outside of a namespace at one moment.
+-- What is inside and outside of a namespace at one moment.
 use Rattle.std.specs.Prelude.{ℕ, List, Option}
 use Rattle.audit_model.specs.Situation.{Situation}
 use Rattle.audit_model.specs.declared.transcript.Note.{Note}
@@ -6,7 +6,7 @@ use Rattle.cache_spaces.specs.Spaces.{notices_of}
 use Rattle.cache_spaces.specs.Bares.{BareSpace}
 use Rattle.cache_run.specs.Driver.Drives.{Outside}
 
--- a situation, the notes told and not taken, and what stands outside
+-- a situation, the notes reported and not taken, and what is outside
 pub record World (C L : Type 0) : Type 0 where
   pub situation : Situation
   pub notices : List Note

@@ -1,4 +1,4 @@
--- What a seat asks of a shared service for one connection, and what its loader is asked.
+-- The inputs that a seat passes to a shared service for one connection, and the requests to its loader.
 use Rattle.std.specs.Prelude.{◌≡◌, ◌≢◌, ℕ, ◌≤◌, ◌==◌, Bool, true, List, [], ◌∷◌, ◌++◌, count_by, length, map, Option, Some, Vec, ◌⊎◌, IfSome, if◌then◌else◌}
 use Rattle.std.specs.Io.KnownBytes.{Consumes}
 use Rattle.std.specs.List.{All, flat_map}
@@ -18,14 +18,14 @@ pub record Piece : Type 0 where
   pub bytes : List ℕ
   pub moment : ℕ
 
--- A loader was asked for the load of that number. The load was answered with what the loader said, or given up; or nothing was asked of the
--- service, or it refused.
+-- The loader was asked for the load with this number. The load was answered with what the loader returned, or given up; or nothing was
+-- asked of the service, or the service refused.
 pub data Settling : Type 0 where
   Answered : (number : ℕ) → (key : List ℕ) → (outcome : Outcome) → Settling
   GivenUp : (number : ℕ) → (asking : Asking) → Settling
   Dropped : (number : ℕ) → (asking : Asking) → Settling
 
--- a piece was fed, or a load was settled when the clock told that moment
+-- a piece was fed, or a load was settled, when the clock read this moment
 pub data ServedInput : Type 0 where
   Fed : (piece : Piece) → ServedInput
   Settled : (settling : Settling) → (moment : ℕ) → ServedInput
@@ -43,7 +43,7 @@ answer_input namespace moment number outcome = input.Answer (load_id namespace n
 abbrev pub give_up_input : ℕ → ℕ → ℕ → Input
 give_up_input namespace moment number = input.GiveUp (load_id namespace number) (record { nanos = moment })
 
--- what the loader was asked, and what it said
+-- the key that the loader was asked for, and what it returned
 abbrev pub settling_asking : Settling → Asking
 settling_asking (Answered number key outcome) = record { key = key; answer = Some outcome }
 settling_asking (GivenUp number asking) = asking
@@ -55,17 +55,17 @@ load_number (Answered number key outcome) = number
 load_number (GivenUp number asking) = number
 load_number (Dropped number asking) = number
 
--- it is of a load of that namespace that had gone out, and the loader was asked by the key of that load
+-- it is of a load of this namespace that had been sent, and the loader was asked for the key of that load
 abbrev pub IsOfLoad : (ℕ → ℕ → List ℕ → Type 0) → ℕ → Settling → Type 0
 IsOfLoad WentOut namespace settling = WentOut namespace (load_number settling) (settling_asking settling).key
 
--- it is given up only where the loader said nothing, or what it said is refused for its bytes or its time
+-- it is given up only if the loader returned nothing, or an outcome that is refused for its bytes or its time
 abbrev pub MayBeGivenUp : (ℕ → Outcome → Type 0) → ℕ → Settling → Type 0
 MayBeGivenUp Unfit namespace (Answered number key outcome) = Unit {0}
 MayBeGivenUp Unfit namespace (GivenUp number asking) = IfSome asking.answer (Unfit namespace)
 MayBeGivenUp Unfit namespace (Dropped number asking) = Unit {0}
 
--- what is asked of the service at a moment for a load of a namespace
+-- the inputs at a moment for a load of a namespace
 abbrev pub settling_inputs : ℕ → ℕ → Settling → List Input
 settling_inputs namespace moment (Answered number key outcome) = answer_input namespace moment number outcome ∷ []
 settling_inputs namespace moment (GivenUp number asking) = give_up_input namespace moment number ∷ []
@@ -76,7 +76,7 @@ abbrev pub piece_bytes : ServedInput → List ℕ
 piece_bytes (Fed piece) = piece.bytes
 piece_bytes (Settled settling moment) = []
 
--- no more than 16 lines end in what was fed
+-- at most 16 lines end in what was fed
 abbrev pub IsShort : ServedInput → Type 0
 IsShort (Fed piece) = count_by (λ byte. byte == 10) piece.bytes ≤ 16
 IsShort (Settled settling moment) = Unit {0}
@@ -96,16 +96,16 @@ abbrev pub settlings_of : ServedInput → List Settling
 settlings_of (Fed piece) = []
 settlings_of (Settled settling moment) = settling ∷ []
 
--- what was asked of the service
+-- the inputs
 abbrev pub inputs_of : Conn → ServedInput → List Input
 inputs_of conn (Fed piece) = feed_input conn piece ∷ []
 inputs_of conn (Settled settling moment) = settling_inputs conn.namespace moment settling
 
--- a closing, or none
+-- a closing, or nothing
 abbrev pub closing_inputs : Conn → Bool → List Input
 closing_inputs conn closes = if closes then input.Close conn ∷ [] else []
 
--- a loader was asked for some keys, and its answers may come of them
+-- a loader was asked for some keys, and its state may be the result
 abbrev pub HasAskedSome : {D : Type 0} → (D → List ℕ → Option Outcome → D → Type 0) → D → D → Type 0
 HasAskedSome loads d e = (asks : List Asking) × Askings loads d asks e
 
@@ -121,18 +121,18 @@ module _ (namespace : ℕ) (before after : List (Vec Receipt Global)) where
     pub grows : Grows added
     pub asked : map (λ receipt. receipt.input) added ≡ inputs
 
-  -- by a receipt of that input, or by none
+  -- by a receipt of this input, or by none
   abbrev pub AsksOrNot : Input → Type 0
   AsksOrNot i = Asks [] ⊎ Asks (i ∷ [])
 
-  -- by the receipt of an opening, which came to that connection
+  -- by the receipt of an opening whose output is this connection
   pub record Opens (conn : Conn) : Type 0 where
     pub first : Receipt
     pub asked : first.input ≡ input.Open namespace
     pub opened : first.output ≡ Opened conn
     pub grows : Grows (first ∷ [])
 
-  -- By what is asked at that moment for the load of that number, for which the loader was asked so; it is given up only where it may be.
+  -- By the inputs at this moment for the load with this number, after this request to the loader; the load is given up only if it may be.
   pub record Settles (keeps : Bool) (Unfit : ℕ → Outcome → Type 0) (moment number : ℕ) (asking : Asking) : Type 0 where
     pub settling : Settling
     pub of : settling_asking settling ≡ asking
@@ -141,9 +141,9 @@ module _ (namespace : ℕ) (before after : List (Vec Receipt Global)) where
     pub fit : MayBeGivenUp Unfit namespace settling
 
 module _ {K D : Type 0} (WentOut : ℕ → ℕ → List ℕ → Type 0) (Unfit : ℕ → Outcome → Type 0) (reads : K → ℕ → K → Type 0) (loads : D → List ℕ → Option Outcome → D → Type 0) (before after : List (Vec Receipt Global)) (remaining later : Option (List ℕ)) (k l : K) (d e : D) where
-  -- A connection of that namespace was opened, fed with what was read but perhaps for what was read last, and closed or not. Between its pieces
-  -- loads of the namespace were settled, and those of drops behind the closing. Each of them had gone out, and the loader was asked by its
-  -- key. One between the pieces is given up only where it may be. Nothing else was asked.
+  -- A connection of this namespace was opened, fed with what was read, except perhaps for what was read last, and closed or not. Between
+  -- its pieces loads of the namespace were settled, and after the closing those of `drops`. Each of them had been sent, and the loader was
+  -- asked for its key. One between the pieces is given up only if it may be. There were no other inputs.
   pub record ServesConnection (namespace : ℕ) (conn : Conn) (drops : List Settling) : Type 0 where
     pub first : Receipt
     pub opening : first.input ≡ input.Open namespace
@@ -163,13 +163,13 @@ module _ {K D : Type 0} (WentOut : ℕ → ℕ → List ℕ → Type 0) (Unfit :
     pub out : All (IsOfLoad WentOut namespace) (flat_map settlings_of deeds ++ drops)
     pub fit : All (MayBeGivenUp Unfit namespace) (flat_map settlings_of deeds)
 
-  -- nothing was asked, read or told
+  -- there were no inputs, reads, readings or requests
   pub record Idles : Type 0 where
     pub same : SameReceipts before after
     pub unread : later ≡ remaining
     pub untold : l ≡ k
     pub unasked : e ≡ d
 
-  -- it was attended, or nothing was done
+  -- it was served, or nothing was done
   abbrev pub ServesConnectionOrNot : ℕ → Conn → Type 0
   ServesConnectionOrNot namespace conn = ((drops : List Settling) × ServesConnection namespace conn drops) ⊎ Idles

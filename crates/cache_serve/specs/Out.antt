@@ -1,12 +1,12 @@
--- Loads that had gone out, with their keys.
+-- Loads that had been sent, with their keys.
 use Rattle.std.specs.Prelude.{◌≡◌, ℕ, List}
 use Rattle.std.specs.List.{All, Contains}
 use Rattle.audit_model.specs.declared.input.LoadId.{LoadId}
 use Rattle.cache_shared.specs.Untaken.{WereOut}
 use Rattle.cache_spaces.specs.Spaces.{Shown}
 
--- At some moment, in a service to which some journals that obey lead, the load of that number was among those of the namespace that had gone
--- out and were not taken, with that key.
+-- At some moment, in a service to which some journals that obey lead, the load with this number was among those of the namespace that had
+-- been sent and not taken, with this key.
 pub record WasOut {C : Type 0} (spaces : C → List Shown) (events : C → ℕ) (namespace number : ℕ) (key : List ℕ) : Type 0 where
   pub loads : List (LoadId × List ℕ)
   pub out : WereOut spaces events namespace loads
@@ -17,6 +17,6 @@ pub record WasOut {C : Type 0} (spaces : C → List Shown) (events : C → ℕ) 
 abbrev pub HadGoneOut : {C : Type 0} → (C → List Shown) → (C → ℕ) → ℕ → ℕ → List ℕ → Type 0
 HadGoneOut spaces events namespace number key = ∥ WasOut spaces events namespace number key ∥₁
 
--- each of these loads had gone out
+-- each of these loads had been sent
 abbrev pub AreOut : {C : Type 0} → (C → List Shown) → (C → ℕ) → ℕ → List (LoadId × List ℕ) → Type 0
 AreOut spaces events namespace loads = All (λ (pair : LoadId × List ℕ). HadGoneOut spaces events namespace pair.0.number pair.1) loads

@@ -1,4 +1,4 @@
--- What comes of an exchange where the driver has a seat of a service that threads share, in the words of what `serve` asks of it.
+-- What an exchange of the driver does if its host is a seat of a shared service, in terms of `serve`.
 use Rattle.std.specs.Prelude.{◌≡◌, ℕ, ◌+◌, ◌≤◌, Bool, true, List, [], ◌∷◌, length, map, IfSome, Vec}
 use Rattle.std.specs.List.{All, flat_map}
 use Rattle.std.specs.declared.alloc.Global.{Global}
@@ -12,7 +12,7 @@ use Rattle.cache_run.specs.Driver.Exchanges.{Answered, Doing, Dropped, Exchange,
 use Rattle.cache_serve.specs.Asked as asked
 use Rattle.cache_serve.specs.Asked.{Asks, AsksOrNot, IsOfLoad, IsShort, MayBeGivenUp, Opens, ServedInput, Settling, inputs_of, load_number, settling_asking, settling_inputs, settlings_of}
 
--- how many inputs a seat counts, and its receipts
+-- how many inputs a seat has counted, and its receipts
 pub record Tally : Type 0 where
   pub count : ℕ
   pub receipts : List (Vec Receipt Global)
@@ -26,18 +26,18 @@ served_of (Dropped load asking moment) = asked.Settled (asked.Dropped load askin
 served_of Looked = []
 
 module _ (keeps : Bool) (WentOut : ℕ → ℕ → List ℕ → Type 0) (Unfit : ℕ → Outcome → Type 0) (IsTaken : Conn → List ℕ → Type 0) where
-  -- each of these loads of a namespace had gone out, with that key
+  -- each of these loads of a namespace had been sent, with this key
   abbrev pub WentAllOut : ℕ → Outs → Type 0
   WentAllOut namespace outs = All (λ (out : LoadId × List ℕ). WentOut namespace out.0.number out.1) outs
 
-  -- a connection was opened, and the seat counts that
+  -- a connection was opened, and the seat counts this
   pub record SeatOpens (namespace : ℕ) (conn : Conn) (h k : Tally) : Type 0 where
     pub here : conn.namespace ≡ namespace
     pub asks : keeps ≡ true → Opens namespace h.receipts k.receipts conn
     pub one : k.count ≡ h.count + 1
 
-  -- That was asked of the service, and the seat counts it. A piece has no more than 16 lines; a load is given up only where it may be. The text
-  -- was the connection's replies, and the loads had gone out.
+  -- This was asked of the service, and the seat counts it. A piece has at most 16 lines; a load is given up only if it may be. The text was
+  -- the connection's replies, and the loads had been sent.
   pub record SeatComes (conn : Conn) (h : Tally) (exchange : Exchange) (k : Tally) : Type 0 where
     pub asks : keeps ≡ true → Asks conn.namespace h.receipts k.receipts (flat_map (inputs_of conn) (served_of exchange.doing))
     pub counts : k.count ≡ h.count + length (flat_map (inputs_of conn) (served_of exchange.doing))
@@ -46,7 +46,8 @@ module _ (keeps : Bool) (WentOut : ℕ → ℕ → List ℕ → Type 0) (Unfit :
     pub text : IfSome exchange.text (IsTaken conn)
     pub out : IfSome exchange.loads (WentAllOut conn.namespace)
 
-  -- At that moment the load of that number was answered as the loader said, or given up where it may be; or nothing was asked of the service.
+  -- At this moment the load with this number was answered with what the loader returned, or given up if it may be; or nothing was asked of
+  -- the service.
   pub record SeatSettles (namespace moment number : ℕ) (asking : Asking) (h k : Tally) : Type 0 where
     pub settling : Settling
     pub of : settling_asking settling ≡ asking
@@ -55,14 +56,14 @@ module _ (keeps : Bool) (WentOut : ℕ → ℕ → List ℕ → Type 0) (Unfit :
     pub counts : k.count ≡ h.count + length (settling_inputs namespace moment settling)
     pub fit : MayBeGivenUp Unfit namespace settling
 
-  -- a closing was asked for, or was refused
+  -- a closing was requested, or was refused
   pub record SeatCloses (conn : Conn) (h k : Tally) : Type 0 where
     pub asks : keeps ≡ true → AsksOrNot conn.namespace h.receipts k.receipts (input.Close conn)
     pub one : k.count ≤ h.count + 1
     pub rises : h.count ≤ k.count
 
-  -- A loader was asked for those in hand, and for those that had gone out, by their keys; they were settled at moment 0, and one input at most
-  -- was counted for each.
+  -- The loader was asked for the loads in hand, and for those that had been sent, by their keys; they were settled at moment 0, and at most
+  -- one input was counted for each.
   pub record SeatDrops (conn : Conn) (hand : Outs) (h : Tally) (askings : List Asking) (k : Tally) : Type 0 where
     pub drops : List Settling
     pub asks : keeps ≡ true → Asks conn.namespace h.receipts k.receipts (flat_map (settling_inputs conn.namespace 0) drops)

@@ -1,4 +1,4 @@
--- What serving a connection comes to.
+-- The result of serving a connection.
 use Rattle.std.specs.Prelude.{◌≡◌, ℕ, ◌+◌, Bool, true, List, [], length, Option, Vec, Result, ◌⊎◌, MatchResult}
 use Rattle.std.specs.declared.alloc.Global.{Global}
 use Rattle.audit_model.specs.declared.event.Outcome.{Outcome}
@@ -16,19 +16,19 @@ use Rattle.cache_shared.specs.declared.seat.Seat.{Seat}
 use Rattle.cache_shared.specs.declared.seat.Seating.{Ghosts as Ledgers}
 use Rattle.cache_spaces.specs.Spaces.{Shown}
 
--- the receipts that were gained begin with that of an opening which came to that connection
+-- the receipts that were gained begin with that of an opening whose output is this connection
 pub record BeginsWith (namespace : ℕ) (before after : List (Vec Receipt Global)) (conn : Conn) : Type 0 where
   pub between : List (Vec Receipt Global)
   pub opens : Opens namespace before between conn
   pub rest : List Receipt
   pub grows : Grows namespace between after rest
 
--- so it is, or none was gained
+-- this is so, or no receipt was gained
 abbrev pub BeginsOrIdles : Bool → ℕ → List (Vec Receipt Global) → List (Vec Receipt Global) → Conn → Type 0
 BeginsOrIdles keeps namespace before after conn = keeps ≡ true → BeginsWith namespace before after conn ⊎ SameReceipts before after
 
--- Texts that were replies of a connection of that namespace were written, but for the end of the last one after an error: one for each input
--- that was counted, but for three, and after an error for one for each load that the loader was asked for.
+-- Texts that were replies of a connection of this namespace were written, except for the end of the last one after an error: one for each
+-- input that was counted, less three, and after an error also less one for each load for which the loader was asked.
 abbrev pub WritesAll : {C L W D X E : Type 0} → {G : Ledgers L} → (keeps : Bool) → (C → List Shown) → (C → ℕ) → (C → Conn → List ℕ) → (W → Option (List ℕ)) → (D → List ℕ → Option Outcome → D → Type 0) → ℕ → Result X E
     → Seat L G → Seat L G → Watched W → Watched W → D → D → Type 0
 WritesAll keeps spaces events untaken contents loads namespace result seat seat' writer writer' d e =
@@ -37,7 +37,7 @@ WritesAll keeps spaces events untaken contents loads namespace result seat seat'
     (λ err. (rest : List ℕ) × (asks : List Asking) × Askings loads d asks e
     × Serves spaces events untaken namespace (BeginsOrIdles keeps namespace seat.receipts.items seat'.receipts.items) seat.count seat'.count (length asks + 3) (contents (device writer)) (contents (device writer')) rest)
 
--- where receipts are kept, those that the seat gains are of what was done for a connection of that namespace
+-- if receipts are kept, those that the seat gains are of what was done for a connection of this namespace
 abbrev pub AsksAll : {C L R K D X E : Type 0} → {G : Ledgers L} → (keeps : Bool) → (C → List Shown) → (C → ℕ) → (R → Option (List ℕ)) → (K → ℕ → K → Type 0) → (D → List ℕ → Option Outcome → D → Type 0) → ℕ → Result X E
     → Seat L G → Seat L G → Watched R → Watched R → K → K → D → D → Type 0
 AsksAll keeps spaces events remaining reads loads namespace result seat seat' reader reader' k l d e =

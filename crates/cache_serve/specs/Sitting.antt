@@ -1,4 +1,4 @@
--- What the host of a connection of a shared service answers for, by its seat.
+-- What the host of a connection of a shared service guarantees, by its seat.
 use Rattle.std.proofs.Common.{◌∙◌, ap, arith, inl, inr}
 use Rattle.std.specs.Prelude.{◌≡◌, ℕ, ◌+◌, ◌≤◌, ◌==◌, Bool, true, false, List, [], ◌∷◌, ◌++◌, count_by, Option, Some, None, IfSome, Result, Ok, Err, Vec}
 use Rattle.std.specs.Option.{option_map}
@@ -27,7 +27,7 @@ use Rattle.cache_spaces.specs.Spaces.{Shown}
 abbrev pub tally : {L : Type 0} → {G : Ledgers L} → Seat L G → Tally
 tally seat = record { count = seat.count; receipts = seat.receipts.items }
 
--- no more than 16 lines end in the piece
+-- at most 16 lines end in the piece
 abbrev pub IsShortPiece : List ℕ → Type 0
 IsShortPiece piece = count_by (λ byte. byte == 10) piece ≤ 16
 
@@ -41,7 +41,7 @@ pub record SeatTakes (keeps : Bool) (i : Input) (h k : Tally) : Type 0 where
   pub one : k.count ≡ h.count + 1
   pub asks : keeps ≡ true → Asks (namespace_of i) h.receipts k.receipts (i ∷ [])
 
--- it was taken where something is given, and else nothing was
+-- it was taken if something is given, and otherwise nothing was
 abbrev pub TakesIfGiven : {X E : Type 0} → Bool → Input → Result (Option X) E → Tally → Tally → Type 0
 TakesIfGiven keeps i (Ok (Some x)) h k = SeatTakes keeps i h k
 TakesIfGiven keeps i (Ok None) h k = SeatRests h k
@@ -52,14 +52,14 @@ module _ {C : Type 0} (spaces : C → List Shown) (events : C → ℕ) (untaken 
   abbrev pub IsReply : Conn → List ℕ → Type 0
   IsReply conn text = ∥ WereUntaken spaces events untaken conn text ∥₁
 
-  -- The texts were replies of the connection, and the loads had gone out; they are given only where they were wanted.
+  -- The texts were replies of the connection, and the loads had been sent; they are given only if they were requested.
   pub record Gives (conn : Conn) (wants_loads : Bool) (given : Given) : Type 0 where
     pub text : IfSome (option_map (λ text. text.items) given.replies) (IsReply conn)
     pub out : IfSome (option_map (λ loads. loads.items) given.loads) (AreOut spaces events conn.namespace)
     pub suits : Suits false wants_loads given
 
   module _ {L : Type 0} {G : Ledgers L} (keeps : Bool) where
-    -- in the words of a seat
+    -- in terms of a seat
     abbrev pub Opens : ℕ → Conn → Seat L G → Seat L G → Type 0
     Opens namespace conn p q = SeatOpens keeps (HadGoneOut spaces events) IsUnfit IsReply namespace conn (tally p) (tally q)
 
@@ -72,17 +72,17 @@ module _ {C : Type 0} (spaces : C → List Shown) (events : C → ℕ) (untaken 
     abbrev pub Drops : Conn → Outs → Seat L G → List Asking → Seat L G → Type 0
     Drops conn hand p askings q = SeatDrops keeps (HadGoneOut spaces events) IsUnfit IsReply conn hand (tally p) askings (tally q)
 
-    -- whatever the key, a load was settled by what the loader said
+    -- whatever the key, a load was settled by what the loader returned
     abbrev pub Settles : ℕ → ℕ → Option Outcome → ℕ → Seat L G → Seat L G → Type 0
     Settles namespace load said moment p q =
         (key : List ℕ) → SeatSettles keeps (HadGoneOut spaces events) IsUnfit IsReply namespace moment load (record { key = key; answer = said }) (tally p) (tally q)
 
-    -- so it was at moment 0, whatever the service refuses
+    -- this happened at moment 0, whatever the service refuses
     abbrev pub SettlesLate : ℕ → ℕ → Option Outcome → Seat L G → Seat L G → Type 0
     SettlesLate namespace load said p q =
         (key : List ℕ) → SeatSettles keeps (HadGoneOut spaces events) (λ n outcome. Unit {0}) IsReply namespace 0 load (record { key = key; answer = said }) (tally p) (tally q)
 
-    -- a loader was asked for the load by that key, and it was settled so
+    -- a loader was asked for the load by this key, and it was settled like this
     abbrev pub DropsOne : {D : Type 0} → (D → List ℕ → Option Outcome → D → Type 0) → ℕ → ℕ → List ℕ → Seat L G → Seat L G → D → D → Type 0
     DropsOne loads namespace load key p q d e = (said : Option Outcome) × SettlesLate namespace load said p q × loads d key said e
 
@@ -90,9 +90,9 @@ module _ {C : Type 0} (spaces : C → List Shown) (events : C → ℕ) (untaken 
     abbrev pub DropsBy : {D : Type 0} → (D → List ℕ → Option Outcome → D → Type 0) → Conn → Outs → Seat L G → Seat L G → D → D → Type 0
     DropsBy loads conn hand p q d e = (askings : List Asking) × Drops conn hand p askings q × Askings loads d askings e
 
--- ---- what the trait of a host wants to be known
+-- ---- what the trait `Host` requires
 
--- behind what asked nothing
+-- after an exchange without input
 pub asks-behind : {n : ℕ} {a b c : List (Vec Receipt Global)} {inputs : List Input} → SameReceipts a b → Asks n b c inputs → Asks n a c inputs
 asks-behind {n} same asks = record {
   added = asks.added;
@@ -104,7 +104,7 @@ or-behind : (n : ℕ) (a b c : List (Vec Receipt Global)) (i : Input) → SameRe
 or-behind n a b c i same (inl none) = inl (asks-behind same none)
 or-behind n a b c i same (inr one) = inr (asks-behind same one)
 
--- a closing behind what rested
+-- a closing after an exchange without input
 pub closes-behind : {keeps : Bool} {WentOut : ℕ → ℕ → List ℕ → Type 0} {Unfit : ℕ → Outcome → Type 0} {IsTaken : Conn → List ℕ → Type 0} (conn : Conn) (h m k : Tally) → SeatRests h m → SeatCloses keeps WentOut Unfit IsTaken conn m k → SeatCloses keeps WentOut Unfit IsTaken conn h k
 closes-behind conn h m k rests closes =
     let same = rests.count in

@@ -1,4 +1,4 @@
--- What a loader says, and the service may refuse.
+-- Outcomes of a loader that the service may refuse.
 use Rattle.std.specs.Prelude.{ℕ}
 use Rattle.audit_model.specs.declared.event.Outcome.{Outcome}
 use Rattle.cache_shared.specs.Events as events

@@ -1,4 +1,4 @@
--- What a connection of a shared service is written.
+-- What is written to a connection of a shared service.
 use Rattle.std.specs.Prelude.{◌≡◌, ℕ, ◌+◌, ◌≤◌, List, [], ◌∷◌, length, Option}
 use Rattle.std.specs.List.{concat}
 use Rattle.audit_model.specs.declared.input.Conn.{Conn}
@@ -6,12 +6,12 @@ use Rattle.cache_run.specs.Devices.Sent.{SentBut}
 use Rattle.cache_shared.specs.Untaken.{WereUntaken}
 use Rattle.cache_spaces.specs.Spaces.{Shown}
 
--- each of the texts is so
+-- this is true of each of the texts
 abbrev pub AllAre : (List ℕ → Type 0) → List (List ℕ) → Type 0
 AllAre IsTaken [] = Unit {0}
 AllAre IsTaken (text ∷ texts) = IsTaken text × AllAre IsTaken texts
 
--- so many texts were taken, and written one behind the other, but for the rest
+-- this many texts were taken, and written one after the other, except for the rest
 pub record WritesTexts (IsTaken : List ℕ → Type 0) (count : ℕ) (before after : Option (List ℕ)) (rest : List ℕ) : Type 0 where
   pub texts : List (List ℕ)
   pub number : length texts ≡ count
@@ -19,8 +19,8 @@ pub record WritesTexts (IsTaken : List ℕ → Type 0) (count : ℕ) (before aft
   pub sent : SentBut rest (concat texts) before after
 
 module _ {C : Type 0} (spaces : C → List Shown) (events : C → ℕ) (untaken : C → Conn → List ℕ) where
-  -- The texts are the replies of one connection of that namespace, each taken from a service to which some journals that obey lead. There is
-  -- one at least for each input that the seat counts, but for those that are spared. That was asked for the connection.
+  -- The texts are the replies of one connection of this namespace, each taken from a service to which some journals that obey lead. There
+  -- is at least one for each input that the seat counts, less the number that is spared. This was asked for the connection.
   pub record Serves (namespace : ℕ) (Asked : Conn → Type 0) (inputs later spared : ℕ) (before after : Option (List ℕ)) (rest : List ℕ) : Type 0 where
     pub conn : Conn
     pub here : conn.namespace ≡ namespace

@@ -42,7 +42,7 @@ pub enum Recorded<'a> {
     One(Script<'a>),
 }
 
-/// A shared form, at the second try where memory is refused.
+/// A shared form, on the second attempt if memory is refused.
 fn share<L: Seating, C: Stepping>(
     alloc: Global,
     core: C,

@@ -2,7 +2,7 @@
 use crate::inputs::{START, conn, feed, make_recorded};
 use crate::loaders::value_of;
 use audit_model::{Bytes, Conn, Input, LoadId, Note, RemovalCause, ServiceError};
-use cache_spaces::RecordedService;
+use cache_spaces::{LentReplies, RecordedService};
 use std::alloc::Global;
 
 /// What is done with a service, and what is read of it.
@@ -125,10 +125,22 @@ fn answers(alloc: Global, service: &mut RecordedService, number: u64) -> bool {
     }
 }
 
+/// Whether replies are these bytes, if there is memory for a copy.
+fn are_bytes(alloc: Global, replies: &LentReplies<'_>, wanted: &[u8]) -> bool {
+    match replies.to_vec(alloc) {
+        Ok(text) => text.as_slice() == wanted,
+        Err(_) => false,
+    }
+}
+
 /// Whether these bytes were taken.
-fn is_taken(taken: Result<Vec<u8>, ServiceError>, wanted: Result<&[u8], ServiceError>) -> bool {
+fn is_taken(
+    alloc: Global,
+    taken: Result<LentReplies<'_>, ServiceError>,
+    wanted: Result<&[u8], ServiceError>,
+) -> bool {
     match (taken, wanted) {
-        (Ok(taken), Ok(wanted)) => taken.as_slice() == wanted,
+        (Ok(replies), Ok(wanted)) => are_bytes(alloc, &replies, wanted),
         (Err(error), Err(wanted)) => error == wanted,
         _ => false,
     }
@@ -136,7 +148,7 @@ fn is_taken(taken: Result<Vec<u8>, ServiceError>, wanted: Result<&[u8], ServiceE
 
 /// Whether this note was told.
 fn is_told(
-    told: Result<Option<Note>, ServiceError>,
+    told: Result<Option<&Note>, ServiceError>,
     wanted: Result<Option<(RemovalCause, &[u8])>, ServiceError>,
 ) -> bool {
     match (told, wanted) {
@@ -170,7 +182,7 @@ fn is_so(alloc: Global, service: &mut RecordedService, row: Row<'_>) -> bool {
         Row::Opens => service.step(Input::Open { namespace: 0 }).is_ok(),
         Row::Feeds(number, text) => feeds(alloc, service, number, text),
         Row::Answers(number) => answers(alloc, service, number),
-        Row::Takes(conn, wanted) => is_taken(service.take_output(conn), wanted),
+        Row::Takes(conn, wanted) => is_taken(alloc, service.take_output(conn), wanted),
         Row::Tells(namespace, wanted) => is_told(service.next_notice(namespace), wanted),
         Row::Loads(namespace, wanted) => is_load(service.take_loads(namespace), wanted),
     }

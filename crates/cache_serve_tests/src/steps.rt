@@ -100,7 +100,7 @@ fn is_reply(taken: Result<Replies<RecordedService>, ServiceError>, wanted: Optio
     }
 }
 
-/// Whether a connection is replied so, where that is known; at the second try where memory is refused for the copy.
+/// Whether a connection is replied so, where that is known; on the second attempt if memory is refused for the copy.
 pub fn is_replied<L: Seating, R: Wait>(
     rt: &R,
     shared: &SharedService<L>,
@@ -113,7 +113,7 @@ pub fn is_replied<L: Seating, R: Wait>(
     }
 }
 
-/// What these seats leave, at the second try where memory is refused.
+/// What these seats leave, on the second attempt if memory is refused.
 pub fn finish<L: Seating, C: Stepping>(
     shared: SharedService<L, C>,
     seats: Vec<Seat<L>>,

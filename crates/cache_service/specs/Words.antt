@@ -3,9 +3,11 @@ pub use Rattle.audit_laws.specs.Receipts.Receipts.{AreOf, StandFrom}
 pub use Rattle.cache_run.specs.Runs.{ServesWhole, ServesPartly}
 pub use Rattle.cache_run.specs.Accounts.{AddsNoLoads, pending_of}
 pub use Rattle.cache_spaces.specs.Bares.{BareSpace, bare_tape}
-pub use Rattle.cache_spaces.specs.Calls.{At, InSpace, IsOpened, IsUnknown, RefusedFor, Refuses, RefusesCopy, ServesEvent, Settled, TakesLoads, TakesNotice, TakesOutput}
+pub use Rattle.cache_shared.specs.Untaken.{RefusesCopy}
+pub use Rattle.cache_spaces.specs.Calls.{At, InSpace, IsOpened, IsUnknown, RefusedFor, Refuses, ServesEvent, Settled, TakesLoads, TakesNotice, TakesOutput}
 pub use Rattle.cache_spaces.specs.Inputs.{Performs, RefusedInput}
 pub use Rattle.cache_spaces.specs.Journals.{IsJournalOf, IsSoOfEach, LeadsSo, journals_of, kept_by}
+pub use Rattle.cache_spaces.specs.Lent.{lent_replies}
 pub use Rattle.cache_spaces.specs.Played.{Plays, ArePlayed, WerePlayed, journal_of}
 pub use Rattle.cache_spaces.specs.Recent.{AreSynced, KeepsList}
 pub use Rattle.cache_spaces.specs.Recorded.{GainsRecord, Recorded, TakesNote, TakesReplies, gained_in, records_in, untaken_in, untold_in}

@@ -12,4 +12,6 @@ pub use cache_serve::{Devices, Hosted, Teller, Untold, host, serve, serve_and_te
 pub use cache_shared::{
     Finished, LiveService, Replies, Seat, Seating, SharedService, Stepping, Takings,
 };
-pub use cache_spaces::{AnswerError, Core, Fed, Output, RecordedService, Refusal, Service, play};
+pub use cache_spaces::{
+    AnswerError, Core, Fed, LentReplies, Output, RecordedService, Refusal, Service, copy_note, play,
+};

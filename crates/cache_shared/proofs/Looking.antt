@@ -17,7 +17,8 @@ use Rattle.cache_spaces.proofs.Putting.{at-others}
 use Rattle.cache_spaces.proofs.Reading.{same-conn}
 use Rattle.cache_spaces.proofs.Showing.{in-shown, refuses-shown}
 use Rattle.cache_spaces.specs.Bares.{BareSpace, bare_tape}
-use Rattle.cache_spaces.specs.Calls.{At, InSpace, IsOpened, IsUnknown, Refuses, RefusesCopy, TakesNotice, TakesOutput}
+use Rattle.cache_shared.specs.Untaken.{RefusesCopy}
+use Rattle.cache_spaces.specs.Calls.{At, InSpace, IsOpened, IsUnknown, Refuses, TakesNotice, TakesOutput}
 use Rattle.cache_spaces.specs.Spaces.{notices_of, shown, untaken_output}
 
 module _ {X : Type 0} (of : BareSpace → List X) {F : BareSpace → BareSpace → Type 0} (old new : List BareSpace) (k : ℕ) (a : At old new k F) where

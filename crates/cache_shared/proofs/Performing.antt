@@ -16,7 +16,8 @@ use Rattle.audit_laws.specs.declared.receipts.output.Output.{Output}
 use Rattle.cache_core.proofs.connections.Getting.{found-at, set-same}
 use Rattle.cache_spaces.proofs.Journaling.{journal-at, mapped, were-journals, were-led}
 use Rattle.cache_spaces.proofs.Showing.{at-shown, in-shown, performs-shown, refused-shown, refuses-shown}
-use Rattle.cache_spaces.specs.Calls.{At, InSpace, IsOpened, IsUnknown, Refuses, RefusesCopy, TakesLoads}
+use Rattle.cache_shared.specs.Untaken.{RefusesCopy}
+use Rattle.cache_spaces.specs.Calls.{At, InSpace, IsOpened, IsUnknown, Refuses, TakesLoads}
 use Rattle.cache_spaces.specs.Inputs.{Performs, RefusedInput, namespace_of}
 use Rattle.cache_spaces.specs.Journals.{journals_of, kept_by}
 use Rattle.cache_spaces.specs.Played.{WerePlayed, journal_of}

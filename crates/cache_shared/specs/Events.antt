@@ -1,4 +1,4 @@
--- What inputs do to a service, and where it has come to.
+-- What inputs do to a service, and the state that it has reached.
 use Rattle.std.specs.Prelude.{◌≡◌, ℕ, ◌^◌, ◌-◌, ◌≤◌, ◌==◌, Bool, true, false, List, [], length, Some, is_some, sum_by, ◌⊎◌}
 use Rattle.std.specs.List.{slice_get}
 use Rattle.audit_model.specs.Belongs.{IsAdmitted, refusal_of_outcome}
@@ -19,27 +19,27 @@ use Rattle.cache_spaces.specs.Inputs.{RefusedInput, namespace_of}
 use Rattle.cache_spaces.specs.Journals.{LeadsSo}
 use Rattle.cache_spaces.specs.Spaces.{Shown, Space, config_of, shown_tape}
 
--- how many records the journals have together
+-- how many records the journals have in total
 abbrev pub record_count : List Transcript → ℕ
 record_count journals = sum_by (λ journal. length journal.records) journals
 
--- transcripts that begin at that moment, without records
+-- transcripts that begin at this moment, without records
 abbrev pub AreEmpty : Instant → List Transcript → Type 0
 AreEmpty made transcripts = (namespace : ℕ) (transcript : Transcript) → slice_get transcripts namespace ≡ Some transcript → transcript ≡ record { made = made; records = [] }
 
--- the journal obeys, none of its events is one that is refused, and it leads to a situation for which the namespace stands
+-- the journal obeys, none of its events is refused, and it leads to a situation for which the namespace stands
 pub record IsJournal (space : Shown) (journal : Transcript) : Type 0 where
   pub obeys : Obeys (config_of space) journal
   pub admitted : IsAdmitted (config_of space) journal
   pub leads : LeadsSo space journal
 
--- one journal a namespace, in their order
+-- one journal for each namespace, in their order
 pub record AreJournals (spaces : List Shown) (journals : List Transcript) : Type 0 where
   pub count : length journals ≡ length spaces
   pub each : (namespace : ℕ) (space : Shown) (journal : Transcript)
       → slice_get spaces namespace ≡ Some space → slice_get journals namespace ≡ Some journal → IsJournal space journal
 
--- some journals of so many records lead here
+-- some journals with this many records lead here
 pub record IsReached (spaces : List Shown) (events : ℕ) : Type 0 where
   pub journals : List Transcript
   pub are : AreJournals spaces journals
@@ -49,7 +49,7 @@ pub record IsReached (spaces : List Shown) (events : ℕ) : Type 0 where
 abbrev pub Performs : Input → Output → List Shown → List Shown → Type 0
 Performs i output old new = At old new (namespace_of i) (inputs.Performs shown_tape i output)
 
--- no input was taken: what is seen of the service is as it was
+-- no input was taken: what can be seen of the service is as it was
 abbrev pub TakesNothing : {C : Type 0} → (C → List Shown) → (C → ℕ) → (old new : C) → Type 0
 TakesNothing spaces events old new = (events new ≡ events old) × (spaces new ≡ spaces old)
 
@@ -65,7 +65,7 @@ RefusesEvent i e events spaces = ((e ≡ error.UsedUp) × (events ≡ 2 ^ 64 - 1
 abbrev pub RefusesStep : Input → ServiceError → ℕ → ℕ → List Shown → Type 0
 RefusesStep i e count events spaces = ((e ≡ error.UsedUp) × (count ≡ 2 ^ 64 - 1)) ⊎ ((e ≡ error.OutOfMemory) ⊎ RefusesEvent i e events spaces)
 
--- it comes with a moment of 2 ^ 63 nanoseconds or more
+-- its moment is 2 ^ 63 nanoseconds or more
 abbrev pub IsLate : Input → Type 0
 IsLate (input.Open namespace) = ⊥
 IsLate (input.Close conn) = ⊥
@@ -73,14 +73,14 @@ IsLate (input.Feed conn piece moment) = 2 ^ 63 ≤ moment.nanos
 IsLate (input.Answer load outcome moment) = 2 ^ 63 ≤ moment.nanos
 IsLate (input.GiveUp load moment) = 2 ^ 63 ≤ moment.nanos
 
--- an outcome is refused so, for its bytes or its time
+-- an outcome is refused with this error, for its bytes or its time
 abbrev pub is_of_outcome : ServiceError → Bool
 is_of_outcome error.LineEnd = true
 is_of_outcome error.TooLong = true
 is_of_outcome error.Deadline = true
 is_of_outcome e = false
 
--- some configuration refuses the outcome: it has a line end or too many bytes, or is to live for some time
+-- some configuration refuses the outcome: it has a line end or too many bytes, or has a time to live
 abbrev pub IsUnfit : Outcome → Type 0
 IsUnfit outcome = (config : Config) × (is_some (refusal_of_outcome config outcome) ≡ true)
 
@@ -92,7 +92,7 @@ IsUnfitAnswer (input.Feed conn piece moment) = ⊥
 IsUnfitAnswer (input.Answer load outcome moment) = IsUnfit outcome
 IsUnfitAnswer (input.GiveUp load moment) = ⊥
 
--- an opening comes to a connection of its namespace
+-- the output of an opening is a connection of its namespace
 abbrev pub is_opened : ℕ → Output → Bool
 is_opened namespace (Opened conn) = conn.namespace == namespace
 is_opened namespace came = false
@@ -103,12 +103,12 @@ is_fed All = true
 is_fed Held = true
 is_fed came = false
 
--- a closing, an answer or a give-up comes to nothing else
+-- the output of a closing, an answer or a give-up says nothing more
 abbrev pub is_done : Output → Bool
 is_done Done = true
 is_done came = false
 
--- what an input may come to
+-- which outputs an input may have
 abbrev pub is_output_for : Input → Output → Bool
 is_output_for (input.Open namespace) output = is_opened namespace output
 is_output_for (input.Close conn) output = is_done output

@@ -21,7 +21,7 @@ pub record HasLived (space : BareSpace) (journal : Transcript) : Type 0 where
   pub led : LeadsSo space journal
   pub parted : LeadsBy (config_of space) (part_in space) journal led.last
 
--- some journals of so many records lead here
+-- some journals with this many records lead here
 pub record Lived (spaces : List BareSpace) (events : ℕ) : Type 0 where
   pub journals : List Transcript
   pub count : length journals ≡ length spaces
@@ -29,7 +29,7 @@ pub record Lived (spaces : List BareSpace) (events : ℕ) : Type 0 where
       → slice_get spaces namespace ≡ Some space → slice_get journals namespace ≡ Some journal → HasLived space journal
   pub records : record_count journals ≡ events
 
--- what is seen of the namespace of a number; nothing where there is none
+-- what can be seen of the namespace with a number; nothing if there is none
 abbrev pub seen_in : {X : Type 0} → (BareSpace → List X) → List BareSpace → ℕ → List X
 seen_in of spaces namespace = option_map_or of (slice_get spaces namespace) []
 
@@ -37,6 +37,6 @@ seen_in of spaces namespace = option_map_or of (slice_get spaces namespace) []
 abbrev pub untaken_of : List BareSpace → Conn → List ℕ
 untaken_of spaces conn = seen_in (λ space. untaken_output space conn.number) spaces conn.namespace
 
--- the notes of a namespace that were told and not taken
+-- the notes of a namespace that were reported and not taken
 abbrev pub untold_of : List BareSpace → ℕ → List Note
 untold_of spaces namespace = seen_in notices_of spaces namespace

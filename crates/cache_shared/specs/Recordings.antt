@@ -5,7 +5,7 @@ use Rattle.cache_spaces.specs.Journals.{journals_of, kept_by}
 use Rattle.cache_spaces.specs.Recorded.{Recorded}
 use Rattle.cache_spaces.specs.Spaces.{Shown, shown}
 
--- its namespaces, as they are seen whatever their tapes are
+-- its namespaces, as they look whatever their tapes are
 abbrev pub spaces_in : Recorded → List Shown
 spaces_in recorded = map (shown kept_by) recorded.spaces
 

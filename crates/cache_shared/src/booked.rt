@@ -4,7 +4,8 @@ ghost use Rattle.cache_shared.specs.Events.{IsLastNumber, IsReached, Performs, R
 ghost use Rattle.cache_shared.specs.Looked.{WasOldestNote, HeldAtSomeMoment};
 ghost use Rattle.cache_shared.specs.Seats.{AgreeAll, Counts, GainsReceipt, SameReceipts, receipt_for};
 ghost use Rattle.cache_spaces.specs.Inputs.{namespace_of};
-ghost use Rattle.cache_spaces.specs.Calls.{InSpace, IsUnknown, Refuses, RefusesCopy};
+ghost use Rattle.cache_shared.specs.Untaken.{RefusesCopy};
+ghost use Rattle.cache_spaces.specs.Calls.{InSpace, IsUnknown, Refuses};
 ghost use Rattle.cache_spaces.specs.Spaces.{closing_of, is_waiting_for};
 
 use crate::judging::agree;

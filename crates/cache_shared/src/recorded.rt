@@ -1,7 +1,14 @@
 //! The core that keeps its journals.
+ghost use Rattle.std.specs.Prelude.{◌≡◌, IfErr, IfOk, OnErr};
+ghost use Rattle.std.specs.Option.{option_copied};
+ghost use Rattle.cache_shared.specs.Untaken.{RefusesCopy};
+ghost use Rattle.cache_spaces.specs.Calls.{Refuses};
+ghost use Rattle.cache_spaces.specs.Recorded.{TakesNote, TakesReplies};
+
 use crate::service_core::{Stepping, Takings};
 use audit_model::{Bytes, Closing, Conn, Input, LoadId, Note, ServiceError, Transcript};
-use cache_spaces::{Output, RecordedService, Refusal};
+use cache_spaces::{Output, RecordedService, Refusal, copy_note};
+use std::alloc::{AllocError, Global};
 
 impl Stepping for RecordedService {
     ghost use Rattle.std.specs.Prelude.{true};
@@ -40,7 +47,7 @@ impl Takings for RecordedService {
     ghost untold = { untold_in };
 
     fn take_output(&mut self, conn: Conn) -> Result<Vec<u8>, ServiceError> {
-        RecordedService::take_output(self, conn)
+        take_text(self, conn)
     }
 
     fn take_loads(&mut self, namespace: u64) -> Result<Vec<(LoadId, Bytes)>, ServiceError> {
@@ -48,7 +55,7 @@ impl Takings for RecordedService {
     }
 
     fn next_notice(&mut self, namespace: u64) -> Result<Option<Note>, ServiceError> {
-        RecordedService::next_notice(self, namespace)
+        take_note(self, namespace)
     }
 
     fn closed(&self, conn: Conn) -> Result<Option<Closing>, ServiceError> {
@@ -57,5 +64,53 @@ impl Takings for RecordedService {
 
     fn waiting(&self, conn: Conn) -> Result<bool, ServiceError> {
         self.service().waiting(conn)
+    }
+}
+
+/// Returns a copy of the replies of a connection since they were last taken. They are taken only if there is memory for the copy.
+fn take_text(recorded: &mut RecordedService, conn: Conn) -> Result<Vec<u8>, ServiceError>
+    ensures taken { IfOk result (λ text. TakesReplies recorded.old recorded.new conn text.items) }
+    ensures refused { IfErr result (λ e. Refuses recorded.old.spaces conn.namespace e (λ space. RefusesCopy space conn.number e)) }
+    ensures unchanged { OnErr result (recorded.new ≡ recorded.old) }
+{
+    let replies = match recorded.peek_output(conn) {
+        Ok(replies) => replies,
+        Err(error) => return Err(error),
+    };
+    let Ok(text) = replies.to_vec(*recorded.allocator()) else {
+        return Err(ServiceError::OutOfMemory);
+    };
+    match recorded.take_output(conn) {
+        Ok(_) => Ok(text),
+        Err(error) => Err(error),
+    }
+}
+
+/// Returns a copy of the oldest note of a namespace that was not taken. It is taken only if there is memory for the copy.
+fn take_note(recorded: &mut RecordedService, namespace: u64) -> Result<Option<Note>, ServiceError>
+    ensures taken { IfOk result (TakesNote recorded.old recorded.new namespace) }
+    ensures refused { IfErr result (λ e. Refuses recorded.old.spaces namespace e (λ space. e ≡ ServiceError.OutOfMemory)) }
+    ensures unchanged { OnErr result (recorded.new ≡ recorded.old) }
+{
+    let note = match recorded.peek_notice(namespace) {
+        Ok(note) => note,
+        Err(error) => return Err(error),
+    };
+    let Ok(copy) = copy_if_any(*recorded.allocator(), note) else {
+        return Err(ServiceError::OutOfMemory);
+    };
+    match recorded.next_notice(namespace) {
+        Ok(_) => Ok(copy),
+        Err(error) => Err(error),
+    }
+}
+
+/// Returns a copy of a note, if there is one.
+fn copy_if_any(alloc: Global, note: Option<&Note>) -> Result<Option<Note>, AllocError>
+    ensures { IfOk result (λ copy. copy ≡ option_copied note.entry) }
+{
+    match note {
+        Some(note) => Ok(Some(copy_note(alloc, note)?)),
+        None => Ok(None),
     }
 }

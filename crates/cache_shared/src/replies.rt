@@ -1,8 +1,8 @@
 //! Replies that were taken.
 ghost use Rattle.std.specs.Prelude.{◌≡◌, IfErr, IfOk};
 ghost use Rattle.cache_shared.specs.Looked.{HeldAtSomeMoment};
-ghost use Rattle.cache_shared.specs.Untaken.{WereUntaken};
-ghost use Rattle.cache_spaces.specs.Calls.{Refuses, RefusesCopy};
+ghost use Rattle.cache_shared.specs.Untaken.{RefusesCopy, WereUntaken};
+ghost use Rattle.cache_spaces.specs.Calls.{Refuses};
 
 use crate::service_core::Takings;
 use audit_model::{Conn, ServiceError};

@@ -4,7 +4,8 @@ ghost use Rattle.std.specs.Arc.{arc_value};
 ghost use Rattle.cache_shared.specs.Events.{IsLate, IsReached, IsUnfitAnswer, is_of_outcome};
 ghost use Rattle.cache_shared.specs.Looked.{WasOldestNote, HeldAtSomeMoment, WereMoved};
 ghost use Rattle.cache_shared.specs.Seats.{AgreeAll, Counts, SameReceipts};
-ghost use Rattle.cache_spaces.specs.Calls.{InSpace, IsUnknown, Refuses, RefusesCopy};
+ghost use Rattle.cache_shared.specs.Untaken.{RefusesCopy};
+ghost use Rattle.cache_spaces.specs.Calls.{InSpace, IsUnknown, Refuses};
 ghost use Rattle.cache_spaces.specs.Spaces.{closing_of, is_waiting_for};
 
 use crate::booked::{BookedService, Finished};

@@ -19,7 +19,8 @@ use Rattle.cache_spaces.specs.Inputs.{Performs, namespace_of}
 use Rattle.cache_spaces.specs.Journals.{journals_of, kept_by}
 use Rattle.cache_spaces.specs.Notes.{notes_from}
 use Rattle.cache_spaces.specs.Played.{WerePlayed, journal_of}
-use Rattle.cache_spaces.specs.Recorded.{Cursor, GainsRecord, ReadsJournals, ReadsWithin, Recorded, cursor_in, gained_in, records_in}
+use Rattle.cache_spaces.specs.Cursors.{Cursor, taken_through}
+use Rattle.cache_spaces.specs.Recorded.{GainsRecord, ReadsJournals, ReadsWithin, Recorded, cursor_in, gained_in, records_in}
 use Rattle.cache_spaces.specs.Replies.{records_at, replies_for, reply_for}
 use Rattle.cache_spaces.specs.Spaces.{Space}
 use Rattle.cache_spaces.proofs.Journaling.{were-at}
@@ -85,7 +86,7 @@ gains n old new cursors adds reads = record {
   journals = λ k. behind k;
   replies = λ conn.
       let k = conn.namespace in
-      let from = get_or (cursor_in was k).replies conn.number 0 in
+      let from = taken_through (cursor_in was k) conn.number in
       ap (λ rs. replies_for conn.number (drop from rs)) (behind k) ∙ ap (replies_for conn.number) (drop-append-le from (records_in was k) (gained_in was is k) ((reads k).replies conn.number))
       ∙ flat_map-append (λ (entry : Record). flat_map (reply_for conn.number) entry.steps) (drop from (records_in was k)) (gained_in was is k);
   notes = λ k. ap (λ rs. notes_from rs (cursor_in was k).notes) (behind k) ∙ notes-added (records_in was k) (gained_in was is k) (cursor_in was k).notes (reads k).notes;

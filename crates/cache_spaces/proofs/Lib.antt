@@ -9,5 +9,6 @@ pub mod Newly
 pub mod Showing
 mod Noting
 pub mod Reading
+mod Opening
 mod Taking
 mod Gaining

@@ -1,20 +1,23 @@
 -- How far journals were read.
-use Rattle.std.proofs.Common.{◌≡◌, ◌≢◌, ℕ, zero, suc, ◌+◌, ◌<◌, ◌≤◌, List, [], ◌∷◌, ◌++◌, length, get_or, drop, map, slice_set, Option, Some, Vec, Global, refl, sym, ap, ◌∙◌, subst, inl, inr, arith}
-use Rattle.std.specs.Prelude.{◌⊎◌, IsNone, Result, Ok, Err, OnErr, OnOk}
+use Rattle.std.proofs.Common.{◌≡◌, ◌≢◌, ℕ, zero, suc, ◌+◌, ◌<◌, ◌≤◌, List, [], ◌∷◌, ◌++◌, length, get_or, drop, map, slice_set, Option, Some, true, false, Vec, Global, refl, sym, ap, ◌∙◌, subst, inl, inr, arith}
+use Rattle.std.specs.Prelude.{◌⊎◌, IsNone}
 use Rattle.std.specs.List.{slice_get}
 use Rattle.std.specs.Option.{option_map_or, option_to_list}
 use Rattle.std.proofs.Math.ListN.{drop_of_length-le}
 use Rattle.std.proofs.Math.Seq.{map-set_same}
 use Rattle.std.proofs.lemmas.Bool.{cases_eq}
-use Rattle.std.proofs.lemmas.List.{get_or-map, get_or-set_other, get_or-set_same, length-map, map-set}
+use Rattle.std.proofs.lemmas.List.{get_or-map, get_or-set_other, get_or-set_same, length-append, length-map, map-set}
 use Rattle.std.proofs.lemmas.Option.{none-some}
 use Rattle.audit_model.specs.declared.input.Conn.{Conn}
 use Rattle.audit_model.specs.declared.transcript.Note.{Note}
 use Rattle.audit_model.specs.declared.transcript.Transcript.{Transcript}
+use Rattle.cache_core.proofs.connections.Getting.{front-or-end}
+use Rattle.cache_core.specs.State.{at_number}
 use Rattle.cache_spaces.specs.Calls.{InSpace, IsOpened}
+use Rattle.cache_spaces.specs.Cursors.{Cursor, cursor_at_start, cursor_of, taken_through}
 use Rattle.cache_spaces.specs.Journals.{journals_of}
 use Rattle.cache_spaces.specs.Notes.{IsPlaceIn, TakesFrom, notes_before, notes_from}
-use Rattle.cache_spaces.specs.Recorded.{AreAtStart, Cursor, ReadsJournals, ReadsWithin, Recorded, TakesNote, TakesReplies, cursor_at_start, cursor_in, cursor_of, records_in, recorded_of, untaken_in}
+use Rattle.cache_spaces.specs.Recorded.{AreAtStart, IsUnread, ReadsJournals, ReadsWithin, Recorded, TakesNote, TakesReplies, cursor_in, records_in, recorded_of, untaken_in, untold_in}
 use Rattle.cache_spaces.specs.Replies.{replies_for}
 use Rattle.cache_spaces.specs.Spaces.{Space}
 use Rattle.cache_spaces.specs.declared.cursors.Cursors.{Cursors}
@@ -29,7 +32,7 @@ same-conn a b e f =
     first ∙ second
 
 module _ (spaces : List (Space Taped)) (read : List Cursors) (namespace : ℕ) (here is : Cursors) (lt : namespace < length read) (at : here ≡ get_or read namespace here) where
-  was-there : cursor_in (recorded_of spaces read) namespace ≡ cursor_of here
+  pub was-there : cursor_in (recorded_of spaces read) namespace ≡ cursor_of here
   was-there = get_or-map cursor_of read namespace here cursor_at_start lt ∙ ap cursor_of (sym at)
 
   is-there : cursor_in (recorded_of spaces (slice_set read namespace is)) namespace ≡ cursor_of is
@@ -43,7 +46,7 @@ module _ (spaces : List (Space Taped)) (read : List Cursors) (namespace : ℕ) (
       ∙ get_or-set_other (map cursor_of read) namespace other (cursor_of is) cursor_at_start ne
 
   -- so it is of what is seen of a namespace's cursor, where that is the same of the one that was put in the place of another
-  same-seen : {X : Type 0} (f : Cursor → X) → f (cursor_of is) ≡ f (cursor_of here)
+  pub same-seen : {X : Type 0} (f : Cursor → X) → f (cursor_of is) ≡ f (cursor_of here)
       → (other : ℕ) → f (cursor_in (recorded_of spaces (slice_set read namespace is)) other) ≡ f (cursor_in (recorded_of spaces read) other)
   same-seen {X} f e other = go (cases_eq other namespace)
     where
@@ -63,23 +66,25 @@ module _ (spaces : List (Space Taped)) (read : List Cursors) (namespace : ℕ) (
     records-are : records_in was namespace ≡ journal.records
     records-are = ap (λ o. option_map_or (λ (j : Transcript). j.records) o []) stands
 
+    -- the notes that were not taken
+    pub untold-is : untold_in was namespace ≡ notes_from journal.records here.notes
+    untold-is = ap (λ rs. notes_from rs (cursor_in was namespace).notes) records-are ∙ ap (λ (c : Cursor). notes_from journal.records c.notes) was-there
+
     -- what a taking of replies leaves
-    pub takes-replies : (number : ℕ) (text : List ℕ)
+    pub takes-replies : (number : ℕ)
         → InSpace spaces namespace (λ space. IsOpened space number)
-        → text ≡ replies_for number (drop (get_or here.replies.items number 0) journal.records)
-        → get_or is.replies.items number 0 ≡ length journal.records
-        → ((other : ℕ) → other ≢ number → get_or is.replies.items other 0 ≡ get_or here.replies.items other 0)
+        → taken_through (cursor_of is) number ≡ length journal.records
+        → ((other : ℕ) → other ≢ number → taken_through (cursor_of is) other ≡ taken_through (cursor_of here) other)
         → is.notes ≡ here.notes
-        → TakesReplies was now (record { namespace = namespace; number = number }) text
-    takes-replies number text opened text-is cursor others notes = record {
+        → TakesReplies was now (record { namespace = namespace; number = number }) (untaken_in was (record { namespace = namespace; number = number }))
+    takes-replies number opened cursor others notes = record {
       known = opened;
-      text_is = text-is ∙ ap (λ c. replies_for number (drop (get_or c.replies number 0) journal.records)) (sym was-there)
-          ∙ ap (λ rs. replies_for number (drop (get_or (cursor_in was namespace).replies number 0) rs)) (sym records-are);
-      none = ap (λ rs. replies_for number (drop (get_or (cursor_in now namespace).replies number 0) rs)) records-are
-          ∙ ap (λ c. replies_for number (drop (get_or c.replies number 0) journal.records)) is-there
+      text_is = refl;
+      none = ap (λ rs. replies_for number (drop (taken_through (cursor_in now namespace) number) rs)) records-are
+          ∙ ap (λ (c : Cursor). replies_for number (drop (taken_through c number) journal.records)) is-there
           ∙ ap (λ n. replies_for number (drop n journal.records)) cursor
           ∙ ap (replies_for number) (drop_of_length-le journal.records (omega arith));
-      reached = ap (λ (c : Cursor). get_or c.replies number 0) is-there ∙ cursor ∙ ap length (sym records-are);
+      reached = ap (λ (c : Cursor). taken_through c number) is-there ∙ cursor ∙ ap length (sym records-are);
       others = λ other ne. other-replies other ne (cases_eq other.namespace namespace);
       notes = λ n. let e = same-seen (λ c. c.notes) notes n in (ap (notes_before (records_in was n)) e, ap (notes_from (records_in was n)) e);
       spaces = refl;
@@ -88,16 +93,16 @@ module _ (spaces : List (Space Taped)) (read : List Cursors) (namespace : ℕ) (
         other-replies : (other : Conn) → other ≢ record { namespace = namespace; number = number } → (other.namespace ≡ namespace) ⊎ (other.namespace ≢ namespace)
             → untaken_in now other ≡ untaken_in was other
         other-replies other ne (inr elsewhere) =
-            ap (λ c. replies_for other.number (drop (get_or c.replies other.number 0) (records_in was other.namespace))) (is-elsewhere other.namespace elsewhere)
+            ap (λ (c : Cursor). replies_for other.number (drop (taken_through c other.number) (records_in was other.namespace))) (is-elsewhere other.namespace elsewhere)
         other-replies other ne (inl same) =
             let numbers = others other.number (λ e. ne (same-conn other (record { namespace = namespace; number = number }) same e)) in
             ap (λ k. replies_for other.number (drop k (records_in was other.namespace)))
-            (ap (λ n. get_or (cursor_in now n).replies other.number 0) same ∙ ap (λ c. get_or c.replies other.number 0) is-there ∙ numbers
-            ∙ sym (ap (λ c. get_or c.replies other.number 0) was-there) ∙ sym (ap (λ n. get_or (cursor_in was n).replies other.number 0) same))
+            (ap (λ n. taken_through (cursor_in now n) other.number) same ∙ ap (λ (c : Cursor). taken_through c other.number) is-there ∙ numbers
+            ∙ sym (ap (λ (c : Cursor). taken_through c other.number) was-there) ∙ sym (ap (λ n. taken_through (cursor_in was n) other.number) same))
 
     -- what a taking of a note leaves
     pub takes-note : (note : Option Note) → TakesFrom journal.records here.notes is.notes note → (IsNone note → notes_from journal.records here.notes ≡ [])
-        → IsPlaceIn journal.records is.notes → is.replies.items ≡ here.replies.items → TakesNote was now namespace note
+        → IsPlaceIn journal.records is.notes → is.replies ≡ here.replies → TakesNote was now namespace note
     takes-note note takes none place replies =
         let before : (r : Cursors) (c : Cursor) → c ≡ cursor_of r → notes_before (records_in was namespace) c.notes ≡ notes_before journal.records r.notes =
         λ r c e. ap (λ rs. notes_before rs c.notes) records-are ∙ ap (λ (d : Cursor). notes_before journal.records d.notes) e in
@@ -111,7 +116,9 @@ module _ (spaces : List (Space Taped)) (read : List Cursors) (namespace : ℕ) (
           place = subst (λ rs. IsPlaceIn rs (cursor_in now namespace).notes) (sym records-are) (subst (λ (c : Cursor). IsPlaceIn journal.records c.notes) (sym is-there) place);
           all = all-notes (records_in now namespace) (cursor_in now namespace).notes;
           others = λ other ne. let e = is-elsewhere other ne in (ap (λ (c : Cursor). notes_before (records_in was other) c.notes) e, ap (λ (c : Cursor). notes_from (records_in was other) c.notes) e);
-          replies = λ conn. ap (λ l. replies_for conn.number (drop (get_or l conn.number 0) (records_in was conn.namespace))) (same-seen (λ c. c.replies) replies conn.namespace);
+          replies = λ conn.
+              let same = same-seen (λ c. taken_through c conn.number) (ap (λ (v : Vec ℕ Global). at_number 0 v.items conn.number) replies) conn.namespace in
+              ap (λ k. replies_for conn.number (drop k (records_in was conn.namespace))) same;
           spaces = refl;
         }
 
@@ -128,39 +135,30 @@ module _ (spaces : List (Space Taped)) (read : List Cursors) (namespace : ℕ) (
             (subst (λ rs. ReadsWithin rs (cursor_in now namespace)) (sym records-are) (subst (ReadsWithin journal.records) (sym is-there) within))
         go (inr ne) = subst (ReadsWithin (records_in was other)) (sym (is-elsewhere other ne)) (reads other)
 
-    -- after a taking of replies, or one that was refused
-    pub replies-read : (number : ℕ) {A E : Type 0} (r : Result A E) → OnOk r (get_or is.replies.items number 0 ≡ length journal.records)
-        → ((other : ℕ) → other ≢ number → get_or is.replies.items other 0 ≡ get_or here.replies.items other 0)
-        → is.notes ≡ here.notes → OnErr r (is.replies.items ≡ here.replies.items) → ReadsJournals was → ReadsJournals now
-    replies-read number r cursor others notes same reads = reads-now reads (record {
-      replies = λ other. go r cursor same other (cases_eq other number);
+    -- after a taking of replies
+    pub replies-read : (number : ℕ) → taken_through (cursor_of is) number ≡ length journal.records
+        → ((other : ℕ) → other ≢ number → taken_through (cursor_of is) other ≡ taken_through (cursor_of here) other)
+        → is.notes ≡ here.notes → ReadsJournals was → ReadsJournals now
+    replies-read number cursor others notes reads = reads-now reads (record {
+      replies = λ other. go other (cases_eq other number);
       notes = subst (IsPlaceIn journal.records) (sym notes) before.notes;
     })
       where
         before : ReadsWithin journal.records (cursor_of here)
         before = reads-here reads
 
-        go : {A E : Type 0} (r : Result A E) → OnOk r (get_or is.replies.items number 0 ≡ length journal.records) → OnErr r (is.replies.items ≡ here.replies.items)
-            → (other : ℕ) → (other ≡ number) ⊎ (other ≢ number) → get_or is.replies.items other 0 ≤ length journal.records
-        go (Ok a) cursor same other (inl e) = let at : get_or is.replies.items other 0 ≡ length journal.records = ap (λ n. get_or is.replies.items n 0) e ∙ cursor in omega (arith, at)
-        go (Err e) cursor same other (inl at) = subst (λ l. get_or l other 0 ≤ length journal.records) (sym same) (before.replies other)
-        go r cursor same other (inr ne) = subst (λ n. n ≤ length journal.records) (sym (others other ne)) (before.replies other)
+        go : (other : ℕ) → (other ≡ number) ⊎ (other ≢ number) → taken_through (cursor_of is) other ≤ length journal.records
+        go other (inl e) = let at : taken_through (cursor_of is) other ≡ length journal.records = ap (taken_through (cursor_of is)) e ∙ cursor in omega (arith, at)
+        go other (inr ne) = subst (λ n. n ≤ length journal.records) (sym (others other ne)) (before.replies other)
 
-    -- after a taking of a note, or one that was refused
-    pub notes-read : {A E : Type 0} (r : Result A E) → OnOk r (IsPlaceIn journal.records is.notes) → is.replies ≡ here.replies → OnErr r (is ≡ here) → ReadsJournals was → ReadsJournals now
-    notes-read r place replies same reads = reads-now reads (record {
-      replies = λ other. subst (λ (v : Vec ℕ Global). get_or v.items other 0 ≤ length journal.records) (sym replies) (before.replies other);
-      notes = go r place same;
+    -- after a taking of a note
+    pub notes-read : IsPlaceIn journal.records is.notes → is.replies ≡ here.replies → ReadsJournals was → ReadsJournals now
+    notes-read place replies reads = reads-now reads (record {
+      replies = λ other. subst (λ (v : Vec ℕ Global). at_number 0 v.items other ≤ length journal.records) (sym replies) ((reads-here reads).replies other);
+      notes = place;
     })
-      where
-        before : ReadsWithin journal.records (cursor_of here)
-        before = reads-here reads
 
-        go : {A E : Type 0} (r : Result A E) → OnOk r (IsPlaceIn journal.records is.notes) → OnErr r (is ≡ here) → IsPlaceIn journal.records is.notes
-        go (Ok a) place same = place
-        go (Err e) place same = subst (λ (c : Cursors). IsPlaceIn journal.records c.notes) (sym same) before.notes
-
--- ---- a taking that is refused
+-- ---- a call that is refused
 
 cursor-same : (a b : Cursors) → a.replies.items ≡ b.replies.items → a.notes ≡ b.notes → cursor_of a ≡ cursor_of b
 cursor-same a b e f =
@@ -172,6 +170,18 @@ cursor-same a b e f =
 pub same-read : (spaces : List (Space Taped)) (read : List Cursors) (k : ℕ) (here is : Cursors) → here ≡ get_or read k here → is.replies.items ≡ here.replies.items → is.notes ≡ here.notes
     → recorded_of spaces (slice_set read k is) ≡ recorded_of spaces read
 same-read spaces read k here is at replies notes = ap (λ cs. record { spaces = spaces; cursors = cs }) (map-set_same cursor_of read k is here (cursor-same is here replies notes ∙ ap cursor_of at))
+
+-- a list's first, and what is behind it
+pub first-behind : {X : Type 0} (xs rest : List X) (x : X) → xs ≡ x ∷ rest → xs ≡ option_to_list (slice_get xs 0) ++ rest
+first-behind xs rest x e = e ∙ ap (λ l. option_to_list (slice_get l 0) ++ rest) (sym e)
+
+pub none-behind : {X : Type 0} (xs rest : List X) → xs ≡ [] → rest ≡ [] → xs ≡ option_to_list (slice_get xs 0) ++ rest
+none-behind xs rest e f = e ∙ sym f ∙ ap (λ l. option_to_list (slice_get l 0) ++ rest) (sym e)
+
+-- a list whose first is not there
+pub first-none : {X : Type 0} (xs : List X) → IsNone (slice_get xs 0) → xs ≡ []
+first-none [] none = refl
+first-none (x ∷ xs) none = absurd (let h : true ≡ false = none in cc)
 
 -- where there is a journal it was read from somewhere
 pub read-there : (spaces : List (Space Taped)) (read : List Cursors) (k : ℕ) (journal : Transcript) → slice_get (journals_of spaces) k ≡ Some journal → length read ≡ length spaces → k < length read
@@ -186,42 +196,39 @@ read-there spaces read k journal at count = subst (λ n. k < n) (sym count) (go 
 
 -- no namespace
 pub start-none : AreAtStart [] 0
-start-none = record { counted = refl; each = λ n. none n }
-  where
-    none : (n : ℕ) → get_or (map cursor_of []) n cursor_at_start ≡ cursor_at_start
-    none zero = refl
-    none (suc n) = refl
+start-none = record { counted = refl; none = λ n c at. absurd (none-some c at) }
 
-pub fresh-cursor : (c : Cursors) → c.replies.items ≡ [] → c.notes ≡ record { entry = 0; list = 0; note = 0 } → cursor_of c ≡ cursor_at_start
+-- one namespace more of which nothing was read
+pub start-more : (read : List Cursors) (fresh : Cursors) (count : ℕ) → AreAtStart read count → fresh.replies.items ≡ [] → fresh.notes ≡ record { entry = 0; list = 0; note = 0 } → AreAtStart (read ++ fresh ∷ []) (count + 1)
+start-more read fresh count s replies notes = record {
+  counted = let l = length-append read (fresh ∷ []) in let c = s.counted in omega (arith, l, c);
+  none = λ n c at. elim (front-or-end read fresh n c at) [ inl before ↦ s.none n c before | inr last ↦ (ap (λ (d : Cursors). d.replies.items) last.1 ∙ replies, ap (λ (d : Cursors). d.notes) last.1 ∙ notes) ];
+}
+
+-- a cursor at the start
+fresh-cursor : (c : Cursors) → c.replies.items ≡ [] → c.notes ≡ record { entry = 0; list = 0; note = 0 } → cursor_of c ≡ cursor_at_start
 fresh-cursor c e f =
     let first : cursor_of c ≡ record { replies = []; notes = c.notes } = ap (λ l. record { replies = l; notes = c.notes }) e in
     let second : record { replies = []; notes = c.notes } ≡ cursor_at_start = ap (λ n. record { replies = []; notes = n }) f in
     first ∙ second
 
--- one namespace more of which nothing was read
-pub start-more : (read : List Cursors) (fresh : Cursors) (count : ℕ) → AreAtStart read count → cursor_of fresh ≡ cursor_at_start → AreAtStart (read ++ fresh ∷ []) (count + 1)
-start-more read fresh count s e = record {
-  counted = let l = counted-more read in let c = s.counted in omega (arith, l, c);
-  each = λ n. at-start read n (s.each n);
-}
+-- nothing was read
+pub start-unread : (spaces : List (Space Taped)) (read : List Cursors) (count : ℕ) → AreAtStart read count → IsUnread (recorded_of spaces read)
+start-unread spaces read count s n = go read n s.none
   where
-    counted-more : (rs : List Cursors) → length (rs ++ fresh ∷ []) ≡ length rs + 1
-    counted-more [] = refl
-    counted-more (r ∷ rs) = let e = counted-more rs in omega (arith, e)
-
-    at-start : (rs : List Cursors) (n : ℕ) → get_or (map cursor_of rs) n cursor_at_start ≡ cursor_at_start → get_or (map cursor_of (rs ++ fresh ∷ [])) n cursor_at_start ≡ cursor_at_start
-    at-start [] zero h = e
-    at-start [] (suc n) h = refl
-    at-start (r ∷ rs) zero h = h
-    at-start (r ∷ rs) (suc n) h = at-start rs n h
+    go : (rs : List Cursors) (n : ℕ) → ((k : ℕ) (c : Cursors) → slice_get rs k ≡ Some c → (c.replies.items ≡ []) × (c.notes ≡ record { entry = 0; list = 0; note = 0 })) → get_or (map cursor_of rs) n cursor_at_start ≡ cursor_at_start
+    go [] zero none = refl
+    go [] (suc n) none = refl
+    go (r ∷ rs) zero none = let e = none zero r refl in fresh-cursor r e.0 e.1
+    go (r ∷ rs) (suc n) none = go rs n (λ k c at. none (suc k) c at)
 
 -- what was not read stands in the journals
 pub start-reads : (spaces : List (Space Taped)) (read : List Cursors) (count : ℕ) → AreAtStart read count → ReadsJournals (recorded_of spaces read)
-start-reads spaces read count s n = subst (ReadsWithin (records_in (recorded_of spaces read) n)) (sym (s.each n)) (record {
+start-reads spaces read count s n = subst (ReadsWithin (records_in (recorded_of spaces read) n)) (sym (start-unread spaces read count s n)) (record {
   replies = λ number. none number;
   notes = record { within = omega arith; behind = λ over. (refl, refl) };
 })
   where
-    none : (number : ℕ) → get_or [] number 0 ≤ length (records_in (recorded_of spaces read) n)
+    none : (number : ℕ) → at_number 0 [] number ≤ length (records_in (recorded_of spaces read) n)
     none zero = omega arith
     none (suc number) = omega arith

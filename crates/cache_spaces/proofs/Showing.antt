@@ -55,7 +55,14 @@ module _ {T : Type 0} (tape : T → Option Taped) where
             ordered = t.ordered;
           };
         };
-    stays = record { config = p.stays.config; part_of = p.stays.part_of; made = p.stays.made; namespace = p.stays.namespace; taken = p.stays.taken };
+    stays = record {
+      config = p.stays.config;
+      part_of = p.stays.part_of;
+      made = p.stays.made;
+      namespace = p.stays.namespace;
+      taken = p.stays.taken;
+      sends = record { loads = p.stays.sends.loads; behind = p.stays.sends.behind; in_turn = p.stays.sends.in_turn; count = p.stays.sends.count; keys = p.stays.sends.keys };
+    };
   }
 
   pub refused-shown : (i : Input) (e : ServiceError) (was : Space T) → RefusedInput i e was → RefusedInput i e (shown tape was)

@@ -1,4 +1,4 @@
--- What calls of a service do to its namespaces.
+-- What the calls of a service do to its namespaces.
 use Rattle.std.specs.Prelude.{◌≡◌, ℕ, ◌+◌, ◌-◌, ◌≤◌, Bool, true, false, List, [], length, Option, Some, IsTrue, slice_set, ◌⊎◌}
 use Rattle.std.specs.List.{slice_get}
 use Rattle.audit_model.specs.Situation.{is_holding_in}
@@ -21,7 +21,7 @@ use Rattle.cache_lines.specs.Tape.Taped.{Taped}
 -- ---- which namespace
 
 module _ {X : Type 0} where
-  -- the one of that number was put in the place of another, and that is true of the two; no other was touched
+  -- the namespace with this number was replaced by another, and this is true of the two; no other was touched
   pub record At (old new : List X) (namespace : ℕ) (Fact : X → X → Type 0) : Type 0 where
     pub was : X
     pub is : X
@@ -29,11 +29,11 @@ module _ {X : Type 0} where
     pub set : new ≡ slice_set old namespace is
     pub fact : Fact was is
 
-  -- the one of that number is this
+  -- this is the namespace with this number
   abbrev pub IsSpace : List X → ℕ → X → Type 0
   IsSpace spaces namespace space = slice_get spaces namespace ≡ Some space
 
-  -- that is true of the one of that number
+  -- this is true of the namespace with this number
   pub record InSpace (spaces : List X) (namespace : ℕ) (Fact : X → Type 0) : Type 0 where
     pub space : X
     pub at : slice_get spaces namespace ≡ Some space
@@ -46,17 +46,17 @@ module _ {X : Type 0} where
 -- ---- events
 
 module _ {T : Type 0} (tape : T → Option Taped) where
-  -- Each situation that the namespace stood for goes on by a record of the event, whose last step is held back, or is not. Where its tape keeps
-  -- records it stands on it; else its replies and notes stand behind those that were not taken. Each connection is closed for the reason that
-  -- the record gives.
+  -- Each situation that the namespace stood for is continued by a record of the event, whose last step is held back or not. If its tape
+  -- keeps records, the record is on it; otherwise its replies and notes are appended to those that were not taken. Each connection is
+  -- closed for the reason that the record gives.
   abbrev pub ServesEvent : Space T → Space T → Event → (is_held : Bool) → Type 0
   ServesEvent was is happened is_held = Turns shown_of tape was is happened is_held
 
-  -- A connection was opened, whose number is the next one of the namespace, from 1 on.
+  -- A connection was opened, with the next number of the namespace, from 1 on.
   abbrev pub OpensNext : Space T → Space T → ℕ → Type 0
   OpensNext was is number = ServesEvent was is (event.Open number) false × (number ≡ length was.closings + 1)
 
-  -- the same of an answer or a give-up, by which several connections may have steps
+  -- the same for an answer or a give-up, by which several connections may have steps
   abbrev pub Settled : Space T → Space T → Event → Type 0
   Settled was is happened = Happens shown_of tape was is happened
 
@@ -65,24 +65,20 @@ module _ {T : Type 0} where
   abbrev pub is_held_in : Space T → ℕ → Bool
   is_held_in space number = is_holding_in (situation_with shown_of space []) number
 
-  -- the definition refuses the event with that, or else memory was wanted: with `HeldAgain` only where a command is held back
+  -- the definition refuses the event with this error, or else memory was lacking: with `HeldAgain` only if a command is held back
   abbrev pub RefusedFor : Space T → Event → (held : Bool) → ServiceError → Type 0
   RefusedFor was happened held e = RefusesBy shown_of was happened held e
 
-  -- ---- takings and looks
+  -- ---- taking and looking
 
   -- the connection was opened
   abbrev pub IsOpened : Space T → ℕ → Type 0
   IsOpened space number = was_opened space number ≡ true
 
-  -- it never was
+  -- it was never opened
   pub record IsUnknown (space : Space T) (number : ℕ) (e : ServiceError) : Type 0 where
     pub unknown : was_opened space number ≡ false
     pub error : e ≡ error.NoConnection
-
-  -- it never was; or it was, and there is no memory for a copy
-  abbrev pub RefusesCopy : Space T → ℕ → ServiceError → Type 0
-  RefusesCopy space number e = IsUnknown space number e ⊎ (IsOpened space number × (e ≡ error.OutOfMemory))
 
   -- the replies of a connection that was opened are moved out, and nothing else changes
   pub record TakesOutput (was is : Space T) (number : ℕ) (text : List ℕ) : Type 0 where
@@ -90,14 +86,14 @@ module _ {T : Type 0} where
     pub taken : text ≡ untaken_output was number
     pub rest : is ≡ record was { outputs = slice_set was.outputs (number - 1) [] }
 
-  -- the oldest note is taken, if there is one, and nothing else that is seen changes
+  -- the oldest note is taken, if there is one, and nothing else that can be seen changes
   pub record TakesNotice (was is : Space T) (note : Option Note) : Type 0 where
     pub taken : TakesFirstNote (notices_of was) (notices_of is) note
     pub gives : GivesNote (shown_of was.store) (shown_of is.store)
     pub rest : is ≡ record was { store = is.store }
 
-  -- The loads that went out are moved out, and nothing else changes: they are the namespace's loads in turn, behind those that were taken
-  -- before, and each that is under way comes with its key.
+  -- The loads that were sent and not taken are moved out, and nothing else changes: they are the namespace's loads in order, after those
+  -- that were taken before, and each that is under way comes with its key.
   pub record TakesLoads (was is : Space T) (loads : List (LoadId × List ℕ)) : Type 0 where
     pub taken : loads ≡ outgoing_of was
     pub rest : is ≡ record was { outgoing = [] }

@@ -24,26 +24,26 @@ namespace_of (input.Answer load outcome moment) = load.namespace
 namespace_of (input.GiveUp load moment) = load.namespace
 
 module _ {T : Type 0} where
-  -- a command is held back of the connection to which the input feeds
+  -- a command is held back on the connection that the input feeds
   abbrev pub is_held_for : Space T → Input → Bool
   is_held_for was (input.Feed conn piece moment) = is_held_in was conn.number
   is_held_for was i = false
 
-  -- the input's event is refused so
+  -- the input's event is refused with this error
   pub record RefusedInput (i : Input) (e : ServiceError) (was : Space T) : Type 0 where
     pub happened : Event
     pub event : event_in (namespace_of i) (length was.closings) i ≡ Some happened
     pub refused : RefusedFor was happened (is_held_for was i) e
 
 module _ {T : Type 0} (tape : T → Option Taped) where
-  -- from that situation the input's event happened, by a record that came to that output
+  -- from this situation the input's event happened, by a record with this output
   pub record PerformsFrom (i : Input) (output : Output) (was is : Space T) (s : Situation) : Type 0 where
     pub entry : Record
     pub event : event_in (namespace_of i) (length was.closings) i ≡ Some entry.event
     pub answers : output ≡ output_of (namespace_of i) entry
     pub turned : Turned shown_of tape was is s entry
 
-  -- so it is from each situation that the namespace stood for
+  -- this is so from each situation that the namespace stood for
   pub record Performs (i : Input) (output : Output) (was is : Space T) : Type 0 where
     pub from : (s : Situation) → StandsFor was s → PerformsFrom i output was is s
     pub stays : Stays shown_of was is

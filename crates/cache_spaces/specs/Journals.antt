@@ -27,13 +27,13 @@ pub record LeadsSo {T : Type 0} (space : Space T) (journal : Transcript) : Type 
   pub stands : StandsFor space last
   pub leads : LeadsTo (config_of space) journal last
 
--- so of each namespace and its journal
+-- this is so for each namespace and its journal
 abbrev pub IsSoOfEach : (Space Taped → Transcript → Type 0) → List (Space Taped) → Type 0
 IsSoOfEach Fact spaces = (namespace : ℕ) (space : Space Taped) → slice_get spaces namespace ≡ Some space → Fact space (journal_of space)
 
--- The journal obeys, with no event that is refused, and leads to where the namespace stands. Each of its `SYNC`s left timely values, and after
--- each event each part was within its bound. Under a plain LRU policy each `SYNC` behind one command left exactly the keys of the recency
--- list, and where its steps are commands of such a list, each followed at once by a `SYNC`, the keys of that list are held.
+-- The journal obeys, has no refused event, and leads to where the namespace stands. Each of its `SYNC`s left timely values, and after each
+-- event each part was within its bound. Under a plain LRU policy each `SYNC` right after a command left exactly the keys of the recency
+-- list, and if its steps are commands of such a list, each followed at once by a `SYNC`, the keys of that list are held.
 pub record IsJournalOf (space : Space Taped) (journal : Transcript) : Type 0 where
   pub obeys : Obeys (config_of space) journal
   pub admitted : IsAdmitted (config_of space) journal

@@ -12,4 +12,6 @@ pub mod Played
 pub mod Journals
 pub mod Notes
 pub mod Replies
+pub mod Lent
+pub mod Cursors
 pub mod Recorded

@@ -1,4 +1,4 @@
--- The notes that records hold, and those that were not taken.
+-- The notes that records contain, and those that were not taken.
 use Rattle.std.specs.Prelude.{◌≡◌, ℕ, ◌+◌, ◌≤◌, Option, List, [], ◌∷◌, ◌++◌, length, map, get_or, take, drop}
 use Rattle.std.specs.List.{flat_map, slice_get}
 use Rattle.std.specs.Option.{option_map_or, option_to_list}
@@ -6,11 +6,11 @@ use Rattle.audit_model.specs.declared.transcript.Note.{Note}
 use Rattle.audit_model.specs.declared.transcript.Record.{Record}
 use Rattle.cache_spaces.specs.declared.told.Told.{Told}
 
--- lists, one behind the other
+-- lists, concatenated
 abbrev pub lists_joined : {X : Type 0} → List (List X) → List X
 lists_joined lists = flat_map (λ list. list) lists
 
--- the lists of notes in a record: that of an answer's value, and each step's
+-- the lists of notes in a record: that of an answer's value, and that of each step
 abbrev pub lists_of : Record → List (List Note)
 lists_of entry = entry.notices ∷ map (λ step. step.notices) entry.steps
 
@@ -19,11 +19,11 @@ abbrev pub notes_of_records : List Record → List Note
 notes_of_records records = flat_map (λ entry. lists_joined (lists_of entry)) records
 
 module _ {X : Type 0} where
-  -- what stands in lists before a place in one of them
+  -- what is in lists before a place in one of them
   abbrev pub before_in : List (List X) → ℕ → ℕ → List X
   before_in lists list place = lists_joined (take list lists) ++ take place (get_or lists list [])
 
-  -- what stands in lists from a place in one of them on
+  -- what is in lists from a place in one of them on
   abbrev pub rest_in : List (List X) → ℕ → ℕ → List X
   rest_in lists list place = drop place (get_or lists list []) ++ lists_joined (drop (list + 1) lists)
 
@@ -39,7 +39,7 @@ notes_before records told = notes_of_records (take told.entry records) ++ before
 abbrev pub notes_from : List Record → Told → List Note
 notes_from records told = rest_in (lists_at records told.entry) told.list told.note ++ notes_of_records (drop (told.entry + 1) records)
 
--- a place stands in the records, or right behind them: the notes of each record that is added stand behind it
+-- a place is in the records, or right after them: the notes of each record that is added come after it
 pub record IsPlaceIn (records : List Record) (told : Told) : Type 0 where
   pub within : told.entry ≤ length records
   pub behind : length records ≤ told.entry → (told.list ≡ 0) × (told.note ≡ 0)

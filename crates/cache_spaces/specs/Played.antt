@@ -1,4 +1,4 @@
--- What is played.
+-- What `play` returns.
 use Rattle.std.specs.Prelude.{◌≡◌, ℕ, suc, List, [], length, Some, IsTrue}
 use Rattle.std.specs.List.{slice_get}
 use Rattle.audit_laws.specs.Leading.{LeadsBy, LeadsTo}
@@ -22,15 +22,15 @@ use Rattle.cache_lines.specs.Tape.Taped.{Taped}
 abbrev pub journal_of : Space Taped → Transcript
 journal_of space = space.tape.journal
 
--- The namespace's transcript: it begins at that moment, belongs to the inputs, leads to a situation and obeys, and none of its events is one
--- that is refused. Each of its `SYNC`s leaves timely values, and after each event each part is within its bound. Where the least recently
--- used leaves, each `SYNC` behind one command leaves exactly the keys of the recency list.
+-- The transcript of a namespace: it begins at this moment, belongs to the inputs, leads to a situation and obeys, and none of its events is
+-- refused. Each of its `SYNC`s leaves timely values, and after each event each part is within its bound. Under a plain LRU policy each
+-- `SYNC` right after a command leaves exactly the keys of the recency list.
 pub record Plays (config : Config) (namespace : ℕ) (moment : Instant) (inputs : List Input) (transcript : Transcript) : Type 0 where
   pub made : transcript.made ≡ moment
   pub belongs : Belongs config namespace transcript inputs
   pub last : Situation
   pub leads : LeadsTo config transcript last
-  -- each value stands in its key's part, by one hasher; there is such a part
+  -- each value is in the part of its key, by one hasher, and there is such a part
   pub part_of : List ℕ → ℕ
   pub within : HasItsParts config part_of
   pub parted : LeadsBy config part_of transcript last
@@ -41,13 +41,13 @@ pub record Plays (config : Config) (namespace : ℕ) (moment : Instant) (inputs 
   pub exact : (places : ℕ) → IsPlainLru config places → HasExactKeys config places transcript
   pub recent : (places : ℕ) → IsPlainLru config places → KeepsList config places transcript
 
--- one transcript a configuration, in their order
+-- one transcript for each configuration, in their order
 pub record ArePlayed (configs : List Config) (moment : Instant) (inputs : List Input) (transcripts : List Transcript) : Type 0 where
   pub count : length transcripts ≡ length configs
   pub each : (namespace : ℕ) (config : Config) (transcript : Transcript)
       → slice_get configs namespace ≡ Some config → slice_get transcripts namespace ≡ Some transcript → Plays config namespace moment inputs transcript
 
--- a namespace that has taken the inputs
+-- a namespace that took the inputs
 pub record HasPlayed (config : Config) (namespace : ℕ) (moment : Instant) (inputs : List Input) (space : Space Taped) : Type 0 where
   pub made : (journal_of space).made ≡ moment
   pub configured : config_of space ≡ config
@@ -63,13 +63,13 @@ pub record HasPlayed (config : Config) (namespace : ℕ) (moment : Instant) (inp
   pub agrees : (places : ℕ) → IsPlainLru config places → AgreesWith (recency_of space) places (order_at_end config (suc places) (Settled []) (journal_of space).records)
   pub exact : (places : ℕ) → IsPlainLru config places → HaveKeysFrom config (suc places) (Settled []) (empty_situation moment.nanos) (journal_of space).records
 
--- each namespace has taken the inputs
+-- each namespace took the inputs
 pub record HavePlayed (configs : List Config) (moment : Instant) (inputs : List Input) (spaces : List (Space Taped)) : Type 0 where
   pub count : length spaces ≡ length configs
   pub each : (namespace : ℕ) (config : Config) (space : Space Taped)
       → slice_get configs namespace ≡ Some config → slice_get spaces namespace ≡ Some space → HasPlayed config namespace moment inputs space
 
--- the journals are what some inputs come to, played from namespaces just made
+-- the journals are the result of some inputs, played from new namespaces
 pub record WerePlayed (spaces : List (Space Taped)) : Type 0 where
   pub configs : List Config
   pub moment : Instant

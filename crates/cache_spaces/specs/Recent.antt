@@ -1,4 +1,4 @@
--- The keys held by a transcript of commands each followed by a `SYNC`.
+-- The keys held after commands that are each followed by a `SYNC`.
 use Rattle.std.specs.Prelude.{◌≡◌, ℕ, suc, Bool, true, false, List, [], ◌∷◌, ◌++◌, Some, Ok, IsTrue}
 use Rattle.std.specs.List.{flat_map}
 use Rattle.audit_model.specs.Follows.{after_records}
@@ -14,7 +14,7 @@ use Rattle.audit_model.specs.declared.transcript.Step.{Step}
 use Rattle.audit_model.specs.declared.transcript.Transcript.{Transcript}
 use Rattle.cache_store.specs.Recency.{AreKeysOf}
 
--- the step is that command, and is not held back
+-- the step is this command, and is not held back
 pub record IsCommand (config : Config) (step : Step) (command : Command) : Type 0 where
   pub runs : step.held ≡ false
   pub says : reading config step.line ≡ Ok command
@@ -37,8 +37,8 @@ AreSynced config (command ∷ commands) (step ∷ []) = ⊥
 AreSynced config (command ∷ commands) (step ∷ next ∷ steps) =
     IsCommand config step command × IsTrue (is_of_list command) × IsCommand config next says.Sync × AreSynced config commands steps
 
--- Each front of the transcript's records whose steps are commands of a recency list, each followed at once by a `SYNC`, leads to a situation in
--- which exactly the keys of that list, cut at `suc number`, are held.
+-- Each front of the transcript's records whose steps are commands of a recency list, each followed at once by a `SYNC`, leads to a
+-- situation in which exactly the keys of that list, cut at `suc number`, are held.
 abbrev pub KeepsList : Config → ℕ → Transcript → Type 0
 KeepsList config number transcript =
     (front rest : List Record) (commands : List Command) (s : Situation) → transcript.records ≡ front ++ rest

@@ -1,12 +1,12 @@
--- The replies that records hold.
-use Rattle.std.specs.Prelude.{◌≡◌, ℕ, ◌==◌, List, [], ◌++◌, replicate, unwrap_or, if◌then◌else◌}
+-- The replies that records contain.
+use Rattle.std.specs.Prelude.{◌≡◌, ℕ, ◌==◌, List, [], ◌++◌, unwrap_or, if◌then◌else◌}
 use Rattle.std.specs.List.{flat_map, slice_get}
 use Rattle.std.specs.Option.{option_map_or}
 use Rattle.audit_model.specs.declared.transcript.Record.{Record}
 use Rattle.audit_model.specs.declared.transcript.Step.{Step}
 use Rattle.audit_model.specs.declared.transcript.Transcript.{Transcript}
 
--- a step's reply, where the step is that connection's
+-- the reply of a step, if the step is of this connection
 abbrev pub reply_for : ℕ → Step → List ℕ
 reply_for number step = if step.conn == number then unwrap_or step.reply [] else []
 
@@ -18,7 +18,7 @@ replies_for number records = flat_map (λ entry. flat_map (reply_for number) ent
 abbrev pub records_at : List Transcript → ℕ → List Record
 records_at journals namespace = option_map_or (λ journal. journal.records) (slice_get journals namespace) []
 
--- numbers, and zeros behind them
-pub record AddsZeros (old new : List ℕ) : Type 0 where
-  pub count : ℕ
-  pub is : new ≡ old ++ replicate count 0
+-- bytes, followed by some more
+pub record Lengthens (old new : List ℕ) : Type 0 where
+  pub more : List ℕ
+  pub is : new ≡ old ++ more

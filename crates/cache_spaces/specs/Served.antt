@@ -1,4 +1,4 @@
--- Which configurations a service has namespaces of.
+-- The configurations of which a service has namespaces.
 use Rattle.std.specs.Prelude.{Bool}
 use Rattle.audit_model.specs.Configs.{is_valid}
 use Rattle.audit_model.specs.declared.config.Config.{Config}

@@ -1,4 +1,4 @@
--- What is seen of a service.
+-- What can be seen of a service.
 use Rattle.std.specs.Prelude.{◌≡◌, ℕ, zero, suc, ◌&&◌, nat_le, Bool, true, false, List, [], length, Option, None, Some, IsTrue}
 use Rattle.std.specs.List.{list_all, slice_get}
 use Rattle.rand_core.specs.Steps.{stream_of, steps_u64_high}
@@ -13,7 +13,7 @@ use Rattle.cache_spaces.specs.declared.service.Fed.{Fed}
 use Rattle.cache_spaces.specs.declared.service.Fed.TheVariants.{All, Held}
 use Rattle.cache_lines.specs.Tape.Taped.{Taped}
 
--- the configurations that a service is made with: 1 to 16, each of which is served
+-- the configurations with which a service is created: 1 to 16, each of them in range
 abbrev pub are_taken : List Config → Bool
 are_taken configs = nat_le 1 (length configs) && nat_le (length configs) 16 && list_all is_served configs
 
@@ -22,7 +22,7 @@ abbrev pub blank_tape : Instant → Taped
 blank_tape made = record { journal = record { made = made; records = [] }; begun = false; steps = []; spare = 0; drafted = None }
 
 module _ {T : Type 0} (tape : T → Option Taped) (blank : Option Taped) where
-  -- a namespace just made, at that place, with a blank tape
+  -- a new namespace, at this place, with a blank tape
   pub record IsNewNamespace (space : Space T) (namespace : ℕ) (config : Config) (generator : List ℕ) (made : ℕ) : Type 0 where
     pub stands : StandsFor space (empty_situation made)
     pub configured : config_of space ≡ config
@@ -36,17 +36,17 @@ module _ {T : Type 0} (tape : T → Option Taped) (blank : Option Taped) where
     pub state_is : space ≡ record { store = space.store; tape = space.tape; latest = made; connections = []; closings = []; outputs = []; sent = 0; pending = []; outgoing = []; namespace = namespace }
     pub taped : tape space.tape ≡ blank
 
--- what a generator still gives after so many forks
+-- the rest of a generator's stream after this many forks
 abbrev pub stream_after_forks : ℕ → Stream → Stream
 stream_after_forks zero stream = stream
 stream_after_forks (suc n) stream = (fill_bytes 32 (stream_after_forks n stream)).1
 
--- the fork that a generator gives after so many
+-- the fork that a generator yields after this many
 abbrev pub fork_after : ℕ → List ℕ → List ℕ
 fork_after n generator = of_seed (fill_bytes 32 (stream_after_forks n (stream_of (steps_u64_high plus_plus) generator))).0
 
 module _ {T : Type 0} (tape : T → Option Taped) (blank : Option Taped) where
-  -- each namespace is new, of its configuration, with the next fork of the generator
+  -- each namespace is new, with its configuration and the next fork of the generator
   pub record AreNew (spaces : List (Space T)) (configs : List Config) (generator : List ℕ) (made : ℕ) : Type 0 where
     pub count : length spaces ≡ length configs
     pub each : (namespace : ℕ) (config : Config) (space : Space T) → slice_get configs namespace ≡ Some config → slice_get spaces namespace ≡ Some space

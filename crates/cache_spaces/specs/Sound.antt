@@ -6,7 +6,7 @@ use Rattle.cache_spaces.specs.Stores.{shown_of}
 use Rattle.cache_lines.specs.Tape.Taped.{Taped}
 use Rattle.std.specs.Prelude.{Option}
 
--- it stands for a situation, it is in order, and its parts suit one another
+-- it stands for a situation, it is in order, and its parts agree with each other
 pub record IsSound {T : Type 0} (tape : T → Option Taped) (space : Space T) : Type 0 where
   pub some : Situation
   pub stands : StandsFor space some

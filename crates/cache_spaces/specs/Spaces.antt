@@ -1,4 +1,4 @@
--- What is seen of one namespace of a service.
+-- What can be seen of one namespace of a service.
 use Rattle.std.specs.Prelude.{ℕ, ◌<◌, Bool, List, [], Option}
 use Rattle.audit_model.specs.Belongs.{Known}
 use Rattle.audit_model.specs.History.{part_count}
@@ -29,19 +29,19 @@ module _ {T : Type 0} where
   abbrev pub generator_of : Space T → List ℕ
   generator_of space = space.store.generator
 
-  -- the identifiers that its generator will give, and which are registered in each part: by these every event draws
+  -- the identifiers that its generator will draw, and those that are registered in each part: every event draws by these
   abbrev pub identifiers_of : Space T → Identifiers
   identifiers_of space = identifiers_in (shown_of space.store)
 
-  -- the moment of its making
+  -- the moment of its creation
   abbrev pub made_of : Space T → ℕ
   made_of space = (shown_of space.store).frame.made
 
-  -- in which part each of its keys is: no call changes it, nor the moment of its making
+  -- the part of each of its keys; no call changes it, nor the moment of creation
   abbrev pub part_in : Space T → List ℕ → ℕ
   part_in space = (shown_of space.store).frame.part_of
 
-  -- the loads that went out and were not taken, with their keys, in the order in which they were sent
+  -- the loads that were sent and not taken, with their keys, in the order in which they were sent
   abbrev pub outgoing_of : Space T → List (LoadId × List ℕ)
   outgoing_of space = space.outgoing
 
@@ -49,11 +49,11 @@ module _ {T : Type 0} where
   abbrev pub taken_of : Space T → ℕ
   taken_of space = state.loads_taken_of space
 
-  -- the place of the namespace whose loads they are
+  -- the number of the namespace whose loads they are
   abbrev pub place_of : Space T → ℕ
   place_of space = space.namespace
 
-  -- the notes that were told and not taken
+  -- the notes that were reported and not taken
   abbrev pub notices_of : Space T → List Note
   notices_of space = (shown_of space.store).untaken
 
@@ -73,7 +73,7 @@ module _ {T : Type 0} where
   abbrev pub is_waiting_for : Space T → ℕ → Bool
   is_waiting_for space number = turned.is_waiting_in (state.situation_with shown_of space []) number
 
-  -- the keys that it holds, the last used first: after a `SYNC`, or at most one call later
+  -- the keys that it holds, the most recently used first: after a `SYNC`, or at most one call later
   abbrev pub recency_of : Space T → Bool → List (List ℕ) → Type 0
   recency_of space = (shown_of space.store).Used
 
@@ -81,7 +81,7 @@ module _ {T : Type 0} where
   abbrev pub Holds : Space T → List HeldValue → Type 0
   Holds space = (shown_of space.store).Stands
 
-  -- the namespace stands for that situation
+  -- the namespace stands for this situation
   abbrev pub StandsFor : Space T → Situation → Type 0
   StandsFor space s = state.StandsFor shown_of space s
 
@@ -89,7 +89,7 @@ module _ {T : Type 0} where
   abbrev pub known_of : Space T → Known
   known_of space = state.known_of shown_of space
 
--- the same namespace, with what its tape keeps in place of the tape: so it is seen whatever its tape is
+-- the same namespace, with what its tape keeps in place of the tape, so that it looks the same whatever its tape is
 abbrev pub shown : {T : Type 0} → (T → Option Taped) → Space T → Space (Option Taped)
 shown tape space = record {
   store = space.store;
@@ -111,6 +111,6 @@ Shown = Space (Option Taped)
 abbrev pub shown_tape : Option Taped → Option Taped
 shown_tape t = t
 
--- each key's part is one that there is
+-- the part of each key is one that exists
 abbrev pub HasItsParts : Config → (List ℕ → ℕ) → Type 0
 HasItsParts config part_of = (key : List ℕ) → part_of key < part_count config

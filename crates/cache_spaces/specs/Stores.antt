@@ -17,6 +17,6 @@ abbrev pub secret_hash : WordBuilder KeyedHasher → List ℕ → ℕ
 secret_hash hasher =
     hash_by (λ (x : WordHasher DefaultHasher). sip.finish x.inner % 2 ^ 64) (λ (x : WordHasher DefaultHasher) bytes. record { inner = sip.write x.inner bytes }) (λ (x : WordBuilder KeyedHasher). record { inner = x.inner.start }) hasher
 
--- what a store shows, over a front whose keys are hashed so
+-- what a store shows, over a front whose keys are hashed like this
 abbrev pub shown_of : StoreData (List ℕ) (WordBuilder KeyedHasher) → Values
 shown_of d = view (parted_by secret_hash (data_of (stream_of (steps_u64_high plus_plus)) d))

@@ -1,16 +1,26 @@
 //! A service that keeps its journals.
-ghost use Rattle.std.specs.Prelude.{◌≡◌, ℕ, ◌≤◌, ◌<◌, ◌^◌, ◌↔◌, ◌⊎◌, Some, false, IfOk, IfErr, OnErr, OnOk, IsErrOf, length};
+ghost use Rattle.std.specs.Prelude.{◌≡◌, ℕ, ◌≤◌, ◌<◌, ◌^◌, ◌↔◌, ◌⊎◌, ◌++◌, ◌∷◌, [], Some, false, drop, IfOk, IfErr, OnErr, OnOk, IsErrOf, length};
+ghost use Rattle.std.specs.Borrow.{sem};
+ghost use Rattle.std.specs.Io.BufRead.{Rests};
 ghost use Rattle.std.specs.List.{slice_get};
-ghost use Rattle.cache_spaces.specs.Calls.{At, Refuses, RefusesCopy, TakesLoads};
+ghost use Rattle.std.specs.Option.{option_copied};
+ghost use Rattle.audit_model.specs.declared.input.Input.TheVariants as input;
+ghost use Rattle.cache_spaces.specs.Calls.{At, InSpace, IsOpened, IsUnknown, Refuses, TakesLoads};
+ghost use Rattle.cache_spaces.specs.Cursors.{taken_through};
 ghost use Rattle.cache_spaces.specs.Inputs.{Performs, RefusedInput, namespace_of};
 ghost use Rattle.cache_spaces.specs.Journals.{IsJournalOf, IsSoOfEach, journals_of, kept_by};
+ghost use Rattle.cache_spaces.specs.Lent.{lent_replies};
+ghost use Rattle.cache_spaces.specs.Notes.{notes_from};
 ghost use Rattle.cache_spaces.specs.Played.{WerePlayed};
-ghost use Rattle.cache_spaces.specs.Recorded.{AreAtStart, GainsRecord, IsUnread, TakesNote, TakesReplies};
+ghost use Rattle.cache_spaces.specs.Recorded.{AreAtStart, GainsRecord, IsUnread, KeepsTaken, LendsNote, LendsReplies, TakesNote, TakesReplies, cursor_in, records_in, untaken_in, untold_in};
+ghost use Rattle.cache_spaces.specs.Replies.{replies_for};
 ghost use Rattle.cache_spaces.specs.Services.{AreNew, are_taken, blank_tape};
 
 use crate::cursors::Cursors;
+use crate::replies::{LentReplies, records_from};
 use crate::service::Core;
 use crate::stepping::Refusal;
+use crate::told::{Told, find_note};
 use audit_laws::Output;
 use audit_model::{Bytes, Config, Conn, Input, Instant, LoadId, Note, ServiceError, Transcript};
 use cache_lines::Kept;
@@ -19,7 +29,7 @@ use std::alloc::{AllocError, Global};
 use std::marker::Model;
 
 /// A service that keeps the transcript of each namespace, its journal. Replies and notes are stored in the journals, from which they are
-/// copied when they are taken.
+/// lent when they are taken.
 ///
 /// A journal is kept completely, so memory grows with each input. Contracts see the list of its namespaces, the journal of each on its
 /// tape, and how far the replies and notes of each were taken.
@@ -35,16 +45,18 @@ pub struct RecordedService {
 impl Model for RecordedService {
     ghost use Rattle.std.specs.Prelude.{◌≡◌, ◌≤◌, [], length, vec_capacity};
     ghost use Rattle.cache_spaces.specs.Played.{WerePlayed};
-    ghost use Rattle.cache_spaces.specs.Recorded.{ReadsJournals, Recorded, recorded_of};
+    ghost use Rattle.cache_spaces.specs.Recorded.{HaveCursors, ReadsJournals, Recorded, recorded_of};
 
     ghost Value = { Recorded };
 
     ghost view = { λ r. recorded_of r.core r.read.items };
 
-    ghost invariant = { λ r. ∥ WerePlayed r.core ∥₁ × (r.room.items ≡ []) × (length r.core ≤ vec_capacity r.room) × (length r.read.items ≡ length r.core) × ReadsJournals (recorded_of r.core r.read.items) };
+    ghost invariant = { λ r. ∥ WerePlayed r.core ∥₁ × (r.room.items ≡ []) × (length r.core ≤ vec_capacity r.room) × (length r.read.items ≡ length r.core) × ReadsJournals (recorded_of r.core r.read.items) × HaveCursors r.core r.read.items };
 }
 
 impl RecordedService {
+    ghost use Rattle.cache_spaces.specs.contracts.journals.RecordedService.{the_row};
+
     /// Creates a service with one namespace for each configuration, in their order, at this moment, each with an empty journal.
     ///
     /// Returns `Moment` above 2^63 - 1 nanoseconds, then `Config` if the number of configurations is not 1 to 16 or one is out of
@@ -84,14 +96,37 @@ impl RecordedService {
         ensures performed { IfOk result (λ output. At self.old.spaces self.new.spaces (namespace_of input) (Performs kept_by input output)) }
         // the replies and notes, and nothing else, were added to what is left to be taken
         ensures gained { OnOk result (GainsRecord (namespace_of input) self.old self.new) }
-        ensures cursors { self.new.cursors ≡ self.old.cursors }
+        ensures cursors { KeepsTaken self.old self.new }
         ensures refused { IfErr result (λ refusal. Refuses self.old.spaces (namespace_of input) refusal.error (RefusedInput input refusal.error)) }
         ensures back { IfErr result (λ refusal. refusal.input ≡ input) }
         ensures unchanged { OnErr result (self.new ≡ self.old) }
         // the journals obey, and each leads to where its namespace stands
         ensures journals { IsSoOfEach IsJournalOf self.new.spaces }
     {
-        self.core.step(input)
+        match input {
+            Input::Open { namespace } => self.open(namespace),
+            other => self.core.step(other),
+        }
+    }
+
+    /// Opens a connection, of whose replies none was taken.
+    fn open(&mut self, namespace: u64) -> Result<Output, Refusal>
+        ensures performed { IfOk result (λ output. At self.old.spaces self.new.spaces namespace (Performs kept_by (input.Open namespace) output)) }
+        ensures gained { OnOk result (GainsRecord namespace self.old self.new) }
+        ensures cursors { KeepsTaken self.old self.new }
+        ensures refused { IfErr result (λ refusal. Refuses self.old.spaces namespace refusal.error (RefusedInput (input.Open namespace) refusal.error)) }
+        ensures back { IfErr result (λ refusal. refusal.input ≡ input.Open namespace) }
+        ensures unchanged { OnErr result (self.new ≡ self.old) }
+        ensures journals { IsSoOfEach IsJournalOf self.new.spaces }
+    {
+        let RecordedService { core, read, .. } = self;
+        match read.get_mut(namespace as usize) {
+            Some(cursors) => open_in(core, &mut cursors.replies, namespace),
+            None => Err(Refusal {
+                error: ServiceError::NoNamespace,
+                input: Input::Open { namespace },
+            }),
+        }
     }
 
     /// Returns the journal of a namespace: a record for each input that it took, in order. It obeys, and leads to where the namespace
@@ -114,28 +149,81 @@ impl RecordedService {
         &self.core
     }
 
-    /// Returns the replies of a connection since they were last taken, copied from the journal, even after it closed. This is not an event.
-    ///
-    /// Returns `NoNamespace`, then `NoConnection`, then `OutOfMemory` if there is not enough memory for the copy; then nothing has
-    /// changed.
-    pub fn take_output(&mut self, conn: Conn) -> Result<Vec<u8>, ServiceError>
-        ensures taken { IfOk result (λ text. TakesReplies self.old self.new conn text.items) }
-        ensures refused { IfErr result (λ e. Refuses self.old.spaces conn.namespace e (λ space. RefusesCopy space conn.number e)) }
-        ensures unchanged { OnErr result (self.new ≡ self.old) }
+    /// Returns the allocator of the journals.
+    pub fn allocator(&self) -> &Global {
+        self.room.allocator()
+    }
+
+    /// Returns the replies of a connection since they were last taken, lent from the journal, even after it closed. They are not taken. This
+    /// allocates nothing. Returns `NoNamespace`, then `NoConnection`.
+    pub fn peek_output(&self, conn: Conn) -> Result<LentReplies<'_>, ServiceError>
+        ensures replies { IfOk result (λ replies. lent_replies replies ≡ untaken_in self.now conn) }
+        ensures known { OnOk result (InSpace self.now.spaces conn.namespace (λ space. IsOpened space conn.number)) }
+        ensures refused { IfErr result (λ e. Refuses self.now.spaces conn.namespace e (λ space. IsUnknown space conn.number e)) }
+    {
+        match self.replies_taken(conn) {
+            Ok(count) => Ok(self.replies_from(conn, count)),
+            Err(error) => Err(error),
+        }
+    }
+
+    /// Returns the replies of a connection since they were last taken, lent from the journal, even after it closed. Each comes once. This is
+    /// not an event, and allocates nothing. Returns `NoNamespace`, then `NoConnection`.
+    /// ```
+    /// let replies = recorded.take_output(conn)?.to_vec(alloc)?;
+    /// ```
+    pub fn take_output(&mut self, conn: Conn) -> Result<LentReplies<'_>, ServiceError>
+        ensures* taken { sem 𝓛 (Rests the_row self.entry (LendsReplies self.old conn result)) }
+        ensures replies { IfOk result (λ replies. lent_replies replies ≡ untaken_in self.old conn) }
+        ensures refused { IfErr result (λ e. Refuses self.old.spaces conn.namespace e (λ space. IsUnknown space conn.number e)) }
+    {
+        let count = match self.replies_taken(conn) {
+            Ok(count) => count,
+            Err(error) => return Err(error),
+        };
+        self.pass_replies(conn);
+        Ok(self.replies_from(conn, count))
+    }
+
+    /// Through how many records the replies of a connection were taken. Returns `NoNamespace`, then `NoConnection`.
+    fn replies_taken(&self, conn: Conn) -> Result<u64, ServiceError>
+        ensures count { IfOk result (λ count. count ≡ taken_through (cursor_in self.now conn.namespace) conn.number) }
+        ensures known { OnOk result (InSpace self.now.spaces conn.namespace (λ space. IsOpened space conn.number)) }
+        ensures refused { IfErr result (λ e. Refuses self.now.spaces conn.namespace e (λ space. IsUnknown space conn.number e)) }
     {
         match self.core.closed(conn) {
-            Ok(_) => {}
-            Err(error) => return Err(error),
+            Ok(_) => {
+                let cursors = &self.read[conn.namespace as usize];
+                Ok(cursors.replies_taken(conn.number))
+            }
+            Err(error) => Err(error),
         }
+    }
+
+    /// Moves the cursor of a connection to the journal's end.
+    fn pass_replies(&mut self, conn: Conn)
+        requires { InSpace self.old.spaces conn.namespace (λ space. IsOpened space conn.number) }
+        ensures { TakesReplies self.old self.new conn (untaken_in self.old conn) }
+    {
         let RecordedService { core, read, .. } = self;
         let Ok(journal) = journal_in(core, conn.namespace) else {
             unreachable!();
         };
-        let alloc = *read.allocator();
         let cursors = &mut read[conn.namespace as usize];
-        match cursors.take_replies(alloc, journal.records.as_slice(), conn.number) {
-            Ok(text) => Ok(text),
-            Err(_) => Err(ServiceError::OutOfMemory),
+        cursors.pass_replies(conn.number, journal.records.len() as u64);
+    }
+
+    /// The replies of a connection in its namespace's records from this place on.
+    fn replies_from(&self, conn: Conn, place: u64) -> LentReplies<'_>
+        requires { conn.namespace < length self.now.spaces }
+        ensures { lent_replies result ≡ replies_for conn.number (drop place (records_in self.now conn.namespace)) }
+    {
+        let Ok(journal) = journal_in(&self.core, conn.namespace) else {
+            unreachable!();
+        };
+        LentReplies {
+            records: records_from(journal.records.as_slice(), place),
+            number: conn.number,
         }
     }
 
@@ -151,13 +239,39 @@ impl RecordedService {
         self.core.take_loads(namespace)
     }
 
-    /// Returns the oldest note of a namespace that was reported and not taken, copied from the journal; `None` if there is none. This is
-    /// not an event.
-    ///
-    /// Returns `NoNamespace`, then `OutOfMemory` if there is not enough memory for the copy; then nothing has changed.
-    pub fn next_notice(&mut self, namespace: u64) -> Result<Option<Note>, ServiceError>
-        ensures taken { IfOk result (TakesNote self.old self.new namespace) }
-        ensures refused { IfErr result (λ e. Refuses self.old.spaces namespace e (λ space. e ≡ ServiceError.OutOfMemory)) }
+    /// Returns the oldest note of a namespace that was reported and not taken, lent from the journal; `None` if there is none. It is not
+    /// taken. This allocates nothing. Returns `NoNamespace` if there is no such namespace.
+    pub fn peek_notice(&self, namespace: u64) -> Result<Option<&Note>, ServiceError>
+        ensures note { IfOk result (λ note. option_copied note ≡ slice_get (untold_in self.now namespace) 0) }
+        ensures there { OnOk result (namespace < length self.now.spaces) }
+        ensures refused { IfErr result (λ e. (e ≡ ServiceError.NoNamespace) × (length self.now.spaces ≤ namespace)) }
+    {
+        match self.read.get(namespace as usize) {
+            Some(cursors) => Ok(self.note_from(namespace, cursors.notes)),
+            None => Err(ServiceError::NoNamespace),
+        }
+    }
+
+    /// Returns the oldest note of a namespace that was reported and not taken, lent from the journal; `None` if there is none. Each note
+    /// comes once. This is not an event, and allocates nothing. Returns `NoNamespace` if there is no such namespace.
+    pub fn next_notice(&mut self, namespace: u64) -> Result<Option<&Note>, ServiceError>
+        ensures* taken { sem 𝓛 (Rests the_row self.entry (LendsNote self.old namespace result)) }
+        ensures note { IfOk result (λ note. option_copied note ≡ slice_get (untold_in self.old namespace) 0) }
+        ensures refused { IfErr result (λ e. (e ≡ ServiceError.NoNamespace) × (length self.old.spaces ≤ namespace)) }
+    {
+        match self.pass_note(namespace) {
+            Ok(told) => Ok(self.note_from(namespace, told)),
+            Err(error) => Err(error),
+        }
+    }
+
+    /// Moves behind the first note of a namespace that was not taken, and returns the place from which it is the first. Returns
+    /// `NoNamespace` if there is no such namespace.
+    fn pass_note(&mut self, namespace: u64) -> Result<Told, ServiceError>
+        ensures told { IfOk result (λ told. told ≡ (cursor_in self.old namespace).notes) }
+        ensures passed { OnOk result (TakesNote self.old self.new namespace (slice_get (untold_in self.old namespace) 0)) }
+        ensures there { OnOk result (namespace < length self.old.spaces) }
+        ensures refused { IfErr result (λ e. (e ≡ ServiceError.NoNamespace) × (length self.old.spaces ≤ namespace)) }
         ensures unchanged { OnErr result (self.new ≡ self.old) }
     {
         let RecordedService { core, read, .. } = self;
@@ -165,11 +279,21 @@ impl RecordedService {
             Ok(journal) => journal,
             Err(error) => return Err(error),
         };
-        let alloc = *read.allocator();
         let cursors = &mut read[namespace as usize];
-        match cursors.take_note(alloc, journal.records.as_slice()) {
-            Ok(note) => Ok(note),
-            Err(_) => Err(ServiceError::OutOfMemory),
+        Ok(cursors.pass_note(journal.records.as_slice()))
+    }
+
+    /// The first note in a namespace's records from this place on.
+    fn note_from(&self, namespace: u64, told: Told) -> Option<&Note>
+        requires { namespace < length self.now.spaces }
+        ensures { option_copied result ≡ slice_get (notes_from (records_in self.now namespace) told) 0 }
+    {
+        let Ok(journal) = journal_in(&self.core, namespace) else {
+            unreachable!();
+        };
+        match find_note(journal.records.as_slice(), told) {
+            Some((note, _)) => Some(note),
+            None => None,
         }
     }
 
@@ -197,6 +321,32 @@ fn new_cursors(alloc: Global, count: usize) -> Result<Vec<Cursors>, AllocError>
         read.push(Cursors::new(alloc))?;
     }
     Ok(read)
+}
+
+/// Opens a connection in a namespace, and adds its cursor. An `Err` changes nothing.
+fn open_in(core: &mut Core<Kept>, replies: &mut Vec<u64>, namespace: u64) -> Result<Output, Refusal>
+    requires { namespace < length core.old }
+    ensures performed { IfOk result (λ output. At core.old core.new namespace (Performs kept_by (input.Open namespace) output)) }
+    ensures added { OnOk result (replies.new.items ≡ replies.old.items ++ 0 ∷ []) }
+    ensures refused { IfErr result (λ refusal. Refuses core.old namespace refusal.error (RefusedInput (input.Open namespace) refusal.error)) }
+    ensures back { IfErr result (λ refusal. refusal.input ≡ input.Open namespace) }
+    ensures unchanged { OnErr result (core.new ≡ core.old) }
+    ensures kept { OnErr result (replies.new.items ≡ replies.old.items) }
+{
+    let input = Input::Open { namespace };
+    let Ok(()) = replies.try_reserve(1) else {
+        return Err(Refusal {
+            error: ServiceError::OutOfMemory,
+            input,
+        });
+    };
+    match core.step(input) {
+        Ok(output) => {
+            replies.push_reserved(0);
+            Ok(output)
+        }
+        Err(refusal) => Err(refusal),
+    }
 }
 
 /// The journal of a namespace, or `NoNamespace`.

@@ -15,6 +15,8 @@ mod told;
 pub use audit_laws::Output;
 pub use journals::RecordedService;
 pub use playing::play;
+pub use replies::LentReplies;
 pub use service::{AnswerError, Core, Fed, Service, SpaceStore};
 pub use stepping::Refusal;
 pub use tapes::NewTape;
+pub use told::copy_note;

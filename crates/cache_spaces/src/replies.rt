@@ -1,25 +1,48 @@
-//! Gathering replies from records.
-ghost use Rattle.std.specs.Prelude.{◌≡◌, ◌++◌, drop, IfOk, OnOk};
+//! The replies that records hold.
+ghost use Rattle.std.specs.Prelude.{◌≡◌, ◌++◌, drop, IfOk, OnErr, OnOk};
 ghost use Rattle.std.specs.List.{flat_map};
-ghost use Rattle.cache_spaces.specs.Replies.{replies_for, reply_for};
+ghost use Rattle.cache_spaces.specs.Lent.{lent_replies};
+ghost use Rattle.cache_spaces.specs.Replies.{Lengthens, replies_for, reply_for};
 
 use audit_model::{Record, Step};
 use std::alloc::{AllocError, Global};
 
-/// Returns the replies of a connection in the records from this place on.
-pub fn gather_from(
-    alloc: Global,
-    records: &[Record],
-    place: u64,
-    number: u64,
-) -> Result<Vec<u8>, AllocError>
-    ensures { IfOk result (λ text. text.items ≡ replies_for number (drop place records.now)) }
-{
-    gather(alloc, records_from(records, place), number)
+/// The replies of a connection in records of its namespace's journal, lent from there.
+#[derive(Clone, Copy, Drop)]
+pub struct LentReplies<'a> {
+    pub(crate) records: &'a [Record],
+    pub(crate) number: u64,
+}
+
+impl LentReplies<'_> {
+    /// Appends a copy of the replies, with their line ends. This allocates only if there is no room for them. After an `Err` nothing has
+    /// changed.
+    pub fn copy_to(&self, text: &mut Vec<u8>) -> Result<(), AllocError>
+        ensures copied { OnOk result (text.new.items ≡ text.old.items ++ lent_replies self.now) }
+        ensures unchanged { OnErr result (text.new.items ≡ text.old.items) }
+    {
+        let len = text.len();
+        match add_all(self.records, self.number, text) {
+            Ok(()) => Ok(()),
+            Err(error) => {
+                text.truncate(len);
+                Err(error)
+            }
+        }
+    }
+
+    /// Returns a copy of the replies, with their line ends.
+    pub fn to_vec(&self, alloc: Global) -> Result<Vec<u8>, AllocError>
+        ensures { IfOk result (λ text. text.items ≡ lent_replies self.now) }
+    {
+        let mut text = Vec::new(alloc);
+        self.copy_to(&mut text)?;
+        Ok(text)
+    }
 }
 
 /// The records from this place on.
-fn records_from(records: &[Record], place: u64) -> &[Record]
+pub fn records_from(records: &[Record], place: u64) -> &[Record]
     ensures { result.now ≡ drop place records.now }
 {
     if place as usize <= records.len() {
@@ -29,20 +52,21 @@ fn records_from(records: &[Record], place: u64) -> &[Record]
     }
 }
 
-/// The replies of a connection in these records.
-fn gather(alloc: Global, records: &[Record], number: u64) -> Result<Vec<u8>, AllocError>
-    ensures { IfOk result (λ text. text.items ≡ replies_for number records.now) }
+/// Adds the replies of a connection in these records.
+fn add_all(records: &[Record], number: u64, text: &mut Vec<u8>) -> Result<(), AllocError>
+    ensures added { OnOk result (text.new.items ≡ text.old.items ++ replies_for number records.now) }
+    ensures lengthens { Lengthens text.old.items text.new.items }
 {
-    let mut text = Vec::new(alloc);
     for entry in records {
-        add_replies(entry.steps.as_slice(), number, &mut text)?;
+        add_replies(entry.steps.as_slice(), number, text)?;
     }
-    Ok(text)
+    Ok(())
 }
 
 /// Adds the replies of a connection in these steps.
 fn add_replies(steps: &[Step], number: u64, text: &mut Vec<u8>) -> Result<(), AllocError>
-    ensures { OnOk result (text.new.items ≡ text.old.items ++ flat_map (reply_for number) steps.now) }
+    ensures added { OnOk result (text.new.items ≡ text.old.items ++ flat_map (reply_for number) steps.now) }
+    ensures lengthens { Lengthens text.old.items text.new.items }
 {
     for step in steps {
         add_reply(step, number, text)?;
@@ -52,7 +76,8 @@ fn add_replies(steps: &[Step], number: u64, text: &mut Vec<u8>) -> Result<(), Al
 
 /// Adds the reply of a step, if it is that connection's.
 fn add_reply(step: &Step, number: u64, text: &mut Vec<u8>) -> Result<(), AllocError>
-    ensures { OnOk result (text.new.items ≡ text.old.items ++ reply_for number step.now) }
+    ensures added { OnOk result (text.new.items ≡ text.old.items ++ reply_for number step.now) }
+    ensures unchanged { OnErr result (text.new.items ≡ text.old.items) }
 {
     if step.conn != number {
         return Ok(());

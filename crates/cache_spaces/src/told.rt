@@ -61,7 +61,7 @@ fn list_at(entry: &Record, at: usize) -> &[Note]
     }
 }
 
-/// A copy of a note.
+/// Returns a copy of a note.
 pub fn copy_note(alloc: Global, note: &Note) -> Result<Note, AllocError>
     ensures { IfOk result (λ copy. copy ≡ note.now) }
 {

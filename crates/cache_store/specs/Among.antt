@@ -11,11 +11,11 @@ use Rattle.cache_store.specs.Held.{value_at}
 abbrev pub is_among : List ℕ → List (List ℕ) → Bool
 is_among key keys = list_any (λ k. same key k) keys
 
--- no key twice among these
+-- no key occurs twice among these
 abbrev pub are_distinct : List (List ℕ) → Bool
 are_distinct [] = true
 are_distinct (key ∷ keys) = not (is_among key keys) && are_distinct keys
 
--- whether a key's value is live
+-- whether the value of a key is live
 abbrev pub has_live : Config → ℕ → List HeldValue → List ℕ → Bool
 has_live config now items key = option_map_or (is_live_at config now) (value_at items key) false

@@ -1,8 +1,8 @@
--- Notes on their way from a store to whoever takes them: they come out in the order in which they were told.
+-- Notes on their way from a store to whoever takes them: they are taken in the order in which they were reported.
 use Rattle.std.specs.Prelude.{◌≡◌, List, [], ◌∷◌, ◌++◌, Option, Some, None}
 use Rattle.audit_model.specs.declared.transcript.Note.{Note}
 
--- the notes told stand behind those that wait, in whichever part their keys are
+-- the notes that were reported come after those that wait, whichever part their keys are in
 pub record AppendsNotes (old new told : List Note) : Type 0 where
   pub added : new ≡ old ++ told
 
@@ -11,7 +11,7 @@ abbrev pub TakesFirstNote : List Note → List Note → Option Note → Type 0
 TakesFirstNote old new None = (old ≡ []) × (new ≡ [])
 TakesFirstNote old new (Some note) = old ≡ note ∷ new
 
--- no note is told
+-- no note is reported
 pub record TellsNone (old new told : List Note) : Type 0 where
   pub none : told ≡ []
   pub same : new ≡ old

@@ -1,4 +1,4 @@
--- Values held, in a list: which is the key's, which are others, and when two lists say the same.
+-- Lists of held values: which one is the key's, which are others, and when two lists say the same.
 use Rattle.audit_model.specs.Bytewise.{same}
 use Rattle.audit_model.specs.Situation.{HeldValue, is_live_at}
 use Rattle.audit_model.specs.Values.{without_key}
@@ -12,7 +12,7 @@ use Rattle.std.specs.Prelude.{ℕ, Bool, true, false, ◌&&◌, nat_lt, List, []
 abbrev pub value_at : List HeldValue → List ℕ → Option HeldValue
 value_at items key = find (λ h. same key h.value.key) items
 
--- the values but the key's
+-- the values except the key's
 abbrev pub without : List ℕ → List HeldValue → List HeldValue
 without key items = without_key (λ h. h.value.key) key items
 
@@ -20,12 +20,12 @@ without key items = without_key (λ h. h.value.key) key items
 abbrev pub is_absent : List ℕ → List HeldValue → Bool
 is_absent key items = list_all (λ h. not (same key h.value.key)) items
 
--- no key twice
+-- no key occurs twice
 abbrev pub are_apart : List HeldValue → Bool
 are_apart [] = true
 are_apart (h ∷ items) = is_absent h.value.key items && are_apart items
 
--- a value held, leaving aside whether it may be evicted
+-- a held value, apart from whether it may be evicted
 abbrev pub plain : HeldValue → HeldValue
 plain h = record h { evictable = false }
 
@@ -40,7 +40,7 @@ abbrev pub exceeds : Option ℕ → ℕ → Bool
 exceeds None weight = false
 exceeds (Some limit) weight = nat_lt limit weight
 
--- the cause of an older value that is written over
+-- the cause of an older value that is overwritten
 abbrev pub cause_of_replaced : Bool → Bool → RemovalCause
 cause_of_replaced dead covered = if dead then Expired else (if covered then Explicit else Replaced)
 
@@ -48,7 +48,7 @@ cause_of_replaced dead covered = if dead then Expired else (if covered then Expl
 abbrev pub cause_of_deleted : Bool → RemovalCause
 cause_of_deleted dead = if dead then Expired else Explicit
 
--- the value, where it is live
+-- the value, if it is live
 abbrev pub if_live : Config → ℕ → Option HeldValue → Option HeldValue
 if_live config now None = None
 if_live config now (Some h) = if is_live_at config now h then Some h else None

@@ -4,16 +4,16 @@ use Rattle.audit_model.specs.Bytewise.{same}
 use Rattle.rand_core.specs.Stream.{Stream, fill_bytes}
 use Rattle.uuid.specs.Parts.{v4_of_fill}
 
--- the identifier that a generator gives next, of 16 random bytes, and the stream that is left
+-- the identifier that a generator draws next, from 16 random bytes, and the rest of the stream
 abbrev pub drawn : Stream → List ℕ × Stream
 drawn stream = v4_of_fill (fill_bytes 16 stream)
 
--- the stream that is left when so many identifiers were drawn
+-- the rest of the stream after this many identifiers were drawn
 abbrev pub stream_after : ℕ → Stream → Stream
 stream_after zero stream = stream
 stream_after (suc n) stream = (drawn (stream_after n stream)).1
 
--- the identifier that is drawn after so many others
+-- the identifier that is drawn after this many others
 abbrev pub identifier_at : ℕ → Stream → List ℕ
 identifier_at n stream = (drawn (stream_after n stream)).0
 
@@ -21,24 +21,24 @@ identifier_at n stream = (drawn (stream_after n stream)).0
 abbrev pub Register : Type 0
 Register = ℕ → List ℕ → Bool
 
--- none is drawn, and none is registered that was not
+-- none is drawn, and none is registered that was not before
 pub record KeepsIdentifiers (old_stream new_stream : Stream) (old new : Register) : Type 0 where
   pub stream : new_stream ≡ old_stream
   pub registered : (part : ℕ) (id : List ℕ) → IsTrue (new part id) → IsTrue (old part id)
 
--- identifiers are drawn, and each part registers one of them at most
+-- identifiers are drawn, and each part registers at most one of them
 pub record Registers (old_stream new_stream : Stream) (old new : Register) : Type 0 where
   pub number : ℕ
   pub stream : new_stream ≡ stream_after number old_stream
   pub registered : (part : ℕ) → (place : ℕ) × (place < number) × ((id : List ℕ) → IsTrue (new part id) → IsTrue (old part id || same id (identifier_at place old_stream)))
 
--- identifiers are drawn, and none is registered that was not
+-- identifiers are drawn, and none is registered that was not before
 pub record DrawsAlone (old_stream new_stream : Stream) (old new : Register) : Type 0 where
   pub number : ℕ
   pub stream : new_stream ≡ stream_after number old_stream
   pub registered : (part : ℕ) (id : List ℕ) → IsTrue (new part id) → IsTrue (old part id)
 
--- some identifiers are drawn, and then a thousand, each of which is registered in one part
+-- some identifiers are drawn, and then a thousand that are each registered in one and the same part
 pub record AreUsedUp (parts : ℕ) (old_stream new_stream : Stream) (registered : Register) : Type 0 where
   pub part : ℕ
   pub is_part : part < parts

@@ -1,4 +1,4 @@
--- What a call of a store does to the values held, and which of them it tells.
+-- What a call of a store does to the values held, and which of them it reports.
 use Rattle.std.specs.Prelude.{◌≡◌, ℕ, Bool, true, false, List, map, Option, Some, None, IsTrue}
 use Rattle.audit_model.specs.Changes.{all_held_after}
 use Rattle.audit_model.specs.Commands.{Deed, Covering, Nothing}
@@ -9,7 +9,7 @@ use Rattle.audit_model.specs.Values.{own_deadline_from}
 use Rattle.audit_model.specs.declared.config.Config.{Config}
 use Rattle.audit_model.specs.declared.transcript.Note.{Note}
 
--- what a store was made with and when, whether a `DROPIF` was accepted, and the latest moment handed in
+-- the configuration of a store and the moment of its creation, whether a `DROPIF` was accepted, and the latest moment passed in
 pub record Frame : Type 0 where
   pub config : Config
   pub part_of : List ℕ → ℕ
@@ -26,11 +26,11 @@ no_deed = record { uses = None; value = None; deletes = None; covers = Nothing; 
 abbrev pub using : List ℕ → Deed
 using key = record no_deed { uses = Some key }
 
--- a value is accepted; the same step looked that key up before, or none
+-- a value is accepted; the same step looked that key up before, or looked nothing up
 abbrev pub accepting : Option (List ℕ) → Value → Deed
 accepting used value = record no_deed { uses = used; value = Some value }
 
--- the key's value is deleted
+-- the value of the key is deleted
 abbrev pub deleting : List ℕ → Deed
 deleting key = record no_deed { deletes = Some key }
 
@@ -49,7 +49,7 @@ value_for frame now key bytes ms =
 
 -- ---- what a call does
 
--- Where these values were held, the call told some with true causes, left the others as the deed leaves them, and handed its notes on.
+-- If these values were held, the call reported some with true causes, left the others as the deed leaves them, and passed its notes on.
 pub record Done (config : Config) (now : ℕ) (deed : Deed) (held : List HeldValue) (Stands : List HeldValue → Type 0) (Handed : List Note → Type 0) : Type 0 where
   pub told : List Note
   pub right : IsTrue (are_true_notes config (map (candidate_at config now) held) deed (candidates_of config (map (candidate_at config now) held) deed) told)

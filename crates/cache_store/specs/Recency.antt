@@ -1,4 +1,5 @@
--- Exact recency: the order of use of a store that evicts the least recently used, over one part of so many values which no time ends.
+-- Exact recency: the order of use in a store that evicts the least recently used value, over one part with a capacity of this many values,
+-- none of which a time ends.
 use Rattle.std.specs.Prelude.{◌≡◌, ℕ, suc, Bool, false, not, List, ◌∷◌, map, Option, Some, None, if◌then◌else◌, IsTrue, IsPermutation}
 use Rattle.std.specs.List.{list_any, filter}
 use Rattle.audit_model.specs.Bytewise.{same}
@@ -19,18 +20,18 @@ pub record IsPlainLru (config : Config) (number : ℕ) : Type 0 where
   pub idle : config.idle_ms ≡ None
   pub own : config.own_deadlines ≡ false
 
--- a key that is written goes first
+-- a key that is written moves to the front
 abbrev pub put_first : List ℕ → List (List ℕ) → List (List ℕ)
 put_first key keys = key ∷ keys_without key keys
 
--- a key that is looked up goes first, where it is there
+-- a key that is looked up moves to the front, if it is there
 abbrev pub used_first : List ℕ → List (List ℕ) → List (List ℕ)
 used_first key keys = if list_any (λ k. same k key) keys then put_first key keys else keys
 
--- the values held have just these keys
+-- the values held have exactly these keys
 abbrev pub AreKeysOf : List HeldValue → List (List ℕ) → Type 0
 AreKeysOf held keys = IsPermutation (map (λ h. h.value.key) held) keys
 
--- what is so by these orders of use stays so
+-- what is true by these orders of use stays true
 abbrev pub KeepsRecency : (Bool → List (List ℕ) → Type 0) → (Bool → List (List ℕ) → Type 0) → Type 0
 KeepsRecency old new = (settled : Bool) (keys : List (List ℕ)) → old settled keys → new settled keys

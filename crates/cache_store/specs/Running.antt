@@ -1,4 +1,4 @@
--- What maintenance owes: how much a part may hold between its runs, and what no run of all parts leaves behind.
+-- What maintenance guarantees: how much a part may hold between its runs, and what no run of all parts leaves.
 use Rattle.std.specs.Prelude.{ℕ, ◌+◌, ◌-◌, ◌/◌, Bool, true, false, not, ◌&&◌, ◌==◌, nat_le, nat_lt, List, Option, Some, None}
 use Rattle.std.specs.List.{list_all, filter, sum_by}
 use Rattle.std.specs.Option.{option_map}
@@ -7,11 +7,11 @@ use Rattle.audit_model.specs.Situation.{HeldValue}
 use Rattle.audit_model.specs.Values.{rounded, after_ms, has_come}
 use Rattle.audit_model.specs.declared.config.Config.{Config}
 
--- what the values of a part weigh
+-- the weight of the values of a part
 abbrev pub weight_in : ℕ → List HeldValue → ℕ
 weight_in part held = sum_by (λ h. h.value.weight) (filter (λ h. h.value.part == part) held)
 
--- each part weighs at most its share and 64 values of 8192 bytes
+-- each part weighs at most its share plus 64 values of 8192 bytes
 abbrev pub is_bounded : Config → List HeldValue → Bool
 is_bounded config held = go config.capacity
   where
@@ -19,11 +19,11 @@ is_bounded config held = go config.capacity
     go None = true
     go (Some capacity) = list_all (λ h. nat_le (weight_in h.value.part held) (share config capacity + 524288)) held
 
--- the tick of a moment: ticks have 2^30 nanoseconds, and are counted from the making rounded down to a multiple of 4096
+-- the tick of a moment: ticks have 2^30 nanoseconds, and are counted from the moment of creation rounded down to a multiple of 4096
 abbrev pub tick_of : ℕ → ℕ → ℕ
 tick_of made moment = (moment - rounded made) / 1073741824
 
--- there is a moment, and it lies in an earlier tick
+-- there is a moment, and it is in an earlier tick
 abbrev pub is_of_earlier_tick : ℕ → ℕ → Option ℕ → Bool
 is_of_earlier_tick made now None = false
 is_of_earlier_tick made now (Some moment) = nat_lt (tick_of made moment) (tick_of made now)

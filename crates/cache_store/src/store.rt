@@ -24,42 +24,41 @@ pub struct Counts {
 
 /// The values of one namespace.
 ///
-/// Moments are nanoseconds below 2^63, and never fall from call to call. A call that changes values may also run maintenance, which
-/// tells values that left. After an `Err` nothing has changed. There are at most 2^50 values: a further one is refused as for want of
-/// memory.
+/// Moments are nanoseconds below 2^63, and never fall from call to call. A call that changes values may also run maintenance, which reports
+/// values that left. After an `Err` nothing has changed. There are at most 2^50 values: a further one is refused as for lack of memory.
 pub trait Store: Drop {
     ghost view: { Self → Values };
 
-    /// What it was made with.
+    /// Returns its configuration.
     fn config(&self) -> &Config
         ensures { result.now ≡ (view self.now).frame.config };
 
-    /// What is true of every store. It does nothing.
+    /// Does nothing. Its contract says what is true of every store.
     fn sound(&self)
         ensures { IsSoundStore (view self.now) };
 
-    /// How many values are held.
+    /// Returns how many values are held.
     fn len(&self) -> usize
         ensures { result ≡ (view self.now).count };
 
-    /// The bytes of a key's live value; no use of it.
+    /// Returns the bytes of a key's live value. This is not a use of it.
     fn peek(&self, key: &Key, now: u64) -> Option<&[u8]>
         requires { IsMoment (view self.now) now }
         ensures { IsLive (view self.now) now key.now (option_map (λ bytes. bytes.now) result) };
 
-    /// How many keys have a live value.
+    /// Returns how many keys have a live value.
     fn count_live(&self, now: u64) -> usize
         requires { IsMoment (view self.now) now }
         ensures { AreLive (view self.now) now (λ keys. result ≡ length keys) };
 
-    /// Writes the live keys behind `output`, in byte order, each with a line feed. After an error nothing was written.
+    /// Appends the live keys to `output`, in byte order, each with a line feed. After an error nothing was written.
     fn write_live_keys(&self, now: u64, output: &mut Vec<u8>) -> Result<(), AllocError>
         requires { IsMoment (view self.now) now }
         ensures written { OnOk result (AreLive (view self.now) now (λ keys. output.new.items ≡ output.old.items ++ concat (map text_line keys))) }
         ensures unwritten { OnErr result (output.new.items ≡ output.old.items) };
 
-    /// Looks a key up: `read` is handed the bytes of its live value, if there is one, and what is behind `output`. Where it answers `Ok` this
-    /// is a use of the value.
+    /// Looks a key up: `read` is passed the bytes of its live value, if there is one, and the value behind `output`. If it returns `Ok`,
+    /// this is a use of the value.
     fn look_up<T, E, F: FnOnce(Option<&[u8]>, &mut Vec<u8>) -> Result<T, E> + Drop>(
         &mut self,
         key: &Key,
@@ -73,8 +72,8 @@ pub trait Store: Drop {
         ensures does { OnOk result (Does now (using key.now) (view self.old) (view self.new)) }
         ensures unchanged { OnErr result (self.new ≡ self.old) };
 
-    /// Accepts a value that lives for that many milliseconds, and answers its part. `looked_up` says whether the same step is a look-up of
-    /// the key too.
+    /// Accepts a value that lives this many milliseconds, and returns its part. `looked_up` says whether the same step is a look-up of the
+    /// key too.
     fn accept(
         &mut self,
         key: &Key,
@@ -89,22 +88,23 @@ pub trait Store: Drop {
         ensures used_up { IsErrOf result StoreError.UsedUp → IsSpent (view self.old) }
         ensures unchanged { OnErr result (self.new ≡ self.old) };
 
-    /// Lets the value of a key go.
+    /// Removes the value of a key.
     fn remove(&mut self, key: &Key, now: u64) -> Result<(), StoreError>
         requires { IsMoment (view self.old) now }
         ensures does { OnOk result (Does now (deleting key.now) (view self.old) (view self.new)) }
         ensures used_up { IsErrOf result StoreError.UsedUp → IsSpent (view self.old) }
         ensures unchanged { OnErr result (self.new ≡ self.old) };
 
-    /// Covers every value: none of those held is seen from now on, and a later run tells it. Nothing is told yet. It takes no memory.
+    /// Covers every value: none of those held is visible from now on, and a later run reports it. Nothing is reported yet. This allocates
+    /// nothing.
     fn clear(&mut self, now: u64) -> Result<(), StoreError>
         requires { IsMoment (view self.old) now }
         ensures does { OnOk result (Does now (covering Everything) (view self.old) (view self.new)) }
         ensures used_up { OnErr result (IsErrOf result StoreError.UsedUp × IsSpent (view self.old)) }
         ensures unchanged { OnErr result (self.new ≡ self.old) };
 
-    /// Covers each value whose key begins with the prefix, in every part, and answers true; or, where one part drew a thousand identifiers
-    /// that are each registered there, covers none, and answers false.
+    /// Covers each value whose key begins with the prefix, in every part, and returns true; or, if one part drew a thousand identifiers
+    /// that are each registered there, covers none, and returns false.
     fn drop_prefix(&mut self, prefix: &[u8], now: u64) -> Result<bool, StoreError>
         requires { IsMoment (view self.old) now }
         ensures does { IfOk result (λ covers. covers ≡ true → Does now (covering (Prefixed prefix.now)) (view self.old) (view self.new)) }
@@ -118,7 +118,7 @@ pub trait Store: Drop {
         ensures does { Does now syncing (view self.old) (view self.new) }
         ensures settled { IsSettled (view self.new) result.number result.weight };
 
-    /// Takes the note that was told first.
+    /// Takes the note that was reported first.
     fn next_notice(&mut self) -> Option<Note>
         ensures taken { TakesFirstNote (view self.old).untaken (view self.new).untaken result }
         ensures hands { GivesNote (view self.old) (view self.new) };

@@ -46,7 +46,7 @@ fn try_input(alloc: Global, asked: Asked<'_>, moment: Instant) -> Result<Input, 
     }
 }
 
-/// The same, at the second try where memory is refused.
+/// The same, on the second attempt if memory is refused.
 pub fn input_of(alloc: Global, asked: Asked<'_>, moment: Instant) -> Result<Input, AllocError> {
     match try_input(alloc, asked, moment) {
         Err(_) => try_input(alloc, asked, moment),

@@ -3,7 +3,7 @@
 use crate::inputs::{feed, input_of, is_back, moment_from};
 use crate::rows::{Asked, Case, FIRST, Row, SECOND, Sent, Told};
 use audit_model::{Bytes, Closing, Config, Conn, Input, Instant, LoadId, Note, Seq, ServiceError};
-use cache_spaces::{Core, Output, RecordedService, Refusal, Service};
+use cache_spaces::{Core, LentReplies, Output, RecordedService, Refusal, Service, copy_note};
 use rand_core::SeedableRng;
 use rand_xoshiro::Xoshiro256PlusPlus;
 use std::alloc::Global;
@@ -71,11 +71,12 @@ impl Played for RecordedService {
         RecordedService::step(self, input)
     }
 
-    /// At the second try where memory is refused for the copy.
+    /// What was taken is copied, at the second try where memory is refused.
     fn take_output(&mut self, conn: Conn) -> Result<Vec<u8>, ServiceError> {
+        let alloc = *self.allocator();
         match RecordedService::take_output(self, conn) {
-            Err(ServiceError::OutOfMemory) => RecordedService::take_output(self, conn),
-            taken => taken,
+            Ok(replies) => copied(alloc, replies),
+            Err(error) => Err(error),
         }
     }
 
@@ -83,11 +84,13 @@ impl Played for RecordedService {
         RecordedService::take_loads(self, namespace)
     }
 
-    /// At the second try where memory is refused for the copy.
+    /// What was taken is copied, at the second try where memory is refused.
     fn next_notice(&mut self, namespace: u64) -> Result<Option<Note>, ServiceError> {
+        let alloc = *self.allocator();
         match RecordedService::next_notice(self, namespace) {
-            Err(ServiceError::OutOfMemory) => RecordedService::next_notice(self, namespace),
-            taken => taken,
+            Ok(Some(note)) => Ok(Some(copied_note(alloc, note)?)),
+            Ok(None) => Ok(None),
+            Err(error) => Err(error),
         }
     }
 
@@ -101,6 +104,28 @@ impl Played for RecordedService {
 
     fn loads_open(&self, namespace: u64) -> Result<u64, ServiceError> {
         self.service().loads_open(namespace)
+    }
+}
+
+/// A copy of replies, at the second try where memory is refused.
+fn copied(alloc: Global, replies: LentReplies<'_>) -> Result<Vec<u8>, ServiceError> {
+    match replies.to_vec(alloc) {
+        Ok(text) => Ok(text),
+        Err(_) => match replies.to_vec(alloc) {
+            Ok(text) => Ok(text),
+            Err(_) => Err(ServiceError::OutOfMemory),
+        },
+    }
+}
+
+/// A copy of a note, at the second try where memory is refused.
+fn copied_note(alloc: Global, note: &Note) -> Result<Note, ServiceError> {
+    match copy_note(alloc, note) {
+        Ok(copy) => Ok(copy),
+        Err(_) => match copy_note(alloc, note) {
+            Ok(copy) => Ok(copy),
+            Err(_) => Err(ServiceError::OutOfMemory),
+        },
     }
 }
 

@@ -39,7 +39,7 @@ fn has_text<E: Display>(alloc: Global, error: &E, text: &str) -> Result<bool, Al
     Ok(format!(in alloc; "{error}")?.as_str() == text)
 }
 
-/// Whether an error has its text, which is written once more where memory was refused.
+/// Whether an error has its text, which is written once more if memory was refused.
 fn says<E: Display>(alloc: Global, error: &E, text: &str) -> bool {
     has_text(alloc, error, text) == Ok(true) || has_text(alloc, error, text) == Ok(true)
 }

@@ -8,7 +8,7 @@ use std::process::ExitCode;
 use std::rt::Files;
 use std::{env, fs, io};
 
-/// Prints each fault of the file at a path, as `PATH:LINE: FAULT`, and answers the status: 0 where there is none, else 1.
+/// Prints each fault of the file at a path, as `PATH:LINE: FAULT`, and returns the status: 0 if there is none, otherwise 1.
 fn check<R: Files + Print + AllocGlobal>(rt: &R, path: &str) -> io::Result<u8> {
     let text = match fs::read_to_string(rt, path) {
         Ok(text) => text,

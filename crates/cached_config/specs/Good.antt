@@ -32,6 +32,6 @@ abbrev pub are_distinct : List HostedNamespace → Bool
 are_distinct [] = true
 are_distinct (space ∷ spaces) = list_all (is_apart space) spaces && are_distinct spaces
 
--- 1 to 16 namespaces, each as it should be, all names and all ports different
+-- 1 to 16 namespaces, each valid, all names and all ports different
 abbrev pub are_good : List HostedNamespace → Bool
 are_good spaces = nat_le 1 (length spaces) && nat_le (length spaces) 16 && list_all is_good_namespace spaces && are_distinct spaces

@@ -18,10 +18,10 @@ pub struct ConfigFault {
     pub what: String,
 }
 
-/// The faults of the text of a configuration file, in its order; none where `read_config` takes it.
+/// Returns the faults of the text of a configuration file, in its order; none if `read_config` accepts it.
 ///
-/// Of a text that is no TOML the first fault alone is told. A fault of a key is told at the line on which the key stands, or, where that
-/// is not found (as in a table on one line), at the header of its namespace.
+/// Of a text that is not TOML only the first fault is reported. A fault of a key is reported with the line of the key, or, if that is not
+/// found (as in a table on one line), with the line of its namespace's header.
 pub fn check_config(alloc: Global, text: &str) -> Result<Vec<ConfigFault>, AllocError>
     ensures text { parse_document text.now ≡ None → IfOk result (λ faults. faults.items ≢ []) }
 {
@@ -32,7 +32,7 @@ pub fn check_config(alloc: Global, text: &str) -> Result<Vec<ConfigFault>, Alloc
     }
 }
 
-/// The faults of a text that is no good configuration; at least one.
+/// The faults of a text that is not a good configuration; at least one.
 fn gather(alloc: Global, text: &str) -> Result<Vec<ConfigFault>, AllocError>
     ensures some { IfOk result (λ faults. faults.items ≢ []) }
 {
@@ -78,7 +78,7 @@ impl<'a> Checks<'a> {
         Ok(())
     }
 
-    /// A fault of a key of a namespace, which is told with its name.
+    /// A fault of a key of a namespace, which is reported with its name.
     fn add_key(&mut self, place: usize, key: &str, what: &str) -> Result<(), AllocError> {
         let line = line_of_key(self.text, place, Part::Own, key);
         let what = format!(in self.alloc; "{key} {what}")?;

@@ -5,7 +5,7 @@ use crate::listed::ConfigError;
 use audit_model::{EvictionPolicy, Weight};
 use toml::{Table, Value};
 
-/// The number at a key, if there is one. Refused where it is none, or below 0.
+/// The number at a key, if there is one. Refused if it is not a number, or below 0.
 pub fn number_at(table: &Table, key: &str) -> Result<Option<u64>, ConfigError> {
     let Some(value) = table.get(key) else {
         return Ok(None);
@@ -19,7 +19,7 @@ pub fn number_at(table: &Table, key: &str) -> Result<Option<u64>, ConfigError> {
     }
 }
 
-/// Whether a switch is on; it is off where nothing is said.
+/// Whether a switch is on; off if it is not set.
 pub fn switch_at(table: &Table, key: &str) -> Result<bool, ConfigError> {
     match table.get(key) {
         None => Ok(false),
@@ -49,7 +49,7 @@ pub fn table_at<'a>(table: &'a Table, key: &str) -> Result<Option<&'a Table>, Co
     }
 }
 
-/// The policy: TinyLFU where nothing is said.
+/// The policy, by default TinyLFU.
 pub fn policy_at(table: &Table) -> Result<EvictionPolicy, ConfigError> {
     match text_at(table, "policy")? {
         None => Ok(EvictionPolicy::TinyLfu),
@@ -65,7 +65,7 @@ pub fn policy_at(table: &Table) -> Result<EvictionPolicy, ConfigError> {
     }
 }
 
-/// What a value weighs: one where nothing is said.
+/// What a value weighs, by default one.
 pub fn weight_at(table: &Table) -> Result<Weight, ConfigError> {
     match text_at(table, "weight")? {
         None => Ok(Weight::One),

@@ -12,14 +12,14 @@ const MOST: usize = 16;
 /// The most bytes of a value that is loaded.
 const MOST_BYTES: usize = 8192;
 
-/// Whether a file may have these namespaces: 1 to 16, each as it should be, all names and all ports different.
+/// Whether a file may have these namespaces: 1 to 16, each valid, all names and all ports different.
 pub fn are_good(spaces: &[HostedNamespace]) -> bool
     ensures { result ≡ are_good spaces.now }
 {
     !spaces.is_empty() && spaces.len() <= MOST && are_all_good(spaces) && are_distinct(spaces)
 }
 
-/// Whether each is as it should be.
+/// Whether each is valid.
 fn are_all_good(spaces: &[HostedNamespace]) -> bool
     ensures { result ≡ list_all is_good_namespace spaces.now }
 {
@@ -57,7 +57,7 @@ fn is_apart(space: &HostedNamespace, others: &[HostedNamespace]) -> bool
     true
 }
 
-/// Whether a namespace is as it should be.
+/// Whether a namespace is valid.
 fn is_good(space: &HostedNamespace) -> bool
     ensures { result ≡ is_good_namespace space.now }
 {

@@ -1,7 +1,7 @@
 //! On which line of a configuration file a key stands.
 ghost use Rattle.std.specs.Prelude.{◌≡◌};
 
-/// Where a key stands in the table of a namespace.
+/// Where a key is in the table of a namespace.
 #[derive(Clone, Copy, PartialEq, Eq, Drop)]
 pub enum Part {
     /// In the table itself.
@@ -10,7 +10,7 @@ pub enum Part {
     Loads,
 }
 
-/// The line of the header with which the table of that number begins, from 1 on; 1 where there is none.
+/// The line, from 1 on, of the header with which the table with this number begins; 1 if there is none.
 pub fn line_of_header(text: &str, place: usize) -> usize {
     let mut begun = 0usize;
     for (index, line) in text.lines().enumerate() {
@@ -24,7 +24,7 @@ pub fn line_of_header(text: &str, place: usize) -> usize {
     1
 }
 
-/// The line of a key in the table of that number; that of the table's header where it does not begin a line.
+/// The line of a key in the table with this number; the line of the table's header if the key does not begin a line.
 pub fn line_of_key(text: &str, place: usize, part: Part, key: &str) -> usize {
     let mut begun = 0usize;
     let mut within = Part::Own;
@@ -42,7 +42,7 @@ pub fn line_of_key(text: &str, place: usize, part: Part, key: &str) -> usize {
     line_of_header(text, place)
 }
 
-/// The line of a key, or of a table of that name, outside all namespaces; 1 where there is none.
+/// The line of a key, or of a table of that name, outside all namespaces; 1 if there is none.
 pub fn line_outside(text: &str, key: &str) -> usize {
     for (index, line) in text.lines().enumerate() {
         let line = line.trim();

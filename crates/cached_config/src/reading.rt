@@ -26,12 +26,12 @@ pub const KEYS: [&str; 10] = [
     "loads",
 ];
 
-/// The namespaces of a configuration file, in its order.
+/// Returns the namespaces of a configuration file, in its order.
 ///
-/// The file is TOML: tables `[[namespace]]`, 1 to 16, each with `name` and `port`, both different from the others', and, if wanted,
-/// `capacity`, `policy` (`"lru"` or `"tinylfu"`, which is the default), `parts` (1 to 256, by default 1), `weight` (`"one"`, the
-/// default, or `"bytes"`), `live_ms` and `idle_ms` (1 to 999,999,999,999), `deadlines` (by default false; not beside `live_ms`) and a
-/// table `loads` of texts without line ends, of at most 8192 bytes. All else is `Bad`. Without memory `OutOfMemory`.
+/// The file is TOML: tables `[[namespace]]`, 1 to 16, each with `name` and `port`, both different from the others', and optionally
+/// `capacity`, `policy` (`"lru"` or `"tinylfu"`, the default), `parts` (1 to 256, by default 1), `weight` (`"one"`, the default, or
+/// `"bytes"`), `live_ms` and `idle_ms` (1 to 999,999,999,999), `deadlines` (by default false; not together with `live_ms`) and a table
+/// `loads` of texts without line ends, of at most 8192 bytes. Anything else is `Bad`. If memory runs out, `OutOfMemory`.
 pub fn read_config(alloc: Global, text: &str) -> Result<Vec<HostedNamespace>, ConfigError>
     ensures ok { IfOk result (λ spaces. IsTrue (are_good spaces.items)) }
     ensures text { parse_document text.now ≡ None → IsErr result }

@@ -2,7 +2,7 @@
 use Rattle.std.specs.Prelude.{ℕ, List, [], ◌∷◌, ◌++◌, codes}
 use Rattle.std.specs.Fmt.{decimal}
 use Rattle.audit_model.specs.declared.transcript.Note.{Note}
-use Rattle.cached_server.specs.Script.Notes.{note_text}
+use Rattle.audit_model.specs.Notes.{note_text}
 
 -- a note, with the name of its namespace before it
 abbrev pub named_note_line : List ℕ → Note → List ℕ

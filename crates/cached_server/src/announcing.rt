@@ -14,13 +14,13 @@ use std::thread::Parker;
 use std::time;
 use std::time::{Duration, Instant};
 
-/// How many seconds a note waits for room, where lines are read.
+/// How many seconds a note waits for room if lines are read.
 const PATIENCE: u64 = 1;
 
 /// What threads that have notes share with the one that writes them.
 ///
-/// Lines wait in an `Outbox`. Where it is full, whoever has a note waits for room, a second at most; then notes are counted as lost, and
-/// nobody waits again, until lines are read. So a reader that stops reading stops no namespace.
+/// Lines wait in an `Outbox`. If it is full, a caller with a note waits for room, for a second at most; then notes are counted as lost, and
+/// nobody waits again until lines are read. So a reader that stops reading stops no namespace.
 #[derive(Drop)]
 pub struct Outlet {
     outbox: Mutex<Outbox>,
@@ -31,7 +31,7 @@ pub struct Outlet {
 }
 
 impl Outlet {
-    /// One in which nothing waits.
+    /// Creates an outlet in which nothing waits.
     pub fn new(alloc: Global) -> Result<Arc<Outlet>, AllocError> {
         let outlet = Outlet {
             outbox: Mutex::new(Outbox::new(alloc)?),
@@ -67,7 +67,7 @@ impl Outlet {
         outbox.put(name, note);
     }
 
-    /// Tells notes of a namespace.
+    /// Reports notes of a namespace.
     pub fn tell<R: Wait + time::Clock>(&self, rt: &R, name: &[u8], notes: &[Note]) {
         for note in notes {
             if !self.put_at_once(rt, name, note) {
@@ -89,7 +89,8 @@ impl Outlet {
         self.emptied.notify_all();
     }
 
-    /// Takes the lines that wait, once there are some, or no more will come. Answers how many notes were lost, and whether no more will come.
+    /// Takes the lines that wait, as soon as there are some or no more will come. Returns how many notes were lost, and whether no more
+    /// will come.
     fn take(&self, rt: &impl Wait, lines: &mut Vec<u8>) -> (u64, bool)
         requires empty { lines.old.items ≡ [] }
         requires room { 1048576 ≤ vec_capacity lines.old }
@@ -158,7 +159,7 @@ where
     }
 }
 
-/// The writer of what namespaces tell, and where it is said what was lost.
+/// The writer of what namespaces report, and where the number of lost notices is written.
 #[derive(Drop)]
 pub struct Scribe<W: Write + Drop, E: Write + Drop> {
     lines: Lines<W>,

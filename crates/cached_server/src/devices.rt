@@ -58,7 +58,7 @@ impl Loader for ListLoader {
     }
 }
 
-/// What a key is listed with. None where there is no memory for a copy.
+/// The value that is listed for a key; none if there is no memory for a copy.
 fn find_listed(alloc: Global, loads: &[Listed], key: &[u8]) -> Option<Outcome>
     ensures { IfSome result (λ outcome. outcome ≡ listed_outcome loads.now key.now) }
 {

@@ -48,7 +48,7 @@ impl Board {
         self.changed.notify_all();
     }
 
-    /// Waits until so many hosts have ended, or one could not go on. Answers whether one could not.
+    /// Waits until this many hosts have ended, or one could not continue. Returns whether one could not.
     fn wait(&self, rt: &impl Wait, all: u64) -> bool {
         let ended = self.changed.wait_while(rt, self.ended.lock(rt), |ended| {
             !ended.failed && ended.count < all

@@ -12,7 +12,7 @@ use itoa::Buffer;
 use std::alloc::{AllocError, Global};
 use std::io::Write;
 
-/// So many bytes of a line are gathered before they are written. The longest line that a server tells is shorter.
+/// This many bytes of a line are gathered before they are written. The longest line that a server writes is shorter.
 const LINE_BYTES: usize = 16384;
 
 /// A writer of whole lines. Once a line could not be written whole, nothing more is written.
@@ -36,7 +36,7 @@ impl<W: Write + Drop> Lines<W> {
         })
     }
 
-    /// Writes a text of whole lines. Takes no memory.
+    /// Writes a text of whole lines. This allocates nothing.
     pub fn send(&mut self, text: &[u8]) -> Result<(), RunError>
         ensures ok { OnOk result (Appends (W.contents (device self.old.writer)) (W.contents (device self.new.writer)) text.now) }
         ensures whole { OnOk result (self.new.is_cut ≡ self.old.is_cut) }
@@ -55,7 +55,7 @@ impl<W: Write + Drop> Lines<W> {
         }
     }
 
-    /// Writes that a namespace of that name is served at a port, in one piece. Takes no memory.
+    /// Writes that a namespace of that name is served at a port, in one piece. This allocates nothing.
     pub fn show(&mut self, name: &[u8], port: u16) -> Result<(), RunError>
         ensures ok { OnOk result (Appends (W.contents (device self.old.writer)) (W.contents (device self.new.writer)) (listening_line name.now port)) }
         ensures whole { OnOk result (self.new.is_cut ≡ self.old.is_cut) }
@@ -79,7 +79,7 @@ impl<W: Write + Drop> Lines<W> {
         }
     }
 
-    /// Writes how many notices were lost, in one piece. Takes no memory.
+    /// Writes how many notices were lost, in one piece. This allocates nothing.
     pub fn show_lost(&mut self, lost: u64) -> Result<(), RunError>
         ensures ok { OnOk result (Appends (W.contents (device self.old.writer)) (W.contents (device self.new.writer)) (lost_line lost)) }
         ensures whole { OnOk result (self.new.is_cut ≡ self.old.is_cut) }

@@ -29,7 +29,7 @@ pub fn listen<R: Net<Listener = TcpListener, Stream = TcpStream>>(
     Ok(listeners)
 }
 
-/// Says of each namespace where it is served, in their order.
+/// Writes for each namespace where it is served, in their order.
 pub fn show_all<W: Write + Drop>(
     lines: &mut Lines<W>,
     spaces: &[HostedNamespace],

@@ -8,7 +8,7 @@ use std::alloc::{AllocError, Global};
 use std::marker::Model;
 use std::mem;
 
-/// So many bytes of lines wait at most.
+/// This many bytes of lines wait at most.
 pub const ROOM: usize = 1 << 20;
 
 /// The lines of notes that wait to be written, at most `ROOM` bytes, and how many notes found no room.
@@ -36,7 +36,7 @@ impl Model for Outbox {
 }
 
 impl Outbox {
-    /// No lines, with the memory for all that may wait.
+    /// Creates an outbox without lines, with the memory for all that may wait.
     pub fn new(alloc: Global) -> Result<Outbox, AllocError>
         ensures { IfOk result (λ outbox. outbox ≡ no_lines) }
     {
@@ -50,7 +50,7 @@ impl Outbox {
         })
     }
 
-    /// Whether there is nothing to write or to tell yet, and more will come.
+    /// Whether there is nothing to write or to report yet, and more will come.
     pub fn is_idle(&self) -> bool
         ensures { result ≡ is_idle self.now }
     {
@@ -64,7 +64,7 @@ impl Outbox {
         self.is_over
     }
 
-    /// Whether there is room for so many bytes.
+    /// Whether there is room for this many bytes.
     fn has_room_for(&self, length: usize) -> bool
         ensures { result ≡ has_room_for length self.now }
     {
@@ -78,7 +78,7 @@ impl Outbox {
         !self.is_closed && !self.is_stalled && !self.has_room_for(line_length(name, note))
     }
 
-    /// Puts the line of a note of a namespace behind those that wait. Without room for it the note is counted as lost.
+    /// Appends the line of a note of a namespace to those that wait. If there is no room for it, the note is counted as lost.
     pub fn put(&mut self, name: &[u8], note: &Note)
         ensures { self.new ≡ with_line (named_note_line name.now note.now) self.old }
     {
@@ -92,28 +92,28 @@ impl Outbox {
         }
     }
 
-    /// Says that room was waited for in vain: until lines are taken, nobody waits for it again.
+    /// Notes that room was waited for in vain: until lines are taken, nobody waits for it again.
     pub fn stall(&mut self)
         ensures { self.new ≡ record self.old { is_stalled = true } }
     {
         self.is_stalled = true;
     }
 
-    /// Says that nobody reads what is written: no line waits from now on.
+    /// Notes that nobody reads what is written: no line waits from now on.
     pub fn close(&mut self)
         ensures { self.new ≡ record self.old { is_closed = true } }
     {
         self.is_closed = true;
     }
 
-    /// Says that no more will come.
+    /// Notes that no more will come.
     pub fn end(&mut self)
         ensures { self.new ≡ record self.old { is_over = true } }
     {
         self.is_over = true;
     }
 
-    /// Takes the lines that wait, for an empty buffer of as much room, and answers how many notes were lost.
+    /// Takes the lines that wait, for an empty buffer of as much room, and returns how many notes were lost.
     pub fn take(&mut self, lines: &mut Vec<u8>) -> u64
         requires empty { lines.old.items ≡ [] }
         requires room { 1048576 ≤ vec_capacity lines.old }
@@ -132,14 +132,10 @@ impl Outbox {
 fn line_length(name: &[u8], note: &Note) -> usize
     ensures { result ≡ min (length (named_note_line name.now note.now)) 18446744073709551615 }
 {
-    name.len()
-        .saturating_add(note.cause.word().len())
-        .saturating_add(note.key.as_slice().len())
-        .saturating_add(note.value.as_slice().len())
-        .saturating_add(9)
+    name.len().saturating_add(1).saturating_add(note.line_len())
 }
 
-/// Puts a text behind others, for which there is room.
+/// Appends a text to others, for which there is room.
 fn push(texts: &mut Vec<u8>, text: &[u8])
     requires { vec_len texts.old + length text.now ≤ vec_capacity texts.old }
     ensures pushed { texts.new.items ≡ texts.old.items ++ text.now }
@@ -148,18 +144,13 @@ fn push(texts: &mut Vec<u8>, text: &[u8])
     texts.extend_from_slice(text).unwrap();
 }
 
-/// Puts the line of a note behind others, for which there is room.
+/// Appends the line of a note to others, for which there is room.
 fn push_line(lines: &mut Vec<u8>, name: &[u8], note: &Note)
     requires { vec_len lines.old + length (named_note_line name.now note.now) ≤ vec_capacity lines.old }
     ensures pushed { lines.new.items ≡ lines.old.items ++ named_note_line name.now note.now }
     ensures room { vec_capacity lines.old ≤ vec_capacity lines.new }
 {
     push(lines, name);
-    push(lines, b" NOTE ");
-    push(lines, note.cause.word());
     push(lines, b" ");
-    push(lines, note.key.as_slice());
-    push(lines, b" ");
-    push(lines, note.value.as_slice());
-    push(lines, b"\n");
+    note.write_to(lines).unwrap();
 }

@@ -23,15 +23,15 @@ use std::thread::Threads;
 use std::time;
 use std::time::Instant;
 
-/// The program, over its words and streams. Answers its status: 0 at the end of a script, 1 after an error, 2 where the words
-/// are not served.
+/// The program, with its arguments and streams. Returns its status: 0 at the end of a script, 1 after an error, 2 if the arguments are
+/// wrong.
 ///
-/// `--script`: at 0 the replies of the script's lines stand on `writer`, and its notes on `errors`. An error's text follows the notes;
+/// `--script`: at 0 the replies to the script's lines are on `writer`, and its notes on `errors`. The text of an error follows the notes;
 /// what cannot be written to `errors` is lost.
 ///
 /// `--config FILE`: serves what the file says, until that is no longer possible. `shown` is standard output and standard error as well, as
-/// values that threads share: on the first it says where each namespace is served, and then tells notices, by a thread of its own; on the
-/// second, how many notices were lost, because the first was not read for more than a second and a mebibyte of them waited.
+/// values that threads share: on the first it writes where each namespace is served, and then notices, in a thread of its own; on the
+/// second, how many notices were lost because the first was not read for more than a second while a mebibyte of them waited.
 pub fn cached<S: AsStr, I: Read, O: Write, E: Write, W, V, R>(
     rt: R,
     alloc: Global,
@@ -68,8 +68,7 @@ where
     }
 }
 
-/// Serves what the configuration file at a path says, until that is no longer possible. Then the text of what was wrong is written, and
-/// the status is 1.
+/// Serves what the configuration file at a path says, until that is no longer possible. Then it writes what was wrong, and the status is 1.
 pub fn serve_config<E: Write, W, V, R>(
     rt: R,
     alloc: Global,
@@ -107,7 +106,8 @@ where
 }
 
 /// Serves what the text of a configuration file says: without end, or until each namespace has served as many connections as the limit
-/// says. The first of `shown` says where each namespace is served, and then tells notices, the second how many were lost. The clock of each connection counts from `begun` on.
+/// says. On the first of `shown` it writes where each namespace is served, and then notices; on the second, how many were lost. The clock
+/// of each connection counts from `begun` on.
 pub fn serve_text<W, V, R>(
     rt: R,
     alloc: Global,

@@ -10,7 +10,7 @@ use std::fs;
 use std::io::ErrorKind;
 use std::rt::Files;
 
-/// The text of a file. One that cannot be read, or is no text, is a bad configuration.
+/// The text of a file. One that cannot be read, or is not text, is a bad configuration.
 pub fn read_text<R: Files + AllocGlobal>(rt: &R, path: &str) -> Result<String, Fault>
     ensures { IfErr result (λ e. (e ≡ Fault.BadConfiguration) ⊎ (e ≡ Fault.OutOfMemory)) }
 {

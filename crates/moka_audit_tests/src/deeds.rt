@@ -169,7 +169,7 @@ fn is_live(config: &Config, now: u64, held: &Holding, key: &[u8], wanted: Option
     }
 }
 
-/// Does a row, and answers whether it came out so.
+/// Does a row, and returns whether the result was the expected one.
 fn comes_so(alloc: Global, config: &Config, held: &mut Holding, row: Row<'_>) -> bool {
     match row {
         Row::Accepts(now, key, value, told, right) => {
@@ -201,7 +201,7 @@ fn is_right(alloc: Global, config: &Config, case: Case<'_>) -> bool {
     }
 }
 
-/// The same, at the second try where memory is refused.
+/// The same, on the second attempt if memory is refused.
 fn is_right_again(alloc: Global, config: &Config, case: Case<'_>) -> bool {
     is_right(alloc, config, case) || is_right(alloc, config, case)
 }

@@ -256,7 +256,7 @@ fn expect_right(alloc: Global, cut: Cut, rows: &[Row<'_>]) -> Result<(), Fail> {
     Ok(())
 }
 
-/// All that comes, whole, at the second try where memory is refused.
+/// All that comes, whole, on the second attempt if memory is refused.
 fn inputs_again(alloc: Global, came: &[Came<'_>]) -> Result<Vec<Input>, AllocError> {
     match inputs_of(alloc, Cut::Whole, came) {
         Ok(inputs) => Ok(inputs),
@@ -264,7 +264,7 @@ fn inputs_again(alloc: Global, came: &[Came<'_>]) -> Result<Vec<Input>, AllocErr
     }
 }
 
-/// The transcript, at the second try where memory is refused.
+/// The transcript, on the second attempt if memory is refused.
 fn played_again(alloc: Global, row: &Row<'_>) -> Result<Transcript, Fail> {
     let inputs = inputs_again(alloc, row.came)?;
     match play_row(alloc, row, &inputs) {
@@ -273,7 +273,7 @@ fn played_again(alloc: Global, row: &Row<'_>) -> Result<Transcript, Fail> {
     }
 }
 
-/// The verdict, at the second try where memory is refused.
+/// The verdict, on the second attempt if memory is refused.
 fn verdict_again(alloc: Global, config: &Config, transcript: &Transcript) -> Verdict {
     match audit(alloc, config, transcript) {
         Verdict::OutOfMemory => audit(alloc, config, transcript),

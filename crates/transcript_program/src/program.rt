@@ -22,8 +22,8 @@ const BAD_CONFIGURATION: &[u8] = b"transcript: bad configuration\n";
 
 const BAD_INPUT: &[u8] = b"transcript: bad input, line ";
 
-/// The program, over its words and streams. Answers its status: 0 where the transcripts were printed or the one that was read obeys, 3
-/// where it breaks a rule, 1 after an error, 2 where the words are not served. What cannot be written to `errors` is lost.
+/// The program, with its arguments and streams. Returns its status: 0 if the transcripts were printed or the one that was read obeys, 3 if
+/// it breaks a rule, 1 after an error, 2 if the arguments are wrong. What cannot be written to `errors` is lost.
 pub fn transcript<S: AsStr, R: Read, W: Write, E: Write>(
     alloc: Global,
     words: &[S],
@@ -45,8 +45,8 @@ pub fn transcript<S: AsStr, R: Read, W: Write, E: Write>(
     }
 }
 
-/// The program where its words cannot be had: the text of the error, and the status after it. Without memory that is 1; words that
-/// are no text are not served.
+/// The program if its arguments cannot be read: writes the text of the error, and returns the status. If memory ran out, that is 1;
+/// arguments that are not text are wrong.
 pub fn without_words<E: Write>(cause: ErrorKind, errors: &mut E) -> u8
     ensures memory { cause ≡ ErrorKind.OutOfMemory → result ≡ 1 }
     ensures other { cause ≢ ErrorKind.OutOfMemory → result ≡ 2 }
@@ -66,7 +66,7 @@ fn is_word<S: AsStr>(words: &[S], wanted: &str) -> bool {
     }
 }
 
-/// Writes the text of an error, and answers the status after it.
+/// Writes the text of an error, and returns the status after it.
 fn fail<E: Write>(errors: &mut E, text: &[u8]) -> u8
     ensures { result ≡ 1 }
 {
@@ -98,7 +98,7 @@ fn run_replay<R: Read, W: Write, E: Write>(
     }
 }
 
-/// Reads a transcript, judges it, and prints the verdict. Answers 0, 1 or 3.
+/// Reads a transcript, judges it, and prints the verdict. Returns 0, 1 or 3.
 fn run_audit<R: Read, W: Write, E: Write>(
     alloc: Global,
     reader: &mut R,
@@ -120,7 +120,7 @@ fn run_audit<R: Read, W: Write, E: Write>(
     }
 }
 
-/// Prints a verdict, and answers the status after it: 0 where the transcript obeys, 3 where it breaks, 1 where nothing can be said.
+/// Prints a verdict, and returns the status after it: 0 if the transcript obeys, 3 if it breaks a rule, 1 if there is no verdict.
 fn print_verdict<W: Write, E: Write>(verdict: Verdict, writer: &mut W, errors: &mut E) -> u8
     ensures below { result ≤ 3 }
     ensures served { result ≢ 2 }

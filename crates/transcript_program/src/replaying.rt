@@ -18,7 +18,7 @@ const SEED: u64 = 0;
 pub enum ReplayError {
     /// The line of this number is not of the form.
     Line(u64),
-    /// A configuration or the moment of the making is refused.
+    /// A configuration or the moment of creation is refused.
     Config,
     /// There was no memory.
     OutOfMemory,
@@ -49,7 +49,7 @@ impl From<ServiceError> for ReplayError {
     }
 }
 
-/// The inputs of a text, played, and what they came to: the transcript of each namespace.
+/// Plays the inputs of a text, and returns the transcript of each namespace as text.
 pub fn replay(alloc: Global, text: &[u8]) -> Result<Vec<u8>, ReplayError>
     ensures printed { IfOk result (λ printed. IsPrintedOf text.now printed.items) }
 {

@@ -14,11 +14,11 @@ abbrev pub NobodyWaits : List PendingLoad → Type 0
 NobodyWaits [] = Unit {0}
 NobodyWaits (load ∷ loads) = (load.waiting ≡ []) × NobodyWaits loads
 
--- where no other connection waits, and this one is not open, nobody does
+-- if no other connection waits, and this one is not open, nobody waits
 abbrev pub ClosedUnwaited : Type 0
 ClosedUnwaited = (s : Situation) (conn : ℕ) → Tidy [] s → WaitsAlone conn s.pending → connection_in conn s ≡ None → NobodyWaits s.pending
 
--- a give-up where nobody waits has no steps, and takes its load away alone
+-- a give-up while nobody waits has no steps, and only removes its load
 abbrev pub GivesUpUnwaited : Type 0
 GivesUpUnwaited =
     (config : Config) (s t : Situation) (entry : Record) (load : ℕ) (moment : Instant) → entry.event ≡ event.GiveUp load moment → Follows config s entry t → NobodyWaits s.pending

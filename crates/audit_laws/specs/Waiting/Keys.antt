@@ -5,12 +5,12 @@ use Rattle.audit_model.specs.Situation.{Situation, PendingLoad}
 use Rattle.audit_model.specs.declared.config.Config.{Config}
 use Rattle.audit_model.specs.declared.transcript.Record.{Record}
 
--- a load of that number has that key
+-- a load with this number has this key
 abbrev pub HasKey : ℕ → List ℕ → List PendingLoad → Type 0
 HasKey number key [] = Unit {0}
 HasKey number key (load ∷ loads) = (load.number ≡ number → load.key ≡ key) × HasKey number key loads
 
--- a load of that number was sent, and where it is under way it has that key
+-- a load with this number was sent, and if it is under way it has this key
 abbrev pub IsKnown : ℕ → List ℕ → Situation → Type 0
 IsKnown number key s = (number ≤ s.sent) × HasKey number key s.pending
 

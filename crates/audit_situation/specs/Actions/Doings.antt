@@ -1,11 +1,11 @@
--- What a step does, with its words where they stand.
+-- What a step does, with its words in place.
 use Rattle.std.specs.Option.{option_map}
 use Rattle.audit_model.specs.History.{Action, Running, Faulting, Holding, Delivering, Abandoning, Storing}
 use Rattle.audit_model.specs.declared.command.Command.TheVariants as says
 use Rattle.audit_situation.specs.declared.actions.doing.Doing.{Doing}
 use Rattle.audit_situation.specs.declared.actions.doing.Doing.TheVariants as does
 
--- as the definitions have it
+-- in terms of the definitions
 abbrev pub action_of : Doing → Action
 action_of (does.Set key ms value) = Running (says.Set key.now ms value.now)
 action_of (does.Get key) = Running (says.Get key.now)

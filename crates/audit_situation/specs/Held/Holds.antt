@@ -25,7 +25,7 @@ abbrev pub held_by : Open → List ℕ → HeldSlot → HeldValue
 held_by open_keys marks s =
     record { value = s.value; last_use = s.last_use; covered = not (is_open_key s.value.key open_keys); evictable = nat_lt s.stamp (get_or marks s.value.part 0) }
 
--- each number was given out before that one, and each part is one of 256
+-- each number was given out before this one, and each part is one of 256
 abbrev pub are_sound : ℕ → List HeldSlot → Bool
 are_sound next slots = list_all (λ s. nat_lt s.stamp next && nat_lt s.value.part 256) slots
 
@@ -37,7 +37,7 @@ are_past_marks next marks = list_all (λ m. nat_le m next) marks
 abbrev pub values_in : List HeldSlot → List Value
 values_in slots = map (λ s. s.value) slots
 
--- a value that is used at that moment, where it is of that key
+-- a value that is used at that moment, if it is of that key
 abbrev pub value_used_at : List ℕ → ℕ → HeldValue → HeldValue
 value_used_at key now h = if same key h.value.key then record h { last_use = now } else h
 
@@ -45,11 +45,11 @@ value_used_at key now h = if same key h.value.key then record h { last_use = now
 abbrev pub value_covered_by : List ℕ → HeldValue → HeldValue
 value_covered_by prefix h = record h { covered = h.covered || starts_with nat_eq h.value.key prefix }
 
--- a value of a part whose weight is a point or not, where earlier points count no more or do
+-- a value of a part whose weight is a point or not, if earlier points no longer count or still do
 abbrev pub marked_in : ℕ → Bool → Bool → HeldValue → HeldValue
 marked_in part over anew h = if h.value.part == part then record h { evictable = over || (not anew && h.evictable) } else h
 
--- what holds of the representation
+-- what holds for the representation
 pub record RepresentsHeld (next : ℕ) (marks weights : List ℕ) (total : ℕ) (slots : List HeldSlot) : Type 0 where
   pub sound : are_sound next slots ≡ true
   pub marked : are_past_marks next marks ≡ true

@@ -8,13 +8,13 @@ use Rattle.audit_model.specs.History.{Value}
 use Rattle.audit_model.specs.Values.{without_key}
 use Rattle.audit_situation.specs.declared.held.kept.StoredValue.{StoredValue}
 
--- a value with its last use, and the number by which it is told from values accepted later
+-- a value with its last use, and the number that distinguishes it from values accepted later
 pub record HeldSlot : Type 0 where
   pub value : Value
   pub last_use : ℕ
   pub stamp : ℕ
 
--- a key with what is kept beside it
+-- a key with what is kept for it
 abbrev pub slot_of : List ℕ → StoredValue → HeldSlot
 slot_of key kept =
     record { value = record { key = key; bytes = kept.bytes; part = kept.part; weight = kept.weight; accepted_at = kept.accepted_at; own_deadline = kept.own_deadline }; last_use = kept.last_use; stamp = kept.stamp }
@@ -31,7 +31,7 @@ slots_of (e ∷ es) = slots_of es ++ slot_of e.0.items e.1 ∷ []
 abbrev pub slot_at : List ℕ → List HeldSlot → Option HeldSlot
 slot_at key slots = find (λ s. same key s.value.key) slots
 
--- the slots but the key's
+-- the slots except the key's
 abbrev pub slots_without : List ℕ → List HeldSlot → List HeldSlot
 slots_without key slots = without_key (λ s. s.value.key) key slots
 
@@ -43,7 +43,7 @@ slot_used_at key now s = if same key s.value.key then record s { last_use = now 
 abbrev pub is_new_key : List ℕ → List Entry → Bool
 is_new_key key es = list_all (λ e. not (same key e.0.items)) es
 
--- no key twice
+-- no key occurs twice
 abbrev pub have_keys_apart : List Entry → Bool
 have_keys_apart [] = true
 have_keys_apart (e ∷ es) = is_new_key e.0.items es && have_keys_apart es

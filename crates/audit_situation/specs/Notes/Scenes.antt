@@ -1,4 +1,4 @@
--- What a step's notes are judged by.
+-- By what a step's notes are judged.
 use Rattle.std.specs.Prelude.{◌≡◌, ℕ, Bool, true, List, [], ◌++◌, map, Option, if◌then◌else◌}
 use Rattle.std.specs.Option.{option_map, option_to_list}
 use Rattle.audit_model.specs.Commands.{Deed}
@@ -16,7 +16,7 @@ use Rattle.audit_situation.specs.declared.notes.deed.Deed.{Deed as Done}
 use Rattle.audit_situation.specs.declared.notes.notes.Scene.{Scene}
 use Rattle.audit_situation.specs.declared.notes.notes.Candidate.{Candidate as Told}
 
--- what is true of a value that may be told
+-- what is true of a value that may be reported
 abbrev pub told_candidate : Config → ℕ → Told → Candidate
 told_candidate config now c = record (candidate_at config now (held_of c.seen)) { new = c.new }
 
@@ -34,11 +34,11 @@ deed_in scene = deed_with scene.deed (option_map (λ h. h.value) (newcomer_in sc
 abbrev pub candidate_in : Scene → Told → Candidate
 candidate_in scene c = told_candidate scene.config.now scene.moment c
 
--- the value that the step accepts, while no note has told it
+-- the value that the step accepts, as long as no note has reported it
 abbrev pub rest_of : Bool → Option HeldValue → List HeldValue
 rest_of left newcomer = if left then option_to_list newcomer else []
 
--- the values that may still be told
+-- the values that may still be reported
 abbrev pub may_be_told : Config → ℕ → List HeldValue → List HeldValue → List Candidate
 may_be_told config now held rest = map (candidate_at config now) held ++ map (new_candidate_at config now) rest
 
@@ -50,20 +50,20 @@ candidates_in scene held left = may_be_told scene.config.now scene.moment held (
 abbrev pub IsBefore : Scene → List Candidate → Type 0
 IsBefore scene before = AreOverfilled scene.config.now before (deed_in scene) scene.overfilled.now
 
--- the value that the step accepts, while no note has told it, as it may be told
+-- the value that the step accepts, as long as no note has reported it, as one that may be reported
 abbrev pub new_candidates_in : Scene → Bool → List Candidate
 new_candidates_in scene left = map (new_candidate_at scene.config.now scene.moment) (rest_of left (newcomer_in scene))
 
--- whether the note is true, if that is the value of which it is, is the answer
+-- whether the note is true, if this is the value that it names, is the result
 abbrev pub IsTrueNoteOf : Scene → Note → Option Candidate → Bool → Type 0
 IsTrueNoteOf scene note told answer = (before : List Candidate) → IsBefore scene before → answer ≡ is_true_note scene.config.now before (deed_in scene) note told
 
--- the notes of a step are true that does that and accepts that value
+-- the notes of a step are true that does this and accepts this value
 abbrev pub are_told_rightly : Config → ℕ → List HeldValue → Done → Option HeldValue → List Note → Bool
 are_told_rightly config now held done newcomer notes =
     are_true_notes config (map (candidate_at config now) held) (deed_with done (option_map (λ h. h.value) newcomer)) (may_be_told config now held (option_to_list newcomer)) notes
 
--- the values are left that no note tells
+-- the values that no note reports are left
 abbrev pub LeavesUntold : List Note → Option HeldValue → List HeldValue → List HeldValue → Bool → Type 0
 LeavesUntold notes newcomer old new left = new ++ rest_of left newcomer ≡ untold (λ h. h.value.key) notes (old ++ option_to_list newcomer)
 

@@ -195,7 +195,7 @@ impl Holding {
         close_all(self.alloc, &mut self.open_keys, prefix)
     }
 
-    /// Marks the values of a part where its weight is a point, and unmarks them where it is none and earlier ones count no more.
+    /// Marks the values of a part if its weight is a point, and unmarks them if it is not and earlier points no longer count.
     pub fn mark(&mut self, part: usize, over: bool, anew: bool)
         requires { part < 256 }
         ensures { self.new ≡ map (marked_in part over anew) self.old }

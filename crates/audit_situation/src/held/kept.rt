@@ -16,6 +16,6 @@ pub struct StoredValue {
     pub own_deadline: Option<u64>,
     /// When it was used last.
     pub last_use: u64,
-    /// Its number, by which it is told from values accepted later.
+    /// Its number, which distinguishes it from values accepted later.
     pub stamp: u64,
 }

@@ -74,7 +74,7 @@ fn new_part(newcomer: Option<&Held>, key: &[u8]) -> Option<u64>
     }
 }
 
-/// Judges a step's notes, and lets the values go that they tell; whether the newcomer is left is answered beside.
+/// Judges a step's notes, and removes the values that they report. Also returns whether the newcomer is left.
 fn judge_notes(
     alloc: Global,
     config: &Config,
@@ -125,7 +125,7 @@ fn add_left(held: &mut Holding, newcomer: Held, left: bool) -> Result<(), AllocE
     if left { held.add(newcomer) } else { Ok(()) }
 }
 
-/// Uses the value that a step looks up, where it is live.
+/// Uses the value that a step looks up, if it is live.
 fn use_live(config: &Config, now: u64, uses: Option<&[u8]>, held: &mut Holding)
     ensures { held.new ≡ map (used_in config.now now (option_map (λ k. k.now) uses.entry)) held.old }
 {
@@ -184,8 +184,8 @@ fn pass_on(
     Ok(())
 }
 
-/// Judges a step's notes, and does to the values held what the step does. It answers whether the notes are true; where they are not, the values
-/// held are none that mean anything.
+/// Judges a step's notes, and does to the values held what the step does. Returns whether the notes are true; if they are not, the values
+/// held mean nothing.
 pub fn do_deed(
     alloc: Global,
     config: &Config,

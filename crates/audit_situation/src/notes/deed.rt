@@ -12,7 +12,7 @@ pub enum Covering<'a> {
     Prefixed(&'a [u8]),
 }
 
-/// What a step does to values, but for the value that it accepts.
+/// What a step does to values, except for the value that it accepts.
 #[derive(Clone, Copy)]
 pub struct Deed<'a> {
     /// The key that it looks up.

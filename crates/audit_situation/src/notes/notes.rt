@@ -143,7 +143,7 @@ fn is_true_of_new(scene: &Scene<'_>, left: &mut bool, note: &Note) -> bool
     }
 }
 
-/// Takes the key's first value that is not told yet, and answers whether the note tells it with a true cause.
+/// Takes the key's first value that is not reported yet, and returns whether the note reports it with a true cause.
 fn is_true_of_first(scene: &Scene<'_>, held: &mut Holding, left: &mut bool, note: &Note) -> bool
     requires { IfSome (newcomer_in scene.now) (λ h. h.value.part < 256) }
     ensures right { IsTrueNoteOf scene.now note.now (first_of note.now.key (candidates_in scene.now held.old left.old)) result }
@@ -209,8 +209,8 @@ fn are_all(a: bool, b: bool, c: bool) -> bool
     a && b && c
 }
 
-/// Whether each note tells its key's first value that is not told yet, with a true cause, and no older value of a written or deleted key is left.
-/// The values that are told are let go; where the answer is `false`, what is left means nothing.
+/// Whether each note reports the first value of its key that is not reported yet, with a true cause, and no older value of a written or
+/// deleted key is left. The values that are reported are removed; if the result is `false`, what is left means nothing.
 pub fn are_true_notes(
     scene: &Scene<'_>,
     held: &mut Holding,

@@ -13,7 +13,7 @@ use crate::held::{Held, Holding, Seen};
 use audit_model::Config;
 use std::alloc::{AllocError, Global};
 
-/// There are at most so many parts.
+/// There are at most this many parts.
 pub const PARTS: usize = 256;
 
 /// How many parts there are: the next power of two.
@@ -52,7 +52,7 @@ fn share(config: &Config, capacity: u64) -> u128
     (u128::from(capacity) + (parts - 1)) / parts
 }
 
-/// A part's share of the capacity; nothing where there is no capacity.
+/// A part's share of the capacity; nothing if there is no capacity.
 pub fn limit_of(config: &Config) -> u128
     ensures { IsShare config.now result }
 {
@@ -89,7 +89,7 @@ fn weight_seen(held: Option<Seen<'_>>, part: usize) -> u64
     }
 }
 
-/// What the values of a part weigh where the newcomer has taken its key's place, which `older` has had.
+/// What the values of a part weigh once the newcomer has replaced the older value of its key.
 fn weight_with(
     held: &Holding,
     older: Option<Seen<'_>>,
@@ -107,7 +107,7 @@ fn weight_with(
     }
 }
 
-/// Which parts are over their share where the newcomer has taken its key's place, if there is a capacity.
+/// Which parts exceed their share once the newcomer has replaced the older value of its key, if there is a capacity.
 fn overfilled_by(
     alloc: Global,
     limit: u128,
@@ -125,7 +125,7 @@ fn overfilled_by(
     Ok(marks)
 }
 
-/// Which parts are over their share just after a step has accepted the newcomer, if there is one.
+/// Which parts exceed their share right after a step has accepted the newcomer, if there is one.
 pub fn overfilled(
     alloc: Global,
     config: &Config,
@@ -140,7 +140,7 @@ pub fn overfilled(
     }
 }
 
-/// The same where there is one.
+/// The same if there is a capacity.
 fn overfilled_with(
     alloc: Global,
     config: &Config,

@@ -42,7 +42,7 @@ unfoldable pub asked_of : ℕ → List ℕ → List (List ℕ) → Option (Input
 asked_of namespace kind ws =
     if bytes_eq kind (codes "open") then Some (input.Open namespace, ws) else option_map (λ event. (input_asking namespace event.0, event.1)) (event_of kind ws)
 
--- an input behind its word
+-- an input after its word
 unfoldable pub input_in : List (List ℕ) → Option (Input × List (List ℕ))
 input_in ws = do
   namespace ← field number_in ws
@@ -57,14 +57,14 @@ entry_of kind ws =
     else (if bytes_eq kind (codes "made") then option_map (λ nanos. (entry.Made (record { nanos = nanos.0 }), nanos.1)) (field number_in ws)
     else None))
 
--- what the line_words of a whole line say, not so strictly
+-- what the words of a whole line say, less strictly
 unfoldable pub entry_words_in : List (List ℕ) → Option InputLine
 entry_words_in ws = do
   kind ← field Some ws
   said ← entry_of kind.0 kind.1
   whole said
 
--- what a line says; it is of the form only as it would be written
+-- what a line says; it is well-formed only as it would be written
 unfoldable pub entry_in : List ℕ → Option InputLine
 entry_in line = do
   said ← entry_words_in (line_words line)
@@ -96,13 +96,13 @@ begin_made b made = if not (has_only_configs b) || nat_eq (length b.configs) 0 t
 unfoldable pub begin_input : Begun → Input → Option Begun
 begin_input b input = if is_none b.made then None else Some (record b { inputs = b.inputs ++ input ∷ [] })
 
--- what was read with an entry more, where it may stand there
+-- what was read with one more entry, if it may come there
 abbrev pub add_entry : Begun → InputLine → Option Begun
 add_entry b (entry.Config config) = begin_config b config
 add_entry b (entry.Made made) = begin_made b made
 add_entry b (entry.Input input) = begin_input b input
 
--- lines that say something, behind what was read
+-- lines that say something, after what was read
 abbrev pub begin_lines : Begun → List (List ℕ) → Option Begun
 begin_lines b [] = Some b
 begin_lines b (l ∷ ls) = do
@@ -110,7 +110,7 @@ begin_lines b (l ∷ ls) = do
   more ← add_entry b said
   begin_lines more ls
 
--- the replay, where the moment of the making was read
+-- the replay, if the moment of creation was read
 abbrev pub replay_of : Begun → Option Replay
 replay_of b = option_map {T = Instant} (λ made. record { configs = b.configs; made = made; inputs = b.inputs }) b.made
 

@@ -1,4 +1,4 @@
--- What the line_words of a line say.
+-- What the words of a line say.
 use Rattle.std.specs.Prelude.{◌≡◌, ℕ, ◌+◌, ◌-◌, ◌*◌, Bool, true, false, ◌&&◌, nat_le, ◌==◌, if◌then◌else◌, List, [], ◌∷◌, ◌++◌, codes, Option, Some, None, option_map, option_and_then, Result, Ok, Err, Vec, ◌≢◌}
 use Rattle.std.specs.Borrow.{Bor}
 use Rattle.std.specs.Str.{bytes_eq}
@@ -21,65 +21,65 @@ infixl 10 ◌>>=◌
 abbrev pub ◌>>=◌ : {A B : Type 0} → Option A → (A → Option B) → Option B
 o >>= f = option_and_then f o
 
--- the fault, of the line of this number
+-- the fault, of the line with this number
 abbrev pub at_line : LineFault → ℕ → TextError
 at_line fault.Form number = error.Line number
 at_line fault.OutOfMemory number = error.OutOfMemory
 
--- there is a fault of form only where the definition gives nothing; for want of memory nothing is said
+-- there is a fault of form only if the definition gives nothing; if memory ran out nothing is said
 abbrev pub IsFault : {A : Type 0} → Option A → LineFault → Type 0
 IsFault said fault.Form = said ≡ None
 IsFault said fault.OutOfMemory = Unit {0}
 
--- a result that is as the definition says: its value is the one that the definition gives, and it has a fault of form only where
--- the definition gives none
+-- a result that is as the definition says: its value is the one that the definition gives, and it has a fault of form only if the
+-- definition gives none
 abbrev pub IsRead : {A : Type 0} → Option A → Result A LineFault → Type 0
 IsRead said (Ok a) = said ≡ Some a
 IsRead said (Err f) = IsFault said f
 
--- the same, of a reading that leaves line_words
+-- the same for a reading that leaves words
 abbrev pub IsReadOff : {A : Type 0} → Option (A × List (List ℕ)) → Result A LineFault → List (List ℕ) → Type 0
 IsReadOff said (Ok a) left = said ≡ Some (a, left)
 IsReadOff said (Err f) left = IsFault said f
 
--- the line_words of what is left, if anything is
+-- the words of what is left, if anything is
 abbrev pub words_of_rest : Option (Bor (List ℕ)) → List (List ℕ)
 words_of_rest None = []
 words_of_rest (Some rest) = line_words rest.now
 
--- the line_words that are still to be read
+-- the words that are still to be read
 abbrev pub words_left : Words → List (List ℕ)
 words_left it = words_of_rest it.rest
 
--- the next word was read, and those behind it are left; there is no next word only where there is none
+-- the next word was read, and those after it are left; there is no next word only if there is none
 abbrev pub IsNextWord : List (List ℕ) → Result (Bor (List ℕ)) LineFault → List (List ℕ) → Type 0
 IsNextWord old (Ok word) left = old ≡ word.now ∷ left
 IsNextWord old (Err fault.Form) left = old ≡ []
 IsNextWord old (Err fault.OutOfMemory) left = ⊥
 
--- all line_words were read
+-- all words were read
 abbrev pub IsEnd : {A : Type 0} → List (List ℕ) → Result A LineFault → Type 0
 IsEnd left (Ok done) = left ≡ []
 IsEnd left (Err fault.Form) = left ≢ []
 IsEnd left (Err fault.OutOfMemory) = ⊥
 
--- what stands behind a beginning was given, or it has no such beginning
+-- what comes after a prefix was returned, or it has no such prefix
 abbrev pub IsBehind : Option (List ℕ) → Result (Bor (List ℕ)) LineFault → Type 0
 IsBehind said (Ok rest) = said ≡ Some rest.now
 IsBehind said (Err fault.Form) = said ≡ None
 IsBehind said (Err fault.OutOfMemory) = ⊥
 
--- a result that is as the definition says, of a `Vec`
+-- a result that is as the definition says, as a `Vec`
 abbrev pub IsReadItems : {S : Type 0} → Option (List ℕ) → Result (Vec ℕ S) LineFault → Type 0
 IsReadItems said (Ok bytes) = said ≡ Some bytes.items
 IsReadItems said (Err f) = IsFault said f
 
--- what the next word says, and the line_words behind it
+-- what the next word says, and the words after it
 abbrev pub field : {A : Type 0} → (List ℕ → Option A) → List (List ℕ) → Option (A × List (List ℕ))
 field says [] = None
 field says (w ∷ ws) = option_map (λ a. (a, ws)) (says w)
 
--- what was said, where no word is left
+-- what was said, if no word is left
 abbrev pub whole : {A : Type 0} → A × List (List ℕ) → Option A
 whole (a, []) = Some a
 whole (a, w ∷ ws) = None
@@ -113,13 +113,13 @@ cause_in word =
     else (if bytes_eq word (codes "Replaced") then Some cause.Replaced
     else (if bytes_eq word (codes "Size") then Some cause.Size else None)))
 
--- what stands behind a beginning
+-- what comes after a prefix
 abbrev pub behind : List ℕ → List ℕ → Option (List ℕ)
 behind [] word = Some word
 behind (n ∷ name) [] = None
 behind (n ∷ name) (b ∷ word) = if b == n then behind name word else None
 
--- what stands behind this name in the next word was given, and the line_words behind it are left
+-- what comes after this name in the next word was returned, and the words after it are left
 abbrev pub IsSetting : List ℕ → List (List ℕ) → Result (Bor (List ℕ)) LineFault → List (List ℕ) → Type 0
 IsSetting name old (Ok rest) left = field (behind name) old ≡ Some (rest.now, left)
 IsSetting name old (Err f) left = IsFault (field (behind name) old) f
@@ -139,7 +139,7 @@ byte_in high low = do
   l ← digit_in low
   Some (h * 16 + l)
 
--- bytes behind those of `front`, two digits each
+-- bytes after those of `front`, two digits each
 abbrev pub digits_in : List ℕ → List ℕ → Option (List ℕ)
 digits_in front [] = Some front
 digits_in front (high ∷ []) = None
@@ -147,6 +147,6 @@ digits_in front (high ∷ low ∷ rest) = do
   byte ← byte_in high low
   digits_in (front ++ byte ∷ []) rest
 
--- bytes: `x`, and two digits a byte
+-- bytes: `x`, and two digits for each byte
 abbrev pub bytes_in : List ℕ → Option (List ℕ)
 bytes_in word = behind (codes "x") word >>= digits_in []

@@ -11,17 +11,17 @@ use Rattle.audit_model.specs.declared.transcript.Record.{Record}
 use Rattle.audit_model.specs.declared.transcript.Step.{Step}
 use Rattle.audit_model.specs.declared.transcript.Transcript.{Transcript}
 
--- P holds of each
+-- P holds for each
 abbrev pub Each : {A : Type 0} → (A → Type 0) → List A → Type 0
 Each P [] = Unit {0}
 Each P (x ∷ xs) = P x × Each P xs
 
--- P holds of what is there, if anything is
+-- P holds for what is there, if anything is
 abbrev pub IfAny : {A : Type 0} → (A → Type 0) → Option A → Type 0
 IfAny P None = Unit {0}
 IfAny P (Some x) = P x
 
--- a number of 64 bits
+-- a 64-bit number
 abbrev pub FitsNumber : ℕ → Type 0
 FitsNumber n = n < 2 ^ 64
 

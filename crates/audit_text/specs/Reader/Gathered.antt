@@ -8,7 +8,7 @@ use Rattle.audit_text.specs.declared.reader.gathering.Gathered.{Gathered}
 use Rattle.audit_text.specs.declared.reader.item.Item.{Item}
 use Rattle.audit_text.specs.declared.reader.item.Item.TheVariants as item
 
--- the line of an item; a step stands without its notes
+-- the line of an item; a step comes without its notes
 abbrev pub item_line : Item → List ℕ
 item_line (item.Config config) = line (config_words config)
 item_line (item.Made made) = line (made_words made.nanos)

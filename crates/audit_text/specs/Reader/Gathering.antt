@@ -18,12 +18,12 @@ use Rattle.audit_text.specs.declared.reader.gathering.Gathered.{Gathered}
 use Rattle.audit_text.specs.declared.reader.item.Item.{Item}
 use Rattle.audit_text.specs.declared.reader.item.Item.TheVariants as item
 
--- a value was changed as the definition says, and there is a fault of form only where the definition gives none
+-- a value was changed as the definition says, and there is a fault of form only if the definition gives none
 abbrev pub IsMade : {A B : Type 0} → Option B → Result A LineFault → B → Type 0
 IsMade said (Ok done) new = said ≡ Some new
 IsMade said (Err f) new = IsFault said f
 
--- the same, of a whole text
+-- the same for a whole text
 abbrev pub IsReadText : {A : Type 0} → Option A → Result A TextError → Type 0
 IsReadText said (Ok a) = said ≡ Some a
 IsReadText said (Err (error.Line number)) = said ≡ None
@@ -57,14 +57,14 @@ with_own_note r note = if not (nat_eq (length r.steps) 0) then None else Some (r
 abbrev pub with_note : Step → Note → Step
 with_note s note = record s { notices = s.notices ++ note ∷ [] }
 
--- ---- what is open, put to the others
+-- ---- what is open, added to the others
 
 abbrev pub step_closed : Option Step → Option Record → Gathered → Option Gathered
 step_closed None r g = Some g
 step_closed (Some s) None g = None
 step_closed (Some s) (Some r) g = Some (record g { «record» = Some (with_step r s); step = None })
 
--- the last step was put to its record
+-- the last step was added to its record
 abbrev pub closed_step : Gathered → Option Gathered
 closed_step g = step_closed g.step g.«record» g
 
@@ -72,11 +72,11 @@ abbrev pub record_closed : Option Record → Gathered → Gathered
 record_closed None g = g
 record_closed (Some r) g = record g { records = g.records ++ r ∷ []; «record» = None }
 
--- the last record was put to the others
+-- the last record was added to the others
 abbrev pub closed_record : Gathered → Gathered
 closed_record g = record_closed g.«record» g
 
--- ---- what was gathered with an item more, where it may stand there
+-- ---- what was gathered with one more item, if it may come there
 
 unfoldable pub add_config : Gathered → Config → Option Gathered
 add_config g config = if is_some g.config || not (has_no_records g) || is_some g.made then None else Some (record g { config = Some config })
@@ -91,7 +91,7 @@ begun event = record { event = event; own = None; notices = []; steps = [] }
 unfoldable pub add_event : Gathered → Event → Option Gathered
 add_event g event = if is_none g.made then None else option_map {T = Gathered} (λ closed. record (closed_record closed) { «record» = Some (begun event) }) (closed_step g)
 
--- the open record was changed, where no step is open
+-- the open record was changed, if no step is open
 abbrev pub on_record : (Record → Option Record) → Option Record → Gathered → Option Gathered
 on_record change None g = None
 on_record change (Some r) g = option_map (λ changed. record g { «record» = Some changed }) (change r)
@@ -124,7 +124,7 @@ add_item g (item.Note note) = add_note g note
 
 -- ---- all lines
 
--- lines that say something, behind what was gathered
+-- lines that say something, after what was gathered
 abbrev pub add_lines : Gathered → List (List ℕ) → Option Gathered
 add_lines g [] = Some g
 add_lines g (l ∷ ls) = do
@@ -132,7 +132,7 @@ add_lines g (l ∷ ls) = do
   more ← add_item g said
   add_lines more ls
 
--- the transcript with its configuration, where both lines in front were read
+-- the transcript with its configuration, if both lines at the front were read
 unfoldable pub finished : Gathered → Option (Config × Transcript)
 finished g = do
   closed ← closed_step g

@@ -20,7 +20,7 @@ asked_words (input.GiveUp load moment) = decimal load.namespace ∷ codes "giveu
 abbrev pub input_words : Input → List (List ℕ)
 input_words input = codes "input" ∷ asked_words input
 
--- the configurations, the moment of the making, and the inputs
+-- the configurations, the moment of creation, and the inputs
 abbrev pub replay_text : Replay → List ℕ
 replay_text replay =
     flat_map (λ config. line (config_words config)) replay.configs ++ line (made_words replay.made.nanos) ++ flat_map (λ input. line (input_words input)) replay.inputs

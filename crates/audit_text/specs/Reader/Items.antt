@@ -1,4 +1,4 @@
--- What a line says, by its line_words in order.
+-- What a line says, by its words in order.
 use Rattle.std.specs.Prelude.{ℕ, ◌^◌, nat_lt, if◌then◌else◌, List, [], ◌∷◌, ◌++◌, codes, Option, Some, None, option_map, option_and_then}
 use Rattle.std.specs.Str.{bytes_eq}
 use Rattle.audit_model.specs.Grammar.{number_in}
@@ -15,7 +15,7 @@ use Rattle.audit_text.specs.Reader.Lines.{line_words}
 use Rattle.audit_text.specs.declared.reader.item.Item.{Item}
 use Rattle.audit_text.specs.declared.reader.item.Item.TheVariants as item
 
--- the settings behind the word `config`
+-- the settings after the word `config`
 unfoldable pub config_in_words : List (List ℕ) → Option (Config × List (List ℕ))
 config_in_words ws = do
   capacity ← field (setting_in (codes "capacity=") (option_in number_in)) ws
@@ -27,7 +27,7 @@ config_in_words ws = do
   own ← field (setting_in (codes "deadlines=") flag_in) idle.1
   (if nat_lt parts.0 (2 ^ 32) then Some (record { capacity = capacity.0; policy = kept.0; parts = parts.0; weight = weight.0; live_ms = live.0; idle_ms = idle.0; own_deadlines = own.0 }, own.1) else None)
 
--- a piece of a connection's bytes, behind the word `feed`
+-- a piece of a connection's bytes, after the word `feed`
 unfoldable pub feed_in_words : List (List ℕ) → Option (Event × List (List ℕ))
 feed_in_words ws = do
   conn ← field number_in ws
@@ -42,14 +42,14 @@ value_in_words ws = do
   ms ← field (option_in number_in) bytes.1
   Some (outcome.Value bytes.0 ms.0, ms.1)
 
--- what a loader answered, by its kind
+-- what a loader returned, by its kind
 unfoldable pub outcome_of : List ℕ → List (List ℕ) → Option (Outcome × List (List ℕ))
 outcome_of kind ws =
     if bytes_eq kind (codes "value") then value_in_words ws
     else (if bytes_eq kind (codes "none") then Some (outcome.None, ws)
     else (if bytes_eq kind (codes "fault") then option_map (λ text. (outcome.Fault text.0, text.1)) (field bytes_in ws) else None))
 
--- an answer, behind its word
+-- an answer, after its word
 unfoldable pub answer_in_words : List (List ℕ) → Option (Event × List (List ℕ))
 answer_in_words ws = do
   load ← field number_in ws
@@ -58,7 +58,7 @@ answer_in_words ws = do
   said ← outcome_of kind.0 kind.1
   Some (event.Answer load.0 said.0 (record { nanos = nanos.0 }), said.1)
 
--- that a load was given up, behind its word
+-- a load that was given up, after its word
 unfoldable pub give_up_in_words : List (List ℕ) → Option (Event × List (List ℕ))
 give_up_in_words ws = do
   load ← field number_in ws
@@ -74,7 +74,7 @@ event_of kind ws =
     else (if bytes_eq kind (codes "open") then option_map (λ conn. (event.Open conn.0, conn.1)) (field number_in ws)
     else (if bytes_eq kind (codes "close") then option_map (λ conn. (event.Close conn.0, conn.1)) (field number_in ws) else None))))
 
--- a note behind its word
+-- a note after its word
 unfoldable pub note_in_words : List (List ℕ) → Option (Note × List (List ℕ))
 note_in_words ws = do
   why ← field cause_in ws
@@ -82,7 +82,7 @@ note_in_words ws = do
   value ← field bytes_in key.1
   Some (record { cause = why.0; key = key.0; value = value.0 }, value.1)
 
--- a step behind its word, without notes
+-- a step after its word, without notes
 unfoldable pub step_in_words : List (List ℕ) → Option (Step × List (List ℕ))
 step_in_words ws = do
   conn ← field number_in ws
@@ -109,14 +109,14 @@ item_of kind ws =
     else (if bytes_eq kind (codes "ownnote") then option_map (λ note. (item.OwnNote note.0, note.1)) (note_in_words ws)
     else head_of kind ws)))
 
--- what the line_words of a whole line say, not so strictly
+-- what the words of a whole line say, less strictly
 unfoldable pub words_in : List (List ℕ) → Option Item
 words_in ws = do
   kind ← field Some ws
   said ← item_of kind.0 kind.1
   whole said
 
--- what a line says; it is of the form only as it would be written
+-- what a line says; it is well-formed only as it would be written
 unfoldable pub item_in : List ℕ → Option Item
 item_in line = do
   said ← words_in (line_words line)

@@ -1,4 +1,4 @@
--- The lines of a text that say something, and the line_words of a line.
+-- The lines of a text that say something, and the words of a line.
 use Rattle.std.specs.Prelude.{ℕ, Bool, true, false, cond, ◌==◌, List, [], ◌∷◌, ◌++◌}
 use Rattle.std.specs.List.{flat_map}
 use Rattle.audit_model.specs.Bytewise.{onto_first}
@@ -29,7 +29,7 @@ telling_line l = cond (is_skipped l) [] (l ++ 10 ∷ [])
 abbrev pub kept : List ℕ → List ℕ
 kept bytes = flat_map telling_line (lines bytes)
 
--- a line, where it says something
+-- a line, if it says something
 abbrev pub said_line : List ℕ → List (List ℕ)
 said_line l = cond (is_skipped l) [] (l ∷ [])
 

@@ -13,7 +13,7 @@ use std::alloc::{AllocError, AllocFailed, Global};
 /// Why a text is not read.
 #[derive(Clone, Copy, Debug, PartialEq, Eq, Drop)]
 pub enum TextError {
-    /// The line of this number, counted from 1, is not of the form; one behind the last where a line is missing.
+    /// The line with this number, counted from 1, is malformed; one after the last if a line is missing.
     Line(u64),
     /// There was no memory.
     OutOfMemory,

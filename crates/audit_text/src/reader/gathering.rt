@@ -37,7 +37,7 @@ pub fn nothing(alloc: Global) -> Gathered
     }
 }
 
-/// Adds an item behind the others, where it may stand there.
+/// Appends an item, if it may come there.
 pub fn add_item(alloc: Global, gathered: &mut Gathered, item: Item) -> Result<(), LineFault>
     ensures text { OnOk result (gathered_text gathered.new ≡ gathered_text gathered.old ++ item_line item) }
     ensures said { IsMade (said.add_item gathered.old item) result gathered.new }
@@ -266,7 +266,7 @@ fn close(gathered: &mut Gathered) -> Result<(), LineFault>
     close_record(gathered)
 }
 
-/// The transcript with its configuration, where both lines in front were read.
+/// The transcript with its configuration, if both lines at the front were read.
 #[tactic(auto, unfolding(crate::specs::Reader::Gathering::finished))]
 pub fn finish(mut gathered: Gathered) -> Result<(Config, Transcript), LineFault>
     ensures text { IfOk result (λ r. transcript_text r.0 r.1 ≡ gathered_text gathered) }
@@ -283,7 +283,7 @@ pub fn finish(mut gathered: Gathered) -> Result<(Config, Transcript), LineFault>
     join(config, made, records)
 }
 
-/// The transcript of these records, where both lines in front were read.
+/// The transcript of these records, if both lines at the front were read.
 #[tactic(auto, unfolding(crate::specs::Reader::Gathering::finished))]
 fn join(
     config: Option<Config>,

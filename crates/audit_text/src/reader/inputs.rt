@@ -16,7 +16,7 @@ use crate::{put, put_answer, put_close, put_config, put_feed, put_give_up, put_m
 use audit_model::{Config, Conn, Event, Input, Instant, LoadId, Seq};
 use std::alloc::{AllocError, Global};
 
-/// What is played: configurations, the moment of the making, and inputs.
+/// What is played: configurations, the moment of creation, and inputs.
 #[derive(Drop)]
 pub struct Replay {
     pub configs: Seq<Config>,
@@ -45,7 +45,7 @@ pub enum InputLine {
 
 /// The inputs that a text writes: one or more lines `config`, a line `made`, and lines `input`.
 ///
-/// What is read is what would be written, but for empty lines and comments. Else an error says which line is not of the form.
+/// What is read has this text, except for empty lines and comments. Otherwise an error says which line is malformed.
 pub fn read_inputs(alloc: Global, text: &[u8]) -> Result<Replay, TextError>
     ensures written { IfOk result (λ replay. replay_text replay ≡ kept text.now) }
     ensures exact { (replay : Replay) → FitsReplay replay → replay_text replay ≡ kept text.now → IsReplay result replay }
@@ -102,7 +102,7 @@ fn take_input_line(alloc: Global, begun: &mut Begun, line: &[u8]) -> Result<(), 
     add_entry(begun, entry)
 }
 
-/// Adds an entry behind the others, where it may stand there.
+/// Appends an entry, if it may come there.
 fn add_entry(begun: &mut Begun, entry: InputLine) -> Result<(), LineFault>
     ensures text { OnOk result (begun_text begun.new ≡ begun_text begun.old ++ entry_line entry) }
     ensures said { IsMade (add_entry begun.old entry) result begun.new }

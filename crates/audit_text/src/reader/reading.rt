@@ -17,7 +17,7 @@ use std::alloc::Global;
 
 /// The transcript that a text writes, with its configuration.
 ///
-/// What is read is what would be written, but for empty lines and comments. Else an error says which line is not of the form.
+/// What is read has this text, except for empty lines and comments. Otherwise an error says which line is malformed.
 pub fn read_transcript(alloc: Global, text: &[u8]) -> Result<(Config, Transcript), TextError>
     ensures written { IfOk result (λ r. transcript_text r.0 r.1 ≡ kept text.now) }
     ensures exact { (config : Config) → (transcript : Transcript) → FitsConfig config → FitsTranscript transcript

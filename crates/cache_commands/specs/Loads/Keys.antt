@@ -10,7 +10,7 @@ use Rattle.cache_commands.specs.declared.loads.load.Load.{Load}
 abbrev pub pending_load : Load → PendingLoad
 pending_load load = record { number = load.number; key = load.key; waiting = load.waiting.items }
 
--- they are the namespace's loads in turn, behind so many
+-- they are the namespace's loads in order, after this many
 abbrev pub are_in_turn : ℕ → ℕ → List (LoadId × List ℕ) → Bool
 are_in_turn namespace before [] = true
 are_in_turn namespace before (out ∷ outgoing) = out.0.namespace == namespace && (out.0.number == suc before && are_in_turn namespace (suc before) outgoing)
@@ -19,7 +19,7 @@ are_in_turn namespace before (out ∷ outgoing) = out.0.namespace == namespace &
 abbrev pub agrees_on : LoadId × List ℕ → PendingLoad → Bool
 agrees_on out load = not (load.number == out.0.number) || same load.key out.1
 
--- what went out has the key of the load under way that has its number
+-- what went out has the key of the load under way with its number
 abbrev pub has_its_key : List PendingLoad → LoadId × List ℕ → Bool
 has_its_key loads out = list_all (agrees_on out) loads
 

@@ -14,15 +14,15 @@ pub record SentLoads : Type 0 where
   pub sent : ℕ
   pub pending : List PendingLoad
 
--- the key's load under way
+-- the load of the key that is under way
 abbrev pub load_with_key : List ℕ → List PendingLoad → Option ℕ
 load_with_key key loads = option_map (λ load. load.number) (find (λ load. same load.key key) loads)
 
--- the load under way of that number
+-- the load under way with this number
 abbrev pub load_numbered : ℕ → List PendingLoad → Option PendingLoad
 load_numbered number loads = find (λ load. load.number == number) loads
 
--- they have numbers below that one
+-- they have numbers below this one
 abbrev pub are_below : ℕ → List PendingLoad → Bool
 are_below number loads = list_all (λ load. nat_lt load.number number) loads
 
@@ -31,11 +31,11 @@ abbrev pub are_falling : List PendingLoad → Bool
 are_falling [] = true
 are_falling (load ∷ loads) = are_below load.number loads && are_falling loads
 
--- loads at their numbers, the highest first
+-- loads by their numbers, the highest first
 abbrev pub Entries : Type 0
 Entries = List (Reverse ℕ × Load)
 
--- each stands at its own number
+-- each is at its own number
 abbrev pub have_own_numbers : Entries → Bool
 have_own_numbers entries = list_all (λ e. e.0.0 == e.1.number) entries
 
@@ -47,6 +47,6 @@ loads_of entries = map (λ e. pending_load e.1) entries
 abbrev pub AreUnderWay : Keys → List PendingLoad → Type 0
 AreUnderWay keys loads = (key : List ℕ) (n : ℕ) → number_at key keys ≡ Some n → is_some (load_numbered n loads) ≡ true
 
--- the same numbers stand at the same keys
+-- the same numbers are at the same keys
 abbrev pub SameKeys : Keys → Keys → Type 0
 SameKeys old new = (key : List ℕ) → number_at key new ≡ number_at key old

@@ -1,6 +1,6 @@
 -- Loads under way, as the definitions list them.
 pub use Rattle.cache_commands.specs.Loads.Numbers.{load_numbered, load_with_key}
-use Rattle.std.specs.Prelude.{◌≡◌, ℕ, suc, ◌-◌, List, [], ◌∷◌, length, map, Option, Some, None, if◌then◌else◌, is_some}
+use Rattle.std.specs.Prelude.{◌≡◌, ℕ, suc, ◌-◌, List, [], ◌∷◌, ◌++◌, length, map, Option, Some, None, if◌then◌else◌, is_some}
 use Rattle.audit_model.specs.Situation.{PendingLoad, with_waiting}
 use Rattle.audit_model.specs.declared.input.LoadId.{LoadId}
 use Rattle.cache_commands.specs.declared.loads.loads.Loads.{Loads}
@@ -25,11 +25,11 @@ loads_taken loads = sent_of loads - length (outgoing_loads loads)
 abbrev pub namespace_of_loads : Loads → ℕ
 namespace_of_loads loads = loads.namespace
 
--- the number of the load that a connection sends which begins to wait for a key: none where the key's load is under way
+-- the number of the load that a connection sends that begins to wait for a key: none if the key's load is under way
 abbrev pub number_to_send : List ℕ → ℕ → List PendingLoad → Option ℕ
 number_to_send key sent loads = if is_some (load_with_key key loads) then None else Some (suc sent)
 
--- the loads under way when that connection waits for the key's load, or for the one that it sent
+-- the loads under way after this connection waits for the key's load, or for the one that it sent
 abbrev pub when_joined : ℕ → List ℕ → Option ℕ → List PendingLoad → List PendingLoad
 when_joined conn key None loads = map (with_waiting conn key) loads
 when_joined conn key (Some number) loads = record { number = number; key = key; waiting = conn ∷ [] } ∷ loads
@@ -51,7 +51,9 @@ pub record SameLoads (old new : Loads) : Type 0 where
   pub outgoing : outgoing_loads new ≡ outgoing_loads old
   pub namespace : namespace_of_loads new ≡ namespace_of_loads old
 
--- the same loads were taken, of the same namespace
+-- the same loads were taken, of the same namespace, and those that went out before stand in front of those that did since
 pub record SameTaken (old new : Loads) : Type 0 where
   pub taken : loads_taken new ≡ loads_taken old
   pub namespace : namespace_of_loads new ≡ namespace_of_loads old
+  pub more : List (LoadId × List ℕ)
+  pub behind : outgoing_loads new ≡ outgoing_loads old ++ more

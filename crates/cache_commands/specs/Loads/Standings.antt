@@ -9,7 +9,7 @@ holds_line Ready = false
 holds_line Held = true
 holds_line Waiting = false
 
--- its first unread line is a `LOAD` that waits_for_load
+-- its first unread line is a `LOAD` that waits
 abbrev pub waits_for_load : Standing → Bool
 waits_for_load Ready = false
 waits_for_load Held = false

@@ -71,9 +71,8 @@ impl Loads {
         self.under_way.get(number)
     }
 
-    /// Has a connection wait for the key's load; where none is under way a new one goes out, and its number is answered. A connection
-    /// waits for one load: one that waits already, and a number above 2^64 - 1, are refused as for want of memory. An `Err` changes
-    /// nothing.
+    /// Makes a connection wait for the key's load; if none is under way, a new one goes out, and its number is returned. A connection waits
+    /// for one load: one that waits already, and a number above 2^64 - 1, are refused as for lack of memory. An `Err` changes nothing.
     pub fn wait(&mut self, alloc: Global, key: &[u8], conn: u64) -> Result<Option<u64>, AllocError>
         ensures number { IfOk result (λ number. number ≡ number_to_send key.now (sent_of self.old) (loads_pending self.old)) }
         ensures pending { IfOk result (λ number. loads_pending self.new ≡ when_joined conn key.now number (loads_pending self.old)) }
@@ -92,7 +91,7 @@ impl Loads {
         }
     }
 
-    /// Sends a load of a key that has none, for which the connection waits, and answers its number. An `Err` changes nothing.
+    /// Sends a load of a key that has none, for which the connection waits, and returns its number. An `Err` changes nothing.
     fn send(&mut self, alloc: Global, key: &[u8], conn: u64) -> Result<u64, AllocError>
         requires { load_with_key key.now (loads_pending self.old) ≡ None }
         ensures number { IfOk result (λ number. number ≡ suc (sent_of self.old)) }

@@ -102,8 +102,8 @@ impl LoadTable {
         self.loads.get(number)
     }
 
-    /// Has a connection wait for the key's load, and says whether there is one. A connection that waits already is refused, as for want
-    /// of memory. An `Err` changes nothing.
+    /// Makes a connection wait for the key's load, and returns whether there is one. A connection that waits already is refused, as for
+    /// lack of memory. An `Err` changes nothing.
     pub fn join(&mut self, key: &[u8], conn: u64) -> Result<bool, AllocError>
         ensures found { IfOk result (λ found. found ≡ is_some (load_with_key key.now self.old.pending)) }
         ensures joined { IfOk result (λ found. self.new ≡ record self.old { pending = if found then map (with_waiting conn key.now) self.old.pending else self.old.pending }) }
@@ -125,8 +125,8 @@ impl LoadTable {
         }
     }
 
-    /// Sends a load of a key that has none, for which the connection waits, and answers its number. A number above 2^64 - 1, and a
-    /// connection that waits already, are refused as for want of memory. An `Err` changes nothing.
+    /// Sends a load of a key that has none, for which the connection waits, and returns its number. A number above 2^64 - 1, and a
+    /// connection that waits already, are refused as for lack of memory. An `Err` changes nothing.
     pub fn send(&mut self, alloc: Global, key: &[u8], conn: u64) -> Result<u64, AllocError>
         requires { load_with_key key.now self.old.pending ≡ None }
         ensures number { IfOk result (λ number. number ≡ suc self.old.sent) }

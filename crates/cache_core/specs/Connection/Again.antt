@@ -1,4 +1,4 @@
--- A step of a `LOAD` that waited: it runs again, or is handed its load's outcome.
+-- A step of a `LOAD` that waited: it runs again, or receives its load's outcome.
 use Rattle.std.specs.Prelude.{◌≡◌, ℕ, ◌++◌, false, List, [], ◌∷◌, Option, Some, None}
 use Rattle.std.specs.Option.{option_map}
 use Rattle.audit_model.specs.Situation.{HeldValue, Situation, connection_in}
@@ -24,12 +24,12 @@ use Rattle.cache_lines.specs.Tape.Taped.{Taped, spends, text_left}
 use Rattle.cache_core.specs.Connection.Shown.{put_in, shown}
 use Rattle.cache_core.specs.declared.connection.connection.Connection.{Connection}
 
--- the last of these steps is neither a `QUIT` nor of a `LOAD` that waits
+-- the last of these steps is neither a `QUIT` nor a `LOAD` that waits
 pub record EndsCalm (config : Config) (steps : List Step) : Type 0 where
   pub quits : ends_quit config steps ≡ false
   pub silent : ends_silent steps ≡ false
 
--- the waiting `LOAD` was answered so, in reserved room
+-- the waiting `LOAD` got this reply, in reserved room
 pub record IsReplied (reply : List ℕ) (number : ℕ) (tape new_tape : Option Taped) (old new : Connection) : Type 0 where
   pub said : new_tape ≡ option_map (spends (step_saying number (held_line old.unread.bytes) (old.output.text.items ++ reply) None [])) tape
   pub text : new.output.text.items ≡ text_left tape (old.output.text.items ++ reply)
@@ -37,8 +37,8 @@ pub record IsReplied (reply : List ℕ) (number : ℕ) (tape new_tape : Option T
   pub standing : new.standing ≡ now_is.Ready
   pub closing : new.closing ≡ old.closing
 
--- The task of a connection's waiting `LOAD` was done in that situation, in one step, which leads on; nothing is known behind it of the order
--- of use.
+-- The task of a connection's waiting `LOAD` was done in this situation, in one step, which leads on; nothing is known after it about the
+-- order of use.
 pub record RanStep (making : Making) (s : Situation) (number : ℕ) (task : Task) (new : Connection) (was is : Seen) : Type 0 where
   pub step : Step
   pub left : List HeldValue
@@ -49,7 +49,7 @@ pub record RanStep (making : Making) (s : Situation) (number : ℕ) (task : Task
   pub unknown : (n : ℕ) (order : Order) → order_behind_step making.config n order step ≡ Unknown
   pub calm : new.standing ≡ now_is.Ready → EndsCalm making.config (step ∷ [])
 
--- it was in each situation that the values and the loads stood for
+-- this happened in each situation that the values and the loads stood for
 pub record StepRan (now number : ℕ) (task : Task) (old new : Connection) (was is : Seen) : Type 0 where
   pub ran : (s : Situation) → Agrees was.stage.values now s → loads_in s ≡ was.loads → connection_in number s ≡ Some (shown number old) → RanStep (making_of was.stage.values.frame) s number task new was is
   pub is_open : new.closing ≡ None

@@ -24,11 +24,11 @@ use Rattle.cache_core.specs.Connection.Fits.{ClosesFor, RunsOn}
 use Rattle.cache_core.specs.Connection.Shown.{put_in, shown, with_piece}
 use Rattle.cache_core.specs.declared.connection.connection.Connection.{Connection}
 
--- why a connection closes for what it was fed: a `QUIT` ran last; or its `LOAD` waited, or waits; or a line is too long
+-- why a connection is closed by what it was fed: a `QUIT` ran last; or its `LOAD` waited, or waits; or a line is too long
 abbrev pub closing_by : (waited quit silent : Bool) → Closing
 closing_by waited quit silent = if quit then by.Quit else (if waited || silent then by.Behind else by.Long)
 
--- Steps of an open connection's feed ran, all that were due; the connection stands as they left it, and may be closed.
+-- Steps of an open connection's feed ran, all that were due; the connection is as they left it, and may be closed.
 pub record FedRan (now number : ℕ) (old : Connection) (piece : List ℕ) (new : Connection) (is_held : Bool) (was is : Seen) : Type 0 where
   pub quit : Bool
   pub silent : Bool
@@ -40,11 +40,11 @@ pub record FedRan (now number : ℕ) (old : Connection) (piece : List ℕ) (new 
   pub frame : KeepsFrame was.stage.values.frame is.stage.values.frame now
   pub fresh : IsFresh (gathered is.stage)
 
--- the bytes in which its next lines stand: those behind a line that was held back, else all
+-- the bytes that contain its next lines: those after a line that was held back, otherwise all
 abbrev pub unread_behind : Standing → List ℕ → List ℕ
 unread_behind standing bytes = if holds_line standing then behind_lines 1 bytes else bytes
 
--- Lines of a connection ran, which stood in those bytes; it stands as they left it, and may be closed.
+-- Lines of a connection in these bytes ran; it is as they left it, and may be closed.
 pub record LinesLeft (now number : ℕ) (bytes : List ℕ) (new : Connection) (was is : Seen) : Type 0 where
   pub rest : List ℕ
   pub end : End
@@ -54,7 +54,7 @@ pub record LinesLeft (now number : ℕ) (bytes : List ℕ) (new : Connection) (w
   pub runs : RunsOn new.closing new.standing (ends_by_quit end) (waits_now end)
   pub held : holds_line new.standing ≡ holds_back end
 
--- the connection is the same to whoever looks at it
+-- the connection looks the same
 pub record LooksAsBefore (old new : Connection) : Type 0 where
   pub bytes : new.unread.bytes ≡ old.unread.bytes
   pub standing : new.standing ≡ old.standing
@@ -62,7 +62,7 @@ pub record LooksAsBefore (old new : Connection) : Type 0 where
   pub closing : new.closing ≡ old.closing
   pub text : new.output.text.items ≡ old.output.text.items
 
--- a piece came behind a `LOAD` that waits, and the connection closes where too many bytes stand there
+-- a piece was appended after a `LOAD` that waits, and the connection closes if too many bytes come after it
 pub record TakesWaiting (old : Connection) (piece : List ℕ) (new : Connection) : Type 0 where
   pub put : (base : Situation) (values : List HeldValue) (number : ℕ) → set_in base values (with_piece piece (shown number old)) ≡ put_in base values number new
   pub closing : ClosesFor by.Behind new.closing

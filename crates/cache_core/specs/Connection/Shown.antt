@@ -1,18 +1,18 @@
--- A connection as the definitions have it.
+-- A connection in terms of the definitions.
 use Rattle.std.specs.Prelude.{ℕ, ◌++◌, List}
 use Rattle.audit_model.specs.Situation as model
 use Rattle.audit_model.specs.Situation.{HeldValue, Situation}
 use Rattle.cache_core.specs.Connection.Parts.{put_parts, standing_as}
 use Rattle.cache_core.specs.declared.connection.connection.Connection.{Connection}
 
--- the connection as the definitions have it
+-- the connection in terms of the definitions
 abbrev pub shown : ℕ → Connection → model.Connection
 shown number c = standing_as number c.standing c.waited c.unread.bytes
 
--- the situation, but with those values held and that connection as it now is
+-- the situation, with these values held and this connection as it is now
 abbrev pub put_in : Situation → List HeldValue → ℕ → Connection → Situation
 put_in base values number c = put_parts base values number c.closing c.standing c.waited c.unread.bytes
 
--- the connection with a piece more
+-- the connection with one more piece
 abbrev pub with_piece : List ℕ → model.Connection → model.Connection
 with_piece piece c = record c { unread = c.unread ++ piece }

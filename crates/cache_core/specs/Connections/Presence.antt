@@ -8,8 +8,8 @@ use Rattle.audit_model.specs.declared.command.Closing.TheVariants as by
 use Rattle.cache_core.specs.Connection.Shown.{shown}
 use Rattle.cache_core.specs.declared.connection.connection.Connection.{Connection}
 
--- A connection that was opened is here, open or closed with replies that were not taken; or out for a moment; or gone, closed for that reason
--- and without replies.
+-- A connection that was opened is here, open or closed with replies that were not taken; or out for a moment; or gone, closed for this
+-- reason and without replies.
 pub data Presence : Type 0 where
   Here : (connection : Connection) → Presence
   Out : Presence
@@ -42,13 +42,13 @@ closing_at presences index = option_map_or closing_of (slice_get presences index
 abbrev pub text_at : List Presence → ℕ → List ℕ
 text_at presences index = option_map_or reply_text_of (slice_get presences index) []
 
--- the connection that has closed so and has that text left, gone where it is closed and there is no text
+-- the connection that closed for this and has this text left; gone if it is closed and there is no text
 abbrev pub gone_if : Option Closing → List ℕ → Connection → Presence
 gone_if None text c = Here c
 gone_if (Some why) [] c = Gone why
 gone_if (Some why) (byte ∷ text) c = Here c
 
--- closed and without replies it is gone
+-- if it is closed and has no replies, it is gone
 abbrev pub retired : Presence → Presence
 retired (Here c) = gone_if c.closing c.output.text.items c
 retired Out = Out

@@ -1,4 +1,4 @@
--- How the connections that are not gone stand side by side in an array, and what the word for a place says of it.
+-- How the connections that are not gone are stored in an array, and what the word for a place says.
 use Rattle.std.specs.Prelude.{◌≡◌, ℕ, zero, suc, ◌-◌, ◌<◌, ◌≤◌, nat_lt, List, map, length, Option, Some, None, if◌then◌else◌}
 use Rattle.std.specs.List.{slice_get}
 use Rattle.audit_model.specs.declared.command.Closing.{Closing}
@@ -11,7 +11,7 @@ use Rattle.cache_core.specs.declared.connections.residents.Resident.{Resident}
 abbrev pub first_reason : ℕ
 first_reason = 4294967280
 
--- the reason that stands for a number
+-- the reason with a number
 abbrev pub reason_numbered : ℕ → Closing
 reason_numbered zero = by.Asked
 reason_numbered (suc zero) = by.Quit
@@ -30,7 +30,7 @@ abbrev pub held_or_out : Option Connection → Presence
 held_or_out (Some c) = Here c
 held_or_out None = Out
 
--- what stands at an index of the array
+-- what is at an index of the array
 abbrev pub presence_held : Option Resident → Presence
 presence_held (Some r) = held_or_out r.connection
 presence_held None = Out
@@ -47,12 +47,12 @@ presences_of residents words = map (presence_by residents) words
 abbrev pub places_of : List Resident → List ℕ
 places_of residents = map (λ r. r.place) residents
 
--- each index that a place has for its word is of the resident of that place, and each resident's place has its index for its word
+-- each index that a place has as its word is that of the resident of this place, and the place of each resident has its index as its word
 pub record AreMatched (places words : List ℕ) : Type 0 where
   pub few : length places ≤ first_reason
   pub owned : (place word : ℕ) → slice_get words place ≡ Some word → word < first_reason → slice_get places word ≡ Some place
   pub placed : (index place : ℕ) → slice_get places index ≡ Some place → slice_get words place ≡ Some index
 
--- the residents and the words are matched
+-- the residents and the words match
 abbrev pub AreSettled : List Resident → List ℕ → Type 0
 AreSettled residents words = AreMatched (places_of residents) words

@@ -48,7 +48,7 @@ pub fn pass_line(unread: &mut Buffer)
     }
 }
 
-/// Answers the waiting `LOAD` of a connection that was given up for the last time, in reserved room.
+/// Replies to the waiting `LOAD` of a connection that was given up for the last time, in reserved room.
 fn abandon_load<T: Tape>(tape: &mut T, number: u64, connection: &mut Connection)
     requires spare { HasSpare (T.view tape.old) }
     requires waits { connection.old.standing ≡ stands.Waiting }
@@ -105,8 +105,8 @@ fn load_again<S: Store, T: Tape>(
     }
 }
 
-/// Runs the waiting `LOAD` of an open connection again, in one step; at its 200th give-up it is answered so. It takes no memory that it
-/// cannot do without.
+/// Runs the waiting `LOAD` of an open connection again, in one step; at its 200th give-up it is abandoned. It allocates nothing that it
+/// needs.
 pub fn run_again<S: Store, T: Tape>(
     base: &mut Base<S, T>,
     now: u64,

@@ -43,7 +43,7 @@ pub fn new_connection(alloc: Global) -> Connection
 impl Connection {
     ghost use Rattle.std.specs.Prelude.{is_some};
 
-    /// Drops what came and was not used, where the connection has closed.
+    /// Drops the bytes that were not used, if the connection has closed.
     pub fn drop_closed(&mut self)
         ensures open { self.old.closing ≡ None → self.new ≡ self.old }
         ensures closing { self.new.closing ≡ self.old.closing }

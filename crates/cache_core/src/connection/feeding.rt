@@ -24,7 +24,7 @@ use cache_lines::{Base, End, LineOutcome, Tape, run_line, run_lines};
 use cache_store::Store;
 use std::alloc::AllocError;
 
-/// Takes the first line, where it was held back.
+/// Removes the first line, if it was held back.
 fn pass_held(standing: Standing, unread: &mut Buffer)
     requires { IsTrue (not (holds_line standing) || has_line unread.old.bytes) }
     ensures bytes { unread.new.bytes ≡ unread_behind standing unread.old.bytes }
@@ -84,7 +84,7 @@ impl Connection {
     }
 }
 
-/// Takes a piece for a connection that runs lines, and answers whether one is held back.
+/// Takes a piece for a connection that runs lines, and returns whether one is held back.
 pub fn feed_ready<S: Store, T: Tape>(
     base: &mut Base<S, T>,
     now: u64,
@@ -104,7 +104,7 @@ pub fn feed_ready<S: Store, T: Tape>(
     is_holding(connection.standing)
 }
 
-/// Takes a piece for a connection that holds a line back, and answers whether one is held back then. An `Err` has changed nothing: there
+/// Takes a piece for a connection that holds a line back, and returns whether one is held back then. An `Err` has changed nothing: there
 /// was no memory for that line.
 fn feed_held<S: Store, T: Tape>(
     base: &mut Base<S, T>,
@@ -152,7 +152,7 @@ fn feed_waiting(connection: &mut Connection, piece: &[u8])
     connection.wait_before(piece, connection.waited);
 }
 
-/// Takes a piece for which there is room, for an open connection, and answers whether a line is held back then. An `Err` has changed
+/// Takes a piece for which there is room, for an open connection, and returns whether a line is held back then. An `Err` has changed
 /// nothing: there was again no memory for the line that is held back.
 pub fn feed_connection<S: Store, T: Tape>(
     base: &mut Base<S, T>,

@@ -1,4 +1,4 @@
-//! A waiting `LOAD` that is handed its load's outcome.
+//! A waiting `LOAD` that receives its load's outcome.
 ghost use Rattle.std.specs.Prelude.{◌≡◌, ◌+◌, ◌≤◌, None, true, length, vec_len, vec_capacity};
 ghost use Rattle.audit_model.specs.Grammar.{reading};
 ghost use Rattle.audit_model.specs.Replies.{outcome_text};
@@ -19,7 +19,7 @@ use cache_commands::{Standing, write_outcome};
 use cache_lines::{Base, Tape};
 use cache_store::Store;
 
-/// Answers the waiting `LOAD` of a connection with the outcome, in reserved room.
+/// Replies to the waiting `LOAD` of a connection with the outcome, in reserved room.
 fn reply_with<T: Tape>(tape: &mut T, number: u64, connection: &mut Connection, outcome: &Outcome)
     requires spare { HasSpare (T.view tape.old) }
     requires waits { connection.old.standing ≡ stands.Waiting }

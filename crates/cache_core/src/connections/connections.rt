@@ -32,7 +32,7 @@ impl Model for Connections {
 }
 
 impl Connections {
-    /// None. Takes no memory.
+    /// No connections. This allocates nothing.
     pub fn new(alloc: Global) -> Connections
         ensures { result ≡ [] }
     {
@@ -73,7 +73,7 @@ impl Connections {
         reason_at(&self.residents, &self.words, index)
     }
 
-    /// Moves the connection at a place out; it is to be put back. Takes no memory.
+    /// Moves the connection at a place out; it has to be put back. This allocates nothing.
     pub fn take(&mut self, index: usize) -> Connection
         requires { is_here (slice_get self.old index) ≡ true }
         ensures taken { slice_get self.old index ≡ Some (Here result) }
@@ -82,7 +82,7 @@ impl Connections {
         take_out(&mut self.residents, &self.words, index)
     }
 
-    /// Puts a connection back in the place of one that is out. Takes no memory.
+    /// Puts a connection back in the place of one that is out. This allocates nothing.
     pub fn put(&mut self, index: usize, connection: Connection)
         requires { slice_get self.old index ≡ Some Out }
         ensures { self.new ≡ slice_set self.old index (Here connection) }
@@ -90,7 +90,7 @@ impl Connections {
         put_back(&mut self.residents, &self.words, index, connection);
     }
 
-    /// Drops the connection at a place where it has closed and its replies were taken; why it closed is kept. Takes no memory.
+    /// Drops the connection at a place if it has closed and its replies were taken; why it closed is kept. This allocates nothing.
     pub fn retire(&mut self, index: usize)
         requires { index < length self.old }
         ensures { self.new ≡ retired_at self.old index }

@@ -1,4 +1,4 @@
-//! The connections that are not gone, side by side, and a word for each place that says where its connection stands, or why it closed.
+//! The connections that are not gone, in one list, and a word for each place that says where its connection is, or why it closed.
 ghost use Rattle.std.specs.Prelude.{◌≡◌, ◌+◌, ◌-◌, ◌<◌, ◌≤◌, ◌++◌, ◌∷◌, [], Some, None, true, false, length, slice_set, vec_len, vec_capacity, IfSome, OnOk, OnErr, MatchOption};
 ghost use Rattle.std.specs.List.{slice_get};
 ghost use Rattle.cache_core.specs.Connections.Presence.{Gone, Here, Out, closing_at, is_here, retired, retired_at};
@@ -176,7 +176,7 @@ fn remove_at(residents: &mut Vec<Resident>, words: &mut Vec<u32>, index: usize, 
     }
 }
 
-/// Drops the connection at a place where it has closed and its replies were taken.
+/// Drops the connection at a place if it has closed and its replies were taken.
 pub fn retire_at(residents: &mut Vec<Resident>, words: &mut Vec<u32>, index: usize)
     requires settled { AreSettled residents.old.items words.old.items }
     requires within { index < length words.old.items }

@@ -1,4 +1,4 @@
--- What one piece of a settled load's record leads to, and what all of them come to.
+-- What one piece of the record of a settled load leads to, and what all of them lead to.
 use Rattle.std.specs.Prelude.{◌≡◌, ℕ, suc, nat_le, true, false, List, [], ◌∷◌, ◌++◌, map, Option, Some, None, Ok, codes, IsTrue}
 use Rattle.audit_model.specs.Belongs.{refusal_of}
 use Rattle.audit_model.specs.Follows.{after_steps, known_in, without_load}
@@ -38,12 +38,12 @@ StepsLeadOn =
     (config : Config) (making : Making) (s t u : Situation) (tasks left last : List Task) (steps more : List Step) (a b c : Identifiers)
     → TasksLead config making s tasks steps t left a b → TasksLead config making t left more u last b c → TasksLead config making s tasks (steps ++ more) u last a c
 
--- a connection whose turn it is to be told waits, and no one else is told in its place
+-- a connection whose turn it is to be told waits, and no other one is told in its place
 abbrev pub ToldWaits : Type 0
 ToldWaits =
     (n : ℕ) (told : List ℕ) (s : Situation) → Tidy (n ∷ told) s → (c : Connection) × (connection_in n s ≡ Some c) × (c.number ≡ n) × (is_waiting_now c.standing ≡ true)
 
--- when a load is settled, each connection that waited for it is still to be told, once, whether it is answered
+-- when a load is settled, each connection that waited for it still has to be told, once, if it is answered
 abbrev pub AnswerTidy : Type 0
 AnswerTidy =
     (load moment : ℕ) (outcome : Outcome) (s : Situation) → Tidy [] s → Tidy (still_told (tasks_to_answer (key_in load s) outcome (waiting_in load s))) (without_load load moment s)
@@ -52,7 +52,7 @@ AnswerTidy =
 abbrev pub GiveUpTidy : Type 0
 GiveUpTidy = (load moment : ℕ) (s : Situation) → Tidy [] s → Tidy (still_told (tasks_to_give_up (waiting_in load s))) (without_load load moment s)
 
--- a waiting `LOAD` is handed the outcome: its connection runs lines again
+-- a waiting `LOAD` receives the outcome: its connection runs lines again
 abbrev pub DeliveredLeads : Type 0
 DeliveredLeads =
     (config : Config) (making : Making) (s : Situation) (n : ℕ) (line bytes : List ℕ) (times : ℕ) (outcome : Outcome) (tasks : List Task) (drawn : Identifiers)
@@ -60,7 +60,7 @@ DeliveredLeads =
     → TasksLead config making s (Deliver n outcome ∷ tasks) (step_saying n line (outcome_text outcome) None [] ∷ [])
     (set_in s (held_when_run config s (Delivering outcome) (step_saying 0 [] (outcome_text outcome) None [])) (ready n bytes)) tasks drawn drawn
 
--- a `LOAD` that is given up the 200th time is answered so
+-- a `LOAD` that is given up for the 200th time is abandoned
 abbrev pub AbandonedLeads : Type 0
 AbandonedLeads =
     (config : Config) (making : Making) (s : Situation) (n : ℕ) (line bytes : List ℕ) (times : ℕ) (tasks : List Task) (drawn : Identifiers)
@@ -77,7 +77,7 @@ AnsweredLeads =
     → TasksLead config making s (RunAgain n ∷ tasks) (step_saying n line reply None told ∷ [])
     (set_in s (held_when_run config s (Running (says.Load key)) (step_saying 0 [] reply None told)) (ready n bytes)) tasks drawn drawn
 
--- a `LOAD` that is given up and finds none waits again, once more: it joins the key's load, or sends the next one
+-- a `LOAD` that is given up and finds none waits once more: it joins the load of its key, or sends the next one
 abbrev pub WaitsAgainLeads : Type 0
 WaitsAgainLeads =
     (config : Config) (making : Making) (s : Situation) (n : ℕ) (line bytes key : List ℕ) (times : ℕ) (tasks : List Task) (drawn : Identifiers)
@@ -87,7 +87,7 @@ WaitsAgainLeads =
     TasksLead config making s (RunAgain n ∷ tasks) (step_silent n line number None [] ∷ [])
     (set_in (with_loads (when_sent number s.sent) (when_joined n key number s.pending) s) (held_when_run config s (Running (says.Load key)) (step_waiting config s key 0 [])) (waiting n line bytes (suc times))) tasks drawn drawn)
 
--- a `LOAD` that is given up, and for which memory is wanted, is held back; how often it waited stays
+-- a `LOAD` that is given up, and for which memory is lacking, is held back; how often it waited stays
 abbrev pub HeldBackLeads : Type 0
 HeldBackLeads =
     (config : Config) (making : Making) (s : Situation) (n : ℕ) (line bytes : List ℕ) (times : ℕ) (tasks : List Task) (drawn : Identifiers)
@@ -107,7 +107,7 @@ abbrev pub NoLinesLead : Type 0
 NoLinesLead =
     (config : Config) (making : Making) (s : Situation) (n : ℕ) (tasks : List Task) (drawn : Identifiers) → may_run_in s n ≡ false → TasksLead config making s (RunLines n ∷ tasks) [] s tasks drawn drawn
 
--- the record of an answer, whose value was accepted so, or not, with what that told
+-- the record of an answer, whose value was accepted or not, with what this reported
 abbrev pub record_answered : ℕ → Outcome → ℕ → Option Accepted → List Note → List Step → Record
 record_answered load outcome moment accepted told steps =
     record { event = event.Answer load outcome (record { nanos = moment }); own = accepted; notices = told; steps = steps }
@@ -120,8 +120,8 @@ record_given_up load moment steps = record { event = event.GiveUp load (record {
 abbrev pub when_stored : Config → Situation → List ℕ → Outcome → Option Accepted → List Note → Situation
 when_stored config s key outcome accepted told = record s { held = held_when_run config s (Storing (Some key) outcome) (step_silent 0 [] None accepted told) }
 
--- An answer that is not refused: its value is stored, then each waiting `LOAD` is handed the outcome in order, then each one's lines run in
--- the same order. From these pieces its record follows.
+-- An answer that is not refused: its value is stored, then each waiting `LOAD` receives the outcome in order, then the lines of each
+-- connection run in the same order. From these pieces its record follows.
 abbrev pub AnswerSettles : Type 0
 AnswerSettles =
     (config : Config) (making : Making) (s t : Situation) (load moment : ℕ) (key : List ℕ) (outcome : Outcome) (accepted : Option Accepted) (told : List Note) (steps : List Step) (drawn drawing : Identifiers)

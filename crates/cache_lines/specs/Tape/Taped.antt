@@ -7,8 +7,8 @@ use Rattle.audit_model.specs.declared.transcript.Record.{Record}
 use Rattle.audit_model.specs.declared.transcript.Step.{Step}
 use Rattle.audit_model.specs.declared.transcript.Transcript.{Transcript}
 
--- The journal, and of the record under way: whether there is one, its steps, how many lines can be added to it without memory, and the line of
--- the step for which there is room.
+-- The journal, and of the record under way: whether there is one, its steps, how many lines can be added to it without allocating, and the
+-- line of the step for which there is room.
 pub record Taped : Type 0 where
   pub journal : Transcript
   pub begun : Bool
@@ -16,7 +16,7 @@ pub record Taped : Type 0 where
   pub spare : ℕ
   pub drafted : Option (List ℕ)
 
--- the journal with that record behind its others
+-- the journal with this record after its others
 abbrev pub with_entry : Record → Transcript → Transcript
 with_entry entry journal = record { made = journal.made; records = journal.records ++ entry ∷ [] }
 
@@ -27,7 +27,7 @@ pub record Rests (t : Taped) : Type 0 where
   pub spare : t.spare ≡ 0
   pub undrafted : t.drafted ≡ None
 
--- a record is under way, with room for so many lines
+-- a record is under way, with room for this many lines
 abbrev pub started : ℕ → Taped → Taped
 started spare t = record { journal = t.journal; begun = true; steps = []; spare = spare; drafted = None }
 
@@ -47,7 +47,7 @@ spends step t = record { journal = t.journal; begun = t.begun; steps = t.steps +
 abbrev pub forgets : Taped → Taped
 forgets t = record { journal = t.journal; begun = false; steps = []; spare = 0; drafted = None }
 
--- the record stands behind the others
+-- the record is added after the others
 abbrev pub finishes : Event → Option Accepted → List Note → Taped → Taped
 finishes event own notices t =
     record { journal = with_entry (record { event = event; own = own; notices = notices; steps = t.steps }) t.journal; begun = false; steps = []; spare = 0; drafted = None }
@@ -56,7 +56,7 @@ finishes event own notices t =
 abbrev pub step_held : ℕ → List ℕ → Step
 step_held conn line = record { conn = conn; line = line; held = true; reply = None; load = None; accepted = None; notices = [] }
 
--- what is left of a text that was written as a reply: it goes into the record, where one is kept
+-- what is left of a text that was written as a reply: it goes into the record, if one is kept
 abbrev pub text_left : Option Taped → List ℕ → List ℕ
 text_left tape text = if is_some tape then [] else text
 

@@ -39,7 +39,7 @@ impl Model for Kept {
 }
 
 impl Kept {
-    /// A tape of no records, whose journal begins at that moment. Takes no memory.
+    /// A tape without records, whose journal begins at this moment. This allocates nothing.
     pub fn new(alloc: Global, made: Instant) -> Kept
         ensures { result ≡ record { journal = record { made = made; records = [] }; begun = false; steps = []; spare = 0; drafted = None } }
     {
@@ -56,7 +56,7 @@ impl Kept {
         }
     }
 
-    /// The journal, where no record is under way.
+    /// The journal, if no record is under way.
     pub fn journal(&self) -> &Transcript
         requires rests { self.now.begun ≡ false }
         ensures { result.now ≡ self.now.journal }
@@ -64,7 +64,7 @@ impl Kept {
         &self.journal
     }
 
-    /// The journal, where no record is under way, moved out. Takes no memory.
+    /// The journal, if no record is under way, moved out. This allocates nothing.
     pub fn into_journal(self) -> Transcript
         requires rests { self.begun ≡ false }
         ensures { result ≡ self.journal }

@@ -9,25 +9,25 @@ use audit_lines::MAX_LINE;
 use audit_model::{Accepted, Event, Note, Seq};
 use std::alloc::AllocError;
 
-/// Where the record of a turn goes: nowhere, or behind others.
+/// Where the record of a turn goes: nowhere, or after others.
 ///
 /// A turn calls `start` and for each line `begin` before it changes anything, so that no later call is refused; a refusal leaves the tape
 /// as it was.
 pub trait Tape: Drop {
-    // what it keeps, where it keeps anything
+    // what it keeps, if it keeps anything
     ghost view: { Self → Option Taped };
 
     /// Whether it keeps records.
     fn keeps(&self) -> bool
         ensures { result ≡ is_some (view self.now) };
 
-    /// Begins a record, with room to add so many lines to it without memory (`hold`, `say`).
+    /// Begins a record, with room to add this many lines to it without allocating (`hold`, `say`).
     fn start(&mut self, spare: usize) -> Result<(), AllocError>
         requires { IsAtRest (view self.old) }
         ensures started { OnOk result (view self.new ≡ option_map (started spare) (view self.old)) }
         ensures unchanged { OnErr result (self.new ≡ self.old) };
 
-    /// Makes room for a step of that line, and answers room for its notes, as many as `most` where records are kept.
+    /// Makes room for a step of this line, and returns room for its notes, as many as `most` if records are kept.
     fn begin(&mut self, line: &[u8], most: usize) -> Result<Vec<Note>, AllocError>
         ensures drafted { OnOk result (view self.new ≡ option_map (drafts line.now) (view self.old)) }
         ensures empty { IfOk result (λ notes. notes.items ≡ []) }

@@ -1,4 +1,4 @@
--- What is seen of a watched device.
+-- What can be seen of a watched device.
 use Rattle.std.specs.Prelude.{ℕ}
 use Rattle.cache_run.specs.declared.devices.watched.Watched.{Watched}
 

@@ -9,7 +9,7 @@ use Rattle.cache_run.specs.declared.devices.errors.RunError.{RunError}
 use Rattle.cache_run.specs.declared.devices.errors.RunError.TheVariants.{Read, Write, OutOfMemory, UsedUp, Moment}
 use Rattle.cache_run.specs.declared.devices.watched.Watched.{Watched}
 
--- each error has its cause: these are the causes of a failed read, a failed write, something used up, and a moment that is too late
+-- each error has its cause: the cause of a failed read, of a failed write, of something used up, and of a moment that is too late
 abbrev pub Because : Type 0 → Type 0 → Type 0 → Type 0 → RunError → Type 0
 Because read write used_up late Read = read
 Because read write used_up late Write = write
@@ -17,21 +17,23 @@ Because read write used_up late OutOfMemory = Unit {0}
 Because read write used_up late UsedUp = used_up
 Because read write used_up late Moment = late
 
--- a device failed between, unless its count was full
+-- a device failed in between, unless its count was full
 abbrev pub Fails : {T : Type 0} → (was is : Watched T) → Type 0
 Fails was is = HasFailed (failures was) (failures is)
 
--- the loader was asked at least so often
+-- the loader was asked at least this often
 abbrev pub HasAsked : {L : Type 0} → (L → List ℕ → Option Outcome → L → Type 0) → L → ℕ → L → Type 0
 HasAsked loads before count after = (askings : List Asking) × Askings loads before askings after × (count ≤ length askings)
 
--- so many bytes were read, loads asked for, and calls of the reader failed, of which at most 2 ^ 64 - 1 are counted, together at least
+-- bytes that were read, loads that were requested, and calls of the reader that failed (of which at most 2 ^ 64 - 1 are counted) are at
+-- least this many in total
 abbrev pub RunsFor : {R L : Type 0} → ℕ → (R → Option (List ℕ)) → (L → List ℕ → Option Outcome → L → Type 0) → Watched R → Watched R → L → L → Type 0
 RunsFor turns remaining loads reader reader' loader loader' =
     (bytes : List ℕ) × (askings : List Asking) × (failed : ℕ) × Consumes (remaining (device reader)) (remaining (device reader')) bytes × Askings loads loader askings loader'
     × (min (failures reader + failed) (2 ^ 64 - 1) ≤ failures reader') × (turns ≤ length bytes + length askings + failed)
 
--- the bytes that were read, the loads asked for, and the reader's failures, which its count has at the end, together reach 2 ^ 64 - 1
+-- the bytes that were read, the loads that were requested, and the reader's failures, as its count says at the end, together reach 2 ^ 64 -
+-- 1
 abbrev pub RunsOut : {R L : Type 0} → (R → Option (List ℕ)) → (L → List ℕ → Option Outcome → L → Type 0) → Watched R → Watched R → L → L → Type 0
 RunsOut remaining loads reader reader' loader loader' =
     (bytes : List ℕ) × (askings : List Asking) × Consumes (remaining (device reader)) (remaining (device reader')) bytes × Askings loads loader askings loader' × (2 ^ 64 - 1 ≤ length bytes + length askings + failures reader')

@@ -17,7 +17,7 @@ use Rattle.cache_run.specs.declared.driver.session.Footing.{Footing}
 use Rattle.cache_run.specs.declared.driver.session.Footing.TheVariants.{Ready, Waiting, Closed}
 use Rattle.cache_run.specs.declared.driver.session.Session.{Session}
 
--- where a host is, and a connection's writer, clock and loader
+-- the state of a host, and of a connection's writer, clock and loader
 pub record Spot (H K D : Type 0) : Type 0 where
   pub place : H
   pub contents : Option (List ℕ)
@@ -27,28 +27,28 @@ pub record Spot (H K D : Type 0) : Type 0 where
 abbrev pub spot : {H W K D : Type 0} → (W → Option (List ℕ)) → H → Watched W → K → D → Spot H K D
 spot contents place writer clock loader = record { place = place; contents = contents (device writer); clock = clock; loader = loader }
 
--- besides what is left to read
+-- and what is left to read
 abbrev pub beside : {H K D : Type 0} → Option (List ℕ) → Spot H K D → Outside K D
 beside remaining p = record { remaining = remaining; contents = p.contents; clock = p.clock; loader = p.loader }
 
--- the connection of a session is known; where the host is lent, no `LOAD` of it waits for others
+-- the connection of a session is known; if the host is lent, no `LOAD` of it waits for others
 pub record Holds {H : Type 0} (lent : Bool) (Knows : Conn → H → Type 0) (session : Session) (h : H) : Type 0 where
   pub known : Knows session.conn h
   pub ready : lent ≡ true → session.footing ≢ Waiting
 
--- A session stands as the last exchange left it. Where the host is lent and none is in hand, no load is left.
+-- A session is as the last exchange left it. If the host is lent and no load is in hand, none is left.
 pub record Stands (lent : Bool) (Settled : Footing → Type 0) (session : Session) (exchanges : List Exchange) : Type 0 where
   pub closed : session.footing ≡ Closed → HaveClosed exchanges
   pub done : lent ≡ true → session.taken.items ≡ [] → Settled session.footing → AreDone exchanges
 
--- however it stands, or only where it has closed
+-- in any case, or only if it has closed
 abbrev pub IsSettled : Footing → Type 0
 IsSettled footing = Unit {0}
 
 abbrev pub IsClosed : Footing → Type 0
 IsClosed footing = footing ≡ Closed
 
--- it goes on, and behind whatever came before, the session stands as the last exchange left it
+-- it goes on, and after whatever came before, the session is as the last exchange left it
 abbrev pub EndsOn : {H : Type 0} → Bool → (Footing → Type 0) → Session → H → H → List Exchange → Rest → Type 0
 EndsOn lent Settled t k place exchanges rest = (place ≡ k) × (rest ≡ no_rest) × ((before : List Exchange) → Stands lent Settled t (before ++ exchanges))
 
@@ -56,23 +56,24 @@ EndsOn lent Settled t k place exchanges rest = (place ≡ k) × (rest ≡ no_res
 abbrev pub EndsLeft : {H : Type 0} → Bool → Session → H → List Exchange → Rest → Type 0
 EndsLeft lent t place exchanges rest = (lent ≡ false) × (t.taken.items ≡ []) × (rest.refused ≢ None) × (rest.unsent ≡ []) × (rest.untaken ≡ 0)
 
--- an error came
+-- there was an error
 abbrev pub EndsBroke : {H : Type 0} → RunError → H → List Exchange → Rest → Type 0
 EndsBroke e place exchanges rest = (rest.untaken ≤ 1) × (e ≡ Moment → IsLate rest)
 
--- it goes on, unless others had closed the connection, or an error came
+-- it goes on, unless others had closed the connection, or there was an error
 abbrev pub Ends : {H : Type 0} → Bool → Session → H → Result Progress RunError → H → List Exchange → Rest → Type 0
 Ends lent t k (Ok More) = EndsOn lent IsSettled t k
 Ends lent t k (Ok Over) = EndsLeft lent t
 Ends lent t k (Err e) = EndsBroke e
 
--- it goes on, settled only where it has closed, unless an error came
+-- it goes on, settled only if it has closed, unless there was an error
 abbrev pub EndsSettled : {H : Type 0} → Bool → Session → H → Result (Unit {0}) RunError → H → List Exchange → Rest → Type 0
 EndsSettled lent t k (Ok done) = EndsOn lent IsClosed t k
 EndsSettled lent t k (Err e) = EndsBroke e
 
 module _ {H K D : Type 0} (Came : Conn → H → Exchange → H → Type 0) (Closes : Conn → H → H → Type 0) (reads : K → ℕ → K → Type 0) (loads : D → List ℕ → Option Outcome → D → Type 0) where
-  -- Exchanges came, and fed what left the inbox; then something may have been refused or left undone: a closing is one behind the last of them.
+  -- Exchanges took place, and fed what left the inbox; then something may have been refused or left undone: a closing comes after the last
+  -- of them.
   pub record Moves (End : H → List Exchange → Rest → Type 0) (s t : Session) (p q : Spot H K D) : Type 0 where
     pub place : H
     pub behind : (r : H) → Closes s.conn q.place r → Closes s.conn place r
@@ -100,12 +101,12 @@ around remaining contents reader writer clock loader = record { remaining = rema
 
 -- since a connection was opened
 module _ {H K D : Type 0} (lent : Bool) (Came : Conn → H → Exchange → H → Type 0) (Closes : Conn → H → H → Type 0) (reads : K → ℕ → K → Type 0) (loads : D → List ℕ → Option Outcome → D → Type 0) (start : H) (a : Outside K D) where
-  -- Exchanges came, and what was read and not fed is in the inbox.
+  -- Exchanges took place, and what was read and not fed is in the inbox.
   pub record Since (Settled : Footing → Type 0) (s : Session) (h : H) (b : Outside K D) : Type 0 where
     pub talks : Talks (Came s.conn) reads loads start h a b [] s.taken.items (unfed s)
     pub stands : Stands lent Settled s talks.exchanges
 
-  -- Exchanges came, and what was read and not fed is in the inbox: where the host is lent, nothing.
+  -- Exchanges took place, and what was read and not fed is in the inbox: if the host is lent, nothing.
   pub record Underway (s : Session) (h : H) (b : Outside K D) : Type 0 where
     pub talks : Talks (Came s.conn) reads loads start h a b [] s.taken.items (unfed s)
     pub stands : Stands lent IsSettled s talks.exchanges
@@ -122,7 +123,7 @@ module _ {H K D : Type 0} (lent : Bool) (Came : Conn → H → Exchange → H �
     pub whole : lent ≡ true → rest ≡ no_rest
     pub sent : (rest.unsent ≡ []) × (rest.untaken ≡ 0)
 
-  -- an error came
+  -- there was an error
   pub record Stopped (s : Session) (h : H) (b : Outside K D) (e : RunError) : Type 0 where
     pub stopped : H
     pub behind : (r : H) → Closes s.conn h r → Closes s.conn stopped r
@@ -141,7 +142,7 @@ abbrev pub Turns : {X H K D : Type 0} → Ways X H → (K → ℕ → K → Type
 Turns {H = H} {K = K} {D = D} ways reads loads result s t p q =
     (start : H) (a : Outside K D) (remaining : Option (List ℕ)) → Underway ways.LENT ways.came ways.closes reads loads start a s p.place (beside remaining p) → ComesTo ways.LENT ways.came ways.closes reads loads start a result t q.place (beside remaining q)
 
--- a connection that is under way goes on: turns are used up, it is over, or an error came
+-- a connection that is under way goes on: its turns are used up, it is over, or there was an error
 abbrev pub Converses : {X H R W K D : Type 0} → Ways X H → (R → Option (List ℕ)) → (W → Option (List ℕ)) → (K → ℕ → K → Type 0) → (D → List ℕ → Option Outcome → D → Type 0)
     → Result Progress RunError → Session → Session → H → H → Watched R → Watched R → Watched W → Watched W → K → K → D → D → Type 0
 Converses {H = H} {K = K} {D = D} ways remaining contents reads loads result s t h k reader reader' writer writer' clock clock' loader loader' =

@@ -1,4 +1,4 @@
--- What the driver of a connection answers for, whatever its host.
+-- What the driver of a connection guarantees, whatever its host.
 use Rattle.std.specs.Prelude.{◌≡◌, ◌≢◌, ℕ, ◌≤◌, ◌^◌, Bool, true, List, [], ◌∷◌, ◌++◌, Option, None, Some, IfSome, MatchResult, ◌⊎◌, Result}
 use Rattle.std.specs.Option.{option_map_or}
 use Rattle.std.specs.Io.KnownBytes.{Appends, Consumes, IsAtEnd}
@@ -9,8 +9,8 @@ use Rattle.cache_run.specs.declared.devices.errors.RunError.{RunError}
 use Rattle.cache_run.specs.declared.devices.errors.RunError.TheVariants.{Moment}
 use Rattle.cache_run.specs.Driver.Exchanges.{AreDone, Chain, Doing, Exchange, HaveClosed, Leaves, Outs, asks_of, askings_in, bytes_of, moments_in, pieces_in, replies_in, told_of, untaken_in}
 
--- What is left undone behind the last exchange: what the host refused, if it refused anything; the bytes that were read behind that and not fed;
--- the replies that were not written; and behind how many exchanges they were not even taken, for want of memory.
+-- What is left undone after the last exchange: what the host refused, if it refused anything; the bytes that were read after that and not
+-- fed; the replies that were not written; and after how many exchanges they were not even taken, for lack of memory.
 pub record Rest : Type 0 where
   pub refused : Option Doing
   pub unfed : List ℕ
@@ -24,19 +24,19 @@ no_rest = record { refused = None; unfed = []; unsent = []; untaken = 0 }
 abbrev pub lost_of : Rest → List ℕ
 lost_of rest = option_map_or bytes_of rest.refused [] ++ rest.unfed
 
--- what the clock told for what was refused
+-- the clock's reading for what was refused
 abbrev pub late_of : Rest → List ℕ
 late_of rest = option_map_or told_of rest.refused []
 
--- what the loader was asked for that
+-- the request to the loader for that
 abbrev pub asked_of : Rest → List Asking
 asked_of rest = option_map_or asks_of rest.refused []
 
--- a load that was not settled is the last in hand, by whose key the loader was asked
+-- a load that was not settled is the last one in hand, for whose key the loader was asked
 abbrev pub IsOfHand : Outs → Doing → Type 0
 IsOfHand hand doing = (rest : Outs) × Leaves doing hand rest
 
--- something was refused, for which the clock told a moment that is too late
+-- something was refused, for which the clock had read a moment that is too late
 pub record IsLate (rest : Rest) : Type 0 where
   pub doing : Doing
   pub refused : rest.refused ≡ Some doing
@@ -44,7 +44,7 @@ pub record IsLate (rest : Rest) : Type 0 where
   pub told : told_of doing ≡ moment ∷ []
   pub late : 2 ^ 63 ≤ moment
 
--- what a reader has left, what a writer holds, a clock and a loader
+-- what is left of a reader's input, the contents of a writer, a clock and a loader
 pub record Outside (C L : Type 0) : Type 0 where
   pub remaining : Option (List ℕ)
   pub contents : Option (List ℕ)
@@ -52,9 +52,9 @@ pub record Outside (C L : Type 0) : Type 0 where
   pub loader : L
 
 module _ {H C L : Type 0} (Came : H → Exchange → H → Type 0) (reads : C → ℕ → C → Type 0) (loads : L → List ℕ → Option Outcome → L → Type 0) where
-  -- Exchanges came one after another, from the one host and hand to the other. What was read was fed, but for the rest, and the replies were
-  -- written, but for the rest; the clock told the moments, and the loader was asked by the keys of the loads in hand, and said what the
-  -- exchanges say.
+  -- Exchanges took place one after another, from one host and hand to the other. What was read was fed, except for the rest, and the
+  -- replies were written, except for the rest; the clock read the moments, and the loader was asked for the keys of the loads in hand, and
+  -- returned what the exchanges say.
   pub record Talks (h k : H) (a b : Outside C L) (before after : Outs) (rest : Rest) : Type 0 where
     pub exchanges : List Exchange
     pub chain : Chain Came h before exchanges k after
@@ -67,14 +67,14 @@ module _ {H C L : Type 0} (Came : H → Exchange → H → Type 0) (reads : C �
     pub refused : IfSome rest.refused (IsOfHand after)
     pub untaken : untaken_in exchanges ≡ rest.untaken
 
--- A host, to its driver: of which namespace it opens a connection, what comes of an exchange and of a closing, and of the loads in hand where it
--- is closed for an error, for which a loader may be asked. Where it is `lent`, nobody else has it: then each piece is fed whole, and what the
--- connection is fed alone closes it.
+-- A host, as its driver sees it: in which namespace it opens a connection, what an exchange and a closing do, and what happens to the loads
+-- in hand if it is closed because of an error, for which a loader may be asked. If it is `lent`, nobody else has it: then each piece is fed
+-- whole, and only what the connection is fed closes it.
 module _ {H C L : Type 0} (lent : Bool) (Opens : ℕ → Conn → H → H → Type 0) (Came : Conn → H → Exchange → H → Type 0) (Closes : Conn → H → H → Type 0) (Drops : Conn → Outs → H → List Asking → H → Type 0)
     (reads : C → ℕ → C → Type 0) (loads : L → List ℕ → Option Outcome → L → Type 0) (namespace : ℕ) (h k : H) (a b : Outside C L) where
-  -- A connection was opened, exchanges came to the end of the input, or until it had closed or others had closed it; and it was closed, if it was
-  -- open. No load is in hand, and all replies were written. Where the host is lent, all that was read was fed, none of the loads that went out is
-  -- left, and nothing is held back.
+  -- A connection was opened, exchanges took place to the end of the input, or until it had closed or others had closed it; and it was
+  -- closed, if it was open. No load is in hand, and all replies were written. If the host is lent, all that was read was fed, none of the
+  -- loads that went out is left, and nothing is held back.
   pub record DrivesWhole : Type 0 where
     pub conn : Conn
     pub opened : H
@@ -88,7 +88,8 @@ module _ {H C L : Type 0} (lent : Bool) (Opens : ℕ → Conn → H → H → Ty
     pub sent : (rest.unsent ≡ []) × (rest.untaken ≡ 0)
     pub closes : Closes conn closed k
 
-  -- It stopped for an error: the connection was closed, if it was open, and then the loads in hand were dropped, and those that had gone out.
+  -- It stopped because of an error: the connection was closed, if it was open, and then the loads in hand were dropped, and those that had
+  -- gone out.
   pub record DrivesPartly (e : RunError) : Type 0 where
     pub conn : Conn
     pub opened : H
@@ -106,6 +107,6 @@ module _ {H C L : Type 0} (lent : Bool) (Opens : ℕ → Conn → H → H → Ty
     pub drops : Drops conn hand closed askings k
     pub loaded : Askings loads asked askings b.loader
 
-  -- the one or the other
+  -- either of the two
   abbrev pub Drives : {T : Type 0} → Result T RunError → Type 0
   Drives result = MatchResult result (λ done. DrivesWhole) DrivesPartly

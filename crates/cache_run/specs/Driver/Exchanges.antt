@@ -1,4 +1,4 @@
--- What the driver of a connection does to its host, what it takes behind that, and the loads that it has in hand meanwhile.
+-- What the driver of a connection does to its host, what it takes after that, and the loads that it has in hand in the meantime.
 use Rattle.std.specs.Prelude.{◌≡◌, ◌≢◌, ℕ, Bool, false, List, [], ◌∷◌, ◌++◌, Option, None, Some, count_by, is_none, unwrap_or, MatchOption}
 use Rattle.std.specs.List.{flat_map, last_or}
 use Rattle.audit_model.specs.declared.command.Closing.{Closing}
@@ -10,9 +10,9 @@ use Rattle.cache_run.specs.Devices.Sources.{Asking}
 abbrev pub Outs : Type 0
 Outs = List (LoadId × List ℕ)
 
--- A piece was fed at a moment, and a command of it was held back for want of memory, or none was. The loader was asked for the load of that
--- number, and at that moment the load was answered with what it said, or given up; or it was found not under way, and what the loader said was
--- dropped. Or nothing was asked of the host.
+-- A piece was fed at a moment, and a command of it was held back for lack of memory, or none was. Or the loader was asked for the load with
+-- this number, and at this moment the load was answered with what it returned, or given up; or it was not under way, and what the loader
+-- returned was dropped. Or nothing was asked of the host.
 pub data Doing : Type 0 where
   Fed : (piece : List ℕ) → (moment : ℕ) → (held : Bool) → Doing
   Answered : (load : ℕ) → (key : List ℕ) → (outcome : Outcome) → (moment : ℕ) → Doing
@@ -20,8 +20,8 @@ pub data Doing : Type 0 where
   Dropped : (load : ℕ) → (asking : Asking) → (moment : ℕ) → Doing
   Looked : Doing
 
--- What was done, and what was taken behind it: the replies of the connection, unless there was no memory for them; and the loads of its
--- namespace, where they were wanted. And why the connection had closed, if it had.
+-- What was done, and what was taken after it: the replies of the connection, unless there was no memory for them; and the loads of its
+-- namespace, if they were requested. And why the connection had closed, if it had.
 pub record Exchange : Type 0 where
   pub doing : Doing
   pub text : Option (List ℕ)
@@ -36,7 +36,7 @@ bytes_of (GivenUp load asking moment) = []
 bytes_of (Dropped load asking moment) = []
 bytes_of Looked = []
 
--- what the clock told
+-- the clock's reading
 abbrev pub told_of : Doing → List ℕ
 told_of (Fed piece moment held) = moment ∷ []
 told_of (Answered load key outcome moment) = moment ∷ []
@@ -44,7 +44,7 @@ told_of (GivenUp load asking moment) = moment ∷ []
 told_of (Dropped load asking moment) = moment ∷ []
 told_of Looked = []
 
--- what the loader was asked, and what it said
+-- the request to the loader, and its result
 abbrev pub asks_of : Doing → List Asking
 asks_of (Fed piece moment held) = []
 asks_of (Answered load key outcome moment) = record { key = key; answer = Some outcome } ∷ []
@@ -52,7 +52,7 @@ asks_of (GivenUp load asking moment) = asking ∷ []
 asks_of (Dropped load asking moment) = asking ∷ []
 asks_of Looked = []
 
--- over several
+-- the same for several
 abbrev pub pieces_in : List Exchange → List ℕ
 pieces_in exchanges = flat_map (λ exchange. bytes_of exchange.doing) exchanges
 
@@ -65,17 +65,17 @@ askings_in exchanges = flat_map (λ exchange. asks_of exchange.doing) exchanges
 abbrev pub replies_in : List Exchange → List ℕ
 replies_in exchanges = flat_map (λ exchange. unwrap_or exchange.text []) exchanges
 
--- behind how many of them the replies were not taken
+-- after how many of them the replies were not taken
 abbrev pub untaken_in : List Exchange → ℕ
 untaken_in exchanges = count_by (λ exchange. is_none exchange.text) exchanges
 
 -- ---- the loads in hand
 
--- the last in hand is the load of that number, with that key, and the rest are these
+-- the last load in hand has this number and this key, and the rest are these
 abbrev pub IsLastOf : Outs → ℕ → List ℕ → Outs → Type 0
 IsLastOf hand load key rest = (id : LoadId) × (id.number ≡ load) × (hand ≡ rest ++ (id, key) ∷ [])
 
--- the load that is settled or dropped is the last in hand, and taken out of it; the loader was asked by its key
+-- the load that is settled or dropped is the last one in hand, and is removed from it; the loader was asked for its key
 abbrev pub Leaves : Doing → Outs → Outs → Type 0
 Leaves (Fed piece moment held) hand rest = rest ≡ hand
 Leaves (Answered load key outcome moment) hand rest = IsLastOf hand load key rest
@@ -83,12 +83,12 @@ Leaves (GivenUp load asking moment) hand rest = IsLastOf hand load asking.key re
 Leaves (Dropped load asking moment) hand rest = IsLastOf hand load asking.key rest
 Leaves Looked hand rest = rest ≡ hand
 
--- loads that are taken come into hand, where none was left there
+-- loads that are taken come into the hand, if none was left there
 abbrev pub Keeps : Option Outs → Outs → Outs → Type 0
 Keeps None rest after = after ≡ rest
 Keeps (Some loads) rest after = (rest ≡ []) × (after ≡ loads)
 
--- from the one hand to the other
+-- from one hand to the other
 pub record Hands (exchange : Exchange) (before after : Outs) : Type 0 where
   pub rest : Outs
   pub leaves : Leaves exchange.doing before rest
@@ -96,7 +96,7 @@ pub record Hands (exchange : Exchange) (before after : Outs) : Type 0 where
 
 -- ---- one after another
 
--- these exchanges came one after another, from that host and hand to this host and hand
+-- these exchanges took place one after another, from that host and hand to this host and hand
 abbrev pub Chain : {H : Type 0} → (H → Exchange → H → Type 0) → H → Outs → List Exchange → H → Outs → Type 0
 Chain Came h hand [] k after = (k ≡ h) × (after ≡ hand)
 Chain {H} Came h hand (exchange ∷ exchanges) k after =
@@ -104,21 +104,21 @@ Chain {H} Came h hand (exchange ∷ exchanges) k after =
 
 -- ---- where they may end
 
--- nothing is held back behind it: a piece was fed and none of its commands held back, or the connection had closed
+-- nothing is held back after it: a piece was fed and none of its commands was held back, or the connection had closed
 abbrev pub HoldsNothing : Doing → Option Closing → Type 0
 HoldsNothing doing (Some why) = Unit {0}
 HoldsNothing (Fed piece moment false) None = Unit {0}
 HoldsNothing doing None = ⊥
 
--- and the loads were taken, and there was none
+-- and the loads were taken, and there were none
 pub record LeavesNothing (exchange : Exchange) : Type 0 where
   pub none : exchange.loads ≡ Some []
   pub all : HoldsNothing exchange.doing exchange.closing
 
--- the last of them left nothing to be done, if there was one
+-- the last of them left nothing to do, if there was one
 abbrev pub AreDone : List Exchange → Type 0
 AreDone exchanges = MatchOption (last_or None exchanges) (Unit {0}) LeavesNothing
 
--- the connection had closed behind the last of them
+-- the connection had closed after the last of them
 abbrev pub HaveClosed : List Exchange → Type 0
 HaveClosed exchanges = MatchOption (last_or None exchanges) ⊥ (λ exchange. exchange.closing ≢ None)

@@ -1,4 +1,4 @@
--- What a host answers its driver.
+-- What a host returns to its driver.
 use Rattle.std.specs.Prelude.{◌≡◌, ◌⊎◌, ℕ, Bool, true, false, Some, None, is_some}
 use Rattle.std.specs.Option.{option_map}
 use Rattle.audit_model.specs.declared.event.Outcome.{Outcome}
@@ -8,7 +8,7 @@ use Rattle.cache_run.specs.declared.devices.errors.RunError.TheVariants as error
 use Rattle.cache_run.specs.Driver.Exchanges.{Answered, Doing, Dropped, Exchange, GivenUp}
 use Rattle.cache_run.specs.declared.driver.host.Given.{Given}
 
--- that was done, and that was given behind it
+-- this was done, and this was given after it
 abbrev pub exchange_of : Doing → Given → Exchange
 exchange_of doing given = record {
   doing = doing;
@@ -17,12 +17,12 @@ exchange_of doing given = record {
   closing = given.closing;
 }
 
--- a load was answered with what the loader said, or given up, or found not under way
+-- a load was answered with what the loader returned, or given up, or was not under way
 abbrev pub SettlesBy : ℕ → ℕ → Asking → Doing → Type 0
 SettlesBy load moment asking doing =
     ((outcome : Outcome) × (asking.answer ≡ Some outcome) × (doing ≡ Answered load asking.key outcome moment)) ⊎ (doing ≡ GivenUp load asking moment) ⊎ (doing ≡ Dropped load asking moment)
 
--- Loads are given only where they were wanted; and where nobody else has the service, they are given then, and no `LOAD` waits for others.
+-- Loads are given only if they were requested; and if nobody else has the service, they are given then, and no `LOAD` waits for others.
 pub record Suits (lent wants_loads : Bool) (given : Given) : Type 0 where
   pub unwanted : wants_loads ≡ false → given.loads ≡ None
   pub wanted : lent ≡ true → wants_loads ≡ true → is_some given.loads ≡ true

@@ -1,4 +1,4 @@
--- What comes of a read.
+-- The result of a read.
 use Rattle.std.specs.Prelude.{◌≡◌, ◌≤◌, ◌<◌, ◌⊎◌, ◌++◌, ℕ, Bool, true, false, List, [], length, Option, Result, MatchResult}
 use Rattle.std.specs.Io.KnownBytes.{Consumes, IsAtEnd}
 use Rattle.cache_run.specs.Devices.Watched.{device, failures}
@@ -8,7 +8,7 @@ use Rattle.cache_run.specs.declared.devices.watched.Watched.{Watched}
 use Rattle.cache_run.specs.Driver.Causes.{Fails}
 
 module _ {R : Type 0} (remaining : R → Option (List ℕ)) (old new : List ℕ) (was is : Watched R) where
-  -- what was read came behind what was there
+  -- what was read was appended to what was there
   pub record Reads : Type 0 where
     pub piece : List ℕ
     pub whole : new ≡ old ++ piece

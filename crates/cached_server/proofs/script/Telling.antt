@@ -3,10 +3,11 @@ use Rattle.std.proofs.Common.{◌≡◌, ℕ, ◌+◌, ◌≤◌, List, [], ◌�
 use Rattle.std.specs.Io.KnownBytes.{Appends}
 use Rattle.std.proofs.lemmas.Grind.{flat_map-append}
 use Rattle.std.proofs.lemmas.List.{append_assoc, append-nil}
+use Rattle.audit_model.specs.Notes.{note_text}
 use Rattle.audit_model.specs.declared.transcript.Note.{Note}
 use Rattle.cache_run.proofs.devices.Sending.{same_appends}
 use Rattle.cached_server.specs.Script.Gathering.{Gathers}
-use Rattle.cached_server.specs.Script.Notes.{note_text, notes_text}
+use Rattle.cached_server.specs.Script.Notes.{notes_text}
 use Rattle.cached_server.proofs.script.Gathered.{gathers-more}
 
 -- so many of the notes were told, and their lines gathered

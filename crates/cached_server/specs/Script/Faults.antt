@@ -20,12 +20,12 @@ fault_message fault.CannotListen = codes "cached: cannot listen\n"
 abbrev pub usage_text : List ℕ
 usage_text = codes "usage: cached --script | --config FILE\n"
 
--- A beginning of the text was written; all of it, unless the stream failed.
+-- A prefix of the text was written; all of it, unless the stream failed.
 pub record Tells (text : List ℕ) (before after : Option (List ℕ)) (failed later : ℕ) : Type 0 where
   pub rest : List ℕ
   pub sent : SentBut rest text before after
   pub cut : rest ≢ [] → HasFailed failed later
 
--- the program ends with that status, and that text was told
+-- the program ends with this status, and this text was written
 abbrev pub EndsTelling : {E : Type 0} → (E → Option (List ℕ)) → (status wanted : ℕ) → List ℕ → Watched E → Watched E → Type 0
 EndsTelling contents status wanted text errors errors' = (status ≡ wanted) × Tells text (contents (device errors)) (contents (device errors')) (failures errors) (failures errors')

@@ -24,7 +24,7 @@ script_config = record { capacity = None; policy = Lru; parts = 1; weight = One;
 abbrev pub script_transcript : List Turn → Bool → Transcript
 script_transcript turns closes = record { made = record { nanos = 0 }; records = records_of 1 true turns closes [] }
 
--- behind these turns the connection is open no more: what it was fed has closed it
+-- after these turns the connection is no longer open: what it was fed closed it
 abbrev pub HasClosedBehind : List Turn → Type 0
 HasClosedBehind turns = (s : Situation) → after_records script_config (empty_situation 0) (script_transcript turns false).records ≡ Some s → connection_in 1 s ≡ None
 
@@ -33,8 +33,8 @@ abbrev pub EndsScript : Bool → List Turn → Option (List ℕ) → Type 0
 EndsScript true turns rest = IsAtEnd rest
 EndsScript false turns rest = HasClosedBehind turns
 
--- The bytes read are the pieces of a transcript that obeys, all at moment 0; its replies were written, and then its notes told. The input came
--- to its end, where the connection is closed, or a line has closed it, as a `QUIT` does.
+-- The bytes read are the pieces of a transcript that obeys, all at moment 0; its replies were written, and then its notes reported. Either
+-- the input came to its end, and the connection was closed then, or a line had closed it, as a `QUIT` does.
 pub record ServesScript (input rest output written errors told : Option (List ℕ)) : Type 0 where
   pub turns : List Turn
   pub closes : Bool
@@ -46,7 +46,7 @@ pub record ServesScript (input rest output written errors told : Option (List �
   pub wrote : Appends output written (flat_map (replies_in 1) turns)
   pub notes : Appends errors told (notes_text (flat_map (turn_notes 1) turns))
 
--- so it was of a reader, a writer, and a stream of notes
+-- this happened to a reader, a writer, and a stream of notes
 abbrev pub ServesStreams : {R W E : Type 0} → (R → Option (List ℕ)) → (W → Option (List ℕ)) → (E → Option (List ℕ)) → Watched R → Watched R → Watched W → Watched W → Watched E → Watched E → Type 0
 ServesStreams remaining contents told reader reader' writer writer' errors errors' =
     ServesScript (remaining (device reader)) (remaining (device reader')) (contents (device writer)) (contents (device writer')) (told (device errors)) (told (device errors'))

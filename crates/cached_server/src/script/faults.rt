@@ -40,7 +40,7 @@ fn text_of(fault: Fault) -> &'static [u8]
     }
 }
 
-/// Writes the text of a fault, and answers the status after it. What cannot be written is lost.
+/// Writes the text of a fault, and returns the status after it. What cannot be written is lost.
 pub fn fail<E: Write>(errors: &mut Watched<E>, fault: Fault) -> u8
     ensures status { result ≡ 1 }
     ensures told { Tells (fault_message fault) (E.contents (device errors.old)) (E.contents (device errors.new)) (failures errors.old) (failures errors.new) }
@@ -49,7 +49,7 @@ pub fn fail<E: Write>(errors: &mut Watched<E>, fault: Fault) -> u8
     1
 }
 
-/// Writes how the program is called, and answers the status of words that are not served.
+/// Writes how the program is called, and returns the status for wrong arguments.
 fn show_usage<E: Write>(errors: &mut Watched<E>) -> u8
     ensures status { result ≡ 2 }
     ensures told { Tells usage_text (E.contents (device errors.old)) (E.contents (device errors.new)) (failures errors.old) (failures errors.new) }
@@ -58,7 +58,7 @@ fn show_usage<E: Write>(errors: &mut Watched<E>) -> u8
     2
 }
 
-/// The program where its words are not served: the text, and the status after it. Without memory that is 1.
+/// The program with wrong arguments: writes the text, and returns the status. If memory ran out, that is 1.
 pub fn fail_words<E: Write>(error: WordsError, errors: &mut Watched<E>) -> u8
     ensures memory { error ≡ WordsError.OutOfMemory → EndsTelling E.contents result 1 (fault_message Fault.OutOfMemory) errors.old errors.new }
     ensures usage { error ≡ WordsError.Usage → EndsTelling E.contents result 2 usage_text errors.old errors.new }
@@ -69,7 +69,7 @@ pub fn fail_words<E: Write>(error: WordsError, errors: &mut Watched<E>) -> u8
     }
 }
 
-/// The program where its words cannot be had. Without memory its status is 1; words that are no text are not served.
+/// The program if its arguments cannot be read. If memory ran out, its status is 1; arguments that are not text are wrong.
 pub fn without_words<E: Write>(cause: ErrorKind, errors: &mut Watched<E>) -> u8
     ensures memory { cause ≡ ErrorKind.OutOfMemory → EndsTelling E.contents result 1 (fault_message Fault.OutOfMemory) errors.old errors.new }
     ensures other { cause ≢ ErrorKind.OutOfMemory → EndsTelling E.contents result 2 usage_text errors.old errors.new }
@@ -80,7 +80,7 @@ pub fn without_words<E: Write>(cause: ErrorKind, errors: &mut Watched<E>) -> u8
     show_usage(errors)
 }
 
-/// Why the program ends where a connection ended with an error.
+/// Why the program ends after a connection ended with an error.
 pub fn fault_of(error: RunError) -> Fault
     ensures read { error ≡ RunError.Read → result ≡ Fault.Read }
     ensures write { error ≡ RunError.Write → result ≡ Fault.Write }

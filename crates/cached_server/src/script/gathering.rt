@@ -7,7 +7,7 @@ ghost use Rattle.cached_server.specs.Script.Gathering.{Gathers};
 use cache_run::{RunError, Watched, send};
 use std::io::Write;
 
-/// Gathers a text behind what was gathered. Where there is no room for it, both are written. Takes no memory.
+/// Appends a text to what was gathered. If there is no room for it, both are written. This allocates nothing.
 pub fn put<W: Write>(
     gathered: &mut Vec<u8>,
     text: &[u8],

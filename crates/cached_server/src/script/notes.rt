@@ -1,10 +1,11 @@
 //! Notes, as lines of text.
 ghost use Rattle.std.specs.Prelude.{◌≡◌, ◌≤◌, ◌<◌, ◌∷◌, [], length, IfErr, IfNone, IfSome, OnOk};
 ghost use Rattle.std.specs.Io.KnownBytes.{Appends};
+ghost use Rattle.audit_model.specs.Notes.{note_text};
 ghost use Rattle.cache_run.specs.Devices.Failures.{HasFailed};
 ghost use Rattle.cache_run.specs.Devices.Watched.{device, failures};
 ghost use Rattle.cached_server.specs.Script.Gathering.{Gathers};
-ghost use Rattle.cached_server.specs.Script.Notes.{StopsTelling, note_text, notes_text, notices_at};
+ghost use Rattle.cached_server.specs.Script.Notes.{StopsTelling, notes_text, notices_at};
 
 use crate::script::gathering::{put, write_out};
 use audit_model::Note;
@@ -12,7 +13,7 @@ use cache_run::{RunError, Watched};
 use cache_spaces::Service;
 use std::io::Write;
 
-/// Gathers the line of a note. Takes no memory.
+/// Gathers the line of a note. This allocates nothing.
 pub fn write_note<W: Write>(
     note: &Note,
     gathered: &mut Vec<u8>,
@@ -31,7 +32,7 @@ pub fn write_note<W: Write>(
     put(gathered, b"\n", writer)
 }
 
-/// The oldest note of a namespace that there is.
+/// Takes the oldest note of a namespace, if there is one.
 fn next_note(service: &mut Service, namespace: u64) -> Option<Note>
     requires known { namespace < length service.old }
     ensures none { IfNone result ((notices_at service.old namespace ≡ []) × (notices_at service.new namespace ≡ [])) }
@@ -44,8 +45,8 @@ fn next_note(service: &mut Service, namespace: u64) -> Option<Note>
     }
 }
 
-/// Takes all notes of a namespace, and writes their lines. Lines are gathered within the capacity of `gathered`, so that few
-/// writes are made, and no memory is taken.
+/// Takes all notes of a namespace, and writes their lines. Lines are gathered within the capacity of `gathered`, so that few writes are
+/// made, and nothing is allocated.
 pub fn tell_notes<W: Write>(
     service: &mut Service,
     namespace: u64,

@@ -28,15 +28,14 @@ const PLAIN: Config = Config {
     own_deadlines: false,
 };
 
-/// So many bytes of notes are gathered before they are written.
+/// This many bytes of notes are gathered before they are written.
 const NOTES_BYTES: usize = 65536;
 
-/// Serves the script that `reader` gives, in a namespace without limits. Answers the program's status: 0 at the end of the script, 1 after
+/// Serves the script that `reader` gives, in a namespace without limits. Returns the program's status: 0 at the end of the script, 1 after
 /// an error.
 ///
-/// At 0 the input came to its end, or a line closed the connection; the replies of the script's lines stand on `writer`, and its notes on
-/// `errors`. An error's text follows the notes; what
-/// cannot be written to `errors` is lost.
+/// At 0 the input came to its end, or a line closed the connection; the replies to the script's lines are on `writer`, and its notes on
+/// `errors`. The text of an error follows the notes; what cannot be written to `errors` is lost.
 pub fn run_script<R: Read, W: Write, E: Write>(
     alloc: Global,
     reader: &mut Watched<R>,
@@ -66,7 +65,8 @@ pub fn run_script<R: Read, W: Write, E: Write>(
     );
     service.sound(NAMESPACE);
     let told = tell_notes(&mut service, NAMESPACE, &mut gathered, errors);
-    // The program ends here: the system takes the memory back at once, where the values' own freeing takes a sixth of a script's time.
+    // The program ends here: the system takes the memory back at once, while freeing the values one by one takes a sixth of a script's
+    // time.
     mem::forget(service);
     match ran {
         Ok(()) => status_after(told, errors),
@@ -74,7 +74,7 @@ pub fn run_script<R: Read, W: Write, E: Write>(
     }
 }
 
-/// The status of a script that came to its end, by whether its notes were told.
+/// The status of a script that came to its end, by whether its notes could be reported.
 fn status_after<E: Write>(told: Result<(), RunError>, errors: &mut Watched<E>) -> u8
     ensures status { result ≤ 1 }
     ensures told { result ≡ 0 → (IsOk told × (errors.new ≡ errors.old)) }

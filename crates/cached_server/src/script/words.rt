@@ -38,7 +38,7 @@ impl From<clap::Error> for WordsError {
     }
 }
 
-/// Takes the words: exactly one of `--script` and `--config FILE`. The first word is the program's name.
+/// Takes the arguments: exactly one of `--script` and `--config FILE`. The first is the program's name.
 pub fn take_words<'a, S: AsStr>(alloc: Global, words: &'a [S]) -> Result<Chosen<'a>, WordsError> {
     let script = Arg::new(alloc, "script")
         .long("script")

@@ -36,7 +36,7 @@ audited_steps config parts s tasks (step ∷ steps) =
 abbrev pub audited_event : Config → List KeyPart → Situation → Record → Option Reached
 audited_event config parts s entry = audited_steps config parts (after_event entry.event s) (tasks_in s entry.event) (steps_of entry)
 
--- the record's event is taken: it is not refused, has the next number, and only an answer has a value of its own
+-- the record's event is accepted: it is not refused, has the next number, and only an answer has a value of its own
 abbrev pub is_taken : Config → Situation → Record → Bool
 is_taken config s entry = is_none (refusal_of config (known_in s) entry.event) && is_numbered s.opened entry.event && has_right_own_value entry
 
@@ -50,17 +50,17 @@ audited_from config parts s n [] = None
 audited_from config parts s n (entry ∷ entries) =
     option_map_or (λ r. audited_from config r.parts r.situation (suc n) entries) (audited_record config parts s entry) (Some (suc n))
 
--- what was reached, where the answer is true; where it is false, nothing was
+-- what was reached, if the answer is true; if it is false, nothing was
 abbrev pub Reaches : Bool → Situation → List KeyPart → Option Reached → Type 0
 Reaches true t parts reached = reached ≡ Some (record { situation = t; parts = parts })
 Reaches false t parts reached = reached ≡ None
 
--- the parts with those of these values
+-- the parts, with those of these values
 abbrev pub with_values : List KeyPart → List Value → List KeyPart
 with_values parts [] = parts
 with_values parts (v ∷ vs) = with_values (with_value parts (Some v)) vs
 
--- what is reached where steps lead there and accept those values
+-- what is reached if steps lead there and accept these values
 abbrev pub reached_by : List KeyPart → List Value → List Value → Option Situation → Option Reached
 reached_by parts values more None = None
 reached_by parts values more (Some t) = if agree_on_parts (values ++ more) then Some (record { situation = t; parts = with_values parts more }) else None
@@ -73,7 +73,7 @@ step_of_answer entry = record { conn = 0; line = []; held = false; reply = None;
 abbrev pub steps_with_own : Record → List Step
 steps_with_own entry = step_of_answer entry ∷ entry.steps
 
--- the steps lead there from the judge's situation, where the answer is true; where it is false, nowhere
+-- the steps lead there from the judge's situation, if the answer is true; if it is false, nowhere
 abbrev pub Audits : Config → State → List KeyPart → List Task → List Step → Bool → State → List KeyPart → Type 0
 Audits config s parts tasks steps b t more = Reaches b (shown_situation t) more (audited_steps config parts (shown_situation s) tasks steps)
 

@@ -6,8 +6,8 @@ use Rattle.audit_laws.specs.Breaking.{IsFaultless, BreaksFirstAt}
 use Rattle.moka_audit.specs.declared.records.auditing.Verdict.{Verdict}
 use Rattle.moka_audit.specs.declared.records.auditing.Verdict.TheVariants.{Yes, Breaks, OutOfMemory}
 
--- yes: the transcript obeys, and none of its events is refused; it breaks: that is not so, and the first n records are the shortest front of
--- which it is not so; of no memory nothing is said
+-- yes: the transcript obeys, and none of its events is refused; breaks: this is not so, and the first n records are the shortest front of
+-- which it is not so; out of memory says nothing
 abbrev pub IsJust : Config → Transcript → Verdict → Type 0
 IsJust config transcript Yes = IsFaultless config transcript
 IsJust config transcript (Breaks n) = (¬ IsFaultless config transcript) × BreaksFirstAt config transcript n

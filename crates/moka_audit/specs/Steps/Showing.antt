@@ -25,7 +25,7 @@ abbrev pub runs_lines : Option Task → Bool
 runs_lines (Some (RunLines conn)) = true
 runs_lines task = false
 
--- an answer is due to be stored
+-- storing an answer is due
 abbrev pub stores : Option Task → Bool
 stores (Some (Store key outcome)) = true
 stores task = false

@@ -159,7 +159,7 @@ fn show_own(entry: &Record) -> Shown<'_>
     }
 }
 
-/// Answers a load, and judges the answer's own step and the steps that follow.
+/// Answers a load: judges the answer's own step and the steps that follow.
 fn judge_answer(
     alloc: Global,
     config: &Config,

@@ -120,7 +120,7 @@ fn may_hold(duty: Option<Duty<'_>>, doing: Doing<'_>) -> bool
     }
 }
 
-/// Whether a step is held only where it may be.
+/// Whether a step is held back only if it may be.
 pub fn is_held_rightly(duty: Option<Duty<'_>>, held: bool, doing: Doing<'_>) -> bool
     ensures { result ≡ (not held || may_hold (option_map task_of duty.entry) (action_of doing.entry)) }
 {

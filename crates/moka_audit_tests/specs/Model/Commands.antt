@@ -62,7 +62,7 @@ no_room_for_sums = history (opened 1
     ∷ made_feed 1 0 (text "ADD n - 2") (says 1 "ADD n - 2" (text "OFF") ∷ [])
     ∷ made_feed 1 0 (text "ADD n - x") (says 1 "ADD n - x" (text "ERR number") ∷ []) ∷ [])
 
--- an `ADD` runs maintenance before it writes: it may tell its key's older value with another true cause
+-- an `ADD` runs maintenance before it writes: it may report its key's older value with another true cause
 abbrev pub add_tells_size : Transcript
 add_tells_size = history (opened 1
     ∷ made_feed 1 0 (text "ADD a - 1") (takes 1 "ADD a - 1" (text "VAL 1") [] ∷ [])
@@ -78,7 +78,7 @@ cleared = history (opened 1
     ∷ made_feed 1 0 (text "SET a - 2") (takes 1 "SET a - 2" (text "OK") (note Explicit "a" "1" ∷ []) ∷ [])
     ∷ made_feed 1 0 (text "GET a") (says 1 "GET a" (text "VAL 2") ∷ []) ∷ [])
 
--- what is covered is held until it is told
+-- what is covered is held until it is reported
 abbrev pub cleared_and_held : Transcript
 cleared_and_held = history (opened 1
     ∷ made_feed 1 0 (text "SET a - 1") (takes 1 "SET a - 1" (text "OK") [] ∷ [])

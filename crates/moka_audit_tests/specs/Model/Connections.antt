@@ -1,4 +1,4 @@
--- Rows of connections: opened, closed, made_feed in turn, and commands held back for want of memory.
+-- Rows of connections: opened, closed, fed in turn, and commands held back for lack of memory.
 use Rattle.std.specs.Prelude.{◌^◌, [], ◌∷◌, ◌++◌}
 use Rattle.audit_model.specs.declared.transcript.Transcript.{Transcript}
 use Rattle.moka_audit_tests.specs.Model.Making.{text, opened, closed, made_feed, says, takes, made_held_step, history, plain_config, IsGood, BreaksAfter}

@@ -6,7 +6,7 @@ use Rattle.moka_audit_tests.specs.Model.Making.{text, opened, made_feed, says, t
 
 -- ---- good
 
--- the deadline is rounded down to 244 times 4096; the value is held until it is told
+-- the deadline is rounded down to 244 times 4096; the value is held until it is reported
 abbrev pub own_deadline : Transcript
 own_deadline = history (opened 1
     ∷ made_feed 1 0 (text "SET a 1 x") (takes 1 "SET a 1 x" (text "OK") [] ∷ [])
@@ -82,7 +82,7 @@ own_end_missed = history (opened 1
     ∷ made_feed 1 4997119 (text "GET a") (says 1 "GET a" (text "VAL y") ∷ [])
     ∷ made_feed 1 4997120 (text "GET a") (says 1 "GET a" (text "VAL y") ∷ []) ∷ [])
 
--- a dead value that is written over is told as expired
+-- a dead value that is written over is reported as expired
 abbrev pub dead_told_replaced : Transcript
 dead_told_replaced = history (opened 1
     ∷ made_feed 1 0 (text "SET a - 1") (takes 1 "SET a - 1" (text "OK") [] ∷ [])

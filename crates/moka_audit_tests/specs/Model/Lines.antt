@@ -1,4 +1,4 @@
--- Rows of lines: how bytes are cut, and which fault is told.
+-- Rows of lines: how bytes are cut, and which fault is reported.
 use Rattle.std.specs.Prelude.{ℕ, List, [], ◌∷◌, ◌++◌, codes, replicate}
 use Rattle.audit_model.specs.declared.transcript.Transcript.{Transcript}
 use Rattle.audit_model.specs.declared.transcript.RemovalCause.TheVariants.{Replaced}

@@ -6,7 +6,7 @@ use Rattle.audit_model.specs.declared.transcript.RemovalCause.TheVariants.{Expli
 use Rattle.audit_model.specs.declared.transcript.Transcript.{Transcript}
 use Rattle.moka_audit_tests.specs.Model.Making.{text, opened, closed, made_feed, answered, stored, given_up, came, failed, says, takes, tells, sends, joins, made_held_step, note, history, plain_config, of_capacity, of_idle_ms, with_deadlines, IsGood, BreaksAfter}
 
--- over_two_connections connections
+-- two connections
 abbrev pub over_two_connections : List Record → Transcript
 over_two_connections records = history (opened 1 ∷ opened 2 ∷ records)
 
@@ -20,7 +20,7 @@ second_joins = made_feed 2 0 (text "LOAD k") (joins 2 "LOAD k" ∷ [])
 
 -- ---- good
 
--- one load for over_two_connections connections, whose value is there then
+-- one load for two connections, whose value is there then
 abbrev pub one_load_for_two : Transcript
 one_load_for_two = over_two_connections (first_asks
     ∷ second_joins
@@ -34,7 +34,7 @@ both_run_again = over_two_connections (first_asks
     ∷ given_up 1 0 (sends 1 "LOAD k" 2 ∷ joins 2 "LOAD k" ∷ [])
     ∷ stored 2 0 (came "v") [] (says 1 "LOAD k" (text "VAL v") ∷ says 2 "LOAD k" (text "VAL v") ∷ []) ∷ [])
 
--- what came to be there meanwhile is found by each that runs again, and lines behind it run at once
+-- what came to be there in the meantime is found by each that runs again, and lines behind it run at once
 abbrev pub found_when_run_again : Transcript
 found_when_run_again = history (opened 1
     ∷ opened 2
@@ -44,14 +44,14 @@ found_when_run_again = history (opened 1
     ∷ made_feed 3 0 (text "SET k - 1") (takes 3 "SET k - 1" (text "OK") [] ∷ [])
     ∷ given_up 1 0 (says 1 "LOAD k" (text "VAL 1") ∷ says 1 "GET k" (text "VAL 1") ∷ says 2 "LOAD k" (text "VAL 1") ∷ []) ∷ [])
 
--- a `DEL` that comes meanwhile does not stop the value
+-- a `DEL` that comes in the meantime does not stop the value
 abbrev pub deleted_meanwhile : Transcript
 deleted_meanwhile = over_two_connections (first_asks
     ∷ made_feed 2 0 (text "DEL k") (says 2 "DEL k" (text "OK") ∷ [])
     ∷ stored 1 0 (came "v") [] (says 1 "LOAD k" (text "VAL v") ∷ [])
     ∷ made_feed 2 0 (text "GET k") (says 2 "GET k" (text "VAL v") ∷ []) ∷ [])
 
--- a value that came meanwhile is replaced
+-- a value that came in the meantime is replaced
 abbrev pub set_meanwhile : Transcript
 set_meanwhile = over_two_connections (first_asks
     ∷ made_feed 2 0 (text "SET k - 1") (takes 2 "SET k - 1" (text "OK") [] ∷ [])
@@ -191,7 +191,7 @@ abbrev pub runs_early_in_its_piece : Transcript
 runs_early_in_its_piece = history (opened 1
     ∷ made_feed 1 0 (text "LOAD k" ++ text "GET a") (sends 1 "LOAD k" 1 ∷ says 1 "GET a" (text "NONE") ∷ []) ∷ [])
 
--- an answer skips its value as a `DEL` came meanwhile
+-- an answer skips its value as a `DEL` came in the meantime
 abbrev pub value_skipped : Transcript
 value_skipped = over_two_connections (first_asks
     ∷ made_feed 2 0 (text "DEL k") (says 2 "DEL k" (text "OK") ∷ [])
@@ -235,7 +235,7 @@ answered_twice = history (opened 1
     ∷ answered 1 0 outcome.None [] (says 1 "LOAD k" (text "NONE") ∷ [])
     ∷ answered 1 0 outcome.None [] [] ∷ [])
 
--- an outcome that is refused: a line feed, or a time to live where there are no own deadlines
+-- an outcome that is refused: a line feed, or a time to live if there are no own deadlines
 abbrev pub value_of_two_lines : Transcript
 value_of_two_lines = history (opened 1
     ∷ made_feed 1 0 (text "LOAD k") (sends 1 "LOAD k" 1 ∷ [])

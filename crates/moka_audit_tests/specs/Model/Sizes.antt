@@ -1,4 +1,4 @@
--- Rows of capacities: who is told `Size`, and when that is true.
+-- Rows of capacities: what is reported as `Size`, and when that is true.
 use Rattle.std.specs.Prelude.{[], ◌∷◌}
 use Rattle.audit_model.specs.declared.transcript.Transcript.{Transcript}
 use Rattle.audit_model.specs.declared.transcript.RemovalCause.TheVariants.{Explicit, Replaced, Size}
@@ -61,7 +61,7 @@ size_after_delete = history (opened 1
     ∷ made_feed 1 0 (text "DEL c") (tells 1 "DEL c" (text "OK") (note Explicit "c" "3" ∷ []) ∷ [])
     ∷ made_feed 1 0 (text "GET a") (tells 1 "GET a" (text "VAL 1") (note Size "a" "1" ∷ []) ∷ []) ∷ [])
 
--- a step may tell the very value that it accepts
+-- a step may report the very value that it accepts
 abbrev pub size_in_its_step : Transcript
 size_in_its_step = history (opened 1
     ∷ made_feed 1 0 (text "SET a - 1") (takes 1 "SET a - 1" (text "OK") [] ∷ [])
@@ -100,7 +100,7 @@ too_much_after_sync = history (opened 1
     ∷ made_feed 1 0 (text "SET c - 3") (takes 1 "SET c - 3" (text "OK") [] ∷ [])
     ∷ made_feed 1 0 (text "SYNC") (says 1 "SYNC" (text "SYNC 3 3") ∷ []) ∷ [])
 
--- a write tells its key's older value as replaced, also where the part was too full
+-- a write reports its key's older value as replaced, also if the part was too full
 abbrev pub set_tells_size : Transcript
 set_tells_size = history (opened 1
     ∷ made_feed 1 0 (text "SET a - 1") (takes 1 "SET a - 1" (text "OK") [] ∷ [])

@@ -40,7 +40,7 @@ fn clears(buffer: &mut Buffer) -> bool {
     true
 }
 
-/// Does it, and answers whether it came out so.
+/// Does it, and returns whether the result was the expected one.
 fn comes_so(buffer: &mut Buffer, row: Row<'_>) -> bool {
     match row {
         Row::Feeds(piece) => feed(buffer, piece).is_ok(),
@@ -52,8 +52,7 @@ fn comes_so(buffer: &mut Buffer, row: Row<'_>) -> bool {
     }
 }
 
-/// Does one row after another with a new buffer, and answers the place of the first that did not
-/// come out so.
+/// Does one row after another with a new buffer, and returns the place of the first that failed.
 fn first_wrong(alloc: Global, rows: &[Row<'_>]) -> Option<usize> {
     let mut buffer = Buffer::new(alloc);
     for (place, row) in rows.iter().enumerate() {

@@ -276,7 +276,7 @@ fn lines_of(alloc: Global, long: Long) -> Result<Vec<u8>, AllocError> {
     }
 }
 
-/// The same, at the second try where memory is refused.
+/// The same, on the second attempt if memory is refused.
 fn lines_again(alloc: Global, long: Long) -> Result<Vec<u8>, AllocError> {
     match lines_of(alloc, long) {
         Ok(lines) => Ok(lines),

@@ -4,6 +4,7 @@ use Rattle.audit_model.specs.Places.{tasks_to_give_up}
 use Rattle.audit_model.specs.Steps.{RunAgain, RunLines, Task}
 use Rattle.audit_model.specs.declared.config.Config.{Config}
 use Rattle.cache_store.specs.Promises.{Frame}
+use Rattle.cache_commands.proofs.Taking.{taken-on, taken-same}
 use Rattle.cache_core.specs.Settled.{IsAmid}
 use Rattle.cache_core.specs.Settling.{AreWaiting, IsWaitingAt, PartsUnknown, Reruns}
 use Rattle.cache_core.proofs.Amid.{unknown-none, unknown-on}
@@ -17,7 +18,7 @@ loop-number-init g c = record {
   amid = λ lines amid. amid;
   waits = c.requires.waits;
   count = refl;
-  goes = record { taken = refl; namespace = refl };
+  goes = taken-same c.args.base.now.loads;
 }
 
 pub overflow_sub-index : goal.overflow_sub-index
@@ -98,7 +99,7 @@ loop-number-preserved g c =
           c.give_up_at.ensures.amid (length rest + length rest + lines) (subst (λ k. IsAmid g.S.Store.view g.T.Tape.view c.args.now c.loop-number.base mid k) (let e = ap length next in omega (arith, e)) h);
       waits = left-wait config n rest mid c.give_up_at.new.connections waits c.give_up_at.ensures.others;
       count = c.give_up_at.ensures.others.count ∙ i.count;
-      goes = record { taken = c.give_up_at.ensures.goes.taken ∙ i.goes.taken; namespace = c.give_up_at.ensures.goes.namespace ∙ i.goes.namespace };
+      goes = taken-on i.goes c.give_up_at.ensures.goes;
     }
 
 pub returns-clause-ran : goal.returns-clause-ran

@@ -1,6 +1,7 @@
 use Rattle.std.proofs.Common.{◌≡◌, ◌+◌, ◌-◌, ◌∷◌, [], ℕ, List, length, map, take, drop, get_or, refl, sym, ap, ◌∙◌, subst, arith}
 use Rattle.std.proofs.lemmas.List.{take_all}
 use Rattle.audit_model.specs.Steps.{RunLines, Task}
+use Rattle.cache_commands.proofs.Taking.{taken-on, taken-same}
 use Rattle.cache_core.specs.Settled.{IsAmid, Parts}
 use Rattle.cache_core.specs.Settling.{AreThere}
 use Rattle.cache_core.proofs.Amid.{parts-none, parts-on}
@@ -14,7 +15,7 @@ loop-number-init g c = record {
   amid = λ lines amid. amid;
   inside = c.requires.inside;
   count = refl;
-  goes = record { taken = refl; namespace = refl };
+  goes = taken-same c.args.base.now.loads;
 }
 
 pub overflow_sub-index : goal.overflow_sub-index
@@ -81,7 +82,7 @@ loop-number-preserved g c =
           c.resume_at.ensures.amid (length rest + lines) (subst (λ k. IsAmid g.S.Store.view g.T.Tape.view c.args.now c.loop-number.base mid k) (let e = ap length next in omega (arith, e)) h);
       inside = left-there mid c.resume_at.new.connections n rest there c.resume_at.ensures.others.count;
       count = c.resume_at.ensures.others.count ∙ i.count;
-      goes = record { taken = c.resume_at.ensures.goes.taken ∙ i.goes.taken; namespace = c.resume_at.ensures.goes.namespace ∙ i.goes.namespace };
+      goes = taken-on i.goes c.resume_at.ensures.goes;
     }
 
 pub returns-clause-ran : goal.returns-clause-ran

@@ -4,6 +4,7 @@ use Rattle.audit_model.specs.Replies.{outcome_text}
 use Rattle.audit_model.specs.Steps.{Deliver, Task}
 use Rattle.audit_model.specs.declared.config.Config.{Config}
 use Rattle.cache_store.specs.Promises.{Frame}
+use Rattle.cache_commands.proofs.Taking.{taken-on, taken-same}
 use Rattle.cache_core.specs.Settled.{IsAmid, Parts}
 use Rattle.cache_core.specs.Settling.{AreWaiting, HaveReplyRoom, IsWaitingAt}
 use Rattle.cache_core.proofs.Amid.{parts-none, parts-on}
@@ -18,7 +19,7 @@ loop-number-init g c = record {
   waits = c.requires.waits;
   room = c.requires.room;
   count = refl;
-  goes = record { taken = refl; namespace = refl };
+  goes = taken-same c.args.base.now.loads;
 }
 
 pub overflow_sub-index : goal.overflow_sub-index
@@ -114,7 +115,7 @@ loop-number-preserved g c =
       waits = left-wait config n rest mid c.tell_at.new.connections waits c.tell_at.ensures.others;
       room = left-room config n (length (outcome_text c.args.outcome.now)) rest mid c.tell_at.new.connections waits (subst (HaveReplyRoom mid (length (outcome_text c.args.outcome.now))) next i.room) c.tell_at.ensures.others;
       count = c.tell_at.ensures.others.count ∙ i.count;
-      goes = record { taken = c.tell_at.ensures.goes.taken ∙ i.goes.taken; namespace = c.tell_at.ensures.goes.namespace ∙ i.goes.namespace };
+      goes = taken-on i.goes c.tell_at.ensures.goes;
     }
 
 pub returns-clause-ran : goal.returns-clause-ran

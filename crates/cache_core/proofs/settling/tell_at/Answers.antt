@@ -1,7 +1,7 @@
 use Rattle.std.proofs.Common.{ap}
 use Rattle.audit_model.specs.Steps.{Deliver}
 use Rattle.cache_core.specs.Fed.{ReplacedAt}
-use Rattle.cache_core.proofs.At.{can-run-of, only-parts, stepped, taken-same, waits-here, waits-is}
+use Rattle.cache_core.proofs.At.{can-run-of, only-parts, stepped, taken-stays, waits-here, waits-is}
 use Rattle.cache_core.proofs.Spots.{out-at, put-back}
 use Rattle.cache_core.proofs.settling.tell_at.Goals as goal
 
@@ -27,7 +27,7 @@ pub deliver-requires-clause-room : goal.deliver-requires-clause-room
 deliver-requires-clause-room g c = c.requires.room c.take-connection.result c.take-connection.ensures.taken
 
 pub returns-clause-goes : goal.returns-clause-goes
-returns-clause-goes g c = taken-same _ _ (ap (λ b. b.loads) c.deliver.ensures.rest)
+returns-clause-goes g c = taken-stays _ _ (ap (λ b. b.loads) c.deliver.ensures.rest)
 
 pub returns-clause-ran : goal.returns-clause-ran
 returns-clause-ran g c =

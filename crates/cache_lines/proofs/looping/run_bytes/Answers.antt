@@ -1,6 +1,7 @@
 use Rattle.std.proofs.Common.{◌+◌, ◌∙◌, ap, arith, drop, length-drop, refl, subst, sym, false}
 use Rattle.std.specs.Prelude.{Err, Ok}
 use Rattle.std.proofs.lemmas.List.{drop-drop}
+use Rattle.cache_commands.proofs.Taking.{taken-on, taken-same}
 use Rattle.cache_lines.specs.Bases.{seen}
 use Rattle.cache_lines.specs.Making.{making_of}
 use Rattle.cache_lines.specs.Stops.{RunsFirst}
@@ -18,7 +19,7 @@ loop-len-init g c =
       frame = record { rest = refl; latest = c.requires.in_time.0 };
       fresh = c.requires.clear;
       still = refl;
-      goes = record { taken = refl; namespace = refl };
+      goes = taken-same c.args.base.now.loads;
       within = omega arith;
       spare = refl;
     }
@@ -48,7 +49,7 @@ loop-len-preserved g c =
       frame = frames-more old.stage.values.frame middle.stage.values.frame new.stage.values.frame c.args.now i.frame one.1.0.frame;
       fresh = one.1.0.fresh;
       still = one.1.1 ∙ i.still;
-      goes = record { taken = c.in-Ok.ensures.goes.taken ∙ i.goes.taken; namespace = c.in-Ok.ensures.goes.namespace ∙ i.goes.namespace };
+      goes = taken-on i.goes c.in-Ok.ensures.goes;
       within = let inside = one.0.inside in omega (arith, length-drop c.loop-len.used bytes, inside, i.within);
       spare = c.in-Ok.ensures.kept ∙ i.spare;
     }

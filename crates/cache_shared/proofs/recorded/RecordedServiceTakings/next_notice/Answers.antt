@@ -5,19 +5,19 @@ use Rattle.cache_spaces.specs.Recorded.{untold_in}
 use Rattle.cache_shared.proofs.recorded.RecordedServiceTakings.next_notice.Goals as goal
 
 pub returns-clause-note : goal.returns-clause-note
-returns-clause-note c = note-taken c.args.self.now c.next_notice.new.self c.args.namespace c.next_notice.result c.next_notice.ensures.taken c.next_notice.ensures.unchanged
+returns-clause-note c = note-taken c.args.self.now c.take_note.new.recorded c.args.namespace c.take_note.result c.take_note.ensures.taken c.take_note.ensures.unchanged
 
 pub returns-clause-none : goal.returns-clause-none
-returns-clause-none c = note-none c.args.self.now c.next_notice.new.self c.args.namespace c.next_notice.result c.next_notice.ensures.taken c.next_notice.ensures.unchanged
+returns-clause-none c = note-none c.args.self.now c.take_note.new.recorded c.args.namespace c.take_note.result c.take_note.ensures.taken c.take_note.ensures.unchanged
 
 pub returns-clause-refused : goal.returns-clause-refused
-returns-clause-refused c = none-or-full kept_by c.args.namespace c.args.self.now.spaces c.next_notice.result c.next_notice.ensures.refused
+returns-clause-refused c = none-or-full kept_by c.args.namespace c.args.self.now.spaces c.take_note.result c.take_note.ensures.refused
 
 pub returns-clause-kept : goal.returns-clause-kept
-returns-clause-kept c = seen-kept (λ recorded. untold_in recorded c.args.namespace) c.next_notice.result c.args.self.now c.next_notice.new.self c.next_notice.ensures.unchanged
+returns-clause-kept c = seen-kept (λ recorded. untold_in recorded c.args.namespace) c.take_note.result c.args.self.now c.take_note.new.recorded c.take_note.ensures.unchanged
 
 pub returns-clause-others : goal.returns-clause-others
-returns-clause-others c = notes-of-others c.args.self.now c.next_notice.new.self c.args.namespace c.next_notice.result c.next_notice.ensures.taken c.next_notice.ensures.unchanged
+returns-clause-others c = notes-of-others c.args.self.now c.take_note.new.recorded c.args.namespace c.take_note.result c.take_note.ensures.taken c.take_note.ensures.unchanged
 
 pub returns-clause-events : goal.returns-clause-events
-returns-clause-events c = note-events c.args.self.now c.next_notice.new.self c.args.namespace c.next_notice.result c.next_notice.ensures.taken c.next_notice.ensures.unchanged
+returns-clause-events c = note-events c.args.self.now c.take_note.new.recorded c.args.namespace c.take_note.result c.take_note.ensures.taken c.take_note.ensures.unchanged

@@ -1,6 +1,7 @@
 use Rattle.std.proofs.Common.{arith}
 use Rattle.cache_spaces.proofs.Journaling.{were-none}
-use Rattle.cache_spaces.proofs.Reading.{start-reads}
+use Rattle.cache_spaces.proofs.Opening.{start-have}
+use Rattle.cache_spaces.proofs.Reading.{start-reads, start-unread}
 use Rattle.cache_spaces.proofs.journals.RecordedService.new.Goals as goal
 
 pub invariant_of-result : goal.invariant_of-result
@@ -10,4 +11,8 @@ invariant_of-result c = (
   let count = c.in-Ok.ensures.made.count in let capacity = c.in-Ok-with_capacity.ensures.capacity in omega (arith, count, capacity),
   let count = c.in-Ok.ensures.made.count in let counted = c.in-Ok-new_cursors.ensures.counted in omega (arith, count, counted),
   start-reads c.in-Ok.core c.in-Ok-new_cursors.read.items _ c.in-Ok-new_cursors.ensures,
+  start-have c.args.configs.now c.args.generator c.args.moment c.in-Ok.core c.in-Ok-new_cursors.read.items _ c.in-Ok.ensures.made c.in-Ok-new_cursors.ensures,
 )
+
+pub returns-in-Ok-new_cursors-clause-unread : goal.returns-in-Ok-new_cursors-clause-unread
+returns-in-Ok-new_cursors-clause-unread c = start-unread c.in-Ok.core c.in-Ok-new_cursors.read.items _ c.in-Ok-new_cursors.ensures

@@ -1,6 +1,0 @@
-use Rattle.std.proofs.Common.{◌≡◌, take}
-use Rattle.cache_spaces.specs.Replies.{replies_for}
-use Rattle.cache_spaces.proofs.replies.gather.Given as goal
-
-abbrev pub invariant-loop-entry : goal.invariant-loop-entry
-invariant-loop-entry l = l.text.items ≡ replies_for l.number (take l.entry-index l.records)
