@@ -1,15 +1,15 @@
 #!/usr/bin/env python3
-"""Drives the proved server `cached --config` over loopback by clients of its own, and ends by itself.
+"""Drives the proved server `cached --config` over loopback with clients of its own, and ends by itself.
 
-    python3 benches/connections.py          requests a second, and the server's processor time a request, by connections and depth
-    python3 benches/connections.py NAME     the same requests to `redis` or `memcached`, where they are on the path, or to `plain` (plain_server)
+    python3 benches/connections.py          requests per second, and the server's processor time per request, by connections and depth
+    python3 benches/connections.py NAME     the same requests to `redis` or `memcached`, if they are on the path, or to `plain` (plain_server)
     python3 benches/connections.py beside   all of these that are there, three rounds in turn, medians; fills figures.json
     python3 benches/connections.py soak     a million requests over 200 connections, with the server's memory on the way
     python3 benches/connections.py memory   what the server holds for each of a million values
 
-Build the server first: in crates/cached, `rt run` leaves the program at out/cached; CACHED names another. Half of the requests are SET, half GET, with
-keys of 16 bytes and values of 32. Each connection has keys of its own, so a GET answers what the same connection stored last, or
-NONE where that was evicted: each reply is compared, a stale value ends the run with an error.
+Build the server first: in crates/cached, `rt run` leaves the program at out/cached; CACHED names another one. Half of the requests are
+SET, half GET, with keys of 16 bytes and values of 32. Each connection has keys of its own, so a GET returns what the same connection
+stored last, or NONE if that was evicted: each reply is compared, and a stale value ends the run with an error.
 """
 import contextlib
 import multiprocessing

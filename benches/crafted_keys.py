@@ -1,18 +1,18 @@
 #!/usr/bin/env python3
-"""Times the proved server over keys that were crafted against a hasher without a secret, beside drawn ones.
+"""Times the proved server with keys that were crafted against a hasher without a secret, compared with random ones.
 
 Build the program first: in crates/cached, `rt run` leaves it at out/cached; `cc` has to be on the path. `crafted_keys.c` makes 10,000
-keys whose hashes by std's hasher have one home in the cache's table, and as many against the hasher of `cached --script`, whose secret
-comes from the seed 0, so that it can be reckoned. Each run stores 10,000 values and looks each up ROUNDS times; each reply is compared.
+keys whose hashes by std's hasher have the same home in the cache's table, and as many against the hasher of `cached --script`, whose
+secret comes from the seed 0, so that it can be computed. Each run stores 10,000 values and looks each up ROUNDS times; each reply is compared.
 
-The figures are the processor time of a request, medians of SERVER_RUNS runs of the server and SCRIPT_RUNS of the script, in turn:
-  server, drawn      `cached --config`, whose secret comes from the machine's random source, over drawn keys
-  server, crafted    the same over keys crafted against std's hasher
-  server, script's   the same over keys crafted against the script's secret
-  script, drawn      `cached --script` over drawn keys
-  script, crafted    the same over keys crafted against its secret: what the others are spared
-Ends with status 1 where crafted keys cost the server more than 1.3 times what drawn ones do, or cost the script less than five times
-as much: then they are not what they are meant to be.
+The figures are the processor time per request, medians of SERVER_RUNS runs of the server and SCRIPT_RUNS of the script, in turn:
+  server, drawn      `cached --config`, whose secret comes from the machine's random source, with random keys
+  server, crafted    the same with keys crafted against std's hasher
+  server, script's   the same with keys crafted against the script's secret
+  script, drawn      `cached --script` with random keys
+  script, crafted    the same with keys crafted against its secret: the cost that the others are spared
+The status is 1 if crafted keys cost the server more than 1.3 times as much as random ones, or cost the script less than five times as
+much: then they are not what they are meant to be.
 """
 import os
 import pathlib

@@ -1,14 +1,15 @@
 #!/usr/bin/env python3
-"""Times the cache of one part beside the kit's `LruCache`: look-ups, writes over, inserts above the capacity, and what a value takes.
+"""Times the cache of one part compared with the kit's `LruCache`: look-ups, overwrites, inserts above the capacity, and memory per value.
 
-Build the program first: in crates/bench, `rt run` leaves it at out/bench. Each time is the difference of two
-runs of one round, one of which fills the same cache, draws keys the same way and goes through them without a call, by the
-processor time. A factor compares runs of one round; what is printed are medians over the rounds, and the least and the greatest
-factor. Memory is the most that a run had resident, less that of a run of one value.
-It needs GNU `time`. Where Debian's packages are there (caffeine/run.sh), Caffeine's calls are timed beside, keys by Zipf's law as here.
-Figures go into figures.json. CORE in the environment is the number of a core that all runs on. `engine.py SIZE..` takes these sizes in
-place of 1,000, 100,000 and 1,000,000. Ends with status 1 where at 100,000 a look-up takes more than 4 times `LruCache`'s, an insert more
-than 3 times its `put`, or a value more than 260 bytes above its key and itself, where the space was made at once.
+Build the program first: in crates/bench, `rt run` leaves it at out/bench. Each time is the difference of two runs of one round, in
+processor time; the second run fills the same cache, draws the keys in the same way and goes through them without a call. A factor
+compares runs of one round; what is printed are medians over the rounds, and the minimum and maximum factor. Memory is the peak resident
+size of a run, minus that of a run of one value.
+It needs GNU `time`. If Debian's packages are there (caffeine/run.sh), Caffeine's calls are timed too, with keys by Zipf's law as here.
+Figures go into figures.json. CORE in the environment is the number of a core on which all runs are pinned. `engine.py SIZE..` takes
+these sizes in place of 1,000, 100,000 and 1,000,000. The status is 1 if at 100,000 a look-up takes more than 4 times as long as that of
+`LruCache`, an insert more than 3 times as long as its `put`, or a value more than 260 bytes in addition to key and value, with the space
+allocated in advance.
 """
 import os
 import pathlib

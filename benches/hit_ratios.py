@@ -1,19 +1,19 @@
 #!/usr/bin/env python3
-"""Hit ratios on the traces of traces.py: each key is looked up and, where it is not found, written.
+"""Hit ratios on the traces of traces.py: each key is looked up and, if it is not found, written.
 
     python3 benches/hit_ratios.py [TRACE..]                fills figures.json
-    python3 benches/hit_ratios.py own FILE CAPACITY..      a trace of one's own, a key a line
-    python3 benches/hit_ratios.py check [N]                compares model and cache on the first N keys of each trace, 10,000 where it is left out
+    python3 benches/hit_ratios.py own FILE CAPACITY..      a trace of your own, one key per line
+    python3 benches/hit_ratios.py check [N]                compares model and cache on the first N keys of each trace, by default 10,000
     python3 benches/hit_ratios.py server TRACE             the keys over sockets, one round trip each, to `cached --config`
 
 The cache of this repository is driven by the program `transcript`, which replays lines on a service: for each trace, policy and
-capacity a model in Python (reference_model.py) says which keys are found, the lines are made by that, and each reply has to be what
-the model said, key by key; else the run ends with status 1. So the ratios are the cache's own, and the same each time. Beside it
-stand Caffeine, a plain LRU, and the model with the other rule of aging, which no program here has.
+capacity a model in Python (reference_model.py) predicts which keys are found, the lines are made from that, and each reply has to be what
+the model predicted, key by key; otherwise the status is 1. So the ratios are the cache's own, and the same each time. In the same run
+there are Caffeine, a plain LRU, and the model with the other rule of aging, which no program here has.
 
 Build the programs first: `rt run` in crates/transcript leaves it at out/transcript, and in crates/cached at out/cached; TRANSCRIPT
-and CACHED name others. Where `transcript` is not there, the ratios are the model's, and it says so. Caffeine is left out where its
-package is not there (caffeine/run.sh).
+and CACHED name others. If `transcript` is not there, the ratios are those of the model, and the script says so. Caffeine is left out if
+its package is not installed (caffeine/run.sh).
 """
 import os
 import pathlib

@@ -1,14 +1,14 @@
 #!/usr/bin/env python3
-"""Counts the processor's instructions a line of `cached --script` and of `plain_server --script`, by valgrind's callgrind.
+"""Counts the processor's instructions per line of `cached --script` and of `plain_server --script`, with valgrind's callgrind.
 
     python3 benches/instructions.py
 
-120,000 lines, half SET, half GET, of keys drawn from 10,000, keys of 16 bytes, values of 32: what these take, less what the first
-20,000 of them take, over 100,000. Both programs have to answer the same. A count does not depend on what else runs, so one run of each
-is enough.
+120,000 lines, half SET, half GET, of keys drawn from 10,000, keys of 16 bytes, values of 32: the count of these minus that of the first
+20,000, divided by 100,000. Both programs have to give the same replies. A count does not depend on what else runs, so one run of each is
+enough.
 
-Build both first: in crates/cached, `rt run` leaves the program at out/cached (CACHED names another); in benches/plain_server,
-`cargo build --release` leaves it at target/release/plain_server (PLAIN_SERVER names another). valgrind has to be on the path.
+Build both first: in crates/cached, `rt run` leaves the program at out/cached (CACHED names another one); in benches/plain_server,
+`cargo build --release` leaves it at target/release/plain_server (PLAIN_SERVER names another one). valgrind has to be on the path.
 """
 import os
 import pathlib

@@ -1,10 +1,9 @@
 #!/usr/bin/env python3
-"""Times the proved `cached --script` over a million lines: half SET, half GET, keys of 16 bytes, values of 32, and a SYNC behind each
-thousand of them.
+"""Times the proved `cached --script` on a million lines: half SET, half GET, keys of 16 bytes, values of 32, and a SYNC after each thousand.
 
-Build it first: in crates/cached, `rt run` leaves the program at out/cached. This makes its own input, the same each time, checks each
-reply against a dictionary, and prints the processor seconds of five runs' median, and its least and greatest. Ends with status 1 where
-the median is above a second.
+Build it first: in crates/cached, `rt run` leaves the program at out/cached. The script makes its own input, the same each time, compares
+each reply with a dictionary, and prints the median of five runs' processor seconds, with minimum and maximum. The status is 1 if the
+median is above a second.
 """
 import os
 import pathlib

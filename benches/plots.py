@@ -1,5 +1,5 @@
 #!/usr/bin/env python3
-"""Draws the figures of figures.json into docs/*.svg, by Python's standard library alone.
+"""Draws the figures of figures.json into docs/*.svg, with Python's standard library only.
 
     python3 benches/plots.py            draws all
     python3 benches/plots.py ratios     prints the hit ratios as the tables of docs/CHOOSING.md
@@ -135,7 +135,7 @@ def draw_requests(kept, measured):
     """Processor time a request by connections, a panel a depth."""
     series = [shown for name, shown in SERVER_NAMES.items() if any(name in row for row in kept.values())]
     picture = Picture(980, 394, "Processor time a request")
-    picture.text(24, 34, "Processor microseconds a request, half SET, half GET", 19, weight="bold")
+    picture.text(24, 34, "Processor microseconds per request, half SET, half GET", 19, weight="bold")
     picture.keys(24, 62, series)
     for place, (depth, about) in enumerate([(1, "one request at a time"), (32, "32 requests at a time")]):
         rows = [
@@ -153,7 +153,7 @@ def draw_requests(kept, measured):
 
 
 CACHE_NAMES = {"tiny_lfu": "the cache of one part", "caffeine": "Caffeine", "lru_cache": "LruCache"}
-CALL_PANELS = [("look-up, ns", "gets zipf"), ("write over, ns", "writes zipf"), ("fetch, ns", "fetches zipf")]
+CALL_PANELS = [("look-up, ns", "gets zipf"), ("overwrite, ns", "writes zipf"), ("fetch, ns", "fetches zipf")]
 
 
 def calls_by_size(kept, work):
@@ -164,11 +164,11 @@ def calls_by_size(kept, work):
 
 def draw_calls(kept, measured):
     """Nanoseconds a call by the number of values, a panel a call; then bytes a value."""
-    panels = [(about, calls_by_size(kept, work)) for about, work in [*CALL_PANELS, ("bytes a value", "bytes")]]
+    panels = [(about, calls_by_size(kept, work)) for about, work in [*CALL_PANELS, ("bytes per value", "bytes")]]
     panels = [(about, rows) for about, rows in panels if rows]
     series = [shown for shown in CACHE_NAMES.values() if any(row[shown] is not None for _, rows in panels for _, row in rows)]
-    picture = Picture(980, 112 + 264 * math.ceil(len(panels) / 2), "Time a call and bytes a value")
-    picture.text(24, 34, "Nanoseconds a call, and bytes a value above key and value, by the number of values", 19, weight="bold")
+    picture = Picture(980, 112 + 264 * math.ceil(len(panels) / 2), "Time a call and bytes per value")
+    picture.text(24, 34, "Nanoseconds per call, and bytes per value in addition to key and value, by the number of values", 19, weight="bold")
     picture.keys(24, 62, series)
     for place, (about, rows) in enumerate(panels):
         left, top = 52 + 480 * (place % 2), 122 + 264 * (place // 2)

@@ -1,10 +1,10 @@
 #!/usr/bin/env python3
-"""Times the policy's structures: moves of a queue, timers, counts of a sketch.
+"""Times the policy's structures: moves in a queue, timers, counts of a sketch.
 
-Build the program first: in crates/bench, `rt run` leaves it at out/bench. Each figure is the difference of two
-runs, one of which only builds the structure, by the processor time of the best of three; the work itself is bounded.
-Ends with status 1 where a move of the first node at a million nodes takes more than three times one at a thousand: those
-go through memory in order. A drawn node is mostly in no cache at a million, so its figure says more of the machine.
+Build the program first: in crates/bench, `rt run` leaves it at out/bench. Each figure is the difference of two runs, one of which only
+builds the structure, in processor time, the best of three; the work itself is bounded. The status is 1 if a move of the first node takes
+more than three times as long at a million nodes as at a thousand: these go through memory in order. A random node of a million is
+usually in no processor cache, so its figure says more about the machine.
 """
 import os
 import pathlib

@@ -1,10 +1,10 @@
 #!/usr/bin/env python3
 """Times the proved `transcript audit` at reading a journal of a million steps.
 
-Build it first: in crates/transcript, `rt run` leaves the program at out/transcript. This makes its own journal, the same each time:
-half a million records that feed two lines each, and two steps behind each record. Its first record breaks a rule, so that the judge
-says so at once, and what is timed is the reading. Then one line in the middle is spoilt, and the error has to name it. Prints the
-seconds of the best of three runs.
+Build it first: in crates/transcript, `rt run` leaves the program at out/transcript. The script makes its own journal, the same each time:
+half a million records that feed two lines each, followed by two steps. Its first record breaks a rule, so that the judge says so at once,
+and what is timed is the reading. Then one line in the middle is corrupted, and the error has to name it. Prints the seconds of the best of
+three runs.
 """
 import pathlib
 import subprocess

@@ -1,8 +1,7 @@
-"""A model in Python of the cache of one part, as docs/REFERENCE_CACHE.md says it: values of weight one, no times, read through.
+"""A model in Python of the cache of one part, as docs/REFERENCE_CACHE.md describes it: values of weight one, no times, read through.
 
-It is a model and not the cache. It says which keys are found where each key of a trace is looked up and, where it is not found,
-written. `hit_ratios.py check` compares it, key by key, with what the proved program answers. It is also where a rule can be tried
-that the cache does not have (`Aging`).
+It is a model and not the cache. It predicts which keys are found if each key of a trace is looked up and, if it is not found, written.
+`hit_ratios.py check` compares it, key by key, with the proved program. It also allows trying a rule that the cache does not have (`Aging`).
 """
 import collections
 import enum

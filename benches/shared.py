@@ -1,10 +1,9 @@
 #!/usr/bin/env python3
-"""Times a cache that threads share beside the kit's `LruCache` under one lock: 1, 2 and 4 threads, 90 of 100 calls look-ups, keys by Zipf.
+"""Times a cache that threads share compared with the kit's `LruCache` under one lock: 1, 2 and 4 threads, 90 % look-ups, keys by Zipf's law.
 
-Build the program first: in crates/bench, `rt run` leaves it at out/bench. Each time is the processor time of a run
-less that of one of the same round that draws the same keys and makes no call. A factor compares two runs of one round; medians
-of the rounds are printed, with the least and the greatest factor. Ends with status 1 where a call takes more than 4 times what
-one takes of `LruCache`.
+Build the program first: in crates/bench, `rt run` leaves it at out/bench. Each time is the processor time of a run minus that of one of
+the same round that draws the same keys and makes no call. A factor compares two runs of one round; medians over the rounds are printed,
+with the minimum and maximum factor. The status is 1 if a call takes more than 4 times as long as one of `LruCache`.
 """
 import os
 import pathlib

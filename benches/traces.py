@@ -1,8 +1,8 @@
 #!/usr/bin/env python3
-"""Traces of keys, as a program would ask a cache for them: the same each time.
+"""Traces of keys, as a program would request them from a cache: the same each time.
 
-    python3 benches/traces.py               names the traces, and says what each is
-    python3 benches/traces.py TRACE [N]     prints N keys of one, a number a line; 200,000 where N is left out
+    python3 benches/traces.py               names the traces, and describes each
+    python3 benches/traces.py TRACE [N]     prints N keys of one, one number per line; by default 200,000
 """
 import bisect
 import itertools

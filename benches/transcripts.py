@@ -1,15 +1,15 @@
 #!/usr/bin/env python3
-"""transcripts.py [STEPS [KEYS [CAPACITY [mixed | dropping | connections | loads | waiting]]]]: how long `transcript audit` takes to judge a transcript of so many steps over so many keys.
+"""transcripts.py [STEPS [KEYS [CAPACITY [mixed | dropping | connections | loads | waiting]]]]: how long `transcript audit` takes to judge a transcript of this many steps over this many keys.
 
-It makes the transcript itself, the same each time: one connection that is fed a line a record, which is a `SET` for each key first and then a
-`SET`, a `GET` or, one in a thousand, a `SYNC`, answered as by a service that holds each key's last value and tells each older one as it is
-replaced. A capacity has to be at least as large as the number of keys, so that nothing has to leave. With `mixed`, two in three of the
-`SYNC` are a `DROPIF` of a prefix drawn from a thousand, and a `KEYS`; what is covered is told once its key is written again. With
-`dropping`, one in ten lines is a `DROPIF` of one key's whole name. The verdict has to be `yes`.
+It makes the transcript itself, the same each time: one connection that is fed one line per record, first a `SET` for each key and then a
+`SET`, a `GET` or, one in a thousand, a `SYNC`, answered as by a service that holds the last value of each key and reports each older one
+when it is replaced. A capacity has to be at least as large as the number of keys, so that nothing has to be evicted. With `mixed`, two in
+three of the `SYNC` are a `DROPIF` of a prefix drawn from a thousand, and a `KEYS`; what is covered is reported once its key is written
+again. With `dropping`, one in ten lines is a `DROPIF` of one key's whole name. The verdict has to be `yes`.
 
-With `connections`, as many connections are open as there are keys, and each line comes over one of them, drawn. With `loads`, each of them
-waits with a `LOAD` of its own key; one after another, drawn, is answered that there is no value, and asks again. With `waiting`, all of them
-wait for one load and close, in drawn order, and as many others come.
+With `connections`, as many connections are open as there are keys, and each line comes over a random one. With `loads`, each of them waits
+with a `LOAD` of its own key; one after another, at random, is answered that there is no value, and asks again. With `waiting`, all of them
+wait for one load and close, in random order, and as many others come.
 
 Build the program first: in crates/transcript, `rt run` leaves it at out/transcript.
 """

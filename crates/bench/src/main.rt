@@ -8,7 +8,7 @@ mod orders;
 mod policy;
 mod sync;
 
-use orders::{Order, first_order};
+use orders::{Order, Outcome, first_order};
 use std::alloc::{Allocator, Global};
 use std::env::Env;
 use std::process::ExitCode;
@@ -16,20 +16,28 @@ use std::sync::Wait;
 use std::thread::Threads;
 use std::{env, io};
 
-/// Does an order, and prints what it came to.
-fn do_order<R: Print + Threads + Wait + Sync>(
+/// Does an order, and prints what it came to. It is an error where that is wrong.
+fn do_order<R: Print + Threads + Wait + Sync + Copy>(
     rt: &R,
     alloc: Global,
     order: Order,
 ) -> io::Result<()> {
     match order.run(rt, alloc) {
-        Some(sum) => println!(rt; "{sum}"),
+        Some(Outcome::Sum(sum)) => println!(rt; "{sum}"),
+        Some(Outcome::Soak(tally)) => {
+            println!(rt; "{tally}")?;
+            if tally.is_right() {
+                Ok(())
+            } else {
+                Err(io::ErrorKind::InvalidData.into())
+            }
+        }
         None => println!(rt; "refused"),
     }
 }
 
 /// Does the orders of these words, one after another, and answers whether each was one.
-fn do_orders<R: Print + Threads + Wait + Sync, A: Allocator>(
+fn do_orders<R: Print + Threads + Wait + Sync + Copy, A: Allocator>(
     rt: &R,
     alloc: Global,
     words: &[String<A>],
@@ -50,7 +58,7 @@ fn do_orders<R: Print + Threads + Wait + Sync, A: Allocator>(
 }
 
 /// Does the orders of the words behind the program's name.
-fn do_words<R: Env + Alloc + Print + Threads + Wait + Sync>(
+fn do_words<R: Env + Alloc + Print + Threads + Wait + Sync + Copy>(
     rt: &R,
     alloc: Global,
 ) -> io::Result<bool> {

@@ -1,4 +1,6 @@
 //! What is to be done, as words.
+use crate::sync::soak;
+use crate::sync::soak::Tally;
 use crate::{engine, policy, sync};
 use std::alloc::{Allocator, Global};
 use std::sync::Wait;
@@ -13,6 +15,17 @@ pub enum Order {
     Engine(engine::Order),
     /// With a cache that threads share.
     Sync(sync::Order),
+    /// With all calls of such a cache, mixed.
+    Soak(soak::Order),
+}
+
+/// What an order came to.
+#[derive(Drop)]
+pub enum Outcome {
+    /// A number that depends on all that was done.
+    Sum(u64),
+    /// How the values of a soak were told.
+    Soak(Tally),
 }
 
 impl Order {
@@ -22,18 +35,21 @@ impl Order {
         match first.as_str() {
             "policy" => Some(Order::Policy(policy::Order::from_words(behind)?)),
             "engine" => Some(Order::Engine(engine::Order::from_words(behind)?)),
-            "sync" => Some(Order::Sync(sync::Order::from_words(behind)?)),
+            "sync" => match soak::Order::from_words(behind) {
+                Some(order) => Some(Order::Soak(order)),
+                None => Some(Order::Sync(sync::Order::from_words(behind)?)),
+            },
             _ => None,
         }
     }
 
-    /// Does it, and answers a number that depends on all of it; or nothing, where memory was
-    /// refused.
-    pub fn run<R: Threads + Wait + Sync>(self, rt: &R, alloc: Global) -> Option<u64> {
+    /// Does it, and answers what it came to; or nothing, where memory was refused.
+    pub fn run<R: Threads + Wait + Sync + Copy>(self, rt: &R, alloc: Global) -> Option<Outcome> {
         match self {
-            Order::Policy(order) => policy::run(alloc, order),
-            Order::Engine(order) => engine::run(alloc, order),
-            Order::Sync(order) => sync::run(rt, alloc, order),
+            Order::Policy(order) => policy::run(alloc, order).map(Outcome::Sum),
+            Order::Engine(order) => engine::run(alloc, order).map(Outcome::Sum),
+            Order::Sync(order) => sync::run(rt, alloc, order).map(Outcome::Sum),
+            Order::Soak(order) => soak::run(rt, alloc, order).map(Outcome::Soak),
         }
     }
 }

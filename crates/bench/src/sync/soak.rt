@@ -1,0 +1,144 @@
+//! Threads mix all calls on a small cache of values with short lives, and take its notices. Each value that it accepts has to be
+//! told once.
+mod calls;
+
+use crate::drawing::place_of;
+use crate::orders::number_of;
+use calls::{Call, Soaked};
+use moka_sync::EvictionPolicy::{Lru, TinyLfu};
+use rand_core::{Rng, SeedableRng};
+use rand_xoshiro::Xoshiro256PlusPlus;
+use std::alloc::{Allocator, Global};
+use std::fmt::{Display, Formatter, Write};
+use std::num::NonZeroUsize;
+use std::sync::Wait;
+use std::thread::Threads;
+use std::{fmt, thread};
+
+/// How many threads make how many calls each, under how many keys, on caches of which capacity.
+#[derive(Clone, Copy)]
+pub struct Order {
+    threads: usize,
+    size: NonZeroUsize,
+    keys: NonZeroUsize,
+    calls: usize,
+}
+
+impl Order {
+    /// The order of its words behind the first.
+    pub fn from_words<A: Allocator>(words: &[String<A>]) -> Option<Order> {
+        let [name, threads, size, keys, calls] = words else {
+            return None;
+        };
+        (name.as_str() == "soak").then_some(())?;
+        Some(Order {
+            threads: number_of(threads.as_str())?,
+            size: NonZeroUsize::new(number_of(size.as_str())?)?,
+            keys: NonZeroUsize::new(number_of(keys.as_str())?)?,
+            calls: number_of(calls.as_str())?,
+        })
+    }
+
+    /// One thread's calls, whose values count from `first` on.
+    fn make_calls<H: Wait + Copy>(
+        self,
+        rt: &H,
+        alloc: Global,
+        soaked: &Soaked,
+        first: u64,
+    ) -> Option<Tally> {
+        let mut tally = Tally::new(alloc);
+        let mut generator = Xoshiro256PlusPlus::seed_from_u64(first);
+        for turn in 0..self.calls {
+            let call = Call {
+                way: place_of(generator.next_u64(), 100),
+                key: place_of(generator.next_u64(), self.keys.get()) as u64,
+                other: place_of(generator.next_u64(), self.keys.get()) as u64,
+                value: first.wrapping_add(turn as u64),
+            };
+            if call.run(rt, soaked).ok()? {
+                tally.accepted.push(call.value).ok()?;
+            }
+            if turn % 16 == 0 {
+                soaked.take_notices(rt, &mut tally.told)?;
+            }
+        }
+        Some(tally)
+    }
+
+    /// All threads' calls on a cache, which is emptied then.
+    fn soak<R: Threads + Wait + Sync + Copy>(
+        self,
+        rt: &R,
+        alloc: Global,
+        soaked: &Soaked,
+        first: u64,
+        tally: &mut Tally,
+    ) -> Option<()> {
+        let parts = thread::map_indices(
+            rt,
+            alloc,
+            self.threads,
+            &|number: usize| {
+                let from = number.wrapping_mul(self.calls) as u64;
+                self.make_calls(rt, alloc, soaked, first.wrapping_add(from))
+            },
+        )
+        .ok()?;
+        for part in parts {
+            let part = part?;
+            tally.accepted.extend_from_slice(&part.accepted).ok()?;
+            tally.told.extend_from_slice(&part.told).ok()?;
+        }
+        soaked.cache.invalidate_all(rt).ok()?;
+        soaked.cache.run_pending_tasks(rt).ok()?;
+        soaked.take_notices(rt, &mut tally.told)
+    }
+}
+
+/// The values that caches accepted, and those that their notices told.
+#[derive(Drop)]
+pub struct Tally {
+    accepted: Vec<u64>,
+    told: Vec<u64>,
+}
+
+impl Tally {
+    /// No values.
+    fn new(alloc: Global) -> Tally {
+        Tally {
+            accepted: Vec::new(alloc),
+            told: Vec::new(alloc),
+        }
+    }
+
+    /// Whether each value was told once, as sorted lists show.
+    pub fn is_right(&self) -> bool {
+        self.accepted == self.told
+    }
+}
+
+impl Display for Tally {
+    fn fmt<W: Write>(&self, f: &mut Formatter<W>) -> fmt::Result {
+        let (values, notices) = (self.accepted.len(), self.told.len());
+        if self.is_right() {
+            write!(f, "{values} values, each told once")
+        } else {
+            write!(f, "{values} values, {notices} notices")
+        }
+    }
+}
+
+/// Soaks each of the caches, or answers nothing, where memory or a call was refused.
+pub fn run<R: Threads + Wait + Sync + Copy>(rt: &R, alloc: Global, order: Order) -> Option<Tally> {
+    let mut tally = Tally::new(alloc);
+    let mut first = 0u64;
+    for (policy, segments) in [(TinyLfu, 1), (Lru, 1), (TinyLfu, 4), (Lru, 4)] {
+        let soaked = Soaked::make(alloc, order.size.get() as u64, policy, segments)?;
+        order.soak(rt, alloc, &soaked, first, &mut tally)?;
+        first = first.wrapping_add(order.threads.wrapping_mul(order.calls) as u64);
+    }
+    tally.accepted.sort_unstable();
+    tally.told.sort_unstable();
+    Some(tally)
+}
