@@ -1,9 +1,9 @@
 #!/usr/bin/env bash
-# Examples of the documents that the gate runs elsewhere: their texts have to be the same, word for word.
+# Compares the documents' examples with their sources, which the gate runs: the texts have to be the same.
 set -euo pipefail
 cd "$(dirname "$0")/.."
 
-# The text between the first fence of this kind behind a line, and its end.
+# The text of the first fenced block of this kind after a line.
 block() { # file, first line, fence
     awk -v head="$2" -v fence="$3" '
         !seen { seen = ($0 == head); next }
@@ -32,11 +32,14 @@ same "docs/PROTOCOL.md's example and crates/cached/stdin" \
 same "docs/PROTOCOL.md's example and crates/cached/stdout" \
     "$(sed -n 's/^< //p' <<<"$example")" "$(cat crates/cached/stdout)"
 
-# The sample configuration is README's: what stands behind its `cat`, up to the next command.
+# The sample configuration is the one in README: what follows its `cat`, up to the next command.
 same "README.md's configuration and docs/cached.toml" \
     "$(awk '/^\$ cat docs\/cached.toml$/ { open = 1; next } open && /^\$ / { exit } open' README.md)" "$(cat docs/cached.toml)"
 
-# Coming from moka: each of our examples is a region of a module that crates/sync_tests proves and runs, and each region is shown.
+# The gate checks it: the stored run of cached_check reads a copy.
+same "docs/cached.toml and crates/cached_check/data/cached.toml" "$(cat docs/cached.toml)" "$(cat crates/cached_check/data/cached.toml)"
+
+# FROM_MOKA.md: each of our examples is a region of a module that crates/sync_tests proves and runs, and each region is shown.
 uses=crates/sync_tests/src/uses
 region() { # name
     awk -v head="// example: $1" '$0 == head { on = 1; next } $0 == "// end" { on = 0 } on' "$uses"/*.rt

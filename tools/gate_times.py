@@ -2,9 +2,9 @@
 
 usage: python3 tools/gate_times.py [--then FILE] [COMMAND ..]     without a command: rt ci
 
-The command's output goes through, but for its last line, which comes last here too. FILE is a program that runs behind a command that
-passed; where it fails, so does this. Of a crate, `build` is its proof, `tests` the proof of its
-tests, `check` its must-fail edits. Each process of the prover is looked at every two seconds; what it used after the last look is not counted.
+The command's output is passed on, except for its last line, which comes last here too. FILE is a program that runs after a command
+that passed; if it fails, so does this. For a crate, `build` is its proof, `tests` the proof of its tests, `check` its must-fail
+edits. Each process of the prover is sampled every two seconds; what it used after the last sample is not counted.
 """
 
 import collections

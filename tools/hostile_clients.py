@@ -1,25 +1,25 @@
 #!/usr/bin/env python3
-"""Drives the proved server `cached --config` by clients that nobody wishes for, and ends by itself.
+"""Drives the proved server `cached --config` with hostile clients, and ends by itself.
 
     python3 tools/hostile_clients.py [--program PATH] [--seed N] [CASE ..]
 
-The cases, all where none is named; each prints what it measured, and one that fails makes the status 1:
+The cases; without a name, all of them. Each prints what it measured, and the status is 1 if one fails:
 
-    keys         one client asks a thousand times for 50,000 keys in one piece; the longest wait of another, the memory at its height
+    keys         one client asks a thousand times for 50,000 keys in one piece; the longest wait of another client, and peak memory
     descriptors  80 connections to a server that has 60 descriptors: all are answered, as others end
-    rooms        a namespace without a connection, while another one's connections have all descriptors: the server goes on
-    short        20,000 connections one after the other: what each leaves in memory, at most 16 bytes
-    halves       200 clients that send half a line and wait; another is answered meanwhile, and they once they go on
-    garbage      200 clients that send drawn bytes, and half lines; others are served meanwhile, and get their own replies alone
-    resets       500 clients that go with a reset, some amid their replies, some amid a long one; then another is answered
-    ends         200 clients that end their side behind their last line, and get every reply before the server's end
-    stalled      nobody reads the notices: each request is answered, one of them after a second; what is lost is counted
-    deaf         the reader of notices goes away: how many requests go wrong
+    rooms        a namespace without connections while the connections of another one have all descriptors: the server continues
+    short        20,000 connections one after the other: each leaves at most 16 bytes of memory
+    halves       200 clients that send half a line and wait; another one is answered in the meantime, and they are once they continue
+    garbage      200 clients that send random bytes and half lines; others are served in the meantime, and get only their own replies
+    resets       500 clients that reset their connection, some during their replies, some during a long one; then another is answered
+    ends         200 clients that shut down their sending side after their last line, and get every reply before the server closes
+    stalled      nobody reads the notices: each request is answered, one of them after a second; lost notices are counted
+    deaf         the reader of notices exits: how many requests fail
     many         1,000 connections at once, each answered
-    minute       10,000 connections held open for a minute, or as many as the limits let: memory, and each answered before and after
-    soak         five million requests over TinyLFU, own deadlines and `DROPIF`: memory stays as it is
+    minute       10,000 connections held open for a minute, or as many as the limits allow: memory, and each answered before and after
+    soak         five million requests over TinyLFU, own deadlines and `DROPIF`: memory stays flat
 
-The server is crates/cached/out/cached, which `rt run` leaves there. All draws come from the seed, 1 where none is given.
+The server is crates/cached/out/cached, where `rt run` leaves it. All random numbers come from the seed, by default 1.
 """
 import argparse
 import multiprocessing

@@ -3,16 +3,16 @@
 
     LIES=KIND LIE_ONE_IN=1000 LIE_SEED=0 LIE_PROGRAM=PATH python3 tools/lying_server.py --config FILE
 
-It takes the same words as the server, listens on the file's ports, and passes requests, replies and
-notices on; each lie is told on standard error. What it lies about is KIND, or all where none is given:
+It takes the same arguments as the server, listens on the ports of the file, and passes requests, replies and
+notices on; each lie is reported on standard error. KIND says what it lies about; by default, everything:
 
     values     a `VAL` has another value of the namespace, or becomes `NONE`; a `NONE` becomes `VAL`
     presence   a `YES` becomes `NO`, a `NO` `YES`; a `KEYS` lacks a key
     counts     a `SYNC` counts one value more
-    writes     a `SET` or a `DEL` is answered, and is not done
+    writes     a `SET` or a `DEL` is answered, and not done
     notices    a notice has another cause, is left out, or comes twice
 
-`tools/random_use.py --lie` has to tell it from the server.
+`tools/random_use.py --lie` has to detect it.
 """
 import collections
 import os

@@ -1,28 +1,28 @@
 #!/usr/bin/env python3
-"""Uses the programs at random, and judges all that they answer. It ends by itself; a difference is printed, with status 1.
+"""Uses the programs at random, and judges everything that they return. It ends by itself; a difference is printed, and the status is 1.
 
     python3 tools/random_use.py [sockets | turns | plays ..] [--seed N] [--rounds N] [--plays N]
                                 [--cached PATH] [--transcript PATH] [--keep FOLDER] [--lie]
 
-    sockets   random clients, several at once, over `cached --config`: every line of docs/PROTOCOL.md, lives,
-              idle times and own deadlines, capacities, parts. Replies and notices are gathered, and each is
-              judged within the window of time in which it was asked and answered, or told
-    turns     the same one request at a time, over several connections; what comes is written as a
-              transcript, and judged by `transcript audit`
-    plays     random inputs with refused memory through `transcript replay`, each transcript judged by
-              `transcript audit`; the judge is refused memory too, and may then say nothing else than that
-    --keep    a folder, into which transcripts that break a rule are written, and the inputs of such plays
-    --lie     the server is `tools/lying_server.py`, and of the plays' replies one of a thousand is changed:
-              the run fails where no lie of a kind is found
+    sockets   random clients, several at once, over `cached --config`: every line of docs/PROTOCOL.md, live and
+              idle times, own deadlines, capacities, parts. Replies and notices are collected, and each is judged
+              within the window of time in which it was requested and answered, or reported
+    turns     the same, one request at a time, over several connections; the result is written as a transcript,
+              and judged by `transcript audit`
+    plays     random inputs with failing allocations through `transcript replay`, each transcript judged by
+              `transcript audit`; allocations of the judge fail too, and it may then say only that
+    --keep    a folder for transcripts that break a rule, and the inputs of such plays
+    --lie     the server is `tools/lying_server.py`, and one in a thousand replies of the plays is changed: the
+              run fails if no lie of a kind is detected
 
-Without a word it runs all three. The programs are crates/cached/out/cached and crates/transcript/out/transcript, which
-`rt run` leaves there. A run of one seed asks the same questions, but what two clients ask at once comes in either order.
+Without arguments it runs all three. The programs are crates/cached/out/cached and crates/transcript/out/transcript, where
+`rt run` leaves them. Runs with the same seed send the same requests, but the order of two clients' concurrent requests varies.
 
-What `sockets` knows of a reply's moment is that it lies between the sending of the line and the coming of the reply; of a
-notice's, that the step which told it was a request's that was answered at most 300 ms before. So it finds a difference only
-where no order and no moments would make it right: an answered value that was not live at any moment of its window; a value
-that was live throughout and is not answered; a cause that is not true at any; more loads of a key than could have been
-wanted; a value told twice, or never told and never held.
+All that `sockets` knows of the moment of a reply is that it lies between sending the line and receiving the reply; of a
+notice, that the step that reported it belongs to a request that was answered at most 300 ms before. So it reports a difference
+only if no order and no moments would make it right: a value that was returned but not live at any moment of its window; a value
+that was live throughout and was not returned; a cause that is not true at any moment; more loads of a key than could have been
+needed; a value reported twice, or never reported and never held.
 """
 import argparse
 import bisect
@@ -419,6 +419,9 @@ class Judge:
         if line.verb not in ("SET", "GET", "HAS", "LOAD", "DEL", "ADD"):
             return
         of = self.of[line.key]
+        if reply is None and line.verb in ("GET", "LOAD", "ADD"):
+            # (it may have run, and used the value, after its client had gone)
+            of.touches.append(asked)
         if line.verb == "SET" and reply in (b"OK", None) and self.space.capacity != 0:
             self.stores(of, asked, line.value, line.ms, reply is not None)
         elif line.verb == "DEL":
@@ -918,8 +921,11 @@ class Round:
             link = next(it for it in self.links if it.space is space)
             self.send(link, [Line(b"CLEAR", "CLEAR"), Line(b"SYNC", "SYNC")])
         self.wait()
-        time.sleep(0.02)
-        self.server.drain(self.oldest)
+        told = -1
+        # (a thread of its own writes notices, later than the replies if the machine is busy)
+        while told != (told := sum(map(len, self.server.told.values()))):
+            time.sleep(0.25)
+            self.server.drain(self.oldest)
 
     def judge(self):
         wrong, looks = [], 0

@@ -1,25 +1,25 @@
 #!/usr/bin/env python3
-"""Runs tests with allocations refused, and the programs over their stored runs. Each has to go on as where there is memory.
+"""Runs tests with failing allocations, and the programs on their stored runs. Each has to end as it does with enough memory.
 
     python3 tools/refuse_allocations.py [--folder FOLDER] [--way alone | following] [--jobs N] [--most N] [CRATE [WORD]]
 
-Without a CRATE it goes over all crates of tests that `rt test` (or the gate) has built under FOLDER, this repository where none is
-given, and over the programs that `rt run` left there; a CRATE is one of them. WORD: only tests whose names contain it.
+Without a CRATE it runs all crates of tests that `rt test` (or the gate) has built under FOLDER, by default this repository, and the
+programs that `rt run` left there; a CRATE is one of them. WORD: only tests whose names contain it.
 
-It refuses in two ways, and of each test the first allocation, then the second, and so on to the last:
+There are two ways. In each, the first allocation of a test fails, in the next run the second, and so on to the last:
 
-    alone        that one alone
-    following    that one and all that follow, until code of the tests runs again: so a call that was refused gets nothing
-                 while it goes back, and the test's second try gets all. Of the programs, all to the end
+    alone        only that one fails
+    following    that one fails, and all that follow until code of the tests runs again: a call that is refused gets no memory
+                 while it returns, and the second try of the test gets all. In the programs, all to the end
 
-Of a test that asks for more allocations than --most (2,000 where it is not given), so many are tried, spread evenly.
+In a test with more allocations than --most (by default 2,000), this many are tried, spread evenly.
 
-A test has to pass each time: it tries what was refused a second time. Those that do not, by their nature, stand in SECOND_TRY_LACKS
-with the reason, and are told and not run. A program has to end with status 0 and the right texts, or with status 1 and a text on
-standard error, and then what it wrote is a beginning of the right replies.
+A test has to pass each time: it tries again what was refused. Tests that do not, by their nature, are listed in SECOND_TRY_LACKS
+with the reason; they are reported and not run. A program has to end with status 0 and the right texts, or with status 1 and a text on
+standard error, and then what it wrote is a prefix of the right replies.
 
-The table has a row a crate: its tests, the allocations that were refused (behind a `+` those that followed), and how many tests
-failed. The status is 0 where none did.
+The table has a row for each crate: its tests, the number of failing allocations (after a `+` those that followed), and how many
+tests failed. The status is 0 if none did.
 """
 import argparse
 import collections

@@ -1,8 +1,8 @@
 #!/usr/bin/env python3
-"""Tests of what tools/random_use.py finds: `python3 tools/test_random_use.py [PATH_OF_CACHED]`.
+"""Tests of what tools/random_use.py detects: `python3 tools/test_random_use.py [PATH_OF_CACHED]`.
 
-Histories that are written by hand, right ones and wrong ones, take no time. Where the server is there, in crates/cached/out
-or where the path says, lies of each kind have to be found out over sockets, by tools/lying_server.py; that takes seconds.
+Histories that are written by hand, right and wrong ones, take no time. If the server is there, in crates/cached/out
+or at the path, lies of each kind have to be detected over sockets, with tools/lying_server.py; that takes seconds.
 """
 import pathlib
 import random

@@ -1,6 +1,6 @@
 #!/usr/bin/env bash
-# Runs the clients' tests, side by side, against the program that `rt run` or the gate leaves: in Python, in Rust (cargo without a
-# registry; not run where there is none), the watcher's, and those of the judge of random use. The status is 1 where one fails, or where
+# Runs the clients' tests in parallel, against the program that `rt run` or the gate leaves: in Python, in Rust (cargo without a
+# registry; skipped if there is no cargo), those of the watcher, and those of the judge of random use. The status is 1 if one fails, or if
 # the program is missing.
 #
 #   tools/try_clients.sh [PATH_OF_CACHED]
@@ -10,7 +10,7 @@ program=$(realpath -m "${1:-crates/cached/out/cached}")
 seconds=110
 
 if [ ! -x "$program" ]; then
-    echo "clients: FAILED: there is no $program: in crates/cached \`rt run\` leaves it there" >&2
+    echo "clients: FAILED: $program is missing; \`rt run\` in crates/cached creates it" >&2
     exit 1
 fi
 
@@ -18,7 +18,7 @@ folder=$(mktemp -d)
 trap 'rm -rf "$folder"' EXIT
 export PYTHONDONTWRITEBYTECODE=1
 
-# Runs a command; prints its output where it fails.
+# Runs a command; prints its output if it fails.
 try() { # name, command
     local name=$1 start=$SECONDS status=0
     shift
@@ -33,7 +33,7 @@ try() { # name, command
 
 try_rust() {
     if ! command -v cargo > /dev/null; then
-        echo "clients: rust not run: there is no cargo on the path"
+        echo "clients: rust skipped: there is no cargo on the path"
         return
     fi
     cd clients/rust && CACHED=$program CARGO_TARGET_DIR=$folder/target try rust cargo test --offline --quiet

@@ -43,7 +43,7 @@ BARS = " ▁▂▃▄▅▆▇█"
 
 
 class Space:
-    """A namespace: where it is, and how many notices of each cause it has told."""
+    """A namespace: its name, its port, and how many notices of each cause it reported."""
 
     def __init__(self, name, port):
         self.name = name
@@ -52,7 +52,7 @@ class Space:
 
 
 class Board:
-    """What the server's lines have said. One thread takes lines while another looks."""
+    """What the server's lines have said. One thread adds lines while another reads."""
 
     def __init__(self):
         self.lock = threading.Lock()
@@ -60,7 +60,7 @@ class Board:
         self.rest = b""
 
     def take(self, piece):
-        """Takes bytes of the output. A line counts once it is whole."""
+        """Adds bytes of the output. A line counts once it is complete."""
         *lines, self.rest = (self.rest + piece).split(b"\n")
         with self.lock:
             for line in lines:
@@ -85,7 +85,7 @@ class Board:
 
 
 class Source(threading.Thread):
-    """Hands a file descriptor's bytes to a board; where it is followed, also those to come."""
+    """Passes the bytes of a file descriptor to a board; if it follows, also later ones."""
 
     def __init__(self, board, descriptor, follows):
         super().__init__(daemon=True)
@@ -107,32 +107,32 @@ class Source(threading.Thread):
                 return
 
     def begin_anew_if_cut(self):
-        """A file that is shorter than what was read of it was emptied."""
+        """A file that is shorter than what was read of it was truncated."""
         if os.fstat(self.descriptor).st_size < os.lseek(self.descriptor, 0, os.SEEK_CUR):
             os.lseek(self.descriptor, 0, os.SEEK_SET)
 
 
 class Row:
-    """One namespace at one moment. What is not known is None."""
+    """One namespace at one moment. None stands for what is not known."""
 
     def __init__(self, name, port, held, counts, rates):
         self.name, self.port, self.counts, self.rates = name, port, counts, rates
         self.values, self.weight = held if held else (None, None)
 
     def rate(self):
-        """Notices of all causes a second."""
+        """Notices of all causes per second."""
         return sum(self.rates.values()) if self.rates else None
 
 
 def rates_of(counts, before, seconds):
-    """Notices by cause a second; None where there is nothing to compare with."""
+    """Notices per second by cause; None if there is nothing to compare with."""
     if before is None or seconds <= 0:
         return None
     return {cause: max(0, counts[cause] - before[cause]) / seconds for cause in CAUSES}
 
 
 class Watcher:
-    """Takes a sample of a board each time that it is asked, and keeps those of the last minutes."""
+    """Takes a sample of a board on each call, and keeps those of the last minutes."""
 
     def __init__(self, board, minutes, interval):
         self.board, self.minutes, self.shortest = board, minutes, interval / 2
@@ -140,7 +140,7 @@ class Watcher:
         self.clients = {}
 
     def held(self, port):
-        """Values and weight of the namespace at a port."""
+        """Values and weight of the namespace at a port; None if it cannot be asked."""
         if port not in self.clients:
             self.clients[port] = bivrang.Client(
                 port=port, connections=1, connect_seconds=ASK_SECONDS, reply_seconds=ASK_SECONDS
@@ -151,7 +151,7 @@ class Watcher:
             return None
 
     def sample(self):
-        """Asks each namespace, and answers its rows."""
+        """Asks each namespace, and returns the rows."""
         asked = {port: self.held(port) for _, port, _ in self.board.look()}
         now = time.monotonic()
         last, rows = self.earlier(now)
@@ -166,7 +166,7 @@ class Watcher:
         return told
 
     def earlier(self, now):
-        """The last sample that is old enough to tell a rate by: its moment and rows."""
+        """The last sample that is old enough to compute a rate: its moment and rows."""
         return next(
             (sample for sample in reversed(self.samples) if now - sample[0] >= self.shortest),
             (now, []),
@@ -189,7 +189,7 @@ def number(value):
 
 
 def rate(value):
-    """A rate with so many digits as say something."""
+    """A rate, with as many digits as are significant."""
     if value is None:
         return "-"
     return f"{value:,.0f}" if value >= 100 or value == 0 else f"{value:.1f}"
@@ -214,7 +214,7 @@ def table(rows):
 
 
 def sparks(values, width):
-    """The last of some values as bars, the highest of them full."""
+    """The last of some values as bars, the highest of them at full height."""
     values = values[-width:]
     most = max((value for value in values if value is not None), default=0)
     if most == 0:
@@ -229,7 +229,7 @@ def screen_lines(watcher, rows, width):
     """The lines of the screen."""
     lines = [f"cached  {time.strftime('%H:%M:%S')}   q ends", ""]
     if not rows:
-        return [*lines, "no namespace is listened on yet"]
+        return [*lines, "no namespace is listening yet"]
     lines += table(rows)
     label = max(len(row.name) for row in rows)
     shown = max(1, min(60, width - label - 20))
@@ -277,7 +277,7 @@ svg text { font: 12px system-ui, sans-serif; fill: var(--soft); }
 
 
 def ceiling(most):
-    """The least of 2, 4, 10, 20, 40, 100 .. that is not below a number. Half of it is whole."""
+    """The smallest of 2, 4, 10, 20, 40, 100 .. that is not below a number. Half of it is whole."""
     if most <= 2:
         return 2
     power = 10 ** math.floor(math.log10(most))
@@ -285,7 +285,7 @@ def ceiling(most):
 
 
 def runs(points):
-    """Points in runs without a gap; a gap is a point whose value is None."""
+    """Splits points into runs without a gap; a gap is a point whose value is None."""
     run = []
     for moment, value in points:
         if value is None:
@@ -362,7 +362,7 @@ def section(watcher, row):
 
 
 def page(watcher, rows, refresh):
-    """The page; where refresh is a number, a browser loads it again after so many seconds."""
+    """The page; if refresh is a number, a browser reloads it after that many seconds."""
     again = f'<meta http-equiv="refresh" content="{refresh:g}">' if refresh else ""
     head = "".join(
         f"<th>{text}</th>" for text in ("Namespace", "Port", "Values", "Weight", *CAUSES)
@@ -387,7 +387,7 @@ def page(watcher, rows, refresh):
 
 
 def write_page(file, text):
-    """Writes a file so that a reader sees the old or the new one whole."""
+    """Writes a file so that a reader sees either the old or the new one."""
     beside = file.with_name(file.name + ".new")
     beside.write_text(text, encoding="utf-8")
     beside.replace(file)
@@ -397,7 +397,7 @@ def write_page(file, text):
 
 
 class Loop:
-    """Takes a sample each interval, until it is time to end."""
+    """Takes a sample in each interval, until it is time to end."""
 
     def __init__(self, watcher, source, words):
         self.watcher, self.source, self.words = watcher, source, words
@@ -408,11 +408,11 @@ class Loop:
         return is_late or self.source.has_ended.is_set()
 
     def samples(self, wait):
-        """Rows, again and again; `wait` passes some seconds, and answers whether to end."""
+        """Yields rows; `wait` waits some seconds, and returns whether to end."""
         if self.words.log:
             self.source.has_caught_up.wait()
         while True:
-            # What ends meanwhile is looked at once more.
+            # What ends in the meantime is sampled once more.
             is_last = self.is_over()
             rows = self.watcher.sample()
             if self.words.html:
@@ -464,8 +464,8 @@ def show_screen(window, loop):
 
 
 def take_terminal():
-    """Gives standard input, where the server's output comes, another number; keys then come from
-    the terminal."""
+    """Moves standard input, which has the server's output, to another descriptor, so that keys
+    come from the terminal."""
     piped = os.dup(0)
     terminal = os.open("/dev/tty", os.O_RDONLY)
     os.dup2(terminal, 0)
@@ -483,7 +483,7 @@ def open_log(file):
 def above_zero(text):
     value = float(text)
     if not (value > 0 and math.isfinite(value)):
-        raise argparse.ArgumentTypeError("a number above 0 is wanted")
+        raise argparse.ArgumentTypeError("must be a number above 0")
     return value
 
 
@@ -500,7 +500,7 @@ def read_words():
     parser.add_argument("--minutes", type=above_zero, default=5.0, help=argparse.SUPPRESS)
     words = parser.parse_args()
     if not words.log and sys.stdin.isatty():
-        parser.error("pipe the server's output in, or name a file of it with --log")
+        parser.error("pipe the server's output in, or name a file that contains it with --log")
     return words
 
 
@@ -523,7 +523,7 @@ def main():
     except KeyboardInterrupt:
         sys.exit(130)
     except BrokenPipeError:
-        # Nobody reads the tables any more, and Python is not to try again as it ends.
+        # Nobody reads the tables any more, and Python must not flush again at exit.
         os._exit(1)
 
 

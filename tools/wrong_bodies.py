@@ -1,25 +1,25 @@
-"""Tries wrong bodies: edits of a crate's code that the prover must refuse.
+"""Tries wrong bodies: edits of a crate's code that the prover has to refuse.
 
 usage: python3 tools/wrong_bodies.py [--jobs N] [--anew] [--list] [CRATE | CRATE/NAME ..]     with `rt` on the path; without a name, all
 
-The bodies of tools/wrong_bodies/CRATE are tried, and those in crates/CRATE/must-fail, which the gate tries too. Both
-have one form: a line `file: PATH`, then pairs of lines `old: TEXT` and `new: TEXT`, where TEXT stands once in the file.
+It tries the bodies in tools/wrong_bodies/CRATE, and those in crates/CRATE/must-fail, which the gate tries too. Both
+have the same form: a line `file: PATH`, then pairs of lines `old: TEXT` and `new: TEXT`; TEXT occurs once in the file.
 
-Each is tried in a copy of the tree, over the libraries that the crates below have in their out/. Of a body that changes
-functions alone just these are checked (`rt check --only`), which takes 10 to 60 seconds, most of it loading; of any
-other the whole crate, over what `rt check` kept. As many run side by side as --jobs says, or as there are processors. A
+Each is tried in a copy of the tree, over the libraries that the crates below have in their out/. If a body changes only
+functions, only these are checked (`rt check --only`), which takes 10 to 60 seconds, most of it loading; otherwise the
+whole crate is, over what `rt check` kept. As many run in parallel as --jobs says, or as there are processors. Each
 body has a row as soon as it was tried, with the seconds that it took:
 
   goal      refused at a goal: a contract is not met
-  name      refused where a proof names what the body took away: this says little of the contract
+  name      refused because a proof names something that the body removed: this says little about the contract
   PASSED    the crate is proved with it: the contract is too weak
   BAD       it cannot be applied, or the check ended without a verdict
 
-What was learned is kept in out/wrong_bodies, by a checksum of the body, of its crate and the crates below it, and of the
-kit. So a run that was ended goes on where it stopped; a row that was kept says so in place of the seconds. `--anew` tries
-all again, `--list` tries none and tells which would be tried. What is BAD is not kept.
+Results are kept in out/wrong_bodies, by a checksum of the body, of its crate and the crates below it, and of the kit.
+So an interrupted run continues where it stopped; a row that was kept says so in place of the seconds. `--anew` tries
+all again, `--list` tries none and lists those that would be tried. BAD is not kept.
 
-At the end stands a table by crate, and a last line of sums. The status is 0 where each body is refused.
+At the end there is a table by crate, and a last line with the sums. The status is 0 if each body is refused.
 """
 
 import collections

@@ -144,8 +144,7 @@ pub enum Error {
 
 impl Error {
     /// Whether the request, or with a pipeline some of its requests, may have run although no
-    /// complete
-    /// reply was received.
+    /// complete reply was received.
     pub fn may_have_run(&self) -> bool {
         matches!(
             self,
@@ -550,7 +549,7 @@ pub type Replies = Vec<Result<Reply, ServerError>>;
 pub struct Connection {
     stream: Option<TcpStream>,
     received: Vec<u8>,
-    /// How many bytes at the front of `received` were read.
+    /// How many bytes at the front of `received` were already used.
     taken: usize,
     reply: Duration,
 }
@@ -656,8 +655,7 @@ impl Connection {
     whole_commands!(self, &mut Self);
 
     /// Sends lines and reads their replies; `is_first`: they are the first of their call. An early
-    /// end
-    /// closes the connection.
+    /// end closes the connection.
     fn exchange_lines<T>(
         &mut self,
         text: &[u8],
