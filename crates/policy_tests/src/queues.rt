@@ -236,15 +236,20 @@ fn shows_so(deque: &mut Deque<u64>, act: Act) -> bool {
     }
 }
 
-/// Performs one after another on a new queue, and returns the place of the first that failed.
-fn wrong_row(alloc: Global, acts: &[Act]) -> Option<usize> {
-    let mut queue = new_queue(alloc);
+/// Performs one after another, and returns the place of the first that failed.
+fn wrong_in(queue: &mut Queue, acts: &[Act]) -> Option<usize> {
     for (place, act) in acts.iter().enumerate() {
-        if !changes_so(&mut queue, *act) {
+        if !changes_so(queue, *act) {
             return Some(place);
         }
     }
     None
+}
+
+/// The same on a new queue, and returns the place of the first that failed.
+fn wrong_row(alloc: Global, acts: &[Act]) -> Option<usize> {
+    let mut queue = new_queue(alloc);
+    wrong_in(&mut queue, acts)
 }
 
 /// Plays these cases, each on a new queue, and returns the first that failed, and the place of its

@@ -242,15 +242,20 @@ fn shows_so(cache: &mut Cache, act: Act) -> bool {
     }
 }
 
-/// Performs one after another on new queues, and returns the place of the first that failed.
-fn wrong_row(alloc: Global, acts: &[Act]) -> Option<usize> {
-    let mut cache = new_cache(alloc);
+/// Performs one after another, and returns the place of the first that failed.
+fn wrong_in(cache: &mut Cache, acts: &[Act]) -> Option<usize> {
     for (place, act) in acts.iter().enumerate() {
-        if !changes_so(&mut cache, *act) {
+        if !changes_so(cache, *act) {
             return Some(place);
         }
     }
     None
+}
+
+/// The same on new queues, and returns the place of the first that failed.
+fn wrong_row(alloc: Global, acts: &[Act]) -> Option<usize> {
+    let mut cache = new_cache(alloc);
+    wrong_in(&mut cache, acts)
 }
 
 /// Plays these cases, each on new queues, and returns the first that failed, and the place of its

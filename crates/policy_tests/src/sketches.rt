@@ -43,15 +43,20 @@ fn comes_so(sketch: &mut FrequencySketch, act: Act) -> bool {
     }
 }
 
-/// Performs one after another on a new sketch, and returns the place of the first that failed.
-fn wrong_row(alloc: Global, acts: &[Act]) -> Option<usize> {
-    let mut sketch = FrequencySketch::default(alloc);
+/// Performs one after another, and returns the place of the first that failed.
+fn wrong_in(sketch: &mut FrequencySketch, acts: &[Act]) -> Option<usize> {
     for (place, act) in acts.iter().enumerate() {
-        if !comes_so(&mut sketch, *act) {
+        if !comes_so(sketch, *act) {
             return Some(place);
         }
     }
     None
+}
+
+/// The same on a new sketch, and returns the place of the first that failed.
+fn wrong_row(alloc: Global, acts: &[Act]) -> Option<usize> {
+    let mut sketch = FrequencySketch::default(alloc);
+    wrong_in(&mut sketch, acts)
 }
 
 /// Plays these cases, each on a new sketch, and returns the first that failed, and the place of its

@@ -263,15 +263,20 @@ fn shows_so(timers: &mut Timers, act: Act) -> bool {
     }
 }
 
-/// Performs one after another with new timers, and returns the place of the first that failed.
-fn wrong_row(alloc: Global, acts: &[Act]) -> Option<usize> {
-    let mut timers = new_timers(alloc);
+/// Performs one after another, and returns the place of the first that failed.
+fn wrong_in(timers: &mut Timers, acts: &[Act]) -> Option<usize> {
     for (place, act) in acts.iter().enumerate() {
-        if !comes_so(&mut timers, *act) {
+        if !comes_so(timers, *act) {
             return Some(place);
         }
     }
     None
+}
+
+/// The same with new timers, and returns the place of the first that failed.
+fn wrong_row(alloc: Global, acts: &[Act]) -> Option<usize> {
+    let mut timers = new_timers(alloc);
+    wrong_in(&mut timers, acts)
 }
 
 /// Plays these cases, each with new timers, and returns the first that failed, and the place of its
