@@ -136,18 +136,23 @@ impl<'a> Checks<'a> {
     /// Each namespace, with those before it.
     fn each(&mut self, spaces: &[Value]) -> Result<(), AllocError> {
         for (place, value) in spaces.iter().enumerate() {
-            match value.as_table() {
-                Some(table) => {
-                    self.space(place, table)?;
-                    self.twins(place, table, &spaces[..place])?;
-                }
-                None => {
-                    let line = line_outside(self.text, "namespace");
-                    self.add(line, "a namespace is a table")?;
-                }
-            }
+            self.one(place, value, &spaces[..place])?;
         }
         Ok(())
+    }
+
+    /// One namespace, with those before it.
+    fn one(&mut self, place: usize, value: &Value, before: &[Value]) -> Result<(), AllocError> {
+        match value.as_table() {
+            Some(table) => {
+                self.space(place, table)?;
+                self.twins(place, table, before)
+            }
+            None => {
+                let line = line_outside(self.text, "namespace");
+                self.add(line, "a namespace is a table")
+            }
+        }
     }
 
     /// The keys of one namespace.

@@ -14,28 +14,59 @@ pub enum Part {
 pub fn line_of_header(text: &str, place: usize) -> usize {
     let mut begun = 0usize;
     for (index, line) in text.lines().enumerate() {
-        if line.trim().starts_with("[[") {
-            if begun == place {
-                return index.saturating_add(1);
-            }
-            begun = begun.saturating_add(1);
+        begun = begun.saturating_add(begins_namespace(line) as usize);
+        if begun > place {
+            return index.saturating_add(1);
         }
     }
     1
 }
 
+/// Whether a line begins a table of an array.
+fn begins_namespace(line: &str) -> bool {
+    line.trim().starts_with("[[")
+}
+
+/// How many tables of an array begin up to a line, and where that line is in the last of them.
+#[derive(Clone, Copy)]
+struct Spot {
+    begun: usize,
+    within: Part,
+}
+
+impl Spot {
+    /// The next line's.
+    fn after(self, line: &str) -> Spot {
+        if begins_namespace(line) {
+            Spot {
+                begun: self.begun.saturating_add(1),
+                within: Part::Own,
+            }
+        } else if line.trim().starts_with("[") {
+            Spot {
+                within: Part::Loads,
+                ..self
+            }
+        } else {
+            self
+        }
+    }
+
+    /// Whether it is in this part of the table with this number.
+    fn is_in(self, place: usize, part: Part) -> bool {
+        self.begun == place.saturating_add(1) && self.within == part
+    }
+}
+
 /// The line of a key in the table with this number; the line of the table's header if the key does not begin a line.
 pub fn line_of_key(text: &str, place: usize, part: Part, key: &str) -> usize {
-    let mut begun = 0usize;
-    let mut within = Part::Own;
+    let mut spot = Spot {
+        begun: 0,
+        within: Part::Own,
+    };
     for (index, line) in text.lines().enumerate() {
-        let line = line.trim();
-        if line.starts_with("[[") {
-            begun = begun.saturating_add(1);
-            within = Part::Own;
-        } else if line.starts_with("[") {
-            within = Part::Loads;
-        } else if begun == place.saturating_add(1) && within == part && sets(line, key) {
+        spot = spot.after(line);
+        if spot.is_in(place, part) && sets(line, key) {
             return index.saturating_add(1);
         }
     }
@@ -45,8 +76,7 @@ pub fn line_of_key(text: &str, place: usize, part: Part, key: &str) -> usize {
 /// The line of a key, or of a table of that name, outside all namespaces; 1 if there is none.
 pub fn line_outside(text: &str, key: &str) -> usize {
     for (index, line) in text.lines().enumerate() {
-        let line = line.trim();
-        if sets(line, key) || is_header(line, key) {
+        if sets(line, key) || is_header(line.trim(), key) {
             return index.saturating_add(1);
         }
     }
@@ -66,8 +96,8 @@ pub fn line_at(text: &str, byte: usize) -> usize {
 
 /// Whether a line gives a value to a key, bare or in quotes.
 fn sets(line: &str, key: &str) -> bool {
-    match line.split_once("=") {
-        Some((left, _)) => bare(left) == key,
+    match line.trim().split_once("=") {
+        Some((left, _)) => !left.starts_with("[") && bare(left) == key,
         None => false,
     }
 }
