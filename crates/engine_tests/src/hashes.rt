@@ -1,6 +1,5 @@
 //! The hash of a key, by the hasher that a cache was made with.
-use crate::rows::{CASE, Folding, Numbers, empty_cache};
-use std::alloc::Global;
+use crate::rows::{CASE, Case, Folding, Numbers, Row, none_wrong};
 use std::hash::{BuildHasher, Hash, Hasher};
 
 fn hash_of(key: u32) -> u64 {
@@ -10,19 +9,17 @@ fn hash_of(key: u32) -> u64 {
 }
 
 /// Two keys have different hashes, and a cache makes these of them.
-fn hashes_so(cache: &Numbers) -> bool {
+pub fn hashes_so(cache: &Numbers) -> bool {
     let (seven, eight) = (hash_of(7), hash_of(8));
     cache.hash(&7) == seven && cache.hash(&8) == eight && seven != eight
 }
 
-fn is_hashed(alloc: Global) -> bool {
-    match empty_cache(alloc, &CASE) {
-        Ok(cache) => hashes_so(&cache),
-        Err(_) => false,
-    }
-}
+const CASES: &[Case<'static>] = &[Case {
+    rows: &[Row::Hashes],
+    ..CASE
+}];
 
 #[test]
 fn a_key_is_hashed_by_the_hasher(rt: HostRuntime) {
-    assert!(rt; is_hashed(rt.alloc()));
+    none_wrong(&rt, rt.alloc(), CASES);
 }

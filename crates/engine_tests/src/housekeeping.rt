@@ -1,8 +1,7 @@
 //! A housekeeper of an engine.
-use crate::rows::{CASE, Numbers, empty_cache};
+use crate::rows::{CASE, Case, Numbers, Row, none_wrong};
 use engine_reference::Housekeeper;
 use policy_base::{HousekeeperConfig, Instant};
-use std::alloc::Global;
 
 const MADE: u64 = 7;
 
@@ -29,7 +28,7 @@ fn runs(cache: &mut Numbers, housekeeper: &mut Housekeeper) -> bool {
 }
 
 /// Runs come by number and time.
-fn keeps(cache: &mut Numbers) -> bool {
+pub fn keeps_house(cache: &mut Numbers) -> bool {
     let mut housekeeper = Housekeeper::new(HousekeeperConfig::default(), at(MADE));
     runs(cache, &mut housekeeper)
         && housekeeper.config() == HousekeeperConfig::default()
@@ -38,14 +37,12 @@ fn keeps(cache: &mut Numbers) -> bool {
         && dues(&housekeeper, 0, LATER) == (true, true)
 }
 
-fn is_housekept(alloc: Global) -> bool {
-    match empty_cache(alloc, &CASE) {
-        Ok(mut cache) => keeps(&mut cache),
-        Err(_) => false,
-    }
-}
+const CASES: &[Case<'static>] = &[Case {
+    rows: &[Row::KeepsHouse],
+    ..CASE
+}];
 
 #[test]
 fn runs_are_due_by_number_and_time(rt: HostRuntime) {
-    assert!(rt; is_housekept(rt.alloc()));
+    none_wrong(&rt, rt.alloc(), CASES);
 }

@@ -1,7 +1,7 @@
 //! A key that is looked for by what names it, and the texts of refusals.
 ghost use Rattle.std.specs.Prelude.{◌≡◌};
 
-use crate::rows::{CASE, Numbers, empty_cache, put};
+use crate::rows::{CASE, Case, Numbers, Row, none_wrong, put};
 use engine_reference::Names;
 use moka_engine::Refusal;
 use policy_base::Instant;
@@ -35,22 +35,20 @@ fn found(cache: &Numbers, key: u32) -> Option<u32> {
 }
 
 /// Names of 7 and 8, where 70 is written under 7.
-fn finds_seven(cache: &mut Numbers) -> bool {
+pub fn finds_by_names(cache: &mut Numbers) -> bool {
     put(cache, 7, 70, start(), 1).is_ok()
         && found(cache, 7) == Some(70)
         && found(cache, 8).is_none()
 }
 
-fn is_found_by_names(alloc: Global) -> bool {
-    match empty_cache(alloc, &CASE) {
-        Ok(mut cache) => finds_seven(&mut cache),
-        Err(_) => false,
-    }
-}
+const CASES: &[Case<'static>] = &[Case {
+    rows: &[Row::FindsByNames],
+    ..CASE
+}];
 
 #[test]
 fn a_name_finds_its_key(rt: HostRuntime) {
-    assert!(rt; is_found_by_names(rt.alloc()));
+    none_wrong(&rt, rt.alloc(), CASES);
 }
 
 const TEXTS: [(Refusal, &str); 6] = [

@@ -119,14 +119,21 @@ fn request(state: &mut Numbers, call: Runs) -> Option<()> {
 }
 
 /// Whether a newcomer that was requested twice is admitted.
-fn is_admitted(alloc: Global, call: Runs) -> Option<bool> {
-    let mut state = numbers(alloc).ok()?;
-    fill(&mut state, call)?;
-    request(&mut state, call)?;
-    insert_at(&mut state, NEWCOMER, 2 * SPAN)?;
-    call_at(&mut state, Runs::Run, 2 * SPAN)?;
-    let at = next(&state, 2 * SPAN)?;
+fn admits(state: &mut Numbers, call: Runs) -> Option<bool> {
+    fill(state, call)?;
+    request(state, call)?;
+    insert_at(state, NEWCOMER, 2 * SPAN)?;
+    call_at(state, Runs::Run, 2 * SPAN)?;
+    let at = next(state, 2 * SPAN)?;
     Some(state.contains_key(&NEWCOMER, at.now))
+}
+
+/// The same of an empty cache.
+fn is_admitted(alloc: Global, call: Runs) -> Option<bool> {
+    match numbers(alloc) {
+        Ok(mut state) => admits(&mut state, call),
+        Err(_) => None,
+    }
 }
 
 /// The same, at the second try if memory was refused.

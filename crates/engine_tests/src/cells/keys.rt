@@ -32,7 +32,7 @@ fn found(alloc: Global) -> Option<(Option<usize>, Option<usize>, Option<usize>)>
 
 #[test]
 fn a_place_is_found_by_its_hash_and_a_test(rt: HostRuntime) {
-    assert_eq!(rt; found(rt.alloc()), Some((Some(10), None, None)));
+    assert!(rt; found(rt.alloc()) == Some((Some(10), None, None)));
 }
 
 /// The hash of a place: one of a number of hashes, at these bits.
@@ -116,17 +116,10 @@ fn each_of_many_places_of_one_hash_is_found(rt: HostRuntime) {
 
 #[test]
 fn places_are_found_by_hashes_that_differ_in_few_bits(rt: HostRuntime) {
-    assert_eq!(rt;
-        found_of_many(rt.alloc(), 10_000, 10_000, 0),
-        Some((10_000, 5_000))
-    );
-    assert_eq!(rt;
-        found_of_many(rt.alloc(), 3_000, 1_000, 52),
-        Some((3_000, 1_500))
-    );
-    assert_eq!(rt;
-        found_of_many(rt.alloc(), 3_000, 2_999, 30),
-        Some((3_000, 1_500))
+    assert!(rt;
+        found_of_many(rt.alloc(), 10_000, 10_000, 0) == Some((10_000, 5_000))
+            && found_of_many(rt.alloc(), 3_000, 1_000, 52) == Some((3_000, 1_500))
+            && found_of_many(rt.alloc(), 3_000, 2_999, 30) == Some((3_000, 1_500))
     );
 }
 
@@ -155,9 +148,11 @@ fn wrong_at_random(alloc: Global, hashes: u64, turns: usize) -> Option<usize>
 
 #[test]
 fn places_that_come_and_go_at_random_stand_where_they_do(rt: HostRuntime) {
-    assert_eq!(rt; wrong_at_random(rt.alloc(), 1, 5_000), Some(0));
-    assert_eq!(rt; wrong_at_random(rt.alloc(), 7, 20_000), Some(0));
-    assert_eq!(rt; wrong_at_random(rt.alloc(), 256, 20_000), Some(0));
+    assert!(rt;
+        wrong_at_random(rt.alloc(), 1, 5_000) == Some(0)
+            && wrong_at_random(rt.alloc(), 7, 20_000) == Some(0)
+            && wrong_at_random(rt.alloc(), 256, 20_000) == Some(0)
+    );
 }
 
 /// How many places come under one hash without memory, once there is room for them, and whether

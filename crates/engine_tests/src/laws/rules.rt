@@ -126,30 +126,20 @@ fn covered_below_ten(value: u32) -> bool {
 
 #[test]
 fn a_bundle_asks_its_parts(rt: HostRuntime) {
-    assert_eq!(rt;
-        (
-            weight_of(&parts(), 30),
-            covered_below_ten(9),
-            covered_below_ten(10),
-            created(&parts(), 30)
-        ),
-        (30, true, false, Some(Duration::from_secs(1)))
+    assert!(rt;
+        weight_of(&parts(), 30) == 30
+            && covered_below_ten(9)
+            && !covered_below_ten(10)
+            && created(&parts(), 30) == Some(Duration::from_secs(1))
     );
 }
 
 #[test]
 fn an_answer_of_what_is_left_changes_nothing(rt: HostRuntime) {
-    assert_eq!(rt;
-        (
-            updated(&parts(), 30),
-            read(&parts(), 30),
-            updated_from_none(&parts(), 30)
-        ),
-        (
-            Expiration::Keep,
-            Expiration::Keep,
-            Expiration::Set(Some(Duration::from_secs(1)))
-        )
+    assert!(rt;
+        updated(&parts(), 30) == Expiration::Keep
+            && read(&parts(), 30) == Expiration::Keep
+            && updated_from_none(&parts(), 30) == Expiration::Set(Some(Duration::from_secs(1)))
     );
 }
 
@@ -159,23 +149,16 @@ fn plain_parts() -> Bundle<NoExpiry, WeighOne, NoPredicate, u8> {
 
 #[test]
 fn the_plain_parts_expire_nothing(rt: HostRuntime) {
-    assert_eq!(rt;
-        (
-            updated(&plain_parts(), 30),
-            read(&plain_parts(), 30),
-            created(&plain_parts(), 30)
-        ),
-        (Expiration::Keep, Expiration::Keep, None)
+    assert!(rt;
+        updated(&plain_parts(), 30) == Expiration::Keep
+            && read(&plain_parts(), 30) == Expiration::Keep
+            && created(&plain_parts(), 30).is_none()
     );
 }
 
 #[test]
 fn the_plain_parts_weigh_one_and_cover_nothing(rt: HostRuntime) {
-    assert_eq!(rt;
-        (
-            weight_of(&plain_parts(), 30),
-            is_covered(&plain_parts(), &NoPredicate, 30)
-        ),
-        (1, false)
+    assert!(rt;
+        weight_of(&plain_parts(), 30) == 1 && !is_covered(&plain_parts(), &NoPredicate, 30)
     );
 }

@@ -14,7 +14,7 @@ fn were_evicted() -> [bool; 4] {
 
 #[test]
 fn causes(rt: HostRuntime) {
-    assert_eq!(rt; were_evicted(), [true, true, false, false]);
+    assert!(rt; were_evicted() == [true, true, false, false]);
 }
 
 fn shows(alloc: Global, policy: EvictionPolicy, text: &str) -> Result<bool, AllocError> {
@@ -32,9 +32,10 @@ fn is_shown(alloc: Global, policy: EvictionPolicy, text: &str) -> bool {
 
 #[test]
 fn texts_of_policies(rt: HostRuntime) {
-    let tiny_lfu = is_shown(rt.alloc(), EvictionPolicy::default(), "TinyLfu");
-    let lru = is_shown(rt.alloc(), EvictionPolicy::lru(), "Lru");
-    assert_eq!(rt; (tiny_lfu, lru), (true, true));
+    assert!(rt;
+        is_shown(rt.alloc(), EvictionPolicy::default(), "TinyLfu")
+            && is_shown(rt.alloc(), EvictionPolicy::lru(), "Lru")
+    );
 }
 
 /// Whether an error has a text, at the second try if memory is refused.
@@ -61,15 +62,10 @@ fn sixteen_and_seven() -> ExpirationPolicy {
 
 #[test]
 fn times(rt: HostRuntime) {
-    assert_eq!(rt;
-        (
-            times_of(&ExpirationPolicy::default()),
-            times_of(&sixteen_and_seven())
-        ),
-        (
-            (None, None),
-            (Some(Duration::from_secs(16)), Some(Duration::from_secs(7)))
-        )
+    assert!(rt;
+        times_of(&ExpirationPolicy::default()) == (None, None)
+            && times_of(&sixteen_and_seven())
+                == (Some(Duration::from_secs(16)), Some(Duration::from_secs(7)))
     );
 }
 
@@ -85,8 +81,5 @@ fn parts_of(policy: &Policy) -> (Option<u64>, usize, Option<Duration>, Option<Du
 #[test]
 fn settings(rt: HostRuntime) {
     let policy = Policy::new(Some(100), 16, None, Some(Duration::from_secs(7)));
-    assert_eq!(rt;
-        parts_of(&policy),
-        (Some(100), 16, None, Some(Duration::from_secs(7)))
-    );
+    assert!(rt; parts_of(&policy) == (Some(100), 16, None, Some(Duration::from_secs(7))));
 }

@@ -3,6 +3,9 @@
 //! refused. Rows and not calls one behind the other, since each call of a test is proved on its
 //! own.
 
+use crate::hashes::hashes_so;
+use crate::housekeeping::keeps_house;
+use crate::names::finds_by_names;
 use crate::rows::calls::{
     contains, give_up, invalidate, invalidate_apart, invalidate_in_halves, put, puts, remove,
     remove_in_halves, shown, stored_key,
@@ -101,6 +104,12 @@ pub enum Row<'a> {
     Segments(usize),
     MapDisabled(bool),
     Named(Option<&'a str>),
+    /// Keys have their hasher's hashes.
+    Hashes,
+    /// A key is found by what names it.
+    FindsByNames,
+    /// A housekeeper says when runs are due.
+    KeepsHouse,
 }
 
 /// A cache, and the calls on it.
@@ -296,6 +305,9 @@ fn looks_so(cache: &mut Numbers, now: Instant, row: Row<'_>) -> bool {
         Row::Tells(cause, key, value) => tells(cache, cause, key, value),
         Row::TellsThreeCleared => tells_three_cleared(cache),
         Row::TellsNone => cache.next_notice().is_none(),
+        Row::Hashes => hashes_so(cache),
+        Row::FindsByNames => finds_by_names(cache),
+        Row::KeepsHouse => keeps_house(cache),
         row => is_so(cache, row),
     }
 }
@@ -325,17 +337,27 @@ fn moment_from(row: Row<'_>, now: Instant) -> Instant {
     }
 }
 
-/// Asks one row after another from moment 0 on, and returns the place of the first that failed,
-/// counted from the first of those before.
-fn wrong_row(cache: &mut Numbers, case: &Case<'_>) -> Option<usize> {
-    let mut now = at(0);
-    for (place, row) in case.before.iter().chain(case.rows.iter()).enumerate() {
-        now = moment_from(*row, now);
-        if !writes_so(cache, now, *row) {
+/// Asks one row after another, and returns the place of the first that failed.
+fn wrong_among(cache: &mut Numbers, rows: &[Row<'_>], now: &mut Instant) -> Option<usize> {
+    for (place, row) in rows.iter().enumerate() {
+        *now = moment_from(*row, *now);
+        if !writes_so(cache, *now, *row) {
             return Some(place);
         }
     }
     None
+}
+
+/// The same of a case from moment 0 on, counted from the first of those before.
+fn wrong_row(cache: &mut Numbers, case: &Case<'_>) -> Option<usize> {
+    let mut now = at(0);
+    match wrong_among(cache, case.before, &mut now) {
+        Some(place) => Some(place),
+        None => match wrong_among(cache, case.rows, &mut now) {
+            Some(place) => Some(case.before.len().saturating_add(place)),
+            None => None,
+        },
+    }
 }
 
 fn text(alloc: Global, of: Option<&str>) -> Result<Option<String>, AllocError> {
@@ -364,7 +386,7 @@ fn made(alloc: Global, case: &Case<'_>) -> Result<Numbers, AllocError> {
 }
 
 /// The same, on the second attempt if memory is refused.
-pub fn empty_cache(alloc: Global, case: &Case<'_>) -> Result<Numbers, AllocError> {
+fn empty_cache(alloc: Global, case: &Case<'_>) -> Result<Numbers, AllocError> {
     match made(alloc, case) {
         Ok(cache) => Ok(cache),
         Err(_) => made(alloc, case),
