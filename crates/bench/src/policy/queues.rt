@@ -1,5 +1,5 @@
 //! Moves of a queue.
-ghost use Rattle.std.specs.Prelude.{◌<◌, ◌≤◌, ◌-◌, vec_len};
+ghost use Rattle.std.specs.Prelude.{◌<◌, ◌≤◌, ◌-◌, length, vec_len};
 
 use crate::drawing::{next_draw, place_of};
 use moka_policy::{CacheRegion, Deque, NodeId};
@@ -31,18 +31,25 @@ pub fn fronts(alloc: Global, size: usize, rounds: u64) -> Option<u64> {
     queue.peek_front().copied()
 }
 
-/// Moves drawn nodes of a queue to the back.
-pub fn moves(alloc: Global, size: usize, rounds: u64) -> Option<u64> {
-    let (mut queue, ids) = filled(alloc, size)?;
-    if ids.is_empty() {
-        return None;
-    }
+/// Moves drawn nodes of a queue to the back, and answers whether each was there.
+fn move_drawn(queue: &mut Deque<u64>, ids: &[NodeId], rounds: u64) -> bool
+    requires { 0 < length ids.now }
+{
     let mut draw = 7;
     for _ in 0..rounds {
         draw = next_draw(draw);
         if queue.move_to_back(ids[place_of(draw, ids.len())]).is_err() {
-            return None;
+            return false;
         }
+    }
+    true
+}
+
+/// Moves drawn nodes of a queue to the back.
+pub fn moves(alloc: Global, size: usize, rounds: u64) -> Option<u64> {
+    let (mut queue, ids) = filled(alloc, size)?;
+    if ids.is_empty() || !move_drawn(&mut queue, &ids, rounds) {
+        return None;
     }
     queue.peek_front().copied()
 }

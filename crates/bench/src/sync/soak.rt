@@ -85,14 +85,8 @@ impl Order {
             },
         )
         .ok()?;
-        for part in parts {
-            let part = part?;
-            tally.accepted.extend_from_slice(&part.accepted).ok()?;
-            tally.told.extend_from_slice(&part.told).ok()?;
-        }
-        soaked.cache.invalidate_all(rt).ok()?;
-        soaked.cache.run_pending_tasks(rt).ok()?;
-        soaked.take_notices(rt, &mut tally.told)
+        tally.add_all(&parts)?;
+        soaked.end(rt, &mut tally.told)
     }
 }
 
@@ -110,6 +104,20 @@ impl Tally {
             accepted: Vec::new(alloc),
             told: Vec::new(alloc),
         }
+    }
+
+    /// Those of a thread too.
+    fn add(&mut self, part: &Tally) -> Option<()> {
+        self.accepted.extend_from_slice(&part.accepted).ok()?;
+        self.told.extend_from_slice(&part.told).ok()
+    }
+
+    /// Those of all threads too, if each has some.
+    fn add_all(&mut self, parts: &[Option<Tally>]) -> Option<()> {
+        for part in parts {
+            self.add(part.as_ref()?)?;
+        }
+        Some(())
     }
 
     /// Whether each value was told once, as sorted lists show.

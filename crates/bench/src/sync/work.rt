@@ -127,6 +127,22 @@ fn work_with<C: SharedNumbers + Sync, R: Threads + Wait + Sync>(
     }
 }
 
+/// The same with a cache, if it was made.
+fn work_on<C: SharedNumbers + Sync + Drop, R: Threads + Wait + Sync>(
+    rt: &R,
+    alloc: Global,
+    cache: Option<C>,
+    keys: &[u64],
+    order: &Order,
+) -> Option<u64>
+    requires { 0 < length keys.now }
+{
+    match cache {
+        Some(cache) => work_with(rt, alloc, &cache, keys, order),
+        None => None,
+    }
+}
+
 /// Does the work, and answers how many values were found; or nothing, where memory was refused or
 /// nothing was drawn.
 pub fn run<R: Threads + Wait + Sync>(rt: &R, alloc: Global, order: Order) -> Option<u64> {
@@ -135,8 +151,8 @@ pub fn run<R: Threads + Wait + Sync>(rt: &R, alloc: Global, order: Order) -> Opt
         return None;
     }
     match order.which {
-        Which::Moka => work_with(rt, alloc, &Moka::make(alloc, order.size)?, &keys, &order),
-        Which::Lru => work_with(rt, alloc, &Lru::make(alloc, order.size)?, &keys, &order),
+        Which::Moka => work_on(rt, alloc, Moka::make(alloc, order.size), &keys, &order),
+        Which::Lru => work_on(rt, alloc, Lru::make(alloc, order.size), &keys, &order),
         Which::Loops => work_with(rt, alloc, &Nothing, &keys, &order),
     }
 }

@@ -58,6 +58,13 @@ impl Soaked {
         Some(Soaked { cache, dial })
     }
 
+    /// Empties the cache, and takes the last notices.
+    pub fn end<H: Wait>(&self, rt: &H, told: &mut Vec<u64>) -> Option<()> {
+        self.cache.invalidate_all(rt).ok()?;
+        self.cache.run_pending_tasks(rt).ok()?;
+        self.take_notices(rt, told)
+    }
+
     /// Takes the notices that wait.
     pub fn take_notices<H: Wait>(&self, rt: &H, told: &mut Vec<u64>) -> Option<()> {
         for _ in 0..u64::MAX {
