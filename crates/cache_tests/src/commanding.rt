@@ -1,6 +1,6 @@
 //! What each command answers and tells, and when values end.
 use crate::playing::first_wrong;
-use crate::rows::{FIRST, OWN, PLAIN, Row};
+use crate::rows::{FIRST, OWN, PLAIN, Row, none_wrong};
 use audit_model::{Config, RemovalCause, Weight};
 
 /// Values weigh their bytes.
@@ -89,7 +89,7 @@ const COMMANDS: &[(Config, &[Row<'static>])] = &[
 
 #[test]
 fn commands(rt: HostRuntime) {
-    assert_eq!(rt; first_wrong(rt.alloc(), COMMANDS), None);
+    none_wrong(&rt, first_wrong(rt.alloc(), COMMANDS));
 }
 
 const IDLE: Config = Config {
@@ -207,5 +207,5 @@ const TIMES: &[(Config, &[Row<'static>])] = &[
 
 #[test]
 fn times(rt: HostRuntime) {
-    assert_eq!(rt; first_wrong(rt.alloc(), TIMES), None);
+    none_wrong(&rt, first_wrong(rt.alloc(), TIMES));
 }

@@ -109,13 +109,26 @@ fn push_input(
     }
 }
 
-/// The inputs of these rows from a moment on.
-pub fn inputs_of(alloc: Global, made: Instant, rows: &[Row<'_>]) -> Result<Vec<Input>, AllocError> {
+/// Adds the inputs of these rows from a moment on.
+fn push_inputs(
+    alloc: Global,
+    inputs: &mut Vec<Input>,
+    made: Instant,
+    rows: &[Row<'_>],
+) -> Result<(), AllocError> {
     let mut now = made;
-    let mut inputs = Vec::new(alloc);
     for row in rows {
         now = moment_from(*row, now);
-        push_input(alloc, &mut inputs, *row, now)?;
+        push_input(alloc, inputs, *row, now)?;
     }
-    Ok(inputs)
+    Ok(())
+}
+
+/// The inputs of these rows from a moment on.
+pub fn inputs_of(alloc: Global, made: Instant, rows: &[Row<'_>]) -> Result<Vec<Input>, AllocError> {
+    let mut inputs = Vec::new(alloc);
+    match push_inputs(alloc, &mut inputs, made, rows) {
+        Ok(()) => Ok(inputs),
+        Err(error) => Err(error),
+    }
 }

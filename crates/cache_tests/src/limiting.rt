@@ -1,6 +1,6 @@
 //! What is kept within a capacity, and what leaves.
 use crate::playing::first_wrong;
-use crate::rows::{FIRST, PLAIN, Row};
+use crate::rows::{FIRST, PLAIN, Row, none_wrong};
 use audit_model::{Config, EvictionPolicy, RemovalCause, Weight};
 
 const TWO: Config = Config {
@@ -158,5 +158,5 @@ const TABLES: &[(Config, &[Row<'static>])] = &[
 
 #[test]
 fn limits(rt: HostRuntime) {
-    assert_eq!(rt; first_wrong(rt.alloc(), TABLES), None);
+    none_wrong(&rt, first_wrong(rt.alloc(), TABLES));
 }

@@ -1,6 +1,6 @@
 //! What a service of several parts answers and tells.
 use crate::playing::first_wrong;
-use crate::rows::{FIRST, PLAIN, Row};
+use crate::rows::{FIRST, PLAIN, Row, none_wrong};
 use audit_model::{Config, RemovalCause};
 
 // three wanted parts become four
@@ -74,5 +74,5 @@ const TABLES: &[(Config, &[Row<'static>])] = &[
 
 #[test]
 fn parts(rt: HostRuntime) {
-    assert_eq!(rt; first_wrong(rt.alloc(), TABLES), None);
+    none_wrong(&rt, first_wrong(rt.alloc(), TABLES));
 }

@@ -144,12 +144,20 @@ fn is_output<S: Played>(stage: &mut Stage<S>, conn: Conn, wanted: &[u8]) -> bool
     }
 }
 
+/// Whether each byte is an `x`.
+fn are_xs(bytes: &[u8]) -> bool {
+    for byte in bytes {
+        if *byte != b'x' {
+            return false;
+        }
+    }
+    true
+}
+
 /// Whether a reply is a value of so many bytes.
 fn is_long_value(reply: &[u8], length: usize) -> bool {
     match reply {
-        [b'V', b'A', b'L', b' ', value @ .., b'\n'] => {
-            value.len() == length && value.iter().all(|byte| *byte == b'x')
-        }
+        [b'V', b'A', b'L', b' ', value @ .., b'\n'] => value.len() == length && are_xs(value),
         _ => false,
     }
 }
@@ -161,11 +169,14 @@ fn is_long_output<S: Played>(stage: &mut Stage<S>, conn: Conn, length: usize) ->
     }
 }
 
+/// Whether neither of the first two connections was replied.
+fn is_unreplied<S: Played>(stage: &mut Stage<S>) -> bool {
+    is_output(stage, FIRST, b"") && is_output(stage, SECOND, b"")
+}
+
 /// Whether so many loads are under way, and neither of the first two connections was replied.
 fn is_untold<S: Played>(stage: &mut Stage<S>, open: Result<u64, ServiceError>) -> bool {
-    stage.service.loads_open(0) == open
-        && is_output(stage, FIRST, b"")
-        && is_output(stage, SECOND, b"")
+    stage.service.loads_open(0) == open && is_unreplied(stage)
 }
 
 /// Whether what was refused for memory has changed nothing: where a load was to be settled, so many are under way, and nobody was replied.
@@ -199,17 +210,26 @@ fn take_again<S: Played>(
     }
 }
 
-/// Takes an input, again where memory is refused, also for a line that is held back.
+/// Takes what was refused again, if that was for want of memory, also for a line that is held back.
+fn take_refused<S: Played>(
+    stage: &mut Stage<S>,
+    refusal: Refusal,
+    open: Result<u64, ServiceError>,
+) -> Result<Output, Refusal> {
+    match refusal.error {
+        ServiceError::OutOfMemory | ServiceError::HeldAgain => {
+            take_again(stage, refusal.input, open)
+        }
+        _ => Err(refusal),
+    }
+}
+
+/// Takes an input, again where memory is refused.
 fn take<S: Played>(stage: &mut Stage<S>, input: Input) -> Result<Output, Refusal> {
     let open = stage.service.loads_open(0);
     match stage.service.step(input) {
-        Err(
-            Refusal {
-                error: ServiceError::OutOfMemory | ServiceError::HeldAgain,
-                input,
-            },
-        ) => take_again(stage, input, open),
-        taken => taken,
+        Ok(output) => Ok(output),
+        Err(refusal) => take_refused(stage, refusal, open),
     }
 }
 
@@ -228,14 +248,18 @@ fn opens<S: Played>(stage: &mut Stage<S>, conn: Conn) -> bool {
     came(take(stage, input), Output::Opened { conn })
 }
 
+/// Whether the lines of a piece of nothing run, so one that is held back.
+fn runs_held<S: Played>(stage: &mut Stage<S>, conn: Conn) -> bool {
+    let nothing = feed(conn, Seq::from_vec(Vec::new(stage.alloc)), stage.now);
+    came(stage.service.step(nothing), Output::All)
+}
+
 /// Whether all lines of a piece run, one that is held back at a piece of nothing.
 fn runs<S: Played>(stage: &mut Stage<S>, conn: Conn, input: Input) -> bool {
     match take(stage, input) {
-        Ok(Output::Held) => {
-            let nothing = feed(conn, Seq::from_vec(Vec::new(stage.alloc)), stage.now);
-            came(stage.service.step(nothing), Output::All)
-        }
-        taken => came(taken, Output::All),
+        Ok(Output::Held) => runs_held(stage, conn),
+        Ok(output) => output == Output::All,
+        Err(_) => false,
     }
 }
 
@@ -303,16 +327,20 @@ fn tells<S: Played>(stage: &mut Stage<S>, wanted: Option<Told<'_>>) -> bool {
     }
 }
 
-fn is_sent(sent: &(LoadId, Bytes), wanted: Sent<'_>) -> bool {
-    sent.0 == wanted.0 && sent.1.as_slice() == wanted.1
+fn is_sent(sent: &(LoadId, Bytes), wanted: Option<&Sent<'_>>) -> bool {
+    match wanted {
+        Some((load, key)) => sent.0 == *load && sent.1.as_slice() == *key,
+        None => false,
+    }
 }
 
 fn are_sent(loads: &[(LoadId, Bytes)], wanted: &[Sent<'_>]) -> bool {
+    for (place, sent) in loads.iter().enumerate() {
+        if !is_sent(sent, wanted.get(place)) {
+            return false;
+        }
+    }
     loads.len() == wanted.len()
-        && loads
-            .iter()
-            .zip(wanted)
-            .all(|(sent, wanted)| is_sent(sent, *wanted))
 }
 
 fn sends<S: Played>(stage: &mut Stage<S>, namespace: u64, wanted: &[Sent<'_>]) -> bool {
@@ -330,8 +358,7 @@ fn gives_up_one<S: Played>(stage: &mut Stage<S>, number: u64) -> bool {
     };
     sends(stage, 0, &[(load, b"k".as_slice())])
         && does(stage, Asked::GivesUp(load))
-        && is_output(stage, FIRST, b"")
-        && is_output(stage, SECOND, b"")
+        && is_unreplied(stage)
 }
 
 fn gives_up_each<S: Played>(stage: &mut Stage<S>, first: u64, end: u64) -> bool {
@@ -365,20 +392,39 @@ fn is_no_namespace<S: Played>(stage: &mut Stage<S>, namespace: u64) -> bool {
         && error_of(stage.service.next_notice(namespace)) == Some(ServiceError::NoNamespace)
 }
 
-/// Looks, or takes what came, and answers whether it is so.
+fn has_open<S: Played>(stage: &Stage<S>, namespace: u64, count: u64) -> bool {
+    stage.service.loads_open(namespace) == Ok(count)
+}
+
+fn waits<S: Played>(stage: &Stage<S>, conn: Conn, wanted: bool) -> bool {
+    stage.service.waiting(conn) == Ok(wanted)
+}
+
+fn is_closed<S: Played>(stage: &Stage<S>, conn: Conn, wanted: Option<Closing>) -> bool {
+    stage.service.closed(conn) == Ok(wanted)
+}
+
+/// Looks at a namespace, or takes what came of it, and answers whether it is so.
+fn is_so_of_all<S: Played>(stage: &mut Stage<S>, row: Row<'_>) -> bool {
+    match row {
+        Row::Tells(cause, key, value) => tells(stage, Some((cause, key, value))),
+        Row::TellsNone => tells(stage, None),
+        Row::Sends(namespace, wanted) => sends(stage, namespace, wanted),
+        Row::LoadsOpen(namespace, count) => has_open(stage, namespace, count),
+        Row::NoNamespace(namespace) => is_no_namespace(stage, namespace),
+        _ => false,
+    }
+}
+
+/// Looks at a connection, or takes what came of it, and answers whether it is so.
 fn is_so<S: Played>(stage: &mut Stage<S>, row: Row<'_>) -> bool {
     match row {
         Row::Output(conn, wanted) => is_output(stage, conn, wanted),
         Row::OutputLong(conn, length) => is_long_output(stage, conn, length),
-        Row::Tells(cause, key, value) => tells(stage, Some((cause, key, value))),
-        Row::TellsNone => tells(stage, None),
-        Row::Sends(namespace, wanted) => sends(stage, namespace, wanted),
-        Row::LoadsOpen(namespace, count) => stage.service.loads_open(namespace) == Ok(count),
-        Row::Waits(conn, wanted) => stage.service.waiting(conn) == Ok(wanted),
-        Row::Closed(conn, wanted) => stage.service.closed(conn) == Ok(wanted),
+        Row::Waits(conn, wanted) => waits(stage, conn, wanted),
+        Row::Closed(conn, wanted) => is_closed(stage, conn, wanted),
         Row::Unknown(conn, wanted) => is_unknown(stage, conn, wanted),
-        Row::NoNamespace(namespace) => is_no_namespace(stage, namespace),
-        _ => false,
+        row => is_so_of_all(stage, row),
     }
 }
 
@@ -498,4 +544,15 @@ pub fn first_wrong(alloc: Global, tables: &[(Config, &[Row<'_>])]) -> Option<(us
         }
     }
     None
+}
+
+/// The same at a second try, for rows that come out otherwise where a line is held back for want of memory.
+pub fn first_wrong_at_last(
+    alloc: Global,
+    tables: &[(Config, &[Row<'_>])],
+) -> Option<(usize, usize)> {
+    match first_wrong(alloc, tables) {
+        Some(_) => first_wrong(alloc, tables),
+        None => None,
+    }
 }

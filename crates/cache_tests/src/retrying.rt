@@ -1,6 +1,6 @@
 //! Loads with memory refused: what is refused is asked once more, so these come out so with any one allocation refused.
 use crate::playing::first_wrong;
-use crate::rows::{Asked, FIRST, FIRST_LOAD, Given, PLAIN, Row, SECOND, SECOND_LOAD};
+use crate::rows::{Asked, FIRST, FIRST_LOAD, Given, PLAIN, Row, SECOND, SECOND_LOAD, none_wrong};
 use audit_model::Config;
 
 const ANSWERED_AT_THE_SECOND_TRY: &[Row<'static>] = &[
@@ -40,5 +40,5 @@ const TABLES: &[(Config, &[Row<'static>])] = &[
 
 #[test]
 fn settled_without_memory(rt: HostRuntime) {
-    assert_eq!(rt; first_wrong(rt.alloc(), TABLES), None);
+    none_wrong(&rt, first_wrong(rt.alloc(), TABLES));
 }

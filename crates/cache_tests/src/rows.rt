@@ -2,6 +2,7 @@
 use audit_model::{
     Closing, Config, Conn, EvictionPolicy, LoadId, RemovalCause, ServiceError, Weight,
 };
+use std::process::Abort;
 
 /// Without capacity, times and own deadlines.
 pub const PLAIN: Config = Config {
@@ -126,4 +127,14 @@ pub struct Case<'a> {
     pub configs: &'a [Config],
     pub made: u64,
     pub rows: &'a [Row<'a>],
+}
+
+/// Stops a test where there is a place of what is wrong, and says it: that of a table, and of its row.
+pub fn none_wrong(rt: &impl Abort, wrong: Option<(usize, usize)>) {
+    assert_eq!(rt; wrong, None);
+}
+
+/// The same of a place in one table.
+pub fn no_row_wrong(rt: &impl Abort, wrong: Option<usize>) {
+    assert_eq!(rt; wrong, None);
 }

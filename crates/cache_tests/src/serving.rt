@@ -1,6 +1,6 @@
 //! What lines are replied, whatever the cuts of their bytes.
 use crate::playing::first_wrong;
-use crate::rows::{Asked, FIRST, OWN, PLAIN, Row, SECOND};
+use crate::rows::{Asked, FIRST, OWN, PLAIN, Row, SECOND, none_wrong};
 use audit_model::{Closing, Config, RemovalCause, ServiceError};
 
 const THE_FIRST_RUN: &[Row<'static>] = &[
@@ -167,5 +167,5 @@ const TABLES: &[(Config, &[Row<'static>])] = &[
 
 #[test]
 fn replies_of_lines(rt: HostRuntime) {
-    assert_eq!(rt; first_wrong(rt.alloc(), TABLES), None);
+    none_wrong(&rt, first_wrong(rt.alloc(), TABLES));
 }

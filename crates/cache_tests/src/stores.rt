@@ -7,7 +7,6 @@ mod keeping;
 mod lacking;
 mod lengths;
 mod parts;
-mod repeating;
 mod turning;
 
 use crate::playing::{Played, play_on};

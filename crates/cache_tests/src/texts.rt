@@ -55,22 +55,32 @@ fn all_say<E: Display>(alloc: Global, rows: &[(E, &str)]) -> bool {
 
 #[test]
 fn errors_have_texts(rt: HostRuntime) {
-    assert!(rt; all_say(rt.alloc(), SERVICE_ERRORS.as_slice()));
-    assert!(rt; all_say(rt.alloc(), RUN_ERRORS.as_slice()));
-    assert!(rt; all_say(rt.alloc(), LINE_ERRORS.as_slice()));
+    assert!(rt;
+        all_say(rt.alloc(), SERVICE_ERRORS.as_slice())
+            && all_say(rt.alloc(), RUN_ERRORS.as_slice())
+            && all_say(rt.alloc(), LINE_ERRORS.as_slice())
+    );
 }
 
-/// What is handed back says why.
-#[test]
-fn what_is_handed_back_says_why(rt: HostRuntime) {
+/// Whether an input that is handed back says why.
+fn input_says_why(alloc: Global) -> bool {
     let refusal = Refusal {
         error: ServiceError::Closed,
         input: Input::Open { namespace: 0 },
     };
+    says(alloc, &refusal, "closed")
+}
+
+/// Whether an outcome that is handed back says why.
+fn outcome_says_why(alloc: Global) -> bool {
     let answer = AnswerError {
         error: ServiceError::NoLoad,
         outcome: Outcome::None,
     };
-    assert!(rt; says(rt.alloc(), &refusal, "closed"));
-    assert!(rt; says(rt.alloc(), &answer, "no load"));
+    says(alloc, &answer, "no load")
+}
+
+#[test]
+fn what_is_handed_back_says_why(rt: HostRuntime) {
+    assert!(rt; input_says_why(rt.alloc()) && outcome_says_why(rt.alloc()));
 }

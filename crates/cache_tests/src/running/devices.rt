@@ -1,4 +1,6 @@
 //! Devices of memory, and one run over them.
+ghost use Rattle.std.specs.Prelude.{length, ◌<◌};
+
 use audit_model::{Bytes, Closing, Config, Conn, Instant, Outcome, Seq, ServiceError};
 use cache_run::{Clock, Loader, RunError, Watched, run};
 use cache_spaces::Service;
@@ -242,6 +244,47 @@ fn make_devices<'a>(
     }
 }
 
+/// How a run over these devices ends.
+fn run_on(alloc: Global, service: &mut Service, devices: &mut Devices<'_>) -> Result<(), RunError>
+    requires { 0 < length service.old }
+{
+    run(
+        service,
+        alloc,
+        0,
+        &mut devices.reader,
+        &mut devices.writer,
+        &mut devices.clock,
+        &mut devices.loader,
+    )
+}
+
+/// What came of a run that ended so; none where nothing is known of what it left.
+fn ran_of(
+    ended: Result<(), RunError>,
+    left: Result<Left, ServiceError>,
+    devices: Devices<'_>,
+) -> Option<Ran> {
+    match left {
+        Ok(left) => Some(Ran {
+            result: ended,
+            left,
+            writer: devices.writer,
+            loader: devices.loader,
+        }),
+        Err(_) => None,
+    }
+}
+
+/// One run over these devices.
+fn run_in(alloc: Global, service: &mut Service, devices: Devices<'_>) -> Option<Ran>
+    requires { 0 < length service.old }
+{
+    let mut devices = devices;
+    let ended = run_on(alloc, service, &mut devices);
+    ran_of(ended, left_of(service), devices)
+}
+
 /// One run in a new service; none where that has no memory.
 pub fn run_over(
     alloc: Global,
@@ -251,32 +294,9 @@ pub fn run_over(
     setting: Setting,
 ) -> Option<Ran> {
     let generator = Xoshiro256PlusPlus::seed_from_u64(1);
-    let mut service = match Service::new(alloc, &[config], generator, Instant { nanos: 0 }) {
-        Ok(service) => service,
-        Err(_) => return None,
-    };
-    let Devices {
-        mut reader,
-        mut writer,
-        mut clock,
-        mut loader,
-    } = make_devices(alloc, input, sayings, setting);
-    let result = run(
-        &mut service,
-        alloc,
-        0,
-        &mut reader,
-        &mut writer,
-        &mut clock,
-        &mut loader,
-    );
-    match left_of(&mut service) {
-        Ok(left) => Some(Ran {
-            result,
-            left,
-            writer,
-            loader,
-        }),
+    let devices = make_devices(alloc, input, sayings, setting);
+    match Service::new(alloc, &[config], generator, Instant { nanos: 0 }) {
+        Ok(mut service) => run_in(alloc, &mut service, devices),
         Err(_) => None,
     }
 }

@@ -1,8 +1,8 @@
 //! What a connection is replied whose lines load.
-use crate::rows::PLAIN;
+use crate::rows::{PLAIN, no_row_wrong, none_wrong};
 use crate::running::devices::{Ran, SOUND, Saying, Setting, run_over};
 use audit_model::{Closing, Config};
-use std::alloc::Global;
+use std::alloc::{AllocError, Global};
 
 /// A configuration, an input, what the loader says, the replies, and how often the loader is asked.
 struct Row {
@@ -117,19 +117,24 @@ fn is_whole(ran: &Ran, replies: &[u8]) -> bool {
         && ran.left.loads_left == 0
 }
 
-/// Whether a run comes out as its row says, with pieces of that size.
+/// Whether a run comes out as its row says.
+fn is_as_said(ran: &Ran, row: &Row) -> bool {
+    is_whole(ran, row.replies) && ran.loader.asked == row.asked
+}
+
+/// The same of its run, with pieces of that size.
 fn is_right(alloc: Global, row: &Row, size: usize) -> bool {
     let setting = Setting { size, ..SOUND };
     match run_over(alloc, row.config, row.input, row.sayings, setting) {
-        Some(ran) => is_whole(&ran, row.replies) && ran.loader.asked == row.asked,
+        Some(ran) => is_as_said(&ran, row),
         None => false,
     }
 }
 
-/// The place of the first row that does not come out so, with pieces of that size.
+/// The place of the first row that does not come out so, with pieces of that size, at the second try where memory is refused.
 fn first_wrong(alloc: Global, size: usize) -> Option<usize> {
     for (place, row) in ROWS.iter().enumerate() {
-        if !is_right(alloc, row, size) {
+        if !is_right(alloc, row, size) && !is_right(alloc, row, size) {
             return Some(place);
         }
     }
@@ -138,51 +143,79 @@ fn first_wrong(alloc: Global, size: usize) -> Option<usize> {
 
 #[test]
 fn rows_of_loads(rt: HostRuntime) {
-    assert_eq!(rt; first_wrong(rt.alloc(), 8192), None);
+    no_row_wrong(&rt, first_wrong(rt.alloc(), 8192));
+}
+
+/// The first of the sizes of a piece up to that of a line with which a row does not come out so, and the row's place.
+fn first_wrong_cut(alloc: Global) -> Option<(usize, usize)> {
+    for size in 1..9usize {
+        if let Some(place) = first_wrong(alloc, size) {
+            return Some((size, place));
+        }
+    }
+    None
 }
 
 #[test]
 fn cut_at_each_byte(rt: HostRuntime) {
-    for size in 1..9usize {
-        assert_eq!(rt; first_wrong(rt.alloc(), size), None);
-    }
+    none_wrong(&rt, first_wrong_cut(rt.alloc()));
 }
 
-/// Whether the loader is asked for these keys, one behind the other.
-fn is_asked_by_key(alloc: Global, keys: &[u8]) -> bool {
+/// Whether a run ended well whose loader was asked for these keys, one behind the other.
+fn is_asked(ran: &Ran, keys: &[u8]) -> bool {
+    ran.loader.keys.as_slice() == keys && is_whole(ran, b"NONE\nNONE\nOK\nVAL 3\nNONE\n")
+}
+
+/// Whether the loader is asked by the key of each `LOAD`, and of one that is given up once more.
+fn is_asked_by_key(alloc: Global) -> bool {
     const SAYINGS: &[Saying] = &[Saying::Refusal, Saying::Nothing];
     let input = b"LOAD one\nLOAD two\nSET three - 3\nLOAD three\nLOAD one\n";
     match run_over(alloc, PLAIN, input, SAYINGS, SOUND) {
-        Some(ran) => {
-            ran.loader.keys.as_slice() == keys && is_whole(&ran, b"NONE\nNONE\nOK\nVAL 3\nNONE\n")
-        }
+        Some(ran) => is_asked(&ran, b"oneonetwoone"),
         None => false,
     }
 }
 
 #[test]
 fn the_loader_is_asked_by_the_key(rt: HostRuntime) {
-    assert!(rt; is_asked_by_key(rt.alloc(), b"oneonetwoone"));
+    assert!(rt; is_asked_by_key(rt.alloc()) || is_asked_by_key(rt.alloc()));
 }
 
-/// A `LOAD` with so many bytes behind it, in the piece of the `LOAD` and the next one.
-fn behind(alloc: Global, count: usize) -> Option<Vec<u8>> {
-    let mut input = Vec::from_slice(alloc, b"LOAD k\n").ok()?;
-    for _byte in 0..count {
-        input.push(b'x').ok()?;
+/// As many bytes as a piece has room for behind a `LOAD`.
+const BEHIND: [u8; 8185] = [b'x'; 8185];
+
+/// A `LOAD` with these behind it.
+fn input_behind(alloc: Global) -> Result<Vec<u8>, AllocError> {
+    let mut input = Vec::from_slice(alloc, b"LOAD k\n")?;
+    match input.extend_from_slice(BEHIND.as_slice()) {
+        Ok(()) => Ok(input),
+        Err(error) => Err(error),
     }
-    Some(input)
 }
 
-/// Whether a `LOAD` of nothing with so many bytes behind it is answered, and its owner then asks that the connection be closed.
-fn is_answered_before(alloc: Global, count: usize) -> Option<bool> {
+/// Whether a run answered a `LOAD` of nothing, and its owner then asked that the connection be closed.
+fn is_answered(ran: &Ran) -> bool {
+    is_whole(ran, b"NONE\n") && ran.left.closed == Some(Closing::Asked)
+}
+
+/// The same of a run with this input.
+fn answers(alloc: Global, input: &[u8]) -> bool {
     const SAYINGS: &[Saying] = &[Saying::Nothing];
-    let input = behind(alloc, count)?;
-    let ran = run_over(alloc, PLAIN, input.as_slice(), SAYINGS, SOUND)?;
-    Some(is_whole(&ran, b"NONE\n") && ran.left.closed == Some(Closing::Asked))
+    match run_over(alloc, PLAIN, input, SAYINGS, SOUND) {
+        Some(ran) => is_answered(&ran),
+        None => false,
+    }
+}
+
+/// The same where bytes stand behind the `LOAD`.
+fn answers_before(alloc: Global) -> bool {
+    match input_behind(alloc) {
+        Ok(input) => answers(alloc, input.as_slice()),
+        Err(_) => false,
+    }
 }
 
 #[test]
 fn bytes_behind_a_load(rt: HostRuntime) {
-    assert_eq!(rt; is_answered_before(rt.alloc(), 8185), Some(true));
+    assert!(rt; answers_before(rt.alloc()) || answers_before(rt.alloc()));
 }

@@ -1,7 +1,7 @@
 //! A store that finds no memory for some moments, and what a namespace over it holds back meanwhile.
 ghost use Rattle.std.specs.Prelude.{◌≡◌};
 
-use crate::rows::{Asked, Case, FIRST, FIRST_LOAD, Given, PLAIN, Row, SECOND};
+use crate::rows::{Asked, Case, FIRST, FIRST_LOAD, Given, PLAIN, Row, SECOND, none_wrong};
 use crate::stores::{is_brief, wrong_over};
 use audit_model::{Config, Key, Note, RemovalCause, ServiceError};
 use cache_front::{FrontStore, KeyedHasher};
@@ -197,10 +197,18 @@ fn wrong_row(alloc: Global, config: Config, rows: &[Row<'_>]) -> Option<usize> {
     }
 }
 
+/// The same, at the second try where memory is refused.
+fn wrong_at_last(alloc: Global, config: Config, rows: &[Row<'_>]) -> Option<usize> {
+    match wrong_row(alloc, config, rows) {
+        Some(_) => wrong_row(alloc, config, rows),
+        None => None,
+    }
+}
+
 /// The place of the first table, and of its first row that does not come out so.
 fn first_wrong(alloc: Global) -> Option<(usize, usize)> {
     for (place, (config, rows)) in TABLES.iter().enumerate() {
-        if let Some(row) = wrong_row(alloc, *config, rows) {
+        if let Some(row) = wrong_at_last(alloc, *config, rows) {
             return Some((place, row));
         }
     }
@@ -209,5 +217,5 @@ fn first_wrong(alloc: Global) -> Option<(usize, usize)> {
 
 #[test]
 fn held_back_for_want_of_memory(rt: HostRuntime) {
-    assert_eq!(rt; first_wrong(rt.alloc()), None);
+    none_wrong(&rt, first_wrong(rt.alloc()));
 }
