@@ -2,12 +2,12 @@
 ghost use Rattle.std.specs.Prelude.{◌≡◌};
 
 use crate::inputs::{conn, feed, feed_by_key};
-use crate::steps::{counts_of, finish, is_replied, opens, refuses, takes, two_seats};
+use crate::steps::{counts_of, finish, is_replied, opens, refuses, takes};
 use audit_model::{Conn, Input};
-use cache_shared::{Finished, Seat, Seating, SharedService};
-use cache_spaces::RecordedService;
-use std::alloc::{AllocError, Global};
+use cache_shared::{Finished, Seat, Seating, SharedService, Stepping, Takings};
+use std::alloc::Global;
 use std::sync::Wait;
+use std::sync::atomic::{AtomicU64, Ordering};
 use std::thread;
 use std::thread::Threads;
 
@@ -26,251 +26,210 @@ pub struct Script<'a> {
     pub count: u64,
 }
 
-/// Four scripts, two for each pair of threads.
-#[derive(Clone, Copy)]
-pub struct Crew<'a> {
-    pub front: (Script<'a>, Script<'a>),
-    pub back: (Script<'a>, Script<'a>),
-}
+/// A script for each thread.
+pub type Crew<'a> = [Script<'a>; 4];
 
 /// Feeds a text, and answers whether it is replied so.
-fn talks<L: Seating, R: Wait>(
+fn talks<L: Seating, C: Takings, R: Wait>(
     rt: &R,
     alloc: Global,
-    shared: &SharedService<L>,
+    shared: &SharedService<L, C>,
     seat: &mut Seat<L>,
     conn: Conn,
     key: u8,
-    talk: Talk<'_>,
-) -> Result<bool, AllocError> {
-    let input = feed_by_key(alloc, conn, talk.0, key)?;
-    Ok(takes(rt, shared, seat, input) && is_replied(rt, shared, conn, talk.1))
+    (text, wanted): Talk<'_>,
+) -> bool {
+    match feed_by_key(alloc, conn, text, key) {
+        Some(input) => takes(rt, shared, seat, input) && is_replied(rt, shared, conn, wanted),
+        None => false,
+    }
 }
 
 /// Feeds each text of a script.
-fn talks_once<L: Seating, R: Wait>(
+fn talks_once<L: Seating, C: Takings, R: Wait>(
     rt: &R,
     alloc: Global,
-    shared: &SharedService<L>,
+    shared: &SharedService<L, C>,
     seat: &mut Seat<L>,
     conn: Conn,
-    script: Script<'_>,
-) -> Result<bool, AllocError> {
+    script: &Script<'_>,
+) -> bool {
     for talk in script.talks {
-        if !talks(rt, alloc, shared, seat, conn, script.key, *talk)? {
-            return Ok(false);
+        if !talks(rt, alloc, shared, seat, conn, script.key, *talk) {
+            return false;
         }
     }
-    Ok(true)
+    true
 }
 
 /// The same so often.
-fn talks_often<L: Seating, R: Wait>(
+fn talks_often<L: Seating, C: Takings, R: Wait>(
     rt: &R,
     alloc: Global,
-    shared: &SharedService<L>,
+    shared: &SharedService<L, C>,
     seat: &mut Seat<L>,
     conn: Conn,
-    script: Script<'_>,
-) -> Result<bool, AllocError> {
+    script: &Script<'_>,
+) -> bool {
     for _ in 0..script.times {
-        if !talks_once(rt, alloc, shared, seat, conn, script)? {
-            return Ok(false);
+        if !talks_once(rt, alloc, shared, seat, conn, script) {
+            return false;
         }
     }
-    Ok(true)
+    true
 }
 
-/// Follows a script. Answers whether each input was taken and replied so, and the seat counts them and has their receipts. Fails where there is no memory
-/// for an input.
-pub fn follows<L: Seating, R: Wait>(
+/// Follows a script on a connection. Answers whether each input was taken and replied so, and the seat counts them and has their receipts.
+fn follows_on<L: Seating, C: Takings, R: Wait>(
     rt: &R,
     alloc: Global,
-    shared: &SharedService<L>,
+    shared: &SharedService<L, C>,
     seat: &mut Seat<L>,
-    script: Script<'_>,
-) -> Result<bool, AllocError> {
-    let Some(conn) = opens(rt, shared, seat) else {
-        return Ok(false);
-    };
-    Ok(
-        talks_often(rt, alloc, shared, seat, conn, script)?
-            && (!script.closes || takes(rt, shared, seat, Input::Close { conn }))
-            && counts_of(seat) == (script.count, script.count as usize),
-    )
+    conn: Conn,
+    script: &Script<'_>,
+) -> bool {
+    talks_often(rt, alloc, shared, seat, conn, script)
+        && (!script.closes || takes(rt, shared, seat, Input::Close { conn }))
+        && counts_of(seat) == (script.count, script.count as usize)
+}
+
+/// The same on a connection that is opened for it.
+pub fn follows<L: Seating, C: Takings, R: Wait>(
+    rt: &R,
+    alloc: Global,
+    shared: &SharedService<L, C>,
+    seat: &mut Seat<L>,
+    script: &Script<'_>,
+) -> bool {
+    match opens(rt, shared, seat) {
+        Some(conn) => follows_on(rt, alloc, shared, seat, conn, script),
+        None => false,
+    }
+}
+
+/// Whether a feed of a connection that is not there is refused.
+fn refuses_feed<L: Seating, C: Takings, R: Wait>(
+    rt: &R,
+    alloc: Global,
+    shared: &SharedService<L, C>,
+    seat: &mut Seat<L>,
+) -> bool {
+    match feed(alloc, conn(9), b"GET a\n") {
+        Some(input) => refuses(rt, shared, seat, input),
+        None => false,
+    }
 }
 
 /// One thread's part: beside its script, inputs of connections that are not there are refused.
-fn works<L: Seating, R: Wait>(
+fn works<L: Seating, C: Takings, R: Wait>(
     rt: &R,
     alloc: Global,
-    shared: &SharedService<L>,
+    shared: &SharedService<L, C>,
     seat: &mut Seat<L>,
-    script: Script<'_>,
+    script: &Script<'_>,
 ) -> bool {
-    let is_fed = match feed(alloc, conn(9), b"GET a\n") {
-        Ok(input) => !refuses(rt, shared, seat, input),
-        Err(_) => true,
-    };
-    refuses(rt, shared, seat, Input::Close { conn: conn(1000) })
-        && !is_fed
-        && (script.times == 0 || follows(rt, alloc, shared, seat, script) == Ok(true))
+    refuses_feed(rt, alloc, shared, seat)
+        && refuses(rt, shared, seat, Input::Close { conn: conn(1000) })
+        && (script.times == 0 || follows(rt, alloc, shared, seat, script))
 }
 
-/// Two threads' part.
-fn both_work<L: Seating + Send + Sync, R: Threads + Wait + Sync>(
+/// The part of the thread of this number, which is counted if all came out so.
+fn works_at<L: Seating, C: Takings, R: Wait>(
     rt: &R,
     alloc: Global,
-    shared: &SharedService<L>,
-    seats: &mut (Seat<L>, Seat<L>),
-    scripts: (Script<'_>, Script<'_>),
-) -> bool {
-    let (one, two) = seats;
-    let (first, second) = thread::join(
-        rt,
-        || works(rt, alloc, shared, one, scripts.0),
-        || works(rt, alloc, shared, two, scripts.1),
-    );
-    first && second
-}
-
-/// Four threads' part.
-fn all_work<L: Seating + Send + Sync, R: Threads + Wait + Sync>(
-    rt: &R,
-    alloc: Global,
-    shared: &SharedService<L>,
-    front: &mut (Seat<L>, Seat<L>),
-    back: &mut (Seat<L>, Seat<L>),
-    crew: Crew<'_>,
-) -> bool {
-    let (first, second) = thread::join(
-        rt,
-        || both_work(rt, alloc, shared, front, crew.front),
-        || both_work(rt, alloc, shared, back, crew.back),
-    );
-    first && second
-}
-
-/// The service and so many seats back, where it is not to be had with these.
-fn refused<L: Seating>(
-    shared: SharedService<L>,
-    seats: Vec<Seat<L>>,
-    count: usize,
-) -> Option<(SharedService<L>, Vec<Seat<L>>)>
-    requires ledger { L.all ≡ L.parts }
-{
-    let (shared, seats) = shared.finish(seats).err()?;
-    if seats.len() == count {
-        Some((shared, seats))
-    } else {
-        None
+    shared: &SharedService<L, C>,
+    seat: &mut Seat<L>,
+    crew: &Crew<'_>,
+    number: usize,
+    right: &AtomicU64,
+) {
+    if let Some(script) = crew.get(number) {
+        let is_right = works(rt, alloc, shared, seat, script);
+        right.fetch_add(u64::from(is_right), Ordering::SeqCst);
     }
 }
 
-/// The same with three seats. The fourth then lies behind them.
-fn refused_without_last<L: Seating>(
-    shared: SharedService<L>,
-    seats: Vec<Seat<L>>,
-    last: Seat<L>,
-) -> Option<(SharedService<L>, Vec<Seat<L>>)>
-    requires ledger { L.all ≡ L.parts }
-{
-    let (shared, mut seats) = refused(shared, seats, 3)?;
-    match seats.push(last) {
-        Ok(()) => Some((shared, seats)),
-        Err(_) => None,
-    }
+/// Whether all came out so in each of four threads, one for each seat.
+pub fn all_work<L: Seating + Send + Sync, C: Takings + Send, R: Threads + Wait + Sync>(
+    rt: &R,
+    alloc: Global,
+    shared: &SharedService<L, C>,
+    seats: &mut [Seat<L>],
+    crew: &Crew<'_>,
+) -> bool {
+    let right = AtomicU64::new(0);
+    thread::for_each_mut(
+        rt,
+        seats,
+        4,
+        &|number, seat| { works_at(rt, alloc, shared, seat, crew, number, &right) },
+    );
+    right.load(Ordering::SeqCst) == 4
 }
 
-/// The same with four seats, while there is a clone.
-fn refused_beside_clone<L: Seating>(
-    shared: SharedService<L>,
+/// The service and these seats back, where it is not to be had beside a clone.
+fn refused_beside_clone<L: Seating, C: Stepping>(
+    shared: SharedService<L, C>,
     seats: Vec<Seat<L>>,
-) -> Option<(SharedService<L>, Vec<Seat<L>>)>
+) -> Option<(SharedService<L, C>, Vec<Seat<L>>)>
     requires ledger { L.all ≡ L.parts }
 {
     match shared.clone() {
-        Ok(_other) => refused(shared, seats, 4),
+        Ok(_other) => shared.finish(seats).err(),
         Err(_) => None,
     }
 }
 
-/// What three seats and then the last one leave. The service is not to be had without that one, and not beside a clone.
-fn finish_at_last<L: Seating>(
-    shared: SharedService<L>,
+/// What seats leave. The service is not to be had beside a clone.
+fn finish_without_clone<L: Seating, C: Stepping>(
+    shared: SharedService<L, C>,
+    seats: Vec<Seat<L>>,
+) -> Option<Finished<C>>
+    requires ledger { L.all ≡ L.parts }
+{
+    match refused_beside_clone(shared, seats) {
+        Some((shared, seats)) => finish(shared, seats),
+        None => None,
+    }
+}
+
+/// The same of all seats but the last one, and that one.
+fn finish_with<L: Seating, C: Stepping>(
+    shared: SharedService<L, C>,
+    mut seats: Vec<Seat<L>>,
+    last: Seat<L>,
+) -> Option<Finished<C>>
+    requires ledger { L.all ≡ L.parts }
+{
+    match seats.push(last) {
+        Ok(()) => finish_without_clone(shared, seats),
+        Err(_) => None,
+    }
+}
+
+/// The same, where the service is not to be had without the last one.
+fn finish_with_last<L: Seating, C: Stepping>(
+    shared: SharedService<L, C>,
     seats: Vec<Seat<L>>,
     last: Seat<L>,
-) -> Option<Finished<RecordedService>>
+) -> Option<Finished<C>>
     requires ledger { L.all ≡ L.parts }
 {
-    let (shared, seats) = refused_without_last(shared, seats, last)?;
-    let (shared, seats) = refused_beside_clone(shared, seats)?;
-    finish(shared, seats)
-}
-
-/// What two pairs of seats leave.
-fn finish_four<L: Seating>(
-    alloc: Global,
-    shared: SharedService<L>,
-    front: (Seat<L>, Seat<L>),
-    back: (Seat<L>, Seat<L>),
-) -> Option<Finished<RecordedService>>
-    requires ledger { L.all ≡ L.parts }
-{
-    match Vec::from_array(alloc, [front.0, front.1, back.0]) {
-        Ok(seats) => finish_at_last(shared, seats, back.1),
-        Err(_) => None,
+    match shared.finish(seats) {
+        Ok(_) => None,
+        Err((shared, seats)) => finish_with(shared, seats, last),
     }
 }
 
-/// What four threads leave that each follow a script.
-fn work_to_the_end<L: Seating + Send + Sync, R: Threads + Wait + Sync>(
-    rt: &R,
-    alloc: Global,
-    shared: SharedService<L>,
-    mut front: (Seat<L>, Seat<L>),
-    mut back: (Seat<L>, Seat<L>),
-    crew: Crew<'_>,
-) -> Option<Finished<RecordedService>>
+/// What seats leave. The service is not to be had without the last one, nor beside a clone.
+pub fn finish_at_last<L: Seating, C: Stepping>(
+    shared: SharedService<L, C>,
+    mut seats: Vec<Seat<L>>,
+) -> Option<Finished<C>>
     requires ledger { L.all ≡ L.parts }
 {
-    if all_work(rt, alloc, &shared, &mut front, &mut back, crew) {
-        finish_four(alloc, shared, front, back)
-    } else {
-        None
+    match seats.pop() {
+        Some(last) => finish_with_last(shared, seats, last),
+        None => None,
     }
-}
-
-/// The same of four seats that are made, if there are so many.
-pub fn crew_leaves<L: Seating + Send + Sync, R: Threads + Wait + Sync>(
-    rt: &R,
-    alloc: Global,
-    shared: SharedService<L>,
-    crew: Crew<'_>,
-) -> Option<Finished<RecordedService>>
-    requires ledger { L.all ≡ L.parts }
-{
-    match (two_seats(rt, &shared), two_seats(rt, &shared)) {
-        (Some(front), Some(back)) => work_to_the_end(rt, alloc, shared, front, back, crew),
-        _ => None,
-    }
-}
-
-/// What one seat leaves that follows a script.
-pub fn one_leaves<L: Seating, R: Wait>(
-    rt: &R,
-    alloc: Global,
-    shared: SharedService<L>,
-    script: Script<'_>,
-) -> Result<Option<Finished<RecordedService>>, AllocError>
-    requires ledger { L.all ≡ L.parts }
-{
-    let Ok(mut seat) = shared.seat(rt) else {
-        return Ok(None);
-    };
-    if !follows(rt, alloc, &shared, &mut seat, script)? {
-        return Ok(None);
-    }
-    let seats = Vec::from_array(alloc, [seat])?;
-    Ok(finish(shared, seats))
 }

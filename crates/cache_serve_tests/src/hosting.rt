@@ -4,15 +4,15 @@ ghost use Rattle.std.specs.Prelude.{◌≡◌};
 use crate::devices::Plain;
 use crate::steps::finish;
 use cache_serve::{Hosted, host};
-use cache_shared::{LiveService, Seating, SharedService};
+use cache_shared::{Seat, Seating, SharedService, Stepping, Takings};
 use std::alloc::Global;
 use std::io::{Read, Write};
 use std::net::{Ipv4Addr, Net, SocketAddr, TcpListener, TcpStream};
 use std::sync::atomic::{AtomicU64, Ordering};
 use std::sync::{Arc, Wait};
+use std::thread;
 use std::thread::Threads;
 use std::time::Duration;
-use std::{io, thread};
 
 /// Two clients, and what has to come of them. The first has connected before the host begins; the second connects once the first has read,
 /// and sends once the first has gone.
@@ -34,50 +34,85 @@ pub struct Visit<'a> {
     pub told: u64,
 }
 
-/// What two clients read.
-type Replies = (Vec<u8>, Vec<u8>);
-
 /// Connects. No read waits longer than 20 seconds.
 fn connect<R: Net<Listener = TcpListener, Stream = TcpStream>>(
     rt: &R,
     addr: SocketAddr,
-) -> io::Result<TcpStream> {
-    let stream = TcpStream::connect(rt, addr)?;
-    let _ = stream.set_read_timeout(Some(Duration::from_secs(20)));
-    Ok(stream)
+) -> Option<TcpStream> {
+    match TcpStream::connect(rt, addr) {
+        Ok(stream) => {
+            let _ = stream.set_read_timeout(Some(Duration::from_secs(20)));
+            Some(stream)
+        }
+        Err(_) => None,
+    }
 }
 
-/// Sends a text, and reads so often or to the end. What cannot be sent or read is left out.
-fn talk(alloc: Global, stream: &mut TcpStream, text: &[u8], reads: u32) -> Vec<u8> {
-    let mut replies = Vec::new(alloc);
+/// Reads once. Answers whether there was anything.
+fn reads(stream: &mut TcpStream, replies: &mut Vec<u8>) -> bool {
     let mut buffer = [0u8; 64];
-    let _ = stream.write_all(text);
-    for _ in 0..reads {
-        match stream.read(&mut buffer) {
-            Ok(0) | Err(_) => break,
-            Ok(count) => {
-                let _ = replies.extend_from_slice(&buffer[..count]);
-            }
+    match stream.read(&mut buffer) {
+        Ok(0) | Err(_) => false,
+        Ok(count) => replies.extend_from_slice(&buffer[..count]).is_ok(),
+    }
+}
+
+/// Reads so often or to the end.
+fn read_often(stream: &mut TcpStream, replies: &mut Vec<u8>, times: u32) {
+    for _ in 0..times {
+        if !reads(stream, replies) {
+            return;
         }
     }
-    replies
 }
 
-/// The clients' part.
-fn talk_both<R: Net<Listener = TcpListener, Stream = TcpStream>>(
+/// Sends a text, and answers whether that is replied. What cannot be sent or read is left out.
+fn talks(alloc: Global, stream: &mut TcpStream, text: &[u8], reads: u32, wanted: &[u8]) -> bool {
+    let mut replies = Vec::new(alloc);
+    let _ = stream.write_all(text);
+    read_often(stream, &mut replies, reads);
+    replies.as_slice() == wanted
+}
+
+/// The second client's part, once the first has gone.
+fn talks_behind(
+    alloc: Global,
+    first: TcpStream,
+    stream: &mut TcpStream,
+    visit: &Visit<'_>,
+) -> bool {
+    drop(first);
+    talks(alloc, stream, visit.texts.1, visit.reads, visit.replies.1)
+}
+
+/// The clients' part. Answers whether both are replied so.
+fn both_talk<R: Net<Listener = TcpListener, Stream = TcpStream>>(
     rt: &R,
     alloc: Global,
     addr: SocketAddr,
     mut one: TcpStream,
     visit: &Visit<'_>,
-) -> Replies {
-    let first = talk(alloc, &mut one, visit.texts.0, visit.reads);
+) -> bool {
+    let is_first = talks(alloc, &mut one, visit.texts.0, visit.reads, visit.replies.0);
     match connect(rt, addr) {
-        Ok(mut two) => {
-            drop(one);
-            (first, talk(alloc, &mut two, visit.texts.1, visit.reads))
-        }
-        Err(_) => (first, Vec::new(alloc)),
+        Some(mut two) => talks_behind(alloc, one, &mut two, visit) && is_first,
+        None => false,
+    }
+}
+
+/// The address of a listener, which is made to block or not.
+fn address_of(listener: &TcpListener, blocks: bool) -> Option<SocketAddr> {
+    match listener.set_nonblocking(!blocks) {
+        Ok(()) => listener.local_addr().ok(),
+        Err(_) => None,
+    }
+}
+
+/// A listener with its address, if it has one.
+fn with_address(listener: TcpListener, blocks: bool) -> Option<(TcpListener, SocketAddr)> {
+    match address_of(&listener, blocks) {
+        Some(addr) => Some((listener, addr)),
+        None => None,
     }
 }
 
@@ -85,23 +120,34 @@ fn talk_both<R: Net<Listener = TcpListener, Stream = TcpStream>>(
 fn listen<R: Net<Listener = TcpListener, Stream = TcpStream>>(
     rt: &R,
     blocks: bool,
-) -> io::Result<(TcpListener, SocketAddr)> {
-    let listener = TcpListener::bind(rt, SocketAddr::from((Ipv4Addr::LOCALHOST, 0)))?;
-    listener.set_nonblocking(!blocks)?;
-    let addr = listener.local_addr()?;
-    Ok((listener, addr))
+) -> Option<(TcpListener, SocketAddr)> {
+    match TcpListener::bind(rt, SocketAddr::from((Ipv4Addr::LOCALHOST, 0))) {
+        Ok(listener) => with_address(listener, blocks),
+        Err(_) => None,
+    }
 }
 
-/// Hosts both clients. Answers what they read, and what the host leaves.
-fn host_both<L, R>(
+/// What came of two clients: whether they were replied so, and what the host leaves.
+#[derive(Drop)]
+struct Came<L: Seating> {
+    is_replied: bool,
+    hosted: Hosted<L>,
+}
+
+/// Hosts both clients, of whom the first has connected.
+fn host_with<L, C, R>(
     rt: R,
     alloc: Global,
-    shared: &SharedService<L, LiveService>,
+    shared: &SharedService<L, C>,
     devices: &Plain,
     visit: &Visit<'_>,
-) -> io::Result<(Replies, Hosted<L>)>
+    listener: &TcpListener,
+    addr: SocketAddr,
+    one: TcpStream,
+) -> Came<L>
 where
     L: Seating + Send + Sync + 'static,
+    C: Takings + Send + 'static,
     R: Net<Listener = TcpListener, Stream = TcpStream>
         + Threads
         + Wait
@@ -110,48 +156,112 @@ where
         + Sync
         + 'static,
 {
-    let (listener, addr) = listen(&rt, visit.blocks)?;
-    let one = connect(&rt, addr)?;
     let lent = &rt;
-    Ok(thread::join(
+    let (is_replied, hosted) = thread::join(
         lent,
-        move || talk_both(lent, alloc, addr, one, visit),
-        || host(rt, alloc, shared, 0, &listener, devices, visit.limit),
-    ))
+        move || both_talk(lent, alloc, addr, one, visit),
+        || host(rt, alloc, shared, 0, listener, devices, visit.limit),
+    );
+    Came { is_replied, hosted }
+}
+
+/// Hosts both clients at an address of a listener.
+fn host_both<L, C, R>(
+    rt: R,
+    alloc: Global,
+    shared: &SharedService<L, C>,
+    devices: &Plain,
+    visit: &Visit<'_>,
+    listener: &TcpListener,
+    addr: SocketAddr,
+) -> Option<Came<L>>
+where
+    L: Seating + Send + Sync + 'static,
+    C: Takings + Send + 'static,
+    R: Net<Listener = TcpListener, Stream = TcpStream>
+        + Threads
+        + Wait
+        + Copy
+        + Send
+        + Sync
+        + 'static,
+{
+    match connect(&rt, addr) {
+        Some(one) => Some(host_with(rt, alloc, shared, devices, visit, listener, addr, one)),
+        None => None,
+    }
+}
+
+/// The same on a port of this machine.
+fn host_here<L, C, R>(
+    rt: R,
+    alloc: Global,
+    shared: &SharedService<L, C>,
+    devices: &Plain,
+    visit: &Visit<'_>,
+) -> Option<Came<L>>
+where
+    L: Seating + Send + Sync + 'static,
+    C: Takings + Send + 'static,
+    R: Net<Listener = TcpListener, Stream = TcpStream>
+        + Threads
+        + Wait
+        + Copy
+        + Send
+        + Sync
+        + 'static,
+{
+    match listen(&rt, visit.blocks) {
+        Some((listener, addr)) => host_both(rt, alloc, shared, devices, visit, &listener, addr),
+        None => None,
+    }
+}
+
+/// How many inputs seats count together.
+fn count_of<L: Seating>(seats: &[Seat<L>]) -> u64 {
+    let mut count = 0u64;
+    for seat in seats {
+        count = count.saturating_add(seat.count());
+    }
+    count
 }
 
 /// Whether a host ends as it should, and as many events as wanted are behind it.
-fn ends_so<L: Seating>(
-    shared: SharedService<L, LiveService>,
+fn ends_so<L: Seating, C: Stepping>(
+    shared: SharedService<L, C>,
     hosted: Hosted<L>,
     visit: &Visit<'_>,
 ) -> bool
     requires ledger { L.all ≡ L.parts }
 {
     let Hosted { seats, failed } = hosted;
-    match finish(shared, seats) {
-        Some(finished) => failed == visit.is_early && visit.events <= finished.service.events(),
-        None => false,
-    }
+    let has_happened = visit.events <= count_of(seats.as_slice());
+    finish(shared, seats).is_some() && failed == visit.is_early && has_happened
 }
 
-/// Devices of a count that stands at 0.
-fn make_devices(alloc: Global) -> Option<Plain> {
-    match Arc::new(alloc, AtomicU64::new(0)) {
-        Ok(told) => Some(Plain { told }),
-        Err(_) => None,
-    }
+/// Whether two clients came to what their visit says.
+fn comes_so<L: Seating, C: Stepping>(
+    shared: SharedService<L, C>,
+    came: Came<L>,
+    visit: &Visit<'_>,
+) -> bool
+    requires ledger { L.all ≡ L.parts }
+{
+    let Came { is_replied, hosted } = came;
+    ends_so(shared, hosted, visit) && is_replied
 }
 
-/// Whether two clients come to what their visit says.
-pub fn is_visit_so<L, R>(
+/// Whether two clients come to what their visit says, with these devices.
+fn is_hosted_so<L, C, R>(
     rt: R,
     alloc: Global,
-    shared: SharedService<L, LiveService>,
+    shared: SharedService<L, C>,
+    devices: &Plain,
     visit: &Visit<'_>,
-) -> Option<bool>
+) -> bool
 where
     L: Seating + Send + Sync + 'static,
+    C: Takings + Send + 'static,
     R: Net<Listener = TcpListener, Stream = TcpStream>
         + Threads
         + Wait
@@ -161,13 +271,35 @@ where
         + 'static,
     requires ledger { L.all ≡ L.parts }
 {
-    let devices = make_devices(alloc)?;
-    let (replies, hosted) = host_both(rt, alloc, &shared, &devices, visit).ok()?;
-    let is_ended = ends_so(shared, hosted, visit);
-    Some(
-        is_ended
-            && replies.0.as_slice() == visit.replies.0
-            && replies.1.as_slice() == visit.replies.1
-            && devices.told.load(Ordering::SeqCst) == visit.told,
-    )
+    match host_here(rt, alloc, &shared, devices, visit) {
+        Some(came) => {
+            comes_so(shared, came, visit) && devices.told.load(Ordering::SeqCst) == visit.told
+        }
+        None => false,
+    }
+}
+
+/// Whether two clients come to what their visit says, with devices of a count that stands at 0.
+pub fn is_visit_so<L, C, R>(
+    rt: R,
+    alloc: Global,
+    shared: SharedService<L, C>,
+    visit: &Visit<'_>,
+) -> bool
+where
+    L: Seating + Send + Sync + 'static,
+    C: Takings + Send + 'static,
+    R: Net<Listener = TcpListener, Stream = TcpStream>
+        + Threads
+        + Wait
+        + Copy
+        + Send
+        + Sync
+        + 'static,
+    requires ledger { L.all ≡ L.parts }
+{
+    match Arc::new(alloc, AtomicU64::new(0)) {
+        Ok(told) => is_hosted_so(rt, alloc, shared, &Plain { told }, visit),
+        Err(_) => false,
+    }
 }

@@ -3,12 +3,14 @@ ghost use Rattle.std.specs.Prelude.{◌≡◌, IfSome};
 ghost use Rattle.cache_shared.specs.Events.{record_count};
 ghost use Rattle.cache_shared.specs.Recordings.{journals_in};
 
-use audit_model::{Config, Conn, EvictionPolicy, Input, Instant, Seq, Weight};
+use audit_model::{
+    Bytes, Config, Conn, EvictionPolicy, Input, Instant, LoadId, Outcome, Seq, Weight,
+};
 use cache_shared::LiveService;
 use cache_spaces::RecordedService;
 use rand_core::SeedableRng;
 use rand_xoshiro::Xoshiro256PlusPlus;
-use std::alloc::{AllocError, Global};
+use std::alloc::Global;
 
 /// A plain namespace.
 pub const PLAIN: Config = Config {
@@ -44,29 +46,74 @@ pub fn make_recorded(alloc: Global) -> Option<RecordedService>
     }
 }
 
-/// A feed of these bytes.
-pub fn feed(alloc: Global, conn: Conn, bytes: &[u8]) -> Result<Input, AllocError> {
-    let piece = Vec::from_slice(alloc, bytes)?;
-    Ok(Input::Feed {
-        conn,
-        piece: Seq::from_vec(piece),
-        moment: START,
-    })
+/// A copy of a text, on the second attempt if memory is refused.
+fn copy(alloc: Global, text: &[u8]) -> Option<Vec<u8>> {
+    match Vec::from_slice(alloc, text) {
+        Ok(copy) => Some(copy),
+        Err(_) => Vec::from_slice(alloc, text).ok(),
+    }
+}
+
+/// The same as what inputs have.
+pub fn bytes(alloc: Global, text: &[u8]) -> Option<Bytes> {
+    match copy(alloc, text) {
+        Some(copy) => Some(Seq::from_vec(copy)),
+        None => None,
+    }
+}
+
+/// A feed of this text.
+pub fn feed(alloc: Global, conn: Conn, text: &[u8]) -> Option<Input> {
+    match bytes(alloc, text) {
+        Some(piece) => Some(Input::Feed {
+            conn,
+            piece,
+            moment: START,
+        }),
+        None => None,
+    }
+}
+
+/// A text in which each `#` stands for a key.
+fn copy_by_key(alloc: Global, text: &[u8], key: u8) -> Option<Bytes> {
+    match copy(alloc, text) {
+        Some(mut copy) => {
+            for byte in copy.as_mut_slice() {
+                if *byte == b'#' {
+                    *byte = key;
+                }
+            }
+            Some(Seq::from_vec(copy))
+        }
+        None => None,
+    }
 }
 
 /// A feed of a text in which each `#` stands for a key.
-pub fn feed_by_key(alloc: Global, conn: Conn, text: &[u8], key: u8) -> Result<Input, AllocError> {
-    let mut piece = Vec::from_slice(alloc, text)?;
-    for byte in piece.as_mut_slice() {
-        if *byte == b'#' {
-            *byte = key;
-        }
+pub fn feed_by_key(alloc: Global, conn: Conn, text: &[u8], key: u8) -> Option<Input> {
+    match copy_by_key(alloc, text, key) {
+        Some(piece) => Some(Input::Feed {
+            conn,
+            piece,
+            moment: START,
+        }),
+        None => None,
     }
-    Ok(Input::Feed {
-        conn,
-        piece: Seq::from_vec(piece),
-        moment: START,
-    })
+}
+
+/// An answer to a load of the first namespace: the value `v`.
+pub fn answer(alloc: Global, number: u64) -> Option<Input> {
+    match bytes(alloc, b"v") {
+        Some(value) => Some(Input::Answer {
+            load: LoadId {
+                namespace: 0,
+                number,
+            },
+            outcome: Outcome::Value(value, None),
+            moment: START,
+        }),
+        None => None,
+    }
 }
 
 /// A connection of the first namespace.

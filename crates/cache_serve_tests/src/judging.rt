@@ -3,8 +3,7 @@ use crate::crews::{Crew, Script};
 use crate::inputs::{PLAIN, conn, feed};
 use audit_laws::{Receipt, receipts_stand};
 use audit_model::{Input, Transcript};
-use cache_shared::Finished;
-use cache_spaces::RecordedService;
+use cache_shared::{Finished, Stepping};
 use moka_audit::{Verdict, audit};
 use std::alloc::Global;
 
@@ -32,50 +31,47 @@ fn marks_all(seen: &mut [bool; MOST], receipts: &[Receipt], records: u64) -> boo
     true
 }
 
-/// A receipt with another input: another feed for a feed, and else a closing of a connection that is not there.
-fn change(alloc: Global, receipt: Receipt) -> Option<Receipt> {
-    let input = match receipt.input {
-        Input::Feed { conn, .. } => feed(alloc, conn, b"GET b\n").ok()?,
-        _ => Input::Close { conn: conn(1000) },
-    };
-    Some(Receipt {
-        namespace: receipt.namespace,
-        number: receipt.number,
-        input,
-        output: receipt.output,
-    })
+/// Another input: another feed for a feed, and else a closing of a connection that is not there.
+fn other_than(alloc: Global, input: &Input) -> Option<Input> {
+    match input {
+        Input::Feed { conn, .. } => feed(alloc, *conn, b"GET b\n"),
+        _ => Some(Input::Close { conn: conn(1000) }),
+    }
 }
 
-/// Whether receipts stand once the last one is changed.
-fn stand_changed(alloc: Global, journal: &Transcript, mut receipts: Vec<Receipt>) -> Option<bool> {
-    let last = receipts.pop()?;
-    let changed = change(alloc, last)?;
-    receipts.push(changed).ok()?;
-    Some(receipts_stand(journal, receipts.as_slice()))
+/// Puts another input in a receipt, if there is memory for it.
+fn changes(alloc: Global, receipt: &mut Receipt) -> bool {
+    match other_than(alloc, &receipt.input) {
+        Some(other) => {
+            receipt.input = other;
+            true
+        }
+        None => false,
+    }
+}
+
+/// Changes the last receipt.
+fn changes_last(alloc: Global, receipts: &mut [Receipt]) -> bool {
+    match receipts.last_mut() {
+        Some(last) => changes(alloc, last),
+        None => false,
+    }
 }
 
 /// Whether receipts stand in the order turned round. They are turned back.
-fn stand_reversed(journal: &Transcript, receipts: &mut Vec<Receipt>) -> bool {
+fn stand_reversed(journal: &Transcript, receipts: &mut [Receipt]) -> bool {
     receipts.reverse();
-    let stand = receipts_stand(journal, receipts.as_slice());
+    let stand = receipts_stand(journal, receipts);
     receipts.reverse();
     stand
 }
 
 /// Whether receipts stand, and do not in the order turned round or with the last one changed.
-fn stand_so(alloc: Global, journal: &Transcript, mut receipts: Vec<Receipt>) -> bool {
-    let stand = receipts_stand(journal, receipts.as_slice());
-    let reversed = stand_reversed(journal, &mut receipts);
-    let changed = stand_changed(alloc, journal, receipts);
-    stand && !reversed && changed == Some(false)
-}
-
-/// The last list, if there is one.
-fn last_of(lists: Option<Vec<Vec<Receipt>>>) -> Option<Vec<Receipt>> {
-    match lists {
-        Some(mut lists) => lists.pop(),
-        None => None,
-    }
+fn stand_so(alloc: Global, journal: &Transcript, receipts: &mut [Receipt]) -> bool {
+    receipts_stand(journal, receipts)
+        && !stand_reversed(journal, receipts)
+        && changes_last(alloc, receipts)
+        && !receipts_stand(journal, receipts)
 }
 
 /// Whether the receipts of a seat are right, and none of another's is among them.
@@ -83,50 +79,79 @@ fn is_right(
     alloc: Global,
     journal: &Transcript,
     seen: &mut [bool; MOST],
-    lists: Option<Vec<Vec<Receipt>>>,
+    receipts: &mut [Receipt],
     script: &Script<'_>,
 ) -> bool {
-    match last_of(lists) {
-        Some(receipts) if !receipts.is_empty() => {
-            let is_marked = receipts.len() as u64 == script.count
-                && marks_all(seen, receipts.as_slice(), journal.records.len() as u64);
-            stand_so(alloc, journal, receipts) && is_marked
-        }
-        _ => script.count == 0,
+    if receipts.is_empty() {
+        script.count == 0
+    } else {
+        receipts.len() as u64 == script.count
+            && marks_all(seen, receipts, journal.records.len() as u64)
+            && stand_so(alloc, journal, receipts)
     }
 }
 
-/// Whether the receipts of each seat are right.
+/// The same of the receipts of a namespace, if there are any.
+fn is_list_right(
+    alloc: Global,
+    journal: &Transcript,
+    seen: &mut [bool; MOST],
+    lists: &mut [Vec<Receipt>],
+    script: &Script<'_>,
+) -> bool {
+    match lists {
+        [receipts] => is_right(alloc, journal, seen, receipts.as_mut_slice(), script),
+        [] => script.count == 0,
+        _ => false,
+    }
+}
+
+/// Whether the receipts of each of four seats are right.
 fn are_right(
     alloc: Global,
     journal: &Transcript,
-    mut seats: Vec<Vec<Vec<Receipt>>>,
+    seen: &mut [bool; MOST],
+    seats: &mut [Vec<Vec<Receipt>>],
     crew: &Crew<'_>,
 ) -> bool {
-    let mut seen = [false; MOST];
-    let scripts = [crew.back.1, crew.back.0, crew.front.1, crew.front.0];
-    for script in &scripts {
-        if !is_right(alloc, journal, &mut seen, seats.pop(), script) {
-            return false;
+    match seats {
+        [one, two, three, four] => {
+            is_list_right(alloc, journal, seen, one.as_mut_slice(), &crew[0])
+                && is_list_right(alloc, journal, seen, two.as_mut_slice(), &crew[1])
+                && is_list_right(alloc, journal, seen, three.as_mut_slice(), &crew[2])
+                && is_list_right(alloc, journal, seen, four.as_mut_slice(), &crew[3])
         }
+        _ => false,
     }
-    true
 }
 
-/// Whether the journal that a crew leaves obeys and has so many records, and the receipts are right.
-pub fn is_crew_right(
+/// Whether a journal obeys and has so many records, and the receipts are right.
+fn is_journal_right(
     alloc: Global,
-    finished: Finished<RecordedService>,
+    journal: &Transcript,
+    seats: &mut [Vec<Vec<Receipt>>],
     crew: &Crew<'_>,
     records: usize,
 ) -> bool {
-    let Finished { service, receipts } = finished;
+    let mut seen = [false; MOST];
+    are_right(alloc, journal, &mut seen, seats, crew)
+        && journal.records.len() == records
+        && audit(alloc, &PLAIN, journal) == Verdict::Yes
+}
+
+/// The same of what a crew leaves.
+pub fn is_crew_right<C: Stepping>(
+    alloc: Global,
+    finished: Finished<C>,
+    crew: &Crew<'_>,
+    records: usize,
+) -> bool {
+    let Finished {
+        service,
+        mut receipts,
+    } = finished;
     match service.journal(0) {
-        Ok(journal) => {
-            are_right(alloc, journal, receipts, crew)
-                && journal.records.len() == records
-                && audit(alloc, &PLAIN, journal) == Verdict::Yes
-        }
+        Ok(journal) => is_journal_right(alloc, journal, receipts.as_mut_slice(), crew, records),
         Err(_) => false,
     }
 }

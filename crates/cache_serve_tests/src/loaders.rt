@@ -1,6 +1,6 @@
 //! Loaders that are held, and writers that fail.
-use crate::inputs::conn;
-use audit_model::{Bytes, Outcome, Seq};
+use crate::inputs::{bytes, conn};
+use audit_model::Outcome;
 use cache_run::Loader;
 use cache_shared::{Seating, SharedService, Takings};
 use std::alloc::Global;
@@ -71,22 +71,20 @@ impl<L: Seating, C: Takings, R: Wait + Clock> Held<'_, L, C, R> {
     }
 }
 
-/// A text, where there is memory for it.
-fn text_of(alloc: Global, bytes: &[u8]) -> Option<Bytes> {
-    match Vec::from_slice(alloc, bytes) {
-        Ok(text) => Some(Seq::from_vec(text)),
-        Err(_) => None,
+/// A value with this text.
+fn value_of(alloc: Global, text: &[u8]) -> Option<Outcome> {
+    match bytes(alloc, text) {
+        Some(value) => Some(Outcome::Value(value, None)),
+        None => None,
     }
 }
 
-/// A value with this text.
-pub fn value_of(alloc: Global, bytes: &[u8]) -> Option<Outcome> {
-    Some(Outcome::Value(text_of(alloc, bytes)?, None))
-}
-
 /// A fault that says this text.
-fn fault_of(alloc: Global, bytes: &[u8]) -> Option<Outcome> {
-    Some(Outcome::Fault(text_of(alloc, bytes)?))
+fn fault_of(alloc: Global, text: &[u8]) -> Option<Outcome> {
+    match bytes(alloc, text) {
+        Some(text) => Some(Outcome::Fault(text)),
+        None => None,
+    }
 }
 
 /// What is found for a key by a loader that was asked so often before.

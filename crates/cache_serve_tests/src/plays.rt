@@ -3,14 +3,15 @@ ghost use Rattle.std.specs.Prelude.{◌≡◌};
 ghost use Rattle.cache_shared.specs.Events.{record_count};
 ghost use Rattle.cache_shared.specs.Recordings.{journals_in};
 
-use crate::crews::{Crew, Script, crew_leaves, one_leaves};
+use crate::crews::{Crew, Script, all_work, finish_at_last, follows};
 use crate::hosting::{Visit, is_visit_so};
 use crate::inputs::{make_live, make_recorded};
 use crate::judging::is_crew_right;
-use crate::serving::{Row, is_live_so, is_recorded_so, serve_both};
-use crate::steps::two_seats;
+use crate::serving::{Row, is_journal_so, is_live_so, serves_so};
+use crate::steps::{make_seats, was_held};
 use crate::waiting::is_answered;
-use cache_shared::{Finished, LiveService, Seating, SharedService, Stepping};
+use audit_laws::Receipt;
+use cache_shared::{Finished, LiveService, Seat, Seating, SharedService, Stepping, Takings};
 use cache_spaces::RecordedService;
 use std::alloc::Global;
 use std::marker::Brand;
@@ -31,15 +32,15 @@ pub enum Live<'a> {
     Await,
 }
 
-/// What is played over one that keeps its journal.
+/// What is played with seats of a shared form.
 #[derive(Clone, Copy)]
-pub enum Recorded<'a> {
+pub enum Seated<'a> {
     /// Two connections over memory.
     Serve(&'a Row<'a>),
     /// Four threads, and how many records they leave.
-    Crew(Crew<'a>, usize),
+    Crew(&'a Crew<'a>, usize),
     /// One seat, where memory may be refused.
-    One(Script<'a>),
+    One(&'a Script<'a>),
 }
 
 /// A shared form, on the second attempt if memory is refused.
@@ -60,17 +61,146 @@ fn share<L: Seating, C: Stepping>(
 }
 
 /// Whether what one awaits is answered by another.
-fn is_awaited<L, R>(rt: &R, alloc: Global, shared: &SharedService<L, LiveService>) -> bool
+fn is_awaited<L, C, R>(rt: &R, alloc: Global, shared: &SharedService<L, C>) -> bool
 where
     L: Seating + Send + Sync + 'static,
+    C: Takings + Send + 'static,
     R: Threads + Wait + Clock + Sync,
 {
-    match two_seats(rt, shared) {
-        Some(mut seats) => is_answered(rt, alloc, shared, &mut seats),
+    match make_seats(rt, alloc, shared, 2) {
+        Some(mut seats) => is_answered(rt, alloc, shared, seats.as_mut_slice()),
         None => false,
     }
 }
 
+/// How many seats a play wants.
+fn seats_of(play: Seated<'_>) -> usize {
+    match play {
+        Seated::Serve(_) => 2,
+        Seated::Crew(_, _) => 4,
+        Seated::One(_) => 1,
+    }
+}
+
+/// Whether the first of these seats follows a script, unless memory was refused for a command, which is then held back.
+fn first_follows<L: Seating, C: Takings, R: Wait>(
+    rt: &R,
+    alloc: Global,
+    shared: &SharedService<L, C>,
+    seats: &mut [Seat<L>],
+    script: &Script<'_>,
+) -> bool {
+    match seats {
+        [seat, ..] => follows(rt, alloc, shared, seat, script) || was_held(seat),
+        [] => false,
+    }
+}
+
+/// Whether a play comes out so with these seats.
+fn do_so<L, C, R>(
+    rt: &R,
+    alloc: Global,
+    shared: &SharedService<L, C>,
+    seats: &mut [Seat<L>],
+    play: Seated<'_>,
+) -> bool
+where
+    L: Seating + Send + Sync + 'static,
+    C: Takings + Send + 'static,
+    R: Threads + Wait + Clock + Sync,
+{
+    match play {
+        Seated::Serve(row) => serves_so(rt, alloc, shared, seats, row),
+        Seated::Crew(crew, _) => all_work(rt, alloc, shared, seats, crew),
+        Seated::One(script) => first_follows(rt, alloc, shared, seats, script),
+    }
+}
+
+/// What these seats leave, where a play comes out so.
+fn leave<L, C, R>(
+    rt: &R,
+    alloc: Global,
+    shared: SharedService<L, C>,
+    mut seats: Vec<Seat<L>>,
+    play: Seated<'_>,
+) -> Option<Finished<C>>
+where
+    L: Seating + Send + Sync + 'static,
+    C: Takings + Send + 'static,
+    R: Threads + Wait + Clock + Sync,
+    requires ledger { L.all ≡ L.parts }
+{
+    if do_so(rt, alloc, &shared, seats.as_mut_slice(), play) {
+        finish_at_last(shared, seats)
+    } else {
+        None
+    }
+}
+
+/// What is left of a play over a shared form that comes out so.
+fn leaves<L, C, R>(
+    rt: &R,
+    alloc: Global,
+    shared: SharedService<L, C>,
+    play: Seated<'_>,
+) -> Option<Finished<C>>
+where
+    L: Seating + Send + Sync + 'static,
+    C: Takings + Send + 'static,
+    R: Threads + Wait + Clock + Sync,
+    requires ledger { L.all ≡ L.parts }
+{
+    match make_seats(rt, alloc, &shared, seats_of(play)) {
+        Some(seats) => leave(rt, alloc, shared, seats, play),
+        None => None,
+    }
+}
+
+/// Whether what is left of two connections is that of their row.
+fn is_served<L, R>(
+    rt: &R,
+    alloc: Global,
+    shared: SharedService<L, LiveService>,
+    row: &Row<'_>,
+) -> bool
+where
+    L: Seating + Send + Sync + 'static,
+    R: Threads + Wait + Clock + Sync,
+    requires ledger { L.all ≡ L.parts }
+{
+    match leaves(rt, alloc, shared, Seated::Serve(row)) {
+        Some(finished) => is_live_so(&finished.service, row),
+        None => false,
+    }
+}
+
+/// Whether a play comes out so over a shared form.
+fn is_live_played<L, R>(
+    rt: R,
+    alloc: Global,
+    shared: SharedService<L, LiveService>,
+    play: Live<'_>,
+) -> bool
+where
+    L: Seating + Send + Sync + 'static,
+    R: Net<Listener = TcpListener, Stream = TcpStream>
+        + Threads
+        + Wait
+        + Clock
+        + Copy
+        + Send
+        + Sync
+        + 'static,
+    requires ledger { L.all ≡ L.parts }
+{
+    match play {
+        Live::Serve(row) => is_served(&rt, alloc, shared, row),
+        Live::Host(visit) => is_visit_so(rt, alloc, shared, visit),
+        Live::Await => is_awaited(&rt, alloc, &shared),
+    }
+}
+
+/// The same over a service.
 fn play_live<L, R>(
     rt: R,
     alloc: Global,
@@ -78,7 +208,7 @@ fn play_live<L, R>(
     blank: Blank,
     parts: u64,
     play: Live<'_>,
-) -> Option<bool>
+) -> bool
 where
     L: Seating + Send + Sync + 'static,
     R: Net<Listener = TcpListener, Stream = TcpStream>
@@ -93,16 +223,15 @@ where
     requires name { blank.name ≡ L.name }
     requires parts { (blank.parts ≡ L.parts) × (L.all ≡ L.parts) × (parts ≡ L.parts) }
 {
-    let shared: SharedService<L, LiveService> = share(alloc, core, blank, parts)?;
-    match play {
-        Live::Serve(row) => Some(is_live_so(serve_both(&rt, alloc, shared, row), row)),
-        Live::Host(visit) => is_visit_so(rt, alloc, shared, visit),
-        Live::Await => Some(is_awaited(&rt, alloc, &shared)),
+    let shared: Option<SharedService<L, LiveService>> = share(alloc, core, blank, parts);
+    match shared {
+        Some(shared) => is_live_played(rt, alloc, shared, play),
+        None => false,
     }
 }
 
 /// Whether a play comes out so over a service that keeps no journal, with so many parts of a ledger.
-pub fn over_live<R>(rt: R, alloc: Global, parts: u64, play: Live<'_>) -> Option<bool>
+pub fn over_live<R>(rt: R, alloc: Global, parts: u64, play: Live<'_>) -> bool
 where
     R: Net<Listener = TcpListener, Stream = TcpStream>
         + Threads
@@ -113,57 +242,90 @@ where
         + Sync
         + 'static,
 {
-    let core = make_live(alloc)?;
-    play_live::<Brand, R>(rt, alloc, core, Blank::new(parts), parts, play)
-}
-
-/// Whether a journal has as many records as a seat counts inputs.
-fn are_recorded(finished: Option<Finished<RecordedService>>, script: Script<'_>) -> bool {
-    match finished {
-        Some(finished) => {
-            matches!(finished.service.journal(0), Ok(journal) if journal.records.len() as u64 == script.count)
-        }
+    match make_live(alloc) {
+        Some(core) => play_live::<Brand, R>(rt, alloc, core, Blank::new(parts), parts, play),
         None => false,
     }
 }
 
+/// How many receipts the one seat has.
+fn count_of(seats: &[Vec<Vec<Receipt>>]) -> usize {
+    match seats {
+        [lists] => match lists.as_slice() {
+            [receipts] => receipts.len(),
+            _ => 0,
+        },
+        _ => 0,
+    }
+}
+
+/// Whether the journal has a record for each receipt of the one seat.
+fn are_recorded<C: Stepping>(finished: Finished<C>) -> bool {
+    match finished.service.journal(0) {
+        Ok(journal) => journal.records.len() == count_of(finished.receipts.as_slice()),
+        Err(_) => false,
+    }
+}
+
+/// Whether the journal of what is left is that of its play.
+fn is_left_so<C: Stepping>(alloc: Global, finished: Finished<C>, play: Seated<'_>) -> bool {
+    match play {
+        Seated::Serve(_) => is_journal_so(alloc, finished),
+        Seated::Crew(crew, records) => is_crew_right(alloc, finished, crew, records),
+        Seated::One(_) => are_recorded(finished),
+    }
+}
+
+/// Whether a play comes out so over a shared form.
+fn is_recorded_played<L, C, R>(
+    rt: &R,
+    alloc: Global,
+    shared: SharedService<L, C>,
+    play: Seated<'_>,
+) -> bool
+where
+    L: Seating + Send + Sync + 'static,
+    C: Takings + Send + 'static,
+    R: Threads + Wait + Clock + Sync,
+    requires ledger { L.all ≡ L.parts }
+{
+    match leaves(rt, alloc, shared, play) {
+        Some(finished) => is_left_so(alloc, finished, play),
+        None => false,
+    }
+}
+
+/// The same over a service. `None` where memory for the shared form is wanting.
 fn play_recorded<L, R>(
-    rt: R,
+    rt: &R,
     alloc: Global,
     core: RecordedService,
     blank: Blank,
     parts: u64,
-    play: Recorded<'_>,
+    play: Seated<'_>,
 ) -> Option<bool>
 where
     L: Seating + Send + Sync + 'static,
-    R: Threads + Wait + Clock + Copy + Send + Sync + 'static,
+    R: Threads + Wait + Clock + Sync,
     requires empty { record_count (journals_in core) ≡ 0 }
     requires name { blank.name ≡ L.name }
     requires parts { (blank.parts ≡ L.parts) × (L.all ≡ L.parts) × (parts ≡ L.parts) }
 {
-    let shared: SharedService<L> = share(alloc, core, blank, parts)?;
-    match play {
-        Recorded::Serve(row) => {
-            Some(is_recorded_so(alloc, serve_both(&rt, alloc, shared, row), row))
-        }
-        Recorded::Crew(crew, records) => match crew_leaves(&rt, alloc, shared, crew) {
-            Some(finished) => Some(is_crew_right(alloc, finished, &crew, records)),
-            None => None,
-        },
-        Recorded::One(script) => match one_leaves(&rt, alloc, shared, script) {
-            Ok(finished) => Some(are_recorded(finished, script)),
-            Err(_) => None,
-        },
+    let shared: Option<SharedService<L>> = share(alloc, core, blank, parts);
+    match shared {
+        Some(shared) => Some(is_recorded_played(rt, alloc, shared, play)),
+        None => None,
     }
 }
 
-/// Whether a play comes out so over a service that keeps its journal, with so many parts of a ledger. `None` where seats or memory are
-/// wanting.
-pub fn over_recorded<R>(rt: R, alloc: Global, parts: u64, play: Recorded<'_>) -> Option<bool>
+/// Whether a play comes out so over a service that keeps its journal, with so many parts of a ledger. `None` where memory for the service
+/// is wanting.
+pub fn over_recorded<R>(rt: &R, alloc: Global, parts: u64, play: Seated<'_>) -> Option<bool>
 where
-    R: Threads + Wait + Clock + Copy + Send + Sync + 'static,
+    R: Threads + Wait + Clock + Sync,
 {
-    let core = make_recorded(alloc)?;
-    play_recorded::<Brand, R>(rt, alloc, core, Blank::new(parts), parts, play)
+    match make_recorded(alloc) {
+        Some(core) => play_recorded::<Brand, R>(rt, alloc, core, Blank::new(parts), parts, play),
+        None => None,
+    }
 }

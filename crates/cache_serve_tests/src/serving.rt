@@ -4,12 +4,10 @@ ghost use Rattle.std.specs.Prelude.{◌≡◌};
 use crate::devices::StillClock;
 use crate::inputs::{PLAIN, conn};
 use crate::loaders::{Held, Hold, News, Page};
-use crate::steps::{finish, two_seats};
 use audit_model::{Closing, Transcript};
 use cache_run::{RunError, Watched};
 use cache_serve::serve;
-use cache_shared::{Finished, LiveService, Seat, Seating, SharedService, Takings};
-use cache_spaces::RecordedService;
+use cache_shared::{Finished, LiveService, Seat, Seating, SharedService, Stepping, Takings};
 use moka_audit::{Verdict, audit};
 use std::alloc::Global;
 use std::sync::Wait;
@@ -36,135 +34,146 @@ pub struct Row<'a> {
     pub counts: Option<(u64, u64)>,
 }
 
-/// What a connection was written, and how it ended.
-#[derive(Drop)]
-pub struct Told {
-    pub text: Vec<u8>,
-    pub result: Result<(), RunError>,
+/// What one of the two sends, how much room its writer has, and what has to come of it.
+#[derive(Clone, Copy)]
+struct Part<'a> {
+    text: &'a [u8],
+    hold: Hold,
+    room: usize,
+    replies: &'a [u8],
+    ended: Result<(), RunError>,
 }
 
-/// What two connections were told, how many inputs their seats count, and how often a loader was asked.
-#[derive(Drop)]
-pub struct Heard {
-    pub told: (Told, Told),
-    pub counts: (u64, u64),
-    pub asked: u64,
+fn first_part<'a>(row: &Row<'a>) -> Part<'a> {
+    Part {
+        text: row.texts.0,
+        hold: row.hold,
+        room: row.room,
+        replies: row.replies.0,
+        ended: row.ended,
+    }
 }
 
-/// Serves a connection over memory, with a loader that is held and a writer of so much room.
+fn second_part<'a>(row: &Row<'a>) -> Part<'a> {
+    Part {
+        text: row.texts.1,
+        hold: row.hold,
+        room: 1000,
+        replies: row.replies.1,
+        ended: Ok(()),
+    }
+}
+
+/// Serves a connection over memory, with a loader that is held, and answers how it ended.
+fn attend_over<L: Seating, C: Takings, R: Wait + Clock>(
+    rt: &R,
+    alloc: Global,
+    shared: &SharedService<L, C>,
+    seat: &mut Seat<L>,
+    page: &mut Page<'_>,
+    part: Part<'_>,
+) -> Result<(), RunError> {
+    let mut loader = Held {
+        rt,
+        alloc,
+        shared,
+        news: page.news,
+        hold: part.hold,
+    };
+    serve(
+        rt,
+        alloc,
+        shared,
+        seat,
+        0,
+        &mut Watched::new(part.text),
+        &mut Watched::new(page),
+        &mut StillClock,
+        &mut loader,
+    )
+}
+
+/// Whether the replies were written.
+fn is_page(page: &Page<'_>, part: Part<'_>) -> bool {
+    page.text.as_slice() == part.replies
+}
+
+/// Whether a connection is written what its part says, and ends so.
 fn attend<L: Seating, C: Takings, R: Wait + Clock>(
     rt: &R,
     alloc: Global,
     shared: &SharedService<L, C>,
     seat: &mut Seat<L>,
     news: &News,
-    text: &[u8],
-    hold: Hold,
-    room: usize,
-) -> Told {
-    let mut loader = Held {
-        rt,
-        alloc,
-        shared,
-        news,
-        hold,
-    };
+    part: Part<'_>,
+) -> bool {
     let mut page = Page {
         text: Vec::new(alloc),
-        room,
+        room: part.room,
         news,
     };
-    let mut reader = Watched::new(text);
-    let mut writer = Watched::new(&mut page);
-    let result = serve(
-        rt,
-        alloc,
-        shared,
-        seat,
-        0,
-        &mut reader,
-        &mut writer,
-        &mut StillClock,
-        &mut loader,
-    );
-    let Page { text, .. } = page;
-    Told { text, result }
+    attend_over(rt, alloc, shared, seat, &mut page, part) == part.ended && is_page(&page, part)
 }
 
-/// Serves both, each on a thread of its own.
+/// Serves both, each on a thread of its own. Answers whether all came out so, and loads were asked for as often as the row says.
 fn attend_both<L: Seating + Send + Sync, C: Takings + Send, R: Threads + Wait + Clock + Sync>(
     rt: &R,
     alloc: Global,
     shared: &SharedService<L, C>,
-    seats: &mut (Seat<L>, Seat<L>),
+    one: &mut Seat<L>,
+    two: &mut Seat<L>,
     news: &News,
     row: &Row<'_>,
-) -> (Told, Told) {
-    let (one, two) = seats;
-    thread::join(
+) -> bool {
+    let (first, second) = thread::join(
         rt,
-        || attend(
-            rt,
-            alloc,
-            shared,
-            one,
-            news,
-            row.texts.0,
-            row.hold,
-            row.room,
-        ),
-        || attend(rt, alloc, shared, two, news, row.texts.1, row.hold, 1000),
-    )
+        || attend(rt, alloc, shared, one, news, first_part(row)),
+        || attend(rt, alloc, shared, two, news, second_part(row)),
+    );
+    first && second && news.asked.load(Ordering::SeqCst) == row.asked
 }
 
-/// What two seats leave, and what their connections heard.
-fn finish_both<L: Seating, C: Takings>(
-    alloc: Global,
-    shared: SharedService<L, C>,
-    both: (Seat<L>, Seat<L>),
-    told: (Told, Told),
-    asked: u64,
-) -> Option<(Finished<C>, Heard)>
-    requires ledger { L.all ≡ L.parts }
-{
-    let heard = Heard {
-        told,
-        counts: (both.0.count(), both.1.count()),
-        asked,
-    };
-    let seats = Vec::from_array(alloc, [both.0, both.1]).ok()?;
-    match finish(shared, seats) {
-        Some(finished) => Some((finished, heard)),
-        None => None,
-    }
-}
-
-/// Serves the two connections of a row to their end.
-pub fn serve_both<L: Seating + Send + Sync, C: Takings + Send, R: Threads + Wait + Clock + Sync>(
+/// The same, while nothing has come about yet.
+fn attend_anew<L: Seating + Send + Sync, C: Takings + Send, R: Threads + Wait + Clock + Sync>(
     rt: &R,
     alloc: Global,
-    shared: SharedService<L, C>,
+    shared: &SharedService<L, C>,
+    one: &mut Seat<L>,
+    two: &mut Seat<L>,
     row: &Row<'_>,
-) -> Option<(Finished<C>, Heard)>
-    requires ledger { L.all ≡ L.parts }
-{
+) -> bool {
     let news = News {
         asked: AtomicU64::new(0),
         answered: AtomicU64::new(0),
     };
-    let mut both = two_seats(rt, &shared)?;
-    let told = attend_both(rt, alloc, &shared, &mut both, &news, row);
-    finish_both(alloc, shared, both, told, news.asked.load(Ordering::SeqCst))
+    attend_both(rt, alloc, shared, one, two, &news, row)
 }
 
-/// Whether two connections heard what their row says.
-fn is_heard(heard: &Heard, row: &Row<'_>) -> bool {
-    heard.told.0.text.as_slice() == row.replies.0
-        && heard.told.1.text.as_slice() == row.replies.1
-        && heard.told.0.result == row.ended
-        && heard.told.1.result.is_ok()
-        && heard.asked == row.asked
-        && (row.counts.is_none() || row.counts == Some(heard.counts))
+/// The same, and the seats count as many inputs as the row says.
+fn attend_row<L: Seating + Send + Sync, C: Takings + Send, R: Threads + Wait + Clock + Sync>(
+    rt: &R,
+    alloc: Global,
+    shared: &SharedService<L, C>,
+    one: &mut Seat<L>,
+    two: &mut Seat<L>,
+    row: &Row<'_>,
+) -> bool {
+    attend_anew(rt, alloc, shared, one, two, row)
+        && (row.counts.is_none() || row.counts == Some((one.count(), two.count())))
+}
+
+/// The same with these seats, if they are two.
+pub fn serves_so<L: Seating + Send + Sync, C: Takings + Send, R: Threads + Wait + Clock + Sync>(
+    rt: &R,
+    alloc: Global,
+    shared: &SharedService<L, C>,
+    seats: &mut [Seat<L>],
+    row: &Row<'_>,
+) -> bool {
+    match seats {
+        [one, two] => attend_row(rt, alloc, shared, one, two, row),
+        _ => false,
+    }
 }
 
 /// Whether both connections are closed for that, where that is looked at.
@@ -173,37 +182,20 @@ fn are_closed(service: &LiveService, closing: Option<Closing>) -> bool {
         || service.closed(conn(1)) == Ok(closing) && service.closed(conn(2)) == Ok(closing)
 }
 
-/// Whether a row comes out so on a service that keeps no journal, and no load is under way.
-pub fn is_live_so(live: Option<(Finished<LiveService>, Heard)>, row: &Row<'_>) -> bool {
-    match live {
-        Some((finished, heard)) => {
-            is_heard(&heard, row)
-                && finished.service.service().loads_open(0) == Ok(0)
-                && are_closed(&finished.service, row.closing)
-        }
-        None => false,
-    }
+/// Whether no load is under way in what a row leaves, and both connections are closed as it says.
+pub fn is_live_so(service: &LiveService, row: &Row<'_>) -> bool {
+    service.service().loads_open(0) == Ok(0) && are_closed(service, row.closing)
 }
 
-/// Whether the one journal has five records and is judged to obey.
-fn is_journal(alloc: Global, journals: &[Transcript]) -> bool {
-    match journals {
-        [journal] => journal.records.len() == 5 && audit(alloc, &PLAIN, journal) == Verdict::Yes,
-        _ => false,
-    }
+/// Whether a journal has five records and is judged to obey.
+fn obeys(alloc: Global, journal: &Transcript) -> bool {
+    journal.records.len() == 5 && audit(alloc, &PLAIN, journal) == Verdict::Yes
 }
 
-/// Whether a row comes out so on a service that keeps its journal.
-pub fn is_recorded_so(
-    alloc: Global,
-    recorded: Option<(Finished<RecordedService>, Heard)>,
-    row: &Row<'_>,
-) -> bool {
-    match recorded {
-        Some((finished, heard)) => {
-            let journals = finished.service.into_journals();
-            is_heard(&heard, row) && is_journal(alloc, journals.as_slice())
-        }
-        None => false,
+/// Whether the journal of what is left does.
+pub fn is_journal_so<C: Stepping>(alloc: Global, finished: Finished<C>) -> bool {
+    match finished.service.journal(0) {
+        Ok(journal) => obeys(alloc, journal),
+        Err(_) => false,
     }
 }

@@ -4,25 +4,80 @@ ghost use Rattle.std.specs.Prelude.{◌≡◌};
 use crate::inputs::feed;
 use audit_laws::Output;
 use audit_model::{Conn, Input, ServiceError};
-use cache_shared::{Finished, Replies, Seat, Seating, SharedService, Stepping};
-use cache_spaces::{RecordedService, Refusal};
-use std::alloc::{AllocError, Global};
+use cache_shared::{Finished, Seat, Seating, SharedService, Stepping, Takings};
+use cache_spaces::Refusal;
+use std::alloc::Global;
 use std::sync::Wait;
 
-/// Two seats of a shared service.
-pub fn two_seats<L: Seating, C: Stepping>(
+/// Adds a seat of a shared service, if there is one more.
+fn add_seat<L: Seating, C: Stepping>(
     rt: &impl Wait,
     shared: &SharedService<L, C>,
-) -> Option<(Seat<L>, Seat<L>)> {
-    match (shared.seat(rt), shared.seat(rt)) {
-        (Ok(one), Ok(two)) => Some((one, two)),
-        _ => None,
+    seats: &mut Vec<Seat<L>>,
+) -> bool {
+    match shared.seat(rt) {
+        Ok(seat) => seats.push(seat).is_ok(),
+        Err(_) => false,
+    }
+}
+
+/// Adds so many seats. Room for them is made first, on the second attempt if memory is refused.
+fn add_seats<L: Seating, C: Stepping>(
+    rt: &impl Wait,
+    shared: &SharedService<L, C>,
+    seats: &mut Vec<Seat<L>>,
+    count: usize,
+) -> bool {
+    let has_room = seats.reserve(count).is_ok() || seats.reserve(count).is_ok();
+    for _ in 0..count {
+        if !add_seat(rt, shared, seats) {
+            return false;
+        }
+    }
+    has_room
+}
+
+/// So many seats of a shared service, if there are.
+pub fn make_seats<L: Seating, C: Stepping>(
+    rt: &impl Wait,
+    alloc: Global,
+    shared: &SharedService<L, C>,
+    count: usize,
+) -> Option<Vec<Seat<L>>> {
+    let mut seats = Vec::new(alloc);
+    if add_seats(rt, shared, &mut seats, count) {
+        Some(seats)
+    } else {
+        None
     }
 }
 
 /// How many inputs a seat counts, and how many receipts it has.
 pub fn counts_of<L: Seating>(seat: &Seat<L>) -> (u64, usize) {
     (seat.count(), seat.receipts(0).len())
+}
+
+/// Whether a command of a seat was held back, since there was no memory for it.
+pub fn was_held<L: Seating>(seat: &Seat<L>) -> bool {
+    for receipt in seat.receipts(0) {
+        if receipt.output == Output::Held {
+            return true;
+        }
+    }
+    false
+}
+
+/// Takes an input that was refused. `None` also if the seat counted others than these before.
+fn step_again<L: Seating, C: Stepping, R: Wait>(
+    rt: &R,
+    shared: &SharedService<L, C>,
+    seat: &mut Seat<L>,
+    input: Input,
+    counts: (u64, usize),
+) -> Option<Output> {
+    let is_as_it_was = counts_of(seat) == counts;
+    let taken = shared.step(rt, seat, input).ok();
+    if is_as_it_was { taken } else { None }
 }
 
 /// Takes an input, again where it is refused, if the refusal left the seat as it was.
@@ -35,10 +90,15 @@ fn step<L: Seating, C: Stepping, R: Wait>(
     let counts = counts_of(seat);
     match shared.step(rt, seat, input) {
         Ok(output) => Some(output),
-        Err(Refusal { input, .. }) if counts_of(seat) == counts => {
-            shared.step(rt, seat, input).ok()
-        }
-        Err(_) => None,
+        Err(refusal) => step_again(rt, shared, seat, refusal.input, counts),
+    }
+}
+
+/// Whether an input was refused for its unknown connection.
+fn is_unknown(taken: Result<Output, Refusal>) -> bool {
+    match taken {
+        Ok(_) => false,
+        Err(refusal) => ServiceError::from(refusal) == ServiceError::NoConnection,
     }
 }
 
@@ -50,10 +110,7 @@ pub fn refuses<L: Seating, C: Stepping, R: Wait>(
     input: Input,
 ) -> bool {
     let counts = counts_of(seat);
-    match shared.step(rt, seat, input) {
-        Ok(_) => false,
-        Err(refusal) => { refusal.error == ServiceError::NoConnection && counts_of(seat) == counts }
-    }
+    is_unknown(shared.step(rt, seat, input)) && counts_of(seat) == counts
 }
 
 /// Whether an input is taken.
@@ -78,39 +135,42 @@ pub fn opens<L: Seating, C: Stepping, R: Wait>(
     }
 }
 
-/// Whether a feed of these bytes is taken. Fails where there is no memory for them.
+/// Whether a feed of this text is taken.
 pub fn feeds<L: Seating, C: Stepping, R: Wait>(
     rt: &R,
     alloc: Global,
     shared: &SharedService<L, C>,
     seat: &mut Seat<L>,
     conn: Conn,
-    bytes: &[u8],
-) -> Result<bool, AllocError> {
-    let input = feed(alloc, conn, bytes)?;
-    Ok(takes(rt, shared, seat, input))
-}
-
-/// Whether those are the replies, where they are known.
-fn is_reply(taken: Result<Replies<RecordedService>, ServiceError>, wanted: Option<&[u8]>) -> bool {
-    match (taken, wanted) {
-        (Ok(replies), Some(text)) => replies.as_slice() == text,
-        (Ok(_), None) => true,
-        _ => false,
+    text: &[u8],
+) -> bool {
+    match feed(alloc, conn, text) {
+        Some(input) => takes(rt, shared, seat, input),
+        None => false,
     }
 }
 
-/// Whether a connection is replied so, where that is known; on the second attempt if memory is refused for the copy.
-pub fn is_replied<L: Seating, R: Wait>(
+/// Whether those are the replies that a connection did not take yet, where they are known.
+fn takes_reply<L: Seating, C: Takings, R: Wait>(
     rt: &R,
-    shared: &SharedService<L>,
+    shared: &SharedService<L, C>,
     conn: Conn,
     wanted: Option<&[u8]>,
 ) -> bool {
     match shared.take_output(rt, conn) {
-        Err(ServiceError::OutOfMemory) => is_reply(shared.take_output(rt, conn), wanted),
-        taken => is_reply(taken, wanted),
+        Ok(replies) => wanted.is_none() || wanted == Some(replies.as_slice()),
+        Err(_) => false,
     }
+}
+
+/// Whether a connection is replied so, where that is known; on the second attempt if memory is refused for the copy.
+pub fn is_replied<L: Seating, C: Takings, R: Wait>(
+    rt: &R,
+    shared: &SharedService<L, C>,
+    conn: Conn,
+    wanted: Option<&[u8]>,
+) -> bool {
+    takes_reply(rt, shared, conn, wanted) || takes_reply(rt, shared, conn, wanted)
 }
 
 /// What these seats leave, on the second attempt if memory is refused.

@@ -1,19 +1,19 @@
 //! A connection that awaits what another thread answers.
-use crate::inputs::START;
-use crate::loaders::value_of;
+use crate::inputs::answer;
 use crate::steps::{feeds, opens, takes};
-use audit_model::{Conn, Input, LoadId};
-use cache_shared::{LiveService, Seat, Seating, SharedService};
+use audit_model::{Bytes, Conn, LoadId};
+use cache_shared::{Seat, Seating, SharedService, Takings};
 use std::alloc::Global;
 use std::sync::Wait;
+use std::sync::atomic::{AtomicU64, Ordering};
 use std::thread;
 use std::thread::Threads;
 use std::time::{Clock, Duration};
 
 /// Whether a connection was told this and did not take it yet.
-fn is_told<L: Seating, R: Wait>(
+fn is_told<L: Seating, C: Takings, R: Wait>(
     rt: &R,
-    shared: &SharedService<L, LiveService>,
+    shared: &SharedService<L, C>,
     conn: Conn,
     text: &[u8],
 ) -> bool {
@@ -24,42 +24,55 @@ fn is_told<L: Seating, R: Wait>(
 }
 
 /// Whether a connection that loads is told the value once it is ready.
-fn awaits<L: Seating, R: Wait>(
+fn awaits_on<L: Seating, C: Takings, R: Wait>(
     rt: &R,
     alloc: Global,
-    shared: &SharedService<L, LiveService>,
+    shared: &SharedService<L, C>,
     seat: &mut Seat<L>,
+    conn: Conn,
 ) -> bool {
-    let Some(conn) = opens(rt, shared, seat) else {
-        return false;
-    };
-    if feeds(rt, alloc, shared, seat, conn, b"LOAD k\n") != Ok(true) {
-        return false;
+    if feeds(rt, alloc, shared, seat, conn, b"LOAD k\n") {
+        shared.await_ready(rt, seat, conn);
+        is_told(rt, shared, conn, b"VAL v\n")
+    } else {
+        false
     }
-    shared.await_ready(rt, seat, conn);
-    is_told(rt, shared, conn, b"VAL v\n")
 }
 
-/// A load that goes out, if there is one.
-fn next_load<L: Seating, R: Wait>(
+/// The same on a connection that is opened for it.
+fn awaits<L: Seating, C: Takings, R: Wait>(
     rt: &R,
-    shared: &SharedService<L, LiveService>,
-) -> Option<LoadId> {
+    alloc: Global,
+    shared: &SharedService<L, C>,
+    seat: &mut Seat<L>,
+) -> bool {
+    match opens(rt, shared, seat) {
+        Some(conn) => awaits_on(rt, alloc, shared, seat, conn),
+        None => false,
+    }
+}
+
+/// The number of the first of these loads, if there is one.
+fn first_of(loads: &[(LoadId, Bytes)]) -> Option<u64> {
+    match loads {
+        [(load, _key), ..] => Some(load.number),
+        [] => None,
+    }
+}
+
+/// The number of a load that goes out, if there is one.
+fn next_load<L: Seating, C: Takings, R: Wait>(rt: &R, shared: &SharedService<L, C>) -> Option<u64> {
     match shared.take_loads(rt, 0) {
-        Ok(loads) => {
-            let mut loads = loads.into_loads();
-            let (load, _key) = loads.pop()?;
-            Some(load)
-        }
+        Ok(loads) => first_of(loads.into_loads().as_slice()),
         Err(_) => None,
     }
 }
 
-/// The load that goes out first, looked for a limited number of times.
-fn first_load<L: Seating, R: Wait + Clock>(
+/// The number of the load that goes out first, looked for a limited number of times.
+fn first_load<L: Seating, C: Takings, R: Wait + Clock>(
     rt: &R,
-    shared: &SharedService<L, LiveService>,
-) -> Option<LoadId> {
+    shared: &SharedService<L, C>,
+) -> Option<u64> {
     for _turn in 0..10_000u32 {
         if let Some(load) = next_load(rt, shared) {
             return Some(load);
@@ -69,42 +82,105 @@ fn first_load<L: Seating, R: Wait + Clock>(
     None
 }
 
-/// Answers the load that goes out first, and says whether that was taken.
-fn answers<L: Seating, R: Wait + Clock>(
+/// Answers a load, and says whether that was taken.
+fn answers_load<L: Seating, C: Takings, R: Wait>(
     rt: &R,
     alloc: Global,
-    shared: &SharedService<L, LiveService>,
+    shared: &SharedService<L, C>,
     seat: &mut Seat<L>,
+    number: u64,
 ) -> bool {
-    match (first_load(rt, shared), value_of(alloc, b"v")) {
-        (Some(load), Some(outcome)) => {
-            let input = Input::Answer {
-                load,
-                outcome,
-                moment: START,
-            };
-            takes(rt, shared, seat, input)
-        }
-        _ => false,
+    match answer(alloc, number) {
+        Some(input) => takes(rt, shared, seat, input),
+        None => false,
     }
 }
 
-/// Whether one thread is told what it awaits, and another one answers.
-pub fn is_answered<L, R>(
+/// Answers the load that goes out first, and says whether that was taken.
+fn answers<L: Seating, C: Takings, R: Wait + Clock>(
     rt: &R,
     alloc: Global,
-    shared: &SharedService<L, LiveService>,
-    seats: &mut (Seat<L>, Seat<L>),
+    shared: &SharedService<L, C>,
+    seat: &mut Seat<L>,
+) -> bool {
+    match first_load(rt, shared) {
+        Some(number) => answers_load(rt, alloc, shared, seat, number),
+        None => false,
+    }
+}
+
+/// Whether the other thread is there to answer, looked for a limited number of times.
+fn is_there<R: Clock>(rt: &R, answering: &AtomicU64) -> bool {
+    for _turn in 0..1000u32 {
+        if answering.load(Ordering::SeqCst) > 0 {
+            return true;
+        }
+        thread::sleep(rt, Duration::from_millis(1));
+    }
+    false
+}
+
+/// Awaits once the other thread is there: where no thread can be made, one part runs behind the other.
+fn awaits_other<L: Seating, C: Takings, R: Wait + Clock>(
+    rt: &R,
+    alloc: Global,
+    shared: &SharedService<L, C>,
+    seat: &mut Seat<L>,
+    answering: &AtomicU64,
+) -> bool {
+    is_there(rt, answering) && awaits(rt, alloc, shared, seat)
+}
+
+/// Answers, and is there until it has.
+fn answers_other<L: Seating, C: Takings, R: Wait + Clock>(
+    rt: &R,
+    alloc: Global,
+    shared: &SharedService<L, C>,
+    seat: &mut Seat<L>,
+    answering: &AtomicU64,
+) -> bool {
+    answering.store(1, Ordering::SeqCst);
+    let is_taken = answers(rt, alloc, shared, seat);
+    answering.store(0, Ordering::SeqCst);
+    is_taken
+}
+
+/// Whether one thread is told what it awaits, and another one answers.
+fn both_do<L, C, R>(
+    rt: &R,
+    alloc: Global,
+    shared: &SharedService<L, C>,
+    one: &mut Seat<L>,
+    two: &mut Seat<L>,
 ) -> bool
 where
     L: Seating + Send + Sync + 'static,
+    C: Takings + Send,
     R: Threads + Wait + Clock + Sync,
 {
-    let (one, two) = seats;
+    let answering = AtomicU64::new(0);
     let (is_told, is_taken) = thread::join(
         rt,
-        || awaits(rt, alloc, shared, one),
-        || answers(rt, alloc, shared, two),
+        || awaits_other(rt, alloc, shared, one, &answering),
+        || answers_other(rt, alloc, shared, two, &answering),
     );
     is_told && is_taken
+}
+
+/// The same with these seats, if they are two.
+pub fn is_answered<L, C, R>(
+    rt: &R,
+    alloc: Global,
+    shared: &SharedService<L, C>,
+    seats: &mut [Seat<L>],
+) -> bool
+where
+    L: Seating + Send + Sync + 'static,
+    C: Takings + Send,
+    R: Threads + Wait + Clock + Sync,
+{
+    match seats {
+        [one, two] => both_do(rt, alloc, shared, one, two),
+        _ => false,
+    }
 }
