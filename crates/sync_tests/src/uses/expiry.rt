@@ -1,11 +1,11 @@
 //! Values that say themselves how long they live.
-use crate::caches::{make_dial, moments_of};
+use crate::caches::{Moments, Play, Stage, passes};
 use moka_sync::{
-    Build, BuildError, Bundle, ByCreation, Cache, CacheBuilder, Dial, Env, Lifetime, NoPredicate,
+    Build, BuildError, Bundle, ByCreation, Cache, CacheBuilder, Env, Lifetime, NoPredicate,
     StdHasher, WeighOne,
 };
 use std::alloc::Global;
-use std::sync::{Arc, Wait};
+use std::sync::Wait;
 use std::time::Duration;
 
 // example: expiry
@@ -53,23 +53,41 @@ fn valid_for(seconds: u64) -> Ticket {
     }
 }
 
-/// Whether of two tickets one ends first.
-fn ends<H: Wait, E: Env + Drop>(rt: &H, dial: &Dial, tickets: &Tickets<E>) -> bool {
-    let both = tickets.insert(rt, 1, valid_for(10)) == Ok(())
-        && tickets.insert(rt, 2, valid_for(20)) == Ok(())
-        && tickets.contains_key(rt, &1);
-    dial.set(15_000_000_000);
-    both && !tickets.contains_key(rt, &1) && tickets.get(rt, &2) == Ok(Some(valid_for(20)))
+/// Whether a ticket is inserted.
+fn keeps<H: Wait>(rt: &H, tickets: &Tickets<Moments>, number: u64, ticket: Ticket) -> bool {
+    tickets.insert(rt, number, ticket).is_ok()
 }
 
-/// The same of a new cache.
-fn ends_anew<H: Wait>(rt: &H, alloc: Global) -> Result<bool, BuildError> {
-    let dial = make_dial(alloc)?;
-    let tickets = make_tickets(alloc, moments_of(Arc::try_clone(&dial)?))?;
-    Ok(ends(rt, &dial, &tickets))
+/// Whether a ticket is found so.
+fn shows<H: Wait>(rt: &H, tickets: &Tickets<Moments>, number: u64, ticket: Ticket) -> bool {
+    tickets.get(rt, &number) == Ok(Some(ticket))
+}
+
+/// Of two tickets one ends first.
+struct Ending;
+
+impl<H: Wait> Play<H> for Ending {
+    type Cache = Tickets<Moments>;
+
+    fn make(
+        &self,
+        _rt: &H,
+        alloc: Global,
+        moments: Moments,
+    ) -> Result<Tickets<Moments>, BuildError> {
+        make_tickets(alloc, moments)
+    }
+
+    fn plays(&self, rt: &H, _alloc: Global, stage: &Stage<Tickets<Moments>>) -> bool {
+        let both = keeps(rt, &stage.cache, 1, valid_for(10))
+            && keeps(rt, &stage.cache, 2, valid_for(20))
+            && stage.cache.contains_key(rt, &1);
+        stage.dial.set(15_000_000_000);
+        both && !stage.cache.contains_key(rt, &1) && shows(rt, &stage.cache, 2, valid_for(20))
+    }
 }
 
 #[test]
 fn a_ticket_ends_by_itself(rt: HostRuntime) {
-    assert!(rt; ends_anew(&rt, rt.alloc()) == Ok(true));
+    assert!(rt; passes(&rt, rt.alloc(), &Ending));
 }

@@ -1,5 +1,5 @@
 //! Values whose making may fail.
-use crate::caches::make_moments;
+use crate::caches::{Moments, Play, Stage, passes};
 use moka_sync::{
     Build, BuildError, Bundle, Cache, CacheBuilder, CacheError, Env, NoExpiry, NoPredicate,
     StdHasher, WeighOne,
@@ -48,13 +48,21 @@ fn is_found<H: Wait, E: Env + Drop>(rt: &H, rows: &Rows<E>, number: u64, row: Op
     }
 }
 
-/// Whether rows are found in a new cache.
-fn are_found<H: Wait>(rt: &H, alloc: Global) -> Result<bool, BuildError> {
-    let rows = make_rows(alloc, make_moments(alloc)?)?;
-    Ok(is_found(rt, &rows, 2, Some(12)) && is_found(rt, &rows, 3, None))
+struct Finding;
+
+impl<H: Wait> Play<H> for Finding {
+    type Cache = Rows<Moments>;
+
+    fn make(&self, _rt: &H, alloc: Global, moments: Moments) -> Result<Rows<Moments>, BuildError> {
+        make_rows(alloc, moments)
+    }
+
+    fn plays(&self, rt: &H, _alloc: Global, stage: &Stage<Rows<Moments>>) -> bool {
+        is_found(rt, &stage.cache, 2, Some(12)) && is_found(rt, &stage.cache, 3, None)
+    }
 }
 
 #[test]
 fn rows_are_found(rt: HostRuntime) {
-    assert!(rt; are_found(&rt, rt.alloc()) == Ok(true));
+    assert!(rt; passes(&rt, rt.alloc(), &Finding));
 }

@@ -1,5 +1,5 @@
 //! Keys from strangers.
-use crate::caches::make_moments;
+use crate::caches::{Moments, Play, Stage, passes};
 use moka_sync::{Build, BuildError, Cache, CacheBuilder, Env, PlainRules};
 use std::alloc::Global;
 use std::hash::RandomState;
@@ -20,16 +20,24 @@ fn make_users<E: Env + Drop>(
 }
 // end
 
-/// Whether a user is found in a new cache.
-fn is_found<H: Wait + RandomSource>(rt: &H, alloc: Global) -> Result<bool, BuildError> {
-    let users = match RandomState::new(rt) {
-        Ok(hasher) => make_users(alloc, hasher, make_moments(alloc)?)?,
-        Err(_) => return Ok(false),
-    };
-    Ok(users.insert(rt, 1, 5) == Ok(()) && users.get(rt, &1) == Ok(Some(5)))
+struct Finding;
+
+impl<H: Wait + RandomSource> Play<H> for Finding {
+    type Cache = Users<Moments>;
+
+    fn make(&self, rt: &H, alloc: Global, moments: Moments) -> Result<Users<Moments>, BuildError> {
+        match RandomState::new(rt) {
+            Ok(hasher) => make_users(alloc, hasher, moments),
+            Err(_) => Err(BuildError::OutOfMemory),
+        }
+    }
+
+    fn plays(&self, rt: &H, _alloc: Global, stage: &Stage<Users<Moments>>) -> bool {
+        stage.cache.insert(rt, 1, 5).is_ok() && stage.cache.get(rt, &1) == Ok(Some(5))
+    }
 }
 
 #[test]
 fn users_are_found(rt: HostRuntime) {
-    assert!(rt; is_found(&rt, rt.alloc()) == Ok(true));
+    assert!(rt; passes(&rt, rt.alloc(), &Finding));
 }

@@ -1,5 +1,6 @@
 //! All that is in a cache.
-use crate::caches::make_moments;
+use crate::caches::{Moments, Play, Stage, passes};
+use crate::rows::inserts;
 use moka_sync::{BuildError, Cache, CacheError, Env, PlainCache};
 use std::alloc::Global;
 use std::sync::Wait;
@@ -26,21 +27,30 @@ fn sum_from<H: Wait + Copy, E: Env + Drop>(
 }
 // end
 
-/// Whether the amounts of two of three accounts are summed.
-fn is_summed<H: Wait + Copy, E: Env + Drop>(rt: &H, amounts: &Amounts<E>) -> bool {
-    amounts.insert(rt, 1, 10) == Ok(())
-        && amounts.insert(rt, 2, 20) == Ok(())
-        && amounts.insert(rt, 3, 30) == Ok(())
-        && sum_from(rt, amounts, 2) == Ok(50)
-}
+/// The amounts of two of three accounts are summed.
+struct Summing;
 
-/// The same of a new cache.
-fn is_summed_anew<H: Wait + Copy>(rt: &H, alloc: Global) -> Result<bool, BuildError> {
-    let amounts = Cache::new(alloc, 100, make_moments(alloc)?)?;
-    Ok(is_summed(rt, &amounts))
+impl<H: Wait + Copy> Play<H> for Summing {
+    type Cache = Amounts<Moments>;
+
+    fn make(
+        &self,
+        _rt: &H,
+        alloc: Global,
+        moments: Moments,
+    ) -> Result<Amounts<Moments>, BuildError> {
+        Cache::new(alloc, 100, moments)
+    }
+
+    fn plays(&self, rt: &H, _alloc: Global, stage: &Stage<Amounts<Moments>>) -> bool {
+        inserts(rt, &stage.cache, 1, 10)
+            && inserts(rt, &stage.cache, 2, 20)
+            && inserts(rt, &stage.cache, 3, 30)
+            && sum_from(rt, &stage.cache, 2) == Ok(50)
+    }
 }
 
 #[test]
 fn amounts_are_summed(rt: HostRuntime) {
-    assert!(rt; is_summed_anew(&rt, rt.alloc()) == Ok(true));
+    assert!(rt; passes(&rt, rt.alloc(), &Summing));
 }

@@ -1,5 +1,6 @@
 //! Values that are made if there is none.
-use crate::caches::make_moments;
+use crate::caches::{Moments, Play, Stage, passes};
+use crate::rows::gets;
 use moka_sync::{BuildError, Cache, CacheError, Env, PlainCache};
 use std::alloc::Global;
 use std::sync::Wait;
@@ -29,22 +30,38 @@ fn half<H: Wait, E: Env + Drop>(
 }
 // end
 
-/// Whether both answer what they are to.
-fn are_made<H: Wait, E: Env + Drop>(rt: &H, numbers: &Numbers<E>) -> bool {
-    square(rt, numbers, 7) == Ok(49)
-        && numbers.get(rt, &7) == Ok(Some(49))
-        && half(rt, numbers, 3) == Ok(None)
-        && half(rt, numbers, 8) == Ok(Some(4))
-        && numbers.get(rt, &8) == Ok(Some(4))
+/// Whether a square is made and kept.
+fn squares<H: Wait>(rt: &H, numbers: &Numbers<Moments>) -> bool {
+    square(rt, numbers, 7) == Ok(49) && gets(rt, numbers, 7, Some(49))
 }
 
-/// The same of a new cache.
-fn are_made_anew<H: Wait>(rt: &H, alloc: Global) -> Result<bool, BuildError> {
-    let numbers = Cache::new(alloc, 100, make_moments(alloc)?)?;
-    Ok(are_made(rt, &numbers))
+/// Whether half of an odd number is not made, and half of an even one is made and kept.
+fn halves<H: Wait>(rt: &H, numbers: &Numbers<Moments>) -> bool {
+    half(rt, numbers, 3) == Ok(None)
+        && half(rt, numbers, 8) == Ok(Some(4))
+        && gets(rt, numbers, 8, Some(4))
+}
+
+struct Making;
+
+impl<H: Wait> Play<H> for Making {
+    type Cache = Numbers<Moments>;
+
+    fn make(
+        &self,
+        _rt: &H,
+        alloc: Global,
+        moments: Moments,
+    ) -> Result<Numbers<Moments>, BuildError> {
+        Cache::new(alloc, 100, moments)
+    }
+
+    fn plays(&self, rt: &H, _alloc: Global, stage: &Stage<Numbers<Moments>>) -> bool {
+        squares(rt, &stage.cache) && halves(rt, &stage.cache)
+    }
 }
 
 #[test]
 fn numbers_are_made(rt: HostRuntime) {
-    assert!(rt; are_made_anew(&rt, rt.alloc()) == Ok(true));
+    assert!(rt; passes(&rt, rt.alloc(), &Making));
 }

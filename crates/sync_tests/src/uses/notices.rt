@@ -1,5 +1,6 @@
 //! Removals are reported as notices.
-use crate::caches::make_moments;
+use crate::caches::{Moments, Play, Stage, passes};
+use crate::rows::{Row, are_so, invalidates};
 use moka_sync::{Build, BuildError, CacheBuilder, Env, PlainCache};
 use std::alloc::Global;
 use std::sync::Wait;
@@ -27,25 +28,34 @@ fn count_evicted<H: Wait, E: Env + Drop>(rt: &H, files: &Files<E>) -> u64 {
 }
 // end
 
-/// Whether one of three files is evicted, and none if one is closed.
-fn tells<H: Wait, E: Env + Drop>(rt: &H, files: &Files<E>) -> bool {
-    files.insert(rt, 1, 10) == Ok(())
-        && files.insert(rt, 2, 20) == Ok(())
-        && files.run_pending_tasks(rt) == Ok(())
-        && files.insert(rt, 3, 30) == Ok(())
-        && files.run_pending_tasks(rt) == Ok(())
-        && count_evicted(rt, files) == 1
-        && files.invalidate(rt, &1) == Ok(())
-        && count_evicted(rt, files) == 0
-}
+/// Three files are opened.
+const OPENED: &[Row] = &[
+    Row::Insert(1, 10),
+    Row::Insert(2, 20),
+    Row::Run,
+    Row::Insert(3, 30),
+    Row::Run,
+];
 
-/// The same of a new cache.
-fn tells_anew<H: Wait>(rt: &H, alloc: Global) -> Result<bool, BuildError> {
-    let files = make_files(alloc, make_moments(alloc)?)?;
-    Ok(tells(rt, &files))
+/// One of three files is evicted, and none if one is closed.
+struct Telling;
+
+impl<H: Wait> Play<H> for Telling {
+    type Cache = Files<Moments>;
+
+    fn make(&self, _rt: &H, alloc: Global, moments: Moments) -> Result<Files<Moments>, BuildError> {
+        make_files(alloc, moments)
+    }
+
+    fn plays(&self, rt: &H, _alloc: Global, stage: &Stage<Files<Moments>>) -> bool {
+        are_so(rt, stage, OPENED)
+            && count_evicted(rt, &stage.cache) == 1
+            && invalidates(rt, &stage.cache, 1)
+            && count_evicted(rt, &stage.cache) == 0
+    }
 }
 
 #[test]
 fn what_leaves_is_told(rt: HostRuntime) {
-    assert!(rt; tells_anew(&rt, rt.alloc()) == Ok(true));
+    assert!(rt; passes(&rt, rt.alloc(), &Telling));
 }

@@ -1,5 +1,5 @@
 //! Values that are invalidated together.
-use crate::caches::make_moments;
+use crate::caches::{Moments, Play, Stage, passes};
 use moka_sync::{
     Build, BuildError, Bundle, Cache, CacheBuilder, CacheError, Env, KeyPrefix, NoExpiry,
     StdHasher, WeighOne,
@@ -45,27 +45,35 @@ fn keep<H: Wait, E: Env + Drop>(
     sizes.insert(rt, path, 1)
 }
 
-/// How many sizes are left of two below a folder and one beside it.
-fn count_left<H: Wait, E: Env + Drop>(
-    rt: &H,
-    alloc: Global,
-    sizes: &Sizes<E>,
-) -> Result<u64, CacheError> {
-    keep(rt, alloc, sizes, "a/one")?;
-    keep(rt, alloc, sizes, "a/two")?;
-    keep(rt, alloc, sizes, "b/one")?;
-    forget(rt, alloc, sizes, "a/")?;
-    sizes.run_pending_tasks(rt)?;
-    Ok(sizes.entry_count(rt))
+/// Whether a size is kept, of two below a folder and one beside it.
+fn keeps_three<H: Wait>(rt: &H, alloc: Global, sizes: &Sizes<Moments>) -> bool {
+    for path in ["a/one", "a/two", "b/one"] {
+        if keep(rt, alloc, sizes, path) != Ok(()) {
+            return false;
+        }
+    }
+    true
 }
 
-/// Whether one is left in a new cache.
-fn leaves_one<H: Wait>(rt: &H, alloc: Global) -> Result<bool, BuildError> {
-    let sizes = make_sizes(alloc, make_moments(alloc)?)?;
-    Ok(count_left(rt, alloc, &sizes) == Ok(1))
+/// Of them one is left.
+struct Forgetting;
+
+impl<H: Wait> Play<H> for Forgetting {
+    type Cache = Sizes<Moments>;
+
+    fn make(&self, _rt: &H, alloc: Global, moments: Moments) -> Result<Sizes<Moments>, BuildError> {
+        make_sizes(alloc, moments)
+    }
+
+    fn plays(&self, rt: &H, alloc: Global, stage: &Stage<Sizes<Moments>>) -> bool {
+        keeps_three(rt, alloc, &stage.cache)
+            && forget(rt, alloc, &stage.cache, "a/").is_ok()
+            && stage.cache.run_pending_tasks(rt).is_ok()
+            && stage.cache.entry_count(rt) == 1
+    }
 }
 
 #[test]
 fn a_folder_is_forgotten(rt: HostRuntime) {
-    assert!(rt; leaves_one(&rt, rt.alloc()) == Ok(true));
+    assert!(rt; passes(&rt, rt.alloc(), &Forgetting));
 }

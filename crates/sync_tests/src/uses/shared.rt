@@ -1,5 +1,5 @@
 //! Values that are not copied.
-use crate::caches::make_moments;
+use crate::caches::{Moments, Play, Stage, passes};
 use moka_sync::{BuildError, Cache, CacheError, Env, PlainCache, Shared};
 use std::alloc::{AllocError, Global};
 use std::sync::{Arc, Wait};
@@ -37,26 +37,42 @@ fn make_picture(alloc: Global) -> Result<Arc<Vec<u8>>, AllocError> {
     Ok(Arc::new(alloc, bytes)?)
 }
 
-/// Whether a picture that is kept is shown.
-fn is_shown<H: Wait, E: Env + Drop>(
-    rt: &H,
-    pictures: &Pictures<E>,
-    picture: Arc<Vec<u8>>,
-) -> Result<bool, CacheError> {
-    keep(rt, pictures, 7, picture)?;
-    match show(rt, pictures, 7)? {
-        Some(picture) => Ok(picture.len() == 3),
-        None => Ok(false),
+/// Whether a picture is kept.
+fn keeps<H: Wait>(rt: &H, alloc: Global, pictures: &Pictures<Moments>) -> bool {
+    match make_picture(alloc) {
+        Ok(picture) => keep(rt, pictures, 7, picture).is_ok(),
+        Err(_) => false,
     }
 }
 
-/// The same of a new cache.
-fn is_shown_anew<H: Wait>(rt: &H, alloc: Global) -> Result<bool, BuildError> {
-    let pictures = Cache::new(alloc, 100, make_moments(alloc)?)?;
-    Ok(is_shown(rt, &pictures, make_picture(alloc)?) == Ok(true))
+/// Whether one of three bytes is shown.
+fn shows<H: Wait>(rt: &H, pictures: &Pictures<Moments>) -> bool {
+    match show(rt, pictures, 7) {
+        Ok(Some(picture)) => picture.len() == 3,
+        _ => false,
+    }
+}
+
+struct Sharing;
+
+impl<H: Wait> Play<H> for Sharing {
+    type Cache = Pictures<Moments>;
+
+    fn make(
+        &self,
+        _rt: &H,
+        alloc: Global,
+        moments: Moments,
+    ) -> Result<Pictures<Moments>, BuildError> {
+        Cache::new(alloc, 100, moments)
+    }
+
+    fn plays(&self, rt: &H, alloc: Global, stage: &Stage<Pictures<Moments>>) -> bool {
+        keeps(rt, alloc, &stage.cache) && shows(rt, &stage.cache)
+    }
 }
 
 #[test]
 fn a_picture_is_shared(rt: HostRuntime) {
-    assert!(rt; is_shown_anew(&rt, rt.alloc()) == Ok(true));
+    assert!(rt; passes(&rt, rt.alloc(), &Sharing));
 }

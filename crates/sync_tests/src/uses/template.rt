@@ -1,13 +1,13 @@
 //! A weigher, an expiry and a predicate of one's own, to copy.
 ghost use Rattle.std.specs.Prelude.{◌==◌};
 
-use crate::caches::{make_dial, moments_of};
+use crate::caches::{Moments, Play, Stage, passes};
 use moka_sync::{
-    Build, BuildError, Bundle, Cache, CacheBuilder, Dial, Env, Expiry, Instant, Predicate,
-    StdHasher, Weigher,
+    Build, BuildError, Bundle, Cache, CacheBuilder, Env, Expiry, Instant, Predicate, StdHasher,
+    Weigher,
 };
 use std::alloc::Global;
-use std::sync::{Arc, Wait};
+use std::sync::Wait;
 use std::time::Duration;
 
 // example: template
@@ -120,33 +120,56 @@ fn document_of(author: u64, seconds: u64) -> Document {
     }
 }
 
+/// Whether a document is inserted.
+fn keeps<H: Wait>(rt: &H, documents: &Documents<Moments>, number: u64, document: Document) -> bool {
+    documents.insert(rt, number, document).is_ok()
+}
+
+/// Whether a document is found so.
+fn shows<H: Wait>(rt: &H, documents: &Documents<Moments>, number: u64, document: Document) -> bool {
+    documents.get(rt, &number) == Ok(Some(document))
+}
+
 /// Whether three documents weigh three times a hundred.
-fn weighs<H: Wait, E: Env + Drop>(rt: &H, documents: &Documents<E>) -> bool {
-    documents.insert(rt, 1, document_of(5, 10)) == Ok(())
-        && documents.insert(rt, 2, document_of(5, 20)) == Ok(())
-        && documents.insert(rt, 3, document_of(6, 20)) == Ok(())
-        && documents.run_pending_tasks(rt) == Ok(())
+fn weighs<H: Wait>(rt: &H, documents: &Documents<Moments>) -> bool {
+    keeps(rt, documents, 1, document_of(5, 10))
+        && keeps(rt, documents, 2, document_of(5, 20))
+        && keeps(rt, documents, 3, document_of(6, 20))
+        && documents.run_pending_tasks(rt).is_ok()
         && documents.weighted_size(rt) == 300
 }
 
-/// Whether of them the first expires first, and the second is covered.
-fn ends<H: Wait, E: Env + Drop>(rt: &H, dial: &Dial, documents: &Documents<E>) -> bool {
-    dial.set(15_000_000_000);
+/// Whether of them the first has expired, and the second, which is there, is covered by a predicate.
+fn ends<H: Wait>(rt: &H, documents: &Documents<Moments>) -> bool {
     !documents.contains_key(rt, &1)
         && documents.contains_key(rt, &2)
         && documents.invalidate_entries_if(rt, WrittenBy(5)).is_ok()
         && !documents.contains_key(rt, &2)
-        && documents.get(rt, &3) == Ok(Some(document_of(6, 20)))
+        && shows(rt, documents, 3, document_of(6, 20))
 }
 
-/// The same of a new cache.
-fn follows_rules<H: Wait>(rt: &H, alloc: Global) -> Result<bool, BuildError> {
-    let dial = make_dial(alloc)?;
-    let documents = make_documents(alloc, moments_of(Arc::try_clone(&dial)?))?;
-    Ok(weighs(rt, &documents) && ends(rt, &dial, &documents))
+struct Following;
+
+impl<H: Wait> Play<H> for Following {
+    type Cache = Documents<Moments>;
+
+    fn make(
+        &self,
+        _rt: &H,
+        alloc: Global,
+        moments: Moments,
+    ) -> Result<Documents<Moments>, BuildError> {
+        make_documents(alloc, moments)
+    }
+
+    fn plays(&self, rt: &H, _alloc: Global, stage: &Stage<Documents<Moments>>) -> bool {
+        let weighs = weighs(rt, &stage.cache);
+        stage.dial.set(15_000_000_000);
+        weighs && ends(rt, &stage.cache)
+    }
 }
 
 #[test]
 fn documents_follow_their_rules(rt: HostRuntime) {
-    assert!(rt; follows_rules(&rt, rt.alloc()) == Ok(true));
+    assert!(rt; passes(&rt, rt.alloc(), &Following));
 }

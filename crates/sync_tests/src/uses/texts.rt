@@ -1,5 +1,5 @@
 //! Values that take memory.
-use crate::caches::make_moments;
+use crate::caches::{Moments, Play, Stage, passes};
 use moka_sync::{BuildError, Cache, CacheError, Env, PlainCache, Shared};
 use std::alloc::{AllocError, Global};
 use std::sync::Wait;
@@ -22,28 +22,43 @@ fn text<H: Wait, E: Env + Drop>(
 // end
 
 /// Whether a text is written.
-fn is_written<H: Wait, E: Env + Drop>(rt: &H, alloc: Global, texts: &Texts<E>) -> bool {
+fn is_written<H: Wait>(rt: &H, alloc: Global, texts: &Texts<Moments>) -> bool {
     match text(rt, alloc, texts, 7) {
         Ok(text) => text.as_str() == "number 7",
         Err(_) => false,
     }
 }
 
+fn refuse() -> Result<Shared<String>, AllocError> {
+    Err(AllocError)
+}
+
 /// Whether a closure's refusal is returned as such, and leaves nothing.
-fn is_refused<H: Wait, E: Env + Drop>(rt: &H, texts: &Texts<E>) -> bool {
-    match texts.get_with_alloc(rt, 7, || Err(AllocError)) {
+fn is_refused<H: Wait>(rt: &H, texts: &Texts<Moments>) -> bool {
+    match texts.get_with_alloc(rt, 7, refuse) {
         Ok(_) => false,
         Err(error) => error == CacheError::OutOfMemory && !texts.contains_key(rt, &7),
     }
 }
 
-/// Whether a new cache refuses a text, then writes it.
-fn writes_at_last<H: Wait>(rt: &H, alloc: Global) -> Result<bool, BuildError> {
-    let texts = Cache::new(alloc, 100, make_moments(alloc)?)?;
-    Ok(is_refused(rt, &texts) && is_written(rt, alloc, &texts) && texts.contains_key(rt, &7))
+/// A text is refused, then written.
+struct Writing;
+
+impl<H: Wait> Play<H> for Writing {
+    type Cache = Texts<Moments>;
+
+    fn make(&self, _rt: &H, alloc: Global, moments: Moments) -> Result<Texts<Moments>, BuildError> {
+        Cache::new(alloc, 100, moments)
+    }
+
+    fn plays(&self, rt: &H, alloc: Global, stage: &Stage<Texts<Moments>>) -> bool {
+        is_refused(rt, &stage.cache)
+            && is_written(rt, alloc, &stage.cache)
+            && stage.cache.contains_key(rt, &7)
+    }
 }
 
 #[test]
 fn refused_then_written(rt: HostRuntime) {
-    assert!(rt; writes_at_last(&rt, rt.alloc()) == Ok(true));
+    assert!(rt; passes(&rt, rt.alloc(), &Writing));
 }

@@ -1,8 +1,9 @@
 //! Values that live for a time.
-use crate::caches::{make_dial, moments_of};
-use moka_sync::{Build, BuildError, CacheBuilder, Dial, Env, PlainCache};
+use crate::caches::{Moments, Play, Stage, passes};
+use crate::rows::{Row, are_so};
+use moka_sync::{Build, BuildError, CacheBuilder, Env, PlainCache};
 use std::alloc::Global;
-use std::sync::{Arc, Wait};
+use std::sync::Wait;
 use std::time::Duration;
 
 // example: times
@@ -21,28 +22,37 @@ fn make_logins<E: Env + Drop>(alloc: Global, env: E) -> Result<Logins<E>, BuildE
 /// The nanoseconds of a minute.
 const MINUTE: u64 = 60_000_000_000;
 
-/// Whether a log-in is there after this many minutes.
-fn is_there<H: Wait, E: Env + Drop>(rt: &H, dial: &Dial, logins: &Logins<E>, minutes: u64) -> bool {
-    dial.set(minutes.wrapping_mul(MINUTE));
-    logins.get(rt, &1) == Ok(Some(5))
-}
+/// A log-in that is used stays, and one that is not ends.
+const USED_THEN_IDLE: &[Row] = &[
+    Row::Insert(1, 5),
+    Row::At(3 * MINUTE),
+    Row::Get(1, Some(5)),
+    Row::At(6 * MINUTE),
+    Row::Get(1, Some(5)),
+    Row::At(12 * MINUTE),
+    Row::Get(1, None),
+];
 
-/// Whether a log-in that is used ends, and one that is not.
-fn ends<H: Wait, E: Env + Drop>(rt: &H, dial: &Dial, logins: &Logins<E>) -> bool {
-    logins.insert(rt, 1, 5) == Ok(())
-        && is_there(rt, dial, logins, 3)
-        && is_there(rt, dial, logins, 6)
-        && !is_there(rt, dial, logins, 12)
-}
+struct Ending;
 
-/// The same of a new cache.
-fn ends_anew<H: Wait>(rt: &H, alloc: Global) -> Result<bool, BuildError> {
-    let dial = make_dial(alloc)?;
-    let logins = make_logins(alloc, moments_of(Arc::try_clone(&dial)?))?;
-    Ok(ends(rt, &dial, &logins))
+impl<H: Wait> Play<H> for Ending {
+    type Cache = Logins<Moments>;
+
+    fn make(
+        &self,
+        _rt: &H,
+        alloc: Global,
+        moments: Moments,
+    ) -> Result<Logins<Moments>, BuildError> {
+        make_logins(alloc, moments)
+    }
+
+    fn plays(&self, rt: &H, _alloc: Global, stage: &Stage<Logins<Moments>>) -> bool {
+        are_so(rt, stage, USED_THEN_IDLE)
+    }
 }
 
 #[test]
 fn an_idle_login_ends(rt: HostRuntime) {
-    assert!(rt; ends_anew(&rt, rt.alloc()) == Ok(true));
+    assert!(rt; passes(&rt, rt.alloc(), &Ending));
 }

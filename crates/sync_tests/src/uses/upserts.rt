@@ -1,5 +1,6 @@
 //! Values that are made of the one that is there.
-use crate::caches::make_moments;
+use crate::caches::{Moments, Play, Stage, passes};
+use crate::rows::gets;
 use moka_sync::{BuildError, Cache, CacheError, CompResult, Env, Op, PlainCache};
 use std::alloc::Global;
 use std::sync::Wait;
@@ -42,24 +43,49 @@ fn take<H: Wait + Copy, E: Env + Drop>(
 }
 // end
 
-/// Whether two are counted, and can be taken.
-fn are_counted<H: Wait + Copy, E: Env + Drop>(rt: &H, counts: &Counts<E>) -> bool {
-    count(rt, counts, 7) == Ok(1)
-        && count(rt, counts, 7) == Ok(2)
-        && take(rt, counts, 7) == Ok(true)
-        && counts.get(rt, &7) == Ok(Some(1))
-        && take(rt, counts, 7) == Ok(true)
-        && counts.get(rt, &7) == Ok(None)
-        && take(rt, counts, 7) == Ok(false)
+/// Whether two are counted.
+fn are_counted<H: Wait + Copy>(rt: &H, counts: &Counts<Moments>) -> bool {
+    count(rt, counts, 7) == Ok(1) && count(rt, counts, 7) == Ok(2)
 }
 
-/// The same of a new cache.
-fn are_counted_anew<H: Wait + Copy>(rt: &H, alloc: Global) -> Result<bool, BuildError> {
-    let counts = Cache::new(alloc, 100, make_moments(alloc)?)?;
-    Ok(are_counted(rt, &counts))
+/// Whether a count is taken from, if there is one, and is this much then.
+fn is_taken<H: Wait + Copy>(
+    rt: &H,
+    counts: &Counts<Moments>,
+    was_there: bool,
+    left: Option<u64>,
+) -> bool {
+    take(rt, counts, 7) == Ok(was_there) && gets(rt, counts, 7, left)
+}
+
+/// Whether two are taken, and no third.
+fn are_taken<H: Wait + Copy>(rt: &H, counts: &Counts<Moments>) -> bool {
+    is_taken(rt, counts, true, Some(1))
+        && is_taken(rt, counts, true, None)
+        && is_taken(rt, counts, false, None)
+}
+
+/// Two are counted, and can be taken.
+struct Counting;
+
+impl<H: Wait + Copy> Play<H> for Counting {
+    type Cache = Counts<Moments>;
+
+    fn make(
+        &self,
+        _rt: &H,
+        alloc: Global,
+        moments: Moments,
+    ) -> Result<Counts<Moments>, BuildError> {
+        Cache::new(alloc, 100, moments)
+    }
+
+    fn plays(&self, rt: &H, _alloc: Global, stage: &Stage<Counts<Moments>>) -> bool {
+        are_counted(rt, &stage.cache) && are_taken(rt, &stage.cache)
+    }
 }
 
 #[test]
 fn counts_go_up_and_down(rt: HostRuntime) {
-    assert!(rt; are_counted_anew(&rt, rt.alloc()) == Ok(true));
+    assert!(rt; passes(&rt, rt.alloc(), &Counting));
 }

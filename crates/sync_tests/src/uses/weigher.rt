@@ -1,10 +1,10 @@
 //! A capacity in bytes.
-use crate::caches::make_moments;
+use crate::caches::{Moments, Play, Stage, passes};
 use moka_sync::{
-    Build, BuildError, Bundle, Cache, CacheBuilder, CacheError, Env, NoExpiry, NoPredicate, Shared,
-    StdHasher, WeighBytes,
+    Build, BuildError, Bundle, Cache, CacheBuilder, Env, NoExpiry, NoPredicate, Shared, StdHasher,
+    WeighBytes,
 };
-use std::alloc::Global;
+use std::alloc::{AllocError, Global};
 use std::sync::Wait;
 
 // example: weigher
@@ -22,25 +22,37 @@ fn make_pages<E: Env + Drop>(alloc: Global, env: E) -> Result<Pages<E>, BuildErr
 }
 // end
 
-/// What a page of five bytes weighs.
-fn weigh<H: Wait, E: Env + Drop>(
-    rt: &H,
-    alloc: Global,
-    pages: &Pages<E>,
-) -> Result<u64, CacheError> {
-    let page = Shared::new(alloc, String::from_str(alloc, "seven")?)?;
-    pages.insert(rt, 7, page)?;
-    pages.run_pending_tasks(rt)?;
-    Ok(pages.weighted_size(rt))
+/// A page of five bytes.
+fn make_page(alloc: Global) -> Result<Shared<String>, AllocError> {
+    Shared::new(alloc, String::from_str(alloc, "seven")?)
 }
 
-/// Whether it weighs five in a new cache.
-fn weighs_five<H: Wait>(rt: &H, alloc: Global) -> Result<bool, BuildError> {
-    let pages = make_pages(alloc, make_moments(alloc)?)?;
-    Ok(weigh(rt, alloc, &pages) == Ok(5))
+/// Whether a page is kept.
+fn keeps<H: Wait>(rt: &H, alloc: Global, pages: &Pages<Moments>) -> bool {
+    match make_page(alloc) {
+        Ok(page) => pages.insert(rt, 7, page).is_ok(),
+        Err(_) => false,
+    }
+}
+
+/// It weighs five.
+struct Weighing;
+
+impl<H: Wait> Play<H> for Weighing {
+    type Cache = Pages<Moments>;
+
+    fn make(&self, _rt: &H, alloc: Global, moments: Moments) -> Result<Pages<Moments>, BuildError> {
+        make_pages(alloc, moments)
+    }
+
+    fn plays(&self, rt: &H, alloc: Global, stage: &Stage<Pages<Moments>>) -> bool {
+        keeps(rt, alloc, &stage.cache)
+            && stage.cache.run_pending_tasks(rt).is_ok()
+            && stage.cache.weighted_size(rt) == 5
+    }
 }
 
 #[test]
 fn a_page_weighs_its_bytes(rt: HostRuntime) {
-    assert!(rt; weighs_five(&rt, rt.alloc()) == Ok(true));
+    assert!(rt; passes(&rt, rt.alloc(), &Weighing));
 }

@@ -1,0 +1,185 @@
+//! Calls of one thread on any cache of numbers, and what each is to answer. A call that is refused for lack of memory has changed
+//! nothing, and is made once more.
+use crate::caches::{NumbersBy, Stage};
+use moka_sync::{RemovalCause, Rules};
+use std::sync::Wait;
+
+/// What is done, and what is to come of it.
+#[derive(Clone, Copy)]
+pub enum Row {
+    /// From here on it is that moment, in nanoseconds.
+    At(u64),
+    Insert(u64, u64),
+    Remove(u64, Option<u64>),
+    Invalidate(u64),
+    Clear,
+    Run,
+    Get(u64, Option<u64>),
+    Has(u64, bool),
+    Count(u64),
+    Weight(u64),
+    /// The oldest notice is of this key and cause.
+    Is(u64, RemovalCause),
+    /// The two oldest notices are of these keys, in any order, and of this cause.
+    Are(u64, u64, RemovalCause),
+    /// No notice is left.
+    NoneTold,
+}
+
+/// Whether a value is written.
+pub fn inserts<H: Wait, R: Rules<u64, u64> + Drop, C: Drop>(
+    rt: &H,
+    cache: &NumbersBy<R, C>,
+    key: u64,
+    value: u64,
+) -> bool {
+    cache.insert(rt, key, value).is_ok() || cache.insert(rt, key, value).is_ok()
+}
+
+/// Whether a key has this value, or none.
+pub fn gets<H: Wait, R: Rules<u64, u64> + Drop, C: Drop>(
+    rt: &H,
+    cache: &NumbersBy<R, C>,
+    key: u64,
+    value: Option<u64>,
+) -> bool {
+    match cache.get(rt, &key) {
+        Ok(found) => found == value,
+        Err(_) => cache.get(rt, &key) == Ok(value),
+    }
+}
+
+/// Whether a key had this value, or none, and has none now.
+fn removes<H: Wait, R: Rules<u64, u64> + Drop, C: Drop>(
+    rt: &H,
+    cache: &NumbersBy<R, C>,
+    key: u64,
+    value: Option<u64>,
+) -> bool {
+    match cache.remove(rt, &key) {
+        Ok(found) => found == value,
+        Err(_) => cache.remove(rt, &key) == Ok(value),
+    }
+}
+
+/// Whether a key is taken back.
+pub fn invalidates<H: Wait, R: Rules<u64, u64> + Drop, C: Drop>(
+    rt: &H,
+    cache: &NumbersBy<R, C>,
+    key: u64,
+) -> bool {
+    cache.invalidate(rt, &key).is_ok() || cache.invalidate(rt, &key).is_ok()
+}
+
+/// Whether maintenance runs.
+pub fn runs<H: Wait, R: Rules<u64, u64> + Drop, C: Drop>(rt: &H, cache: &NumbersBy<R, C>) -> bool {
+    cache.run_pending_tasks(rt).is_ok()
+}
+
+/// The key of the oldest notice, if that is of this cause.
+pub fn told<H: Wait, R: Rules<u64, u64> + Drop, C: Drop>(
+    rt: &H,
+    cache: &NumbersBy<R, C>,
+    cause: RemovalCause,
+) -> Option<u64> {
+    match cache.next_notice(rt) {
+        Some(notice) if notice.cause == cause => Some(*notice.key),
+        _ => None,
+    }
+}
+
+/// Whether these are the keys of the two oldest notices, and both are of this cause.
+fn are_told<H: Wait, R: Rules<u64, u64> + Drop, C: Drop>(
+    rt: &H,
+    cache: &NumbersBy<R, C>,
+    keys: (u64, u64),
+    cause: RemovalCause,
+) -> bool {
+    match (told(rt, cache, cause), told(rt, cache, cause)) {
+        (Some(first), Some(second)) => (first, second) == keys || (second, first) == keys,
+        _ => false,
+    }
+}
+
+/// Whether the notices are the expected ones.
+fn tells_so<H: Wait, R: Rules<u64, u64> + Drop, C: Drop>(
+    rt: &H,
+    cache: &NumbersBy<R, C>,
+    row: Row,
+) -> bool {
+    match row {
+        Row::Is(key, cause) => told(rt, cache, cause) == Some(key),
+        Row::Are(first, second, cause) => are_told(rt, cache, (first, second), cause),
+        Row::NoneTold => cache.next_notice(rt).is_none(),
+        _ => false,
+    }
+}
+
+/// Whether the cache shows what is expected.
+fn shows_so<H: Wait, R: Rules<u64, u64> + Drop, C: Drop>(
+    rt: &H,
+    cache: &NumbersBy<R, C>,
+    row: Row,
+) -> bool {
+    match row {
+        Row::Get(key, value) => gets(rt, cache, key, value),
+        Row::Has(key, is_there) => cache.contains_key(rt, &key) == is_there,
+        Row::Count(count) => cache.entry_count(rt) == count,
+        Row::Weight(weight) => cache.weighted_size(rt) == weight,
+        row => tells_so(rt, cache, row),
+    }
+}
+
+/// Whether a call that changes the cache returns the expected result, or the cache shows it.
+fn comes_so<H: Wait, R: Rules<u64, u64> + Drop, C: Drop>(
+    rt: &H,
+    cache: &NumbersBy<R, C>,
+    row: Row,
+) -> bool {
+    match row {
+        Row::Insert(key, value) => inserts(rt, cache, key, value),
+        Row::Remove(key, value) => removes(rt, cache, key, value),
+        Row::Invalidate(key) => invalidates(rt, cache, key),
+        Row::Clear => cache.invalidate_all(rt).is_ok(),
+        Row::Run => runs(rt, cache),
+        row => shows_so(rt, cache, row),
+    }
+}
+
+/// The same; it may be another moment from here on.
+fn is_so<H: Wait, R: Rules<u64, u64> + Drop, C: Drop>(
+    rt: &H,
+    stage: &Stage<NumbersBy<R, C>>,
+    row: Row,
+) -> bool {
+    match row {
+        Row::At(nanos) => {
+            stage.dial.set(nanos);
+            true
+        }
+        row => comes_so(rt, &stage.cache, row),
+    }
+}
+
+/// The place of the first row that does not come out so.
+pub fn wrong_row<H: Wait, R: Rules<u64, u64> + Drop, C: Drop>(
+    rt: &H,
+    stage: &Stage<NumbersBy<R, C>>,
+    rows: &[Row],
+) -> Option<usize> {
+    for (place, row) in rows.iter().enumerate() {
+        if !is_so(rt, stage, *row) {
+            return Some(place);
+        }
+    }
+    None
+}
+
+/// Whether all rows come out so.
+pub fn are_so<H: Wait, R: Rules<u64, u64> + Drop, C: Drop>(
+    rt: &H,
+    stage: &Stage<NumbersBy<R, C>>,
+    rows: &[Row],
+) -> bool {
+    wrong_row(rt, stage, rows).is_none()
+}
