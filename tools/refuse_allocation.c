@@ -19,6 +19,7 @@
 #include <stdio.h>
 #include <stdlib.h>
 #include <string.h>
+#include <sys/syscall.h>
 #include <ucontext.h>
 #include <unistd.h>
 extern void *__libc_malloc(size_t);
@@ -100,6 +101,12 @@ __attribute__((destructor)) static void tell(void) {
   int file = open(name, O_CREAT | O_WRONLY | O_TRUNC, 0644);
   int length = snprintf(text, sizeof text, "%ld %ld %ld\n", (long)count, (long)refused, (long)following);
   if (file >= 0 && write(file, text, length) == length) close(file);
+}
+
+// A program with threads ends by this, and then no destructor runs.
+void _exit(int status) {
+  tell();
+  for (;;) syscall(SYS_exit_group, status);
 }
 
 static void mark(void) {

@@ -19,7 +19,7 @@ with the reason; they are reported and not run. A program has to end with status
 standard error, and then what it wrote is a prefix of the right replies.
 
 The table has a row for each crate: its tests, the number of failing allocations (after a `+` those that followed), and how many
-tests failed. The status is 0 if none did.
+tests failed. The status is 0 if none did, and in each crate some allocation was refused.
 """
 import argparse
 import collections
@@ -151,9 +151,11 @@ class Table:
         for way in self.ways:
             of = swept.get(way, {})
             failed = [(name, it) for name, it in of.items() if it.failed]
-            cells += f"{sum(it.refused for it in of.values()):>11} +{sum(it.following for it in of.values()):>7} {len(failed):>6}"
+            refused = sum(it.refused for it in of.values())
+            cells += f"{refused:>11} +{sum(it.following for it in of.values()):>7} {len(failed):>6}"
             below += [f"    {way}: {name} {it.told()}" for name, it in failed]
-            self.failed += len(failed)
+            below += [f"    {way}: no allocation was refused"] if of and not refused else []
+            self.failed += len(failed) + (1 if of and not refused else 0)
         print(f"{crate:20} {tests:>5} {len(lacking):>4}{cells}", flush=True)
         for why, names in lacking_by_reason(lacking):
             print(f"    no second try: {', '.join(names)}: {why}")
