@@ -13,14 +13,27 @@ fn address(port: u16) -> SocketAddr {
     SocketAddr::from((Ipv4Addr::LOCALHOST, port))
 }
 
-/// Connects as soon as somebody listens. No read of the stream waits longer than 20 seconds.
+/// Connects, if somebody listens. No read of the stream waits longer than 20 seconds.
+fn try_to_connect<R: Net<Listener = TcpListener, Stream = TcpStream>>(
+    rt: &R,
+    port: u16,
+) -> Option<TcpStream> {
+    match TcpStream::connect(rt, address(port)) {
+        Ok(stream) => {
+            let _ = stream.set_read_timeout(Some(Duration::from_secs(20)));
+            Some(stream)
+        }
+        Err(_) => None,
+    }
+}
+
+/// Connects as soon as somebody listens.
 pub fn connect<R: Net<Listener = TcpListener, Stream = TcpStream> + Clock>(
     rt: &R,
     port: u16,
 ) -> Option<TcpStream> {
     for _try in 0..TRIES {
-        if let Ok(stream) = TcpStream::connect(rt, address(port)) {
-            let _ = stream.set_read_timeout(Some(Duration::from_secs(20)));
+        if let Some(stream) = try_to_connect(rt, port) {
             return Some(stream);
         }
         thread::sleep(rt, Duration::from_millis(5));
@@ -35,21 +48,22 @@ pub fn use_up<R: Net<Listener = TcpListener, Stream = TcpStream>>(rt: &R, port: 
     }
 }
 
-/// What comes until the end.
-fn read_all(alloc: Global, mut stream: TcpStream) -> Vec<u8> {
-    let mut replies = Vec::new(alloc);
+/// Reads once. Answers whether there was anything.
+fn reads(stream: &mut TcpStream, replies: &mut Vec<u8>) -> bool {
     let mut buffer = [0u8; 1024];
+    match stream.read(&mut buffer) {
+        Ok(0) | Err(_) => false,
+        Ok(count) => replies.extend_from_slice(&buffer[..count]).is_ok(),
+    }
+}
+
+/// Reads to the end.
+fn read_all(stream: &mut TcpStream, replies: &mut Vec<u8>) {
     for _ in 0..100_000u32 {
-        match stream.read(&mut buffer) {
-            Ok(0) | Err(_) => break,
-            Ok(count) => {
-                if replies.extend_from_slice(&buffer[..count]).is_err() {
-                    break;
-                }
-            }
+        if !reads(stream, replies) {
+            return;
         }
     }
-    replies
 }
 
 /// One that sends a text, and reads nothing.
@@ -58,36 +72,66 @@ pub fn send_only<R: Net<Listener = TcpListener, Stream = TcpStream> + Clock>(
     port: u16,
     text: &[u8],
 ) -> Option<TcpStream> {
-    let mut stream = connect(rt, port)?;
-    let _ = stream.write_all(text);
-    Some(stream)
+    match connect(rt, port) {
+        Some(mut stream) => {
+            let _ = stream.write_all(text);
+            Some(stream)
+        }
+        None => None,
+    }
 }
 
-/// One that sends a text, and another one 1.2 seconds later if there is one, and reads to the end.
-pub fn talk<R: Net<Listener = TcpListener, Stream = TcpStream> + Clock>(
+/// Sends another text 1.2 seconds later if there is one, and answers whether these replies are read to the end.
+fn is_replied<R: Clock>(
+    rt: &R,
+    alloc: Global,
+    stream: &mut TcpStream,
+    later: &[u8],
+    wanted: &[u8],
+) -> bool {
+    if !later.is_empty() {
+        thread::sleep(rt, Duration::from_millis(1200));
+        let _ = stream.write_all(later);
+    }
+    let mut replies = Vec::new(alloc);
+    read_all(stream, &mut replies);
+    replies.as_slice() == wanted
+}
+
+/// One that sends a text, and another one later if there is one. Answers whether it reads these replies.
+pub fn talks<R: Net<Listener = TcpListener, Stream = TcpStream> + Clock>(
     rt: &R,
     alloc: Global,
     port: u16,
     text: &[u8],
     later: &[u8],
-) -> Vec<u8> {
+    wanted: &[u8],
+) -> bool {
     match send_only(rt, port, text) {
-        Some(mut stream) => {
-            if !later.is_empty() {
-                thread::sleep(rt, Duration::from_millis(1200));
-                let _ = stream.write_all(later);
-            }
-            read_all(alloc, stream)
-        }
-        None => Vec::new(alloc),
+        Some(mut stream) => is_replied(rt, alloc, &mut stream, later, wanted),
+        None => false,
     }
 }
 
-/// A listener on a port of this machine, and that port.
+/// A listener on a port of this machine.
 pub fn take_port<R: Net<Listener = TcpListener, Stream = TcpStream>>(
     rt: &R,
-) -> io::Result<(TcpListener, u16)> {
-    let listener = TcpListener::bind(rt, address(0))?;
-    let port = listener.local_addr()?.port();
-    Ok((listener, port))
+) -> io::Result<TcpListener> {
+    TcpListener::bind(rt, address(0))
+}
+
+/// The port of a listener.
+pub fn port_of(listener: &TcpListener) -> Option<u16> {
+    match listener.local_addr() {
+        Ok(addr) => Some(addr.port()),
+        Err(_) => None,
+    }
+}
+
+/// The port of a listener that was there: nobody listens on it.
+pub fn free_port<R: Net<Listener = TcpListener, Stream = TcpStream>>(rt: &R) -> Option<u16> {
+    match take_port(rt) {
+        Ok(listener) => port_of(&listener),
+        Err(_) => None,
+    }
 }

@@ -1,8 +1,9 @@
 //! What is read from a configuration.
 use crate::texts::{Lines, text_of};
 use audit_model::{Config, EvictionPolicy, Weight};
-use cached_config::{ConfigError, HostedNamespace, Listed, check_config, read_config};
+use cached_config::{ConfigError, ConfigFault, HostedNamespace, Listed, check_config, read_config};
 use std::alloc::{AllocError, Global};
+use std::fmt::Write;
 
 /// A namespace that is read: its name, its port, its configuration, and the key and the value of its one load, if it has one.
 type Space<'a> = (&'a [u8], u16, Config, Option<(&'a [u8], &'a [u8])>);
@@ -261,19 +262,19 @@ fn comes_so(alloc: Global, row: Row<'_>) -> bool {
     }
 }
 
-/// The place of the first row that does not come out so.
-fn first_wrong(alloc: Global) -> Option<usize> {
-    for (place, row) in ROWS.iter().enumerate() {
-        if !comes_so(alloc, *row) {
-            return Some(place);
+/// Whether each file does, at the second try where memory is refused.
+fn all_come_so(alloc: Global) -> bool {
+    for row in ROWS {
+        if !(comes_so(alloc, *row) || comes_so(alloc, *row)) {
+            return false;
         }
     }
-    None
+    true
 }
 
 #[test]
 fn files_are_read(rt: HostRuntime) {
-    assert_eq!(rt; first_wrong(rt.alloc()), None);
+    assert!(rt; all_come_so(rt.alloc()));
 }
 
 /// The text of a file, and its faults, a line each.
@@ -306,28 +307,47 @@ const FAULTS: &[(&str, &str)] = &[
     ),
 ];
 
-/// The faults of a text, a line each.
-fn faults_of(alloc: Global, text: &str) -> Result<String, AllocError> {
-    let mut told = String::new(alloc);
-    for fault in &check_config(alloc, text)? {
-        let line = format!(in alloc; "{}: {}\n", fault.line, fault.what)?;
-        told.push_str(line.as_str())?;
+/// Adds a line for each fault.
+fn add_faults(told: &mut String, faults: &[ConfigFault]) -> Result<(), AllocError> {
+    for fault in faults {
+        write!(told, "{}: {}\n", fault.line, fault.what)?;
     }
-    Ok(told)
+    Ok(())
 }
 
-/// Whether each file has its faults.
-fn all_are_told(alloc: Global) -> Result<bool, AllocError> {
-    for (text, faults) in FAULTS {
-        if faults_of(alloc, text)?.as_str() != *faults {
-            return Ok(false);
+/// Whether faults are told so, a line each.
+fn are_told(alloc: Global, faults: &[ConfigFault], wanted: &str) -> bool {
+    let mut told = String::new(alloc);
+    add_faults(&mut told, faults).is_ok() && told.as_str() == wanted
+}
+
+/// Whether a file has these faults.
+fn has_faults(alloc: Global, (text, wanted): (&str, &str)) -> bool {
+    match check_config(alloc, text) {
+        Ok(faults) => are_told(alloc, faults.as_slice(), wanted),
+        Err(_) => false,
+    }
+}
+
+/// Whether each file has its faults, at the second try where memory is refused.
+fn all_are_told(alloc: Global) -> bool {
+    for row in FAULTS {
+        if !(has_faults(alloc, *row) || has_faults(alloc, *row)) {
+            return false;
         }
     }
-    let broken = faults_of(alloc, "[[namespace]]\nname = \"a\n")?;
-    Ok(broken.as_str().starts_with("2: "))
+    true
+}
+
+/// Whether the first fault of a file that is no TOML is in its second line.
+fn is_broken(alloc: Global) -> bool {
+    match check_config(alloc, "[[namespace]]\nname = \"a\n") {
+        Ok(faults) => matches!(faults.as_slice(), [first, ..] if first.line == 2),
+        Err(_) => false,
+    }
 }
 
 #[test]
 fn faults_are_told_by_lines(rt: HostRuntime) {
-    assert_eq!(rt; all_are_told(rt.alloc()), Ok(true));
+    assert!(rt; all_are_told(rt.alloc()) && (is_broken(rt.alloc()) || is_broken(rt.alloc())));
 }

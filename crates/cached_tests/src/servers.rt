@@ -1,7 +1,7 @@
 //! Servers of configurations, with clients.
-use crate::clients::take_port;
-use crate::stages::{Cast, Served, stage};
-use crate::texts::{Lines, text_by, text_of};
+use crate::clients::{free_port, port_of, take_port};
+use crate::stages::{Cast, Row, Stage, is_staged_so};
+use crate::texts::{Lines, Talk, Texts, text_by, text_of, texts_of};
 use cached_server::Fault;
 use std::alloc::Global;
 use std::net::{Net, TcpListener, TcpStream};
@@ -9,28 +9,6 @@ use std::random::RandomSource;
 use std::sync::Wait;
 use std::thread::Threads;
 use std::time::Clock;
-
-/// Room for all that a server writes.
-const AMPLE: usize = 1_000_000;
-
-/// Namespaces, which clients there are and what they send, what they read, what the server writes, and how it ends.
-#[derive(Clone, Copy)]
-pub struct Row<'a> {
-    /// A text for each namespace, in which `#` is its port.
-    pub config: &'a [&'a str],
-    pub cast: Cast,
-    pub texts: (&'a [u8], &'a [u8]),
-    pub replies: (&'a [u8], &'a [u8]),
-    /// A text for each namespace, in which `#` is its port, and others behind them.
-    pub shown: &'a [&'a str],
-    /// What is told behind those.
-    pub told: &'a str,
-    /// What it says of notices that were lost.
-    pub alarm: &'a str,
-    /// Whether the server's writer has room for just that.
-    pub is_cut: bool,
-    pub ended: Result<(), Fault>,
-}
 
 /// One namespace without rules.
 pub const M: &[&str] = &["[[namespace]]\nname = \"m\"\nport = #\n"];
@@ -48,17 +26,8 @@ pub const NOBODY: Row<'static> = Row {
     ended: Ok(()),
 };
 
-/// Whether a server ended so and wrote this, and its clients read that.
-fn is_so(served: &Served, row: &Row<'_>, shown: &str) -> bool {
-    served.ended == row.ended
-        && served.replies.0.as_slice() == row.replies.0
-        && served.replies.1.as_slice() == row.replies.1
-        && served.shown.0.as_slice() == shown.as_bytes()
-        && served.shown.1.as_slice() == row.alarm.as_bytes()
-}
-
 /// Whether a server on two ports comes to what its row says.
-fn comes_so<R>(rt: R, alloc: Global, row: &Row<'_>, ports: (u16, u16)) -> Option<bool>
+fn comes_so<R>(rt: R, alloc: Global, row: &Row<'_>, ports: (u16, u16)) -> bool
 where
     R: Net<Listener = TcpListener, Stream = TcpStream>
         + Clock
@@ -71,15 +40,73 @@ where
         + 'static,
 {
     let numbers = (u32::from(ports.0), u32::from(ports.1));
-    let config = text_by(alloc, row.config, numbers)?;
-    let mut shown = text_by(alloc, row.shown, numbers)?;
-    shown.push_str(row.told).ok()?;
-    let room = if row.is_cut { shown.len() } else { AMPLE };
-    let served = stage(rt, alloc, config.as_str(), row.cast, ports, row.texts, room)?;
-    Some(is_so(&served, row, shown.as_str()))
+    match (
+        text_by(alloc, row.config, numbers, ""),
+        text_by(alloc, row.shown, numbers, row.told),
+    ) {
+        (Some(config), Some(shown)) => {
+            let stage = Stage {
+                ports,
+                config: config.as_str(),
+                shown: shown.as_str(),
+            };
+            is_staged_so(rt, alloc, row, stage)
+        }
+        _ => false,
+    }
+}
+
+/// The listener, where its port stays taken.
+fn keep(listener: TcpListener, is_kept: bool) -> Option<TcpListener> {
+    if is_kept { Some(listener) } else { None }
+}
+
+/// Whether a server on these ports comes to what its row says, the second of which is that of the listener.
+fn comes_so_beside<R>(
+    rt: R,
+    alloc: Global,
+    row: &Row<'_>,
+    ports: (u16, u16),
+    second: TcpListener,
+) -> bool
+where
+    R: Net<Listener = TcpListener, Stream = TcpStream>
+        + Clock
+        + RandomSource
+        + Threads
+        + Wait
+        + Copy
+        + Send
+        + Sync
+        + 'static,
+{
+    let _taken = keep(second, matches!(row.cast, Cast::Shut));
+    comes_so(rt, alloc, row, ports)
 }
 
 /// Whether a server on free ports comes to what its row says.
+fn comes_so_once<R>(rt: R, alloc: Global, row: &Row<'_>) -> bool
+where
+    R: Net<Listener = TcpListener, Stream = TcpStream>
+        + Clock
+        + RandomSource
+        + Threads
+        + Wait
+        + Copy
+        + Send
+        + Sync
+        + 'static,
+{
+    match take_port(&rt) {
+        Ok(second) => match (free_port(&rt), port_of(&second)) {
+            (Some(one), Some(two)) => comes_so_beside(rt, alloc, row, (one, two), second),
+            _ => false,
+        },
+        Err(_) => false,
+    }
+}
+
+/// The same, at the second try where memory is refused.
 fn serves<R>(rt: R, alloc: Global, row: &Row<'_>) -> bool
 where
     R: Net<Listener = TcpListener, Stream = TcpStream>
@@ -92,23 +119,11 @@ where
         + Sync
         + 'static,
 {
-    match (take_port(&rt), take_port(&rt)) {
-        (Ok((one, first)), Ok((two, second))) => {
-            drop(one);
-            let _taken = if matches!(row.cast, Cast::Shut) {
-                Some(two)
-            } else {
-                drop(two);
-                None
-            };
-            comes_so(rt, alloc, row, (first, second)) == Some(true)
-        }
-        _ => false,
-    }
+    comes_so_once(rt, alloc, row) || comes_so_once(rt, alloc, row)
 }
 
-/// The place of the first of these rows that does not come out so.
-pub fn first_wrong<R>(rt: R, alloc: Global, rows: &[Row<'_>]) -> Option<usize>
+/// Whether a server of each row comes to what it says.
+pub fn all_serve<R>(rt: R, alloc: Global, rows: &[Row<'_>]) -> bool
 where
     R: Net<Listener = TcpListener, Stream = TcpStream>
         + Clock
@@ -120,12 +135,12 @@ where
         + Sync
         + 'static,
 {
-    for (place, row) in rows.iter().enumerate() {
+    for row in rows {
         if !serves(rt, alloc, row) {
-            return Some(place);
+            return false;
         }
     }
-    None
+    true
 }
 
 const ROWS: &[Row<'static>] = &[
@@ -206,19 +221,11 @@ const ROWS: &[Row<'static>] = &[
 
 #[test]
 fn rows_of_servers(rt: HostRuntime) {
-    assert_eq!(rt; first_wrong(rt, rt.alloc(), ROWS), None);
+    assert!(rt; all_serve(rt, rt.alloc(), ROWS));
 }
 
-/// What a client sends and reads, and the notes.
-pub type Talk<'a> = (&'a [Lines<'a>], &'a [Lines<'a>], &'a [Lines<'a>]);
-
-/// Whether a server of these namespaces serves a long talk so.
-pub fn serves_long<R>(
-    rt: R,
-    alloc: Global,
-    config: &[&str],
-    (sent, read, notes): Talk<'_>,
-) -> Option<bool>
+/// Whether a server of these namespaces serves a client whose talk has these texts.
+fn serves_texts<'a, R>(rt: R, alloc: Global, config: &'a [&'a str], texts: &'a Texts) -> bool
 where
     R: Net<Listener = TcpListener, Stream = TcpStream>
         + Clock
@@ -230,20 +237,35 @@ where
         + Sync
         + 'static,
 {
-    let sent = text_of(alloc, sent)?;
-    let read = text_of(alloc, read)?;
-    let notes = text_of(alloc, notes)?;
     let row = Row {
         config,
         cast: Cast::One,
-        texts: (sent.as_bytes(), b""),
-        replies: (read.as_bytes(), b""),
+        texts: (texts.sent.as_bytes(), b""),
+        replies: (texts.read.as_bytes(), b""),
         shown: &["listening m 127.0.0.1:#\n"],
-        told: notes.as_str(),
-        alarm: "",
+        told: texts.told.as_str(),
         ..NOBODY
     };
-    Some(serves(rt, alloc, &row))
+    serves(rt, alloc, &row)
+}
+
+/// Whether a server of these namespaces serves a long talk.
+pub fn serves_long<R>(rt: R, alloc: Global, config: &'static [&'static str], talk: Talk<'_>) -> bool
+where
+    R: Net<Listener = TcpListener, Stream = TcpStream>
+        + Clock
+        + RandomSource
+        + Threads
+        + Wait
+        + Copy
+        + Send
+        + Sync
+        + 'static,
+{
+    match texts_of(alloc, talk) {
+        Some(texts) => serves_texts(rt, alloc, config, &texts),
+        None => false,
+    }
 }
 
 /// A client that asks for a long value again and again.
@@ -254,8 +276,8 @@ const DEAF: &[Lines<'static>] = &[
     ("\n", 1, 1),
 ];
 
-/// Whether bad clients harm nobody.
-fn is_harmless<R>(rt: R, alloc: Global) -> Option<bool>
+/// Whether bad clients harm nobody, the first of which sends this.
+fn is_harmless<R>(rt: R, alloc: Global, deaf: &str) -> bool
 where
     R: Net<Listener = TcpListener, Stream = TcpStream>
         + Clock
@@ -267,7 +289,6 @@ where
         + Sync
         + 'static,
 {
-    let deaf = text_of(alloc, DEAF)?;
     let row = Row {
         config: M,
         cast: Cast::Bad,
@@ -276,10 +297,29 @@ where
         shown: &["listening m 127.0.0.1:#\n"],
         ..NOBODY
     };
-    Some(serves(rt, alloc, &row))
+    serves(rt, alloc, &row)
+}
+
+/// Whether bad clients harm nobody.
+fn are_harmless<R>(rt: R, alloc: Global) -> bool
+where
+    R: Net<Listener = TcpListener, Stream = TcpStream>
+        + Clock
+        + RandomSource
+        + Threads
+        + Wait
+        + Copy
+        + Send
+        + Sync
+        + 'static,
+{
+    match text_of(alloc, DEAF) {
+        Some(deaf) => is_harmless(rt, alloc, deaf.as_str()),
+        None => false,
+    }
 }
 
 #[test]
 fn bad_clients_harm_nobody(rt: HostRuntime) {
-    assert!(rt; is_harmless(rt, rt.alloc()) == Some(true));
+    assert!(rt; are_harmless(rt, rt.alloc()) || are_harmless(rt, rt.alloc()));
 }

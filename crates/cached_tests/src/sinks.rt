@@ -34,27 +34,22 @@ impl<R: Wait + Copy> Write for Sink<R> {
     }
 }
 
-/// A writer of so much room, and what is written to it.
-pub fn make_sink<R: Wait + Copy>(
-    rt: R,
-    alloc: Global,
-    room: usize,
-) -> Result<(Sink<R>, Written), AllocError> {
-    let written: Written = Arc::new(alloc, Mutex::new(Vec::new(alloc)))?;
-    let mine = Arc::try_clone(&written)?;
-    let sink = Sink {
-        rt,
-        written: mine,
-        room,
-    };
-    Ok((sink, written))
+/// Where what is written can be read back. At first there is nothing.
+pub fn make_written(alloc: Global) -> Option<Written> {
+    Arc::new(alloc, Mutex::new(Vec::new(alloc))).ok()
 }
 
-/// A copy of what was written.
-pub fn read_back(rt: &impl Wait, alloc: Global, written: &Written) -> Vec<u8> {
-    let guard = written.lock(rt);
-    match Vec::from_slice(alloc, guard.as_slice()) {
-        Ok(copy) => copy,
-        Err(_) => Vec::new(alloc),
-    }
+/// A writer of so much room.
+pub fn make_sink<R: Wait + Copy>(
+    rt: R,
+    written: &Written,
+    room: usize,
+) -> Result<Sink<R>, AllocError> {
+    let written = Arc::try_clone(written)?;
+    Ok(Sink { rt, written, room })
+}
+
+/// Whether this was written.
+pub fn is_written(rt: &impl Wait, written: &Written, wanted: &[u8]) -> bool {
+    written.lock(rt).as_slice() == wanted
 }

@@ -1,8 +1,8 @@
 //! Servers, each with its clients, to its end.
-use crate::clients::{connect, send_only, talk, use_up};
-use crate::sinks::{Sink, make_sink, read_back};
+use crate::clients::{connect, send_only, talks, use_up};
+use crate::sinks::{Sink, Written, is_written, make_sink, make_written};
 use cached_server::{Fault, serve_text};
-use std::alloc::Global;
+use std::alloc::{AllocError, Global};
 use std::net::{Net, TcpListener, TcpStream};
 use std::random::RandomSource;
 use std::sync::Wait;
@@ -10,16 +10,8 @@ use std::thread;
 use std::thread::Threads;
 use std::time::{Clock, Instant};
 
-/// What came of it.
-#[derive(Drop)]
-pub struct Served {
-    /// What the clients read.
-    pub replies: (Vec<u8>, Vec<u8>),
-    /// What the server wrote, and what it said of notices that were lost.
-    pub shown: (Vec<u8>, Vec<u8>),
-    /// How it ended.
-    pub ended: Result<(), Fault>,
-}
+/// Room for all that a server writes.
+const AMPLE: usize = 1_000_000;
 
 /// Which clients there are.
 #[derive(Clone, Copy, Drop)]
@@ -38,23 +30,95 @@ pub enum Cast {
     Shut,
 }
 
-/// The clients' part.
-fn play<R: Net<Listener = TcpListener, Stream = TcpStream> + Clock>(
+/// Namespaces, which clients there are and what they send, what they read, what the server writes, and how it ends.
+#[derive(Clone, Copy)]
+pub struct Row<'a> {
+    /// A text for each namespace, in which `#` is its port.
+    pub config: &'a [&'a str],
+    pub cast: Cast,
+    pub texts: (&'a [u8], &'a [u8]),
+    pub replies: (&'a [u8], &'a [u8]),
+    /// A text for each namespace, in which `#` is its port, and others behind them.
+    pub shown: &'a [&'a str],
+    /// What is told behind those.
+    pub told: &'a str,
+    /// What it says of notices that were lost.
+    pub alarm: &'a str,
+    /// Whether the server's writer has room for just that.
+    pub is_cut: bool,
+    pub ended: Result<(), Fault>,
+}
+
+/// A server on two ports: the text that configures it, and what it writes.
+#[derive(Clone, Copy)]
+pub struct Stage<'a> {
+    pub ports: (u16, u16),
+    pub config: &'a str,
+    pub shown: &'a str,
+}
+
+/// One client on each port, one after the other.
+fn each_talks<R: Net<Listener = TcpListener, Stream = TcpStream> + Clock>(
     rt: &R,
     alloc: Global,
-    cast: Cast,
     ports: (u16, u16),
-    texts: (&[u8], &[u8]),
-) -> (Vec<u8>, Vec<u8>) {
-    match cast {
-        Cast::One => (talk(rt, alloc, ports.0, texts.0, b""), Vec::new(alloc)),
-        Cast::Pausing => (talk(rt, alloc, ports.0, texts.0, texts.1), Vec::new(alloc)),
-        Cast::Each => (
-            talk(rt, alloc, ports.0, texts.0, b""),
-            talk(rt, alloc, ports.1, texts.1, b""),
-        ),
-        Cast::Bad => play_badly(rt, alloc, ports.0, texts),
-        Cast::Nobody | Cast::Shut => (Vec::new(alloc), Vec::new(alloc)),
+    row: &Row<'_>,
+) -> bool {
+    talks(rt, alloc, ports.0, row.texts.0, b"", row.replies.0)
+        && talks(rt, alloc, ports.1, row.texts.1, b"", row.replies.1)
+}
+
+/// One whose line never ends. It is replied nothing.
+fn endless_talks<R: Net<Listener = TcpListener, Stream = TcpStream> + Clock>(
+    rt: &R,
+    alloc: Global,
+    port: u16,
+) -> bool {
+    match vec![in alloc; b'x'; 8193] {
+        Ok(line) => talks(rt, alloc, port, &line, b"", b""),
+        Err(_) => false,
+    }
+}
+
+/// One that sends garbage, and then one whose line never ends.
+fn bad_ones_talk<R: Net<Listener = TcpListener, Stream = TcpStream> + Clock>(
+    rt: &R,
+    alloc: Global,
+    port: u16,
+    wanted: &[u8],
+) -> bool {
+    talks(rt, alloc, port, b"\x00\xff\xfe\nGET\nQUIT\n", b"", wanted)
+        && endless_talks(rt, alloc, port)
+}
+
+/// One that sends nothing, one that closes half-way, one that sends garbage, one whose line never ends, one that does not read its replies,
+/// and then a good one, while the first and the fifth are still there. The first replies are what the third reads.
+fn all_talk<R: Net<Listener = TcpListener, Stream = TcpStream> + Clock>(
+    rt: &R,
+    alloc: Global,
+    port: u16,
+    row: &Row<'_>,
+) -> bool {
+    let _silent = connect(rt, port);
+    drop(send_only(rt, port, b"SET half - 1"));
+    let is_refused = bad_ones_talk(rt, alloc, port, row.replies.0);
+    let _deaf = send_only(rt, port, row.texts.0);
+    talks(rt, alloc, port, row.texts.1, b"", row.replies.1) && is_refused
+}
+
+/// The clients' part. Answers whether they read what their row says.
+fn clients_talk<R: Net<Listener = TcpListener, Stream = TcpStream> + Clock>(
+    rt: &R,
+    alloc: Global,
+    ports: (u16, u16),
+    row: &Row<'_>,
+) -> bool {
+    match row.cast {
+        Cast::One => talks(rt, alloc, ports.0, row.texts.0, b"", row.replies.0),
+        Cast::Pausing => talks(rt, alloc, ports.0, row.texts.0, row.texts.1, row.replies.0),
+        Cast::Each => each_talks(rt, alloc, ports, row),
+        Cast::Bad => all_talk(rt, alloc, ports.0, row),
+        Cast::Nobody | Cast::Shut => true,
     }
 }
 
@@ -69,42 +133,17 @@ fn counts_of(cast: Cast) -> (u32, u32) {
 }
 
 /// The clients' part. Then as many connections are used up as a failed test would leave, so that its server ends.
-fn play_and_end<R: Net<Listener = TcpListener, Stream = TcpStream> + Clock>(
+fn clients_talk_and_end<R: Net<Listener = TcpListener, Stream = TcpStream> + Clock>(
     rt: &R,
     alloc: Global,
-    cast: Cast,
     ports: (u16, u16),
-    texts: (&[u8], &[u8]),
-) -> (Vec<u8>, Vec<u8>) {
-    let replies = play(rt, alloc, cast, ports, texts);
-    let counts = counts_of(cast);
+    row: &Row<'_>,
+) -> bool {
+    let is_read = clients_talk(rt, alloc, ports, row);
+    let counts = counts_of(row.cast);
     use_up(rt, ports.0, counts.0);
     use_up(rt, ports.1, counts.1);
-    replies
-}
-
-/// One that sends nothing, one that closes half-way, one that sends garbage, one whose line never ends, one that does not read its replies,
-/// and then a good one, while the first and the fifth are still there. Answers what the third and the last read.
-fn play_badly<R: Net<Listener = TcpListener, Stream = TcpStream> + Clock>(
-    rt: &R,
-    alloc: Global,
-    port: u16,
-    texts: (&[u8], &[u8]),
-) -> (Vec<u8>, Vec<u8>) {
-    let _silent = connect(rt, port);
-    drop(send_only(rt, port, b"SET half - 1"));
-    let garbage = talk(rt, alloc, port, b"\x00\xff\xfe\nGET\nQUIT\n", b"");
-    let endless = match vec![in alloc; b'x'; 8193] {
-        Ok(line) => talk(rt, alloc, port, &line, b""),
-        Err(_) => Vec::new(alloc),
-    };
-    let _deaf = send_only(rt, port, texts.0);
-    let good = talk(rt, alloc, port, texts.1, b"");
-    if endless.is_empty() {
-        (garbage, good)
-    } else {
-        (endless, good)
-    }
+    is_read
 }
 
 /// Serves what a text configures, each namespace as often as the clients need.
@@ -133,16 +172,14 @@ where
     }
 }
 
-/// Serves what a text configures, with clients on two ports. The server's writer takes so many bytes.
-pub fn stage<R>(
+/// Whether a server that writes to these ends as its row says, and its clients read what it says.
+fn is_served<R>(
     rt: R,
     alloc: Global,
-    config: &str,
-    cast: Cast,
-    ports: (u16, u16),
-    texts: (&[u8], &[u8]),
-    room: usize,
-) -> Option<Served>
+    row: &Row<'_>,
+    stage: Stage<'_>,
+    sinks: (Sink<R>, Sink<R>),
+) -> bool
 where
     R: Net<Listener = TcpListener, Stream = TcpStream>
         + Clock
@@ -154,21 +191,72 @@ where
         + Sync
         + 'static,
 {
-    let (sink, written) = make_sink(rt, alloc, room).ok()?;
-    let (alarm, alarmed) = make_sink(rt, alloc, 1000).ok()?;
     let lent = &rt;
-    let (replies, ended) = thread::join(
+    let (is_read, ended) = thread::join(
         lent,
-        move || play_and_end(lent, alloc, cast, ports, texts),
-        move || serve_cast(rt, alloc, config, cast, (sink, alarm)),
+        move || clients_talk_and_end(lent, alloc, stage.ports, row),
+        move || serve_cast(rt, alloc, stage.config, row.cast, sinks),
     );
-    let shown = (
-        read_back(&rt, alloc, &written),
-        read_back(&rt, alloc, &alarmed),
-    );
-    Some(Served {
-        replies,
-        shown,
-        ended,
-    })
+    is_read && ended == row.ended
+}
+
+/// The server's two writers. The first one takes just what it shows where the row says so.
+fn make_sinks<R: Wait + Copy>(
+    rt: R,
+    row: &Row<'_>,
+    stage: Stage<'_>,
+    written: &(Written, Written),
+) -> Result<(Sink<R>, Sink<R>), AllocError> {
+    let room = if row.is_cut { stage.shown.len() } else { AMPLE };
+    let shown = make_sink(rt, &written.0, room)?;
+    let alarm = make_sink(rt, &written.1, AMPLE)?;
+    Ok((shown, alarm))
+}
+
+/// The same of a server that writes there, and whether it wrote what it should.
+fn is_shown<R>(
+    rt: R,
+    alloc: Global,
+    row: &Row<'_>,
+    stage: Stage<'_>,
+    written: &(Written, Written),
+) -> bool
+where
+    R: Net<Listener = TcpListener, Stream = TcpStream>
+        + Clock
+        + RandomSource
+        + Threads
+        + Wait
+        + Copy
+        + Send
+        + Sync
+        + 'static,
+{
+    match make_sinks(rt, row, stage, written) {
+        Ok(sinks) => {
+            is_served(rt, alloc, row, stage, sinks)
+                && is_written(&rt, &written.0, stage.shown.as_bytes())
+                && is_written(&rt, &written.1, row.alarm.as_bytes())
+        }
+        Err(_) => false,
+    }
+}
+
+/// Whether a server, and its clients, come to what the row says.
+pub fn is_staged_so<R>(rt: R, alloc: Global, row: &Row<'_>, stage: Stage<'_>) -> bool
+where
+    R: Net<Listener = TcpListener, Stream = TcpStream>
+        + Clock
+        + RandomSource
+        + Threads
+        + Wait
+        + Copy
+        + Send
+        + Sync
+        + 'static,
+{
+    match (make_written(alloc), make_written(alloc)) {
+        (Some(shown), Some(alarm)) => is_shown(rt, alloc, row, stage, &(shown, alarm)),
+        _ => false,
+    }
 }
