@@ -9,9 +9,11 @@
 //
 // It steps through the program, an instruction at a time, between a refusal and the tests' own code (x86-64).
 #define _GNU_SOURCE
+#include <dlfcn.h>
 #include <errno.h>
 #include <fcntl.h>
 #include <link.h>
+#include <pthread.h>
 #include <signal.h>
 #include <stdatomic.h>
 #include <stddef.h>
@@ -58,12 +60,32 @@ static int is_own(uintptr_t at) {
   return 0;
 }
 
+// Whether the next instruction is a call of the kernel that blocks signals, as a thread's last are: it must not be stepped over.
+static int blocks_signals(const greg_t *registers) {
+  const unsigned char *next = (const unsigned char *)registers[REG_RIP];
+  return next[0] == 0x0f && next[1] == 0x05 && registers[REG_RAX] == SYS_rt_sigprocmask;
+}
+
 // Between two instructions: once the tests' own code runs, memory is there again.
 static void step(int number, siginfo_t *info, void *context) {
   greg_t *registers = ((ucontext_t *)context)->uc_mcontext.gregs;
-  if (!is_own(registers[REG_RIP])) return;
+  if (!is_own(registers[REG_RIP]) && !blocks_signals(registers)) return;
   registers[REG_EFL] &= ~STEPS;
   refuses_all = 0;
+}
+
+// Begins, or stops, to step through the program. (Below the stack's end lie bytes that a function may use.)
+#define BEGIN_STEPS __asm__ volatile("leaq -128(%%rsp), %%rsp; pushfq; orq $0x100, (%%rsp); popfq; leaq 128(%%rsp), %%rsp" ::: "memory", "cc")
+#define STOP_STEPS __asm__ volatile("leaq -128(%%rsp), %%rsp; pushfq; andq $-0x101, (%%rsp); popfq; leaq 128(%%rsp), %%rsp" ::: "memory", "cc")
+
+// A new thread begins with its maker's flags, and with all signals blocked: it must not be stepped through.
+int pthread_create(pthread_t *thread, const pthread_attr_t *attributes, void *(*run)(void *), void *given) {
+  int (*make)(pthread_t *, const pthread_attr_t *, void *(*)(void *), void *) = dlsym(RTLD_NEXT, "pthread_create");
+  int steps = refuses_all;
+  if (steps) STOP_STEPS;
+  int result = make(thread, attributes, run, given);
+  if (steps && refuses_all) BEGIN_STEPS;
+  return result;
 }
 
 static void read_places(const char *name) {
@@ -135,8 +157,7 @@ static int refuses(void *caller) {
   if (is_first && place_count) {
     refuses_all = 1;
     errno = ENOMEM;
-    // (below the stack's end lie bytes that a function may use)
-    __asm__ volatile("leaq -128(%%rsp), %%rsp; pushfq; orq $0x100, (%%rsp); popfq; leaq 128(%%rsp), %%rsp" ::: "memory", "cc");
+    BEGIN_STEPS;
     return 1;
   }
   errno = ENOMEM;
