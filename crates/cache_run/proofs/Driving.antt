@@ -1,5 +1,5 @@
 -- What a driver answers for to whom a service is lent gives what `run` promises.
-use Rattle.std.proofs.Common.{◌≡◌, ◌≢◌, ℕ, true, false, List, [], ◌∷◌, Option, None, Some, refl, sym, ap, ◌∙◌, subst, inl, inr}
+use Rattle.std.proofs.Common.{◌≡◌, ◌≢◌, ℕ, true, false, List, [], ◌∷◌, ◌++◌, Option, None, Some, refl, sym, ap, ◌∙◌, subst, inl, inr}
 use Rattle.std.specs.Prelude.{◌⊎◌, Result, Ok, Err, IfErr, IfOk, IsErrOf, OnOk}
 use Rattle.std.specs.List.{slice_get}
 use Rattle.std.specs.Io.KnownBytes.{IsAtEnd}
@@ -15,16 +15,18 @@ use Rattle.cache_run.specs.Driver.Exchanges.{Chain, Doing, Exchange, HaveClosed,
 use Rattle.cache_spaces.specs.Bares.{BareSpace, bare_tape}
 use Rattle.cache_spaces.specs.Calls.{At, OpensNext}
 use Rattle.cache_spaces.specs.Sound.{IsSound}
-use Rattle.cache_spaces.specs.Spaces.{closing_of, config_of, notices_of}
+use Rattle.cache_spaces.specs.Spaces.{closing_of, config_of, notices_of, outgoing_of}
 use Rattle.cache_run.specs.Accounts.{pending_of}
 use Rattle.cache_run.specs.Carried.{Carried, Left}
 use Rattle.cache_run.specs.Goes.{Goes}
+use Rattle.cache_run.specs.Happened.{sendings_of}
 use Rattle.cache_run.specs.Lent.{ClosesAt, ClosesIt, Comes, ComesAt, DropsAt, DropsBoth, OpensAt}
 use Rattle.cache_run.specs.Loading.{AreKnown}
 use Rattle.cache_run.specs.Runs.{Quiet, ServesPartly, ServesWhole, RunsPartly, RunsWhole}
 use Rattle.cache_run.specs.Worlds.{world}
-use Rattle.cache_run.proofs.Ending.{Closed, closed-so, opens-quiet, opens-stands, partly-so, whole-so}
+use Rattle.cache_run.proofs.Ending.{Closed, closed-so, opens-outgoing, opens-quiet, opens-stands, partly-so, whole-so}
 use Rattle.cache_run.proofs.Going.{goes-more}
+use Rattle.cache_run.proofs.Gone.{AreAmong, among-own, asked-refused}
 use Rattle.cache_run.proofs.Dropping.{none-behind}
 use Rattle.cache_run.proofs.Leading.{Leads, chain-adds-none, chain-closed, chain-leads}
 use Rattle.cache_run.proofs.Led.{Led, carried-led}
@@ -83,11 +85,12 @@ module _ {C L : Type 0} (reads : C → ℕ → C → Type 0) (loads : L → List
     goes =
         let first = opens-quiet x r.opened conn.number r.opens.0 r.opens.1 in
         goes-more conn.number x r.opened r.left (λ s m. Quiet (config_of x) (event.Open conn.number) s m (notices_of x) (notices_of r.opened))
-        (λ m u. AreKnown [] m → Led (config_of r.opened) conn.number m u (notices_of r.opened) (notices_of r.left) (pieces_in t.exchanges) (moments_in t.exchanges) (askings_in t.exchanges) (replies_in t.exchanges) × AreKnown hand u)
+        (λ m u. AreKnown [] m → Led (config_of r.opened) conn.number m u (notices_of r.opened) (notices_of r.left) (pieces_in t.exchanges) (moments_in t.exchanges) (askings_in t.exchanges) (replies_in t.exchanges) (outgoing_of r.opened) (hand ++ outgoing_of r.left) × AreKnown hand u)
         (λ s u. Carried (config_of x) conn.number reads loads (world x s a) (world r.left u b) true false [] (left_of rest)) first leads.goes
         (λ s m u f g.
-        let led = subst (λ k. Led k conn.number m u (notices_of r.opened) (notices_of r.left) (pieces_in t.exchanges) (moments_in t.exchanges) (askings_in t.exchanges) (replies_in t.exchanges)) first.config (g tt).0 in
-        carried-led reads loads (config_of x) conn.number x r.opened r.left s m u a b (pieces_in t.exchanges) (moments_in t.exchanges) (askings_in t.exchanges) (replies_in t.exchanges) (left_of rest) t.sent f led t.read t.wrote t.replies t.clock t.loader)
+        let led = subst (λ k. Led k conn.number m u (notices_of r.opened) (notices_of r.left) (pieces_in t.exchanges) (moments_in t.exchanges) (askings_in t.exchanges) (replies_in t.exchanges) (outgoing_of r.opened) (hand ++ outgoing_of r.left)) first.config (g tt).0 in
+        carried-led reads loads (config_of x) conn.number x r.opened r.left s m u a b (pieces_in t.exchanges) (moments_in t.exchanges) (askings_in t.exchanges) (replies_in t.exchanges) (outgoing_of r.opened) (hand ++ outgoing_of r.left) (left_of rest) t.sent f led
+        (subst (λ outs. AreAmong outs (sendings_of (outgoing_of x))) (sym (opens-outgoing x r.opened conn.number r.opens.0 r.opens.1)) (among-own (outgoing_of x))) (λ more among. asked-refused hand (outgoing_of r.left) rest.refused more t.refused among) t.read t.wrote t.replies t.clock t.loader)
 
     closing : Closed conn.number r.left w
     closing = closed-so r.left w conn.number r.closes.sound (record { situation = leads.stands.situation; opened = leads.stands.opened; left = leads.stands.left.0 }) r.closes.closes

@@ -5,7 +5,7 @@ use Rattle.std.specs.List.{flat_map}
 use Rattle.std.specs.Option.{option_or}
 use Rattle.std.specs.Io.KnownBytes.{IsAtEnd}
 use Rattle.std.proofs.lemmas.Bool.{and_from, eq-eqb, le-leb, lt-ltb, ne_eqb}
-use Rattle.std.proofs.lemmas.List.{append-nil}
+use Rattle.std.proofs.lemmas.List.{append-nil, nil_from_length}
 use Rattle.std.proofs.lemmas.Option.{none-some}
 use Rattle.audit_model.specs.Belongs.{refusal_of, refusal_where}
 use Rattle.audit_model.specs.Follows.{Follows, after_event, after_records, known_in, tasks_in}
@@ -28,7 +28,7 @@ use Rattle.cache_core.specs.Turned.{closing_behind, notes_in, reason_of, replies
 use Rattle.cache_spaces.specs.Bares.{BareSpace, bare_tape}
 use Rattle.cache_spaces.specs.Calls.{IsOpened, OpensNext, ServesEvent}
 use Rattle.cache_spaces.specs.Sound.{IsSound}
-use Rattle.cache_spaces.specs.Spaces.{closing_of, config_of, known_of, notices_of, untaken_output}
+use Rattle.cache_spaces.specs.Spaces.{closing_of, config_of, known_of, notices_of, outgoing_of, untaken_output}
 use Rattle.cache_run.specs.declared.devices.errors.RunError.{RunError}
 use Rattle.cache_run.specs.declared.devices.errors.RunError.TheVariants.{Moment}
 use Rattle.cache_run.specs.Driver.Drives.{Outside}
@@ -45,7 +45,7 @@ use Rattle.cache_run.proofs.Accounting.{accounts-later, accounts-more, adds-more
 use Rattle.cache_run.proofs.Led.{carried-close, carried-drops, carried-still}
 use Rattle.cache_run.proofs.Going.{goes-more, goes-still}
 use Rattle.cache_run.proofs.Dropping.{kept-behind, nobody-behind}
-use Rattle.cache_run.proofs.Happening.{happened-so, listed-is, none-past, opened-is, same-closing, situation-of, stays-opened, IsPlain, found-behind, found-last, found-none, plain-steps, quiet-steps, unrefused, none-of}
+use Rattle.cache_run.proofs.Happening.{happened-so, listed-is, none-past, opened-is, same-closing, sent-is, situation-of, stays-opened, IsPlain, found-behind, found-last, found-none, plain-steps, quiet-steps, unrefused, none-of}
 use Rattle.cache_run.proofs.Leading.{Stands}
 
 -- nobody begins to wait as a connection opens or closes, and no other is touched
@@ -86,6 +86,18 @@ module _ (was is : BareSpace) (number : ℕ) (sound : IsSound bare_tape was) (op
 
   pub opens-keeps : KeepsLoads was is
   opens-keeps = keeps-quiet was is (event.Open number) false (λ s p all. all) (λ s. refl) tt (situation-of was sound) opens.0
+
+  -- no load was sent
+  pub opens-outgoing : outgoing_of is ≡ outgoing_of was
+  opens-outgoing =
+      let x = opens.0.turned sound.some sound.stands in
+      let law = quiet-steps (config_of was) sound.some x.2.next x.0 (event.Open number) x.1.event_is (λ s. refl) tt x.2.follows in
+      let same = ap (λ (t : Situation). t.sent) law.1 in
+      let before = sent-is was sound.some sound.stands in
+      let after = sent-is is x.2.next x.2.stands in
+      let sends = opens.0.stays.sends in
+      let count = sends.count in
+      sends.behind ∙ ap (λ outs. outgoing_of was ++ outs) (nil_from_length sends.loads (omega (arith, same, before, after, count))) ∙ append-nil (outgoing_of was)
 
   pub opens-stands : Stands HasTakenReplies number is
   opens-stands =

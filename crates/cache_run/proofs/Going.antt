@@ -17,8 +17,10 @@ use Rattle.cache_spaces.specs.Calls.{IsOpened, TakesOutput}
 use Rattle.cache_spaces.specs.Spaces.{StandsFor, closing_of, config_of, untaken_output}
 use Rattle.cache_spaces.specs.Bares.{BareSpace}
 use Rattle.cache_run.specs.Goes.{Goes}
-use Rattle.cache_run.specs.Happened.{Fed, record_of}
+use Rattle.cache_run.specs.Driver.Exchanges.{Outs}
+use Rattle.cache_run.specs.Happened.{Fed, Sendings, record_of, sendings_until}
 use Rattle.cache_run.specs.Loading.{SameButLoads}
+use Rattle.cache_run.proofs.Gone.{AreAmong}
 use Rattle.cache_run.proofs.Led.{record-one, Led, led-turn}
 use Rattle.cache_run.proofs.Happening.{IsPlain, plain-record}
 
@@ -106,10 +108,10 @@ goes-output number x y z text F taken goes = record {
 -- ---- a piece
 
 -- the turn of a piece that was fed
-pub fed-turn : (config : Config) (number : ℕ) (piece : List ℕ) (moment : ℕ) (entry : Record) (s t : Situation) (before after : List Note) (text : List ℕ) → Follows config s entry t → entry.event ≡ feeding number piece moment
-    → after ≡ before ++ notes_in entry → text ≡ flat_map reply_in entry.steps → Led config number s t before after piece (moment ∷ []) [] text
-fed-turn config number piece moment entry s t before after text follows is notices replies =
+pub fed-turn : (config : Config) (number : ℕ) (piece : List ℕ) (moment : ℕ) (entry : Record) (s t : Situation) (before after : List Note) (text : List ℕ) (gone behind : Outs) → Follows config s entry t → entry.event ≡ feeding number piece moment
+    → ((sent : Sendings) → AreAmong gone sent → AreAmong behind (sendings_until s t sent)) → after ≡ before ++ notes_in entry → text ≡ flat_map reply_in entry.steps → Led config number s t before after piece (moment ∷ []) [] text gone behind
+fed-turn config number piece moment entry s t before after text gone behind follows is among notices replies =
     let plain = plain-record config s t entry (feeding number piece moment) follows is (subst IsPlain (sym is) tt) in
     let steps = entry.steps in
-    led-turn config number s t before after (Fed piece moment steps) text tt tt (record-one config s (record_of (feeding number piece moment) steps) t (subst (λ e. Follows config s e t) plain follows))
+    led-turn config number s t before after (Fed piece moment steps) text gone behind tt (λ sent were. (tt, among sent were)) (record-one config s (record_of (feeding number piece moment) steps) t (subst (λ e. Follows config s e t) plain follows))
     (notices ∙ ap (λ e. before ++ notes_in e) plain ∙ ap (λ z. before ++ z) (sym (append-nil (flat_map (λ step. step.notices) steps)))) (replies ∙ sym (append-nil (flat_map reply_in steps)))

@@ -19,6 +19,7 @@ use Rattle.cache_spaces.specs.Bares.{BareSpace, bare_tape}
 use Rattle.cache_run.specs.Goes.{Goes}
 use Rattle.cache_run.specs.Devices.Sources.{Asking}
 use Rattle.cache_run.specs.Happened.{Dropped, IsKeyOf, IsSettledBy, Settled, record_replies, asking_of}
+use Rattle.cache_run.proofs.Gone.{AreAmong, among-behind, among-last, among-later, among-more, among-parts, gone-same}
 use Rattle.cache_run.proofs.Led.{record-one, Led, led-turn, led-known, led-more, led-none}
 use Rattle.cache_run.proofs.Going.{goes-still, output-none, output-stands, still-stands, fed-turn, goes-more, goes-output, goes-same}
 use Rattle.cache_run.proofs.Happening.{goes-by, own-replies, happened-so, situation-behind, stays-fed, stays-opened, none-where}
@@ -46,12 +47,14 @@ settling config asking moment happened (inr p) = λ number. subst (IsTurnOf numb
 -- the last of the loads in hand was settled by what the loader said, which was asked by its key
 pub settled-goes : (number : ℕ) (was is : BareSpace) (happened : Event) (asking : Asking) (hand rest : Outs) (load moment : ℕ) (after : List Note) (text : List ℕ) → untaken_output was number ≡ [] → text ≡ untaken_output is number → after ≡ notices_of is
     → did.IsLastOf hand load asking.key rest → IsSettledBy (config_of was) asking.answer moment happened → ((s t : Situation) (entry : Record) → Follows (config_of was) s entry t → entry.event ≡ happened → IsKnown load asking.key s → IsKeyOf s entry.event asking.key) → served.Settled bare_tape was is happened
-    → Goes number was is (λ s t. AreKnown hand s → Led (config_of was) number s t (notices_of was) after [] (moment ∷ []) (asking ∷ []) text)
+    → Goes number was is (λ s t. AreKnown hand s → Led (config_of was) number s t (notices_of was) after [] (moment ∷ []) (asking ∷ []) text (hand ++ outgoing_of was) (rest ++ outgoing_of is))
 settled-goes number was is happened asking hand rest load moment after text none texts notes last said keyed settled =
     goes-by was is happened settled number (settling (config_of was) asking moment happened said number)
-    (λ s t. AreKnown hand s → Led (config_of was) number s t (notices_of was) after [] (moment ∷ []) (asking ∷ []) text)
+    (λ s t. AreKnown hand s → Led (config_of was) number s t (notices_of was) after [] (moment ∷ []) (asking ∷ []) text (hand ++ outgoing_of was) (rest ++ outgoing_of is))
     (λ s t entry event turned follows own stands known.
-    led-turn (config_of was) number s t (notices_of was) after (Settled asking moment entry) text (subst (IsSettledBy (config_of was) asking.answer moment) (sym event) said) (keyed s t entry follows event (known-of hand load asking.key rest s last known).1) (record-one (config_of was) s entry t follows)
+    let placed = keyed s t entry follows event (known-of hand load asking.key rest s last known).1 in
+    led-turn (config_of was) number s t (notices_of was) after (Settled asking moment entry) text (hand ++ outgoing_of was) (rest ++ outgoing_of is) (subst (IsSettledBy (config_of was) asking.answer moment) (sym event) said)
+    (λ sent among. (placed, among-behind was is happened s t entry hand rest sent settled turned follows stands (λ each. (among-last hand load asking.key rest sent last each).0) among)) (record-one (config_of was) s entry t follows)
     (notes ∙ turned.notes ∙ ap (λ l. notices_of was ++ l) (sym (append-nil (notes_in entry))))
     (texts ∙ turned.outputs number ∙ ap (λ o. o ++ replies_to number entry.steps) none ∙ own-replies number entry.steps own ∙ sym (append-nil (record_replies entry))))
 
@@ -59,12 +62,17 @@ settled-goes number was is happened asking hand rest load moment after text none
 unknown-there : (was : BareSpace) (s : Situation) (load : ℕ) → StandsFor was s → (known_of was).is_under_way load ≡ false → key_in load s ≡ None
 unknown-there was s load stands unknown = ap (λ (t : Situation). key_in load t) stands.is ∙ none-where (key_in load (situation_with shown_of was [])) unknown
 
--- a load was not under way, and what the loader said was dropped
-pub dropped-goes : (number : ℕ) (x : BareSpace) (asking : Asking) (hand : Outs) (load moment : ℕ) (after : List Note) (text : List ℕ) → untaken_output x number ≡ [] → text ≡ untaken_output x number → after ≡ notices_of x → (known_of x).is_under_way load ≡ false
-    → Goes number x x (λ s t. AreKnown hand s → Led (config_of x) number s t (notices_of x) after [] (moment ∷ []) (asking ∷ []) text)
-dropped-goes number x asking hand load moment after text none texts notes unknown =
-    goes-still number x (λ s t. AreKnown hand s → Led (config_of x) number s t (notices_of x) after [] (moment ∷ []) (asking ∷ []) text)
-    (λ s stands known. led-turn (config_of x) number s s (notices_of x) after (Dropped asking moment load) text tt (unknown-there x s load stands unknown) refl (notes ∙ sym (append-nil (notices_of x))) (texts ∙ none))
+-- the last of the loads in hand was not under way, and what the loader said, which was asked by its key, was dropped
+pub dropped-goes : (number : ℕ) (x : BareSpace) (asking : Asking) (hand rest : Outs) (load moment : ℕ) (after : List Note) (text : List ℕ) → untaken_output x number ≡ [] → text ≡ untaken_output x number → after ≡ notices_of x → did.IsLastOf hand load asking.key rest
+    → (known_of x).is_under_way load ≡ false → Goes number x x (λ s t. AreKnown hand s → Led (config_of x) number s t (notices_of x) after [] (moment ∷ []) (asking ∷ []) text (hand ++ outgoing_of x) (rest ++ outgoing_of x))
+dropped-goes number x asking hand rest load moment after text none texts notes last unknown =
+    goes-still number x (λ s t. AreKnown hand s → Led (config_of x) number s t (notices_of x) after [] (moment ∷ []) (asking ∷ []) text (hand ++ outgoing_of x) (rest ++ outgoing_of x))
+    (λ s stands known.
+    led-turn (config_of x) number s s (notices_of x) after (Dropped asking moment load) text (hand ++ outgoing_of x) (rest ++ outgoing_of x) tt
+    (λ sent among.
+    let parts = among-parts hand (outgoing_of x) sent among in
+    let own = among-last hand load asking.key rest sent last parts.0 in
+    ((unknown-there x s load stands unknown, own.1), among-later (rest ++ outgoing_of x) s s sent (among-more rest (outgoing_of x) sent own.0 parts.1))) refl (notes ∙ sym (append-nil (notices_of x))) (texts ∙ none))
 
 -- ---- how the connection stands
 
@@ -121,12 +129,14 @@ stands-behind number was is exchange c s =
 
 -- in each situation, where the keys of the loads in hand are right
 pub does-led : (number : ℕ) (was is : BareSpace) (doing : Doing) (hand rest : Outs) (after : List Note) (text : List ℕ) → untaken_output was number ≡ [] → text ≡ untaken_output is number → after ≡ notices_of is → Leaves doing hand rest → Does number doing was is
-    → Goes number was is (λ s t. AreKnown hand s → Led (config_of was) number s t (notices_of was) after (bytes_of doing) (told_of doing) (asks_of doing) text)
+    → Goes number was is (λ s t. AreKnown hand s → Led (config_of was) number s t (notices_of was) after (bytes_of doing) (told_of doing) (asks_of doing) text (hand ++ outgoing_of was) (rest ++ outgoing_of is))
 does-led number was is (did.Fed piece moment held) hand rest after text none texts notes leaves d =
-    goes-by was is (feeding number piece moment) (happened-so was is (feeding number piece moment) held d) number refl
-    (λ s t. AreKnown hand s → Led (config_of was) number s t (notices_of was) after piece (moment ∷ []) [] text)
+    let settled = happened-so was is (feeding number piece moment) held d in
+    goes-by was is (feeding number piece moment) settled number refl
+    (λ s t. AreKnown hand s → Led (config_of was) number s t (notices_of was) after piece (moment ∷ []) [] text (hand ++ outgoing_of was) (rest ++ outgoing_of is))
     (λ s t entry event turned follows own stands known.
-    fed-turn (config_of was) number piece moment entry s t (notices_of was) after text follows event (notes ∙ turned.notes)
+    fed-turn (config_of was) number piece moment entry s t (notices_of was) after text (hand ++ outgoing_of was) (rest ++ outgoing_of is) follows event
+    (λ sent among. among-behind was is (feeding number piece moment) s t entry hand rest sent settled turned follows stands (λ each. subst (λ outs. AreAmong outs sent) (sym leaves) each) among) (notes ∙ turned.notes)
     (texts ∙ turned.outputs number ∙ ap (λ o. o ++ replies_to number entry.steps) none ∙ own-replies number entry.steps own))
 does-led number was is (did.Answered load key outcome moment) hand rest after text none texts notes leaves d =
     settled-goes number was is (answering load outcome moment) (asking_of key (Some outcome)) hand rest load moment after text none texts notes leaves (inl (load, outcome, refl, refl))
@@ -135,13 +145,14 @@ does-led number was is (did.GivenUp load asking moment) hand rest after text non
     settled-goes number was is (giving_up load moment) asking hand rest load moment after text none texts notes leaves (inr (load, refl, d.1))
     (λ s t entry follows event known. subst (λ h. IsKeyOf s h asking.key) (sym event) (given-up-key (config_of was) s t entry load _ asking.key follows event known.1)) d.0
 does-led number was is (did.Dropped load asking moment) hand rest after text none texts notes leaves d =
-    subst (λ y. Goes number was y (λ s t. AreKnown hand s → Led (config_of was) number s t (notices_of was) after [] (moment ∷ []) (asking ∷ []) text)) (sym d.0)
-    (dropped-goes number was asking hand load moment after text none (texts ∙ ap (λ y. untaken_output y number) d.0) (notes ∙ ap notices_of d.0) d.1)
+    subst (λ y. Goes number was y (λ s t. AreKnown hand s → Led (config_of was) number s t (notices_of was) after [] (moment ∷ []) (asking ∷ []) text (hand ++ outgoing_of was) (rest ++ outgoing_of y))) (sym d.0)
+    (dropped-goes number was asking hand rest load moment after text none (texts ∙ ap (λ y. untaken_output y number) d.0) (notes ∙ ap notices_of d.0) leaves d.1)
 does-led number was is did.Looked hand rest after text none texts notes leaves d =
     let unmoved : untaken_output is number ≡ untaken_output was number = ap (λ y. untaken_output y number) d in
-    subst (λ y. Goes number was y (λ s t. AreKnown hand s → Led (config_of was) number s t (notices_of was) after [] [] [] text)) (sym d)
-    (goes-still number was (λ s t. AreKnown hand s → Led (config_of was) number s t (notices_of was) after [] [] [] text)
-    (λ s stands known. led-none (config_of was) number s (notices_of was) after text (notes ∙ ap notices_of d) (texts ∙ unmoved ∙ none)))
+    subst (λ y. Goes number was y (λ s t. AreKnown hand s → Led (config_of was) number s t (notices_of was) after [] [] [] text (hand ++ outgoing_of was) (rest ++ outgoing_of y))) (sym d)
+    (goes-still number was (λ s t. AreKnown hand s → Led (config_of was) number s t (notices_of was) after [] [] [] text (hand ++ outgoing_of was) (rest ++ outgoing_of was))
+    (λ s stands known.
+    led-none (config_of was) number s (notices_of was) after text (hand ++ outgoing_of was) (rest ++ outgoing_of was) (notes ∙ ap notices_of d) (texts ∙ unmoved ∙ none) (ap (λ outs. outs ++ outgoing_of was) leaves)))
 
 -- ---- loads are taken
 
@@ -162,17 +173,18 @@ goes-given number was is (Some loads) rest after t keeps =
 -- ---- an exchange, and exchanges one after another
 
 -- Where the keys of the loads in hand are right, each situation goes on by turns, for which these pieces were fed, and so on; the keys of those
--- that are in hand behind them are right. No load is lost sight of, and the connection stands there with its replies taken.
+-- that are in hand behind them are right, and where loads that had gone out were sent, so were those. No load is lost sight of, and the
+-- connection stands there with its replies taken.
 pub record Leads (number : ℕ) (was is : BareSpace) (hand after : Outs) (exchanges : List Exchange) : Type 0 where
-  pub goes : Goes number was is (λ s t. AreKnown hand s → Led (config_of was) number s t (notices_of was) (notices_of is) (pieces_in exchanges) (moments_in exchanges) (askings_in exchanges) (replies_in exchanges) × AreKnown after t)
+  pub goes : Goes number was is (λ s t. AreKnown hand s → Led (config_of was) number s t (notices_of was) (notices_of is) (pieces_in exchanges) (moments_in exchanges) (askings_in exchanges) (replies_in exchanges) (hand ++ outgoing_of was) (after ++ outgoing_of is) × AreKnown after t)
   pub accounted : Accounts was is hand after
   pub stands : Stands HasTakenReplies number is
 
 -- no exchange
 pub leads-none : (number : ℕ) (x : BareSpace) (hand : Outs) → Stands HasTakenReplies number x → Leads number x x hand hand []
 leads-none number x hand stands = record {
-  goes = goes-still number x (λ s t. AreKnown hand s → Led (config_of x) number s t (notices_of x) (notices_of x) [] [] [] [] × AreKnown hand t)
-      (λ s stands known. (led-none (config_of x) number s (notices_of x) (notices_of x) [] refl refl, known));
+  goes = goes-still number x (λ s t. AreKnown hand s → Led (config_of x) number s t (notices_of x) (notices_of x) [] [] [] [] (hand ++ outgoing_of x) (hand ++ outgoing_of x) × AreKnown hand t)
+      (λ s stands known. (led-none (config_of x) number s (notices_of x) (notices_of x) [] (hand ++ outgoing_of x) (hand ++ outgoing_of x) refl refl refl, known));
   accounted = accounts-later x x hand (later-same x);
   stands = stands;
 }
@@ -185,27 +197,30 @@ leads-more number was mid is hand between after exchange exchanges s c h l =
     let text = unwrap_or exchange.text [] in
     let texts : text ≡ c.text = ap (λ o. unwrap_or o []) c.texts in
     let notes : notices_of mid ≡ notices_of c.done = notes-given c.told mid exchange.loads c.gives ∙ ap notices_of c.replies.rest in
-    let done : Goes number was c.done (λ s t. AreKnown hand s → Led (config_of was) number s t (notices_of was) (notices_of mid) (bytes_of doing) (told_of doing) (asks_of doing) text) =
+    let gone = hand ++ outgoing_of was in
+    let halfway = between ++ outgoing_of mid in
+    let behind = after ++ outgoing_of is in
+    let same : halfway ≡ h.rest ++ outgoing_of c.done = gone-same c.told mid exchange.loads h.rest between c.gives h.keeps ∙ ap (λ outs. h.rest ++ outs) (ap outgoing_of c.replies.rest) in
+    let Step : Situation → Situation → Outs → Type 0 = λ s t outs. Led (config_of was) number s t (notices_of was) (notices_of mid) (bytes_of doing) (told_of doing) (asks_of doing) text gone outs in
+    let done : Goes number was c.done (λ s t. AreKnown hand s → Step s t (h.rest ++ outgoing_of c.done)) =
     does-led number was c.done doing hand h.rest (notices_of mid) text s.left.1 (texts ∙ c.replies.taken) notes h.leaves c.does in
-    let one : Goes number was mid (λ s t. AreKnown hand s → Led (config_of was) number s t (notices_of was) (notices_of mid) (bytes_of doing) (told_of doing) (asks_of doing) text × AreKnown between t) =
-    goes-more number was c.told mid (λ s t. AreKnown hand s → Led (config_of was) number s t (notices_of was) (notices_of mid) (bytes_of doing) (told_of doing) (asks_of doing) text)
-    (λ s t. (s ≡ t) × (AreKnown h.rest s → AreKnown between t)) (λ s t. AreKnown hand s → Led (config_of was) number s t (notices_of was) (notices_of mid) (bytes_of doing) (told_of doing) (asks_of doing) text × AreKnown between t)
-    (goes-output number was c.done c.told c.text (λ s t. AreKnown hand s → Led (config_of was) number s t (notices_of was) (notices_of mid) (bytes_of doing) (told_of doing) (asks_of doing) text) c.replies done)
-    (goes-given number c.told mid exchange.loads h.rest between c.gives h.keeps)
+    let one : Goes number was mid (λ s t. AreKnown hand s → Step s t halfway × AreKnown between t) =
+    goes-more number was c.told mid (λ s t. AreKnown hand s → Step s t (h.rest ++ outgoing_of c.done)) (λ s t. (s ≡ t) × (AreKnown h.rest s → AreKnown between t)) (λ s t. AreKnown hand s → Step s t halfway × AreKnown between t)
+    (goes-output number was c.done c.told c.text (λ s t. AreKnown hand s → Step s t (h.rest ++ outgoing_of c.done)) c.replies done) (goes-given number c.told mid exchange.loads h.rest between c.gives h.keeps)
     (λ s t u led g known.
     let f = led known in
-    let knows = led-known (config_of was) number s t (notices_of was) (notices_of mid) (bytes_of doing) (told_of doing) (asks_of doing) text h.rest f (known-rest doing hand h.rest s h.leaves known) in
-    (subst (λ m. Led (config_of was) number s m (notices_of was) (notices_of mid) (bytes_of doing) (told_of doing) (asks_of doing) text) g.0 f, g.1 knows)) in
+    let knows = led-known (config_of was) number s t (notices_of was) (notices_of mid) (bytes_of doing) (told_of doing) (asks_of doing) text gone (h.rest ++ outgoing_of c.done) h.rest f (known-rest doing hand h.rest s h.leaves known) in
+    (subst (λ m. Step s m halfway) g.0 (subst (λ outs. Step s t outs) (sym same) f), g.1 knows)) in
+    let More : Config → Situation → Situation → Type 0 = λ k s t. Led k number s t (notices_of mid) (notices_of is) (pieces_in exchanges) (moments_in exchanges) (askings_in exchanges) (replies_in exchanges) halfway behind in
     record {
-      goes = goes-more number was mid is (λ s t. AreKnown hand s → Led (config_of was) number s t (notices_of was) (notices_of mid) (bytes_of doing) (told_of doing) (asks_of doing) text × AreKnown between t)
-          (λ s t. AreKnown between s → Led (config_of mid) number s t (notices_of mid) (notices_of is) (pieces_in exchanges) (moments_in exchanges) (askings_in exchanges) (replies_in exchanges) × AreKnown after t)
-          (λ s t. AreKnown hand s → Led (config_of was) number s t (notices_of was) (notices_of is) (pieces_in (exchange ∷ exchanges)) (moments_in (exchange ∷ exchanges)) (askings_in (exchange ∷ exchanges)) (replies_in (exchange ∷ exchanges)) × AreKnown after t)
+      goes = goes-more number was mid is (λ s t. AreKnown hand s → Step s t halfway × AreKnown between t) (λ s t. AreKnown between s → More (config_of mid) s t × AreKnown after t)
+          (λ s t. AreKnown hand s → Led (config_of was) number s t (notices_of was) (notices_of is) (pieces_in (exchange ∷ exchanges)) (moments_in (exchange ∷ exchanges)) (askings_in (exchange ∷ exchanges)) (replies_in (exchange ∷ exchanges)) gone behind × AreKnown after t)
           one l.goes
           (λ s t u f g known.
           let first = f known in
           let second = g first.1 in (
-            led-more (config_of was) number s t u (notices_of was) (notices_of mid) (notices_of is) (bytes_of doing) (pieces_in exchanges) (told_of doing) (moments_in exchanges) (asks_of doing) (askings_in exchanges) text (replies_in exchanges) first.0
-                (subst (λ k. Led k number t u (notices_of mid) (notices_of is) (pieces_in exchanges) (moments_in exchanges) (askings_in exchanges) (replies_in exchanges)) one.config second.0),
+            led-more (config_of was) number s t u (notices_of was) (notices_of mid) (notices_of is) (bytes_of doing) (pieces_in exchanges) (told_of doing) (moments_in exchanges) (asks_of doing) (askings_in exchanges) text (replies_in exchanges) gone halfway behind first.0
+                (subst (λ k. More k t u) one.config second.0),
             second.1,
           ));
       accounted = accounts-more was mid is hand between after (accounts-behind number was mid exchange hand between s.situation c h) l.accounted;

@@ -12,8 +12,8 @@ use Rattle.audit_model.specs.declared.event.Event.TheVariants as event
 use Rattle.audit_model.specs.declared.event.Outcome.{Outcome}
 use Rattle.audit_model.specs.declared.transcript.Note.{Note}
 use Rattle.audit_model.specs.declared.transcript.Record.{Record}
-use Rattle.cache_run.specs.Happened.{record_of, Turn, AreInPlace, AreRight, turn_notes, records_in, IsInPlace, IsRight, asked_in, moment_in, piece_in, replies_in}
-use Rattle.cache_spaces.specs.Spaces.{notices_of}
+use Rattle.cache_run.specs.Happened.{record_of, Turn, AreInPlace, AreRight, AskForSent, Sendings, turn_notes, records_in, IsInPlace, IsRight, asked_in, moment_in, piece_in, replies_in, sendings_of, sendings_until}
+use Rattle.cache_spaces.specs.Spaces.{notices_of, outgoing_of}
 use Rattle.cache_spaces.specs.Bares.{BareSpace}
 use Rattle.cache_core.specs.Turned.{notes_in}
 use Rattle.cache_run.specs.Carried.{Carried, Left, close_records, open_records, records_of}
@@ -26,6 +26,8 @@ use Rattle.cache_run.specs.Devices.Sources.{Asking, Askings, Readings}
 use Rattle.cache_run.specs.Runs.{Quiet}
 use Rattle.cache_run.specs.Loading.{AreKnown}
 use Rattle.cache_run.specs.Driver.Drives.{Outside}
+use Rattle.cache_run.specs.Driver.Exchanges.{Outs}
+use Rattle.cache_run.proofs.Gone.{AreAmong}
 
 split-through : (f g : Situation → Option Situation) (o : Option Situation) (t : Situation) (rest : Option Situation) → ((m : Situation) → f m ≡ Some t → g m ≡ rest) → option_and_then f o ≡ Some t → option_and_then g o ≡ rest
 split-through f g None t rest h e = absurd (none-some t e)
@@ -49,11 +51,16 @@ pub right-more : (config : Config) (xs ys : List Turn) → AreRight config xs �
 right-more config [] ys p q = q
 right-more config (x ∷ xs) ys p q = (p.0, right-more config xs ys p.1 q)
 
-pub placed-more : (config : Config) (number : ℕ) (s : Situation) (xs : List Turn) (t : Situation) (ys : List Turn)
-    → AreInPlace config number s xs → after_records config s (flat_map (records_in number) xs) ≡ Some t → AreInPlace config number t ys → AreInPlace config number s (xs ++ ys)
-placed-more config number s [] t ys p e q = subst (λ m. AreInPlace config number m ys) (sym (same_Some s t e)) q
-placed-more config number s (x ∷ xs) t ys p e q =
-    (p.0, λ m f. placed-more config number m xs t ys (p.1 m f) (sym (records-split config s (records_in number x) m (flat_map (records_in number) xs) f) ∙ e) q)
+-- turns behind turns, and what is true of the loads that were sent until then
+pub placed-more : (config : Config) (number : ℕ) (First Second : Sendings → Type 0) (sent : Sendings) (s : Situation) (xs : List Turn) (t : Situation) (ys : List Turn)
+    → AreInPlace config number First sent s xs → after_records config s (flat_map (records_in number) xs) ≡ Some t → ((more : Sendings) → First more → AreInPlace config number Second more t ys) → AreInPlace config number Second sent s (xs ++ ys)
+placed-more config number First Second sent s [] t ys p e q = subst (λ m. AreInPlace config number Second sent m ys) (sym (same_Some s t e)) (q sent p)
+placed-more config number First Second sent s (x ∷ xs) t ys p e q =
+    (p.0, λ m f. placed-more config number First Second (sendings_until s m sent) m xs t ys (p.1 m f) (sym (records-split config s (records_in number x) m (flat_map (records_in number) xs) f) ∙ e) q)
+
+placed-so : (config : Config) (number : ℕ) (First Second : Sendings → Type 0) (sent : Sendings) (s : Situation) (xs : List Turn) → AreInPlace config number First sent s xs → ((more : Sendings) → First more → Second more) → AreInPlace config number Second sent s xs
+placed-so config number First Second sent s [] p f = f sent p
+placed-so config number First Second sent s (x ∷ xs) p f = (p.0, λ m e. placed-so config number First Second (sendings_until s m sent) m xs (p.1 m e) f)
 
 module _ {C L : Type 0} (config : Config) (number : ℕ) (reads : C → ℕ → C → Type 0) (loads : L → List ℕ → Option Outcome → L → Type 0) where
   -- more records behind what was carried
@@ -98,11 +105,12 @@ module _ {C L : Type 0} (config : Config) (number : ℕ) (reads : C → ℕ → 
       → Carried config number reads loads a (world y u b.outside) opens closes [] left
   carried-still a b y u opens closes left c same notices = carried-drops a b y u opens closes [] [] left c (ap (λ s. Some s) (sym same)) (notices ∙ sym (append-nil b.notices))
 
--- turns came, for which these pieces were fed, the clock told these moments and the loader was asked so, and those are their replies
-pub record Led (config : Config) (number : ℕ) (s t : Situation) (before after : List Note) (pieces moments : List ℕ) (asks : List Asking) (text : List ℕ) : Type 0 where
+-- Turns came, for which these pieces were fed, the clock told these moments and the loader was asked so, and those are their replies. Where
+-- the loads that had gone out were sent, so were those that have gone out behind them.
+pub record Led (config : Config) (number : ℕ) (s t : Situation) (before after : List Note) (pieces moments : List ℕ) (asks : List Asking) (text : List ℕ) (gone behind : Outs) : Type 0 where
   pub turns : List Turn
   pub right : AreRight config turns
-  pub placed : AreInPlace config number s turns
+  pub placed : (sent : Sendings) → AreAmong gone sent → AreInPlace config number (AreAmong behind) sent s turns
   pub follows : after_records config s (flat_map (records_in number) turns) ≡ Some t
   pub notices : after ≡ before ++ flat_map (turn_notes number) turns
   pub fed : flat_map piece_in turns ≡ pieces
@@ -116,11 +124,11 @@ joined f xs ys ps qs p q = flat_map-append f xs ys ∙ ap (λ z. z ++ flat_map f
 
 module _ (config : Config) (number : ℕ) where
   -- no turn came
-  pub led-none : (s : Situation) (before after : List Note) (text : List ℕ) → after ≡ before → text ≡ [] → Led config number s s before after [] [] [] text
-  led-none s before after text notices none = record {
+  pub led-none : (s : Situation) (before after : List Note) (text : List ℕ) (gone behind : Outs) → after ≡ before → text ≡ [] → behind ≡ gone → Led config number s s before after [] [] [] text gone behind
+  led-none s before after text gone behind notices none same = record {
     turns = [];
     right = tt;
-    placed = tt;
+    placed = λ sent among. subst (λ outs. AreAmong outs sent) (sym same) among;
     follows = refl;
     notices = notices ∙ sym (append-nil before);
     fed = refl;
@@ -130,12 +138,13 @@ module _ (config : Config) (number : ℕ) where
   }
 
   -- one came
-  pub led-turn : (s t : Situation) (before after : List Note) (turn : Turn) (text : List ℕ) → IsRight config turn → IsInPlace s turn → after_records config s (records_in number turn) ≡ Some t → after ≡ before ++ turn_notes number turn → text ≡ replies_in number turn
-      → Led config number s t before after (piece_in turn) (moment_in turn ∷ []) (asked_in turn) text
-  led-turn s t before after turn text right placed follows notices replies = record {
+  pub led-turn : (s t : Situation) (before after : List Note) (turn : Turn) (text : List ℕ) (gone behind : Outs) → IsRight config turn
+      → ((sent : Sendings) → AreAmong gone sent → IsInPlace sent s turn × AreAmong behind (sendings_until s t sent))
+      → after_records config s (records_in number turn) ≡ Some t → after ≡ before ++ turn_notes number turn → text ≡ replies_in number turn → Led config number s t before after (piece_in turn) (moment_in turn ∷ []) (asked_in turn) text gone behind
+  led-turn s t before after turn text gone behind right placed follows notices replies = record {
     turns = turn ∷ [];
     right = (right, tt);
-    placed = (placed, λ m g. tt);
+    placed = λ sent among. let p = placed sent among in (p.0, λ m e. subst (λ u. AreAmong behind (sendings_until s u sent)) (same_Some t m (sym follows ∙ e)) p.1);
     follows = ap (after_records config s) (append-nil (records_in number turn)) ∙ follows;
     notices = notices ∙ ap (λ z. before ++ z) (sym (append-nil (turn_notes number turn)));
     fed = append-nil (piece_in turn);
@@ -145,17 +154,17 @@ module _ (config : Config) (number : ℕ) where
   }
 
   -- one after another
-  pub led-more : (s t u : Situation) (before between after : List Note) (pieces more_pieces moments more_moments : List ℕ) (asks more_asks : List Asking) (text more_text : List ℕ)
-      → Led config number s t before between pieces moments asks text → Led config number t u between after more_pieces more_moments more_asks more_text
-      → Led config number s u before after (pieces ++ more_pieces) (moments ++ more_moments) (asks ++ more_asks) (text ++ more_text)
-  led-more s t u before between after pieces more_pieces moments more_moments asks more_asks text more_text x y =
+  pub led-more : (s t u : Situation) (before between after : List Note) (pieces more_pieces moments more_moments : List ℕ) (asks more_asks : List Asking) (text more_text : List ℕ) (gone halfway behind : Outs)
+      → Led config number s t before between pieces moments asks text gone halfway → Led config number t u between after more_pieces more_moments more_asks more_text halfway behind
+      → Led config number s u before after (pieces ++ more_pieces) (moments ++ more_moments) (asks ++ more_asks) (text ++ more_text) gone behind
+  led-more s t u before between after pieces more_pieces moments more_moments asks more_asks text more_text gone halfway behind x y =
       let xs = x.turns in
       let ys = y.turns in
       let notes = flat_map (turn_notes number) in
       record {
         turns = xs ++ ys;
         right = right-more config xs ys x.right y.right;
-        placed = placed-more config number s xs t ys x.placed x.follows y.placed;
+        placed = λ sent among. placed-more config number (AreAmong halfway) (AreAmong behind) sent s xs t ys (x.placed sent among) x.follows y.placed;
         follows = ap (after_records config s) (flat_map-append (records_in number) xs ys) ∙ records-more config s (flat_map (records_in number) xs) t (flat_map (records_in number) ys) u x.follows y.follows;
         notices = y.notices ∙ ap (λ z. z ++ notes ys) x.notices ∙ append_assoc before (notes xs) (notes ys) ∙ ap (λ z. before ++ z) (sym (flat_map-append (turn_notes number) xs ys));
         fed = joined piece_in xs ys pieces more_pieces x.fed y.fed;
@@ -179,26 +188,30 @@ known-outs [] s t keep known = tt
 known-outs (out ∷ outs) s t keep known = (keep out.0.number out.1 known.0, known-outs outs s t keep known.1)
 
 -- what was known of them is known behind the turns
-pub led-known : (config : Config) (number : ℕ) (s t : Situation) (before after : List Note) (pieces moments : List ℕ) (asks : List Asking) (text : List ℕ) (outs : List (LoadId × List ℕ))
-    → Led config number s t before after pieces moments asks text → AreKnown outs s → AreKnown outs t
-led-known config number s t before after pieces moments asks text outs l known = known-outs outs s t (λ n key knows. known-records config n key s (flat_map (records_in number) l.turns) t l.follows knows) known
+pub led-known : (config : Config) (number : ℕ) (s t : Situation) (before after : List Note) (pieces moments : List ℕ) (asks : List Asking) (text : List ℕ) (gone behind outs : Outs)
+    → Led config number s t before after pieces moments asks text gone behind → AreKnown outs s → AreKnown outs t
+led-known config number s t before after pieces moments asks text gone behind outs l known = known-outs outs s t (λ n key knows. known-records config n key s (flat_map (records_in number) l.turns) t l.follows knows) known
 
 -- ---- what is carried
 
 -- where a connection was opened and turns came, and that was read and written, told and asked
 pub carried-led : {C L : Type 0} (reads : C → ℕ → C → Type 0) (loads : L → List ℕ → Option Outcome → L → Type 0) (config : Config) (number : ℕ) (x y z : BareSpace) (s m t : Situation) (a b : Outside C L)
-    (pieces moments : List ℕ) (asks : List Asking) (text : List ℕ) (left : Left) (sent : List ℕ)
-    → Quiet config (event.Open number) s m (notices_of x) (notices_of y) → Led config number m t (notices_of y) (notices_of z) pieces moments asks text
+    (pieces moments : List ℕ) (asks : List Asking) (text : List ℕ) (gone behind : Outs) (left : Left) (sent : List ℕ)
+    → Quiet config (event.Open number) s m (notices_of x) (notices_of y) → Led config number m t (notices_of y) (notices_of z) pieces moments asks text gone behind
+    → AreAmong gone (sendings_of (outgoing_of x)) → ((more : Sendings) → AreAmong behind more → AskForSent left.asked more)
     → Consumes a.remaining b.remaining (pieces ++ left.lost) → Appends a.contents b.contents sent → sent ++ left.unsent ≡ text
     → Readings reads a.clock (moments ++ left.late) b.clock → Askings loads a.loader (asks ++ left.asked) b.loader
     → Carried config number reads loads (world x s a) (world z t b) true false [] left
-carried-led reads loads config number x y z s m t a b pieces moments asks text left sent opened l read wrote replies clock loader =
+carried-led reads loads config number x y z s m t a b pieces moments asks text gone behind left sent opened l among asked read wrote replies clock loader =
     let first = record-one config s (record_of (event.Open number) []) m opened.follows in
     let records = flat_map (records_in number) l.turns in
+    let sendings = sendings_of (outgoing_of x) in
     record {
       turns = l.turns;
       right = l.right;
-      placed = λ u e. subst (λ k. AreInPlace config number k l.turns) (same_Some m u (sym first ∙ e)) l.placed;
+      placed = λ u e.
+          subst (λ k. AreInPlace config number (AskForSent left.asked) sendings k l.turns) (same_Some m u (sym first ∙ e))
+          (placed-so config number (AreAmong behind) (AskForSent left.asked) sendings m l.turns (l.placed sendings among) asked);
       follows = ap (after_records config s) (append-nil (open_records number true ++ records)) ∙ records-more config s (open_records number true) m records t first l.follows;
       notices = l.notices ∙ ap (λ n. n ++ flat_map (turn_notes number) l.turns) opened.notices ∙ sym (append-nil (notices_of x ++ flat_map (turn_notes number) l.turns));
       read = subst (λ bytes. Consumes a.remaining b.remaining (bytes ++ left.lost)) (sym l.fed) read;

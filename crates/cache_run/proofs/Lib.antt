@@ -3,6 +3,7 @@ pub mod Going
 pub mod Refusing
 pub mod Dropping
 pub mod Accounting
+pub mod Gone
 pub mod Led
 pub mod Leading
 pub mod Ending

@@ -10,7 +10,7 @@ use Rattle.audit_model.specs.declared.event.Outcome.{Outcome}
 use Rattle.audit_model.specs.declared.transcript.Record.{Record}
 use Rattle.cache_core.specs.Turned.{notes_in}
 use Rattle.cache_run.specs.Devices.Sources.{Asking, Askings, Readings}
-use Rattle.cache_run.specs.Happened.{Turn, AreDrops, AreInPlace, AreRight, asked_in, moment_in, turn_notes, record_of, piece_in, records_in, replies_in}
+use Rattle.cache_run.specs.Happened.{Turn, AreDrops, AreInPlace, AreRight, AskForSent, asked_in, moment_in, turn_notes, record_of, piece_in, records_in, replies_in, sendings_of}
 use Rattle.cache_run.specs.Worlds.{World}
 use Rattle.cache_run.specs.declared.devices.errors.RunError.{RunError}
 use Rattle.cache_run.specs.declared.devices.errors.RunError.TheVariants.{Moment}
@@ -36,11 +36,13 @@ abbrev pub nothing_left : Left
 nothing_left = record { late = []; lost = []; asked = []; unsent = [] }
 
 -- From one world to another the records of a connection followed: its pieces, and then what was lost, were read, its replies except for
--- those unsent were written, the clock read its moments, and the loader returned its results.
+-- those unsent were written, the clock read its moments, and the loader returned its results. What it returned is dropped only for a load
+-- that was outgoing in the first world or was sent since then, with the key for which it was asked; behind the last turn it is asked only
+-- by the keys of such loads.
 pub record Carried {C L : Type 0} (config : Config) (number : ℕ) (reads : C → ℕ → C → Type 0) (loads : L → List ℕ → Option Outcome → L → Type 0) (a b : World C L) (opens closes : Bool) (drops : List Record) (left : Left) : Type 0 where
   pub turns : List Turn
   pub right : AreRight config turns
-  pub placed : (s : Situation) → after_records config a.situation (open_records number opens) ≡ Some s → AreInPlace config number s turns
+  pub placed : (s : Situation) → after_records config a.situation (open_records number opens) ≡ Some s → AreInPlace config number (AskForSent left.asked) (sendings_of a.outgoing) s turns
   pub follows : after_records config a.situation (records_of number opens turns closes drops) ≡ Some b.situation
   pub notices : b.notices ≡ (a.notices ++ flat_map (turn_notes number) turns) ++ flat_map notes_in drops
   pub read : Consumes a.outside.remaining b.outside.remaining (flat_map piece_in turns ++ left.lost)

@@ -1,13 +1,16 @@
 -- What happens in a run: pieces are fed, and loads are settled by what the loader returns for their keys.
-use Rattle.std.specs.Prelude.{◌≡◌, ℕ, true, List, [], ◌∷◌, Option, None, Some, IfSome, is_some, ◌⊎◌}
-use Rattle.std.specs.List.{flat_map}
+use Rattle.std.specs.Prelude.{◌≡◌, ℕ, ◌==◌, ◌&&◌, ◌||◌, nat_lt, Bool, true, false, List, [], ◌∷◌, Option, None, Some, IfSome, IsTrue, is_some, ◌⊎◌}
+use Rattle.std.specs.List.{flat_map, list_any}
+use Rattle.std.specs.Option.{option_map_or}
 use Rattle.audit_model.specs.Belongs.{refusal_of_outcome}
+use Rattle.audit_model.specs.Bytewise.{same}
 use Rattle.audit_model.specs.Follows.{after_records}
 use Rattle.audit_model.specs.Situation.{Situation, key_in}
 use Rattle.audit_model.specs.declared.config.Config.{Config}
 use Rattle.audit_model.specs.declared.event.Event.{Event}
 use Rattle.audit_model.specs.declared.event.Event.TheVariants as event
 use Rattle.audit_model.specs.declared.event.Outcome.{Outcome}
+use Rattle.audit_model.specs.declared.input.LoadId.{LoadId}
 use Rattle.audit_model.specs.declared.transcript.Note.{Note}
 use Rattle.audit_model.specs.declared.transcript.Record.{Record}
 use Rattle.audit_model.specs.declared.transcript.Step.{Step}
@@ -90,17 +93,39 @@ IsKeyOf s (event.Answer load outcome moment) key = key_in load s ≡ Some key
 IsKeyOf s (event.GiveUp load moment) key = key_in load s ≡ Some key
 IsKeyOf s happened key = Unit {0}
 
--- in the situation before it, the key that the loader is asked for is that of the load that is settled; what it returned is dropped only
--- for a load that is not under way
-abbrev pub IsInPlace : Situation → Turn → Type 0
-IsInPlace s (Fed piece moment steps) = Unit {0}
-IsInPlace s (Settled asking moment entry) = IsKeyOf s entry.event asking.key
-IsInPlace s (Dropped asking moment load) = key_in load s ≡ None
+-- ---- the loads that were sent
 
--- each turn is like this in the situation to which the turns before it lead
-abbrev pub AreInPlace : Config → ℕ → Situation → List Turn → Type 0
-AreInPlace config number s [] = Unit {0}
-AreInPlace config number s (turn ∷ turns) = IsInPlace s turn × ((t : Situation) → after_records config s (records_in number turn) ≡ Some t → AreInPlace config number t turns)
+-- which loads were sent, by their number and key
+abbrev pub Sendings : Type 0
+Sendings = ℕ → List ℕ → Bool
+
+-- these loads
+abbrev pub sendings_of : List (LoadId × List ℕ) → Sendings
+sendings_of outs = λ load key. list_any (λ out. out.0.number == load && same out.1 key) outs
+
+-- and those that were sent between two situations: their numbers are above those that were sent before, and they are under way, each with
+-- its key
+abbrev pub sendings_until : Situation → Situation → Sendings → Sendings
+sendings_until s t sent = λ load key. sent load key || (nat_lt s.sent load && option_map_or (λ k. same k key) (key_in load t) false)
+
+-- the loader was asked by keys with which loads were sent
+abbrev pub AskForSent : List Asking → Sendings → Type 0
+AskForSent [] sent = Unit {0}
+AskForSent (asking ∷ askings) sent = ((load : ℕ) × IsTrue (sent load asking.key)) × AskForSent askings sent
+
+-- in the situation before it, the key that the loader is asked for is that of the load that is settled; what it returned is dropped only
+-- for a load that is not under way, and that was sent with that key before
+abbrev pub IsInPlace : Sendings → Situation → Turn → Type 0
+IsInPlace sent s (Fed piece moment steps) = Unit {0}
+IsInPlace sent s (Settled asking moment entry) = IsKeyOf s entry.event asking.key
+IsInPlace sent s (Dropped asking moment load) = (key_in load s ≡ None) × IsTrue (sent load asking.key)
+
+-- each turn is like this in the situation to which the turns before it lead, after what was sent until then; and that is true of what was
+-- sent until the end
+abbrev pub AreInPlace : Config → ℕ → (Sendings → Type 0) → Sendings → Situation → List Turn → Type 0
+AreInPlace config number End sent s [] = End sent
+AreInPlace config number End sent s (turn ∷ turns) =
+    IsInPlace sent s turn × ((t : Situation) → after_records config s (records_in number turn) ≡ Some t → AreInPlace config number End (sendings_until s t sent) t turns)
 
 -- loads given up at moment 0, which counts as the latest
 abbrev pub AreDrops : List Record → Type 0
