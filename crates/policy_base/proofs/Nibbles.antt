@@ -131,12 +131,6 @@ module _ (ws : List ℕ) (j i : ℕ) (lt : j < length ws) (small : i < 16) where
       let test : ltb (get_or (counts_of ws) (16 * j + i) 0) 15 ≡ false = le-ltb _ _ (omega arith) in
       sym (cond-false (ltb (get_or (counts_of ws) (16 * j + i) 0) 15) _ _ test)
 
-  pub grows-yes : get_or (nibbles 16 (get_or ws j 0)) i 0 < 15 → true ≡ ltb (get_or (counts_of ws) (16 * j + i) 0) 15
-  grows-yes below = let c = get_or-counts ws j i lt small in sym (lt-ltb _ _ (omega arith))
-
-  pub grows-no : 15 ≤ get_or (nibbles 16 (get_or ws j 0)) i 0 → false ≡ ltb (get_or (counts_of ws) (16 * j + i) 0) 15
-  grows-no full = let c = get_or-counts ws j i lt small in sym (le-ltb _ _ (omega arith))
-
 zero_nibbles : nibbles 16 0 ≡ replicate 16 0
 unfolding nibbles
 zero_nibbles = refl

@@ -40,7 +40,12 @@ bump counts k = if nat_lt (slice_index counts k) 15 then slice_set counts k (sli
 abbrev pub count : Sketch → ℕ → ℕ → ℕ
 count s h i = slice_index s.counts (place s.words h i)
 
--- the smallest of the four counts of a hash
+-- the smallest of the four counts of a hash, in a table of z words
+abbrev pub least_in : ℕ → List ℕ → ℕ → ℕ
+least_in z counts h =
+    min (min (slice_index counts (place z h 0)) (slice_index counts (place z h 1))) (min (slice_index counts (place z h 2)) (slice_index counts (place z h 3)))
+
+-- the same, of a sketch
 abbrev pub frequency_of : Sketch → ℕ → ℕ
 frequency_of s h = if s.words == 0 then 0 else min (min (count s h 0) (count s h 1)) (min (count s h 2) (count s h 3))
 

@@ -1,7 +1,7 @@
 //! Counts of how often hashes were requested recently, in words of sixteen counts.
 ghost use Rattle.std.specs.Prelude.{◌≡◌, ℕ, ◌+◌, ◌-◌, ◌*◌, ◌/◌, ◌%◌, ◌^◌, ◌<◌, ◌≤◌, List, [], map, length, slice_index, slice_set, nat_lt, vec_len, replicate, min, max, true, false, IsOk, OnOk, OnErr};
 ghost use Rattle.std.specs.Int.{IsPowerOfTwo, IsNextPowerOfTwo};
-ghost use Rattle.policy_base.specs.Counts.{nibbles, counts_of, half, multiplier, spread, place, bump, frequency_of, incremented, bumped_in, can_grow_in, sketch_of, fresh, grown, own_count, after};
+ghost use Rattle.policy_base.specs.Counts.{nibbles, counts_of, half, multiplier, spread, place, bump, frequency_of, least_in, incremented, bumped_in, can_grow_in, sketch_of, fresh, grown, own_count, after};
 
 use std::alloc::{AllocError, Global};
 use std::marker::Model;
@@ -96,21 +96,40 @@ fn halve_all(table: &mut [u64])
     }
 }
 
-/// Adds one at a place, and returns whether it grew.
-fn bump_at(table: &mut [u64], hash: u64, i: u64) -> bool
+/// The count at a place.
+fn count_of(table: &[u64], hash: u64, i: u64) -> u8
+    requires index { i < 4 }
+    requires power { IsPowerOfTwo (length table.now) }
+    ensures count { result ≡ slice_index (counts_of table.now) (place (length table.now) hash i) }
+    ensures top { result ≤ 15 }
+{
+    let at = word_of(table.len(), hash, i);
+    let k = (4 * (hash % 4) + i) as u32;
+    count_at(table[at], k)
+}
+
+/// The minimum of a hash's four counts.
+fn least_count(table: &[u64], hash: u64) -> u8
+    requires { IsPowerOfTwo (length table.now) }
+    ensures least { result ≡ least_in (length table.now) (counts_of table.now) hash }
+    ensures top { result ≤ 15 }
+{
+    let low = count_of(table, hash, 0).min(count_of(table, hash, 1));
+    let high = count_of(table, hash, 2).min(count_of(table, hash, 3));
+    low.min(high)
+}
+
+/// Adds one at a place, up to 15.
+fn bump_at(table: &mut [u64], hash: u64, i: u64)
     requires index { i < 4 }
     requires power { IsPowerOfTwo (length table.old) }
-    ensures counts { counts_of table.new ≡ bump (counts_of table.old) (place (length table.old) hash i) }
-    ensures grew { result ≡ nat_lt (slice_index (counts_of table.old) (place (length table.old) hash i)) 15 }
+    ensures { counts_of table.new ≡ bump (counts_of table.old) (place (length table.old) hash i) }
 {
     let at = word_of(table.len(), hash, i);
     let k = (4 * (hash % 4) + i) as u32;
     let word = table[at];
     if count_at(word, k) < 15 {
         table[at] = with_one_more(word, k);
-        true
-    } else {
-        false
     }
 }
 
@@ -121,11 +140,14 @@ fn bump_all(table: &mut [u64], hash: u64) -> bool
     ensures grew { result ≡ can_grow_in (length table.old) (counts_of table.old) hash }
     ensures len { length table.new ≡ length table.old }
 {
-    let first = bump_at(table, hash, 0);
-    let second = bump_at(table, hash, 1);
-    let third = bump_at(table, hash, 2);
-    let fourth = bump_at(table, hash, 3);
-    first || second || third || fourth
+    if least_count(table, hash) == 15 {
+        return false;
+    }
+    bump_at(table, hash, 0);
+    bump_at(table, hash, 1);
+    bump_at(table, hash, 2);
+    bump_at(table, hash, 3);
+    true
 }
 
 /// Counts a hash once more, and returns the new size.
@@ -143,18 +165,6 @@ fn counted(table: &mut [u64], size: u64, sample: u64, hash: u64) -> u64
     }
     halve_all(table);
     more / 2
-}
-
-/// The count at a place.
-fn count_of(table: &[u64], hash: u64, i: u64) -> u8
-    requires index { i < 4 }
-    requires power { IsPowerOfTwo (length table.now) }
-    ensures count { result ≡ slice_index (counts_of table.now) (place (length table.now) hash i) }
-    ensures top { result ≤ 15 }
-{
-    let at = word_of(table.len(), hash, i);
-    let k = (4 * (hash % 4) + i) as u32;
-    count_at(table[at], k)
 }
 
 /// Makes a table of this many words, each of them zero.
@@ -223,9 +233,7 @@ impl FrequencySketch {
         if table.is_empty() {
             return 0;
         }
-        let low = count_of(table, hash, 0).min(count_of(table, hash, 1));
-        let high = count_of(table, hash, 2).min(count_of(table, hash, 3));
-        low.min(high)
+        least_count(table, hash)
     }
 
     /// Counts the hash once more.
