@@ -2,7 +2,7 @@
 //! empty places are compacted step by step, a few places with each push or move.
 ghost use Rattle.std.specs.Prelude.{◌≡◌, ◌≢◌, ℕ, ◌+◌, ◌-◌, ◌*◌, ◌^◌, ◌<◌, ◌≤◌, true, false, List, [], ◌∷◌, ◌++◌, length, drop, take, min, max, IsOk, OnOk, IsTrue, slice_index_or, vec_len, vec_capacity};
 ghost use Rattle.policy_queue.specs.Queue.{head, tail, final};
-ghost use Rattle.policy_queue.specs.Indices.{vacant, order, has_index, without_index, from_index, index_moved_to_back, OnlyGainsPlaces, Lacks, AreApart, Ends, EndsBut, AreSeated, AreEmpty, AreArranged, IsSeatedAt, IsCutShort, Trims, Carries};
+ghost use Rattle.policy_queue.specs.Indices.{vacant, order, has_index, without_index, from_index, index_moved_to_back, OnlyGainsPlaces, Lacks, AreApart, Ends, EndsBut, IsGap, AreSeated, AreEmpty, AreArranged, IsSeatedAt, IsCutShort, Trims, Carries};
 
 use std::alloc::{AllocError, Global};
 use std::marker::Model;
@@ -366,23 +366,6 @@ fn close_some(places: &mut Vec<u32>, seats: &mut Vec<u32>, cursors: &mut Cursors
     }
 }
 
-/// Moves the next places, while compacting is under way. It begins once the free places at the end are few compared with
-/// those that are to be read, and ends before they are used up.
-fn step(places: &mut Vec<u32>, seats: &mut Vec<u32>, cursors: &mut Cursors)
-    requires arranged { AreArranged places.old.items seats.old.items cursors.old }
-    requires some { (0 < vec_len places.old) × (vec_len places.old ≤ vec_capacity places.old) }
-    ensures same { order places.new.items ≡ order places.old.items }
-    ensures arranged { AreArranged places.new.items seats.new.items cursors.new }
-    ensures bound { vec_len seats.new ≡ vec_len seats.old }
-    ensures capacity { vec_capacity places.new ≡ vec_capacity places.old }
-{
-    let unread = places.len() - cursors.unread.max(cursors.front);
-    let free = places.capacity().min(MOST_PLACES) - places.len();
-    if cursors.unread > 0 || unread > (STEP - 1) * free {
-        close_some(places, seats, cursors, STEP);
-    }
-}
-
 /// Compacts all empty places if no place is free at the end.
 fn free_place(places: &mut Vec<u32>, seats: &mut Vec<u32>, cursors: &mut Cursors)
     requires arranged { AreArranged places.old.items seats.old.items cursors.old }
@@ -401,6 +384,37 @@ fn free_place(places: &mut Vec<u32>, seats: &mut Vec<u32>, cursors: &mut Cursors
     }
 }
 
+/// Whether the next places are to be compacted. That begins once the free places at the end are few compared with those
+/// that are to be read, and ends before they are used up.
+fn is_closing(places: &Vec<u32>, cursors: Cursors) -> bool
+    requires ends { Ends places.now.items cursors.front }
+    requires gap { IsGap places.now.items cursors.carried cursors.unread }
+    requires fits { length places.now.items ≤ 2 ^ 32 - 1 }
+    ensures some { result ≡ true → 0 < vec_len places.now }
+    ensures free { result ≡ false → 0 < min (vec_capacity places.now) (2 ^ 32 - 1)
+        → vec_len places.now < min (vec_capacity places.now) (2 ^ 32 - 1) }
+{
+    let unread = places.len() - cursors.unread.max(cursors.front);
+    let free = places.capacity().min(MOST_PLACES) - places.len();
+    cursors.unread > 0 || unread > (STEP - 1) * free
+}
+
+/// Compacts the next places if that is under way, and all empty ones if no place is free at the end.
+fn make_place(places: &mut Vec<u32>, seats: &mut Vec<u32>, cursors: &mut Cursors)
+    requires arranged { AreArranged places.old.items seats.old.items cursors.old }
+    requires place { length (order places.old.items) < min (vec_capacity places.old) (2 ^ 32 - 1) }
+    ensures same { order places.new.items ≡ order places.old.items }
+    ensures free { vec_len places.new < min (vec_capacity places.new) (2 ^ 32 - 1) }
+    ensures arranged { AreArranged places.new.items seats.new.items cursors.new }
+    ensures bound { vec_len seats.new ≡ vec_len seats.old }
+    ensures capacity { vec_capacity places.new ≡ vec_capacity places.old }
+{
+    if is_closing(places, *cursors) {
+        close_some(places, seats, cursors, STEP);
+        free_place(places, seats, cursors);
+    }
+}
+
 /// Appends an index that is not in the queue. There must be room.
 fn attach(places: &mut Vec<u32>, seats: &mut Vec<u32>, cursors: &mut Cursors, index: u32)
     requires arranged { AreArranged places.old.items seats.old.items cursors.old }
@@ -412,8 +426,7 @@ fn attach(places: &mut Vec<u32>, seats: &mut Vec<u32>, cursors: &mut Cursors, in
     ensures bound { vec_len seats.new ≡ vec_len seats.old }
     ensures capacity { vec_capacity places.new ≡ vec_capacity places.old }
 {
-    free_place(places, seats, cursors);
+    make_place(places, seats, cursors);
     seats[index as usize] = places.len() as u32;
     places.push_reserved(index);
-    step(places, seats, cursors);
 }
