@@ -26,8 +26,8 @@ pub fn use_in<K: Eq + Hash, V, S: BuildHasher, R: Rules<K, V>>(
     ensures { (r : Record K V) → kept_at tables.old place ≡ Some r → tables.new.state ≡ with_read (answers_of R.weight_of R.created R.read R.updated R.covers) (Some r) hash now tables.old.state }
 {
     let expires = expires_after_use(tables, place, now);
-    tables.use_at(place, now.as_nanos(), expires);
-    tables.push_hit(place, hash);
+    let number = tables.use_at(place, now.as_nanos(), expires);
+    tables.push_hit(place, number, hash);
 }
 
 /// A look-up that found the record of a number uses it, if it is still there, and its read waits to be counted.

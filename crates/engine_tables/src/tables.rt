@@ -268,27 +268,30 @@ impl<K: Eq + Hash, V, S: BuildHasher, R: Rules<K, V>> Tables<K, V, S, R> {
         find_held(&self.cells, &self.keys, key, hash)
     }
 
-    /// A look-up uses the record in a place.
-    pub fn use_at(&mut self, place: usize, used: u64, expires: Option<u64>)
+    /// A look-up uses the record in a place, whose number is answered.
+    pub fn use_at(&mut self, place: usize, used: u64, expires: Option<u64>) -> u64
         requires { is_some (kept_at self.old place) ≡ true }
-        ensures { ChangesAt (λ x. record x { entry = record x.entry { used = used; expires = expires } }) place self.old self.new }
+        ensures changes { ChangesAt (λ x. record x {
+          entry = record x.entry { used = used; expires = expires };
+        }) place self.old self.new }
+        ensures number { (r : Record K V) → kept_at self.old place ≡ Some r → result ≡ r.number }
     {
         let cell = &mut self.cells[place];
-        cell.entry.used = used;
+        let number = cell.number;
         let before = cell.entry.expires;
-        cell.entry.expires = expires;
+        cell.entry.used = used;
+        set_expiration(&mut cell.entry, expires);
         set_changed(&mut self.expirations, place, before, expires);
+        number
     }
 
-    /// Moves the number of the record in a place to the back of the access list, where it is admitted.
+    /// Moves the number of the record in a place, which is admitted, to the back of the access list.
     pub fn use_again(&mut self, place: usize)
-        requires { is_some (kept_at self.old place) ≡ true }
+        requires { (r : Record K V) × (kept_at self.old place ≡ Some r) × (is_some r.counts ≡ true) }
         ensures { GoesToBack place self.old self.new }
     {
         let index = self.cells.index_of(place);
-        if self.access.contains(index) {
-            self.access.move_to_back(index);
-        }
+        self.access.move_to_back(index);
     }
 
     /// Adds the record of a new key, and its write, for which there is room. Its place is answered.
@@ -700,13 +703,12 @@ impl<K: Eq + Hash, V, S: BuildHasher, R: Rules<K, V>> Tables<K, V, S, R> {
         self.backlog.number_of_reads()
     }
 
-    /// A look-up that found the record in a place waits to be counted, for which there is room.
-    pub fn push_hit(&mut self, place: usize, hash: u64)
+    /// A look-up that found the record of a number, in a place, waits to be counted, for which there is room.
+    pub fn push_hit(&mut self, place: usize, number: u64, hash: u64)
         requires room { length self.old.state.reads < 64 }
-        requires there { is_some (kept_at self.old place) ≡ true }
+        requires there { (r : Record K V) × (kept_at self.old place ≡ Some r) × (number ≡ r.number) }
         ensures { (r : Record K V) × (kept_at self.old place ≡ Some r) × (self.new ≡ record self.old { state = record self.old.state { reads = self.old.state.reads ++ Read.Hit r.number hash ∷ [] } }) }
     {
-        let number = self.cells[place].number;
         self.backlog.push_read(Noted::Hit {
             hash,
             place,
@@ -853,6 +855,15 @@ fn is_admitted_as<K, V>(found: &Record<K, V>, number: u64) -> bool
     ensures { result ≡ is_admitted_as number (Some found.now) }
 {
     found.number == number && found.counts.is_some()
+}
+
+/// An entry expires by itself at another moment than before, if it does.
+fn set_expiration<K, V>(entry: &mut Entry<K, V>, expires: Option<u64>)
+    ensures { entry.new ≡ record entry.old { expires = expires } }
+{
+    if entry.expires != expires {
+        entry.expires = expires;
+    }
 }
 
 /// The write of a record as it stands, where so much is held.

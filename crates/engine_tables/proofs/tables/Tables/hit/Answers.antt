@@ -1,11 +1,20 @@
-use Rattle.std.proofs.Common.{◌≡◌, refl, ap, sym, ◌∙◌, subst, true, is_some, eqb}
+use Rattle.std.proofs.Common.{◌≡◌, refl, ap, sym, ◌∙◌, subst, true, ℕ, Option, Some, None, is_some, eqb}
 use Rattle.engine_cells.specs.Kept.{kept_at, is_admitted_as}
 use Rattle.engine_cells.proofs.Views.{kept-in}
 use Rattle.engine_reference.specs.Records.{record_at}
+use Rattle.engine_reference.specs.declared.data.Record.{Record}
 use Rattle.engine_cells.proofs.Pointing.{hit-there, hit-nothing}
 use Rattle.std.proofs.lemmas.Bool.{and_parts}
 use Rattle.engine_cells.specs.Noting.{AimsOnlyAt}
 use Rattle.engine_tables.proofs.tables.Tables.hit.Goals as goal
+
+-- the record that is admitted
+admitted-of : {K V : Type 0} (number : ℕ) (o : Option (Record K V)) → is_admitted_as number o ≡ true → (r : Record K V) × (o ≡ Some r) × (is_some r.counts ≡ true)
+admitted-of number None e = absurd (cc)
+admitted-of number (Some r) e = (r, refl, (and_parts (eqb r.number number) (is_some r.counts) e).1)
+
+pub use_again-requires : goal.use_again-requires
+use_again-requires g c = admitted-of c.args.number _ (sym c.is_admitted_at.ensures ∙ c.if-is_admitted_at.true)
 
 pub returns-then-is_admitted_at : goal.returns-then-is_admitted_at
 returns-then-is_admitted_at g c =

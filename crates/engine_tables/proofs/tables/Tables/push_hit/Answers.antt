@@ -1,4 +1,4 @@
-use Rattle.std.proofs.Common.{refl, ap, sym, ◌∙◌, [], ◌∷◌, is_some}
+use Rattle.std.proofs.Common.{refl, ap, sym, ◌∙◌, [], ◌∷◌}
 use Rattle.std.proofs.lemmas.List.{map-append}
 use Rattle.engine_cells.specs.declared.noting.Noted.TheVariants.{Hit}
 use Rattle.engine_cells.specs.Kept.{kept_at}
@@ -7,15 +7,11 @@ use Rattle.engine_cells.proofs.Views.{kept-in}
 use Rattle.engine_cells.proofs.Pointing.{aims-noted, aims-there}
 use Rattle.engine_tables.proofs.tables.Tables.push_hit.Goals as goal
 
-pub index-requires : goal.index-requires
-index-requires g c =
-    let seen = ap (λ t. kept_at t c.args.place) (sym c.self.view_is) ∙ kept-in c.self.inside.cells.slots c.args.place c.self.invariant.kept.apart in
-    sym (ap (λ o. is_some o) seen) ∙ c.requires.there
-
 pub invariant_of-self : goal.invariant_of-self
 invariant_of-self g c =
     let cells = c.self.inside.cells.slots in
-    let x = c.index.result.now in
+    let x = c.requires.there.0 in
+    let there = sym (ap (λ t. kept_at t c.args.place) (sym c.self.view_is) ∙ kept-in cells c.args.place c.self.invariant.kept.apart) ∙ c.requires.there.1 in
     rw c.push_read.ensures (record {
       kept = c.self.invariant.kept;
       used = c.self.invariant.used;
@@ -25,7 +21,7 @@ invariant_of-self g c =
       order = c.self.invariant.order;
       notices = c.self.invariant.notices;
       tallied = c.self.invariant.tallied;
-      aimed = aims-noted cells c.self.inside.next_number (Hit c.args.hash c.args.place x.number) (aims-there cells c.self.inside.next_number c.args.place x c.self.invariant.kept c.index.ensures) c.self.invariant.aimed;
+      aimed = aims-noted cells c.self.inside.next_number (Hit c.args.hash c.args.place c.args.number) (rw c.requires.there.2 (aims-there cells c.self.inside.next_number c.args.place x c.self.invariant.kept there)) c.self.invariant.aimed;
       reserved = c.self.invariant.reserved;
       tickets = c.self.invariant.tickets;
       numbers = c.self.invariant.numbers;
@@ -36,10 +32,8 @@ invariant_of-self g c =
     })
 
 pub returns : goal.returns
-returns g c =
-    let cells = c.self.inside.cells.slots in
-    let x = c.index.result.now in (
-      x,
-      ap (λ t. kept_at t c.args.place) (sym c.self.view_is) ∙ kept-in cells c.args.place c.self.invariant.kept.apart ∙ c.index.ensures,
-      rw (← c.self.view_is, c.push_read.ensures, map-append read_of c.self.inside.backlog.reads (Hit c.args.hash c.args.place x.number ∷ [])) refl,
-    )
+returns g c = (
+  c.requires.there.0,
+  c.requires.there.1,
+  rw (← c.requires.there.2, ← c.self.view_is, c.push_read.ensures, map-append read_of c.self.inside.backlog.reads (Hit c.args.hash c.args.place c.args.number ∷ [])) refl,
+)

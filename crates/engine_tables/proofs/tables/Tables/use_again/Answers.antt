@@ -1,11 +1,10 @@
-use Rattle.std.proofs.Common.{◌≡◌, refl, ap, sym, ◌∙◌, ℕ, List, true, false, is_some}
+use Rattle.std.proofs.Common.{◌≡◌, refl, ap, sym, ◌∙◌, ℕ, List, is_some}
 use Rattle.policy_queue.specs.Indices.{has_index, index_moved_to_back}
-use Rattle.engine_cells.specs.Cells.{cell_at, has_counts, numbers_in}
+use Rattle.engine_cells.specs.Cells.{has_counts, numbers_in}
 use Rattle.engine_reference.specs.Records.{moved_to_back}
 use Rattle.engine_cells.specs.Kept.{Kept, kept_at}
 use Rattle.engine_cells.proofs.Changes.{gets-itself, listed-moved, list-moved}
 use Rattle.engine_cells.proofs.Views.{kept-in}
-use Rattle.engine_cells.proofs.Walking.{some-of}
 use Rattle.engine_tables.proofs.tables.Tables.use_again.Goals as goal
 
 abbrev with_access : {K V P S R : Type 0} → Kept K V P S R → List ℕ → Kept K V P S R
@@ -22,18 +21,26 @@ seen-moved {K} {V} {P} {S} {R} inside before new number access is changed moved 
 pub index_of-index-requires : goal.index_of-index-requires
 index_of-index-requires g c =
     let seen = ap (λ t. kept_at t c.args.place) (sym c.self.view_is) ∙ kept-in c.self.inside.cells.slots c.args.place c.self.invariant.kept.apart in
-    sym (ap (λ o. is_some o) seen) ∙ c.requires
+    ap (λ o. is_some o) (sym seen ∙ c.requires.1)
+
+pub move_to_back-requires : goal.move_to_back-requires
+move_to_back-requires g c =
+    let seen = ap (λ t. kept_at t c.args.place) (sym c.self.view_is) ∙ kept-in c.self.inside.cells.slots c.args.place c.self.invariant.kept.apart in
+    ap (λ k. has_index k c.self.inside.access.indices) c.index_of-index.ensures.is
+    ∙ c.self.invariant.used.listed c.args.place
+    ∙ ap (λ o. has_counts o) (sym seen ∙ c.requires.1)
+    ∙ c.requires.2
 
 pub invariant_of-self : goal.invariant_of-self
 invariant_of-self g c =
     let cells = c.self.inside.cells.slots in
     let places = c.self.inside.access.indices in
     let i = c.args.place in
-    let x = some-of (cell_at cells i) (sym (ap (λ o. is_some o) (ap (λ t. kept_at t c.args.place) (sym c.self.view_is) ∙ kept-in c.self.inside.cells.slots c.args.place c.self.invariant.kept.apart)) ∙ c.requires) in
-    let counts = ap (λ o. has_counts o) (sym x.1) ∙ sym (c.self.invariant.used.listed i) ∙ ap (λ k. has_index k places) (sym c.index_of-index.ensures.is) ∙ sym c.contains.ensures ∙ c.if-contains.true in
+    let seen = ap (λ t. kept_at t i) (sym c.self.view_is) ∙ kept-in cells i c.self.invariant.kept.apart in
+    let there = sym seen ∙ c.requires.1 in
     record {
       kept = c.self.invariant.kept;
-      used = rw (c.move_to_back.ensures, c.index_of-index.ensures.is) (listed-moved cells cells places i x.0 c.self.invariant.used (gets-itself cells i x.0 x.1) counts);
+      used = rw (c.move_to_back.ensures, c.index_of-index.ensures.is) (listed-moved cells cells places i c.requires.0 c.self.invariant.used (gets-itself cells i c.requires.0 there) c.requires.2);
       written = c.self.invariant.written;
       cells = c.self.invariant.cells;
       order = c.self.invariant.order;
@@ -50,27 +57,16 @@ invariant_of-self g c =
       awaited = c.self.invariant.awaited;
     }
 
-pub returns-then-contains : goal.returns-then-contains
-returns-then-contains g c =
+pub returns : goal.returns
+returns g c =
     let cells = c.self.inside.cells.slots in
     let places = c.self.inside.access.indices in
     let i = c.args.place in
-    let x = some-of (cell_at cells i) (sym (ap (λ o. is_some o) (ap (λ t. kept_at t c.args.place) (sym c.self.view_is) ∙ kept-in c.self.inside.cells.slots c.args.place c.self.invariant.kept.apart)) ∙ c.requires) in
-    let moved = list-moved cells cells places i x.0 x.0 c.self.invariant.kept.apart c.self.invariant.used x.1 (gets-itself cells i x.0 x.1) refl in (
-      x.0,
-      ap (λ t. kept_at t i) (sym c.self.view_is) ∙ kept-in cells i c.self.invariant.kept.apart ∙ x.1,
-      λ counts. seen-moved _ c.args.self.now _ x.0.number (numbers_in cells (index_moved_to_back i places)) c.self.view_is (rw (c.move_to_back.ensures, c.index_of-index.ensures.is) refl) moved,
-    )
-
-pub returns-else-contains : goal.returns-else-contains
-returns-else-contains g c =
-    let cells = c.self.inside.cells.slots in
-    let places = c.self.inside.access.indices in
-    let i = c.args.place in
-    let x = some-of (cell_at cells i) (sym (ap (λ o. is_some o) (ap (λ t. kept_at t c.args.place) (sym c.self.view_is) ∙ kept-in c.self.inside.cells.slots c.args.place c.self.invariant.kept.apart)) ∙ c.requires) in (
-      x.0,
-      ap (λ t. kept_at t i) (sym c.self.view_is) ∙ kept-in cells i c.self.invariant.kept.apart ∙ x.1,
-      λ counts.
-          let e : false ≡ true = sym c.if-contains.false ∙ c.contains.ensures ∙ ap (λ k. has_index k places) c.index_of-index.ensures.is ∙ c.self.invariant.used.listed i ∙ ap (λ o. has_counts o) x.1 ∙ counts in
-          absurd (cc),
+    let x = c.requires.0 in
+    let seen = ap (λ t. kept_at t i) (sym c.self.view_is) ∙ kept-in cells i c.self.invariant.kept.apart in
+    let there = sym seen ∙ c.requires.1 in
+    let moved = list-moved cells cells places i x x c.self.invariant.kept.apart c.self.invariant.used there (gets-itself cells i x there) refl in (
+      x,
+      c.requires.1,
+      λ counts. seen-moved _ c.args.self.now _ x.number (numbers_in cells (index_moved_to_back i places)) c.self.view_is (rw (c.move_to_back.ensures, c.index_of-index.ensures.is) refl) moved,
     )
