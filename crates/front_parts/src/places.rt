@@ -13,6 +13,6 @@ pub use places::{
     coalesce_at, compute_at, contains_key_at, get_at, insert_at, insert_or_back_at, invalidate_at,
     look_at, look_up_at, next_notice_at, note_at, remove_at,
 };
-pub use scans::{keys_at, peek_at, scan_at};
+pub use scans::{held_key_at, keys_at, peek_at, scan_at};
 pub use turns::{Turns, make_turn};
 pub use wholes::{clear_all, count_visible, is_table_refused, run_all, sum_numbers, sum_weights};

@@ -13,7 +13,7 @@ use crate::data::{Front, Notices};
 use crate::entries::StoredValue;
 use audit_model::{Bytes, Key, Seq};
 use cache_store::StoreError;
-use front_reference::{At, CacheError, ClonedKey};
+use front_reference::{At, CacheError, Shared};
 use policy_base::Instant;
 use rand_core::Rng;
 use std::alloc::{AllocError, Global};
@@ -77,6 +77,22 @@ fn refusal_of(error: CacheError) -> StoreError
     }
 }
 
+/// The key that a value is kept under: the one that is held already, or a copy.
+fn kept_key<S: BuildHasher>(
+    alloc: Global,
+    front: &Front<S>,
+    key: &Key,
+    hash: u64,
+) -> Result<Shared<Key>, AllocError>
+    requires { hash ≡ hash_with S.BuildHasher S.Hasher.Hasher front.now.common.hasher key.now }
+    ensures { IfOk result (λ kept. kept ≡ key.now) }
+{
+    match front.held_key(key, hash)? {
+        Some(held) => Ok(held),
+        None => Shared::new(alloc, key.clone()?),
+    }
+}
+
 /// Inserts a value, and returns its part.
 pub fn insert<S: BuildHasher>(
     alloc: Global,
@@ -99,7 +115,8 @@ pub fn insert<S: BuildHasher>(
         now: Instant::from_nanos(now),
         step,
     };
-    match front.insert_with_hash(ClonedKey { key, alloc }, hash, value, at) {
+    let key = kept_key(alloc, front, key, hash)?;
+    match front.insert_with_hash(key, hash, value, at) {
         Ok(()) => Ok(part),
         Err(error) => Err(refusal_of(error)),
     }

@@ -1,5 +1,5 @@
 //! What is visible and held in the part at a place, without a use of it.
-ghost use Rattle.std.specs.Prelude.{◌≡◌, ◌≤◌, IfOk, MatchOption, length, option_map, slice_get};
+ghost use Rattle.std.specs.Prelude.{◌≡◌, ◌≤◌, true, IfOk, IfSome, MatchOption, length, option_map, slice_get};
 ghost use Rattle.front_parts.specs.Places.Calls.{IsOpenAt, keys_of, visible_of, ways_by};
 
 use crate::BaseCache;
@@ -35,6 +35,20 @@ pub fn scan_at<K: Eq + Hash, V: Clone, S: BuildHasher, R: Rules<K, V>, Q: Names<
     ensures { IfOk result (λ found. found ≡ visible_of (ways_by R.Rules K.eq K.hash_input S.BuildHasher S.Hasher.Hasher) (slice_get parts.now place) now (Q.named_key key.now)) }
 {
     parts[place].get_with_hash_without_recording(key, hash, now)
+}
+
+/// A clone of the key that the part at a place holds under what names it, whether its value is visible or not. It is no use of it.
+pub fn held_key_at<K: Eq + Hash + Clone + Drop, V, S: BuildHasher, R: Rules<K, V>, Q: Names<K>>(
+    parts: &[BaseCache<K, V, S, R>],
+    place: usize,
+    key: &Q,
+    hash: u64,
+) -> Result<Option<K>, AllocError>
+    requires exact_key { (x y : K) → K.is_clone x y → y ≡ x }
+    requires there { IsOpenAt (ways_by R.Rules K.eq K.hash_input S.BuildHasher S.Hasher.Hasher) place (Q.named_key key.now) hash parts.now }
+    ensures { IfOk result (λ found. IfSome found (λ held. K.eq (Q.named_key key.now) held ≡ true)) }
+{
+    parts[place].get_key_with_hash(key, hash)
 }
 
 /// Clones of the keys that the part at a place holds.

@@ -1,5 +1,5 @@
 //! Look-ups that make no clone, and so take no memory.
-ghost use Rattle.std.specs.Prelude.{◌≡◌, ◌≤◌, OnOk, OnErr, option_map};
+ghost use Rattle.std.specs.Prelude.{◌≡◌, ◌≤◌, IfOk, true, IfSome, OnOk, OnErr, option_map};
 ghost use Rattle.engine_reference.specs.Asking.{answers_of};
 ghost use Rattle.front_reference.specs.Wholes.{visible_number};
 ghost use Rattle.front_parts.specs.Places.Calls.{LooksUpIn, hash_in, visible_in, ways_by};
@@ -7,9 +7,10 @@ ghost use Rattle.front_parts.specs.Showing.{IsShown};
 
 use crate::state::LentState;
 use engine_reference::Rules;
-use front_parts::{count_visible, hash_key, look_up_at, peek_at, place_of};
-use front_reference::LentKey;
+use front_parts::{count_visible, hash_key, held_key_at, look_up_at, peek_at, place_of};
+use front_reference::{LentKey, Shared};
 use policy_base::Instant;
+use std::alloc::AllocError;
 use std::hash::{BuildHasher, Hash, Hasher};
 
 impl<K: Eq + Hash, V, S: BuildHasher, R: Rules<K, V>, C> LentState<K, V, S, R, C> {
@@ -23,6 +24,21 @@ impl<K: Eq + Hash, V, S: BuildHasher, R: Rules<K, V>, C> LentState<K, V, S, R, C
         let hash = hash_key(&self.hasher, key);
         let place = place_of(self.bits, hash);
         peek_at(self.parts.as_slice(), place, &LentKey { key }, hash, now)
+    }
+
+    /// Returns the key that is held and equal to this one, shared with the cache, whether its value is visible or not. It is no use of it,
+    /// and takes no memory.
+    /// ```
+    /// let held = cache.held_key(&7, cache.hash(&7))?;
+    /// ```
+    pub fn held_key(&self, key: &K, hash: u64) -> Result<Option<Shared<K>>, AllocError>
+    where
+        K: Drop,
+        requires hashed { hash ≡ hash_in (ways_by R.Rules K.eq K.hash_input S.BuildHasher S.Hasher.Hasher) self.now key.now }
+        ensures { IfOk result (λ found. IfSome found (λ held. K.eq key.now held ≡ true)) }
+    {
+        let place = place_of(self.bits, hash);
+        held_key_at(self.parts.as_slice(), place, &LentKey { key }, hash)
     }
 
     /// How many keys have a visible value, up to 2^64 - 1. It is no use of any; it takes no memory, and looks at every record.
