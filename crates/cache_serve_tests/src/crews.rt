@@ -2,7 +2,7 @@
 ghost use Rattle.std.specs.Prelude.{◌≡◌};
 
 use crate::inputs::{conn, feed, feed_by_key};
-use crate::steps::{counts_of, finish, is_replied, opens, refuses, takes};
+use crate::steps::{count_held, counts_of, finish, is_replied, opens, refuses, runs, takes};
 use audit_model::{Conn, Input};
 use cache_shared::{Finished, Seat, Seating, SharedService, Stepping, Takings};
 use std::alloc::Global;
@@ -29,7 +29,7 @@ pub struct Script<'a> {
 /// A script for each thread.
 pub type Crew<'a> = [Script<'a>; 4];
 
-/// Feeds a text, and answers whether it is replied so.
+/// Feeds a text, and answers whether all of it runs and is replied so.
 fn talks<L: Seating, C: Takings, R: Wait>(
     rt: &R,
     alloc: Global,
@@ -40,7 +40,9 @@ fn talks<L: Seating, C: Takings, R: Wait>(
     (text, wanted): Talk<'_>,
 ) -> bool {
     match feed_by_key(alloc, conn, text, key) {
-        Some(input) => takes(rt, shared, seat, input) && is_replied(rt, shared, conn, wanted),
+        Some(input) => {
+            runs(rt, alloc, shared, seat, conn, input) && is_replied(rt, shared, conn, wanted)
+        }
         None => false,
     }
 }
@@ -79,6 +81,12 @@ fn talks_often<L: Seating, C: Takings, R: Wait>(
     true
 }
 
+/// Whether a seat counts as many inputs as its script says, and one more for each command that was held back, and has their receipts.
+fn counts_so<L: Seating>(seat: &Seat<L>, script: &Script<'_>) -> bool {
+    let (count, receipts) = counts_of(seat);
+    count == receipts as u64 && count == script.count.saturating_add(count_held(seat) as u64)
+}
+
 /// Follows a script on a connection. Answers whether each input was taken and replied so, and the seat counts them and has their receipts.
 fn follows_on<L: Seating, C: Takings, R: Wait>(
     rt: &R,
@@ -90,7 +98,7 @@ fn follows_on<L: Seating, C: Takings, R: Wait>(
 ) -> bool {
     talks_often(rt, alloc, shared, seat, conn, script)
         && (!script.closes || takes(rt, shared, seat, Input::Close { conn }))
-        && counts_of(seat) == (script.count, script.count as usize)
+        && counts_so(seat, script)
 }
 
 /// The same on a connection that is opened for it.

@@ -2,6 +2,7 @@
 ghost use Rattle.std.specs.Prelude.{◌≡◌};
 
 use crate::devices::Plain;
+use crate::meetings::Meeting;
 use crate::steps::finish;
 use cache_serve::{Hosted, host};
 use cache_shared::{Seat, Seating, SharedService, Stepping, Takings};
@@ -12,7 +13,7 @@ use std::sync::atomic::{AtomicU64, Ordering};
 use std::sync::{Arc, Wait};
 use std::thread;
 use std::thread::Threads;
-use std::time::Duration;
+use std::time::{Clock, Duration};
 
 /// Two clients, and what has to come of them. The first has connected before the host begins; the second connects once the first has read,
 /// and sends once the first has gone.
@@ -100,6 +101,22 @@ fn both_talk<R: Net<Listener = TcpListener, Stream = TcpStream>>(
     }
 }
 
+/// The clients' part, unless the host has given them up: then both go, and the host is not there.
+fn both_come<R: Net<Listener = TcpListener, Stream = TcpStream>>(
+    rt: &R,
+    alloc: Global,
+    addr: SocketAddr,
+    one: TcpStream,
+    visit: &Visit<'_>,
+    meeting: &Meeting,
+) -> bool {
+    if meeting.come() {
+        both_talk(rt, alloc, addr, one, visit)
+    } else {
+        false
+    }
+}
+
 /// The address of a listener, which is made to block or not.
 fn address_of(listener: &TcpListener, blocks: bool) -> Option<SocketAddr> {
     match listener.set_nonblocking(!blocks) {
@@ -134,7 +151,29 @@ struct Came<L: Seating> {
     hosted: Hosted<L>,
 }
 
-/// Hosts both clients, of whom the first has connected.
+/// The host's part, once the clients are there; `None` if they do not come. Without them it would wait for them for ever.
+fn host_them<L, C, R>(
+    rt: R,
+    alloc: Global,
+    shared: &SharedService<L, C>,
+    devices: &Plain,
+    visit: &Visit<'_>,
+    listener: &TcpListener,
+    meeting: &Meeting,
+) -> Option<Hosted<L>>
+where
+    L: Seating + Send + Sync + 'static,
+    C: Takings + Send + 'static,
+    R: Threads + Wait + Clock + Copy + Send + Sync + 'static,
+{
+    if meeting.meets(&rt) {
+        Some(host(rt, alloc, shared, 0, listener, devices, visit.limit))
+    } else {
+        None
+    }
+}
+
+/// Hosts both clients, of whom the first has connected. `None` if no thread can be made for them.
 fn host_with<L, C, R>(
     rt: R,
     alloc: Global,
@@ -144,25 +183,30 @@ fn host_with<L, C, R>(
     listener: &TcpListener,
     addr: SocketAddr,
     one: TcpStream,
-) -> Came<L>
+) -> Option<Came<L>>
 where
     L: Seating + Send + Sync + 'static,
     C: Takings + Send + 'static,
     R: Net<Listener = TcpListener, Stream = TcpStream>
         + Threads
         + Wait
+        + Clock
         + Copy
         + Send
         + Sync
         + 'static,
 {
     let lent = &rt;
+    let meeting = &Meeting::new();
     let (is_replied, hosted) = thread::join(
         lent,
-        move || both_talk(lent, alloc, addr, one, visit),
-        || host(rt, alloc, shared, 0, listener, devices, visit.limit),
+        move || both_come(lent, alloc, addr, one, visit, meeting),
+        || host_them(rt, alloc, shared, devices, visit, listener, meeting),
     );
-    Came { is_replied, hosted }
+    match hosted {
+        Some(hosted) => Some(Came { is_replied, hosted }),
+        None => None,
+    }
 }
 
 /// Hosts both clients at an address of a listener.
@@ -181,13 +225,14 @@ where
     R: Net<Listener = TcpListener, Stream = TcpStream>
         + Threads
         + Wait
+        + Clock
         + Copy
         + Send
         + Sync
         + 'static,
 {
     match connect(&rt, addr) {
-        Some(one) => Some(host_with(rt, alloc, shared, devices, visit, listener, addr, one)),
+        Some(one) => host_with(rt, alloc, shared, devices, visit, listener, addr, one),
         None => None,
     }
 }
@@ -206,6 +251,7 @@ where
     R: Net<Listener = TcpListener, Stream = TcpStream>
         + Threads
         + Wait
+        + Clock
         + Copy
         + Send
         + Sync
@@ -265,6 +311,7 @@ where
     R: Net<Listener = TcpListener, Stream = TcpStream>
         + Threads
         + Wait
+        + Clock
         + Copy
         + Send
         + Sync
@@ -292,6 +339,7 @@ where
     R: Net<Listener = TcpListener, Stream = TcpStream>
         + Threads
         + Wait
+        + Clock
         + Copy
         + Send
         + Sync

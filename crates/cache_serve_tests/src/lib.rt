@@ -15,6 +15,8 @@ mod judging;
 #[cfg(test)]
 mod loaders;
 #[cfg(test)]
+mod meetings;
+#[cfg(test)]
 mod plays;
 #[cfg(test)]
 mod reading;

@@ -8,7 +8,7 @@ use crate::hosting::{Visit, is_visit_so};
 use crate::inputs::{make_live, make_recorded};
 use crate::judging::is_crew_right;
 use crate::serving::{Row, is_journal_so, is_live_so, serves_so};
-use crate::steps::{make_seats, was_held};
+use crate::steps::make_seats;
 use crate::waiting::is_answered;
 use audit_laws::Receipt;
 use cache_shared::{Finished, LiveService, Seat, Seating, SharedService, Stepping, Takings};
@@ -82,7 +82,7 @@ fn seats_of(play: Seated<'_>) -> usize {
     }
 }
 
-/// Whether the first of these seats follows a script, unless memory was refused for a command, which is then held back.
+/// Whether the first of these seats follows a script.
 fn first_follows<L: Seating, C: Takings, R: Wait>(
     rt: &R,
     alloc: Global,
@@ -91,7 +91,7 @@ fn first_follows<L: Seating, C: Takings, R: Wait>(
     script: &Script<'_>,
 ) -> bool {
     match seats {
-        [seat, ..] => follows(rt, alloc, shared, seat, script) || was_held(seat),
+        [seat, ..] => follows(rt, alloc, shared, seat, script),
         [] => false,
     }
 }

@@ -3,6 +3,7 @@ use crate::inputs::{answer, conn, feed, make_recorded};
 use audit_model::{Bytes, Conn, Input, LoadId, RemovalCause, ServiceError};
 use cache_spaces::{LentReplies, RecordedService};
 use std::alloc::Global;
+use std::process::Abort;
 
 /// What is done with a service, and what is read of it.
 #[derive(Clone, Copy)]
@@ -177,35 +178,44 @@ fn is_so(alloc: Global, service: &mut RecordedService, row: Row<'_>) -> bool {
     }
 }
 
-/// Whether all rows come out so, one after the other.
-fn are_so(alloc: Global, service: &mut RecordedService, rows: &[Row<'_>]) -> bool {
-    for row in rows {
+/// The place of the first row that does not come out so.
+fn wrong_row(alloc: Global, service: &mut RecordedService, rows: &[Row<'_>]) -> Option<usize> {
+    for (place, row) in rows.iter().enumerate() {
         if !is_so(alloc, service, *row) {
-            return false;
+            return Some(place);
         }
     }
-    true
+    None
 }
 
-/// Whether all come out so of a new service.
-fn come_so(alloc: Global, rows: &[Row<'_>]) -> bool {
+/// The same of a new service; the first row where none can be made.
+fn wrong_row_anew(alloc: Global, rows: &[Row<'_>]) -> Option<usize> {
     match make_recorded(alloc) {
-        Some(mut service) => are_so(alloc, &mut service, rows),
-        None => false,
+        Some(mut service) => wrong_row(alloc, &mut service, rows),
+        None => Some(0),
     }
+}
+
+/// No row is wrong, at the second try where memory is refused.
+fn none_wrong(rt: &impl Abort, alloc: Global, rows: &[Row<'_>]) {
+    let wrong = match wrong_row_anew(alloc, rows) {
+        Some(_) => wrong_row_anew(alloc, rows),
+        None => None,
+    };
+    assert_eq!(rt; wrong, None);
 }
 
 #[test]
 fn takings_go_on_where_they_ended(rt: HostRuntime) {
-    assert!(rt; come_so(rt.alloc(), TAKINGS) || come_so(rt.alloc(), TAKINGS));
+    none_wrong(&rt, rt.alloc(), TAKINGS);
 }
 
 #[test]
 fn each_note_comes_once(rt: HostRuntime) {
-    assert!(rt; come_so(rt.alloc(), NOTES) || come_so(rt.alloc(), NOTES));
+    none_wrong(&rt, rt.alloc(), NOTES);
 }
 
 #[test]
 fn loads_are_taken_once(rt: HostRuntime) {
-    assert!(rt; come_so(rt.alloc(), LOADS) || come_so(rt.alloc(), LOADS));
+    none_wrong(&rt, rt.alloc(), LOADS);
 }

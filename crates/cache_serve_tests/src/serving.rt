@@ -4,6 +4,7 @@ ghost use Rattle.std.specs.Prelude.{◌≡◌};
 use crate::devices::StillClock;
 use crate::inputs::{PLAIN, conn};
 use crate::loaders::{Held, Hold, News, Page};
+use crate::steps::has_one_journal;
 use audit_model::{Closing, Transcript};
 use cache_run::{RunError, Watched};
 use cache_serve::serve;
@@ -192,10 +193,10 @@ fn obeys(alloc: Global, journal: &Transcript) -> bool {
     journal.records.len() == 5 && audit(alloc, &PLAIN, journal) == Verdict::Yes
 }
 
-/// Whether the journal of what is left does.
+/// Whether the journal of what is left does, and there is no other one.
 pub fn is_journal_so<C: Stepping>(alloc: Global, finished: Finished<C>) -> bool {
     match finished.service.journal(0) {
-        Ok(journal) => obeys(alloc, journal),
+        Ok(journal) => obeys(alloc, journal) && has_one_journal(&finished.service),
         Err(_) => false,
     }
 }

@@ -57,14 +57,15 @@ pub fn counts_of<L: Seating>(seat: &Seat<L>) -> (u64, usize) {
     (seat.count(), seat.receipts(0).len())
 }
 
-/// Whether a command of a seat was held back, since there was no memory for it.
-pub fn was_held<L: Seating>(seat: &Seat<L>) -> bool {
+/// How many commands of a seat were held back, since there was no memory for them.
+pub fn count_held<L: Seating>(seat: &Seat<L>) -> usize {
+    let mut count = 0usize;
     for receipt in seat.receipts(0) {
         if receipt.output == Output::Held {
-            return true;
+            count = count.saturating_add(1);
         }
     }
-    false
+    count
 }
 
 /// Takes an input that was refused. `None` also if the seat counted others than these before.
@@ -123,6 +124,35 @@ pub fn takes<L: Seating, C: Stepping, R: Wait>(
     step(rt, shared, seat, input).is_some()
 }
 
+/// Whether the lines of a feed of nothing run, so one that is held back.
+fn runs_held<L: Seating, C: Stepping, R: Wait>(
+    rt: &R,
+    alloc: Global,
+    shared: &SharedService<L, C>,
+    seat: &mut Seat<L>,
+    conn: Conn,
+) -> bool {
+    match feed(alloc, conn, b"") {
+        Some(nothing) => step(rt, shared, seat, nothing) == Some(Output::All),
+        None => false,
+    }
+}
+
+/// Whether all lines of a feed run, one that is held back for want of memory at a feed of nothing.
+pub fn runs<L: Seating, C: Stepping, R: Wait>(
+    rt: &R,
+    alloc: Global,
+    shared: &SharedService<L, C>,
+    seat: &mut Seat<L>,
+    conn: Conn,
+    input: Input,
+) -> bool {
+    match step(rt, shared, seat, input) {
+        Some(Output::Held) => runs_held(rt, alloc, shared, seat, conn),
+        output => output == Some(Output::All),
+    }
+}
+
 /// Opens a connection.
 pub fn opens<L: Seating, C: Stepping, R: Wait>(
     rt: &R,
@@ -171,6 +201,14 @@ pub fn is_replied<L: Seating, C: Takings, R: Wait>(
     wanted: Option<&[u8]>,
 ) -> bool {
     takes_reply(rt, shared, conn, wanted) || takes_reply(rt, shared, conn, wanted)
+}
+
+/// Whether a service has no second namespace, and so no second journal.
+pub fn has_one_journal<C: Stepping>(service: &C) -> bool {
+    match service.journal(1) {
+        Ok(_) => false,
+        Err(error) => error == ServiceError::NoNamespace,
+    }
 }
 
 /// What these seats leave, on the second attempt if memory is refused.

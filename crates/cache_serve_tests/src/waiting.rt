@@ -1,11 +1,11 @@
 //! A connection that awaits what another thread answers.
 use crate::inputs::answer;
+use crate::meetings::Meeting;
 use crate::steps::{feeds, opens, takes};
 use audit_model::{Bytes, Conn, LoadId};
 use cache_shared::{Seat, Seating, SharedService, Takings};
 use std::alloc::Global;
 use std::sync::Wait;
-use std::sync::atomic::{AtomicU64, Ordering};
 use std::thread;
 use std::thread::Threads;
 use std::time::{Clock, Duration};
@@ -109,40 +109,26 @@ fn answers<L: Seating, C: Takings, R: Wait + Clock>(
     }
 }
 
-/// Whether the other thread is there to answer, looked for a limited number of times.
-fn is_there<R: Clock>(rt: &R, answering: &AtomicU64) -> bool {
-    for _turn in 0..1000u32 {
-        if answering.load(Ordering::SeqCst) > 0 {
-            return true;
-        }
-        thread::sleep(rt, Duration::from_millis(1));
-    }
-    false
-}
-
-/// Awaits once the other thread is there: where no thread can be made, one part runs behind the other.
-fn awaits_other<L: Seating, C: Takings, R: Wait + Clock>(
+/// Awaits unless the other thread has given this one up: where no thread can be made, one part runs behind the other.
+fn awaits_other<L: Seating, C: Takings, R: Wait>(
     rt: &R,
     alloc: Global,
     shared: &SharedService<L, C>,
     seat: &mut Seat<L>,
-    answering: &AtomicU64,
+    meeting: &Meeting,
 ) -> bool {
-    is_there(rt, answering) && awaits(rt, alloc, shared, seat)
+    meeting.come() && awaits(rt, alloc, shared, seat)
 }
 
-/// Answers, and is there until it has.
+/// Answers once the other thread is there.
 fn answers_other<L: Seating, C: Takings, R: Wait + Clock>(
     rt: &R,
     alloc: Global,
     shared: &SharedService<L, C>,
     seat: &mut Seat<L>,
-    answering: &AtomicU64,
+    meeting: &Meeting,
 ) -> bool {
-    answering.store(1, Ordering::SeqCst);
-    let is_taken = answers(rt, alloc, shared, seat);
-    answering.store(0, Ordering::SeqCst);
-    is_taken
+    meeting.meets(rt) && answers(rt, alloc, shared, seat)
 }
 
 /// Whether one thread is told what it awaits, and another one answers.
@@ -158,11 +144,11 @@ where
     C: Takings + Send,
     R: Threads + Wait + Clock + Sync,
 {
-    let answering = AtomicU64::new(0);
+    let meeting = Meeting::new();
     let (is_told, is_taken) = thread::join(
         rt,
-        || awaits_other(rt, alloc, shared, one, &answering),
-        || answers_other(rt, alloc, shared, two, &answering),
+        || awaits_other(rt, alloc, shared, one, &meeting),
+        || answers_other(rt, alloc, shared, two, &meeting),
     );
     is_told && is_taken
 }

@@ -1,7 +1,7 @@
 //! TinyLFU counts requests once half the capacity is held, whichever call ran maintenance then.
 ghost use Rattle.front_reference.specs.Fronts.{ComesAfter};
 
-use crate::playing::{Numbers, SPREAD, Times, next};
+use crate::playing::{Numbers, SPREAD, Times, next, none_wrong};
 use engine_reference::EvictionPolicy;
 use front_reference::{At, CacheError};
 use moka::{BuildError, CacheBuilder};
@@ -141,16 +141,17 @@ fn is_counted(alloc: Global, call: Runs) -> bool {
     is_admitted(alloc, call) == Some(true) || is_admitted(alloc, call) == Some(true)
 }
 
-fn are_all_counted(alloc: Global) -> bool {
-    for call in ALL {
-        if !is_counted(alloc, call) {
-            return false;
+/// The place of the first call after whose runs requests are not counted.
+fn first_uncounted(alloc: Global) -> Option<usize> {
+    for (place, call) in ALL.iter().enumerate() {
+        if !is_counted(alloc, *call) {
+            return Some(place);
         }
     }
-    true
+    None
 }
 
 #[test]
 fn requests_are_counted_whichever_call_ran(rt: HostRuntime) {
-    assert!(rt; are_all_counted(rt.alloc()));
+    none_wrong(&rt, first_uncounted(rt.alloc()));
 }

@@ -1,11 +1,37 @@
 //! What builders make, and what they refuse.
-use moka::{BuildError, CacheBuilder, SegmentedState, StdHasher};
+use crate::playing::none_wrong;
+use moka::{BuildError, CacheBuilder, LentState, PlainRules, Policy, SegmentedState, StdHasher};
 use policy_base::Instant;
 use std::alloc::Global;
 use std::time::Duration;
 
-/// A cache of numbers by std's fixed hasher.
-type Numbers = SegmentedState<u64, u64>;
+/// What a new cache shows: its settings, when it was made, and whether it has no name, no entries, and no call behind it.
+#[derive(Clone, Copy, PartialEq, Eq)]
+pub struct Shown {
+    pub policy: Policy,
+    pub made: Instant,
+    pub is_bare: bool,
+}
+
+/// What a cache of one or several segments shows.
+fn shown_of<C: Drop>(cache: &LentState<u64, u64, StdHasher, PlainRules, C>) -> Shown {
+    let last = cache.last_call();
+    Shown {
+        policy: cache.policy(),
+        made: last.now,
+        is_bare: cache.name().is_none() && cache.entry_count() == 0 && last.step == 0,
+    }
+}
+
+/// The same, or why it is not made.
+pub fn look_at<C: Drop>(
+    made: Result<LentState<u64, u64, StdHasher, PlainRules, C>, BuildError>,
+) -> Result<Shown, BuildError> {
+    match made {
+        Ok(cache) => Ok(shown_of(&cache)),
+        Err(refused) => Err(refused),
+    }
+}
 
 /// A thousand years of 365 days, in seconds.
 const LONGEST: u64 = 31_536_000_000;
@@ -77,7 +103,13 @@ const ROWS: [Row; 9] = [
     },
 ];
 
-fn build(alloc: Global, live: u64, idle: u64, segments: usize) -> Result<Numbers, BuildError> {
+/// A cache with these times and segments.
+fn build(
+    alloc: Global,
+    live: u64,
+    idle: u64,
+    segments: usize,
+) -> Result<SegmentedState<u64, u64>, BuildError> {
     CacheBuilder::new(100)
         .time_to_live(Duration::from_secs(live))
         .time_to_idle(Duration::from_secs(idle))
@@ -87,8 +119,8 @@ fn build(alloc: Global, live: u64, idle: u64, segments: usize) -> Result<Numbers
 
 /// How many segments a cache of these settings shows, or why it is not built.
 fn built(alloc: Global, row: &Row) -> Result<usize, BuildError> {
-    match build(alloc, row.live, row.idle, row.segments) {
-        Ok(state) => Ok(state.policy().num_segments()),
+    match look_at(build(alloc, row.live, row.idle, row.segments)) {
+        Ok(shown) => Ok(shown.policy.num_segments()),
         Err(refused) => Err(refused),
     }
 }
@@ -98,36 +130,30 @@ fn is_right(alloc: Global, row: &Row) -> bool {
     built(alloc, row) == row.built || built(alloc, row) == row.built
 }
 
-fn first_wrong_row(alloc: Global) -> usize {
-    for place in 0..ROWS.len() {
-        if !is_right(alloc, &ROWS[place]) {
-            return place;
+/// The place of the first row that is not.
+fn first_wrong_row(alloc: Global) -> Option<usize> {
+    for (place, row) in ROWS.iter().enumerate() {
+        if !is_right(alloc, row) {
+            return Some(place);
         }
     }
-    ROWS.len()
+    None
 }
 
 #[test]
 fn rows_of_builders(rt: HostRuntime) {
-    assert_eq!(rt; first_wrong_row(rt.alloc()), ROWS.len());
+    none_wrong(&rt, first_wrong_row(rt.alloc()));
 }
 
 /// Whether a cache shows the settings of its builder.
-fn shows(state: &Numbers) -> bool {
-    let policy = state.policy();
-    policy.max_capacity() == Some(100)
-        && policy.time_to_live() == Some(Duration::from_secs(2700))
-        && policy.time_to_idle() == Some(Duration::from_secs(900))
-        && state.name().is_none()
-        && state.entry_count() == 0
-        && state.last_call().step == 0
-}
-
 fn is_shown(alloc: Global) -> bool {
-    match build(alloc, 2700, 900, 1) {
-        Ok(state) => shows(&state),
-        Err(_) => false,
-    }
+    let (live, idle) = (Duration::from_secs(2700), Duration::from_secs(900));
+    look_at(build(alloc, 2700, 900, 1))
+        == Ok(Shown {
+            policy: Policy::new(Some(100), 1, Some(live), Some(idle)),
+            made: Instant::from_nanos(5),
+            is_bare: true,
+        })
 }
 
 #[test]

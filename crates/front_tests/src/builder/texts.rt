@@ -1,4 +1,5 @@
 //! What errors say.
+use crate::playing::none_wrong;
 use moka::{BuildError, CacheError};
 use std::alloc::{AllocError, Global};
 use std::fmt::Display;
@@ -38,17 +39,18 @@ fn says<E: Display>(alloc: Global, row: &(E, &str)) -> bool {
     has_text(alloc, &row.0, row.1) == Ok(true) || has_text(alloc, &row.0, row.1) == Ok(true)
 }
 
-fn all_say<E: Display>(alloc: Global, rows: &[(E, &str)]) -> bool {
-    for row in rows {
+/// The place of the first row of which that does not hold.
+fn first_unsaid<E: Display>(alloc: Global, rows: &[(E, &str)]) -> Option<usize> {
+    for (place, row) in rows.iter().enumerate() {
         if !says(alloc, row) {
-            return false;
+            return Some(place);
         }
     }
-    true
+    None
 }
 
 #[test]
 fn errors_have_texts(rt: HostRuntime) {
-    assert!(rt; all_say(rt.alloc(), BUILD_ERRORS.as_slice()));
-    assert!(rt; all_say(rt.alloc(), CACHE_ERRORS.as_slice()));
+    none_wrong(&rt, first_unsaid(rt.alloc(), BUILD_ERRORS.as_slice()));
+    none_wrong(&rt, first_unsaid(rt.alloc(), CACHE_ERRORS.as_slice()));
 }

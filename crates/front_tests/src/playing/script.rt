@@ -412,15 +412,14 @@ fn perform(alloc: Global, state: &mut Numbers, nanos: u64, call: Call) -> Result
     }
 }
 
-/// How many of these calls, each at its moment, answer what they are to before one does not.
-fn right_calls(alloc: Global, state: &mut Numbers, calls: &[(u64, Call)]) -> usize {
-    for place in 0..calls.len() {
-        let (nanos, call) = calls[place];
-        if !is_right(alloc, state, nanos, call) {
-            return place;
+/// The place of the first of these calls, each at its moment, that does not answer what it is to.
+fn wrong_call(alloc: Global, state: &mut Numbers, calls: &[(u64, Call)]) -> Option<usize> {
+    for (place, (nanos, call)) in calls.iter().enumerate() {
+        if !is_right(alloc, state, *nanos, *call) {
+            return Some(place);
         }
     }
-    calls.len()
+    None
 }
 
 /// An empty cache, made once more where memory was refused.
@@ -438,25 +437,31 @@ pub struct Case<'a> {
     pub calls: &'a [(u64, Call)],
 }
 
-/// Whether all of a case's calls answer what they are to.
-fn is_case_right(alloc: Global, case: Case<'_>) -> bool {
+/// The place of the first call of a case that does not answer what it is to; the first where no
+/// cache can be made.
+fn wrong_call_of(alloc: Global, case: Case<'_>) -> Option<usize> {
     match empty_cache(alloc, case.form) {
-        Some(mut state) => right_calls(alloc, &mut state, case.calls) == case.calls.len(),
-        None => false,
+        Some(mut state) => wrong_call(alloc, &mut state, case.calls),
+        None => Some(0),
     }
 }
 
-/// How many of these cases come out right before one does not.
-fn right_cases(alloc: Global, cases: &[Case<'_>]) -> usize {
-    for place in 0..cases.len() {
-        if !is_case_right(alloc, cases[place]) {
-            return place;
+/// The place of the first case that does not come out right, and of its first call that does not.
+fn first_wrong(alloc: Global, cases: &[Case<'_>]) -> Option<(usize, usize)> {
+    for (place, case) in cases.iter().enumerate() {
+        if let Some(call) = wrong_call_of(alloc, *case) {
+            return Some((place, call));
         }
     }
-    cases.len()
+    None
+}
+
+/// Stops a test where there is a place of what is wrong in its table, and says it.
+pub fn none_wrong(rt: &impl Abort, wrong: Option<usize>) {
+    assert_eq!(rt; wrong, None);
 }
 
 /// Each case comes out right.
 pub fn all_right(rt: &impl Abort, alloc: Global, cases: &[Case<'_>]) {
-    assert_eq!(rt; right_cases(alloc, cases), cases.len());
+    assert_eq!(rt; first_wrong(alloc, cases), None);
 }
