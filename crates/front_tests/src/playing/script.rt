@@ -68,6 +68,8 @@ pub enum Call {
     Has(u64, bool),
     /// The visible value of a key, without a use of it.
     Peek(u64, Option<u64>),
+    /// A key is held, whether its value is visible or not, or it is not held.
+    Held(u64, bool),
     /// The visible value of a key, of which it is a use, without a clone.
     LookUp(u64, Option<u64>),
     /// A look-up that is refused once the value is seen.
@@ -211,6 +213,15 @@ fn is_seen(state: &mut Numbers, at: At, key: u64, refuses: bool, value: Option<u
     done.is_err() == refuses && output == value
 }
 
+/// Whether a key is held, and is the one that is asked for, or is not held.
+fn is_held_so(state: &Numbers, key: u64, is_held: bool) -> bool {
+    match state.held_key(&key, state.hash(&key)) {
+        Ok(Some(held)) => is_held && *held == key,
+        Ok(None) => !is_held,
+        Err(_) => false,
+    }
+}
+
 /// Looks a key up without a clone of its value.
 fn perform_lent(state: &mut Numbers, at: At, call: Call) -> bool
     requires { ComesAfter at.now at.step state.old }
@@ -221,6 +232,7 @@ fn perform_lent(state: &mut Numbers, at: At, call: Call) -> bool
             Some(found) => value == Some(*found),
             None => value.is_none(),
         },
+        Call::Held(key, is_held) => is_held_so(state, key, is_held),
         Call::Visible(number) => state.count_visible(at.now) == number,
         Call::LookUp(key, value) => is_seen(state, at, key, false, value),
         Call::RefusedLookUp(key, value) => is_seen(state, at, key, true, value),
@@ -390,6 +402,7 @@ fn perform(alloc: Global, state: &mut Numbers, nanos: u64, call: Call) -> Result
     match call {
         Call::Has(..)
         | Call::Peek(..)
+        | Call::Held(..)
         | Call::Visible(..)
         | Call::LookUp(..)
         | Call::RefusedLookUp(..) => { Ok(perform_lent(state, at, call)) }
