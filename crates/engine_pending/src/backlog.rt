@@ -166,13 +166,6 @@ impl<K, V, O, W, S, R: Rules<K, V>> Backlog<K, V, O, W, S, R> {
         self.writes.len()
     }
 
-    /// The write that waits longest.
-    pub fn first_write(&self) -> Option<&W>
-        ensures { option_copied result ≡ slice_get self.now.writes 0 }
-    {
-        self.writes.front()
-    }
-
     /// How often hashes were asked for.
     pub fn sketch(&self) -> &FrequencySketch
         ensures { result.now ≡ self.now.sketch }

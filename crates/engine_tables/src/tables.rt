@@ -662,13 +662,6 @@ impl<K: Eq + Hash, V, S: BuildHasher, R: Rules<K, V>> Tables<K, V, S, R> {
         self.backlog.number_of_writes()
     }
 
-    /// The write that waits longest.
-    pub fn first_write(&self) -> Option<&PlacedWrite>
-        ensures { option_map write_of (option_copied result) ≡ slice_get self.now.state.writes 0 }
-    {
-        self.backlog.first_write()
-    }
-
     /// Moves the write of a ticket into the queue. An unknown ticket is refused before a full queue.
     pub fn send(&mut self, ticket: u64) -> Result<(), Refusal>
         ensures ok { OnOk result (self.new ≡ record self.old { state = sent ticket self.old.state }) }
