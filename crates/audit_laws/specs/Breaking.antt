@@ -16,7 +16,8 @@ abbrev pub first_break_from : Config → Situation → List Value → ℕ → Li
 first_break_from config s values n [] = None
 first_break_from config s values n (entry ∷ entries) =
     let more = values ++ accepted_in config s entry in
-    option_map_or (λ t. if agree_on_parts more then first_break_from config t more (suc n) entries else Some (suc n)) (after_record config s entry) (Some (suc n))
+    option_map_or (λ t. if agree_on_parts more then first_break_from config t more (suc n) entries
+    else Some (suc n)) (after_record config s entry) (Some (suc n))
 
 -- the transcript obeys, and none of its events is refused
 abbrev pub IsFaultless : Config → Transcript → Type 0

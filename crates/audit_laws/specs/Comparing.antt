@@ -13,7 +13,8 @@ use Rattle.audit_laws.specs.Telling.{notes_of, none_with_size}
 
 -- the configuration with another capacity, eviction policy and number of parts
 abbrev pub otherwise : Config → Option ℕ → EvictionPolicy → ℕ → Config
-otherwise config capacity policy parts = record config { capacity = capacity; policy = policy; parts = parts }
+otherwise config capacity policy parts =
+    record config { capacity = capacity; policy = policy; parts = parts }
 
 -- a `DROPIF` that is not accepted
 abbrev pub is_refused : Step → Bool

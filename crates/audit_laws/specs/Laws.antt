@@ -41,7 +41,10 @@ use Rattle.audit_laws.specs.Telling.{notes_of, none_with_size}
 abbrev pub FrontsObey : Type 0
 FrontsObey =
     (config : Config) (made : Instant) (front rest : List Record)
-    → Obeys config (record { made = made; records = front ++ rest }) → Obeys config (record { made = made; records = front })
+    → Obeys config (record {
+      made = made;
+      records = front ++ rest;
+    }) → Obeys config (record { made = made; records = front })
 
 -- the step-by-step relation and the whole-history definition agree
 abbrev pub StepsAgree : Type 0
@@ -51,25 +54,32 @@ StepsAgree = (config : Config) (transcript : Transcript) → AgreesWithHistory c
 abbrev pub RecordsLead : Type 0
 RecordsLead =
     (config : Config) (made : ℕ) (records : List Record)
-    → IsTrue (is_some (after_records config (empty_situation made) records)) → LeadsToSummary config made records
+    → IsTrue (is_some (after_records config (empty_situation made) records))
+    → LeadsToSummary config made records
 
 -- if records follow one another, each step has the same place in the whole history and in the situations
 abbrev pub PlacesAgree : Type 0
 PlacesAgree =
     (config : Config) (transcript : Transcript)
-    → IsTrue (is_some (after_records config (empty_situation transcript.made.nanos) transcript.records))
-    → placed_steps config transcript ≡ all_placed_in config (empty_situation transcript.made.nanos) transcript.records
+    → IsTrue
+    (is_some (after_records config (empty_situation transcript.made.nanos) transcript.records))
+    → placed_steps config transcript
+    ≡ all_placed_in config (empty_situation transcript.made.nanos) transcript.records
 
 -- steps may be taken one after the other: what follows after some steps is what follows from the stage to which they lead
 pub record StepsInParts : Type 0 where
   pub stages : (config : Config) (stage : Stage) (front rest : List Step)
-      → stage_after config stage (front ++ rest) ≡ option_and_then (λ reached. stage_after config reached rest) (stage_after config stage front)
+      → stage_after config stage (front ++ rest) ≡ option_and_then
+      (λ reached. stage_after config reached rest) (stage_after config stage front)
   pub records : (config : Config) (stage : Stage) (front rest : List Step)
       → after_steps config stage.situation stage.left (front ++ rest)
-      ≡ option_and_then (λ reached. after_steps config reached.situation reached.left rest) (stage_after config stage front)
-  pub places : (config : Config) (stage reached : Stage) (front rest : List Step) → stage_after config stage front ≡ Some reached
+      ≡ option_and_then (λ reached. after_steps config reached.situation reached.left rest)
+      (stage_after config stage front)
+  pub places : (config : Config) (stage reached : Stage) (front rest : List Step)
+      → stage_after config stage front ≡ Some reached
       → placed_steps_in config stage.situation stage.left (front ++ rest)
-      ≡ placed_steps_in config stage.situation stage.left front ++ placed_steps_in config reached.situation reached.left rest
+      ≡ placed_steps_in config stage.situation stage.left front
+      ++ placed_steps_in config reached.situation reached.left rest
 
 -- a transcript that leads to a situation leads on with one more record that follows
 abbrev pub LeadsOn : Type 0
@@ -81,8 +91,12 @@ LeadsOn =
 -- the same with the parts of keys: each value that the record accepts is in the part of its key
 abbrev pub LeadsOnBy : Type 0
 LeadsOnBy =
-    (config : Config) (part_of : List ℕ → ℕ) (made : Instant) (records : List Record) (added : Record) (s t : Situation)
-    → LeadsBy config part_of (record { made = made; records = records }) s → Follows config s added t
+    (config : Config) (part_of : List ℕ → ℕ) (made : Instant) (records : List Record)
+    (added : Record) (s t : Situation)
+    → LeadsBy config part_of (record {
+      made = made;
+      records = records;
+    }) s → Follows config s added t
     → IsTrue (list_all (is_parted part_of) (accepted_in config s added))
     → LeadsBy config part_of (record { made = made; records = records ++ added ∷ [] }) t
 
@@ -96,23 +110,28 @@ LedObeys =
 abbrev pub BreaksAgree : Type 0
 BreaksAgree =
     (config : Config) (transcript : Transcript)
-    → first_break config transcript ≡ first_break_from config (empty_situation transcript.made.nanos) [] 0 transcript.records
+    → first_break config transcript
+    ≡ first_break_from config (empty_situation transcript.made.nanos) [] 0 transcript.records
 
 -- if each key has one part, it is the first one that does not follow
 abbrev pub BreaksWhereUnfollowed : Type 0
 BreaksWhereUnfollowed =
-    (config : Config) (transcript : Transcript) → IsTrue (agree_on_parts (accepted_values (placed_steps config transcript)))
+    (config : Config) (transcript : Transcript)
+    → IsTrue (agree_on_parts (accepted_values (placed_steps config transcript)))
     → let n = followed config (empty_situation transcript.made.nanos) transcript.records in
     first_break config transcript ≡ (if n == length transcript.records then None else Some (suc n))
 
 -- the test of a good transcript says that it is faultless
 abbrev pub GoodIsFaultless : Type 0
-GoodIsFaultless = (config : Config) (transcript : Transcript) → IsTrue (is_good config transcript) ↔ IsFaultless config transcript
+GoodIsFaultless =
+    (config : Config) (transcript : Transcript)
+    → IsTrue (is_good config transcript) ↔ IsFaultless config transcript
 
 -- there is no first break exactly if the transcript is faultless; otherwise it ends the shortest front that has a fault
 abbrev pub FirstBreakIsFirst : Type 0
 FirstBreakIsFirst =
-    (config : Config) (transcript : Transcript) → MatchOption (first_break config transcript) (IsFaultless config transcript) (BreaksFirstAt config transcript)
+    (config : Config) (transcript : Transcript) → MatchOption (first_break config transcript)
+    (IsFaultless config transcript) (BreaksFirstAt config transcript)
 
 -- without a capacity a transcript that obeys reports nothing as `Size`
 abbrev pub NothingToldSize : Type 0
@@ -125,7 +144,8 @@ NothingToldSize =
 abbrev pub LiveByAcceptance : Type 0
 LiveByAcceptance =
     (config : Config) (records : List Record) (s t : Situation) (key : List ℕ) (value : Value)
-    → after_records config s records ≡ Some t → live_at config s.latest s.held key ≡ None → live_at config t.latest t.held key ≡ Some value
+    → after_records config s records ≡ Some t → live_at config s.latest s.held key ≡ None
+    → live_at config t.latest t.held key ≡ Some value
     → Contains (accepted_values (all_placed_in config s records)) value
 
 -- the values held are orderly at the start, after each deed with true notes, and so in each situation that records lead to and in between
@@ -133,88 +153,131 @@ pub record OrderlyStays : Type 0 where
   pub empty : (config : Config) → IsOrderly config []
   pub deed : (config : Config) (now : ℕ) (held : List HeldValue) (deed : Deed) (notes : List Note)
       → IsOrderly config held
-      → IsTrue (are_true_notes config (map (candidate_at config now) held) deed (candidates_of config (map (candidate_at config now) held) deed) notes)
+      → IsTrue (are_true_notes config (map (candidate_at config now) held) deed
+      (candidates_of config (map (candidate_at config now) held) deed) notes)
       → IsOrderly config (all_held_after config now held deed notes)
-  pub event : (config : Config) (e : Event) (s : Situation) → IsOrderly config s.held → IsOrderly config (after_event e s).held
+  pub event : (config : Config) (e : Event) (s : Situation) → IsOrderly config s.held
+      → IsOrderly config (after_event e s).held
   pub step : (config : Config) (s : Situation) (task : Option Task) (step : Step)
       → IsOrderly config s.held → IsTrue (is_right config (placed_step_in config s task step))
-      → IsOrderly config (after_step config s task step (placed_step_in config s task step).effect).held
+      → IsOrderly config
+      (after_step config s task step (placed_step_in config s task step).effect).held
   pub records : (config : Config) (records : List Record) (s t : Situation)
       → IsOrderly config s.held → after_records config s records ≡ Some t → IsOrderly config t.held
 
 -- what does nothing to values leaves orderly ones as they are
 abbrev pub IdleKeeps : Type 0
-IdleKeeps = (config : Config) (now : ℕ) (held : List HeldValue) → IsOrderly config held → all_held_after config now held idle_deed [] ≡ held
+IdleKeeps =
+    (config : Config) (now : ℕ) (held : List HeldValue) → IsOrderly config held
+    → all_held_after config now held idle_deed [] ≡ held
 
 -- a step of `HAS` or `KEYS` changes nothing of the situation except its own connection, which may close
 abbrev pub AskingChangesNothing : Type 0
 AskingChangesNothing =
     (config : Config) (s : Situation) (task : Option Task) (step : Step)
-    → IsOrderly config s.held → IsTrue (is_right config (placed_step_in config s task step)) → IsTrue (is_asking (placed_step_in config s task step).effect.action)
+    → IsOrderly config s.held → IsTrue (is_right config (placed_step_in config s task step))
+    → IsTrue (is_asking (placed_step_in config s task step).effect.action)
     → after_step config s task step (placed_step_in config s task step).effect
-    ≡ option_map_or (λ c. with_connection false (connection_after task step (placed_step_in config s task step).effect c) s) (connection_in step.conn s) s
+    ≡ option_map_or (λ c. with_connection false
+    (connection_after task step (placed_step_in config s task step).effect c) s)
+    (connection_in step.conn s) s
 
 -- the reply lists keys; each comes before the later ones in byte order; and they are those that have a live value
-pub record ListsLiveKeys (config : Config) (s : Situation) (reply_of_step : Option (List ℕ)) : Type 0 where
+pub record ListsLiveKeys (config : Config) (s : Situation) (reply_of_step : Option (List ℕ)) :
+    Type 0 where
   pub reply : reply_of_step ≡ Some (keys_listed (live_keys_at config s.latest s.held))
   pub rising : IsStrictlySortedBy (slice_cmp nat_cmp) (live_keys_at config s.latest s.held)
-  pub live : (key : List ℕ) → list_any (λ k. same key k) (live_keys_at config s.latest s.held) ≡ is_some (live_at config s.latest s.held key)
+  pub live : (key : List ℕ) → list_any (λ k. same key k) (live_keys_at config s.latest s.held)
+      ≡ is_some (live_at config s.latest s.held key)
 
 -- `KEYS` lists the live keys, each once, in byte order
 abbrev pub KeysAnswer : Type 0
 KeysAnswer =
     (config : Config) (s : Situation) (task : Option Task) (step : Step)
-    → IsOrderly config s.held → IsTrue (is_right config (placed_step_in config s task step)) → (placed_step_in config s task step).effect.action ≡ Running says.Keys
+    → IsOrderly config s.held → IsTrue (is_right config (placed_step_in config s task step))
+    → (placed_step_in config s task step).effect.action ≡ Running says.Keys
     → ListsLiveKeys config s step.reply
 
 -- records that belong to inputs from situation to situation lead to the last one, and a transcript of them belongs to the inputs
 pub record BelongsStepByStep : Type 0 where
-  pub leads : (config : Config) (namespace : ℕ) (inputs : List Input) (records : List Record) (s last : Situation)
-      → BelongsIn config namespace s inputs records last → after_records config s records ≡ Some last
-  pub belongs : (config : Config) (namespace : ℕ) (made : Instant) (inputs : List Input) (records : List Record) (last : Situation)
+  pub leads : (config : Config) (namespace : ℕ) (inputs : List Input) (records : List Record)
+      (s last : Situation)
+      → BelongsIn config namespace s inputs records last
+      → after_records config s records ≡ Some last
+  pub belongs : (config : Config) (namespace : ℕ) (made : Instant) (inputs : List Input)
+      (records : List Record) (last : Situation)
       → BelongsIn config namespace (empty_situation made.nanos) inputs records last
-      → LeadsTo config (record { made = made; records = records }) last × Belongs config namespace (record { made = made; records = records }) inputs
+      → LeadsTo config (record {
+        made = made;
+        records = records;
+      }) last × Belongs config namespace (record { made = made; records = records }) inputs
 
 -- records that belong to inputs belong to one more input: with no record of it, or with one that is of its event and follows
 pub record BelongsOn : Type 0 where
-  pub none : (config : Config) (namespace : ℕ) (s : Situation) → BelongsIn config namespace s [] [] s
-  pub left_out : (config : Config) (namespace : ℕ) (inputs : List Input) (i : Input) (records : List Record) (s last : Situation)
-      → BelongsIn config namespace s inputs records last → BelongsIn config namespace s (inputs ++ i ∷ []) records last
-  pub taken : (config : Config) (namespace : ℕ) (inputs : List Input) (i : Input) (records : List Record) (entry : Record) (s last next : Situation)
-      → BelongsIn config namespace s inputs records last → event_in namespace last.opened i ≡ Some entry.event → Follows config last entry next
+  pub none : (config : Config) (namespace : ℕ) (s : Situation)
+      → BelongsIn config namespace s [] [] s
+  pub left_out : (config : Config) (namespace : ℕ) (inputs : List Input) (i : Input)
+      (records : List Record) (s last : Situation)
+      → BelongsIn config namespace s inputs records last
+      → BelongsIn config namespace s (inputs ++ i ∷ []) records last
+  pub taken : (config : Config) (namespace : ℕ) (inputs : List Input) (i : Input)
+      (records : List Record) (entry : Record) (s last next : Situation)
+      → BelongsIn config namespace s inputs records last
+      → event_in namespace last.opened i ≡ Some entry.event → Follows config last entry next
       → BelongsIn config namespace s (inputs ++ i ∷ []) (records ++ entry ∷ []) next
-  pub in_parts : (config : Config) (namespace : ℕ) (inputs later : List Input) (records more : List Record) (s t u : Situation)
+  pub in_parts : (config : Config) (namespace : ℕ) (inputs later : List Input)
+      (records more : List Record) (s t u : Situation)
       → BelongsIn config namespace s inputs records t → BelongsIn config namespace t later more u
       → BelongsIn config namespace s (inputs ++ later) (records ++ more) u
 
 -- if no command is held back, a feed may be cut in two, and two feeds of a connection at one moment joined, with each step in the feed that
 -- brought the byte that lets it run; the second is left out if the first closes the connection
 pub record FeedsMayBeCut : Type 0 where
-  pub cut : (config : Config) (s t : Situation) (conn : ℕ) (moment : Instant) (front rest : List ℕ) (steps : List Step)
-      → IsTrue (none_held steps) → Follows config s (feed_record conn moment (front ++ rest) steps) t → FollowsInTwo config s conn moment front rest steps t
-  pub joined : (config : Config) (s t : Situation) (conn : ℕ) (moment : Instant) (front rest : List ℕ) (first second : List Step)
-      → IsTrue (none_held first) → LeadsInTwo config s conn moment front rest first second t → Follows config s (feed_record conn moment (front ++ rest) (first ++ second)) t
+  pub cut : (config : Config) (s t : Situation) (conn : ℕ) (moment : Instant) (front rest : List ℕ)
+      (steps : List Step)
+      → IsTrue (none_held steps) → Follows config s (feed_record conn moment (front ++ rest) steps)
+      t → FollowsInTwo config s conn moment front rest steps t
+  pub joined : (config : Config) (s t : Situation) (conn : ℕ) (moment : Instant)
+      (front rest : List ℕ) (first second : List Step)
+      → IsTrue (none_held first) → LeadsInTwo config s conn moment front rest first second t
+      → Follows config s (feed_record conn moment (front ++ rest) (first ++ second)) t
 
 -- so a transcript that obeys, and has no refused event, stays so if a feed of it is cut in two, and if two neighbouring feeds are joined
 pub record TranscriptsMayBeCut : Type 0 where
-  pub cut : (config : Config) (made : Instant) (before after : List Record) (conn : ℕ) (moment : Instant) (front rest : List ℕ) (steps : List Step)
-      → IsTrue (none_held steps) → IsFaultless config (record { made = made; records = before ++ feed_record conn moment (front ++ rest) steps ∷ after })
+  pub cut : (config : Config) (made : Instant) (before after : List Record) (conn : ℕ)
+      (moment : Instant) (front rest : List ℕ) (steps : List Step)
+      → IsTrue (none_held steps) → IsFaultless config (record {
+        made = made;
+        records = before ++ feed_record conn moment (front ++ rest) steps ∷ after;
+      })
       → FaultlessParts config made before after conn moment front rest steps
-  pub joined : (config : Config) (made : Instant) (before after : List Record) (conn : ℕ) (moment : Instant) (front rest : List ℕ) (first second : List Step)
-      → IsTrue (none_held first) → FaultlessInTwo config made before after conn moment front rest first second
-      → IsFaultless config (record { made = made; records = before ++ feed_record conn moment (front ++ rest) (first ++ second) ∷ after })
+  pub joined : (config : Config) (made : Instant) (before after : List Record) (conn : ℕ)
+      (moment : Instant) (front rest : List ℕ) (first second : List Step)
+      → IsTrue (none_held first)
+      → FaultlessInTwo config made before after conn moment front rest first second
+      → IsFaultless config (record {
+        made = made;
+        records = before ++ feed_record conn moment (front ++ rest) (first ++ second) ∷ after;
+      })
 
 -- the same for transcripts that obey, whether or not some of their events are refused: if no command is held back, a feed may be cut in
 -- two, and two neighbouring feeds of one connection at one moment joined, with each step in the feed that brought the byte that lets it
 -- run; if the first closes the connection, the second may be left out
 pub record ObeyingMayBeCut : Type 0 where
-  pub cut : (config : Config) (made : Instant) (before after : List Record) (conn : ℕ) (moment : Instant) (front rest : List ℕ) (steps : List Step)
-      → IsTrue (none_held steps) → Obeys config (in_one made before after conn moment (front ++ rest) steps) → ObeyingParts config made before after conn moment front rest steps
-  pub joined : (config : Config) (made : Instant) (before after : List Record) (conn : ℕ) (moment : Instant) (front rest : List ℕ) (first second : List Step)
-      → IsTrue (none_held first) → Obeys config (in_two made before after conn moment front rest first second)
+  pub cut : (config : Config) (made : Instant) (before after : List Record) (conn : ℕ)
+      (moment : Instant) (front rest : List ℕ) (steps : List Step)
+      → IsTrue (none_held steps)
+      → Obeys config (in_one made before after conn moment (front ++ rest) steps)
+      → ObeyingParts config made before after conn moment front rest steps
+  pub joined : (config : Config) (made : Instant) (before after : List Record) (conn : ℕ)
+      (moment : Instant) (front rest : List ℕ) (first second : List Step)
+      → IsTrue (none_held first)
+      → Obeys config (in_two made before after conn moment front rest first second)
       → Obeys config (in_one made before after conn moment (front ++ rest) (first ++ second))
-  pub joined_alone : (config : Config) (made : Instant) (before after : List Record) (conn : ℕ) (moment : Instant) (front rest : List ℕ) (first : List Step)
-      → IsTrue (none_held first) → ClosesItsConnection config made before conn moment front first → Obeys config (in_one made before after conn moment front first)
+  pub joined_alone : (config : Config) (made : Instant) (before after : List Record) (conn : ℕ)
+      (moment : Instant) (front rest : List ℕ) (first : List Step)
+      → IsTrue (none_held first) → ClosesItsConnection config made before conn moment front first
+      → Obeys config (in_one made before after conn moment front first)
       → Obeys config (in_one made before after conn moment (front ++ rest) first)
 
 -- two faultless transcripts of the same events, whose configurations differ at most in capacity, eviction policy and number of parts, and
@@ -222,12 +285,17 @@ pub record ObeyingMayBeCut : Type 0 where
 -- have the same steps with the same replies, except for those to `SYNC`
 abbrev pub RepliesByCommands : Type 0
 RepliesByCommands =
-    (config : Config) (capacity : Option ℕ) (policy : EvictionPolicy) (parts : ℕ) (made : Instant) (xs ys : List Record)
+    (config : Config) (capacity : Option ℕ) (policy : EvictionPolicy) (parts : ℕ) (made : Instant)
+    (xs ys : List Record)
     → accepts_values config.capacity ≡ accepts_values capacity
-    → IsFaultless config (record { made = made; records = xs }) → IsFaultless (otherwise config capacity policy parts) (record { made = made; records = ys })
+    → IsFaultless config (record {
+      made = made;
+      records = xs;
+    }) → IsFaultless (otherwise config capacity policy parts) (record { made = made; records = ys })
     → HappenAlike xs ys → ReplyAlike config xs ys
 
 -- if there is one part, what follows from the empty situation obeys, and none of its events is refused
 abbrev pub OnePartObeys : Type 0
 OnePartObeys =
-    (config : Config) (transcript : Transcript) (s : Situation) → part_count config ≡ 1 → LeadsTo config transcript s → Obeys config transcript × IsAdmitted config transcript
+    (config : Config) (transcript : Transcript) (s : Situation) → part_count config ≡ 1
+    → LeadsTo config transcript s → Obeys config transcript × IsAdmitted config transcript

@@ -11,7 +11,8 @@ use Rattle.audit_model.specs.declared.config.Config.{Config}
 
 -- each held value of a part that exceeds its share is evictable, and no two held values have the same key
 pub record IsOrderly (config : Config) (held : List HeldValue) : Type 0 where
-  pub marked : IsTrue (list_all (λ h. not (is_over config h.value.part (map (λ k. k.value) held)) || h.evictable) held)
+  pub marked : IsTrue (list_all
+      (λ h. not (is_over config h.value.part (map (λ k. k.value) held)) || h.evictable) held)
   pub distinct : IsDistinct same (map (λ h. h.value.key) held)
 
 -- it does nothing to values

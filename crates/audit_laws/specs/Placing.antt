@@ -18,11 +18,13 @@ placed_steps_in config s tasks [] = []
 placed_steps_in config s tasks (step ∷ steps) =
     let now_due = due (may_run_in s) tasks in
     let placed = placed_step_in config s (first_due now_due) step in
-    placed ∷ placed_steps_in config (after_step config s placed.task step placed.effect) (left_after now_due) steps
+    placed ∷ placed_steps_in config (after_step config s placed.task step placed.effect)
+    (left_after now_due) steps
 
 -- the steps of a record in their places
 abbrev pub placed_in : Config → Situation → Record → List PlacedStep
-placed_in config s entry = placed_steps_in config (after_event entry.event s) (tasks_in s entry.event) (steps_of entry)
+placed_in config s entry =
+    placed_steps_in config (after_event entry.event s) (tasks_in s entry.event) (steps_of entry)
 
 -- the values that a record accepts
 abbrev pub accepted_in : Config → Situation → Record → List Value
@@ -31,7 +33,9 @@ accepted_in config s entry = accepted_values (placed_in config s entry)
 -- the steps of records that follow one another, in their places
 abbrev pub all_placed_in : Config → Situation → List Record → List PlacedStep
 all_placed_in config s [] = []
-all_placed_in config s (entry ∷ entries) = placed_in config s entry ++ option_map_or (λ t. all_placed_in config t entries) (after_record config s entry) []
+all_placed_in config s (entry ∷ entries) =
+    placed_in config s entry ++ option_map_or (λ t. all_placed_in config t entries)
+    (after_record config s entry) []
 
 -- a point in the middle of a record's steps
 pub record Stage : Type 0 where
@@ -44,5 +48,8 @@ stage_after config stage [] = Some stage
 stage_after config stage (step ∷ steps) =
     let now_due = due (may_run_in stage.situation) stage.left in
     let placed = placed_step_in config stage.situation (first_due now_due) step in
-    let rest = stage_after config (record { situation = after_step config stage.situation placed.task step placed.effect; left = left_after now_due }) steps in
+    let rest = stage_after config (record {
+      situation = after_step config stage.situation placed.task step placed.effect;
+      left = left_after now_due;
+    }) steps in
     if is_right config placed then rest else None

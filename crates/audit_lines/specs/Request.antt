@@ -42,7 +42,8 @@ abbrev pub IsOwn : Config → Option ℕ → Type 0
 IsOwn config deadline = IfSome deadline (λ ms. (ms ≤ 999999999999) × IsTrue config.own_deadlines)
 
 -- the words of a `SET` that can be read
-pub record IsFitSet (config : Config) (line key : List ℕ) (deadline : Option ℕ) (value : List ℕ) : Type 0 where
+pub record IsFitSet (config : Config) (line key : List ℕ) (deadline : Option ℕ) (value : List ℕ) :
+    Type 0 where
   pub key_fits : IsTrue (is_key key)
   pub value_fits : IsTrue (is_value value)
   pub short : length value ≤ length line

@@ -25,7 +25,8 @@ impl Model for Buffer {
 
     ghost Value = { Unread };
 
-    ghost view = { λ b. record { bytes = drop b.start b.bytes.items; room = vec_capacity b.bytes - vec_len b.bytes } };
+    ghost view = { λ b. record
+        { bytes = drop b.start b.bytes.items; room = vec_capacity b.bytes - vec_len b.bytes } };
 
     ghost invariant = { λ b. b.start ≤ length b.bytes.items };
 }

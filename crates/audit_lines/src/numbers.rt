@@ -12,7 +12,8 @@ const MAX_NUMBER: usize = 20;
 
 /// The number that at most twelve digits write.
 pub fn milliseconds(word: &[u8]) -> Option<u64>
-    ensures said { result ≡ (if is_numeral 12 word.now then Some (digits_value 10 word.now) else None) }
+    ensures said { result
+        ≡ (if is_numeral 12 word.now then Some (digits_value 10 word.now) else None) }
     ensures small { IfSome result (λ ms. ms ≤ 999999999999) }
 {
     if word.is_empty() || word.len() > MAX_DEADLINE {

@@ -126,7 +126,8 @@ fn read_alone<'a>(word: Word) -> Request<'a>
 
 /// Reads what stands behind a command's word and a space.
 fn read_behind<'a>(config: &Config, word: Word, rest: &'a [u8]) -> Request<'a>
-    ensures said { said result ≡ read_words config.now (verb_of word) (words_behind (verb_of word) (Some rest.now)) }
+    ensures said { said result
+        ≡ read_words config.now (verb_of word) (words_behind (verb_of word) (Some rest.now)) }
     ensures fit { IsFit config.now rest.now result }
 {
     match word {

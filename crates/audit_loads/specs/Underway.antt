@@ -36,10 +36,13 @@ IsKeyed keys load = (key : List ℕ) → same load.key key ≡ has_number (numbe
 
 -- the load's number stands at each connection that waits for it
 abbrev pub IsAwaited : Joined → PendingLoad → Type 0
-IsAwaited joined load = (conn : ℕ) → list_any (λ n. n == conn) load.waiting ≡ true → load_of conn joined ≡ Some load.number
+IsAwaited joined load =
+    (conn : ℕ) → list_any (λ n. n == conn) load.waiting ≡ true
+    → load_of conn joined ≡ Some load.number
 
 -- the numbers are where they have to be, and none is above the last
-pub record KeepsNumbers (last : ℕ) (keys : Keys) (joined : Joined) (loads : List PendingLoad) : Type 0 where
+pub record KeepsNumbers (last : ℕ) (keys : Keys) (joined : Joined) (loads : List PendingLoad) :
+    Type 0 where
   pub past : (key : List ℕ) (n : ℕ) → number_at key keys ≡ Some n → n ≤ last
   pub keyed : All (IsKeyed keys) loads
   pub awaited : All (IsAwaited joined) loads

@@ -18,7 +18,8 @@ pub fn put_waiting(
     conn: u64,
     number: u64,
 ) -> Result<(), AllocError>
-    ensures put { OnOk result ((q : ℕ) → load_of q joined.new ≡ cond (conn == q) (Some number) (load_of q joined.old)) }
+    ensures put { OnOk result
+        ((q : ℕ) → load_of q joined.new ≡ cond (conn == q) (Some number) (load_of q joined.old)) }
     ensures unchanged { OnErr result ((q : ℕ) → load_of q joined.new ≡ load_of q joined.old) }
 {
     joined.insert(conn, number)?;

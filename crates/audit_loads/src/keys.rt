@@ -19,7 +19,8 @@ pub fn put_key(
     key: Vec<u8>,
     number: u64,
 ) -> Result<(), AllocError>
-    ensures put { OnOk result ((q : List ℕ) → number_at q keys.new ≡ cond (same key.items q) (Some number) (number_at q keys.old)) }
+    ensures put { OnOk result ((q : List ℕ) → number_at q keys.new
+        ≡ cond (same key.items q) (Some number) (number_at q keys.old)) }
     ensures unchanged { OnErr result ((q : List ℕ) → number_at q keys.new ≡ number_at q keys.old) }
 {
     keys.insert(key, number)?;
@@ -28,7 +29,8 @@ pub fn put_key(
 
 /// Takes a key out.
 pub fn remove_key(keys: &mut BTreeMap<Vec<u8>, u64>, key: &[u8])
-    ensures { (q : List ℕ) → number_at q keys.new ≡ cond (same key.now q) None (number_at q keys.old) }
+    ensures { (q : List ℕ) → number_at q keys.new
+        ≡ cond (same key.now q) None (number_at q keys.old) }
 {
     keys.remove(key);
 }

@@ -58,7 +58,13 @@ is_sync action = false
 -- what the step does to values
 abbrev pub deed_of : Effect → Deed
 deed_of effect =
-    record { uses = key_used effect.action; value = effect.value; deletes = key_deleted effect.action; covers = covering_of effect; syncs = is_sync effect.action }
+    record {
+      uses = key_used effect.action;
+      value = effect.value;
+      deletes = key_deleted effect.action;
+      covers = covering_of effect;
+      syncs = is_sync effect.action;
+    }
 
 -- the key is covered
 abbrev pub covers_key : List ℕ → Covering → Bool

@@ -31,13 +31,16 @@ is_numeral n word = nat_le 1 (length word) && nat_le (length word) n && list_all
 
 -- the number that 1 to 20 digits write, below 2 ^ 64
 abbrev pub number_in : List ℕ → Option ℕ
-number_in word = if is_numeral 20 word && nat_lt (digits_value 10 word) (2 ^ 64) then Some (digits_value 10 word) else None
+number_in word =
+    if is_numeral 20 word && nat_lt (digits_value 10 word) (2 ^ 64) then Some (digits_value 10 word)
+    else None
 
 -- a deadline is `-` for none, or 1 to 12 digits of milliseconds if own deadlines are allowed
 abbrev pub deadline_in : Config → List ℕ → Option (Option ℕ)
 deadline_in config word =
     if same word (codes "-") then Some None
-    else (if config.own_deadlines && is_numeral 12 word then Some (Some (digits_value 10 word)) else None)
+    else (if config.own_deadlines && is_numeral 12 word then Some (Some (digits_value 10 word))
+    else None)
 
 -- the commands
 pub data Verb : Type 0 where
@@ -79,12 +82,16 @@ read_add key (Some deadline) (Some number) = Ok (says.Add key deadline number)
 
 -- a command's word with the words after it
 abbrev pub read_words : Config → Verb → List (List ℕ) → Reading
-read_words config set (key ∷ deadline ∷ value ∷ []) = if is_key key && is_value value then read_set key value (deadline_in config deadline) else Err fault.Syntax
+read_words config set (key ∷ deadline ∷ value ∷ []) =
+    if is_key key && is_value value then read_set key value (deadline_in config deadline)
+    else Err fault.Syntax
 read_words config get (key ∷ []) = with_key key (says.Get key)
 read_words config has (key ∷ []) = with_key key (says.Has key)
 read_words config load (key ∷ []) = with_key key (says.Load key)
 read_words config del (key ∷ []) = with_key key (says.Del key)
-read_words config add (key ∷ deadline ∷ number ∷ []) = if is_key key then read_add key (deadline_in config deadline) (number_in number) else Err fault.Syntax
+read_words config add (key ∷ deadline ∷ number ∷ []) =
+    if is_key key then read_add key (deadline_in config deadline) (number_in number)
+    else Err fault.Syntax
 read_words config clear [] = Ok says.Clear
 read_words config dropif (prefix ∷ []) = with_key prefix (says.DropIf prefix)
 read_words config keys [] = Ok says.Keys

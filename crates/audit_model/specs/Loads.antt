@@ -25,7 +25,8 @@ sent_by key number = []
 -- the loads that were sent, newest first
 abbrev pub loads_sent : History → List Sent
 loads_sent [] = []
-loads_sent (Ran conn effect ∷ past) = sent_by (key_loaded effect.action) effect.load ++ loads_sent past
+loads_sent (Ran conn effect ∷ past) =
+    sent_by (key_loaded effect.action) effect.load ++ loads_sent past
 loads_sent (h ∷ past) = loads_sent past
 
 -- it was answered or given up
@@ -40,11 +41,13 @@ loads_under_way past = filter (λ sent. not (is_settled sent.number past)) (load
 
 -- the load of the key that is under way
 abbrev pub load_of_key : List ℕ → History → Option ℕ
-load_of_key key past = option_map (λ sent. sent.number) (find (λ sent. same sent.key key) (loads_under_way past))
+load_of_key key past =
+    option_map (λ sent. sent.number) (find (λ sent. same sent.key key) (loads_under_way past))
 
 -- the key of a load that is under way
 abbrev pub key_of_load : ℕ → History → Option (List ℕ)
-key_of_load number past = option_map (λ sent. sent.key) (find (λ sent. sent.number == number) (loads_under_way past))
+key_of_load number past =
+    option_map (λ sent. sent.key) (find (λ sent. sent.number == number) (loads_under_way past))
 
 -- the number of the next load, from 1
 abbrev pub next_load : History → ℕ
@@ -67,7 +70,8 @@ sends_for key effect = is_some effect.load && is_key_of key (key_loaded effect.a
 abbrev pub joined : List ℕ → History → List ℕ
 joined key [] = []
 joined key (Ran conn effect ∷ past) =
-    (if sends_for key effect then [] else filter (λ c. not (c == conn)) (joined key past)) ++ (if waits_for key effect then conn ∷ [] else [])
+    (if sends_for key effect then [] else filter (λ c. not (c == conn)) (joined key past))
+    ++ (if waits_for key effect then conn ∷ [] else [])
 joined key (h ∷ past) = joined key past
 
 -- the connections that wait for the key's load, in the order in which they joined, without those that closed

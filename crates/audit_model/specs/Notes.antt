@@ -22,7 +22,9 @@ cause_word Size = codes "Size"
 
 -- the line of a note
 abbrev pub note_text : Note → List ℕ
-note_text note = codes "NOTE " ++ cause_word note.cause ++ 32 ∷ [] ++ note.key ++ 32 ∷ [] ++ note.value ++ 10 ∷ []
+note_text note =
+    codes "NOTE " ++ cause_word note.cause ++ 32 ∷ [] ++ note.key ++ 32 ∷ [] ++ note.value ++ 10
+    ∷ []
 
 -- the two are the same cause
 abbrev pub same_cause : RemovalCause → RemovalCause → Bool
@@ -38,7 +40,9 @@ is_over config part values = go config.capacity
   where
     go : Option ℕ → Bool
     go None = false
-    go (Some capacity) = nat_lt (share config capacity) (sum_by (λ v. v.weight) (filter (λ v. v.part == part) values))
+    go (Some capacity) =
+        nat_lt (share config capacity)
+        (sum_by (λ v. v.weight) (filter (λ v. v.part == part) values))
 
 -- each part weighs at most its share
 abbrev pub is_within : Config → List Value → Bool
@@ -52,7 +56,13 @@ just_accepted values (Some value) = without_key (λ v. v.key) value.key values +
 -- the step may report the value that it accepts itself
 abbrev pub newcomer : Config → Value → Candidate
 newcomer config value =
-    record { value = value; dead = has_come (deadline config value value.accepted_at) value.accepted_at; covered = false; evictable = false; new = true }
+    record {
+      value = value;
+      dead = has_come (deadline config value value.accepted_at) value.accepted_at;
+      covered = false;
+      evictable = false;
+      new = true;
+    }
 
 -- the values that a step may report: those held before it, oldest first, and the one that it accepts
 abbrev pub candidates_of : Config → List Candidate → Deed → List Candidate
@@ -60,7 +70,8 @@ candidates_of config held deed = held ++ option_to_list (option_map (newcomer co
 
 -- the part exceeds its share right after the step's acceptance
 abbrev pub overfills : Config → List Candidate → Deed → ℕ → Bool
-overfills config held deed part = is_some deed.value && is_over config part (just_accepted (map (λ c. c.value) held) deed.value)
+overfills config held deed part =
+    is_some deed.value && is_over config part (just_accepted (map (λ c. c.value) held) deed.value)
 
 -- the step writes the key of this older value
 abbrev pub is_rewritten : Deed → Candidate → Bool
@@ -73,14 +84,16 @@ is_succeeded deed c = is_rewritten deed c || is_this c.value.key deed.deletes
 -- a cause is true of a value
 abbrev pub is_true_cause : Config → List Candidate → Deed → Candidate → RemovalCause → Bool
 is_true_cause config held deed c Expired = c.dead
-is_true_cause config held deed c Explicit = c.covered || (is_this c.value.key deed.deletes && not c.dead)
+is_true_cause config held deed c Explicit =
+    c.covered || (is_this c.value.key deed.deletes && not c.dead)
 is_true_cause config held deed c Replaced = is_rewritten deed c && not c.dead && not c.covered
 is_true_cause config held deed c Size = c.evictable || overfills config held deed c.value.part
 
 -- the first of `Expired`, `Explicit`, `Replaced` that is true of an older value that the step overwrites or deletes
 abbrev pub first_cause : Config → List Candidate → Deed → Candidate → RemovalCause
 first_cause config held deed c =
-    if is_true_cause config held deed c Expired then Expired else (if is_true_cause config held deed c Explicit then Explicit else Replaced)
+    if is_true_cause config held deed c Expired then Expired
+    else (if is_true_cause config held deed c Explicit then Explicit else Replaced)
 
 -- a write or a removal reports the older value of its key with the first cause that is true; this does not apply to one that looks the
 -- value up before it writes
@@ -92,7 +105,8 @@ abbrev pub is_true_note : Config → List Candidate → Deed → Note → Option
 is_true_note config held deed note None = false
 is_true_note config held deed note (Some c) =
     same note.value c.value.bytes
-    && (if is_told_first deed c then same_cause note.cause (first_cause config held deed c) else is_true_cause config held deed c note.cause)
+    && (if is_told_first deed c then same_cause note.cause (first_cause config held deed c)
+    else is_true_cause config held deed c note.cause)
 
 -- the first value of the key among these
 abbrev pub first_of : List ℕ → List Candidate → Option Candidate
@@ -103,12 +117,14 @@ first_of key cs = find (λ c. same key c.value.key) cs
 abbrev pub are_true_notes : Config → List Candidate → Deed → List Candidate → List Note → Bool
 are_true_notes config held deed cs [] = list_all (λ c. not (is_succeeded deed c)) cs
 are_true_notes config held deed cs (note ∷ notes) =
-    is_true_note config held deed note (first_of note.key cs) && are_true_notes config held deed (without_key (λ c. c.value.key) note.key cs) notes
+    is_true_note config held deed note (first_of note.key cs)
+    && are_true_notes config held deed (without_key (λ c. c.value.key) note.key cs) notes
 
 -- one of the notes reports one of these values, in this part, as `Size`
 abbrev pub tells_size : ℕ → List Value → List Note → Bool
 tells_size part values notes =
-    list_any (λ n. same_cause n.cause Size && option_map_or (λ v. v.part == part) (find (λ v. same n.key v.key) values) false) notes
+    list_any (λ n. same_cause n.cause Size && option_map_or (λ v. v.part == part)
+    (find (λ v. same n.key v.key) values) false) notes
 
 -- steps that report nothing
 abbrev pub is_silent : Action → Bool

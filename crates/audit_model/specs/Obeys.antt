@@ -40,13 +40,15 @@ accepted_values steps = filter_map (λ placed. placed.effect.value) steps
 -- each key has one part
 abbrev pub agree_on_parts : List Value → Bool
 agree_on_parts [] = true
-agree_on_parts (v ∷ vs) = list_all (λ w. not (same v.key w.key) || (v.part == w.part)) vs && agree_on_parts vs
+agree_on_parts (v ∷ vs) =
+    list_all (λ w. not (same v.key w.key) || (v.part == w.part)) vs && agree_on_parts vs
 
 -- each record and each step of the transcript is right
 pub record Obeys (config : Config) (transcript : Transcript) : Type 0 where
   pub numbered : IsTrue (list_all has_right_number (placed_records config transcript))
   pub finished : IsTrue (list_all is_finished (placed_records config transcript))
-  pub owned : IsTrue (list_all (λ placed. has_right_own_value placed.entry) (placed_records config transcript))
+  pub owned : IsTrue
+      (list_all (λ placed. has_right_own_value placed.entry) (placed_records config transcript))
   pub in_turn : IsTrue (list_all is_in_turn (placed_steps config transcript))
   pub held : IsTrue (list_all is_held_rightly (placed_steps config transcript))
   pub lines : IsTrue (list_all has_right_line (placed_steps config transcript))
@@ -60,9 +62,12 @@ pub record Obeys (config : Config) (transcript : Transcript) : Type 0 where
 
 -- the same as one test, except for the parts of keys
 abbrev pub is_right_record : Config → PlacedRecord → Bool
-is_right_record config placed = has_right_number placed && is_finished placed && has_right_own_value placed.entry && list_all (is_right config) placed.walked.placed_steps
+is_right_record config placed =
+    has_right_number placed && is_finished placed && has_right_own_value placed.entry
+    && list_all (is_right config) placed.walked.placed_steps
 
 -- the transcript obeys, as one test
 abbrev pub is_obeying : Config → Transcript → Bool
 is_obeying config transcript =
-    list_all (is_right_record config) (placed_records config transcript) && agree_on_parts (accepted_values (placed_steps config transcript))
+    list_all (is_right_record config) (placed_records config transcript)
+    && agree_on_parts (accepted_values (placed_steps config transcript))

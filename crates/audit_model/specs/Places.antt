@@ -18,7 +18,8 @@ use Rattle.audit_model.specs.declared.transcript.Transcript.{Transcript}
 -- what an answer makes due: its value is stored, then each waiting `LOAD` is answered in order, then the lines of each of these connections
 -- run in the same order
 abbrev pub tasks_to_answer : Option (List ℕ) → Outcome → List ℕ → List Task
-tasks_to_answer key outcome conns = Store key outcome ∷ map (λ conn. Deliver conn outcome) conns ++ map RunLines conns
+tasks_to_answer key outcome conns =
+    Store key outcome ∷ map (λ conn. Deliver conn outcome) conns ++ map RunLines conns
 
 -- after a give-up each waiting `LOAD` runs again in order, followed by its connection's lines
 abbrev pub tasks_to_give_up : List ℕ → List Task
@@ -35,7 +36,8 @@ tasks_of past (event.Close conn) = []
 tasks_of past (event.Feed conn piece moment) = tasks_to_feed conn (holds conn past)
 tasks_of past (event.Answer load outcome moment) =
     tasks_to_answer (key_of_load load past) outcome (waiting_for (key_of_load load past) past)
-tasks_of past (event.GiveUp load moment) = tasks_to_give_up (waiting_for (key_of_load load past) past)
+tasks_of past (event.GiveUp load moment) =
+    tasks_to_give_up (waiting_for (key_of_load load past) past)
 
 -- the event, as the history keeps it
 abbrev pub happening_of : Event → Happening
@@ -77,7 +79,14 @@ abbrev pub placed_step : Config → ℕ → History → Option Task → Step →
 placed_step config made past task step =
     let seen = view_of config past (latest_moment made past) in
     let effect = effect_in config seen (action_in config (times_waited step.conn past) task step) step in
-    record { task = task; line = line_due task step.conn past; seen = seen; step = step; effect = effect; held = held_values (step_happens task step effect ∷ past) }
+    record {
+      task = task;
+      line = line_due task step.conn past;
+      seen = seen;
+      step = step;
+      effect = effect;
+      held = held_values (step_happens task step effect ∷ past);
+    }
 
 -- steps in their places, what is due after they have run, and all that happened until then
 pub record Walk : Type 0 where
@@ -87,7 +96,8 @@ pub record Walk : Type 0 where
 
 -- the steps run one after another, each for the task that is due
 abbrev pub walk : Config → ℕ → History → List Task → List Step → Walk
-walk config made past tasks [] = record { placed_steps = []; left = due (λ conn. may_run conn past) tasks; after = past }
+walk config made past tasks [] =
+    record { placed_steps = []; left = due (λ conn. may_run conn past) tasks; after = past }
 walk config made past tasks (step ∷ steps) =
     let now_due = due (λ conn. may_run conn past) tasks in
     let placed = placed_step config made past (first_due now_due) step in
@@ -99,7 +109,15 @@ abbrev pub steps_of : Record → List Step
 steps_of entry = go entry.event
   where
     go : Event → List Step
-    go (event.Answer load outcome moment) = record { conn = 0; line = []; held = false; reply = None; load = None; accepted = entry.own; notices = entry.notices } ∷ entry.steps
+    go (event.Answer load outcome moment) = record {
+      conn = 0;
+      line = [];
+      held = false;
+      reply = None;
+      load = None;
+      accepted = entry.own;
+      notices = entry.notices;
+    } ∷ entry.steps
     go other = entry.steps
 
 -- a record in its place
@@ -111,7 +129,11 @@ pub record PlacedRecord : Type 0 where
 -- the record in its place: its event happens, then its steps run
 abbrev pub placed_record : Config → ℕ → History → Record → PlacedRecord
 placed_record config made past entry =
-    record { before = past; entry = entry; walked = walk config made (happening_of entry.event ∷ past) (tasks_of past entry.event) (steps_of entry) }
+    record {
+      before = past;
+      entry = entry;
+      walked = walk config made (happening_of entry.event ∷ past) (tasks_of past entry.event) (steps_of entry);
+    }
 
 -- the records in their places, after that history
 abbrev pub placed_records_after : Config → ℕ → History → List Record → List PlacedRecord
@@ -122,12 +144,15 @@ placed_records_after config made past (entry ∷ entries) =
 -- all that has happened after these records have run
 abbrev pub history_after : Config → ℕ → History → List Record → History
 history_after config made past [] = past
-history_after config made past (entry ∷ entries) = history_after config made (placed_record config made past entry).walked.after entries
+history_after config made past (entry ∷ entries) =
+    history_after config made (placed_record config made past entry).walked.after entries
 
 -- the records in their places
 abbrev pub placed_records : Config → Transcript → List PlacedRecord
-placed_records config transcript = placed_records_after config transcript.made.nanos [] transcript.records
+placed_records config transcript =
+    placed_records_after config transcript.made.nanos [] transcript.records
 
 -- the steps in their places
 abbrev pub placed_steps : Config → Transcript → List PlacedStep
-placed_steps config transcript = flat_map (λ placed. placed.walked.placed_steps) (placed_records config transcript)
+placed_steps config transcript =
+    flat_map (λ placed. placed.walked.placed_steps) (placed_records config transcript)

@@ -12,7 +12,8 @@ keys_without key keys = filter (λ k. not (same k key)) keys
 -- a `SET`, and a `GET` of a key on the list, move the key to the front; `DEL` removes it; the list is cut at n
 abbrev pub recency_after : ℕ → List (List ℕ) → Command → List (List ℕ)
 recency_after n keys (says.Set key ms value) = take n (key ∷ keys_without key keys)
-recency_after n keys (says.Get key) = if list_any (λ k. same k key) keys then key ∷ keys_without key keys else keys
+recency_after n keys (says.Get key) =
+    if list_any (λ k. same k key) keys then key ∷ keys_without key keys else keys
 recency_after n keys (says.Del key) = keys_without key keys
 recency_after n keys command = keys
 

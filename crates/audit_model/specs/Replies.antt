@@ -32,13 +32,15 @@ yes_or_no (Some value) = text_line (codes "YES")
 
 -- `OFF` if no value is accepted
 abbrev pub ok_or_off : Config → List ℕ
-ok_or_off config = if accepts_values config.capacity then text_line (codes "OK") else text_line (codes "OFF")
+ok_or_off config =
+    if accepts_values config.capacity then text_line (codes "OK") else text_line (codes "OFF")
 
 -- the sum that an `ADD` stores: a missing value counts as 0; none if the value is not a number or the sum is too large
 abbrev pub sum_with : Option Value → ℕ → Option ℕ
 sum_with None number = Some number
 sum_with (Some value) number =
-    option_and_then (λ n. if nat_lt (n + number) (2 ^ 64) then Some (n + number) else None) (number_in value.bytes)
+    option_and_then (λ n. if nat_lt (n + number) (2 ^ 64) then Some (n + number) else None)
+    (number_in value.bytes)
 
 -- the sum as a value, or `ERR number`
 abbrev pub sum_or_error : Option ℕ → List ℕ
@@ -51,7 +53,9 @@ keys_listed keys = text_line (codes "KEYS " ++ decimal (length keys)) ++ concat 
 
 -- how many values there are, and their total weight
 abbrev pub count_and_weight : List Value → List ℕ
-count_and_weight values = text_line (codes "SYNC " ++ decimal (length values) ++ codes " " ++ decimal (sum_by (λ v. v.weight) values))
+count_and_weight values =
+    text_line (codes "SYNC " ++ decimal (length values) ++ codes " "
+    ++ decimal (sum_by (λ v. v.weight) values))
 
 -- the reply to a line that cannot be read
 abbrev pub fault_text : LineError → List ℕ
@@ -71,10 +75,12 @@ abbrev pub reply_to : Config → View → List Value → Command → Option (Lis
 reply_to config seen held (says.Set key ms value) = Some (ok_or_off config)
 reply_to config seen held (says.Get key) = Some (value_or_none (seen.live key))
 reply_to config seen held (says.Has key) = Some (yes_or_no (seen.live key))
-reply_to config seen held (says.Load key) = option_map (λ value. value_reply value.bytes) (seen.live key)
+reply_to config seen held (says.Load key) =
+    option_map (λ value. value_reply value.bytes) (seen.live key)
 reply_to config seen held (says.Del key) = Some (text_line (codes "OK"))
 reply_to config seen held (says.Add key ms number) =
-    Some (if accepts_values config.capacity then sum_or_error (sum_with (seen.live key) number) else text_line (codes "OFF"))
+    Some (if accepts_values config.capacity then sum_or_error (sum_with (seen.live key) number)
+    else text_line (codes "OFF"))
 reply_to config seen held says.Clear = Some (text_line (codes "OK"))
 reply_to config seen held (says.DropIf prefix) = Some (text_line (codes "OK"))
 reply_to config seen held says.Keys = Some (keys_listed seen.live_keys)
@@ -99,11 +105,13 @@ may_refuse seen action = false
 abbrev pub is_reply : Config → View → Effect → List Value → Bool
 is_reply config seen effect held =
     option_eq same effect.reply (reply_of config seen held effect.action)
-    || (may_refuse seen effect.action && option_eq same effect.reply (Some (text_line (codes "ERR id"))))
+    || (may_refuse seen effect.action
+    && option_eq same effect.reply (Some (text_line (codes "ERR id"))))
 
 -- the load that a step sends, if it is a `LOAD` that finds neither a live value nor a load under way
 abbrev pub load_sent_by : View → Action → Option ℕ
-load_sent_by seen (Running (says.Load key)) = if is_some (seen.live key) || is_some (seen.load_of_key key) then None else Some seen.next_load
+load_sent_by seen (Running (says.Load key)) =
+    if is_some (seen.live key) || is_some (seen.load_of_key key) then None else Some seen.next_load
 load_sent_by seen action = None
 
 -- a key with the bytes that are offered for it, and how many milliseconds they live
@@ -116,8 +124,13 @@ pub record Offer : Type 0 where
 abbrev pub offered : View → Action → Option Offer
 offered seen (Running (says.Set key ms value)) = Some (record { key = key; bytes = value; ms = ms })
 offered seen (Running (says.Add key ms number)) =
-    option_map (λ sum. record { key = key; bytes = decimal sum; ms = ms }) (sum_with (seen.live key) number)
-offered seen (Storing (Some key) (came.Value bytes ms)) = Some (record { key = key; bytes = bytes; ms = ms })
+    option_map (λ sum. record {
+      key = key;
+      bytes = decimal sum;
+      ms = ms;
+    }) (sum_with (seen.live key) number)
+offered seen (Storing (Some key) (came.Value bytes ms)) =
+    Some (record { key = key; bytes = bytes; ms = ms })
 offered seen action = None
 
 -- the offer, if values are accepted
@@ -132,7 +145,14 @@ offer_of config seen action = taken_where (accepts_values config.capacity) (offe
 -- the value that an offer becomes, in this part at this moment
 abbrev pub value_with : Config → ℕ → ℕ → Offer → Value
 value_with config now part offer =
-    record { key = offer.key; bytes = offer.bytes; part = part; weight = weight_of config.weight offer.bytes; accepted_at = now; own_deadline = own_deadline_from now offer.ms }
+    record {
+      key = offer.key;
+      bytes = offer.bytes;
+      part = part;
+      weight = weight_of config.weight offer.bytes;
+      accepted_at = now;
+      own_deadline = own_deadline_from now offer.ms;
+    }
 
 -- the value that was accepted: an offer that a part took
 abbrev pub value_from : Config → ℕ → Option Offer → Option ℕ → Option Value

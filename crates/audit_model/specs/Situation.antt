@@ -48,7 +48,16 @@ pub record Situation : Type 0 where
 
 -- before the first record
 abbrev pub empty_situation : ℕ → Situation
-empty_situation made = record { latest = made; opened = 0; sent = 0; connections = []; pending = []; held = []; dropped = false }
+empty_situation made =
+    record {
+      latest = made;
+      opened = 0;
+      sent = 0;
+      connections = [];
+      pending = [];
+      held = [];
+      dropped = false;
+    }
 
 -- ---- connections
 
@@ -73,7 +82,9 @@ connection_in conn s = find (λ c. c.number == conn) s.connections
 
 -- its next line may run
 abbrev pub may_run_in : Situation → ℕ → Bool
-may_run_in s conn = option_map_or (λ c. is_ready c.standing && is_some (first_line c.unread)) (connection_in conn s) false
+may_run_in s conn =
+    option_map_or (λ c. is_ready c.standing && is_some (first_line c.unread)) (connection_in conn s)
+    false
 
 -- that connection holds a line back
 abbrev pub is_holding_in : Situation → ℕ → Bool
@@ -82,7 +93,8 @@ is_holding_in s conn = option_map_or (λ c. is_holding c.standing) (connection_i
 -- it closes because a line is too long, or because too many bytes come after its waiting `LOAD`
 abbrev pub is_overlong : Connection → Bool
 is_overlong c =
-    (is_ready c.standing && nat_lt 8192 (length (cut_at 10 c.unread).0)) || (is_waiting_now c.standing && nat_lt 8192 (length c.unread))
+    (is_ready c.standing && nat_lt 8192 (length (cut_at 10 c.unread).0))
+    || (is_waiting_now c.standing && nat_lt 8192 (length c.unread))
 
 -- a load without this connection among those that wait for it
 abbrev pub without_waiting : ℕ → PendingLoad → PendingLoad
@@ -94,14 +106,19 @@ without_number conn connections = filter (λ c. not (c.number == conn)) connecti
 
 -- the situation after this connection has closed; its load stays under way
 abbrev pub without_connection : ℕ → Situation → Situation
-without_connection conn s = record s { connections = without_number conn s.connections; pending = map (without_waiting conn) s.pending }
+without_connection conn s =
+    record s {
+      connections = without_number conn s.connections;
+      pending = map (without_waiting conn) s.pending;
+    }
 
 -- the situation with this connection as it is now; the connection closes after a `QUIT`, or if it has to
 abbrev pub with_connection : Bool → Connection → Situation → Situation
 with_connection quits connection s =
     let closes = quits || is_overlong connection in
     record s {
-      connections = if closes then without_number connection.number s.connections else map (λ c. if c.number == connection.number then connection else c) s.connections;
+      connections = if closes then without_number connection.number s.connections
+          else map (λ c. if c.number == connection.number then connection else c) s.connections;
       pending = if closes then map (without_waiting connection.number) s.pending else s.pending;
     }
 
@@ -109,7 +126,8 @@ with_connection quits connection s =
 
 -- the connection waits for the key's load
 abbrev pub with_waiting : ℕ → List ℕ → PendingLoad → PendingLoad
-with_waiting conn key load = if same load.key key then record load { waiting = load.waiting ++ conn ∷ [] } else load
+with_waiting conn key load =
+    if same load.key key then record load { waiting = load.waiting ++ conn ∷ [] } else load
 
 -- the load under way of a key
 abbrev pub load_in : Situation → List ℕ → Option ℕ
@@ -139,7 +157,8 @@ is_live_at config now held = not held.covered && not (is_dead_at config now held
 
 -- the live value of a key
 abbrev pub live_at : Config → ℕ → List HeldValue → List ℕ → Option Value
-live_at config now held key = option_map (λ h. h.value) (find (λ h. same key h.value.key && is_live_at config now h) held)
+live_at config now held key =
+    option_map (λ h. h.value) (find (λ h. same key h.value.key && is_live_at config now h) held)
 
 -- the live keys in byte order
 abbrev pub live_keys_at : Config → ℕ → List HeldValue → List (List ℕ)
@@ -148,9 +167,23 @@ live_keys_at config now held = sorted (map (λ h. h.value.key) (filter (is_live_
 -- a held value, with what is true of it at this moment
 abbrev pub candidate_at : Config → ℕ → HeldValue → Candidate
 candidate_at config now held =
-    record { value = held.value; dead = is_dead_at config now held; covered = held.covered; evictable = held.evictable; new = false }
+    record {
+      value = held.value;
+      dead = is_dead_at config now held;
+      covered = held.covered;
+      evictable = held.evictable;
+      new = false;
+    }
 
 -- what a step sees in this situation
 abbrev pub view_in : Config → Situation → View
 view_in config s =
-    record { now = s.latest; live = live_at config s.latest s.held; live_keys = live_keys_at config s.latest s.held; load_of_key = load_in s; next_load = suc s.sent; dropped = s.dropped; held = map (candidate_at config s.latest) s.held }
+    record {
+      now = s.latest;
+      live = live_at config s.latest s.held;
+      live_keys = live_keys_at config s.latest s.held;
+      load_of_key = load_in s;
+      next_load = suc s.sent;
+      dropped = s.dropped;
+      held = map (candidate_at config s.latest) s.held;
+    }

@@ -34,13 +34,21 @@ action_of_line config step = if step.held then Holding else action_by (reading c
 abbrev pub action_in : Config → ℕ → Option Task → Step → Action
 action_in config times_waited (Some (Store key outcome)) step = Storing key outcome
 action_in config times_waited (Some (Deliver conn outcome)) step = Delivering outcome
-action_in config times_waited (Some (RunAgain conn)) step = if nat_le 200 times_waited then Abandoning else action_of_line config step
+action_in config times_waited (Some (RunAgain conn)) step =
+    if nat_le 200 times_waited then Abandoning else action_of_line config step
 action_in config times_waited task step = action_of_line config step
 
 -- the step with what it does, its moment and the value that it accepted
 abbrev pub effect_in : Config → View → Action → Step → Effect
 effect_in config seen action step =
-    record { at = seen.now; action = action; reply = step.reply; load = step.load; value = value_from config seen.now (offer_of config seen action) (option_map (λ a. a.part) step.accepted); notes = step.notices }
+    record {
+      at = seen.now;
+      action = action;
+      reply = step.reply;
+      load = step.load;
+      value = value_from config seen.now (offer_of config seen action) (option_map (λ a. a.part) step.accepted);
+      notes = step.notices;
+    }
 
 -- a step in its place: the task and the line that are due, what the step sees, what it does, and the values held after it
 pub record PlacedStep : Type 0 where
@@ -84,11 +92,14 @@ has_right_reply config placed = is_reply config placed.seen placed.effect placed
 
 -- it sends the load that it should send, with its number, or none
 abbrev pub has_right_load : PlacedStep → Bool
-has_right_load placed = option_eq nat_eq placed.step.load (load_sent_by placed.seen placed.effect.action)
+has_right_load placed =
+    option_eq nat_eq placed.step.load (load_sent_by placed.seen placed.effect.action)
 
 -- a value is accepted exactly if one is offered, into one of the parts
 abbrev pub has_right_acceptance : Config → PlacedStep → Bool
-has_right_acceptance config placed = go (option_map (λ a. a.part) placed.step.accepted) (is_some (offer_of config placed.seen placed.effect.action))
+has_right_acceptance config placed =
+    go (option_map (λ a. a.part) placed.step.accepted)
+    (is_some (offer_of config placed.seen placed.effect.action))
   where
     go : Option ℕ → Bool → Bool
     go None offers = not offers
@@ -110,5 +121,7 @@ keeps_shares config placed = not (syncs placed.effect) || is_within config place
 -- all of these
 abbrev pub is_right : Config → PlacedStep → Bool
 is_right config placed =
-    is_in_turn placed && is_held_rightly placed && has_right_line placed && has_right_reply config placed && has_right_load placed
-    && has_right_acceptance config placed && has_right_notes config placed && is_quiet_where_silent placed && keeps_shares config placed
+    is_in_turn placed && is_held_rightly placed && has_right_line placed
+    && has_right_reply config placed && has_right_load placed
+    && has_right_acceptance config placed && has_right_notes config placed
+    && is_quiet_where_silent placed && keeps_shares config placed

@@ -40,7 +40,8 @@ last_effect conn (h ∷ past) = last_effect conn past
 -- how many of its commands were answered
 abbrev pub replies_of : ℕ → History → ℕ
 replies_of conn [] = 0
-replies_of conn (Ran c effect ∷ past) = (if (c == conn) && is_some effect.reply then 1 else 0) + replies_of conn past
+replies_of conn (Ran c effect ∷ past) =
+    (if (c == conn) && is_some effect.reply then 1 else 0) + replies_of conn past
 replies_of conn (h ∷ past) = replies_of conn past
 
 -- it is a line that was held back
@@ -74,7 +75,9 @@ unanswered conn past = behind_lines (replies_of conn past) (bytes_of conn past)
 
 -- the bytes that are not read yet: a held command and a waiting `LOAD` have been read
 abbrev pub unread : ℕ → History → List ℕ
-unread conn past = if holds conn past || waits conn past then behind_lines 1 (unanswered conn past) else unanswered conn past
+unread conn past =
+    if holds conn past || waits conn past then behind_lines 1 (unanswered conn past)
+    else unanswered conn past
 
 -- the line without one carriage return at its end
 abbrev pub without_return : List ℕ → List ℕ
@@ -84,7 +87,8 @@ without_return (b ∷ c ∷ bs) = b ∷ without_return (c ∷ bs)
 
 -- the first line, once its line feed has arrived
 abbrev pub first_line : List ℕ → Option (List ℕ)
-first_line bytes = if is_some (cut_at 10 bytes).1 then Some (without_return (cut_at 10 bytes).0) else None
+first_line bytes =
+    if is_some (cut_at 10 bytes).1 then Some (without_return (cut_at 10 bytes).0) else None
 
 -- the connection ran a `QUIT`
 abbrev pub has_quit : ℕ → History → Bool
@@ -98,7 +102,9 @@ is_behind conn past = waits conn past && nat_lt 8192 (length (unread conn past))
 
 -- every line before has run, and the next one has 8193 bytes without a line feed
 abbrev pub is_long : ℕ → History → Bool
-is_long conn past = not (waits conn past) && not (holds conn past) && nat_lt 8192 (length (cut_at 10 (unread conn past)).0)
+is_long conn past =
+    not (waits conn past) && not (holds conn past)
+    && nat_lt 8192 (length (cut_at 10 (unread conn past)).0)
 
 -- why the connection is closed, if it is
 abbrev pub closing : ℕ → History → Option Closing
@@ -114,10 +120,14 @@ is_open conn past = was_opened conn past && is_none (closing conn past)
 
 -- its next line may run
 abbrev pub may_run : ℕ → History → Bool
-may_run conn past = is_open conn past && not (waits conn past) && not (holds conn past) && is_some (first_line (unread conn past))
+may_run conn past =
+    is_open conn past && not (waits conn past) && not (holds conn past)
+    && is_some (first_line (unread conn past))
 
 -- how often its `LOAD` without a reply began to wait
 abbrev pub times_waited : ℕ → History → ℕ
 times_waited conn [] = 0
-times_waited conn (Ran c effect ∷ past) = if c == conn then (if is_some effect.reply then 0 else ((if is_waiting effect then 1 else 0) + times_waited conn past)) else times_waited conn past
+times_waited conn (Ran c effect ∷ past) =
+    if c == conn then (if is_some effect.reply then 0 else
+    ((if is_waiting effect then 1 else 0) + times_waited conn past)) else times_waited conn past
 times_waited conn (h ∷ past) = times_waited conn past

@@ -26,23 +26,44 @@ standing_of conn past =
 
 -- the connection that its history leaves
 abbrev pub connection_from : History → ℕ → Connection
-connection_from past conn = record { number = conn; unread = unread conn past; standing = standing_of conn past; waited = times_waited conn past }
+connection_from past conn =
+    record {
+      number = conn;
+      unread = unread conn past;
+      standing = standing_of conn past;
+      waited = times_waited conn past;
+    }
 
 -- a load under way, with the connections that wait for it
 abbrev pub pending_from : History → Sent → PendingLoad
-pending_from past sent = record { number = sent.number; key = sent.key; waiting = waiting_for (Some sent.key) past }
+pending_from past sent =
+    record { number = sent.number; key = sent.key; waiting = waiting_for (Some sent.key) past }
 
 -- a held value, with what its history leaves of it
 abbrev pub held_from : Config → History → Value → HeldValue
 held_from config past value =
-    record { value = value; last_use = last_use config value.key past; covered = is_covered value.key past; evictable = was_over config value.key value.part past }
+    record {
+      value = value;
+      last_use = last_use config value.key past;
+      covered = is_covered value.key past;
+      evictable = was_over config value.key value.part past;
+    }
 
 -- what later steps depend on
 abbrev pub situation_of : Config → ℕ → History → Situation
 situation_of config made past =
-    record { latest = latest_moment made past; opened = opened_count past; sent = length (loads_sent past); connections = map (connection_from past) (filter (λ conn. is_open conn past) (opened_conns past)); pending = map (pending_from past) (loads_under_way past); held = map (held_from config past) (held_values past); dropped = has_dropped past }
+    record {
+      latest = latest_moment made past;
+      opened = opened_count past;
+      sent = length (loads_sent past);
+      connections = map (connection_from past) (filter (λ conn. is_open conn past) (opened_conns past));
+      pending = map (pending_from past) (loads_under_way past);
+      held = map (held_from config past) (held_values past);
+      dropped = has_dropped past;
+    }
 
 -- records that follow one another lead to the situation that their history leaves
 abbrev pub LeadsToSummary : Config → ℕ → List Record → Type 0
 LeadsToSummary config made records =
-    after_records config (empty_situation made) records ≡ Some (situation_of config made (history_after config made [] records))
+    after_records config (empty_situation made) records
+    ≡ Some (situation_of config made (history_after config made [] records))

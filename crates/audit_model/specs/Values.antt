@@ -30,7 +30,8 @@ earlier_of (Some a) (Some b) = Some (min a b)
 abbrev pub deadline : Config → Value → ℕ → Option ℕ
 deadline config value last_use =
     earlier_of value.own_deadline
-    (earlier_of (option_map (after_ms value.accepted_at) config.live_ms) (option_map (after_ms last_use) config.idle_ms))
+    (earlier_of (option_map (after_ms value.accepted_at) config.live_ms)
+    (option_map (after_ms last_use) config.idle_ms))
 
 -- there is a deadline, and it is at or before this moment
 abbrev pub has_come : Option ℕ → ℕ → Bool
@@ -54,12 +55,14 @@ last_accepted key (h ∷ past) = if accepts key h then value_of h else last_acce
 -- since the key's last acceptance there was a `CLEAR`, or an accepted `DROPIF` of a prefix of it
 abbrev pub is_covered : List ℕ → History → Bool
 is_covered key [] = false
-is_covered key (h ∷ past) = if accepts key h then false else (is_step_that (covers key) h || is_covered key past)
+is_covered key (h ∷ past) =
+    if accepts key h then false else (is_step_that (covers key) h || is_covered key past)
 
 -- since the key's last acceptance there was a `DEL` of it
 abbrev pub is_deleted : List ℕ → History → Bool
 is_deleted key [] = false
-is_deleted key (h ∷ past) = if accepts key h then false else (is_step_that (deletes key) h || is_deleted key past)
+is_deleted key (h ∷ past) =
+    if accepts key h then false else (is_step_that (deletes key) h || is_deleted key past)
 
 -- the list without the first value of the key
 abbrev pub without_key : {A : Type 0} → (A → List ℕ) → List ℕ → List A → List A
@@ -74,7 +77,8 @@ untold key_of (note ∷ notes) xs = untold key_of notes (without_key key_of note
 -- the values held after what happened: a step's own value is added, and those that it reports leave
 abbrev pub untold_after : Option Effect → List Value → List Value
 untold_after None values = values
-untold_after (Some effect) values = untold (λ v. v.key) effect.notes (values ++ option_to_list effect.value)
+untold_after (Some effect) values =
+    untold (λ v. v.key) effect.notes (values ++ option_to_list effect.value)
 
 -- the values held, oldest first: accepted, and not reported
 abbrev pub held_values : History → List Value
@@ -87,12 +91,15 @@ is_told key past = not (list_any (λ v. same key v.key) (held_values past))
 
 -- the value was not covered, deleted or reported before, and its deadline has not come
 abbrev pub lives : Config → List ℕ → History → ℕ → ℕ → Value → Bool
-lives config key past last_use now value = not (is_deleted key past) && not (is_covered key past) && not (is_told key past) && not (has_come (deadline config value last_use) now)
+lives config key past last_use now value =
+    not (is_deleted key past) && not (is_covered key past) && not (is_told key past)
+    && not (has_come (deadline config value last_use) now)
 
 -- the value, if it is live
 abbrev pub if_lives : Config → List ℕ → History → ℕ → ℕ → Option Value → Option Value
 if_lives config key past last_use now None = None
-if_lives config key past last_use now (Some value) = if lives config key past last_use now value then Some value else None
+if_lives config key past last_use now (Some value) =
+    if lives config key past last_use now value then Some value else None
 
 -- the step's moment
 abbrev pub moment_of : Happening → ℕ
@@ -104,11 +111,13 @@ last_use config key [] = 0
 last_use config key (h ∷ past) =
     let used = last_use config key past in
     if accepts key h then moment_of h
-    else (if is_step_that (looks_up key) h && is_some (if_lives config key past used (moment_of h) (last_accepted key past)) then moment_of h else used)
+    else (if is_step_that (looks_up key) h && is_some (if_lives config key past used (moment_of h)
+    (last_accepted key past)) then moment_of h else used)
 
 -- the live value of the key at a moment, after all that happened
 abbrev pub live_value : Config → List ℕ → History → ℕ → Option Value
-live_value config key past now = if_lives config key past (last_use config key past) now (last_accepted key past)
+live_value config key past now =
+    if_lives config key past (last_use config key past) now (last_accepted key past)
 
 -- the sorted keys with one more, in its place
 abbrev pub put_sorted : List ℕ → List (List ℕ) → List (List ℕ)
@@ -122,4 +131,6 @@ sorted (k ∷ ks) = put_sorted k (sorted ks)
 
 -- the held keys that have a live value, in byte order
 abbrev pub live_keys : Config → History → ℕ → List (List ℕ)
-live_keys config past now = sorted (filter_map (λ v. option_map (λ w. w.key) (live_value config v.key past now)) (held_values past))
+live_keys config past now =
+    sorted (filter_map (λ v. option_map (λ w. w.key) (live_value config v.key past now))
+    (held_values past))

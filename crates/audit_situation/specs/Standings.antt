@@ -14,16 +14,23 @@ shown_standing (stands.Waiting line) = Waiting line
 
 -- how a step leaves its connection: its line is held back, or has its reply, or waits
 abbrev pub left_standing : Bool → Bool → List ℕ → Standing
-left_standing holds replies line = if holds then Held line else (if not replies && not holds then Waiting line else Ready)
+left_standing holds replies line =
+    if holds then Held line else (if not replies && not holds then Waiting line else Ready)
 
 -- how often its `LOAD` without a reply began to wait
 abbrev pub waits_after : Bool → Bool → ℕ → ℕ
-waits_after holds replies waited = if replies then 0 else ((if not replies && not holds then 1 else 0) + waited)
+waits_after holds replies waited =
+    if replies then 0 else ((if not replies && not holds then 1 else 0) + waited)
 
 -- the connection after a step that uses up its line or not
 abbrev pub moved_on : Bool → Bool → Bool → List ℕ → Connection → Connection
 moved_on reads holds replies line c =
-    record { number = c.number; unread = if reads then behind_lines 1 c.unread else c.unread; standing = left_standing holds replies line; waited = waits_after holds replies c.waited }
+    record {
+      number = c.number;
+      unread = if reads then behind_lines 1 c.unread else c.unread;
+      standing = left_standing holds replies line;
+      waited = waits_after holds replies c.waited;
+    }
 
 -- the same by how it is moved
 abbrev pub moved_as : Moving → Connection → Connection

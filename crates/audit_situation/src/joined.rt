@@ -9,7 +9,8 @@ use std::collections::BTreeMap;
 
 /// None of these connections waits any more.
 pub fn remove_all(joined: &mut BTreeMap<u64, u64>, conns: &Waiters)
-    ensures { (q : ℕ) → load_of q joined.new ≡ cond (list_any (λ n. n == q) conns.now) None (load_of q joined.old) }
+    ensures { (q : ℕ) → load_of q joined.new
+        ≡ cond (list_any (λ n. n == q) conns.now) None (load_of q joined.old) }
 {
     for (_, conn) in conns.iter() {
         take_waiting(joined, *conn);

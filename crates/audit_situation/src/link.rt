@@ -37,7 +37,12 @@ impl Model for Link {
 
     ghost Value = { Connection };
 
-    ghost view = { λ l. record { number = l.number; unread = l.unread.bytes; standing = shown_standing l.standing; waited = l.waited } };
+    ghost view = { λ l. record {
+      number = l.number;
+      unread = l.unread.bytes;
+      standing = shown_standing l.standing;
+      waited = l.waited;
+    } };
 }
 
 impl Link {
@@ -120,7 +125,8 @@ impl Link {
 
     /// Takes a piece of its bytes.
     pub fn feed(&mut self, piece: &[u8]) -> Result<(), AllocError>
-        ensures fed { OnOk result (self.new ≡ record self.old { unread = self.old.unread ++ piece.now }) }
+        ensures fed { OnOk result
+            (self.new ≡ record self.old { unread = self.old.unread ++ piece.now }) }
         ensures number { self.new.number ≡ self.old.number }
     {
         self.unread.reserve(piece.len())?;
@@ -140,7 +146,8 @@ impl Link {
 
     /// Leaves it as a step of its own does.
     pub fn settle(&mut self, standing: LinkStanding, waited: u64)
-        ensures { self.new ≡ record self.old { standing = shown_standing standing; waited = waited } }
+        ensures { self.new
+            ≡ record self.old { standing = shown_standing standing; waited = waited } }
     {
         self.standing = standing;
         self.waited = waited;
@@ -149,7 +156,9 @@ impl Link {
 
 /// Where the first line ends.
 fn end_of_line(bytes: &[u8]) -> Option<usize>
-    ensures { MatchOption result (cut_at 10 bytes.now ≡ (bytes.now, None)) (λ n. (n < length bytes.now) × (cut_at 10 bytes.now ≡ (take n bytes.now, Some (drop (n + 1) bytes.now)))) }
+    ensures { MatchOption result (cut_at 10 bytes.now ≡ (bytes.now, None))
+        (λ n. (n < length bytes.now)
+        × (cut_at 10 bytes.now ≡ (take n bytes.now, Some (drop (n + 1) bytes.now)))) }
 {
     memchr(b'\n', bytes)
 }
@@ -197,7 +206,8 @@ pub struct Moving<'a> {
 
 /// How a step leaves its connection.
 fn standing_after(alloc: Global, moving: Moving<'_>) -> Result<LinkStanding, AllocError>
-    ensures { IfOk result (λ standing. shown_standing standing ≡ left_standing moving.entry.holds moving.entry.replies moving.entry.line.now) }
+    ensures { IfOk result (λ standing. shown_standing standing
+        ≡ left_standing moving.entry.holds moving.entry.replies moving.entry.line.now) }
 {
     if !moving.holds && moving.replies {
         return Ok(LinkStanding::Ready);
@@ -228,7 +238,8 @@ fn waited_after(moving: Moving<'_>, waited: u64) -> Result<u64, AllocError>
 
 /// Reads a connection's first line off, or not.
 fn read_where(link: &mut Link, reads: bool)
-    ensures { link.new ≡ record link.old { unread = if reads then behind_lines 1 link.old.unread else link.old.unread } }
+    ensures { link.new ≡ record link.old
+        { unread = if reads then behind_lines 1 link.old.unread else link.old.unread } }
 {
     if reads {
         link.read_off();
@@ -271,7 +282,8 @@ pub fn move_link(
     moving: Moving<'_>,
     quits: bool,
 ) -> Result<bool, AllocError>
-    ensures closes { IfOk result (λ b. b ≡ (quits || is_overlong (moved_as moving.entry link.old))) }
+    ensures closes { IfOk result
+        (λ b. b ≡ (quits || is_overlong (moved_as moving.entry link.old))) }
     ensures moved { OnOk result (link.new ≡ moved_as moving.entry link.old) }
     ensures number { link.new.number ≡ link.old.number }
 {

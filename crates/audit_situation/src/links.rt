@@ -72,8 +72,11 @@ impl Links {
 
     /// Feeds a connection, and returns whether it has to close.
     pub fn feed(&mut self, conn: u64, piece: &[u8]) -> Result<bool, AllocError>
-        ensures closes { IfOk result (λ b. b ≡ option_map_or (λ c. is_overlong (fed_with piece.now c)) (find (λ c. c.number == conn) self.old) false) }
-        ensures fed { OnOk result (self.new ≡ map (changed_at (λ c. c.number) conn (fed_with piece.now)) self.old) }
+        ensures closes { IfOk result
+            (λ b. b ≡ option_map_or (λ c. is_overlong (fed_with piece.now c))
+            (find (λ c. c.number == conn) self.old) false) }
+        ensures fed { OnOk result
+            (self.new ≡ map (changed_at (λ c. c.number) conn (fed_with piece.now)) self.old) }
     {
         match self.cache.peek_mut(&conn) {
             Some(link) => feed_link(link, piece),
@@ -89,8 +92,11 @@ impl Links {
         moving: Moving<'_>,
         quits: bool,
     ) -> Result<bool, AllocError>
-        ensures closes { IfOk result (λ b. b ≡ option_map_or (λ c. quits || is_overlong (moved_as moving.entry c)) (find (λ c. c.number == conn) self.old) false) }
-        ensures moved { OnOk result (self.new ≡ map (changed_at (λ c. c.number) conn (moved_as moving.entry)) self.old) }
+        ensures closes { IfOk result
+            (λ b. b ≡ option_map_or (λ c. quits || is_overlong (moved_as moving.entry c))
+            (find (λ c. c.number == conn) self.old) false) }
+        ensures moved { OnOk result
+            (self.new ≡ map (changed_at (λ c. c.number) conn (moved_as moving.entry)) self.old) }
     {
         match self.cache.peek_mut(&conn) {
             Some(link) => move_link(alloc, link, moving, quits),

@@ -37,7 +37,8 @@ impl Model for LoadTable {
 
 /// A load for which one connection waits.
 fn new_load(alloc: Global, number: u64, key: &[u8], conn: u64) -> Result<Pending, AllocError>
-    ensures { IfOk result (λ load. load ≡ record { number = number; key = key.now; waiting = conn ∷ [] }) }
+    ensures { IfOk result
+        (λ load. load ≡ record { number = number; key = key.now; waiting = conn ∷ [] }) }
 {
     let key = Seq::from_vec(Vec::from_slice(alloc, key)?);
     let mut waiting = Waiters::new(alloc)?;
@@ -79,7 +80,8 @@ impl LoadTable {
     /// Adds a load of a key, for which a connection waits. An `Err` is a lack of memory, or the number is not above the earlier ones, or
     /// the key has a load, or the connection waits for one.
     pub fn send(&mut self, number: u64, key: &[u8], conn: u64) -> Result<(), AllocError>
-        ensures { OnOk result (self.new ≡ record { number = number; key = key.now; waiting = conn ∷ [] } ∷ self.old) }
+        ensures { OnOk result
+            (self.new ≡ record { number = number; key = key.now; waiting = conn ∷ [] } ∷ self.old) }
     {
         if number <= self.last
             || number_at(&self.keys, key).is_some()

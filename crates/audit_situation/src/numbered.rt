@@ -71,7 +71,8 @@ impl Numbered {
 
     /// A connection waits no more for the load of that number.
     pub fn leave(&mut self, number: u64, conn: u64)
-        ensures { self.new ≡ map (changed_at (λ p. p.number) number (without_waiting conn)) self.old }
+        ensures { self.new ≡ map (changed_at (λ p. p.number) number (without_waiting conn))
+            self.old }
     {
         if let Some(load) = self.cache.peek_mut(&number) {
             load.leave(conn);
@@ -80,7 +81,8 @@ impl Numbered {
 
     /// A connection joins those that wait for the load of that number.
     pub fn join(&mut self, number: u64, conn: u64) -> Result<(), AllocError>
-        ensures joined { OnOk result (self.new ≡ map (changed_at (λ p. p.number) number (λ p. record p { waiting = p.waiting ++ conn ∷ [] })) self.old) }
+        ensures joined { OnOk result (self.new ≡ map (changed_at (λ p. p.number) number
+            (λ p. record p { waiting = p.waiting ++ conn ∷ [] })) self.old) }
         ensures unchanged { OnErr result (self.new ≡ self.old) }
     {
         match self.cache.peek_mut(&number) {

@@ -72,7 +72,8 @@ impl Pending {
 
     /// A connection joins those that wait for it. An `Err` is a lack of memory, or it is already among them.
     pub fn join(&mut self, conn: u64) -> Result<(), AllocError>
-        ensures joined { OnOk result (self.new ≡ record self.old { waiting = self.old.waiting ++ conn ∷ [] }) }
+        ensures joined { OnOk result
+            (self.new ≡ record self.old { waiting = self.old.waiting ++ conn ∷ [] }) }
         ensures unchanged { OnErr result (self.new ≡ self.old) }
         ensures number { self.new.number ≡ self.old.number }
     {

@@ -73,7 +73,8 @@ pub fn is_holding(s: &State, conn: u64) -> bool
 
 /// How often a connection's `LOAD` that has no reply yet began to wait.
 pub fn waited(s: &State, conn: u64) -> u64
-    ensures { result ≡ option_map_or (λ c. c.waited) (connection_in conn (shown_situation s.now)) 0 }
+    ensures { result ≡ option_map_or (λ c. c.waited) (connection_in conn (shown_situation s.now))
+        0 }
 {
     match find_link(&s.connections, conn) {
         Some(link) => link.waited(),
@@ -97,7 +98,10 @@ pub fn find_pending(pending: &LoadTable, number: u64) -> Option<&Pending>
 
 /// Opens a connection, with the next number.
 pub fn open(alloc: Global, s: &mut State, conn: u64) -> Result<(), AllocError>
-    ensures { OnOk result (shown_situation s.new ≡ record (shown_situation s.old) { opened = conn; connections = s.old.connections ++ record { number = conn; unread = []; standing = Ready; waited = 0 } ∷ [] }) }
+    ensures { OnOk result (shown_situation s.new ≡ record (shown_situation s.old) {
+      opened = conn;
+      connections = s.old.connections ++ record { number = conn; unread = []; standing = Ready; waited = 0 } ∷ [];
+    }) }
 {
     s.connections.add(Link::new(alloc, conn))?;
     s.opened = conn;
@@ -126,7 +130,10 @@ pub fn feed(s: &mut State, conn: u64, piece: &[u8]) -> Result<(), AllocError>
 
 /// Sends a load of a key, for which a connection waits.
 fn send(s: &mut State, conn: u64, key: &[u8], number: u64) -> Result<(), AllocError>
-    ensures { OnOk result (shown_situation s.new ≡ record (shown_situation s.old) { sent = suc s.old.sent; pending = record { number = number; key = key.now; waiting = conn ∷ [] } ∷ s.old.pending }) }
+    ensures { OnOk result (shown_situation s.new ≡ record (shown_situation s.old) {
+      sent = suc s.old.sent;
+      pending = record { number = number; key = key.now; waiting = conn ∷ [] } ∷ s.old.pending;
+    }) }
 {
     let Some(sent) = s.sent.checked_add(1) else {
         return Err(AllocError);
@@ -144,7 +151,8 @@ pub fn join(
     key: Option<&[u8]>,
     load: Option<u64>,
 ) -> Result<(), AllocError>
-    ensures { OnOk result (shown_situation s.new ≡ join_by conn waits (option_map (λ k. k.now) key.entry) load (shown_situation s.old)) }
+    ensures { OnOk result (shown_situation s.new
+        ≡ join_by conn waits (option_map (λ k. k.now) key.entry) load (shown_situation s.old)) }
 {
     match key {
         None => Ok(()),
@@ -198,7 +206,9 @@ fn move_in(
     quits: bool,
 ) -> Result<(), AllocError>
     requires { IsTrue (have_numbers_apart s.old.connections) }
-    ensures { OnOk result (shown_situation s.new ≡ option_map_or (λ c. with_connection quits (moved_as moving.entry c) (shown_situation s.old)) (connection_in conn (shown_situation s.old)) (shown_situation s.old)) }
+    ensures { OnOk result (shown_situation s.new ≡ option_map_or
+        (λ c. with_connection quits (moved_as moving.entry c) (shown_situation s.old))
+        (connection_in conn (shown_situation s.old)) (shown_situation s.old)) }
 {
     let closes = s.connections.move_on(alloc, conn, moving, quits)?;
     if closes {

@@ -38,7 +38,8 @@ made_words moment = codes "made" ∷ decimal moment ∷ []
 
 -- what a loader returned
 abbrev pub outcome_words : Outcome → List (List ℕ)
-outcome_words (outcome.Value bytes ms) = codes "value" ∷ bytes_word bytes ∷ option_word decimal ms ∷ []
+outcome_words (outcome.Value bytes ms) =
+    codes "value" ∷ bytes_word bytes ∷ option_word decimal ms ∷ []
 outcome_words outcome.None = codes "none" ∷ []
 outcome_words (outcome.Fault text) = codes "fault" ∷ bytes_word text ∷ []
 
@@ -46,8 +47,10 @@ outcome_words (outcome.Fault text) = codes "fault" ∷ bytes_word text ∷ []
 abbrev pub event_words : Event → List (List ℕ)
 event_words (event.Open conn) = codes "open" ∷ decimal conn ∷ []
 event_words (event.Close conn) = codes "close" ∷ decimal conn ∷ []
-event_words (event.Feed conn piece moment) = codes "feed" ∷ decimal conn ∷ decimal moment.nanos ∷ bytes_word piece ∷ []
-event_words (event.Answer load outcome moment) = codes "answer" ∷ decimal load ∷ decimal moment.nanos ∷ outcome_words outcome
+event_words (event.Feed conn piece moment) =
+    codes "feed" ∷ decimal conn ∷ decimal moment.nanos ∷ bytes_word piece ∷ []
+event_words (event.Answer load outcome moment) =
+    codes "answer" ∷ decimal load ∷ decimal moment.nanos ∷ outcome_words outcome
 event_words (event.GiveUp load moment) = codes "giveup" ∷ decimal load ∷ decimal moment.nanos ∷ []
 
 -- a part that took a value
@@ -61,7 +64,8 @@ own_text (Some accepted) = line (codes "own" ∷ part_word accepted ∷ [])
 
 -- a note of a step, or, under another word, of an answer's own step
 abbrev pub note_line : List ℕ → Note → List ℕ
-note_line word note = line (word ∷ cause_word note.cause ∷ bytes_word note.key ∷ bytes_word note.value ∷ [])
+note_line word note =
+    line (word ∷ cause_word note.cause ∷ bytes_word note.key ∷ bytes_word note.value ∷ [])
 
 -- a step, without its notes
 abbrev pub step_words : Step → List (List ℕ)
@@ -81,8 +85,12 @@ step_text step = line (step_words step) ++ flat_map (note_line (codes "note")) s
 
 -- a record: its event, what the event's own step did, and its steps
 abbrev pub record_text : Record → List ℕ
-record_text r = line (event_words r.event) ++ own_text r.own ++ flat_map (note_line (codes "ownnote")) r.notices ++ flat_map step_text r.steps
+record_text r =
+    line (event_words r.event) ++ own_text r.own ++ flat_map (note_line (codes "ownnote")) r.notices
+    ++ flat_map step_text r.steps
 
 -- a transcript with its configuration
 abbrev pub transcript_text : Config → Transcript → List ℕ
-transcript_text config transcript = line (config_words config) ++ line (made_words transcript.made.nanos) ++ flat_map record_text transcript.records
+transcript_text config transcript =
+    line (config_words config) ++ line (made_words transcript.made.nanos)
+    ++ flat_map record_text transcript.records

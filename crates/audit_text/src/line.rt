@@ -34,7 +34,8 @@ fn put_deadlines(text: &mut Vec<u8>, config: &Config) -> Result<(), AllocError>
 
 /// Writes a setting: its name, which ends in `=`, and its word.
 fn put_setting(text: &mut Vec<u8>, name: &[u8], word: &[u8], end: u8) -> Result<(), AllocError>
-    ensures { OnOk result (text.new.items ≡ text.old.items ++ ((name.now ++ word.now) ++ end ∷ [])) }
+    ensures { OnOk result
+        (text.new.items ≡ text.old.items ++ ((name.now ++ word.now) ++ end ∷ [])) }
 {
     text.extend_from_slice(name)?;
     put(text, word, end)?;
@@ -48,7 +49,8 @@ fn put_number_setting(
     number: Option<u64>,
     end: u8,
 ) -> Result<(), AllocError>
-    ensures { OnOk result (text.new.items ≡ text.old.items ++ ((name.now ++ option_word decimal number) ++ end ∷ [])) }
+    ensures { OnOk result (text.new.items ≡ text.old.items
+        ++ ((name.now ++ option_word decimal number) ++ end ∷ [])) }
 {
     text.extend_from_slice(name)?;
     put_number_or_none(text, number, end)?;
@@ -86,7 +88,8 @@ pub fn put_event(text: &mut Vec<u8>, event: &Event) -> Result<(), AllocError>
 }
 
 fn put_open(text: &mut Vec<u8>, conn: u64) -> Result<(), AllocError>
-    ensures { OnOk result (text.new.items ≡ text.old.items ++ line (codes "open" ∷ decimal conn ∷ [])) }
+    ensures { OnOk result
+        (text.new.items ≡ text.old.items ++ line (codes "open" ∷ decimal conn ∷ [])) }
 {
     put(text, b"open", b' ')?;
     put_number(text, conn, b'\n')?;
@@ -95,7 +98,8 @@ fn put_open(text: &mut Vec<u8>, conn: u64) -> Result<(), AllocError>
 
 /// Writes that a connection closes.
 pub fn put_close(text: &mut Vec<u8>, conn: u64) -> Result<(), AllocError>
-    ensures { OnOk result (text.new.items ≡ text.old.items ++ line (codes "close" ∷ decimal conn ∷ [])) }
+    ensures { OnOk result
+        (text.new.items ≡ text.old.items ++ line (codes "close" ∷ decimal conn ∷ [])) }
 {
     put(text, b"close", b' ')?;
     put_number(text, conn, b'\n')?;
@@ -109,7 +113,8 @@ pub fn put_feed(
     piece: &Bytes,
     moment: Instant,
 ) -> Result<(), AllocError>
-    ensures { OnOk result (text.new.items ≡ text.old.items ++ line (codes "feed" ∷ decimal conn ∷ decimal moment.nanos ∷ bytes_word piece.now ∷ [])) }
+    ensures { OnOk result (text.new.items ≡ text.old.items
+        ++ line (codes "feed" ∷ decimal conn ∷ decimal moment.nanos ∷ bytes_word piece.now ∷ [])) }
 {
     put(text, b"feed", b' ')?;
     put_number(text, conn, b' ')?;
@@ -125,7 +130,8 @@ pub fn put_answer(
     outcome: &Outcome,
     moment: Instant,
 ) -> Result<(), AllocError>
-    ensures { OnOk result (text.new.items ≡ text.old.items ++ (codes "answer" ++ 32 ∷ (decimal load ++ 32 ∷ (decimal moment.nanos ++ 32 ∷ line (outcome_words outcome.now))))) }
+    ensures { OnOk result (text.new.items ≡ text.old.items ++ (codes "answer" ++ 32
+        ∷ (decimal load ++ 32 ∷ (decimal moment.nanos ++ 32 ∷ line (outcome_words outcome.now))))) }
 {
     put(text, b"answer", b' ')?;
     put_number(text, load, b' ')?;
@@ -145,7 +151,8 @@ fn put_outcome(text: &mut Vec<u8>, outcome: &Outcome) -> Result<(), AllocError>
 }
 
 fn put_value(text: &mut Vec<u8>, bytes: &Bytes, ms: Option<u64>) -> Result<(), AllocError>
-    ensures { OnOk result (text.new.items ≡ text.old.items ++ line (codes "value" ∷ bytes_word bytes.now ∷ option_word decimal ms ∷ [])) }
+    ensures { OnOk result (text.new.items ≡ text.old.items
+        ++ line (codes "value" ∷ bytes_word bytes.now ∷ option_word decimal ms ∷ [])) }
 {
     put(text, b"value", b' ')?;
     put_bytes(text, bytes.as_slice(), b' ')?;
@@ -154,7 +161,8 @@ fn put_value(text: &mut Vec<u8>, bytes: &Bytes, ms: Option<u64>) -> Result<(), A
 }
 
 fn put_fault(text: &mut Vec<u8>, fault: &Bytes) -> Result<(), AllocError>
-    ensures { OnOk result (text.new.items ≡ text.old.items ++ line (codes "fault" ∷ bytes_word fault.now ∷ [])) }
+    ensures { OnOk result
+        (text.new.items ≡ text.old.items ++ line (codes "fault" ∷ bytes_word fault.now ∷ [])) }
 {
     put(text, b"fault", b' ')?;
     put_bytes(text, fault.as_slice(), b'\n')?;
@@ -163,7 +171,8 @@ fn put_fault(text: &mut Vec<u8>, fault: &Bytes) -> Result<(), AllocError>
 
 /// Writes that a load is given up.
 pub fn put_give_up(text: &mut Vec<u8>, load: u64, moment: Instant) -> Result<(), AllocError>
-    ensures { OnOk result (text.new.items ≡ text.old.items ++ line (codes "giveup" ∷ decimal load ∷ decimal moment.nanos ∷ [])) }
+    ensures { OnOk result (text.new.items ≡ text.old.items
+        ++ line (codes "giveup" ∷ decimal load ∷ decimal moment.nanos ∷ [])) }
 {
     put(text, b"giveup", b' ')?;
     put_number(text, load, b' ')?;
@@ -182,7 +191,8 @@ pub fn put_own(text: &mut Vec<u8>, own: Option<Accepted>) -> Result<(), AllocErr
 }
 
 fn put_own_part(text: &mut Vec<u8>, part: u64) -> Result<(), AllocError>
-    ensures { OnOk result (text.new.items ≡ text.old.items ++ line (codes "own" ∷ decimal part ∷ [])) }
+    ensures { OnOk result
+        (text.new.items ≡ text.old.items ++ line (codes "own" ∷ decimal part ∷ [])) }
 {
     put(text, b"own", b' ')?;
     put_number(text, part, b'\n')?;
@@ -215,7 +225,8 @@ pub fn put_step(text: &mut Vec<u8>, step: &Step) -> Result<(), AllocError>
 }
 
 fn put_reply(text: &mut Vec<u8>, reply: &Option<Bytes>) -> Result<(), AllocError>
-    ensures { OnOk result (text.new.items ≡ text.old.items ++ (option_word bytes_word reply.now ++ 32 ∷ [])) }
+    ensures { OnOk result
+        (text.new.items ≡ text.old.items ++ (option_word bytes_word reply.now ++ 32 ∷ [])) }
 {
     match reply {
         Some(bytes) => put_bytes(text, bytes.as_slice(), b' '),
@@ -224,7 +235,8 @@ fn put_reply(text: &mut Vec<u8>, reply: &Option<Bytes>) -> Result<(), AllocError
 }
 
 fn put_part(text: &mut Vec<u8>, accepted: Option<Accepted>) -> Result<(), AllocError>
-    ensures { OnOk result (text.new.items ≡ text.old.items ++ (option_word part_word accepted ++ 10 ∷ [])) }
+    ensures { OnOk result
+        (text.new.items ≡ text.old.items ++ (option_word part_word accepted ++ 10 ∷ [])) }
 {
     match accepted {
         Some(accepted) => put_number(text, accepted.part, b'\n'),

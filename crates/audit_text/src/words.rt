@@ -71,7 +71,8 @@ pub fn put_number_or_none(
     number: Option<u64>,
     end: u8,
 ) -> Result<(), AllocError>
-    ensures { OnOk result (text.new.items ≡ text.old.items ++ (option_word decimal number ++ end ∷ [])) }
+    ensures { OnOk result
+        (text.new.items ≡ text.old.items ++ (option_word decimal number ++ end ∷ [])) }
 {
     match number {
         Some(number) => put_number(text, number, end),

@@ -42,7 +42,8 @@ fn put_record(text: &mut Vec<u8>, record: &Record) -> Result<(), AllocError>
 }
 
 fn put_notes(text: &mut Vec<u8>, word: &[u8], notes: &[Note]) -> Result<(), AllocError>
-    ensures { OnOk result (text.new.items ≡ text.old.items ++ flat_map (note_line word.now) notes.now) }
+    ensures { OnOk result
+        (text.new.items ≡ text.old.items ++ flat_map (note_line word.now) notes.now) }
 {
     for note in notes {
         put_note(text, word, note)?;

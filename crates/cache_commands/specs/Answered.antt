@@ -46,21 +46,30 @@ says_drop reading = false
 -- A line that reads like this was answered: its reply was appended to what was written, and its step is right in each situation that the
 -- store stood for. A `SYNC` left timely values; a `DROPIF` drew as it may; the order of use is known again; at most one 64-bit number was
 -- used up.
-pub record IsAnswered (now : ℕ) (reading : Reading) (accepted : Option Accepted) (was is : Values) (old new : List ℕ) : Type 0 where
-  pub right : (s : Situation) → Agrees was now s → RepliesRightly was.frame.config s (action_by reading) accepted is.Stands is.frame.dropped (AppendsNotes was.untaken is.untaken) old new
-  pub part : IfSome accepted (λ a. IfSome (key_written reading) (λ key. a.part ≡ was.frame.part_of key))
-  pub timely : is_sync (action_by reading) ≡ true → (held : List HeldValue) → is.Stands held → IsTrue (list_all (is_timely was.frame.config was.frame.made now) held)
+pub record IsAnswered (now : ℕ) (reading : Reading) (accepted : Option Accepted) (was is : Values)
+    (old new : List ℕ) : Type 0 where
+  pub right : (s : Situation) → Agrees was now s
+      → RepliesRightly was.frame.config s (action_by reading) accepted is.Stands is.frame.dropped
+      (AppendsNotes was.untaken is.untaken) old new
+  pub part : IfSome accepted
+      (λ a. IfSome (key_written reading) (λ key. a.part ≡ was.frame.part_of key))
+  pub timely : is_sync (action_by reading) ≡ true → (held : List HeldValue) → is.Stands held
+      → IsTrue (list_all (is_timely was.frame.config was.frame.made now) held)
   pub frame : KeepsFrame was.frame is.frame now
   pub spent : is.spent ≤ was.spent + 1
   pub few : length is.untaken ≤ length was.untaken + was.count + 1
   pub draws : DrawsForParts was.stream is.stream was.registered is.registered
-  pub used_up : says_drop reading ≡ true → new ≡ old ++ codes "ERR id\n" → AreUsedUp (part_count was.frame.config) was.stream is.stream was.registered
+  pub used_up : says_drop reading ≡ true → new ≡ old ++ codes "ERR id\n"
+      → AreUsedUp (part_count was.frame.config) was.stream is.stream was.registered
   pub order : MovesOrder was.frame.config was.Used is.Used reading
 
 -- An answer's value was stored under the load's key: the step is right in each situation that the store stood for, and reports nothing if
 -- no part took a value.
-pub record IsStored (now : ℕ) (key : List ℕ) (outcome : Outcome) (accepted : Option Accepted) (was is : Values) : Type 0 where
-  pub right : (s : Situation) → s.latest ≡ now → was.Stands s.held → (x : Stores was.frame.config s key outcome accepted is.Stands (AppendsNotes was.untaken is.untaken)) × ((is_some accepted || is_empty x.told) ≡ true)
+pub record IsStored (now : ℕ) (key : List ℕ) (outcome : Outcome) (accepted : Option Accepted)
+    (was is : Values) : Type 0 where
+  pub right : (s : Situation) → s.latest ≡ now → was.Stands s.held → (x : Stores
+      was.frame.config s key outcome accepted is.Stands (AppendsNotes was.untaken is.untaken))
+      × ((is_some accepted || is_empty x.told) ≡ true)
   pub part : IfSome accepted (λ a. a.part ≡ was.frame.part_of key)
   pub frame : KeepsFrame was.frame is.frame now
   pub dropped : is.frame.dropped ≡ was.frame.dropped

@@ -8,4 +8,5 @@ use Rattle.cache_store.specs.Identifiers.{Register, stream_after, identifier_at}
 pub record DrawsForParts (old_stream new_stream : Stream) (old new : Register) : Type 0 where
   pub number : ℕ
   pub stream : new_stream ≡ stream_after number old_stream
-  pub registered : (part : ℕ) → (place : ℕ) × ((id : List ℕ) → IsTrue (new part id) → IsTrue (old part id || (nat_lt place number && same id (identifier_at place old_stream))))
+  pub registered : (part : ℕ) → (place : ℕ) × ((id : List ℕ) → IsTrue (new part id)
+      → IsTrue (old part id || (nat_lt place number && same id (identifier_at place old_stream))))

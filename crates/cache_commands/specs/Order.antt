@@ -37,7 +37,8 @@ order_by n (Ok says.Sync) order = settled order
 order_by n reading order = Unknown
 
 -- the keys in their order of use, of which the first ones stay at a `SYNC`
-pub record IsUsed (Recency : Bool → List (List ℕ) → Type 0) (number : ℕ) (keys : List (List ℕ)) : Type 0 where
+pub record IsUsed (Recency : Bool → List (List ℕ) → Type 0) (number : ℕ) (keys : List (List ℕ)) :
+    Type 0 where
   pub settled : Bool
   pub all : List (List ℕ)
   pub recency : Recency settled all
@@ -50,5 +51,7 @@ AgreesWith Recency number (Used keys) = IsUsed Recency number keys
 AgreesWith Recency number Unknown = Unit {0}
 
 -- it agrees again after a line has run
-pub record MovesOrder (config : Config) (Old New : Bool → List (List ℕ) → Type 0) (reading : Reading) : Type 0 where
-  pub moves : (number : ℕ) (order : Order) → IsPlainLru config number → AgreesWith Old number order → AgreesWith New number (order_by (suc number) reading order)
+pub record MovesOrder (config : Config) (Old New : Bool → List (List ℕ) → Type 0)
+    (reading : Reading) : Type 0 where
+  pub moves : (number : ℕ) (order : Order) → IsPlainLru config number → AgreesWith Old number order
+      → AgreesWith New number (order_by (suc number) reading order)

@@ -27,7 +27,8 @@ FitsStore config Quit = Unit {0}
 FitsStore config (Fault error) = Unit {0}
 
 -- a `LOAD` of a key that has no live value, which wrote nothing
-pub record MissesLive (now : ℕ) (reading : Reading) (was is : Values) (old new : List ℕ) : Type 0 where
+pub record MissesLive (now : ℕ) (reading : Reading) (was is : Values) (old new : List ℕ) :
+    Type 0 where
   pub key : List ℕ
   pub reads : reading ≡ Ok (says.Load key)
   pub none : IsLive was now key None
@@ -35,7 +36,8 @@ pub record MissesLive (now : ℕ) (reading : Reading) (was is : Values) (old new
 
 -- a line that reads like this was answered, or misses
 abbrev pub RunsRequest : ℕ → Reading → Ran → Values → Values → List ℕ → List ℕ → Type 0
-RunsRequest now reading (Answered accepted) was is old new = IsAnswered now reading accepted was is old new
+RunsRequest now reading (Answered accepted) was is old new =
+    IsAnswered now reading accepted was is old new
 RunsRequest now reading Misses was is old new = MissesLive now reading was is old new
 
 -- it changed nothing

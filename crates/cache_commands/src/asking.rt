@@ -14,7 +14,8 @@ use std::alloc::AllocError;
 /// Replies to a `HAS`, which is not a use of the value.
 pub fn has<S: Store>(store: &S, key: &Key, now: u64, output: &mut Vec<u8>) -> Result<(), AllocError>
     requires { IsMoment (S.view store.now) now }
-    ensures ok { OnOk result (IsAnswered now (Ok (says.Has key.now)) None (S.view store.now) (S.view store.now) output.old.items output.new.items) }
+    ensures ok { OnOk result (IsAnswered now (Ok (says.Has key.now)) None (S.view store.now)
+        (S.view store.now) output.old.items output.new.items) }
     ensures unwritten { OnErr result (output.new.items ≡ output.old.items) }
 {
     store.sound();
@@ -29,7 +30,8 @@ pub fn has<S: Store>(store: &S, key: &Key, now: u64, output: &mut Vec<u8>) -> Re
 /// Replies to a `KEYS`.
 pub fn keys<S: Store>(store: &S, now: u64, output: &mut Vec<u8>) -> Result<(), AllocError>
     requires { IsMoment (S.view store.now) now }
-    ensures ok { OnOk result (IsAnswered now (Ok says.Keys) None (S.view store.now) (S.view store.now) output.old.items output.new.items) }
+    ensures ok { OnOk result (IsAnswered now (Ok says.Keys) None (S.view store.now)
+        (S.view store.now) output.old.items output.new.items) }
     ensures unwritten { OnErr result (output.new.items ≡ output.old.items) }
 {
     store.sound();
@@ -48,7 +50,8 @@ pub fn keys<S: Store>(store: &S, now: u64, output: &mut Vec<u8>) -> Result<(), A
 /// Writes how many keys there are.
 fn write_number_of_keys(output: &mut Vec<u8>, number: usize)
     requires { vec_len output.old + SHORT ≤ vec_capacity output.old }
-    ensures { output.new.items ≡ output.old.items ++ (codes "KEYS " ++ decimal number ++ codes "\n") }
+    ensures { output.new.items ≡ output.old.items
+        ++ (codes "KEYS " ++ decimal number ++ codes "\n") }
 {
     let mut digits = Buffer::new();
     write(output, b"KEYS ");
@@ -59,7 +62,8 @@ fn write_number_of_keys(output: &mut Vec<u8>, number: usize)
 /// Replies to a `QUIT`.
 pub fn quit<S: Store>(store: &S, now: u64, output: &mut Vec<u8>) -> Result<(), AllocError>
     requires { IsMoment (S.view store.now) now }
-    ensures ok { OnOk result (IsAnswered now (Ok says.Quit) None (S.view store.now) (S.view store.now) output.old.items output.new.items) }
+    ensures ok { OnOk result (IsAnswered now (Ok says.Quit) None (S.view store.now)
+        (S.view store.now) output.old.items output.new.items) }
     ensures unwritten { OnErr result (output.new.items ≡ output.old.items) }
 {
     store.sound();

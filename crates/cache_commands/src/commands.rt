@@ -25,7 +25,8 @@ pub fn get<S: Store>(
     output: &mut Vec<u8>,
 ) -> Result<(), AllocError>
     requires { IsMoment (S.view store.old) now }
-    ensures ok { OnOk result (IsAnswered now (Ok (says.Get key.now)) None (S.view store.old) (S.view store.new) output.old.items output.new.items) }
+    ensures ok { OnOk result (IsAnswered now (Ok (says.Get key.now)) None (S.view store.old)
+        (S.view store.new) output.old.items output.new.items) }
     ensures unchanged { OnErr result (store.new ≡ store.old) }
     ensures unwritten { OnErr result (output.new.items ≡ output.old.items) }
 {
@@ -35,7 +36,8 @@ pub fn get<S: Store>(
 
 /// Writes what was found.
 fn write_found(output: &mut Vec<u8>, found: Option<&[u8]>) -> Result<(), AllocError>
-    ensures written { OnOk result (output.new.items ≡ output.old.items ++ found_text (option_map (λ bytes. bytes.now) found.entry)) }
+    ensures written { OnOk result (output.new.items ≡ output.old.items
+        ++ found_text (option_map (λ bytes. bytes.now) found.entry)) }
     ensures unwritten { OnErr result (output.new.items ≡ output.old.items) }
 {
     match found {
@@ -46,7 +48,8 @@ fn write_found(output: &mut Vec<u8>, found: Option<&[u8]>) -> Result<(), AllocEr
 
 /// Writes a value that was found.
 pub(crate) fn write_value(output: &mut Vec<u8>, bytes: &[u8]) -> Result<(), AllocError>
-    ensures written { OnOk result (output.new.items ≡ output.old.items ++ (codes "VAL " ++ bytes.now ++ codes "\n")) }
+    ensures written { OnOk result
+        (output.new.items ≡ output.old.items ++ (codes "VAL " ++ bytes.now ++ codes "\n")) }
     ensures unwritten { OnErr result (output.new.items ≡ output.old.items) }
 {
     output.try_reserve(bytes.len() + SHORT)?;
@@ -78,7 +81,9 @@ pub fn set<S: Store>(
 ) -> Result<Option<Accepted>, StoreError>
     requires in_time { IsMoment (S.view store.old) now }
     requires takable { IsTakable (S.view store.old).frame.config value.now milliseconds }
-    ensures ok { IfOk result (λ accepted. IsAnswered now (Ok (says.Set key.now milliseconds value.now)) accepted (S.view store.old) (S.view store.new) output.old.items output.new.items) }
+    ensures ok { IfOk result
+        (λ accepted. IsAnswered now (Ok (says.Set key.now milliseconds value.now)) accepted
+        (S.view store.old) (S.view store.new) output.old.items output.new.items) }
     ensures used_up { IsErrOf result StoreError.UsedUp → IsSpent (S.view store.old) }
     ensures unchanged { OnErr result (store.new ≡ store.old) }
     ensures unwritten { OnErr result (output.new.items ≡ output.old.items) }
@@ -112,7 +117,8 @@ pub fn del<S: Store>(
     output: &mut Vec<u8>,
 ) -> Result<(), StoreError>
     requires { IsMoment (S.view store.old) now }
-    ensures ok { OnOk result (IsAnswered now (Ok (says.Del key.now)) None (S.view store.old) (S.view store.new) output.old.items output.new.items) }
+    ensures ok { OnOk result (IsAnswered now (Ok (says.Del key.now)) None (S.view store.old)
+        (S.view store.new) output.old.items output.new.items) }
     ensures used_up { IsErrOf result StoreError.UsedUp → IsSpent (S.view store.old) }
     ensures unchanged { OnErr result (store.new ≡ store.old) }
     ensures unwritten { OnErr result (output.new.items ≡ output.old.items) }
@@ -127,7 +133,8 @@ pub fn del<S: Store>(
 /// Replies to a `SYNC`.
 pub fn sync<S: Store>(store: &mut S, now: u64, output: &mut Vec<u8>) -> Result<(), AllocError>
     requires { IsMoment (S.view store.old) now }
-    ensures ok { OnOk result (IsAnswered now (Ok says.Sync) None (S.view store.old) (S.view store.new) output.old.items output.new.items) }
+    ensures ok { OnOk result (IsAnswered now (Ok says.Sync) None (S.view store.old)
+        (S.view store.new) output.old.items output.new.items) }
     ensures unchanged { OnErr result (store.new ≡ store.old) }
     ensures unwritten { OnErr result (output.new.items ≡ output.old.items) }
 {
@@ -141,7 +148,8 @@ pub fn sync<S: Store>(store: &mut S, now: u64, output: &mut Vec<u8>) -> Result<(
 /// Writes how many values are held, and what they weigh.
 fn write_counts(output: &mut Vec<u8>, counts: Counts)
     requires { vec_len output.old + SHORT ≤ vec_capacity output.old }
-    ensures { output.new.items ≡ output.old.items ++ (codes "SYNC " ++ decimal counts.number ++ codes " " ++ decimal counts.weight ++ codes "\n") }
+    ensures { output.new.items ≡ output.old.items ++ (codes "SYNC " ++ decimal counts.number
+        ++ codes " " ++ decimal counts.weight ++ codes "\n") }
 {
     let mut number = Buffer::new();
     let mut weight = Buffer::new();
@@ -160,7 +168,8 @@ pub fn fault<S: Store>(
     output: &mut Vec<u8>,
 ) -> Result<(), AllocError>
     requires { IsMoment (S.view store.now) now }
-    ensures ok { OnOk result (IsAnswered now (Err error) None (S.view store.now) (S.view store.now) output.old.items output.new.items) }
+    ensures ok { OnOk result (IsAnswered now (Err error) None (S.view store.now) (S.view store.now)
+        output.old.items output.new.items) }
     ensures unwritten { OnErr result (output.new.items ≡ output.old.items) }
 {
     store.sound();

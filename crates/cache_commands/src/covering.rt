@@ -12,7 +12,8 @@ use cache_store::{Store, StoreError};
 /// Replies to a `CLEAR`.
 pub fn clear<S: Store>(store: &mut S, now: u64, output: &mut Vec<u8>) -> Result<(), StoreError>
     requires { IsMoment (S.view store.old) now }
-    ensures ok { OnOk result (IsAnswered now (Ok says.Clear) None (S.view store.old) (S.view store.new) output.old.items output.new.items) }
+    ensures ok { OnOk result (IsAnswered now (Ok says.Clear) None (S.view store.old)
+        (S.view store.new) output.old.items output.new.items) }
     ensures used_up { IsErrOf result StoreError.UsedUp → IsSpent (S.view store.old) }
     ensures unchanged { OnErr result (store.new ≡ store.old) }
     ensures unwritten { OnErr result (output.new.items ≡ output.old.items) }
@@ -32,7 +33,8 @@ pub fn drop_prefix<S: Store>(
     output: &mut Vec<u8>,
 ) -> Result<(), StoreError>
     requires { IsMoment (S.view store.old) now }
-    ensures ok { OnOk result (IsAnswered now (Ok (says.DropIf prefix.now)) None (S.view store.old) (S.view store.new) output.old.items output.new.items) }
+    ensures ok { OnOk result (IsAnswered now (Ok (says.DropIf prefix.now)) None (S.view store.old)
+        (S.view store.new) output.old.items output.new.items) }
     ensures used_up { IsErrOf result StoreError.UsedUp → IsSpent (S.view store.old) }
     ensures unchanged { OnErr result (store.new ≡ store.old) }
     ensures unwritten { OnErr result (output.new.items ≡ output.old.items) }

@@ -64,7 +64,8 @@ impl<S: Store> Keyed<S> {
     ) -> Result<Ran, StoreError>
         requires in_time { IsMoment (S.view self.old) now }
         requires fit { FitsStore (S.view self.old).frame.config request }
-        ensures runs { IfOk result (λ ran. RunsRequest now (said request.entry) ran (S.view self.old) (S.view self.new) reply.old.items reply.new.items) }
+        ensures runs { IfOk result (λ ran. RunsRequest now (said request.entry) ran
+            (S.view self.old) (S.view self.new) reply.old.items reply.new.items) }
         ensures rests { IfOk result (λ ran. rests ran ≡ true → self.new ≡ self.old) }
         ensures used_up { IsErrOf result StoreError.UsedUp → IsSpent (S.view self.old) }
         ensures unchanged { OnErr result (self.new ≡ self.old) }
@@ -83,7 +84,8 @@ impl<S: Store> Keyed<S> {
     ) -> Result<Option<Accepted>, StoreError>
         requires in_time { IsMoment (S.view self.old) now }
         requires fit { refusal_of_outcome (S.view self.old).frame.config outcome.now ≡ None }
-        ensures ok { IfOk result (λ accepted. IsStored now key.now outcome.now accepted (S.view self.old) (S.view self.new)) }
+        ensures ok { IfOk result (λ accepted.
+            IsStored now key.now outcome.now accepted (S.view self.old) (S.view self.new)) }
         ensures used_up { IsErrOf result StoreError.UsedUp → IsSpent (S.view self.old) }
         ensures unchanged { OnErr result (self.new ≡ self.old) }
     {

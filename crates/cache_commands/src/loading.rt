@@ -23,8 +23,10 @@ pub fn load<S: Store>(
     output: &mut Vec<u8>,
 ) -> Result<bool, AllocError>
     requires { IsMoment (S.view store.old) now }
-    ensures found { IfOk result (λ found. found ≡ true → IsAnswered now (Ok (says.Load key.now)) None (S.view store.old) (S.view store.new) output.old.items output.new.items) }
-    ensures missed { IfOk result (λ found. found ≡ false → (store.new ≡ store.old) × (output.new.items ≡ output.old.items) × IsLive (S.view store.old) now key.now None) }
+    ensures found { IfOk result (λ found. found ≡ true → IsAnswered now (Ok (says.Load key.now))
+        None (S.view store.old) (S.view store.new) output.old.items output.new.items) }
+    ensures missed { IfOk result (λ found. found ≡ false → (store.new ≡ store.old)
+        × (output.new.items ≡ output.old.items) × IsLive (S.view store.old) now key.now None) }
     ensures unchanged { OnErr result (store.new ≡ store.old) }
     ensures unwritten { OnErr result (output.new.items ≡ output.old.items) }
 {
@@ -47,9 +49,11 @@ enum Unanswered {
 
 /// Writes a value that was found, if there is one.
 fn write_live(output: &mut Vec<u8>, found: Option<&[u8]>) -> Result<(), Unanswered>
-    ensures written { OnOk result (output.new.items ≡ output.old.items ++ found_text (option_map (λ bytes. bytes.now) found.entry)) }
+    ensures written { OnOk result (output.new.items ≡ output.old.items
+        ++ found_text (option_map (λ bytes. bytes.now) found.entry)) }
     ensures live { OnOk result (is_some (option_map (λ bytes. bytes.now) found.entry) ≡ true) }
-    ensures none { IsErrOf result Unanswered.NoneLive → option_map (λ bytes. bytes.now) found.entry ≡ None }
+    ensures none { IsErrOf result Unanswered.NoneLive → option_map (λ bytes. bytes.now) found.entry
+        ≡ None }
     ensures unwritten { OnErr result (output.new.items ≡ output.old.items) }
 {
     let Some(bytes) = found else {
@@ -71,7 +75,8 @@ pub fn store_outcome<S: Store>(
 ) -> Result<Option<Accepted>, StoreError>
     requires in_time { IsMoment (S.view store.old) now }
     requires fit { refusal_of_outcome (S.view store.old).frame.config outcome.now ≡ None }
-    ensures ok { IfOk result (λ accepted. IsStored now key.now outcome.now accepted (S.view store.old) (S.view store.new)) }
+    ensures ok { IfOk result (λ accepted. IsStored now key.now outcome.now accepted
+        (S.view store.old) (S.view store.new)) }
     ensures used_up { IsErrOf result StoreError.UsedUp → IsSpent (S.view store.old) }
     ensures unchanged { OnErr result (store.new ≡ store.old) }
 {

@@ -34,7 +34,8 @@ pub fn run_request<S: Store>(
 ) -> Result<Ran, StoreError>
     requires in_time { IsMoment (S.view store.old) now }
     requires fit { FitsStore (S.view store.old).frame.config request }
-    ensures runs { IfOk result (λ ran. RunsRequest now (said request.entry) ran (S.view store.old) (S.view store.new) reply.old.items reply.new.items) }
+    ensures runs { IfOk result (λ ran. RunsRequest now (said request.entry) ran (S.view store.old)
+        (S.view store.new) reply.old.items reply.new.items) }
     ensures rests { IfOk result (λ ran. rests ran ≡ true → store.new ≡ store.old) }
     ensures used_up { IsErrOf result StoreError.UsedUp → IsSpent (S.view store.old) }
     ensures unchanged { OnErr result (store.new ≡ store.old) }

@@ -26,7 +26,8 @@ pub fn add<S: Store>(
 ) -> Result<Option<Accepted>, StoreError>
     requires in_time { IsMoment (S.view store.old) now }
     requires own { IsOwn (S.view store.old).frame.config milliseconds }
-    ensures ok { IfOk result (λ accepted. IsAnswered now (Ok (says.Add key.now milliseconds added)) accepted (S.view store.old) (S.view store.new) output.old.items output.new.items) }
+    ensures ok { IfOk result (λ accepted. IsAnswered now (Ok (says.Add key.now milliseconds added))
+        accepted (S.view store.old) (S.view store.new) output.old.items output.new.items) }
     ensures used_up { IsErrOf result StoreError.UsedUp → IsSpent (S.view store.old) }
     ensures unchanged { OnErr result (store.new ≡ store.old) }
     ensures unwritten { OnErr result (output.new.items ≡ output.old.items) }
@@ -68,8 +69,10 @@ enum Unused {
 /// Writes that there is no sum, if there is none.
 fn write_unsummed(output: &mut Vec<u8>, found: Option<&[u8]>, added: u64) -> Result<(), Unused>
     ensures written { OnOk result (output.new.items ≡ output.old.items ++ codes "ERR number\n") }
-    ensures none { OnOk result (sum_of_bytes (option_map (λ bytes. bytes.now) found.entry) added ≡ None) }
-    ensures sum { (sum : ℕ) → IsErrOf result (Unused.Sum sum) → sum_of_bytes (option_map (λ bytes. bytes.now) found.entry) added ≡ Some sum }
+    ensures none { OnOk result
+        (sum_of_bytes (option_map (λ bytes. bytes.now) found.entry) added ≡ None) }
+    ensures sum { (sum : ℕ) → IsErrOf result (Unused.Sum sum)
+        → sum_of_bytes (option_map (λ bytes. bytes.now) found.entry) added ≡ Some sum }
     ensures unwritten { OnErr result (output.new.items ≡ output.old.items) }
 {
     if let Some(sum) = sum_of(found, added) {
@@ -106,8 +109,10 @@ fn accept_sum<S: Store>(
     requires in_time { IsMoment (S.view store.old) now }
     requires takes { IsTrue (accepts_values (S.view store.old).frame.config.capacity) }
     requires own { IsOwn (S.view store.old).frame.config milliseconds }
-    ensures written { OnOk result (output.new.items ≡ output.old.items ++ (codes "VAL " ++ decimal sum ++ codes "\n")) }
-    ensures accepted { IfOk result (λ part. AcceptsValue now key.now (decimal sum) milliseconds true part (S.view store.old) (S.view store.new)) }
+    ensures written { OnOk result
+        (output.new.items ≡ output.old.items ++ (codes "VAL " ++ decimal sum ++ codes "\n")) }
+    ensures accepted { IfOk result (λ part. AcceptsValue now key.now (decimal sum) milliseconds true
+        part (S.view store.old) (S.view store.new)) }
     ensures used_up { IsErrOf result StoreError.UsedUp → IsSpent (S.view store.old) }
     ensures unchanged { OnErr result (store.new ≡ store.old) }
     ensures unwritten { OnErr result (output.new.items ≡ output.old.items) }

@@ -21,14 +21,22 @@ abbrev pub with_tape : Option Taped → Seen → Seen
 with_tape t x = record { stage = stage x.stage.values x.stage.text t; loads = x.loads }
 
 -- An open connection took a piece: steps of it ran in a record that was begun, and that has ended.
-pub record FedTurn (now number moment : ℕ) (old : Connection) (piece : List ℕ) (new : Connection) (is_held : Bool) (was is : Seen) : Type 0 where
+pub record FedTurn (now number moment : ℕ) (old : Connection) (piece : List ℕ) (new : Connection)
+    (is_held : Bool) (was is : Seen) : Type 0 where
   pub middle : Option Taped
-  pub ran : FedRan now number old piece new is_held (with_tape (option_map (started 1) was.stage.tape) was) (with_tape middle is)
-  pub ended : is.stage.tape ≡ option_map (finishes (event.Feed number piece (record { nanos = moment })) None []) middle
+  pub ran : FedRan now number old piece new is_held
+      (with_tape (option_map (started 1) was.stage.tape) was) (with_tape middle is)
+  pub ended : is.stage.tape ≡ option_map (finishes (event.Feed number piece (record {
+    nanos = moment;
+  })) None []) middle
 
 -- the same over a base as it was and as it is
-abbrev pub FedTurnOver : {S T : Type 0} → (S → Values) → (T → Option Taped) → (now number moment : ℕ) → (base left : Base S T) → (old : Connection) → (piece : List ℕ) → (new : Connection) → (is_held : Bool) → Type 0
-FedTurnOver view tape now number moment base left old piece new is_held = FedTurn now number moment old piece new is_held (seen_of view tape base old) (seen_of view tape left new)
+abbrev pub FedTurnOver : {S T : Type 0} → (S → Values) → (T → Option Taped)
+    → (now number moment : ℕ) → (base left : Base S T) → (old : Connection) → (piece : List ℕ)
+    → (new : Connection) → (is_held : Bool) → Type 0
+FedTurnOver view tape now number moment base left old piece new is_held =
+    FedTurn now number moment old piece new is_held (seen_of view tape base old)
+    (seen_of view tape left new)
 
 -- the store, the tape and the loads are the same
 pub record BaseStays {S T : Type 0} (old new : Base S T) : Type 0 where
@@ -54,10 +62,17 @@ pub record ReplacedAt (old new : List Presence) (index : ℕ) : Type 0 where
   pub set : new ≡ slice_set old index (Here is)
 
 -- what the lines of the connection at a place run over
-abbrev pub seen_at : {S T : Type 0} → (S → Values) → (T → Option Taped) → Base S T → List Presence → ℕ → Seen
-seen_at view tape base connections index = record { stage = stage (view base.store) (text_at connections index) (tape base.tape); loads = under_way base.loads }
+abbrev pub seen_at : {S T : Type 0} → (S → Values) → (T → Option Taped) → Base S T → List Presence
+    → ℕ → Seen
+seen_at view tape base connections index =
+    record {
+      stage = stage (view base.store) (text_at connections index) (tape base.tape);
+      loads = under_way base.loads;
+    }
 
 -- the open connection at a place took a piece
-abbrev pub FeedsAt : {S T : Type 0} → (S → Values) → (T → Option Taped) → (now moment index : ℕ) → List ℕ → Bool → (old new : Base S T) → (were are : List Presence) → Type 0
+abbrev pub FeedsAt : {S T : Type 0} → (S → Values) → (T → Option Taped) → (now moment index : ℕ)
+    → List ℕ → Bool → (old new : Base S T) → (were are : List Presence) → Type 0
 FeedsAt view tape now moment index piece is_held old new were are =
-    (p : ReplacedAt were are index) × FedTurn now (index + 1) moment p.was piece p.is is_held (seen_at view tape old were index) (seen_at view tape new are index)
+    (p : ReplacedAt were are index) × FedTurn now (index + 1) moment p.was piece p.is is_held
+    (seen_at view tape old were index) (seen_at view tape new are index)

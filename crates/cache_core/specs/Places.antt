@@ -11,7 +11,16 @@ use Rattle.cache_core.specs.Connections.Presence.{Gone, Here, Out, Presence, clo
 
 -- what is known of connections
 abbrev pub known_of_all : List Presence → Known
-known_of_all connections = known_in (record { latest = 0; opened = length (map closing_of connections); sent = 0; connections = open_from 1 connections; pending = []; held = []; dropped = false })
+known_of_all connections =
+    known_in (record {
+      latest = 0;
+      opened = length (map closing_of connections);
+      sent = 0;
+      connections = open_from 1 connections;
+      pending = [];
+      held = [];
+      dropped = false;
+    })
 
 -- how a number is refused that is not that of an open connection
 abbrev pub refusal_at : List Presence → ℕ → Option ServiceError

@@ -76,28 +76,48 @@ Moves config own Resting Resting = Unit {0}
 -- the situation at this moment, by what lines run over, and the connections
 abbrev pub middle_of : Values → ℕ → UnderWay → List Presence → List HeldValue → Situation
 middle_of v now l cs held =
-    record { latest = now; opened = length (map closing_of cs); sent = l.sent; connections = open_from 1 cs; pending = l.pending; held = held; dropped = v.frame.dropped }
+    record {
+      latest = now;
+      opened = length (map closing_of cs);
+      sent = l.sent;
+      connections = open_from 1 cs;
+      pending = l.pending;
+      held = held;
+      dropped = v.frame.dropped;
+    }
 
 -- If these values were held, steps for these tasks ran, whatever is due after them. If a record is made, they are in it; otherwise their
 -- replies and notes are appended to those that were not taken. Each connection went on by its own steps.
-pub record Piece {S T : Type 0} (view : S → Values) (tape : T → Option Taped) (making : Making) (now : ℕ) (was is : Base S T) (old new : List Presence) (tasks : List Task) (held : List HeldValue) : Type 0 where
+pub record Piece {S T : Type 0} (view : S → Values) (tape : T → Option Taped) (making : Making)
+    (now : ℕ) (was is : Base S T) (old new : List Presence) (tasks : List Task)
+    (held : List HeldValue) : Type 0 where
   pub steps : List Step
   pub left : List HeldValue
   pub stands : (view is.store).Stands left
-  pub leads : (more : List Task) → TasksLead making.config making (middle_of (view was.store) now (under_way was.loads) old held) (tasks ++ more) steps (middle_of (view is.store) now (under_way is.loads) new left) more (identifiers_in (view was.store)) (identifiers_in (view is.store))
-  pub outputs : (n : ℕ) → at_number [] (map reply_text_of new) n ≡ at_number [] (map reply_text_of old) n ++ (if is_some (tape was.tape) then [] else replies_to n steps)
-  pub kept : option_map written (tape is.tape) ≡ option_map (adds steps) (option_map written (tape was.tape))
-  pub notes : (view is.store).untaken ≡ (view was.store).untaken ++ (if is_some (tape was.tape) then [] else flat_map (λ step. step.notices) steps)
+  pub leads : (more : List Task) → TasksLead making.config making
+      (middle_of (view was.store) now (under_way was.loads) old held) (tasks ++ more)
+      steps (middle_of (view is.store) now (under_way is.loads) new left) more
+      (identifiers_in (view was.store)) (identifiers_in (view is.store))
+  pub outputs : (n : ℕ) → at_number [] (map reply_text_of new) n ≡ at_number []
+      (map reply_text_of old) n ++ (if is_some (tape was.tape) then [] else replies_to n steps)
+  pub kept : option_map written (tape is.tape)
+      ≡ option_map (adds steps) (option_map written (tape was.tape))
+  pub notes : (view is.store).untaken ≡ (view was.store).untaken
+      ++ (if is_some (tape was.tape) then [] else flat_map (λ step. step.notices) steps)
   pub moves : (n : ℕ) → Moves making.config (own_steps n steps) (course_at old n) (course_at new n)
 
 -- what is kept through a record: this moment, nothing outside the record, and this many lines of room
-pub record IsAmid {S T : Type 0} (view : S → Values) (tape : T → Option Taped) (now : ℕ) (base : Base S T) (connections : List Presence) (lines : ℕ) : Type 0 where
+pub record IsAmid {S T : Type 0} (view : S → Values) (tape : T → Option Taped) (now : ℕ)
+    (base : Base S T) (connections : List Presence) (lines : ℕ) : Type 0 where
   pub in_time : IsMoment (view base.store) now
   pub untaken : is_some (tape base.tape) ≡ true → (view base.store).untaken ≡ []
-  pub outputs : is_some (tape base.tape) ≡ true → (n : ℕ) → at_number [] (map reply_text_of connections) n ≡ []
+  pub outputs : is_some (tape base.tape) ≡ true → (n : ℕ)
+      → at_number [] (map reply_text_of connections) n ≡ []
   pub room : MatchOption (tape base.tape) (Unit {0}) (λ t. lines ≤ t.spare)
 
 -- a part of a record: from whatever values were held
-pub record Parts {S T : Type 0} (view : S → Values) (tape : T → Option Taped) (now : ℕ) (was is : Base S T) (old new : List Presence) (tasks : List Task) : Type 0 where
-  pub ran : (held : List HeldValue) → (view was.store).Stands held → Piece view tape (making_of (view was.store).frame) now was is old new tasks held
+pub record Parts {S T : Type 0} (view : S → Values) (tape : T → Option Taped) (now : ℕ)
+    (was is : Base S T) (old new : List Presence) (tasks : List Task) : Type 0 where
+  pub ran : (held : List HeldValue) → (view was.store).Stands held
+      → Piece view tape (making_of (view was.store).frame) now was is old new tasks held
   pub frame : KeepsFrame (view was.store).frame (view is.store).frame now

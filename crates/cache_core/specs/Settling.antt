@@ -50,19 +50,35 @@ giving_up load moment = event.GiveUp load (record { nanos = moment })
 
 -- what is known of the loads under way
 abbrev pub known_of_loads : List PendingLoad → Known
-known_of_loads pending = known_in (record { latest = 0; opened = 0; sent = 0; connections = []; pending = pending; held = []; dropped = false })
+known_of_loads pending =
+    known_in (record {
+      latest = 0;
+      opened = 0;
+      sent = 0;
+      connections = [];
+      pending = pending;
+      held = [];
+      dropped = false;
+    })
 
 -- those that wait for this load
 abbrev pub waiting_on : ℕ → UnderWay → List ℕ
-waiting_on number loads = option_map_or (λ load. load.waiting) (load_numbered number loads.pending) []
+waiting_on number loads =
+    option_map_or (λ load. load.waiting) (load_numbered number loads.pending) []
 
 -- the loads under way, except for this one
 abbrev pub but_for : ℕ → UnderWay → UnderWay
-but_for number loads = record { sent = loads.sent; pending = filter (λ load. not (load.number == number)) loads.pending }
+but_for number loads =
+    record {
+      sent = loads.sent;
+      pending = filter (λ load. not (load.number == number)) loads.pending;
+    }
 
 -- the event happened: each situation that the old state stood for is continued by a record of it
-pub record Happens {S T : Type 0} (view : S → Values) (tape : T → Option Taped) (was is : State S T) (happened : Event) : Type 0 where
-  pub turned : (s : Situation) → StandsFor view was s → (entry : Record) × (entry.event ≡ happened) × Turned view tape was is s entry
+pub record Happens {S T : Type 0} (view : S → Values) (tape : T → Option Taped) (was is : State S T)
+    (happened : Event) : Type 0 where
+  pub turned : (s : Situation) → StandsFor view was s → (entry : Record) × (entry.event ≡ happened)
+      × Turned view tape was is s entry
   pub stays : Stays view was is
 
 -- ---- connections that wait
@@ -78,7 +94,8 @@ pub record IsWaitingAt (config : Config) (connections : List Presence) (number :
   pub load : is_load (reading config (held_line is.unread.bytes)) ≡ true
 
 -- each of them is like this, and is among them once
-pub record AreWaiting (config : Config) (connections : List Presence) (numbers : List ℕ) : Type 0 where
+pub record AreWaiting (config : Config) (connections : List Presence) (numbers : List ℕ) :
+    Type 0 where
   pub once : (n : ℕ) → times_in n numbers ≤ 1
   pub each : (n : ℕ) → 1 ≤ times_in n numbers → IsWaitingAt config connections n
 
@@ -88,11 +105,14 @@ AreThere connections numbers = (n : ℕ) → 1 ≤ times_in n numbers → (1 ≤
 
 -- the connection at a place, if one is here, has room for this many bytes more of replies
 abbrev pub HasReplyRoomAt : List Presence → ℕ → ℕ → Type 0
-HasReplyRoomAt connections size index = (c : Connection) → slice_get connections index ≡ Some (Here c) → vec_len c.output.text + size ≤ vec_capacity c.output.text
+HasReplyRoomAt connections size index =
+    (c : Connection) → slice_get connections index ≡ Some (Here c)
+    → vec_len c.output.text + size ≤ vec_capacity c.output.text
 
 -- each of these connections has it
 abbrev pub HaveReplyRoom : List Presence → ℕ → List ℕ → Type 0
-HaveReplyRoom connections size numbers = (n : ℕ) → 1 ≤ times_in n numbers → HasReplyRoomAt connections size (n - 1)
+HaveReplyRoom connections size numbers =
+    (n : ℕ) → 1 ≤ times_in n numbers → HasReplyRoomAt connections size (n - 1)
 
 -- one that was opened looks the same
 abbrev pub LooksLike : (old new : Presence) → Type 0
@@ -131,7 +151,9 @@ runs_at (Some Out) = false
 runs_at (Some (Gone why)) = false
 
 -- A value was stored under the load's key, and what this reported was taken, or was not.
-pub record StoresNoted {S : Type 0} (view : S → Values) (takes : Bool) (now : ℕ) (key : List ℕ) (outcome : Outcome) (accepted : Option Accepted) (notes : List Note) (old new : S) : Type 0 where
+pub record StoresNoted {S : Type 0} (view : S → Values) (takes : Bool) (now : ℕ) (key : List ℕ)
+    (outcome : Outcome) (accepted : Option Accepted) (notes : List Note) (old new : S) :
+    Type 0 where
   pub middle : S
   pub stored : IsStored now key outcome accepted (view old) (view middle)
   pub drains : GivesNote (view middle) (view new)
@@ -140,19 +162,28 @@ pub record StoresNoted {S : Type 0} (view : S → Values) (takes : Bool) (now : 
 
 module _ {S T : Type 0} (view : S → Values) (tape : T → Option Taped) where
   -- the lines of the connection at a place ran, as in a feed of an empty piece
-  pub record ResumesAt (now index : ℕ) (old new : Base S T) (were are : List Presence) : Type 0 where
-    pub put : ReplacedAt were are index
-    pub is_held : Bool
-    pub ran : FedRan now (index + 1) put.was [] put.is is_held (seen_at view tape old were index) (seen_at view tape new are index)
+  pub record ResumesAt (now index : ℕ) (old new : Base S T) (were are : List Presence) : Type 0
+    where
+      pub put : ReplacedAt were are index
+      pub is_held : Bool
+      pub ran : FedRan now (index + 1) put.was [] put.is is_held (seen_at view tape old were index)
+          (seen_at view tape new are index)
 
   -- a part of a record that has a step, after the first of which nothing is known about the order of use
-  pub record Reruns (now : ℕ) (was is : Base S T) (old new : List Presence) (tasks : List Task) : Type 0 where
-    pub ran : (held : List HeldValue) → (view was.store).Stands held → (p : Piece view tape (making_of (view was.store).frame) now was is old new tasks held) × BeginsUnknown (view was.store).frame.config p.steps × (is_empty p.steps ≡ false)
+  pub record Reruns (now : ℕ) (was is : Base S T) (old new : List Presence) (tasks : List Task) :
+      Type 0 where
+    pub ran : (held : List HeldValue) → (view was.store).Stands held
+        → (p : Piece view tape (making_of (view was.store).frame) now was is old new tasks held)
+        × BeginsUnknown (view was.store).frame.config p.steps × (is_empty p.steps ≡ false)
     pub frame : KeepsFrame (view was.store).frame (view is.store).frame now
 
   -- the same for one that may have no step, and then did nothing
-  pub record PartsUnknown (now : ℕ) (was is : Base S T) (old new : List Presence) (tasks : List Task) : Type 0 where
-    pub ran : (held : List HeldValue) → (view was.store).Stands held → (p : Piece view tape (making_of (view was.store).frame) now was is old new tasks held) × BeginsUnknown (view was.store).frame.config p.steps × (is_empty p.steps ≡ true → is.store ≡ was.store)
+  pub record PartsUnknown (now : ℕ) (was is : Base S T) (old new : List Presence)
+      (tasks : List Task) : Type 0 where
+    pub ran : (held : List HeldValue) → (view was.store).Stands held
+        → (p : Piece view tape (making_of (view was.store).frame) now was is old new tasks held)
+        × BeginsUnknown (view was.store).frame.config p.steps
+        × (is_empty p.steps ≡ true → is.store ≡ was.store)
     pub frame : KeepsFrame (view was.store).frame (view is.store).frame now
 
   -- ---- an answer's own step
@@ -165,25 +196,37 @@ module _ {S T : Type 0} (view : S → Values) (tape : T → Option Taped) where
 
   -- The record of an answer was begun, with this many lines of room, and its value stored under the load's key; if records are kept, what
   -- this reported was taken.
-  pub record BeginsAnswer (now load : ℕ) (outcome : Outcome) (accepted : Option Accepted) (notes : List Note) (room : ℕ) (old new : Base S T) : Type 0 where
+  pub record BeginsAnswer (now load : ℕ) (outcome : Outcome) (accepted : Option Accepted)
+      (notes : List Note) (room : ℕ) (old new : Base S T) : Type 0 where
     pub key : List ℕ
     pub keyed : option_map (λ l. l.key) (load_numbered load (loads_pending old.loads)) ≡ Some key
     pub middle : S
     pub stored : IsStored now key outcome accepted (view old.store) (view middle)
     pub drains : GivesNote (view middle) (view new.store)
-    pub untaken_is : (view new.store).untaken ≡ (if is_some (tape old.tape) then [] else (view middle).untaken)
+    pub untaken_is : (view new.store).untaken
+        ≡ (if is_some (tape old.tape) then [] else (view middle).untaken)
     pub notes_are : is_some (tape old.tape) ≡ true → notes ≡ (view middle).untaken
     pub begun : tape new.tape ≡ option_map (started room) (tape old.tape)
     pub loads_are : new.loads ≡ old.loads
 
   -- The load was removed, and parts of a record followed for those that waited for it.
-  pub record HandsOut (now load : ℕ) (old new : Base S T) (were are : List Presence) (tasks : List ℕ → List Task) : Type 0 where
+  pub record HandsOut (now load : ℕ) (old new : Base S T) (were are : List Presence)
+      (tasks : List ℕ → List Task) : Type 0 where
     pub left : Loads
     pub left_is : under_way left ≡ but_for load (under_way old.loads)
-    pub parts : Parts view tape now (record { store = old.store; loads = left; tape = old.tape }) new were are (tasks (waiting_on load (under_way old.loads)))
+    pub parts : Parts view tape now (record {
+      store = old.store;
+      loads = left;
+      tape = old.tape;
+    }) new were are (tasks (waiting_on load (under_way old.loads)))
 
   -- the same, with nothing known about the order of use after the first step
-  pub record RunsAgain (now load : ℕ) (old new : Base S T) (were are : List Presence) (tasks : List ℕ → List Task) : Type 0 where
+  pub record RunsAgain (now load : ℕ) (old new : Base S T) (were are : List Presence)
+      (tasks : List ℕ → List Task) : Type 0 where
     pub left : Loads
     pub left_is : under_way left ≡ but_for load (under_way old.loads)
-    pub parts : PartsUnknown now (record { store = old.store; loads = left; tape = old.tape }) new were are (tasks (waiting_on load (under_way old.loads)))
+    pub parts : PartsUnknown now (record {
+      store = old.store;
+      loads = left;
+      tape = old.tape;
+    }) new were are (tasks (waiting_on load (under_way old.loads)))

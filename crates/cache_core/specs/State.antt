@@ -56,7 +56,15 @@ module _ {S T : Type 0} where
   -- the situation, if these values are held
   abbrev pub situation_with : (S → Values) → State S T → List HeldValue → Situation
   situation_with view n held =
-      record { latest = n.latest; opened = length n.closings; sent = n.sent; connections = n.connections; pending = n.pending; held = held; dropped = (view n.store).frame.dropped }
+      record {
+        latest = n.latest;
+        opened = length n.closings;
+        sent = n.sent;
+        connections = n.connections;
+        pending = n.pending;
+        held = held;
+        dropped = (view n.store).frame.dropped;
+      }
 
   -- it stands for this situation
   pub record StandsFor (view : S → Values) (n : State S T) (s : Situation) : Type 0 where
@@ -73,7 +81,18 @@ module _ {S T : Type 0} where
   -- a namespace without connections
   abbrev pub new_state : S → T → ℕ → ℕ → State S T
   new_state store tape latest namespace =
-      record { store = store; tape = tape; latest = latest; connections = []; closings = []; outputs = []; sent = 0; pending = []; outgoing = []; namespace = namespace }
+      record {
+        store = store;
+        tape = tape;
+        latest = latest;
+        connections = [];
+        closings = [];
+        outputs = [];
+        sent = 0;
+        pending = [];
+        outgoing = [];
+        namespace = namespace;
+      }
 
   -- a namespace of these parts
   abbrev pub state_of : Base S T → ℕ → List Presence → State S T
@@ -105,7 +124,8 @@ module _ {S T : Type 0} where
 -- how its parts agree: a connection that was opened has replies, and is listed exactly while it has not closed; loads under way were sent,
 -- and no more went out than were sent
 pub record SuitsItself {S T : Type 0} (view : S → Values) (n : State S T) : Type 0 where
-  pub listed : (number : ℕ) → was_opened n number ≡ true → is_some (model.connection_in number (situation_with view n [])) ≡ is_none (closing_in n number)
+  pub listed : (number : ℕ) → was_opened n number ≡ true → is_some
+      (model.connection_in number (situation_with view n [])) ≡ is_none (closing_in n number)
   pub counted : length n.outputs ≡ length n.closings
   pub sent : IsTrue (were_sent n.sent n.pending)
   pub fewer : length n.outgoing ≤ n.sent

@@ -45,18 +45,26 @@ replies_to number steps = flat_map reply_in (own_steps number steps)
 
 -- a `LOAD` of it waits
 abbrev pub is_waiting_in : Situation → ℕ → Bool
-is_waiting_in s number = option_map_or (λ c. is_waiting_now c.standing) (connection_in number s) false
+is_waiting_in s number =
+    option_map_or (λ c. is_waiting_now c.standing) (connection_in number s) false
 
 -- why a connection closes that an event closes: as requested; or because of what its lines did, or did not do, since a `LOAD` of it waited
 abbrev pub reason_of : Config → Situation → ℕ → Event → List Step → Closing
 reason_of config s number (event.Close conn) steps = by.Asked
-reason_of config s number (event.Feed conn piece moment) steps = closing_by (is_waiting_in s number) (ends_quit config (own_steps number steps)) (ends_silent (own_steps number steps))
-reason_of config s number happened steps = closing_by false (ends_quit config (own_steps number steps)) (ends_silent (own_steps number steps))
+reason_of config s number (event.Feed conn piece moment) steps =
+    closing_by (is_waiting_in s number) (ends_quit config (own_steps number steps))
+    (ends_silent (own_steps number steps))
+reason_of config s number happened steps =
+    closing_by false (ends_quit config (own_steps number steps))
+    (ends_silent (own_steps number steps))
 
 -- why the connection is closed after the record, if it is: as before; or because it is no longer open
-abbrev pub closing_behind : Config → Situation → Record → Situation → Option Closing → ℕ → Option Closing
+abbrev pub closing_behind : Config → Situation → Record → Situation → Option Closing → ℕ
+    → Option Closing
 closing_behind config s entry next (Some why) number = Some why
-closing_behind config s entry next None number = if is_some (connection_in number next) || not (is_some (connection_in number s)) then None else Some (reason_of config s number entry.event entry.steps)
+closing_behind config s entry next None number =
+    if is_some (connection_in number next) || not (is_some (connection_in number s)) then None
+    else Some (reason_of config s number entry.event entry.steps)
 
 -- ---- a turn
 
@@ -72,23 +80,32 @@ with_record entry t = record t { journal = with_entry entry t.journal }
 -- otherwise the replies of its steps are appended to the output of each connection, and its notes to the notes. Each connection is closed
 -- for the reason that the record gives. Values were accepted in the part of their key; a `SYNC` left timely ones; parts hold at most what
 -- they may; identifiers were drawn, and keys used, as the steps say.
-pub record Turned {S T : Type 0} (view : S → Values) (tape : T → Option Taped) (was is : State S T) (s : Situation) (entry : Record) : Type 0 where
+pub record Turned {S T : Type 0} (view : S → Values) (tape : T → Option Taped) (was is : State S T)
+    (s : Situation) (entry : Record) : Type 0 where
   pub next : Situation
   pub stands : StandsFor view is next
   pub follows : Follows (view was.store).frame.config s entry next
   pub kept : tape is.tape ≡ option_map (with_record entry) (tape was.tape)
-  pub outputs : (number : ℕ) → output_in is number ≡ output_in was number ++ (if is_some (tape was.tape) then [] else replies_to number entry.steps)
-  pub notes : (view is.store).untaken ≡ (view was.store).untaken ++ (if is_some (tape was.tape) then [] else notes_in entry)
-  pub closings : (number : ℕ) → closing_in is number ≡ closing_behind (view was.store).frame.config s entry next (closing_in was number) number
-  pub parted : IsTrue (list_all (is_parted (view was.store).frame.part_of) (accepted_in (view was.store).frame.config s entry))
-  pub timely : IsTrue (are_timely (view was.store).frame.config (view was.store).frame.made (after_event entry.event s) (tasks_in s entry.event) (steps_of entry))
+  pub outputs : (number : ℕ) → output_in is number ≡ output_in was number
+      ++ (if is_some (tape was.tape) then [] else replies_to number entry.steps)
+  pub notes : (view is.store).untaken ≡ (view was.store).untaken
+      ++ (if is_some (tape was.tape) then [] else notes_in entry)
+  pub closings : (number : ℕ) → closing_in is number
+      ≡ closing_behind (view was.store).frame.config s entry next (closing_in was number) number
+  pub parted : IsTrue (list_all (is_parted (view was.store).frame.part_of)
+      (accepted_in (view was.store).frame.config s entry))
+  pub timely : IsTrue (are_timely (view was.store).frame.config (view was.store).frame.made
+      (after_event entry.event s) (tasks_in s entry.event) (steps_of entry))
   pub bounded : IsTrue (is_bounded (view was.store).frame.config next.held)
-  pub draws : StepsDraw (view was.store).frame.config entry.steps (identifiers_in (view was.store)) (identifiers_in (view is.store))
-  pub ordered : OrdersSteps (view was.store).frame.config (view was.store).Used (view is.store).Used (after_event entry.event s) (tasks_in s entry.event) (steps_of entry)
+  pub draws : StepsDraw (view was.store).frame.config entry.steps (identifiers_in (view was.store))
+      (identifiers_in (view is.store))
+  pub ordered : OrdersSteps (view was.store).frame.config (view was.store).Used (view is.store).Used
+      (after_event entry.event s) (tasks_in s entry.event) (steps_of entry)
 
 -- the load is under way, with that key
 abbrev pub is_sent : List PendingLoad → LoadId × List ℕ → Bool
-is_sent pending sent = option_map_or (λ load. same load.key sent.1) (load_numbered sent.0.number pending) false
+is_sent pending sent =
+    option_map_or (λ load. same load.key sent.1) (load_numbered sent.0.number pending) false
 
 -- Loads went out behind those that were not taken. They have the next numbers, and are under way, each with its key.
 pub record SendsBehind {S T : Type 0} (was is : State S T) : Type 0 where
@@ -113,14 +130,19 @@ pub record IsRecordOf (happened : Event) (is_held : Bool) (entry : Record) : Typ
   pub ends : ends_held entry.steps ≡ is_held
 
 -- the event happened: each situation that the old state stood for is continued by a record of it
-pub record Turns {S T : Type 0} (view : S → Values) (tape : T → Option Taped) (was is : State S T) (happened : Event) (is_held : Bool) : Type 0 where
-  pub turned : (s : Situation) → StandsFor view was s → (entry : Record) × IsRecordOf happened is_held entry × Turned view tape was is s entry
+pub record Turns {S T : Type 0} (view : S → Values) (tape : T → Option Taped) (was is : State S T)
+    (happened : Event) (is_held : Bool) : Type 0 where
+  pub turned : (s : Situation) → StandsFor view was s → (entry : Record)
+      × IsRecordOf happened is_held entry × Turned view tape was is s entry
   pub stays : Stays view was is
 
 -- The event is refused for what is known, and otherwise only for lack of memory: with `HeldAgain` only if a command of its connection is
 -- held back.
-abbrev pub RefusesBy : {S T : Type 0} → (S → Values) → State S T → Event → (held : Bool) → ServiceError → Type 0
-RefusesBy view n happened held e = MatchOption (refusal_of (view n.store).frame.config (known_of view n) happened) ((e ≡ error.OutOfMemory) ⊎ ((e ≡ error.HeldAgain) × (held ≡ true))) (λ refused. e ≡ refused)
+abbrev pub RefusesBy : {S T : Type 0} → (S → Values) → State S T → Event → (held : Bool)
+    → ServiceError → Type 0
+RefusesBy view n happened held e =
+    MatchOption (refusal_of (view n.store).frame.config (known_of view n) happened)
+    ((e ≡ error.OutOfMemory) ⊎ ((e ≡ error.HeldAgain) × (held ≡ true))) (λ refused. e ≡ refused)
 
 -- a piece of bytes comes
 abbrev pub feeding : ℕ → List ℕ → ℕ → Event

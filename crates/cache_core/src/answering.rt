@@ -49,7 +49,8 @@ fn notes_where<S: Store>(
     keeps: bool,
 ) -> Result<Vec<Note>, AllocError>
     ensures empty { IfOk result (λ notes. notes.items ≡ []) }
-    ensures room { IfOk result (λ notes. keeps ≡ true → (S.view store.now).count + 1 ≤ vec_capacity notes) }
+    ensures room { IfOk result
+        (λ notes. keeps ≡ true → (S.view store.now).count + 1 ≤ vec_capacity notes) }
 {
     if !keeps {
         return Ok(Vec::new(alloc));
@@ -69,8 +70,10 @@ fn store_noted<S: Store>(
 ) -> Result<Option<Accepted>, AllocError>
     requires in_time { IsMoment (S.view store.old) now }
     requires fit { refusal_of_outcome (S.view store.old).frame.config outcome.now ≡ None }
-    requires room { keeps ≡ true → (length (S.view store.old).untaken + (S.view store.old).count + 1 ≤ vec_capacity notes.old) × (notes.old.items ≡ []) }
-    ensures stored { IfOk result (λ accepted. StoresNoted S.view keeps now key.now outcome.now accepted notes.new.items store.old store.new) }
+    requires room { keeps ≡ true → (length (S.view store.old).untaken + (S.view store.old).count + 1
+        ≤ vec_capacity notes.old) × (notes.old.items ≡ []) }
+    ensures stored { IfOk result (λ accepted. StoresNoted S.view keeps now key.now outcome.now
+        accepted notes.new.items store.old store.new) }
     ensures unchanged { OnErr result (store.new ≡ store.old) }
 {
     let Ok(accepted) = store.store_outcome(key, outcome, now) else {
@@ -95,9 +98,12 @@ pub fn begin_answer<S: Store, T: Tape>(
     requires can_settle { CanSettle S.view T.view now base.old }
     requires fit { refusal_of_outcome (S.view base.old.store).frame.config outcome.now ≡ None }
     requires under { is_some (load_numbered load (loads_pending base.old.loads)) ≡ true }
-    ensures begins { IfOk result (λ stored. BeginsAnswer S.view T.view now load outcome.now stored.accepted stored.notes.items (lines_for load (under_way base.old.loads)) base.old base.new) }
+    ensures begins { IfOk result
+        (λ stored. BeginsAnswer S.view T.view now load outcome.now stored.accepted
+        stored.notes.items (lines_for load (under_way base.old.loads)) base.old base.new) }
     ensures same { AllLookAsBefore connections.old connections.new }
-    ensures room { OnOk result (HaveReplyRoom connections.new (length (outcome_text outcome.now)) (waiting_on load (under_way base.old.loads))) }
+    ensures room { OnOk result (HaveReplyRoom connections.new (length (outcome_text outcome.now))
+        (waiting_on load (under_way base.old.loads))) }
     ensures unchanged { OnErr result (BaseStays base.old base.new) }
 {
     let Some(found) = base.loads.get(load) else {
@@ -134,11 +140,15 @@ pub fn hand_out<S: Store, T: Tape>(
     load: u64,
     outcome: &Outcome,
 )
-    requires amid { IsAmid S.view T.view now base.old connections.old (lines_for load (under_way base.old.loads)) }
+    requires amid { IsAmid S.view T.view now base.old connections.old
+        (lines_for load (under_way base.old.loads)) }
     requires under { is_some (load_numbered load (loads_pending base.old.loads)) ≡ true }
-    requires waits { AreWaiting (S.view base.old.store).frame.config connections.old (waiting_on load (under_way base.old.loads)) }
-    requires room { HaveReplyRoom connections.old (length (outcome_text outcome.now)) (waiting_on load (under_way base.old.loads)) }
-    ensures out { HandsOut S.view T.view now load base.old base.new connections.old connections.new (λ numbers. map (λ conn. Deliver conn outcome.now) numbers ++ map RunLines numbers) }
+    requires waits { AreWaiting (S.view base.old.store).frame.config connections.old
+        (waiting_on load (under_way base.old.loads)) }
+    requires room { HaveReplyRoom connections.old (length (outcome_text outcome.now))
+        (waiting_on load (under_way base.old.loads)) }
+    ensures out { HandsOut S.view T.view now load base.old base.new connections.old connections.new
+        (λ numbers. map (λ conn. Deliver conn outcome.now) numbers ++ map RunLines numbers) }
     ensures goes { SameTaken base.old.loads base.new.loads }
 {
     let Some(settled) = base.loads.settle(load) else {

@@ -20,7 +20,8 @@ use std::alloc::AllocError;
 pub fn begin_give_up<S: Store, T: Tape>(base: &mut Base<S, T>, load: u64) -> Result<(), AllocError>
     requires rests { IsAtRest (T.view base.old.tape) }
     requires under { is_some (load_numbered load (loads_pending base.old.loads)) ≡ true }
-    ensures begun { OnOk result (T.view base.new.tape ≡ option_map (started (lines_for load (under_way base.old.loads))) (T.view base.old.tape)) }
+    ensures begun { OnOk result (T.view base.new.tape
+        ≡ option_map (started (lines_for load (under_way base.old.loads))) (T.view base.old.tape)) }
     ensures rest { base.new ≡ record base.old { tape = base.new.tape } }
     ensures unchanged { OnErr result (base.new.tape ≡ base.old.tape) }
     ensures kept { OnErr result (is_some (T.view base.old.tape) ≡ true) }
@@ -39,10 +40,13 @@ pub fn settle_give_up<S: Store, T: Tape>(
     connections: &mut Connections,
     load: u64,
 )
-    requires amid { IsAmid S.view T.view now base.old connections.old (lines_for load (under_way base.old.loads)) }
+    requires amid { IsAmid S.view T.view now base.old connections.old
+        (lines_for load (under_way base.old.loads)) }
     requires under { is_some (load_numbered load (loads_pending base.old.loads)) ≡ true }
-    requires waits { AreWaiting (S.view base.old.store).frame.config connections.old (waiting_on load (under_way base.old.loads)) }
-    ensures ran { RunsAgain S.view T.view now load base.old base.new connections.old connections.new tasks_to_give_up }
+    requires waits { AreWaiting (S.view base.old.store).frame.config connections.old
+        (waiting_on load (under_way base.old.loads)) }
+    ensures ran { RunsAgain S.view T.view now load base.old base.new connections.old connections.new
+        tasks_to_give_up }
     ensures goes { SameTaken base.old.loads base.new.loads }
 {
     let Some(settled) = base.loads.settle(load) else {

@@ -78,7 +78,8 @@ impl<S: Store, T: Tape> Namespace<S, T> {
 
     /// Opens a connection, and returns its number. An `Err` changes nothing.
     pub fn open(&mut self) -> Result<u64, AllocError>
-        ensures turned { IfOk result (λ number. (number ≡ length self.old.closings + 1) × Turns S.view T.view self.old self.new (event.Open number) false) }
+        ensures turned { IfOk result (λ number. (number ≡ length self.old.closings + 1)
+            × Turns S.view T.view self.old self.new (event.Open number) false) }
         ensures unchanged { OnErr result (self.new ≡ self.old) }
     {
         self.base.store.sound();
@@ -100,8 +101,11 @@ impl<S: Store, T: Tape> Namespace<S, T> {
 
     /// Takes a piece of a connection's bytes, and returns whether its last command is held back. An `Err` changes nothing.
     pub fn feed(&mut self, number: u64, piece: &[u8], moment: Instant) -> Result<bool, ServiceError>
-        ensures turned { IfOk result (λ is_held. Turns S.view T.view self.old self.new (feeding number piece.now moment.nanos) is_held) }
-        ensures refused { IfErr result (RefusesBy S.view self.old (feeding number piece.now moment.nanos) (is_holding_in (situation_with S.view self.old []) number)) }
+        ensures turned { IfOk result (λ is_held.
+            Turns S.view T.view self.old self.new (feeding number piece.now moment.nanos) is_held) }
+        ensures refused { IfErr result
+            (RefusesBy S.view self.old (feeding number piece.now moment.nanos)
+            (is_holding_in (situation_with S.view self.old []) number)) }
         ensures unchanged { OnErr result (self.new ≡ self.old) }
     {
         self.base.store.sound();
@@ -134,9 +138,12 @@ impl<S: Store, T: Tape> Namespace<S, T> {
 
     /// Closes a connection, and drops the bytes that were not used. It allocates nothing but the record, and an `Err` changes nothing.
     pub fn close(&mut self, number: u64) -> Result<(), ServiceError>
-        ensures turned { OnOk result (Turns S.view T.view self.old self.new (event.Close number) false) }
+        ensures turned { OnOk result
+            (Turns S.view T.view self.old self.new (event.Close number) false) }
         ensures refused { IfErr result (RefusesBy S.view self.old (event.Close number) false) }
-        ensures spare { T.view self.old.tape ≡ None → IfErr result (λ e. refusal_of (S.view self.old.store).frame.config (known_of S.view self.old) (event.Close number) ≡ Some e) }
+        ensures spare { T.view self.old.tape ≡ None
+            → IfErr result (λ e. refusal_of (S.view self.old.store).frame.config
+            (known_of S.view self.old) (event.Close number) ≡ Some e) }
         ensures unchanged { OnErr result (self.new ≡ self.old) }
     {
         self.base.store.sound();
@@ -164,8 +171,10 @@ impl<S: Store, T: Tape> Namespace<S, T> {
         outcome: Outcome,
         moment: Instant,
     ) -> Result<(), (ServiceError, Outcome)>
-        ensures turned { OnOk result (Happens S.view T.view self.old self.new (answering load outcome moment.nanos)) }
-        ensures refused { IfErr result (λ e. RefusesBy S.view self.old (answering load outcome moment.nanos) false e.0) }
+        ensures turned { OnOk result
+            (Happens S.view T.view self.old self.new (answering load outcome moment.nanos)) }
+        ensures refused { IfErr result
+            (λ e. RefusesBy S.view self.old (answering load outcome moment.nanos) false e.0) }
         ensures back { IfErr result (λ e. e.1 ≡ outcome) }
         ensures unchanged { OnErr result (self.new ≡ self.old) }
     {
@@ -212,9 +221,13 @@ impl<S: Store, T: Tape> Namespace<S, T> {
     /// lines; one that finds no memory is held back, and at its 200th give-up it is abandoned. It allocates nothing that it needs except
     /// the record, and an `Err` changes nothing.
     pub fn give_up(&mut self, load: u64, moment: Instant) -> Result<(), ServiceError>
-        ensures turned { OnOk result (Happens S.view T.view self.old self.new (giving_up load moment.nanos)) }
-        ensures refused { IfErr result (RefusesBy S.view self.old (giving_up load moment.nanos) false) }
-        ensures spare { T.view self.old.tape ≡ None → IfErr result (λ e. refusal_of (S.view self.old.store).frame.config (known_of S.view self.old) (giving_up load moment.nanos) ≡ Some e) }
+        ensures turned { OnOk result
+            (Happens S.view T.view self.old self.new (giving_up load moment.nanos)) }
+        ensures refused { IfErr result
+            (RefusesBy S.view self.old (giving_up load moment.nanos) false) }
+        ensures spare { T.view self.old.tape ≡ None
+            → IfErr result (λ e. refusal_of (S.view self.old.store).frame.config
+            (known_of S.view self.old) (giving_up load moment.nanos) ≡ Some e) }
         ensures unchanged { OnErr result (self.new ≡ self.old) }
     {
         self.base.store.sound();
@@ -242,9 +255,11 @@ impl<S: Store, T: Tape> Namespace<S, T> {
 
     /// The reply bytes of a connection since the last taking, moved out. This allocates nothing.
     pub fn take_output(&mut self, number: u64) -> Result<Vec<u8>, ServiceError>
-        ensures taken { IfOk result (λ text. (text.items ≡ output_in self.old number) × (self.new ≡ record self.old { outputs = slice_set self.old.outputs (number - 1) [] })) }
+        ensures taken { IfOk result (λ text. (text.items ≡ output_in self.old number) × (self.new
+            ≡ record self.old { outputs = slice_set self.old.outputs (number - 1) [] })) }
         ensures refused { IsErr result ↔ (was_opened self.old number ≡ false) }
-        ensures unchanged { IfErr result (λ e. (e ≡ ServiceError.NoConnection) × (self.new ≡ self.old)) }
+        ensures unchanged { IfErr result
+            (λ e. (e ≡ ServiceError.NoConnection) × (self.new ≡ self.old)) }
     {
         let index = match find_opened(&self.connections, number) {
             Ok(index) => index,
@@ -255,8 +270,10 @@ impl<S: Store, T: Tape> Namespace<S, T> {
 
     /// The loads that went out and were not taken, moved out, in the order after those that were taken before. This allocates nothing.
     pub fn take_loads(&mut self) -> Vec<(LoadId, Bytes)>
-        ensures taken { (result.items ≡ self.old.outgoing) × (self.new ≡ record self.old { outgoing = [] }) }
-        ensures in_turn { IsTrue (are_in_turn self.old.namespace (loads_taken_of self.old) result.items) }
+        ensures taken { (result.items ≡ self.old.outgoing)
+            × (self.new ≡ record self.old { outgoing = [] }) }
+        ensures in_turn { IsTrue
+            (are_in_turn self.old.namespace (loads_taken_of self.old) result.items) }
         ensures keys { IsTrue (have_their_keys self.old.pending result.items) }
     {
         self.base.loads.take(self.alloc)
@@ -264,7 +281,8 @@ impl<S: Store, T: Tape> Namespace<S, T> {
 
     /// The note that was reported first. This allocates nothing.
     pub fn next_notice(&mut self) -> Option<Note>
-        ensures taken { TakesFirstNote (S.view self.old.store).untaken (S.view self.new.store).untaken result }
+        ensures taken { TakesFirstNote (S.view self.old.store).untaken
+            (S.view self.new.store).untaken result }
         ensures gives { GivesNote (S.view self.old.store) (S.view self.new.store) }
         ensures rest { self.new ≡ record self.old { store = self.new.store } }
     {
@@ -286,7 +304,8 @@ impl<S: Store, T: Tape> Namespace<S, T> {
 
     /// Whether a `LOAD` of a connection waits.
     pub fn waiting(&self, number: u64) -> Result<bool, ServiceError>
-        ensures waits { IfOk result (λ waits. waits ≡ is_waiting_in (situation_with S.view self.now []) number) }
+        ensures waits { IfOk result
+            (λ waits. waits ≡ is_waiting_in (situation_with S.view self.now []) number) }
         ensures refused { IsErr result ↔ (was_opened self.now number ≡ false) }
         ensures error { IfErr result (λ e. e ≡ ServiceError.NoConnection) }
     {

@@ -45,7 +45,8 @@ pub fn find_open(connections: &Connections, number: u64) -> Result<usize, Servic
 /// Removes the connection at a place from those that wait, if it is closed.
 pub fn leave_closed(loads: &mut Loads, number: u64, connections: &Connections, index: usize)
     requires { index < length connections.now }
-    ensures left { under_way loads.new ≡ when_left (is_none (closing_at connections.now index)) number (under_way loads.old) }
+    ensures left { under_way loads.new
+        ≡ when_left (is_none (closing_at connections.now index)) number (under_way loads.old) }
     ensures goes { SameTaken loads.old loads.new }
 {
     if connections.closing(index).is_some() {
@@ -57,7 +58,8 @@ pub fn leave_closed(loads: &mut Loads, number: u64, connections: &Connections, i
 pub fn close_at(connections: &mut Connections, index: usize)
     requires inside { index < length connections.old }
     requires open { closing_at connections.old index ≡ None }
-    ensures { (p : ReplacedAt connections.old connections.new index) × (p.is.closing ≡ Some Closing.Asked) × (p.is.output.text.items ≡ p.was.output.text.items) }
+    ensures { (p : ReplacedAt connections.old connections.new index)
+        × (p.is.closing ≡ Some Closing.Asked) × (p.is.output.text.items ≡ p.was.output.text.items) }
 {
     let mut connection = connections.take(index);
     connection.closing = Some(Closing::Asked);
@@ -68,7 +70,8 @@ pub fn close_at(connections: &mut Connections, index: usize)
 /// The place of a connection that was opened.
 pub fn find_opened(connections: &Connections, number: u64) -> Result<usize, ServiceError>
     ensures place { IfOk result (λ index. (number ≡ index + 1) × (index < length connections.now)) }
-    ensures refused { IsErr result ↔ ((nat_lt 0 number && nat_le number (length connections.now)) ≡ false) }
+    ensures refused { IsErr result
+        ↔ ((nat_lt 0 number && nat_le number (length connections.now)) ≡ false) }
     ensures error { IfErr result (λ e. e ≡ ServiceError.NoConnection) }
 {
     if number == 0 || number > connections.len() as u64 {

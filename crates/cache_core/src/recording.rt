@@ -51,9 +51,11 @@ fn begin_feed<S: Store, T: Tape>(
     moment: Instant,
 ) -> Result<Event, AllocError>
     requires rests { IsAtRest (T.view base.old.tape) }
-    ensures event { IfOk result (λ event. is_some (T.view base.old.tape) ≡ true → event ≡ Event.Feed number piece.now moment) }
+    ensures event { IfOk result (λ event. is_some (T.view base.old.tape) ≡ true
+        → event ≡ Event.Feed number piece.now moment) }
     ensures room { OnOk result (length piece.now ≤ connection.new.unread.room) }
-    ensures tape { OnOk result (T.view base.new.tape ≡ option_map (started 1) (T.view base.old.tape)) }
+    ensures tape { OnOk result
+        (T.view base.new.tape ≡ option_map (started 1) (T.view base.old.tape)) }
     ensures rest { base.new ≡ record base.old { tape = base.new.tape } }
     ensures connection { LooksAsBefore connection.old connection.new }
     ensures unchanged { OnErr result (base.new.tape ≡ base.old.tape) }
@@ -80,9 +82,11 @@ pub fn feed_recorded<S: Store, T: Tape>(
 ) -> Result<bool, ServiceError>
     requires can_turn { CanTurn now (seen_of S.view T.view base.old connection.old) }
     requires open { connection.old.closing ≡ None }
-    ensures turned { IfOk result (λ is_held. FedTurnOver S.view T.view now number moment.nanos base.old base.new connection.old piece.now connection.new is_held) }
+    ensures turned { IfOk result (λ is_held. FedTurnOver S.view T.view now number moment.nanos
+        base.old base.new connection.old piece.now connection.new is_held) }
     ensures refused { IfErr result (WantsMemory (holds_line connection.old.standing)) }
-    ensures unchanged { OnErr result (BaseStays base.old base.new × LooksAsBefore connection.old connection.new) }
+    ensures unchanged { OnErr result
+        (BaseStays base.old base.new × LooksAsBefore connection.old connection.new) }
     ensures goes { SameTaken base.old.loads base.new.loads }
 {
     let Ok(event) = begin_feed(base, number, connection, piece, moment) else {
@@ -114,9 +118,12 @@ pub fn feed_at<S: Store, T: Tape>(
     requires can_turn { CanTurn now (seen_at S.view T.view base.old connections.old index) }
     requires inside { index < length connections.old }
     requires open { closing_at connections.old index ≡ None }
-    ensures turned { IfOk result (λ is_held. FeedsAt S.view T.view now moment.nanos index piece.now is_held base.old base.new connections.old connections.new) }
-    ensures refused { IfErr result (λ e. (c : Open) → slice_get connections.old index ≡ Some (Here c) → WantsMemory (holds_line c.standing) e) }
-    ensures unchanged { OnErr result (BaseStays base.old base.new × (p : ReplacedAt connections.old connections.new index) × LooksAsBefore p.was p.is) }
+    ensures turned { IfOk result (λ is_held. FeedsAt S.view T.view now moment.nanos index piece.now
+        is_held base.old base.new connections.old connections.new) }
+    ensures refused { IfErr result (λ e. (c : Open) → slice_get connections.old index
+        ≡ Some (Here c) → WantsMemory (holds_line c.standing) e) }
+    ensures unchanged { OnErr result (BaseStays base.old base.new
+        × (p : ReplacedAt connections.old connections.new index) × LooksAsBefore p.was p.is) }
     ensures goes { SameTaken base.old.loads base.new.loads }
 {
     let number = number_at(connections, index);

@@ -69,7 +69,8 @@ fn refuse_outcome(config: &Config, outcome: &Outcome) -> Option<ServiceError>
 
 /// Why a load is not settled: it is not under way, or the moment is too late.
 pub fn refuse_load(config: &Config, loads: &Loads, load: u64, moment: u64) -> Option<ServiceError>
-    ensures { result ≡ refusal_of config.now (known_of_loads (loads_pending loads.now)) (giving_up load moment) }
+    ensures { result ≡ refusal_of config.now (known_of_loads (loads_pending loads.now))
+        (giving_up load moment) }
 {
     if loads.get(load).is_none() {
         return Some(ServiceError::NoLoad);
@@ -88,7 +89,8 @@ pub fn refuse_answer(
     outcome: &Outcome,
     moment: u64,
 ) -> Option<ServiceError>
-    ensures { result ≡ refusal_of config.now (known_of_loads (loads_pending loads.now)) (answering load outcome.now moment) }
+    ensures { result ≡ refusal_of config.now (known_of_loads (loads_pending loads.now))
+        (answering load outcome.now moment) }
 {
     match refuse_load(config, loads, load, moment) {
         Some(error) => Some(error),

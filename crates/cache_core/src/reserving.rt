@@ -13,7 +13,8 @@ use std::alloc::AllocError;
 /// Makes room for this many more bytes of replies. An `Err` changes nothing that can be seen.
 fn reserve(connection: &mut Connection, size: usize) -> Result<(), AllocError>
     ensures same { LooksAsBefore connection.old connection.new }
-    ensures room { OnOk result (vec_len connection.new.output.text + size ≤ vec_capacity connection.new.output.text) }
+    ensures room { OnOk result
+        (vec_len connection.new.output.text + size ≤ vec_capacity connection.new.output.text) }
 {
     connection.output.text.try_reserve(size)
 }
@@ -21,7 +22,8 @@ fn reserve(connection: &mut Connection, size: usize) -> Result<(), AllocError>
 /// Makes room for this many more bytes of replies of the connection at a place. An `Err` changes nothing that can be seen.
 fn reserve_there(connections: &mut Connections, index: usize, size: usize) -> Result<(), AllocError>
     requires { is_here (slice_get connections.old index) ≡ true }
-    ensures same { (p : ReplacedAt connections.old connections.new index) × LooksAsBefore p.was p.is }
+    ensures same { (p : ReplacedAt connections.old connections.new index)
+        × LooksAsBefore p.was p.is }
     ensures room { OnOk result (HasReplyRoomAt connections.new size index) }
 {
     let mut connection = connections.take(index);
@@ -33,7 +35,8 @@ fn reserve_there(connections: &mut Connections, index: usize, size: usize) -> Re
 /// Makes room for this many more bytes of replies of a connection, if it is there. An `Err` changes nothing that can be seen.
 fn reserve_at(connections: &mut Connections, number: u64, size: usize) -> Result<(), AllocError>
     ensures same { AllLookAsBefore connections.old connections.new }
-    ensures others { (place : ℕ) → place ≢ number - 1 → slice_get connections.new place ≡ slice_get connections.old place }
+    ensures others { (place : ℕ) → place ≢ number - 1 → slice_get connections.new place
+        ≡ slice_get connections.old place }
     ensures room { OnOk result (HasReplyRoomAt connections.new size (number - 1)) }
 {
     let index = number.saturating_sub(1) as usize;

@@ -54,7 +54,8 @@ fn resume_there<S: Store, T: Tape>(
     requires can_run { CanRun now (seen_at S.view T.view base.old connections.old index) }
     requires inside { index < length connections.old }
     requires runs { runs_at (slice_get connections.old index) ≡ true }
-    ensures ran { ResumesAt S.view T.view now index base.old base.new connections.old connections.new }
+    ensures ran { ResumesAt S.view T.view now index base.old base.new connections.old
+        connections.new }
     ensures spare { spare_of (T.view base.old.tape) ≤ spare_of (T.view base.new.tape) + 1 }
     ensures goes { SameTaken base.old.loads base.new.loads }
 {
@@ -73,8 +74,10 @@ pub fn resume_at<S: Store, T: Tape>(
 )
     requires amid { IsAmid S.view T.view now base.old connections.old 1 }
     requires inside { index < length connections.old }
-    ensures ran { Parts S.view T.view now base.old base.new connections.old connections.new (RunLines (index + 1) ∷ []) }
-    ensures amid { (lines : ℕ) → IsAmid S.view T.view now base.old connections.old (suc lines) → IsAmid S.view T.view now base.new connections.new lines }
+    ensures ran { Parts S.view T.view now base.old base.new connections.old connections.new
+        (RunLines (index + 1) ∷ []) }
+    ensures amid { (lines : ℕ) → IsAmid S.view T.view now base.old connections.old (suc lines)
+        → IsAmid S.view T.view now base.new connections.new lines }
     ensures others { LeavesOthers connections.old connections.new index }
     ensures goes { SameTaken base.old.loads base.new.loads }
 {
@@ -99,8 +102,10 @@ fn tell_at<S: Store, T: Tape>(
     requires inside { index < length connections.old }
     requires waits { IsWaitingAt (S.view base.old.store).frame.config connections.old (index + 1) }
     requires room { HasReplyRoomAt connections.old (length (outcome_text outcome.now)) index }
-    ensures ran { Parts S.view T.view now base.old base.new connections.old connections.new (Deliver (index + 1) outcome.now ∷ []) }
-    ensures amid { (lines : ℕ) → IsAmid S.view T.view now base.old connections.old (suc lines) → IsAmid S.view T.view now base.new connections.new lines }
+    ensures ran { Parts S.view T.view now base.old base.new connections.old connections.new
+        (Deliver (index + 1) outcome.now ∷ []) }
+    ensures amid { (lines : ℕ) → IsAmid S.view T.view now base.old connections.old (suc lines)
+        → IsAmid S.view T.view now base.new connections.new lines }
     ensures others { LeavesOthers connections.old connections.new index }
     ensures goes { SameTaken base.old.loads base.new.loads }
 {
@@ -121,8 +126,10 @@ fn again_at<S: Store, T: Tape>(
     requires amid { IsAmid S.view T.view now base.old connections.old 1 }
     requires inside { index < length connections.old }
     requires waits { IsWaitingAt (S.view base.old.store).frame.config connections.old (index + 1) }
-    ensures ran { Reruns S.view T.view now base.old base.new connections.old connections.new (RunAgain (index + 1) ∷ []) }
-    ensures amid { (lines : ℕ) → IsAmid S.view T.view now base.old connections.old (suc lines) → IsAmid S.view T.view now base.new connections.new lines }
+    ensures ran { Reruns S.view T.view now base.old base.new connections.old connections.new
+        (RunAgain (index + 1) ∷ []) }
+    ensures amid { (lines : ℕ) → IsAmid S.view T.view now base.old connections.old (suc lines)
+        → IsAmid S.view T.view now base.new connections.new lines }
     ensures others { LeavesOthers connections.old connections.new index }
     ensures goes { SameTaken base.old.loads base.new.loads }
 {
@@ -143,8 +150,10 @@ fn give_up_at<S: Store, T: Tape>(
     requires amid { IsAmid S.view T.view now base.old connections.old 2 }
     requires inside { index < length connections.old }
     requires waits { IsWaitingAt (S.view base.old.store).frame.config connections.old (index + 1) }
-    ensures ran { Reruns S.view T.view now base.old base.new connections.old connections.new (RunAgain (index + 1) ∷ RunLines (index + 1) ∷ []) }
-    ensures amid { (lines : ℕ) → IsAmid S.view T.view now base.old connections.old (suc (suc lines)) → IsAmid S.view T.view now base.new connections.new lines }
+    ensures ran { Reruns S.view T.view now base.old base.new connections.old connections.new
+        (RunAgain (index + 1) ∷ RunLines (index + 1) ∷ []) }
+    ensures amid { (lines : ℕ) → IsAmid S.view T.view now base.old connections.old (suc (suc lines))
+        → IsAmid S.view T.view now base.new connections.new lines }
     ensures others { LeavesOthers connections.old connections.new index }
     ensures goes { SameTaken base.old.loads base.new.loads }
 {
@@ -163,8 +172,10 @@ pub fn tell_all<S: Store, T: Tape>(
     requires amid { IsAmid S.view T.view now base.old connections.old (length waiting.now) }
     requires waits { AreWaiting (S.view base.old.store).frame.config connections.old waiting.now }
     requires room { HaveReplyRoom connections.old (length (outcome_text outcome.now)) waiting.now }
-    ensures ran { Parts S.view T.view now base.old base.new connections.old connections.new (map (λ conn. Deliver conn outcome.now) waiting.now) }
-    ensures amid { (lines : ℕ) → IsAmid S.view T.view now base.old connections.old (length waiting.now + lines) → IsAmid S.view T.view now base.new connections.new lines }
+    ensures ran { Parts S.view T.view now base.old base.new connections.old connections.new
+        (map (λ conn. Deliver conn outcome.now) waiting.now) }
+    ensures amid { (lines : ℕ) → IsAmid S.view T.view now base.old connections.old
+        (length waiting.now + lines) → IsAmid S.view T.view now base.new connections.new lines }
     ensures count { length connections.new ≡ length connections.old }
     ensures goes { SameTaken base.old.loads base.new.loads }
 {
@@ -183,7 +194,8 @@ pub fn resume_all<S: Store, T: Tape>(
 )
     requires amid { IsAmid S.view T.view now base.old connections.old (length waiting.now) }
     requires inside { AreThere connections.old waiting.now }
-    ensures ran { Parts S.view T.view now base.old base.new connections.old connections.new (map RunLines waiting.now) }
+    ensures ran { Parts S.view T.view now base.old base.new connections.old connections.new
+        (map RunLines waiting.now) }
     ensures goes { SameTaken base.old.loads base.new.loads }
 {
     for number in waiting {
@@ -199,9 +211,11 @@ pub fn give_up_all<S: Store, T: Tape>(
     connections: &mut Connections,
     waiting: &[u64],
 )
-    requires amid { IsAmid S.view T.view now base.old connections.old (length waiting.now + length waiting.now) }
+    requires amid { IsAmid S.view T.view now base.old connections.old
+        (length waiting.now + length waiting.now) }
     requires waits { AreWaiting (S.view base.old.store).frame.config connections.old waiting.now }
-    ensures ran { PartsUnknown S.view T.view now base.old base.new connections.old connections.new (tasks_to_give_up waiting.now) }
+    ensures ran { PartsUnknown S.view T.view now base.old base.new connections.old connections.new
+        (tasks_to_give_up waiting.now) }
     ensures goes { SameTaken base.old.loads base.new.loads }
 {
     for number in waiting {

@@ -15,7 +15,11 @@ pub record Seen : Type 1 where
 
 -- in terms of what the store and the tape show
 abbrev pub seen : {S T : Type 0} → (S → Values) → (T → Option Taped) → Base S T → ReplyBuffer → Seen
-seen view tape base output = record { stage = stage (view base.store) output.text.items (tape base.tape); loads = under_way base.loads }
+seen view tape base output =
+    record {
+      stage = stage (view base.store) output.text.items (tape base.tape);
+      loads = under_way base.loads;
+    }
 
 -- if a record is made, nothing waits outside it
 abbrev pub IsClear : Seen → Type 0
@@ -28,7 +32,9 @@ pub record CanRun (now : ℕ) (x : Seen) : Type 0 where
   pub spare : HasSpare x.stage.tape
 
 -- the store, what is gathered, and the loads are the same
-pub record LooksSame {S T : Type 0} (view : S → Values) (tape : T → Option Taped) (old new : Base S T) (output after : ReplyBuffer) : Type 0 where
+pub record LooksSame {S T : Type 0} (view : S → Values) (tape : T → Option Taped)
+    (old new : Base S T) (output after : ReplyBuffer) : Type 0 where
   pub store_is : new.store ≡ old.store
-  pub gathered_is : gathered (seen view tape new after).stage ≡ gathered (seen view tape old output).stage
+  pub gathered_is : gathered (seen view tape new after).stage
+      ≡ gathered (seen view tape old output).stage
   pub loads_are : SameLoads old.loads new.loads

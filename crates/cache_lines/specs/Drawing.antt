@@ -25,7 +25,8 @@ identifiers_in v = identifiers v.stream v.registered
 
 -- a `DROPIF` that is refused with `ERR id`
 abbrev pub refuses_id : Config → Step → Bool
-refuses_id config step = says_drop (reading config step.line) && option_eq same step.reply (Some (codes "ERR id\n"))
+refuses_id config step =
+    says_drop (reading config step.line) && option_eq same step.reply (Some (codes "ERR id\n"))
 
 -- some are drawn, and none is registered that was not before
 abbrev pub Spends : Identifiers → Identifiers → Type 0
@@ -35,10 +36,12 @@ Spends old new = DrawsAlone old.stream new.stream old.registered new.registered
 -- which was registered there.
 pub record StepDraws (config : Config) (step : Step) (old new : Identifiers) : Type 0 where
   pub draws : DrawsForParts old.stream new.stream old.registered new.registered
-  pub used_up : refuses_id config step ≡ true → AreUsedUp (part_count config) old.stream new.stream old.registered
+  pub used_up : refuses_id config step ≡ true
+      → AreUsedUp (part_count config) old.stream new.stream old.registered
 
 -- a step draws after some were drawn, and others draw after it
-pub record DrawsThen (config : Config) (step : Step) (Rest : Identifiers → Identifiers → Type 0) (old new : Identifiers) : Type 0 where
+pub record DrawsThen (config : Config) (step : Step) (Rest : Identifiers → Identifiers → Type 0)
+    (old new : Identifiers) : Type 0 where
   pub before : Identifiers
   pub behind : Identifiers
   pub spends : Spends old before
@@ -48,4 +51,5 @@ pub record DrawsThen (config : Config) (step : Step) (Rest : Identifiers → Ide
 -- the steps draw identifiers one after another; what is drawn for a line that is held back registers none
 abbrev pub StepsDraw : Config → List Step → Identifiers → Identifiers → Type 0
 StepsDraw config [] old new = Spends old new
-StepsDraw config (step ∷ steps) old new = DrawsThen config step (λ a b. StepsDraw config steps a b) old new
+StepsDraw config (step ∷ steps) old new =
+    DrawsThen config step (λ a b. StepsDraw config steps a b) old new

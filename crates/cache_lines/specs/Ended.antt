@@ -49,7 +49,9 @@ left_by number at.Quit times rest = ready number rest
 
 -- Steps ran from this situation, all that these tasks made due; the last one may be held back, a `QUIT`, or a `LOAD` that waits. What they
 -- leave stands for this situation.
-pub record RanTasks (making : Making) (s : Situation) (tasks : List Task) (quit is_held is_silent : Bool) (target : List HeldValue → Situation) (old new : Stage) : Type 0 where
+pub record RanTasks (making : Making) (s : Situation) (tasks : List Task)
+    (quit is_held is_silent : Bool) (target : List HeldValue → Situation) (old new : Stage) :
+    Type 0 where
   pub steps : List Step
   pub left : List HeldValue
   pub stands : new.values.Stands left
@@ -64,8 +66,12 @@ pub record RanTasks (making : Making) (s : Situation) (tasks : List Task) (quit 
   pub gathered_is : gathered new ≡ gather (gathered old) steps
 
 -- lines of a connection that is ready ran
-abbrev pub RanReady : (making : Making) (number : ℕ) (base : Situation) (held : List HeldValue) (bytes : List ℕ) (quit is_held is_silent : Bool) (target : List HeldValue → Situation) (old new : Stage) → Type 0
-RanReady making number base held bytes quit is_held is_silent target old new = RanTasks making (set_in base held (ready number bytes)) (RunLines number ∷ []) quit is_held is_silent target old new
+abbrev pub RanReady : (making : Making) (number : ℕ) (base : Situation) (held : List HeldValue)
+    (bytes : List ℕ) (quit is_held is_silent : Bool) (target : List HeldValue → Situation)
+    (old new : Stage) → Type 0
+RanReady making number base held bytes quit is_held is_silent target old new =
+    RanTasks making (set_in base held (ready number bytes)) (RunLines number ∷ []) quit is_held
+    is_silent target old new
 
 -- Less than a line is left, or more than a line may have; or a line that is held back, or a `LOAD` that waits; or a `QUIT` ran.
 abbrev pub EndsFor : End → List ℕ → Type 0
@@ -77,13 +83,19 @@ EndsFor at.Quit rest = Unit {0}
 
 -- Lines of a connection that is ready ran until these bytes were left, and ended like this, in each situation that the values and the loads
 -- stood for.
-pub record RunsReady (now number : ℕ) (bytes rest : List ℕ) (end : End) (old new : Seen) : Type 0 where
-  pub ran : (s : Situation) → Agrees old.stage.values now s → IsThere number s → loads_in s ≡ old.loads
-      → RanReady (making_of old.stage.values.frame) number s s.held bytes (ends_by_quit end) (holds_back end) (waits_now end) (λ left. situation_behind (ends_by_quit end) (with_under_way new.loads (with_drops new.stage.values.frame.dropped s)) left (left_by number end 1 rest)) old.stage new.stage
+pub record RunsReady (now number : ℕ) (bytes rest : List ℕ) (end : End) (old new : Seen) :
+    Type 0 where
+  pub ran : (s : Situation) → Agrees old.stage.values now s → IsThere number s
+      → loads_in s ≡ old.loads
+      → RanReady (making_of old.stage.values.frame) number s s.held bytes (ends_by_quit end)
+      (holds_back end) (waits_now end) (λ left. situation_behind (ends_by_quit end)
+      (with_under_way new.loads (with_drops new.stage.values.frame.dropped s)) left
+      (left_by number end 1 rest)) old.stage new.stage
   pub ends : EndsFor end rest
   pub frame : KeepsFrame old.stage.values.frame new.stage.values.frame now
   pub fresh : IsFresh (gathered new.stage)
 
 -- the connection with this number, which holds its first line back and began to wait for it this often, with these bytes and one more piece
 abbrev pub held_with : ℕ → ℕ → List ℕ → List ℕ → Connection
-held_with number times bytes piece = holding_load number (held_line bytes) (behind_lines 1 bytes ++ piece) times
+held_with number times bytes piece =
+    holding_load number (held_line bytes) (behind_lines 1 bytes ++ piece) times

@@ -18,7 +18,8 @@ stage values text tape = record { values = values; text = text; tape = tape }
 
 -- a tape's records and steps, whatever room it has
 abbrev pub written : Taped → Taped
-written t = record { journal = t.journal; begun = t.begun; steps = t.steps; spare = 0; drafted = None }
+written t =
+    record { journal = t.journal; begun = t.begun; steps = t.steps; spare = 0; drafted = None }
 
 -- the replies written and not taken, what the tape keeps, if anything, and the notes reported and not taken
 pub record Gathered : Type 0 where
@@ -34,14 +35,25 @@ reply_in step = unwrap_or step.reply []
 
 -- these steps come after those of the record under way
 abbrev pub adds : List Step → Taped → Taped
-adds steps t = record { journal = t.journal; begun = t.begun; steps = t.steps ++ steps; spare = t.spare; drafted = t.drafted }
+adds steps t =
+    record {
+      journal = t.journal;
+      begun = t.begun;
+      steps = t.steps ++ steps;
+      spare = t.spare;
+      drafted = t.drafted;
+    }
 
 -- what is gathered after these steps have run: if a record is made, they contain their own replies and notes
 abbrev pub gather : Gathered → List Step → Gathered
 gather g steps = go g.kept
   where
     go : Option Taped → Gathered
-    go None = record { text = g.text ++ flat_map reply_in steps; kept = None; waiting = g.waiting ++ flat_map (λ step. step.notices) steps }
+    go None = record {
+      text = g.text ++ flat_map reply_in steps;
+      kept = None;
+      waiting = g.waiting ++ flat_map (λ step. step.notices) steps;
+    }
     go (Some t) = record { text = g.text; kept = Some (adds steps t); waiting = g.waiting }
 
 -- if a record is made, nothing waits outside it

@@ -26,7 +26,8 @@ ready number bytes = record { number = number; unread = bytes; standing = Ready;
 
 -- a connection that holds a line back, with these bytes unread after it
 abbrev pub holding : ℕ → List ℕ → List ℕ → Connection
-holding number line bytes = record { number = number; unread = bytes; standing = Held line; waited = 0 }
+holding number line bytes =
+    record { number = number; unread = bytes; standing = Held line; waited = 0 }
 
 -- the situation, with these values held and this connection as it is now
 abbrev pub set_in : Situation → List HeldValue → Connection → Situation
@@ -38,7 +39,10 @@ with_drops dropped s = record s { dropped = dropped }
 
 -- the situation, with these values held and this connection as it is now, or closed by a `QUIT`
 abbrev pub situation_behind : Bool → Situation → List HeldValue → Connection → Situation
-situation_behind quit base held connection = if quit then without_connection connection.number (record base { held = held }) else set_in base held connection
+situation_behind quit base held connection =
+    if quit then without_connection connection.number (record base {
+      held = held;
+    }) else set_in base held connection
 
 -- the connection is open there
 abbrev pub IsThere : ℕ → Situation → Type 0
@@ -53,11 +57,13 @@ has_its_part part_of effect = option_map_or (is_parted part_of) effect.value tru
 
 -- each value that these steps accept is in the part of its key
 abbrev pub ArePartedIn : Config → (List ℕ → ℕ) → Situation → List Task → List Step → Type 0
-ArePartedIn config part_of s tasks steps = IsTrue (list_all (is_parted part_of) (accepted_values (placed_steps_in config s tasks steps)))
+ArePartedIn config part_of s tasks steps =
+    IsTrue (list_all (is_parted part_of) (accepted_values (placed_steps_in config s tasks steps)))
 
 -- a `SYNC` leaves no value that is covered or long dead
 abbrev pub is_timely_after : Config → ℕ → Effect → Situation → Bool
-is_timely_after config made effect t = not (syncs effect) || list_all (is_timely config made t.latest) t.held
+is_timely_after config made effect t =
+    not (syncs effect) || list_all (is_timely config made t.latest) t.held
 
 -- the same for these steps
 abbrev pub are_timely : Config → ℕ → Situation → List Task → List Step → Bool
@@ -66,17 +72,22 @@ are_timely config made s tasks (step ∷ steps) =
     let now_due = due (may_run_in s) tasks in
     let placed = placed_step_in config s (first_due now_due) step in
     let t = after_step config s placed.task step placed.effect in
-    is_timely_after config made placed.effect t && are_timely config made t (left_after now_due) steps
+    is_timely_after config made placed.effect t
+    && are_timely config made t (left_after now_due) steps
 
 -- these steps of the connection's lines ran, each in its turn and right, each value in the part of its key, and each `SYNC` left timely
 -- values
 abbrev pub Runs : Making → ℕ → Situation → List Step → Situation → Type 0
 Runs making number s [] t = t ≡ s
 Runs making number s (step ∷ steps) t =
-    IsTrue (may_run_in s number) × IsTrue (is_right making.config (placed_step_in making.config s (Some (RunLines number)) step))
+    IsTrue (may_run_in s number) × IsTrue
+    (is_right making.config (placed_step_in making.config s (Some (RunLines number)) step))
     × IsTrue (has_its_part making.part_of (effect_of_step making.config number s step))
-    × IsTrue (is_timely_after making.config making.made (effect_of_step making.config number s step) (after_step making.config s (Some (RunLines number)) step (effect_of_step making.config number s step)))
-    × Runs making number (after_step making.config s (Some (RunLines number)) step (effect_of_step making.config number s step)) steps t
+    × IsTrue (is_timely_after making.config making.made (effect_of_step making.config number s step)
+    (after_step making.config s (Some (RunLines number)) step
+    (effect_of_step making.config number s step)))
+    × Runs making number (after_step making.config s (Some (RunLines number)) step
+    (effect_of_step making.config number s step)) steps t
 
 -- a step that does something only to values, and may close its connection; it joins no load
 pub record IsPlain (effect : Effect) (quit : Bool) : Type 0 where

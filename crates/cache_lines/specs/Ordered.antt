@@ -14,12 +14,14 @@ use Rattle.cache_store.specs.Recency.{AreKeysOf, IsPlainLru}
 
 -- a step ran; nothing is known behind one that is held back
 abbrev pub order_behind_step : Config → ℕ → Order → Step → Order
-order_behind_step config n order step = if step.held then Unknown else order_by n (reading config step.line) order
+order_behind_step config n order step =
+    if step.held then Unknown else order_by n (reading config step.line) order
 
 -- these steps ran
 abbrev pub order_behind : Config → ℕ → Order → List Step → Order
 order_behind config n order [] = order
-order_behind config n order (step ∷ steps) = order_behind config n (order_behind_step config n order step) steps
+order_behind config n order (step ∷ steps) =
+    order_behind config n (order_behind_step config n order step) steps
 
 -- if a `SYNC` ran last, the values held have exactly the keys that are known
 abbrev pub HasKeys : Order → List HeldValue → Type 0
@@ -33,23 +35,29 @@ HaveKeys config n order s tasks (step ∷ steps) =
     let now_due = due (may_run_in s) tasks in
     let placed = placed_step_in config s (first_due now_due) step in
     let t = after_step config s placed.task step placed.effect in
-    HasKeys (order_behind_step config n order step) t.held × HaveKeys config n (order_behind_step config n order step) t (left_after now_due) steps
+    HasKeys (order_behind_step config n order step) t.held
+    × HaveKeys config n (order_behind_step config n order step) t (left_after now_due) steps
 
 -- the same for the lines of a connection
 abbrev pub HaveKeysBehind : Config → ℕ → ℕ → Order → Situation → List Step → Type 0
 HaveKeysBehind config number n order s [] = Unit {0}
 HaveKeysBehind config number n order s (step ∷ steps) =
     let t = after_step config s (Some (RunLines number)) step (effect_of_step config number s step) in
-    HasKeys (order_behind_step config n order step) t.held × HaveKeysBehind config number n (order_behind_step config n order step) t steps
+    HasKeys (order_behind_step config n order step) t.held
+    × HaveKeysBehind config number n (order_behind_step config n order step) t steps
 
 -- If a store under LRU agreed with what was known, it agrees with what is known after these steps, and after each of them exactly the keys
 -- that are known are held.
-abbrev pub OrdersSteps : Config → (old new : Bool → List (List ℕ) → Type 0) → Situation → List Task → List Step → Type 0
+abbrev pub OrdersSteps : Config → (old new : Bool → List (List ℕ) → Type 0) → Situation → List Task
+    → List Step → Type 0
 OrdersSteps config old new s tasks steps =
     (places : ℕ) (order : Order) → IsPlainLru config places → AgreesWith old places order
-    → AgreesWith new places (order_behind config (suc places) order steps) × HaveKeys config (suc places) order s tasks steps
+    → AgreesWith new places (order_behind config (suc places) order steps)
+    × HaveKeys config (suc places) order s tasks steps
 
-abbrev pub OrdersLines : Config → ℕ → (old new : Bool → List (List ℕ) → Type 0) → Situation → List Step → Type 0
+abbrev pub OrdersLines : Config → ℕ → (old new : Bool → List (List ℕ) → Type 0) → Situation
+    → List Step → Type 0
 OrdersLines config number old new s steps =
     (places : ℕ) (order : Order) → IsPlainLru config places → AgreesWith old places order
-    → AgreesWith new places (order_behind config (suc places) order steps) × HaveKeysBehind config number (suc places) order s steps
+    → AgreesWith new places (order_behind config (suc places) order steps)
+    × HaveKeysBehind config number (suc places) order s steps

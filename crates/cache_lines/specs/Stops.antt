@@ -46,14 +46,19 @@ waits_now at.Quit = false
 -- wait; or it is a `QUIT`, and has run.
 abbrev pub StopsBy : (now number : ℕ) (bytes : List ℕ) → End → (old new : Seen) → Type 0
 StopsBy now number bytes at.More old new = IsPartial bytes × AddsSteps [] old new
-StopsBy now number bytes at.TooLong old new = (8192 < length (cut_at 10 bytes).0) × AddsSteps [] old new
-StopsBy now number bytes at.Held old new = (n : ℕ) × IsLine bytes n × AddsSteps (step_held number (line_at bytes n) ∷ []) old new
-StopsBy now number bytes at.Waits old new = (n : ℕ) × IsLine bytes n × RunsAs now number (line_at bytes n) Waits old new
-StopsBy now number bytes at.Quit old new = (n : ℕ) × IsLine bytes n × RunsAs now number (line_at bytes n) Quits old new
+StopsBy now number bytes at.TooLong old new =
+    (8192 < length (cut_at 10 bytes).0) × AddsSteps [] old new
+StopsBy now number bytes at.Held old new =
+    (n : ℕ) × IsLine bytes n × AddsSteps (step_held number (line_at bytes n) ∷ []) old new
+StopsBy now number bytes at.Waits old new =
+    (n : ℕ) × IsLine bytes n × RunsAs now number (line_at bytes n) Waits old new
+StopsBy now number bytes at.Quit old new =
+    (n : ℕ) × IsLine bytes n × RunsAs now number (line_at bytes n) Quits old new
 
 -- the first line of the bytes ran, and has this many bytes, or lines stop at it
 abbrev pub RunsFirst : (now number : ℕ) (bytes : List ℕ) → Result ℕ End → (old new : Seen) → Type 0
-RunsFirst now number bytes (Ok n) old new = IsLine bytes n × RunsAs now number (line_at bytes n) Stays old new
+RunsFirst now number bytes (Ok n) old new =
+    IsLine bytes n × RunsAs now number (line_at bytes n) Stays old new
 RunsFirst now number bytes (Err end) old new = StopsBy now number bytes end old new
 
 -- a line ran

@@ -8,11 +8,13 @@ use Rattle.cache_commands.specs.declared.loads.loads.Loads.{Loads}
 
 -- a connection whose `LOAD` waits, with these bytes unread after it, and how often it began to wait
 abbrev pub waiting : ℕ → List ℕ → List ℕ → ℕ → Connection
-waiting number line bytes times = record { number = number; unread = bytes; standing = Waiting line; waited = times }
+waiting number line bytes times =
+    record { number = number; unread = bytes; standing = Waiting line; waited = times }
 
 -- a connection that holds a `LOAD` back that had begun to wait this often
 abbrev pub holding_load : ℕ → List ℕ → List ℕ → ℕ → Connection
-holding_load number line bytes times = record { number = number; unread = bytes; standing = Held line; waited = times }
+holding_load number line bytes times =
+    record { number = number; unread = bytes; standing = Held line; waited = times }
 
 -- the situation, with this many loads sent and these under way
 abbrev pub with_loads : ℕ → List PendingLoad → Situation → Situation
@@ -33,7 +35,8 @@ under_way loads = record { sent = sent_of loads; pending = loads_pending loads }
 -- after a connection stayed open, or closed and no longer waits
 abbrev pub when_left : Bool → ℕ → UnderWay → UnderWay
 when_left true number loads = loads
-when_left false number loads = record { sent = loads.sent; pending = map (without_waiting number) loads.pending }
+when_left false number loads =
+    record { sent = loads.sent; pending = map (without_waiting number) loads.pending }
 
 -- those of a situation
 abbrev pub loads_in : Situation → UnderWay
@@ -54,4 +57,8 @@ load_sent_for key loads = number_to_send key loads.sent loads.pending
 
 -- the loads after the connection waits for the key's load, which it sends if none is under way
 abbrev pub when_waiting : ℕ → List ℕ → UnderWay → UnderWay
-when_waiting conn key loads = record { sent = when_sent (load_sent_for key loads) loads.sent; pending = when_joined conn key (load_sent_for key loads) loads.pending }
+when_waiting conn key loads =
+    record {
+      sent = when_sent (load_sent_for key loads) loads.sent;
+      pending = when_joined conn key (load_sent_for key loads) loads.pending;
+    }

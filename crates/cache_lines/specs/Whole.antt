@@ -28,4 +28,5 @@ is_few standing times = nat_lt times (if waits_for_load standing then 201 else 2
 -- an output of this length and capacity has room for `ERR abandoned` and a line feed, also after it is taken and the spare one put in its
 -- place; an empty one stays
 abbrev pub has_room : ℕ → ℕ → ℕ → ℕ → Bool
-has_room len capacity spare_len spare_capacity = nat_le (len + 14) capacity && (nat_eq len 0 || (nat_eq spare_len 0 && nat_le 14 spare_capacity))
+has_room len capacity spare_len spare_capacity =
+    nat_le (len + 14) capacity && (nat_eq len 0 || (nat_eq spare_len 0 && nat_le 14 spare_capacity))

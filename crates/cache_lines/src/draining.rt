@@ -44,9 +44,12 @@ pub fn drain<S: Store>(store: &mut Keyed<S>, notes: &mut Vec<Note>)
 
 /// Takes all notes that the store has, or none.
 fn drain_where<S: Store>(store: &mut Keyed<S>, takes: bool, notes: &mut Vec<Note>)
-    requires { takes ≡ true → vec_len notes.old + length (S.view store.old).untaken ≤ vec_capacity notes.old }
-    ensures drained { notes.new.items ≡ (if takes then notes.old.items ++ (S.view store.old).untaken else notes.old.items) }
-    ensures untaken { (S.view store.new).untaken ≡ (if takes then [] else (S.view store.old).untaken) }
+    requires { takes ≡ true → vec_len notes.old + length (S.view store.old).untaken
+        ≤ vec_capacity notes.old }
+    ensures drained { notes.new.items
+        ≡ (if takes then notes.old.items ++ (S.view store.old).untaken else notes.old.items) }
+    ensures untaken { (S.view store.new).untaken
+        ≡ (if takes then [] else (S.view store.old).untaken) }
     ensures gives { GivesNote (S.view store.old) (S.view store.new) }
 {
     if takes {
@@ -67,10 +70,14 @@ pub fn end_step<S: Store, T: Tape>(
 )
     requires drafted { IsDrafted (T.view tape.old) }
     requires empty { notes.items ≡ [] }
-    requires room { is_some (T.view tape.old) ≡ true → length (S.view store.old).untaken ≤ vec_capacity notes }
+    requires room { is_some (T.view tape.old) ≡ true → length (S.view store.old).untaken
+        ≤ vec_capacity notes }
     ensures gives { GivesNote (S.view store.old) (S.view store.new) }
-    ensures untaken { (S.view store.new).untaken ≡ (if is_some (T.view tape.old) then [] else (S.view store.old).untaken) }
-    ensures step { T.view tape.new ≡ option_map (ends (λ line. step_saying number line text.old.items accepted (S.view store.old).untaken)) (T.view tape.old) }
+    ensures untaken { (S.view store.new).untaken
+        ≡ (if is_some (T.view tape.old) then [] else (S.view store.old).untaken) }
+    ensures step { T.view tape.new ≡ option_map
+        (ends (λ line. step_saying number line text.old.items accepted (S.view store.old).untaken))
+        (T.view tape.old) }
     ensures text { text.new.items ≡ text_left (T.view tape.old) text.old.items }
 {
     drain_where(store, tape.keeps(), &mut notes);

@@ -18,7 +18,8 @@ const ABANDONED: usize = 14;
 
 /// Makes room for the reply to a `LOAD` that is given up for good, also for when the output is taken before.
 fn reserve_room(text: &mut Vec<u8>, spare: &mut Vec<u8>) -> Result<(), AllocError>
-    ensures room { OnOk result (IsTrue (has_room (vec_len text.new) (vec_capacity text.new) (vec_len spare.new) (vec_capacity spare.new))) }
+    ensures room { OnOk result (IsTrue (has_room (vec_len text.new) (vec_capacity text.new)
+        (vec_len spare.new) (vec_capacity spare.new))) }
     ensures text { text.new.items ≡ text.old.items }
 {
     text.try_reserve(ABANDONED)?;
@@ -40,8 +41,10 @@ pub fn join_load<T: Tape>(
     output: &mut ReplyBuffer,
 ) -> Result<(), AllocError>
     requires { IsDrafted (T.view tape.old) }
-    ensures joined { OnOk result (under_way loads.new ≡ when_waiting number key.now (under_way loads.old)) }
-    ensures step { OnOk result (T.view tape.new ≡ option_map (ends (λ line. step_silent number line (load_sent_for key.now (under_way loads.old)) None [])) (T.view tape.old)) }
+    ensures joined { OnOk result
+        (under_way loads.new ≡ when_waiting number key.now (under_way loads.old)) }
+    ensures step { OnOk result (T.view tape.new ≡ option_map (ends (λ line. step_silent number line
+        (load_sent_for key.now (under_way loads.old)) None [])) (T.view tape.old)) }
     ensures room { OnOk result (IsRoomy output.new) }
     ensures text { output.new.text.items ≡ output.old.text.items }
     ensures same { OnErr result (SameLoads loads.old loads.new × (tape.new ≡ tape.old)) }

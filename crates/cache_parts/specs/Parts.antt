@@ -111,12 +111,25 @@ pub record IsProper (frame : Frame) (part step : ℕ) (e : Entry (List ℕ) Stor
 -- ---- values held
 
 abbrev pub value_of : ℕ → Entry (List ℕ) Stored → Value
-value_of part e = record { key = e.key; bytes = e.value.bytes; part = part; weight = e.weight; accepted_at = e.written; own_deadline = e.expires }
+value_of part e =
+    record {
+      key = e.key;
+      bytes = e.value.bytes;
+      part = part;
+      weight = e.weight;
+      accepted_at = e.written;
+      own_deadline = e.expires;
+    }
 
 module _ {S : Type 0} where
   -- the entry as a held value, apart from whether it may be evicted
   abbrev pub held_of : ℕ → Part S → Entry (List ℕ) Stored → HeldValue
-  held_of part s e = record { value = value_of part e; last_use = e.used; covered = is_covered service_answers s e; evictable = false }
+  held_of part s e = record {
+    value = value_of part e;
+    last_use = e.used;
+    covered = is_covered service_answers s e;
+    evictable = false;
+  }
 
   abbrev pub items_in : ℕ → Part S → List HeldValue
   items_in part s = map (held_of part s) (held_entries s.records)
@@ -129,7 +142,8 @@ module _ {S : Type 0} where
   -- the held values whose removal for weight would have a point are marked: each may be evicted
   abbrev pub AreMarked : Part S → List HeldValue → Type 0
   AreMarked s held =
-      (owner : Record (List ℕ) Stored) → record_at s.records owner.number ≡ Some owner → owner.is_held ≡ true
+      (owner : Record (List ℕ) Stored) → record_at s.records owner.number ≡ Some owner
+      → owner.is_held ≡ true
       → HasPoint s.settings.capacity s.writes (map (λ u. u.write) s.unsent) owner.number
       → (h : HeldValue) → value_at held owner.entry.key ≡ Some h → h.evictable ≡ true
 
@@ -153,7 +167,8 @@ module _ {S : Type 0} where
 module _ {S : Type 0} where
   -- a value is written under its key, in room that was made, and its ticket is sent
   abbrev pub put : List ℕ → ℕ → Stored → ℕ → ℕ → Part S → Part S
-  put key hash value now step s = sent s.next_ticket (written service_answers same (with_room s) key hash value now step)
+  put key hash value now step s =
+      sent s.next_ticket (written service_answers same (with_room s) key hash value now step)
 
   -- what it writes
   abbrev pub put_entry : Part S → List ℕ → Stored → ℕ → ℕ → Entry (List ℕ) Stored
@@ -165,4 +180,5 @@ module _ {S : Type 0} where
     where
       go : Option (Record (List ℕ) Stored) → Part S
       go None = s
-      go (Some r) = sent s.next_ticket (removal_told service_answers r.entry now (removed_by same key s))
+      go (Some r) =
+          sent s.next_ticket (removal_told service_answers r.entry now (removed_by same key s))

@@ -82,7 +82,8 @@ module _ {S : Type 0} where
   -- nothing covers what is written at this step
   pub record IsFresh (step : ℕ) (s : Part S) : Type 0 where
     pub cleared : s.cleared ≤ step
-    pub predicates : (place : ℕ) (p : Registered (List ℕ)) → slice_get s.predicates place ≡ Some p → p.step ≤ step
+    pub predicates : (place : ℕ) (p : Registered (List ℕ)) → slice_get s.predicates place ≡ Some p
+        → p.step ≤ step
 
 module _ (S : Type 0) where
   -- ---- runs
@@ -90,37 +91,48 @@ module _ (S : Type 0) where
   -- a run to its end keeps the `suc n` most recently used keys
   abbrev pub RunKeepsRecent : Type 0
   RunKeepsRecent =
-      (n now : ℕ) (s new : Part S) (settled : Bool) (keys : List (List ℕ)) → IsPlain n s → IsRecent n s settled keys → RunsToEnd service_answers now s new → IsRecent n new true (take (suc n) keys)
+      (n now : ℕ) (s new : Part S) (settled : Bool) (keys : List (List ℕ)) → IsPlain n s
+      → IsRecent n s settled keys → RunsToEnd service_answers now s new
+      → IsRecent n new true (take (suc n) keys)
 
   -- a run that may be cut short keeps them too
   abbrev pub CutRunKeepsRecent : Type 0
   CutRunKeepsRecent =
-      (n now : ℕ) (s new : Part S) (settled : Bool) (keys : List (List ℕ)) → IsPlain n s → IsRecent n s settled keys → Runs service_answers now s new → IsRecent n new false keys
+      (n now : ℕ) (s new : Part S) (settled : Bool) (keys : List (List ℕ)) → IsPlain n s
+      → IsRecent n s settled keys → Runs service_answers now s new → IsRecent n new false keys
 
   -- ---- calls, each from a settled part
 
   -- a look-up, with its run, if one is due
   abbrev pub LookUpMovesRecent : Type 0
   LookUpMovesRecent =
-      (n now hash : ℕ) (s new : Part S) (key : List ℕ) (keys : List (List ℕ)) → IsPlain n s → IsRecent n s true keys → LooksUp service_answers same key hash now s new → IsRecent n new false (used_first key keys)
+      (n now hash : ℕ) (s new : Part S) (key : List ℕ) (keys : List (List ℕ)) → IsPlain n s
+      → IsRecent n s true keys → LooksUp service_answers same key hash now s new
+      → IsRecent n new false (used_first key keys)
 
   -- a write, without a deadline of its own
   abbrev pub PutMovesRecent : Type 0
   PutMovesRecent =
-      (n now hash step : ℕ) (s : Part S) (key : List ℕ) (value : Stored) (keys : List (List ℕ)) → IsPlain n s → IsFresh step s → value.milliseconds ≡ None → IsRecent n s true keys
-      → IsPlain n (put key hash value now step s) × IsRecent n (put key hash value now step s) false (put_first key keys)
+      (n now hash step : ℕ) (s : Part S) (key : List ℕ) (value : Stored) (keys : List (List ℕ))
+      → IsPlain n s → IsFresh step s → value.milliseconds ≡ None → IsRecent n s true keys
+      → IsPlain n (put key hash value now step s)
+      × IsRecent n (put key hash value now step s) false (put_first key keys)
 
   -- a write after a look-up in the same step
   abbrev pub AddMovesRecent : Type 0
   AddMovesRecent =
-      (n now hash step : ℕ) (s : Part S) (key : List ℕ) (value : Stored) (keys : List (List ℕ)) → IsPlain n s → IsFresh step s → value.milliseconds ≡ None → IsRecent n s true keys
+      (n now hash step : ℕ) (s : Part S) (key : List ℕ) (value : Stored) (keys : List (List ℕ))
+      → IsPlain n s → IsFresh step s → value.milliseconds ≡ None → IsRecent n s true keys
       → let looked = with_read service_answers (visible_record service_answers same s now key) hash now s in
-      IsPlain n (put key hash value now step looked) × IsRecent n (put key hash value now step looked) false (put_first key keys)
+      IsPlain n (put key hash value now step looked)
+      × IsRecent n (put key hash value now step looked) false (put_first key keys)
 
   -- a removal, whether the key is there or not
   abbrev pub RemovalMovesRecent : Type 0
   RemovalMovesRecent =
-      (n now : ℕ) (s : Part S) (key : List ℕ) (keys : List (List ℕ)) → IsPlain n s → IsRecent n s true keys → IsPlain n (taken_out key now s) × IsRecent n (taken_out key now s) false (keys_without key keys)
+      (n now : ℕ) (s : Part S) (key : List ℕ) (keys : List (List ℕ))
+      → IsPlain n s → IsRecent n s true keys → IsPlain n (taken_out key now s)
+      × IsRecent n (taken_out key now s) false (keys_without key keys)
 
   -- its notices are taken
   abbrev pub TakingKeepsRecent : Type 0
@@ -129,10 +141,14 @@ module _ (S : Type 0) where
   -- ---- for a new part, and for the keys held
 
   abbrev pub NewIsRecent : Type 0
-  NewIsRecent = (n : ℕ) (name : Option (List ℕ)) (settings : Settings) (hasher : S) (rules : Weight) (s : Part S) → IsNew name settings hasher rules s → IsRecent n s true []
+  NewIsRecent =
+      (n : ℕ) (name : Option (List ℕ)) (settings : Settings) (hasher : S) (rules : Weight)
+      (s : Part S) → IsNew name settings hasher rules s → IsRecent n s true []
 
   abbrev pub RecentAreHeld : Type 0
-  RecentAreHeld = (n : ℕ) (s : Part S) (keys : List (List ℕ)) → IsPlain n s → IsRecent n s true keys → IsPermutation (map (λ e. e.key) (held_entries s.records)) keys
+  RecentAreHeld =
+      (n : ℕ) (s : Part S) (keys : List (List ℕ)) → IsPlain n s → IsRecent n s true keys
+      → IsPermutation (map (λ e. e.key) (held_entries s.records)) keys
 
   -- how runs and calls keep exact recency
   pub record RecencyIsKept : Type 0 where
@@ -166,10 +182,15 @@ module _ {S : Type 0} where
 
   -- the order of use that a store of these parts knows: after a run of all they have exactly these keys; and under plain LRU its one part
   -- has them in their order of use
-  pub record IsRecentOver (config : Config) (parts : List (Part S)) (settled : Bool) (keys : List (List ℕ)) : Type 0 where
+  pub record IsRecentOver (config : Config) (parts : List (Part S)) (settled : Bool)
+      (keys : List (List ℕ)) : Type 0 where
     pub held : settled ≡ true → AreKeysOf (items_of 0 parts) keys
-    pub recent : (n part : ℕ) (s : Part S) → IsPlainLru config n → slice_get parts part ≡ Some s → IsRecent n s settled keys
+    pub recent : (n part : ℕ) (s : Part S) → IsPlainLru config n → slice_get parts part ≡ Some s
+        → IsRecent n s settled keys
 
   -- the clause of a call: from these parts to those, with the keys in another order
-  abbrev pub MovesRecency : Config → List (Part S) → List (Part S) → (List (List ℕ) → List (List ℕ)) → Type 0
-  MovesRecency config parts news moved = (n : ℕ) (keys : List (List ℕ)) → IsPlainLru config n → IsRecentOver config parts true keys → IsRecentOver config news false (moved keys)
+  abbrev pub MovesRecency : Config → List (Part S) → List (Part S) → (List (List ℕ) → List (List ℕ))
+      → Type 0
+  MovesRecency config parts news moved =
+      (n : ℕ) (keys : List (List ℕ)) → IsPlainLru config n → IsRecentOver config parts true keys
+      → IsRecentOver config news false (moved keys)

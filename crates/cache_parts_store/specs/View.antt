@@ -23,9 +23,16 @@ pub record StoreOfParts (S : Type 0) : Type 0 where
 
 module _ {S : Type 0} where
   -- the store of a front's parts: how it was created, whether a `DROPIF` was accepted, how keys are hashed, its queue and its generator
-  abbrev pub over_front : (config : Config) (made : ℕ) (dropped : Bool) (hash : List ℕ → ℕ) → List Note → Stream → Front (List ℕ) Stored (List ℕ) S Weight → StoreOfParts S
+  abbrev pub over_front : (config : Config) (made : ℕ) (dropped : Bool) (hash : List ℕ → ℕ)
+      → List Note → Stream → Front (List ℕ) Stored (List ℕ) S Weight → StoreOfParts S
   over_front config made dropped hash queue stream f = record {
-    frame = record { config = config; part_of = λ key. part_of f.bits (hash key); made = made; dropped = dropped; latest = f.moment };
+    frame = record {
+      config = config;
+      part_of = λ key. part_of f.bits (hash key);
+      made = made;
+      dropped = dropped;
+      latest = f.moment;
+    };
     parts = f.parts;
     queue = queue;
     stream = stream;
@@ -85,4 +92,9 @@ module _ {S : Type 0} where
 
   -- these are its parts, and what they reported was taken from them
   abbrev pub after : (now next : ℕ) (parts : List (Part S)) → StoreOfParts S → StoreOfParts S
-  after now next parts a = record a { frame = at_moment a.frame now; parts = all_drained parts; queue = a.queue ++ waiting parts; step = next }
+  after now next parts a = record a {
+    frame = at_moment a.frame now;
+    parts = all_drained parts;
+    queue = a.queue ++ waiting parts;
+    step = next;
+  }

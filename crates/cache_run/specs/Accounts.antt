@@ -45,12 +45,14 @@ were_taken taken outs = list_all (λ out. nat_le out.0.number taken) outs
 
 -- each of these loads is one that is kept, or one that was taken and is left, or has not been taken
 abbrev pub are_accounted : (ℕ → Bool) → List (LoadId × List ℕ) → ℕ → List PendingLoad → Bool
-are_accounted is_kept outs taken loads = are_all (λ n. is_kept n || (is_left n outs || nat_lt taken n)) loads
+are_accounted is_kept outs taken loads =
+    are_all (λ n. is_kept n || (is_left n outs || nat_lt taken n)) loads
 
 -- loads that are kept, left or not taken stay accounted for: none is lost
 pub record Accounts (was is : BareSpace) (before after : List (LoadId × List ℕ)) : Type 0 where
   pub taken : IsTrue (were_taken (taken_of was) before) → IsTrue (were_taken (taken_of is) after)
-  pub loads : (is_kept : ℕ → Bool) → IsTrue (were_taken (taken_of was) before) → IsTrue (are_accounted is_kept before (taken_of was) (pending_of was))
+  pub loads : (is_kept : ℕ → Bool) → IsTrue (were_taken (taken_of was) before)
+      → IsTrue (are_accounted is_kept before (taken_of was) (pending_of was))
       → IsTrue (are_accounted is_kept after (taken_of is) (pending_of is))
 
 -- nobody waits for these loads
@@ -61,12 +63,16 @@ has_no_waiting loads = list_all (λ load. is_empty load.waiting) loads
 pub record DropsLoads (is_dropped : ℕ → Bool) (was is : BareSpace) : Type 0 where
   pub taken : taken_of is ≡ taken_of was
   pub nobody : IsTrue (has_no_waiting (pending_of is))
-  pub loads : IsTrue (are_all (λ n. is_under_way n (pending_of was) && not (is_dropped n)) (pending_of is))
+  pub loads : IsTrue
+      (are_all (λ n. is_under_way n (pending_of was) && not (is_dropped n)) (pending_of is))
 
 -- if nobody waits for a load, these loads are dropped
 abbrev pub DropsUnwaited : (ℕ → Bool) → BareSpace → BareSpace → Type 0
-DropsUnwaited is_dropped was is = IsTrue (has_no_waiting (pending_of was)) → DropsLoads is_dropped was is
+DropsUnwaited is_dropped was is =
+    IsTrue (has_no_waiting (pending_of was)) → DropsLoads is_dropped was is
 
 -- if nobody waits for a load, each load under way was under way before, is none of these, and had been taken
 abbrev pub DropsAll : List (LoadId × List ℕ) → BareSpace → BareSpace → Type 0
-DropsAll outs was is = IsTrue (has_no_waiting (pending_of was)) → IsTrue (are_all (λ n. is_under_way n (pending_of was) && (not (is_left n outs) && nat_le n (taken_of was))) (pending_of is))
+DropsAll outs was is =
+    IsTrue (has_no_waiting (pending_of was)) → IsTrue (are_all (λ n. is_under_way n (pending_of was)
+    && (not (is_left n outs) && nat_le n (taken_of was))) (pending_of is))

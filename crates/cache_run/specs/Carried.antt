@@ -23,7 +23,9 @@ close_records number closes = if closes then record_of (event.Close number) [] �
 
 -- the records of a connection: it opens or not, has these turns, closes or not, and then loads are given up
 abbrev pub records_of : ℕ → Bool → List Turn → Bool → List Record → List Record
-records_of number opens turns closes drops = (open_records number opens ++ flat_map (records_in number) turns) ++ (close_records number closes ++ drops)
+records_of number opens turns closes drops =
+    (open_records number opens ++ flat_map (records_in number) turns)
+    ++ (close_records number closes ++ drops)
 
 -- what an error leaves after the last turn: the clock read `late`, `lost` was read, the loader was asked, and `unsent` was not written
 pub record Left : Type 0 where
@@ -39,21 +41,29 @@ nothing_left = record { late = []; lost = []; asked = []; unsent = [] }
 -- those unsent were written, the clock read its moments, and the loader returned its results. What it returned is dropped only for a load
 -- that was outgoing in the first world or was sent since then, with the key for which it was asked; behind the last turn it is asked only
 -- by the keys of such loads.
-pub record Carried {C L : Type 0} (config : Config) (number : ℕ) (reads : C → ℕ → C → Type 0) (loads : L → List ℕ → Option Outcome → L → Type 0) (a b : World C L) (opens closes : Bool) (drops : List Record) (left : Left) : Type 0 where
+pub record Carried {C L : Type 0} (config : Config) (number : ℕ) (reads : C → ℕ → C → Type 0)
+    (loads : L → List ℕ → Option Outcome → L → Type 0) (a b : World C L) (opens closes : Bool)
+    (drops : List Record) (left : Left) : Type 0 where
   pub turns : List Turn
   pub right : AreRight config turns
-  pub placed : (s : Situation) → after_records config a.situation (open_records number opens) ≡ Some s → AreInPlace config number (AskForSent left.asked) (sendings_of a.outgoing) s turns
-  pub follows : after_records config a.situation (records_of number opens turns closes drops) ≡ Some b.situation
-  pub notices : b.notices ≡ (a.notices ++ flat_map (turn_notes number) turns) ++ flat_map notes_in drops
+  pub placed : (s : Situation) → after_records config a.situation (open_records number opens)
+      ≡ Some s → AreInPlace config number (AskForSent left.asked) (sendings_of a.outgoing) s turns
+  pub follows : after_records config a.situation (records_of number opens turns closes drops)
+      ≡ Some b.situation
+  pub notices : b.notices ≡ (a.notices ++ flat_map (turn_notes number) turns)
+      ++ flat_map notes_in drops
   pub read : Consumes a.outside.remaining b.outside.remaining (flat_map piece_in turns ++ left.lost)
   pub sent : List ℕ
   pub wrote : Appends a.outside.contents b.outside.contents sent
   pub replies : sent ++ left.unsent ≡ flat_map (replies_in number) turns
   pub clock : Readings reads a.outside.clock (map moment_in turns ++ left.late) b.outside.clock
-  pub loader : Askings loads a.outside.loader (flat_map asked_in turns ++ left.asked) b.outside.loader
+  pub loader : Askings loads a.outside.loader (flat_map asked_in turns ++ left.asked)
+      b.outside.loader
 
 -- what an error leaves
-pub record Broken {C L : Type 0} (config : Config) (number : ℕ) (reads : C → ℕ → C → Type 0) (loads : L → List ℕ → Option Outcome → L → Type 0) (a b : World C L) (opens closes : Bool) (drops : List Record) (e : RunError) : Type 0 where
+pub record Broken {C L : Type 0} (config : Config) (number : ℕ) (reads : C → ℕ → C → Type 0)
+    (loads : L → List ℕ → Option Outcome → L → Type 0) (a b : World C L) (opens closes : Bool)
+    (drops : List Record) (e : RunError) : Type 0 where
   pub left : Left
   pub carried : Carried config number reads loads a b opens closes drops left
   pub dropped : AreDrops drops

@@ -11,9 +11,12 @@ pub record GoesOn (number : ℕ) (was is : BareSpace) (Fact : Situation → Type
   pub stands : StandsFor is next
   pub alone : WaitsAlone number next.pending
   pub fact : Fact next
-  pub others : (other : ℕ) → other ≢ number → (untaken_output is other ≡ untaken_output was other) × (closing_of is other ≡ closing_of was other)
+  pub others : (other : ℕ) → other ≢ number → (untaken_output is other ≡ untaken_output was other)
+      × (closing_of is other ≡ closing_of was other)
 
 -- each situation that the namespace stood for, and in which no other connection waits for a load, leads to one that it stands for
-pub record Goes (number : ℕ) (was is : BareSpace) (Fact : Situation → Situation → Type 0) : Type 0 where
-  pub each : (s : Situation) → StandsFor was s → WaitsAlone number s.pending → GoesOn number was is (Fact s)
+pub record Goes (number : ℕ) (was is : BareSpace) (Fact : Situation → Situation → Type 0) :
+    Type 0 where
+  pub each : (s : Situation) → StandsFor was s → WaitsAlone number s.pending
+      → GoesOn number was is (Fact s)
   pub config : config_of is ≡ config_of was

@@ -70,12 +70,14 @@ asking_of key answer = record { key = key; answer = answer }
 
 -- a load is given up only if the loader returned nothing, or an outcome that is refused for its bytes or its time
 abbrev pub IsGivenUpFor : Config → Option Outcome → Type 0
-IsGivenUpFor config answer = IfSome answer (λ outcome. is_some (refusal_of_outcome config outcome) ≡ true)
+IsGivenUpFor config answer =
+    IfSome answer (λ outcome. is_some (refusal_of_outcome config outcome) ≡ true)
 
 -- a load is answered with what the loader returned, or given up
 abbrev pub IsSettledBy : Config → Option Outcome → ℕ → Event → Type 0
 IsSettledBy config answer moment happened =
-    ((load : ℕ) × (outcome : Outcome) × (answer ≡ Some outcome) × (happened ≡ answering load outcome moment))
+    ((load : ℕ) × (outcome : Outcome) × (answer ≡ Some outcome)
+    × (happened ≡ answering load outcome moment))
     ⊎ ((load : ℕ) × (happened ≡ giving_up load moment) × IsGivenUpFor config answer)
 
 abbrev pub IsRight : Config → Turn → Type 0
@@ -106,26 +108,31 @@ sendings_of outs = λ load key. list_any (λ out. out.0.number == load && same o
 -- and those that were sent between two situations: their numbers are above those that were sent before, and they are under way, each with
 -- its key
 abbrev pub sendings_until : Situation → Situation → Sendings → Sendings
-sendings_until s t sent = λ load key. sent load key || (nat_lt s.sent load && option_map_or (λ k. same k key) (key_in load t) false)
+sendings_until s t sent =
+    λ load key. sent load key
+    || (nat_lt s.sent load && option_map_or (λ k. same k key) (key_in load t) false)
 
 -- the loader was asked by keys with which loads were sent
 abbrev pub AskForSent : List Asking → Sendings → Type 0
 AskForSent [] sent = Unit {0}
-AskForSent (asking ∷ askings) sent = ((load : ℕ) × IsTrue (sent load asking.key)) × AskForSent askings sent
+AskForSent (asking ∷ askings) sent =
+    ((load : ℕ) × IsTrue (sent load asking.key)) × AskForSent askings sent
 
 -- in the situation before it, the key that the loader is asked for is that of the load that is settled; what it returned is dropped only
 -- for a load that is not under way, and that was sent with that key before
 abbrev pub IsInPlace : Sendings → Situation → Turn → Type 0
 IsInPlace sent s (Fed piece moment steps) = Unit {0}
 IsInPlace sent s (Settled asking moment entry) = IsKeyOf s entry.event asking.key
-IsInPlace sent s (Dropped asking moment load) = (key_in load s ≡ None) × IsTrue (sent load asking.key)
+IsInPlace sent s (Dropped asking moment load) =
+    (key_in load s ≡ None) × IsTrue (sent load asking.key)
 
 -- each turn is like this in the situation to which the turns before it lead, after what was sent until then; and that is true of what was
 -- sent until the end
 abbrev pub AreInPlace : Config → ℕ → (Sendings → Type 0) → Sendings → Situation → List Turn → Type 0
 AreInPlace config number End sent s [] = End sent
 AreInPlace config number End sent s (turn ∷ turns) =
-    IsInPlace sent s turn × ((t : Situation) → after_records config s (records_in number turn) ≡ Some t → AreInPlace config number End (sendings_until s t sent) t turns)
+    IsInPlace sent s turn × ((t : Situation) → after_records config s (records_in number turn)
+    ≡ Some t → AreInPlace config number End (sendings_until s t sent) t turns)
 
 -- loads given up at moment 0, which counts as the latest
 abbrev pub AreDrops : List Record → Type 0

@@ -24,19 +24,27 @@ use Rattle.cache_run.specs.Loading.{GivesLoads, GivesUpLoads}
 
 -- a load was given up, or was not under way
 abbrev pub GivesUpOr : ℕ → ℕ → BareSpace → BareSpace → Type 0
-GivesUpOr load moment was is = Settled bare_tape was is (giving_up load moment) ⊎ ((is ≡ was) × ((known_of was).is_under_way load ≡ false))
+GivesUpOr load moment was is =
+    Settled bare_tape was is (giving_up load moment)
+    ⊎ ((is ≡ was) × ((known_of was).is_under_way load ≡ false))
 
 -- it was answered, or was not under way
 abbrev pub AnswersOr : ℕ → Outcome → ℕ → BareSpace → BareSpace → Type 0
-AnswersOr load outcome moment was is = Settled bare_tape was is (answering load outcome moment) ⊎ ((is ≡ was) × ((known_of was).is_under_way load ≡ false))
+AnswersOr load outcome moment was is =
+    Settled bare_tape was is (answering load outcome moment)
+    ⊎ ((is ≡ was) × ((known_of was).is_under_way load ≡ false))
 
 -- This was done. A load is given up only if the loader returned nothing, or an outcome that is refused for its bytes or its time; it is
 -- dropped only if it is not under way.
 abbrev pub Does : ℕ → Doing → BareSpace → BareSpace → Type 0
-Does number (Fed piece moment held) was is = ServesEvent bare_tape was is (feeding number piece moment) held
-Does number (Answered load key outcome moment) was is = Settled bare_tape was is (answering load outcome moment)
-Does number (GivenUp load asking moment) was is = Settled bare_tape was is (giving_up load moment) × IsGivenUpFor (config_of was) asking.answer
-Does number (Dropped load asking moment) was is = (is ≡ was) × ((known_of was).is_under_way load ≡ false)
+Does number (Fed piece moment held) was is =
+    ServesEvent bare_tape was is (feeding number piece moment) held
+Does number (Answered load key outcome moment) was is =
+    Settled bare_tape was is (answering load outcome moment)
+Does number (GivenUp load asking moment) was is =
+    Settled bare_tape was is (giving_up load moment) × IsGivenUpFor (config_of was) asking.answer
+Does number (Dropped load asking moment) was is =
+    (is ≡ was) × ((known_of was).is_under_way load ≡ false)
 Does number Looked was is = is ≡ was
 
 -- loads were taken out of a sound namespace, or nothing was
@@ -45,7 +53,8 @@ MayGiveLoads None was is = is ≡ was
 MayGiveLoads (Some loads) was is = GivesLoads loads was is
 
 -- this was done, then the replies of the connection were taken, and then loads, if they were requested
-pub record Comes (number : ℕ) (was : BareSpace) (exchange : Exchange) (is : BareSpace) : Type 0 where
+pub record Comes (number : ℕ) (was : BareSpace) (exchange : Exchange) (is : BareSpace) :
+    Type 0 where
   pub done : BareSpace
   pub told : BareSpace
   pub text : List ℕ
@@ -66,12 +75,15 @@ pub record Gives (number : ℕ) (given : Given) (was is : BareSpace) : Type 0 wh
 
 -- the definition refuses to close the connection, and nothing changed
 abbrev pub IsClosedBefore : ℕ → BareSpace → BareSpace → Type 0
-IsClosedBefore number was is = (is ≡ was) × (e : ServiceError) × (refusal_of (config_of was) (known_of was) (event.Close number) ≡ Some e)
+IsClosedBefore number was is =
+    (is ≡ was) × (e : ServiceError)
+    × (refusal_of (config_of was) (known_of was) (event.Close number) ≡ Some e)
 
 -- the connection of a sound namespace was closed, or had closed
 pub record ClosesIt (number : ℕ) (was is : BareSpace) : Type 0 where
   pub sound : IsSound bare_tape was
-  pub closes : ServesEvent bare_tape was is (event.Close number) false ⊎ IsClosedBefore number was is
+  pub closes : ServesEvent bare_tape was is (event.Close number) false
+      ⊎ IsClosedBefore number was is
   pub behind : IsSound bare_tape is
 
 -- loads were given up, and if nobody waits for a load, these are gone
@@ -92,22 +104,32 @@ IsThere conn spaces = InSpace spaces conn.namespace (λ space. IsOpened space co
 
 -- a sound namespace opened a connection, which has the next number
 abbrev pub OpensAt : ℕ → Conn → List BareSpace → List BareSpace → Type 0
-OpensAt namespace conn old new = (conn.namespace ≡ namespace) × At old new namespace (λ was is. IsSound bare_tape was × OpensNext bare_tape was is conn.number)
+OpensAt namespace conn old new =
+    (conn.namespace ≡ namespace) × At old new namespace
+    (λ was is. IsSound bare_tape was × OpensNext bare_tape was is conn.number)
 
 abbrev pub ComesAt : Conn → List BareSpace → Exchange → List BareSpace → Type 0
-ComesAt conn old exchange new = At old new conn.namespace (λ was is. Comes conn.number was exchange is)
+ComesAt conn old exchange new =
+    At old new conn.namespace (λ was is. Comes conn.number was exchange is)
 
 -- an outcome is refused for its bytes or its time, and nothing changed
 abbrev pub RefusesOutcome : Conn → Outcome → List BareSpace → List BareSpace → Type 0
-RefusesOutcome conn outcome old new = (new ≡ old) × InSpace old conn.namespace (λ was. is_some (refusal_of_outcome (config_of was) outcome) ≡ true)
+RefusesOutcome conn outcome old new =
+    (new ≡ old) × InSpace old conn.namespace
+    (λ was. is_some (refusal_of_outcome (config_of was) outcome) ≡ true)
 
 -- whatever the key, a load was settled by what the loader returned
 abbrev pub SettlesAt : Conn → ℕ → Option Outcome → ℕ → List BareSpace → List BareSpace → Type 0
-SettlesAt conn load said moment old new = (key : List ℕ) → (doing : Doing) × SettlesBy load moment (record { key = key; answer = said }) doing × At old new conn.namespace (Does conn.number doing)
+SettlesAt conn load said moment old new =
+    (key : List ℕ) → (doing : Doing) × SettlesBy load moment (record {
+      key = key;
+      answer = said;
+    }) doing × At old new conn.namespace (Does conn.number doing)
 
 abbrev pub ClosesAt : Conn → List BareSpace → List BareSpace → Type 0
 ClosesAt conn old new = At old new conn.namespace (ClosesIt conn.number)
 
 -- no loader is asked for them
 abbrev pub DropsAt : Conn → Outs → List BareSpace → List Asking → List BareSpace → Type 0
-DropsAt conn hand old askings new = At old new conn.namespace (DropsBoth conn.number hand) × (askings ≡ [])
+DropsAt conn hand old askings new =
+    At old new conn.namespace (DropsBoth conn.number hand) × (askings ≡ [])

@@ -39,4 +39,5 @@ pub record OnlyGivesUp (config : Config) (s t : Situation) (before after : List 
 -- loads of a connection's namespace were given up, and the connection stays closed if it was
 abbrev pub GivesUpLoads : ℕ → BareSpace → BareSpace → Type 0
 GivesUpLoads number was is =
-    Goes number was is (λ s t. OnlyGivesUp (config_of was) s t (notices_of was) (notices_of is)) × (closing_of was number ≢ None → closing_of is number ≢ None)
+    Goes number was is (λ s t. OnlyGivesUp (config_of was) s t (notices_of was) (notices_of is))
+    × (closing_of was number ≢ None → closing_of is number ≢ None)

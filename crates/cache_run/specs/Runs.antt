@@ -32,7 +32,8 @@ abbrev pub next_number : BareSpace → ℕ
 next_number space = length space.closings + 1
 
 -- the event's record follows without steps, and nothing was reported
-pub record Quiet (config : Config) (happened : Event) (s t : Situation) (before after : List Note) : Type 0 where
+pub record Quiet (config : Config) (happened : Event) (s t : Situation) (before after : List Note) :
+    Type 0 where
   pub follows : Follows config s (record_of happened []) t
   pub notices : after ≡ before
 
@@ -44,8 +45,10 @@ pub record Unfed (s t : Situation) (before after : List Note) : Type 0 where
 -- an open connection is closed as requested, and one that was closed by what it was fed stays so
 abbrev pub Closes : ℕ → BareSpace → BareSpace → Type 0
 Closes number was is =
-    ((closing_of was number ≡ None) × (closing_of is number ≡ Some by.Asked) × Goes number was is (λ s t. Quiet (config_of was) (event.Close number) s t (notices_of was) (notices_of is)))
-    ⊎ (IsEnded (closing_of was number) × (closing_of is number ≡ closing_of was number) × Goes number was is (λ s t. Unfed s t (notices_of was) (notices_of is)))
+    ((closing_of was number ≡ None) × (closing_of is number ≡ Some by.Asked) × Goes number was is
+    (λ s t. Quiet (config_of was) (event.Close number) s t (notices_of was) (notices_of is)))
+    ⊎ (IsEnded (closing_of was number) × (closing_of is number ≡ closing_of was number)
+    × Goes number was is (λ s t. Unfed s t (notices_of was) (notices_of is)))
 
 -- it was closed as requested at the end of the input, or by what it was fed: a line that is too long, a `QUIT`, or too many bytes after a
 -- `LOAD` that waits
@@ -54,21 +57,27 @@ EndsRun true closing remaining = (closing ≡ Some by.Asked) × IsAtEnd remainin
 EndsRun false closing remaining = IsEnded closing
 
 -- One connection was opened, fed with all that was read, and closed; the bytes written are its replies.
-pub record ServesWhole {C L : Type 0} (reads : C → ℕ → C → Type 0) (loads : L → List ℕ → Option Outcome → L → Type 0) (was is : BareSpace) (before after : Outside C L) : Type 0 where
+pub record ServesWhole {C L : Type 0} (reads : C → ℕ → C → Type 0)
+    (loads : L → List ℕ → Option Outcome → L → Type 0) (was is : BareSpace)
+    (before after : Outside C L) : Type 0 where
   pub number : ℕ
   pub next : number ≡ next_number was
   pub closes : Bool
-  pub goes : Goes number was is (λ s t. Carried (config_of was) number reads loads (world was s before) (world is t after) true closes [] nothing_left)
+  pub goes : Goes number was is (λ s t. Carried (config_of was) number reads loads
+      (world was s before) (world is t after) true closes [] nothing_left)
   pub ends : EndsRun closes (closing_of is number) after.remaining
   -- each load under way afterwards was under way before
   pub settled : AddsNoLoads was is
 
 -- One connection was opened, fed, and closed after an error, and then loads were given up; the bytes written are a prefix of its replies.
-pub record ServesPartly {C L : Type 0} (reads : C → ℕ → C → Type 0) (loads : L → List ℕ → Option Outcome → L → Type 0) (was is : BareSpace) (before after : Outside C L) (e : RunError) : Type 0 where
+pub record ServesPartly {C L : Type 0} (reads : C → ℕ → C → Type 0)
+    (loads : L → List ℕ → Option Outcome → L → Type 0) (was is : BareSpace)
+    (before after : Outside C L) (e : RunError) : Type 0 where
   pub number : ℕ
   pub next : number ≡ next_number was
   pub closes : Bool
-  pub goes : Goes number was is (λ s t. (drops : List Record) × Broken (config_of was) number reads loads (world was s before) (world is t after) true closes drops e)
+  pub goes : Goes number was is (λ s t. (drops : List Record) × Broken (config_of was) number reads
+      loads (world was s before) (world is t after) true closes drops e)
   pub why : Closing
   pub closed : closing_of is number ≡ Some why
   -- if no other connection waits for a load, each load under way afterwards was under way before
@@ -77,14 +86,23 @@ pub record ServesPartly {C L : Type 0} (reads : C → ℕ → C → Type 0) (loa
 -- ---- over devices
 
 -- this happened to a namespace, a reader, a writer, a clock and a loader
-abbrev pub RunsWhole : {R W C L : Type 0} → (R → Option (List ℕ)) → (W → Option (List ℕ)) → (C → ℕ → C → Type 0) → (L → List ℕ → Option Outcome → L → Type 0) → ℕ → List BareSpace → List BareSpace
+abbrev pub RunsWhole : {R W C L : Type 0} → (R → Option (List ℕ)) → (W → Option (List ℕ))
+    → (C → ℕ → C → Type 0) → (L → List ℕ → Option Outcome → L → Type 0) → ℕ → List BareSpace
+    → List BareSpace
     → Watched R → Watched R → Watched W → Watched W → C → C → L → L → Type 0
 RunsWhole remaining contents reads loads namespace old new reader reader' writer writer' clock clock' loader loader' =
-    At old new namespace (λ was is. ServesWhole reads loads was is (outside (remaining (device reader)) (contents (device writer)) clock loader) (outside (remaining (device reader')) (contents (device writer')) clock' loader'))
+    At old new namespace (λ was is. ServesWhole reads loads was is
+    (outside (remaining (device reader)) (contents (device writer)) clock loader)
+    (outside (remaining (device reader')) (contents (device writer')) clock' loader'))
 
 -- no connection was opened for lack of memory, and nothing was called; or one was served, except for what the error left
-abbrev pub RunsPartly : {R W C L : Type 0} → (R → Option (List ℕ)) → (W → Option (List ℕ)) → (C → ℕ → C → Type 0) → (L → List ℕ → Option Outcome → L → Type 0) → ℕ → List BareSpace → List BareSpace
+abbrev pub RunsPartly : {R W C L : Type 0} → (R → Option (List ℕ)) → (W → Option (List ℕ))
+    → (C → ℕ → C → Type 0) → (L → List ℕ → Option Outcome → L → Type 0) → ℕ → List BareSpace
+    → List BareSpace
     → Watched R → Watched R → Watched W → Watched W → C → C → L → L → RunError → Type 0
 RunsPartly remaining contents reads loads namespace old new reader reader' writer writer' clock clock' loader loader' e =
-    ((e ≡ OutOfMemory) × (new ≡ old) × (reader' ≡ reader) × (writer' ≡ writer) × (clock' ≡ clock) × (loader' ≡ loader))
-    ⊎ At old new namespace (λ was is. ServesPartly reads loads was is (outside (remaining (device reader)) (contents (device writer)) clock loader) (outside (remaining (device reader')) (contents (device writer')) clock' loader') e)
+    ((e ≡ OutOfMemory) × (new ≡ old) × (reader' ≡ reader) × (writer' ≡ writer) × (clock' ≡ clock)
+    × (loader' ≡ loader))
+    ⊎ At old new namespace (λ was is. ServesPartly reads loads was is
+    (outside (remaining (device reader)) (contents (device writer)) clock loader)
+    (outside (remaining (device reader')) (contents (device writer')) clock' loader') e)

@@ -15,7 +15,14 @@ pub record World (C L : Type 0) : Type 0 where
   pub outside : Outside C L
 
 abbrev pub outside : {C L : Type 0} → Option (List ℕ) → Option (List ℕ) → C → L → Outside C L
-outside remaining contents clock loader = record { remaining = remaining; contents = contents; clock = clock; loader = loader }
+outside remaining contents clock loader =
+    record { remaining = remaining; contents = contents; clock = clock; loader = loader }
 
 abbrev pub world : {C L : Type 0} → BareSpace → Situation → Outside C L → World C L
-world space s around = record { situation = s; outgoing = outgoing_of space; notices = notices_of space; outside = around }
+world space s around =
+    record {
+      situation = s;
+      outgoing = outgoing_of space;
+      notices = notices_of space;
+      outside = around;
+    }

@@ -27,7 +27,8 @@ pub fn close_if_open(service: &mut Service, conn: Conn)
 /// Gives up a load at moment 0, which counts as the latest. One that is not under way stays settled.
 fn drop_load(service: &mut Service, conn: Conn, load: u64)
     requires known { IsThere conn service.old }
-    ensures dropped { At service.old service.new conn.namespace (Drops conn.number (λ n. n == load)) }
+    ensures dropped { At service.old service.new conn.namespace
+        (Drops conn.number (λ n. n == load)) }
     ensures known { IsThere conn service.new }
 {
     service.sound(conn.namespace);
@@ -45,7 +46,8 @@ fn drop_load(service: &mut Service, conn: Conn, load: u64)
 /// Gives up these loads.
 fn drop_all(service: &mut Service, conn: Conn, loads: &[(LoadId, Bytes)])
     requires known { IsThere conn service.old }
-    ensures dropped { At service.old service.new conn.namespace (Drops conn.number (λ n. is_left n loads.now)) }
+    ensures dropped { At service.old service.new conn.namespace
+        (Drops conn.number (λ n. is_left n loads.now)) }
     ensures known { IsThere conn service.new }
 {
     for (load, _key) in loads {

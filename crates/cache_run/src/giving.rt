@@ -21,7 +21,8 @@ pub fn feed_piece(
     moment: u64,
 ) -> Result<bool, RunError>
     requires known { IsThere conn service.old }
-    ensures fed { IfOk result (λ held. At service.old service.new conn.namespace (Does conn.number (did.Fed piece.now moment held))) }
+    ensures fed { IfOk result (λ held. At service.old service.new conn.namespace
+        (Does conn.number (did.Fed piece.now moment held))) }
     ensures known { IsThere conn service.new }
     ensures unchanged { OnErr result (service.new ≡ service.old) }
     ensures why { IfErr result (Stops ⊥ (2 ^ 63 ≤ moment)) }
@@ -38,7 +39,8 @@ pub fn feed_piece(
 /// Takes the replies of a connection.
 fn take_replies(service: &mut Service, conn: Conn) -> Vec<u8>
     requires known { IsThere conn service.old }
-    ensures taken { At service.old service.new conn.namespace (λ was is. TakesOutput was is conn.number result.items) }
+    ensures taken { At service.old service.new conn.namespace
+        (λ was is. TakesOutput was is conn.number result.items) }
     ensures known { IsThere conn service.new }
 {
     match service.take_output(conn) {
@@ -63,7 +65,8 @@ pub fn take_sent(service: &mut Service, conn: Conn) -> Vec<(LoadId, Bytes)>
 /// The same, if they are requested.
 fn take_loads(service: &mut Service, conn: Conn, wanted: bool) -> Option<Vec<(LoadId, Bytes)>>
     requires known { IsThere conn service.old }
-    ensures taken { At service.old service.new conn.namespace (MayGiveLoads (option_map (λ loads. loads.items) result)) }
+    ensures taken { At service.old service.new conn.namespace
+        (MayGiveLoads (option_map (λ loads. loads.items) result)) }
     ensures wanted { is_some result ≡ wanted }
     ensures known { IsThere conn service.new }
 {

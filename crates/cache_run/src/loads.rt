@@ -42,8 +42,10 @@ fn answer(
     moment: u64,
 ) -> Result<bool, RunError>
     requires known { IsThere conn service.old }
-    ensures settled { IfOk result (λ settled. settled ≡ true → At service.old service.new conn.namespace (AnswersOr load outcome moment)) }
-    ensures refused { IfOk result (λ settled. settled ≡ false → RefusesOutcome conn outcome service.old service.new) }
+    ensures settled { IfOk result (λ settled. settled ≡ true
+        → At service.old service.new conn.namespace (AnswersOr load outcome moment)) }
+    ensures refused { IfOk result
+        (λ settled. settled ≡ false → RefusesOutcome conn outcome service.old service.new) }
     ensures known { IsThere conn service.new }
     ensures unchanged { OnErr result (service.new ≡ service.old) }
     ensures why { IfErr result (Stops ⊥ (2 ^ 63 ≤ moment)) }

@@ -40,19 +40,25 @@ pub fn run<R: Read, W: Write, C: Clock, L: Loader>(
     requires known { namespace < length service.old }
 
     // The bytes written are the replies of one connection whose pieces joined are the bytes read.
-    ensures ok { OnOk result (RunsWhole R.remaining W.contents C.reads L.loads namespace service.old service.new reader.old reader.new writer.old writer.new clock.old clock.new loader.old loader.new) }
+    ensures ok { OnOk result
+        (RunsWhole R.remaining W.contents C.reads L.loads namespace service.old service.new
+        reader.old reader.new writer.old writer.new clock.old clock.new loader.old loader.new) }
 
     // After an error they are a prefix of them, unless no connection was opened.
-    ensures err { IfErr result (RunsPartly R.remaining W.contents C.reads L.loads namespace service.old service.new reader.old reader.new writer.old writer.new clock.old clock.new loader.old loader.new) }
+    ensures err { IfErr result
+        (RunsPartly R.remaining W.contents C.reads L.loads namespace service.old service.new
+        reader.old reader.new writer.old writer.new clock.old clock.new loader.old loader.new) }
 
     // However it ends, no load is under way afterwards if none was before.
-    ensures none { At service.old service.new namespace (λ was is. pending_of was ≡ [] → pending_of is ≡ []) }
+    ensures none { At service.old service.new namespace
+        (λ was is. pending_of was ≡ [] → pending_of is ≡ []) }
     ensures read { IsErrOf result RunError.Read → Fails reader.old reader.new }
     ensures write { IsErrOf result RunError.Write → Fails writer.old writer.new }
     ensures moment { IsErrOf result RunError.Moment → HasToldLate C.reads clock.new }
 
     // Turns are used up only if the bytes read, the loads requested and the reader's failures together reach 2^64 - 1.
-    ensures used_up { IsErrOf result RunError.UsedUp → RunsOut R.remaining L.loads reader.old reader.new loader.old loader.new }
+    ensures used_up { IsErrOf result RunError.UsedUp
+        → RunsOut R.remaining L.loads reader.old reader.new loader.old loader.new }
 {
     let mut host = Lent;
     let mut session = match open(&mut host, service, alloc, namespace) {

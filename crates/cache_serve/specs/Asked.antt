@@ -38,10 +38,12 @@ abbrev pub load_id : ℕ → ℕ → LoadId
 load_id namespace number = record { namespace = namespace; number = number }
 
 abbrev pub answer_input : ℕ → ℕ → ℕ → Outcome → Input
-answer_input namespace moment number outcome = input.Answer (load_id namespace number) outcome (record { nanos = moment })
+answer_input namespace moment number outcome =
+    input.Answer (load_id namespace number) outcome (record { nanos = moment })
 
 abbrev pub give_up_input : ℕ → ℕ → ℕ → Input
-give_up_input namespace moment number = input.GiveUp (load_id namespace number) (record { nanos = moment })
+give_up_input namespace moment number =
+    input.GiveUp (load_id namespace number) (record { nanos = moment })
 
 -- the key that the loader was asked for, and what it returned
 abbrev pub settling_asking : Settling → Asking
@@ -57,7 +59,8 @@ load_number (Dropped number asking) = number
 
 -- it is of a load of this namespace that had been sent, and the loader was asked for the key of that load
 abbrev pub IsOfLoad : (ℕ → ℕ → List ℕ → Type 0) → ℕ → Settling → Type 0
-IsOfLoad WentOut namespace settling = WentOut namespace (load_number settling) (settling_asking settling).key
+IsOfLoad WentOut namespace settling =
+    WentOut namespace (load_number settling) (settling_asking settling).key
 
 -- it is given up only if the loader returned nothing, or an outcome that is refused for its bytes or its time
 abbrev pub MayBeGivenUp : (ℕ → Outcome → Type 0) → ℕ → Settling → Type 0
@@ -67,8 +70,10 @@ MayBeGivenUp Unfit namespace (Dropped number asking) = Unit {0}
 
 -- the inputs at a moment for a load of a namespace
 abbrev pub settling_inputs : ℕ → ℕ → Settling → List Input
-settling_inputs namespace moment (Answered number key outcome) = answer_input namespace moment number outcome ∷ []
-settling_inputs namespace moment (GivenUp number asking) = give_up_input namespace moment number ∷ []
+settling_inputs namespace moment (Answered number key outcome) =
+    answer_input namespace moment number outcome ∷ []
+settling_inputs namespace moment (GivenUp number asking) =
+    give_up_input namespace moment number ∷ []
 settling_inputs namespace moment (Dropped number asking) = []
 
 -- the bytes that were read for it
@@ -113,7 +118,8 @@ module _ (namespace : ℕ) (before after : List (Vec Receipt Global)) where
   -- the receipts of a namespace grew by these, and those of the others stayed
   pub record Grows (added : List Receipt) : Type 0 where
     pub own : receipts_at after namespace ≡ receipts_at before namespace ++ added
-    pub others : (other : ℕ) → other ≢ namespace → receipts_at after other ≡ receipts_at before other
+    pub others : (other : ℕ) → other ≢ namespace → receipts_at after other
+        ≡ receipts_at before other
 
   -- they grew by receipts of these inputs
   pub record Asks (inputs : List Input) : Type 0 where
@@ -133,7 +139,8 @@ module _ (namespace : ℕ) (before after : List (Vec Receipt Global)) where
     pub grows : Grows (first ∷ [])
 
   -- By the inputs at this moment for the load with this number, after this request to the loader; the load is given up only if it may be.
-  pub record Settles (keeps : Bool) (Unfit : ℕ → Outcome → Type 0) (moment number : ℕ) (asking : Asking) : Type 0 where
+  pub record Settles (keeps : Bool) (Unfit : ℕ → Outcome → Type 0) (moment number : ℕ)
+      (asking : Asking) : Type 0 where
     pub settling : Settling
     pub of : settling_asking settling ≡ asking
     pub numbered : load_number settling ≡ number
@@ -153,7 +160,9 @@ module _ {K D : Type 0} (WentOut : ℕ → ℕ → List ℕ → Type 0) (Unfit :
     pub deeds : List ServedInput
     pub short : All IsShort deeds
     pub closes : Bool
-    pub asked : map (λ receipt. receipt.input) rest ≡ (flat_map (inputs_of conn) deeds ++ closing_inputs conn closes) ++ flat_map (settling_inputs namespace 0) drops
+    pub asked : map (λ receipt. receipt.input) rest
+        ≡ (flat_map (inputs_of conn) deeds ++ closing_inputs conn closes)
+        ++ flat_map (settling_inputs namespace 0) drops
     pub lost : List ℕ
     pub late : List ℕ
     pub read : Consumes remaining later (flat_map piece_bytes deeds ++ lost)
@@ -172,4 +181,5 @@ module _ {K D : Type 0} (WentOut : ℕ → ℕ → List ℕ → Type 0) (Unfit :
 
   -- it was served, or nothing was done
   abbrev pub ServesConnectionOrNot : ℕ → Conn → Type 0
-  ServesConnectionOrNot namespace conn = ((drops : List Settling) × ServesConnection namespace conn drops) ⊎ Idles
+  ServesConnectionOrNot namespace conn =
+      ((drops : List Settling) × ServesConnection namespace conn drops) ⊎ Idles

@@ -20,7 +20,8 @@ pub record Tally : Type 0 where
 -- what was fed, or settled
 abbrev pub served_of : Doing → List ServedInput
 served_of (Fed piece moment held) = asked.Fed (record { bytes = piece; moment = moment }) ∷ []
-served_of (Answered load key outcome moment) = asked.Settled (asked.Answered load key outcome) moment ∷ []
+served_of (Answered load key outcome moment) =
+    asked.Settled (asked.Answered load key outcome) moment ∷ []
 served_of (GivenUp load asking moment) = asked.Settled (asked.GivenUp load asking) moment ∷ []
 served_of (Dropped load asking moment) = asked.Settled (asked.Dropped load asking) moment ∷ []
 served_of Looked = []
@@ -28,7 +29,8 @@ served_of Looked = []
 module _ (keeps : Bool) (WentOut : ℕ → ℕ → List ℕ → Type 0) (Unfit : ℕ → Outcome → Type 0) (IsTaken : Conn → List ℕ → Type 0) where
   -- each of these loads of a namespace had been sent, with this key
   abbrev pub WentAllOut : ℕ → Outs → Type 0
-  WentAllOut namespace outs = All (λ (out : LoadId × List ℕ). WentOut namespace out.0.number out.1) outs
+  WentAllOut namespace outs =
+      All (λ (out : LoadId × List ℕ). WentOut namespace out.0.number out.1) outs
 
   -- a connection was opened, and the seat counts this
   pub record SeatOpens (namespace : ℕ) (conn : Conn) (h k : Tally) : Type 0 where
@@ -39,22 +41,26 @@ module _ (keeps : Bool) (WentOut : ℕ → ℕ → List ℕ → Type 0) (Unfit :
   -- This was asked of the service, and the seat counts it. A piece has at most 16 lines; a load is given up only if it may be. The text was
   -- the connection's replies, and the loads had been sent.
   pub record SeatComes (conn : Conn) (h : Tally) (exchange : Exchange) (k : Tally) : Type 0 where
-    pub asks : keeps ≡ true → Asks conn.namespace h.receipts k.receipts (flat_map (inputs_of conn) (served_of exchange.doing))
+    pub asks : keeps ≡ true → Asks conn.namespace h.receipts k.receipts
+        (flat_map (inputs_of conn) (served_of exchange.doing))
     pub counts : k.count ≡ h.count + length (flat_map (inputs_of conn) (served_of exchange.doing))
     pub short : All IsShort (served_of exchange.doing)
-    pub fit : All (MayBeGivenUp Unfit conn.namespace) (flat_map settlings_of (served_of exchange.doing))
+    pub fit : All (MayBeGivenUp Unfit conn.namespace)
+        (flat_map settlings_of (served_of exchange.doing))
     pub text : IfSome exchange.text (IsTaken conn)
     pub out : IfSome exchange.loads (WentAllOut conn.namespace)
 
   -- At this moment the load with this number was answered with what the loader returned, or given up if it may be; or nothing was asked of
   -- the service.
-  pub record SeatSettles (namespace moment number : ℕ) (asking : Asking) (h k : Tally) : Type 0 where
-    pub settling : Settling
-    pub of : settling_asking settling ≡ asking
-    pub numbered : load_number settling ≡ number
-    pub asks : keeps ≡ true → Asks namespace h.receipts k.receipts (settling_inputs namespace moment settling)
-    pub counts : k.count ≡ h.count + length (settling_inputs namespace moment settling)
-    pub fit : MayBeGivenUp Unfit namespace settling
+  pub record SeatSettles (namespace moment number : ℕ) (asking : Asking) (h k : Tally) : Type 0
+    where
+      pub settling : Settling
+      pub of : settling_asking settling ≡ asking
+      pub numbered : load_number settling ≡ number
+      pub asks : keeps ≡ true
+          → Asks namespace h.receipts k.receipts (settling_inputs namespace moment settling)
+      pub counts : k.count ≡ h.count + length (settling_inputs namespace moment settling)
+      pub fit : MayBeGivenUp Unfit namespace settling
 
   -- a closing was requested, or was refused
   pub record SeatCloses (conn : Conn) (h k : Tally) : Type 0 where
@@ -64,9 +70,11 @@ module _ (keeps : Bool) (WentOut : ℕ → ℕ → List ℕ → Type 0) (Unfit :
 
   -- The loader was asked for the loads in hand, and for those that had been sent, by their keys; they were settled at moment 0, and at most
   -- one input was counted for each.
-  pub record SeatDrops (conn : Conn) (hand : Outs) (h : Tally) (askings : List Asking) (k : Tally) : Type 0 where
+  pub record SeatDrops (conn : Conn) (hand : Outs) (h : Tally) (askings : List Asking) (k : Tally) :
+      Type 0 where
     pub drops : List Settling
-    pub asks : keeps ≡ true → Asks conn.namespace h.receipts k.receipts (flat_map (settling_inputs conn.namespace 0) drops)
+    pub asks : keeps ≡ true → Asks conn.namespace h.receipts k.receipts
+        (flat_map (settling_inputs conn.namespace 0) drops)
     pub loaded : askings ≡ map settling_asking drops
     pub out : WentAllOut conn.namespace hand → All (IsOfLoad WentOut conn.namespace) drops
     pub few : k.count ≤ h.count + length drops

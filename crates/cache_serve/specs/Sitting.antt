@@ -42,7 +42,8 @@ pub record SeatTakes (keeps : Bool) (i : Input) (h k : Tally) : Type 0 where
   pub asks : keeps ≡ true → Asks (namespace_of i) h.receipts k.receipts (i ∷ [])
 
 -- it was taken if something is given, and otherwise nothing was
-abbrev pub TakesIfGiven : {X E : Type 0} → Bool → Input → Result (Option X) E → Tally → Tally → Type 0
+abbrev pub TakesIfGiven : {X E : Type 0} → Bool → Input → Result (Option X) E → Tally → Tally
+    → Type 0
 TakesIfGiven keeps i (Ok (Some x)) h k = SeatTakes keeps i h k
 TakesIfGiven keeps i (Ok None) h k = SeatRests h k
 TakesIfGiven keeps i (Err e) h k = SeatRests h k
@@ -55,22 +56,30 @@ module _ {C : Type 0} (spaces : C → List Shown) (events : C → ℕ) (untaken 
   -- The texts were replies of the connection, and the loads had been sent; they are given only if they were requested.
   pub record Gives (conn : Conn) (wants_loads : Bool) (given : Given) : Type 0 where
     pub text : IfSome (option_map (λ text. text.items) given.replies) (IsReply conn)
-    pub out : IfSome (option_map (λ loads. loads.items) given.loads) (AreOut spaces events conn.namespace)
+    pub out : IfSome (option_map (λ loads. loads.items) given.loads)
+        (AreOut spaces events conn.namespace)
     pub suits : Suits false wants_loads given
 
   module _ {L : Type 0} {G : Ledgers L} (keeps : Bool) where
     -- in terms of a seat
     abbrev pub Opens : ℕ → Conn → Seat L G → Seat L G → Type 0
-    Opens namespace conn p q = SeatOpens keeps (HadGoneOut spaces events) IsUnfit IsReply namespace conn (tally p) (tally q)
+    Opens namespace conn p q =
+        SeatOpens keeps (HadGoneOut spaces events) IsUnfit IsReply namespace conn (tally p)
+        (tally q)
 
     abbrev pub Comes : Conn → Seat L G → Exchange → Seat L G → Type 0
-    Comes conn p exchange q = SeatComes keeps (HadGoneOut spaces events) IsUnfit IsReply conn (tally p) exchange (tally q)
+    Comes conn p exchange q =
+        SeatComes keeps (HadGoneOut spaces events) IsUnfit IsReply conn (tally p) exchange
+        (tally q)
 
     abbrev pub Closes : Conn → Seat L G → Seat L G → Type 0
-    Closes conn p q = SeatCloses keeps (HadGoneOut spaces events) IsUnfit IsReply conn (tally p) (tally q)
+    Closes conn p q =
+        SeatCloses keeps (HadGoneOut spaces events) IsUnfit IsReply conn (tally p) (tally q)
 
     abbrev pub Drops : Conn → Outs → Seat L G → List Asking → Seat L G → Type 0
-    Drops conn hand p askings q = SeatDrops keeps (HadGoneOut spaces events) IsUnfit IsReply conn hand (tally p) askings (tally q)
+    Drops conn hand p askings q =
+        SeatDrops keeps (HadGoneOut spaces events) IsUnfit IsReply conn hand (tally p) askings
+        (tally q)
 
     -- whatever the key, a load was settled by what the loader returned
     abbrev pub Settles : ℕ → ℕ → Option Outcome → ℕ → Seat L G → Seat L G → Type 0
@@ -83,34 +92,47 @@ module _ {C : Type 0} (spaces : C → List Shown) (events : C → ℕ) (untaken 
         (key : List ℕ) → SeatSettles keeps (HadGoneOut spaces events) (λ n outcome. Unit {0}) IsReply namespace 0 load (record { key = key; answer = said }) (tally p) (tally q)
 
     -- a loader was asked for the load by this key, and it was settled like this
-    abbrev pub DropsOne : {D : Type 0} → (D → List ℕ → Option Outcome → D → Type 0) → ℕ → ℕ → List ℕ → Seat L G → Seat L G → D → D → Type 0
-    DropsOne loads namespace load key p q d e = (said : Option Outcome) × SettlesLate namespace load said p q × loads d key said e
+    abbrev pub DropsOne : {D : Type 0} → (D → List ℕ → Option Outcome → D → Type 0) → ℕ → ℕ → List ℕ
+        → Seat L G → Seat L G → D → D → Type 0
+    DropsOne loads namespace load key p q d e =
+        (said : Option Outcome) × SettlesLate namespace load said p q × loads d key said e
 
     -- it was asked for several
-    abbrev pub DropsBy : {D : Type 0} → (D → List ℕ → Option Outcome → D → Type 0) → Conn → Outs → Seat L G → Seat L G → D → D → Type 0
-    DropsBy loads conn hand p q d e = (askings : List Asking) × Drops conn hand p askings q × Askings loads d askings e
+    abbrev pub DropsBy : {D : Type 0} → (D → List ℕ → Option Outcome → D → Type 0) → Conn → Outs
+        → Seat L G → Seat L G → D → D → Type 0
+    DropsBy loads conn hand p q d e =
+        (askings : List Asking) × Drops conn hand p askings q × Askings loads d askings e
 
 -- ---- what the trait `Host` requires
 
 -- after an exchange without input
-pub asks-behind : {n : ℕ} {a b c : List (Vec Receipt Global)} {inputs : List Input} → SameReceipts a b → Asks n b c inputs → Asks n a c inputs
+pub asks-behind : {n : ℕ} {a b c : List (Vec Receipt Global)} {inputs : List Input}
+    → SameReceipts a b → Asks n b c inputs → Asks n a c inputs
 asks-behind {n} same asks = record {
   added = asks.added;
-  grows = record { own = asks.grows.own ∙ ap (λ l. l ++ asks.added) (same n); others = λ other ne. asks.grows.others other ne ∙ same other };
+  grows = record {
+    own = asks.grows.own ∙ ap (λ l. l ++ asks.added) (same n);
+    others = λ other ne. asks.grows.others other ne ∙ same other;
+  };
   asked = asks.asked;
 }
 
-or-behind : (n : ℕ) (a b c : List (Vec Receipt Global)) (i : Input) → SameReceipts a b → AsksOrNot n b c i → AsksOrNot n a c i
+or-behind : (n : ℕ) (a b c : List (Vec Receipt Global)) (i : Input) → SameReceipts a b
+    → AsksOrNot n b c i → AsksOrNot n a c i
 or-behind n a b c i same (inl none) = inl (asks-behind same none)
 or-behind n a b c i same (inr one) = inr (asks-behind same one)
 
 -- a closing after an exchange without input
-pub closes-behind : {keeps : Bool} {WentOut : ℕ → ℕ → List ℕ → Type 0} {Unfit : ℕ → Outcome → Type 0} {IsTaken : Conn → List ℕ → Type 0} (conn : Conn) (h m k : Tally) → SeatRests h m → SeatCloses keeps WentOut Unfit IsTaken conn m k → SeatCloses keeps WentOut Unfit IsTaken conn h k
+pub closes-behind : {keeps : Bool} {WentOut : ℕ → ℕ → List ℕ → Type 0}
+    {Unfit : ℕ → Outcome → Type 0} {IsTaken : Conn → List ℕ → Type 0} (conn : Conn) (h m k : Tally)
+    → SeatRests h m → SeatCloses keeps WentOut Unfit IsTaken conn m k
+    → SeatCloses keeps WentOut Unfit IsTaken conn h k
 closes-behind conn h m k rests closes =
     let same = rests.count in
     let one = closes.one in
     let rises = closes.rises in record {
-      asks = λ kept. or-behind conn.namespace h.receipts m.receipts k.receipts (input.Close conn) rests.same (closes.asks kept);
+      asks = λ kept. or-behind conn.namespace h.receipts m.receipts k.receipts (input.Close conn)
+          rests.same (closes.asks kept);
       one = omega (arith, same, one);
       rises = omega (arith, same, rises);
     }

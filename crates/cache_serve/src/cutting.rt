@@ -47,7 +47,8 @@ pub fn length_of_cut(bytes: &[u8], lines: usize) -> usize
     ensures some { 0 < length bytes.now → 0 < result }
     ensures few { count_by (λ byte. byte == 10) (take result bytes.now) ≤ lines }
     ensures whole { result < length bytes.now → slice_index bytes.now (result - 1) ≡ 10 }
-    ensures most { result < length bytes.now → count_by (λ byte. byte == 10) (take result bytes.now) ≡ lines }
+    ensures most { result < length bytes.now → count_by (λ byte. byte == 10) (take result bytes.now)
+        ≡ lines }
 {
     let mut left = lines;
     for place in 0..bytes.len() {

@@ -65,11 +65,15 @@ pub fn serve<L: Seating, C: Takings, I: Read, O: Write, K: Clock, D: Loader, R: 
     clock: &mut K,
     loader: &mut D,
 ) -> Result<(), RunError>
-    ensures wrote { WritesAll C.KEEPS C.spaces C.events C.untaken O.contents D.loads namespace result seat.old seat.new writer.old writer.new loader.old loader.new }
-    ensures asked { AsksAll C.KEEPS C.spaces C.events I.remaining K.reads D.loads namespace result seat.old seat.new reader.old reader.new clock.old clock.new loader.old loader.new }
+    ensures wrote { WritesAll C.KEEPS C.spaces C.events C.untaken O.contents D.loads namespace
+        result seat.old seat.new writer.old writer.new loader.old loader.new }
+    ensures asked { AsksAll C.KEEPS C.spaces C.events I.remaining K.reads D.loads namespace result
+        seat.old seat.new reader.old reader.new clock.old clock.new loader.old loader.new }
     ensures count { seat.old.count ≤ seat.new.count }
-    ensures read { IsErrOf result RunError.Read → HasFailed (failures reader.old) (failures reader.new) }
-    ensures write { IsErrOf result RunError.Write → HasFailed (failures writer.old) (failures writer.new) }
+    ensures read { IsErrOf result RunError.Read
+        → HasFailed (failures reader.old) (failures reader.new) }
+    ensures write { IsErrOf result RunError.Write
+        → HasFailed (failures writer.old) (failures writer.new) }
     ensures moment { IsErrOf result RunError.Moment → HasToldLate K.reads clock.new }
     ensures loader { HasAskedSome D.loads loader.old loader.new }
 {
@@ -110,11 +114,15 @@ pub fn serve_and_tell<
     loader: &mut D,
     teller: &mut T,
 ) -> Result<(), RunError>
-    ensures wrote { WritesAll C.KEEPS C.spaces C.events C.untaken O.contents D.loads namespace result seat.old seat.new writer.old writer.new loader.old loader.new }
-    ensures asked { AsksAll C.KEEPS C.spaces C.events I.remaining K.reads D.loads namespace result seat.old seat.new reader.old reader.new clock.old clock.new loader.old loader.new }
+    ensures wrote { WritesAll C.KEEPS C.spaces C.events C.untaken O.contents D.loads namespace
+        result seat.old seat.new writer.old writer.new loader.old loader.new }
+    ensures asked { AsksAll C.KEEPS C.spaces C.events I.remaining K.reads D.loads namespace result
+        seat.old seat.new reader.old reader.new clock.old clock.new loader.old loader.new }
     ensures count { seat.old.count ≤ seat.new.count }
-    ensures read { IsErrOf result RunError.Read → HasFailed (failures reader.old) (failures reader.new) }
-    ensures write { IsErrOf result RunError.Write → HasFailed (failures writer.old) (failures writer.new) }
+    ensures read { IsErrOf result RunError.Read
+        → HasFailed (failures reader.old) (failures reader.new) }
+    ensures write { IsErrOf result RunError.Write
+        → HasFailed (failures writer.old) (failures writer.new) }
     ensures moment { IsErrOf result RunError.Moment → HasToldLate K.reads clock.new }
     ensures loader { HasAskedSome D.loads loader.old loader.new }
 {

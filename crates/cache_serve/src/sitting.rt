@@ -32,7 +32,8 @@ pub struct Sitting<'a, L: Seating, C: Takings, T: Teller, R: Wait> {
 
 /// The bytes of replies.
 fn text_of<C: Takings>(replies: Option<Replies<C>>) -> Option<Vec<u8>>
-    ensures { (conn : Conn) → ForSome replies (λ one. one.conn ≡ conn) → IfSome (option_map (λ text. text.items) result) (IsReply C.spaces C.events C.untaken conn) }
+    ensures { (conn : Conn) → ForSome replies (λ one. one.conn ≡ conn) → IfSome
+        (option_map (λ text. text.items) result) (IsReply C.spaces C.events C.untaken conn) }
 {
     match replies {
         Some(replies) => Some(replies.into_text()),
@@ -42,7 +43,8 @@ fn text_of<C: Takings>(replies: Option<Replies<C>>) -> Option<Vec<u8>>
 
 /// Loads that were taken, if they are requested.
 fn loads_of<C: Takings>(loads: Option<TakenLoads<C>>, wanted: bool) -> Option<Vec<(LoadId, Bytes)>>
-    ensures out { (n : ℕ) → ForSome loads (λ one. one.namespace ≡ n) → IfSome (option_map (λ given. given.items) result) (AreOut C.spaces C.events n) }
+    ensures out { (n : ℕ) → ForSome loads (λ one. one.namespace ≡ n)
+        → IfSome (option_map (λ given. given.items) result) (AreOut C.spaces C.events n) }
     ensures unwanted { wanted ≡ false → result ≡ None }
 {
     match loads {
@@ -165,8 +167,10 @@ impl<L: Seating, C: Takings, T: Teller, R: Wait> Sitting<'_, L, C, T, R> {
         moment: u64,
         wants_loads: bool,
     ) -> Result<Option<Given>, RunError>
-        ensures taken { TakesIfGiven C.KEEPS (give_up_input conn.namespace moment load) result (tally seat.old) (tally seat.new) }
-        ensures given { IfOk result (λ given. IfSome given (Gives C.spaces C.events C.untaken conn wants_loads)) }
+        ensures taken { TakesIfGiven C.KEEPS (give_up_input conn.namespace moment load) result
+            (tally seat.old) (tally seat.new) }
+        ensures given { IfOk result
+            (λ given. IfSome given (Gives C.spaces C.events C.untaken conn wants_loads)) }
         ensures why { IfErr result (Stops (Unit {0}) (2 ^ 63 ≤ moment)) }
     {
         for _try in self.rt.forever() {
@@ -200,9 +204,11 @@ impl<L: Seating, C: Takings, T: Teller, R: Wait> Sitting<'_, L, C, T, R> {
         moment: u64,
         wants_loads: bool,
     ) -> Result<Option<Given>, RunError>
-        ensures settled { Settles C.spaces C.events C.untaken C.KEEPS conn.namespace load said moment seat.old seat.new }
+        ensures settled { Settles C.spaces C.events C.untaken C.KEEPS conn.namespace load said
+            moment seat.old seat.new }
         ensures rests { OnErr result (SeatRests (tally seat.old) (tally seat.new)) }
-        ensures given { IfOk result (λ given. IfSome given (Gives C.spaces C.events C.untaken conn wants_loads)) }
+        ensures given { IfOk result
+            (λ given. IfSome given (Gives C.spaces C.events C.untaken conn wants_loads)) }
         ensures why { IfErr result (Stops (Unit {0}) (2 ^ 63 ≤ moment)) }
     {
         let outcome = match said {
@@ -236,7 +242,8 @@ impl<L: Seating, C: Takings, T: Teller, R: Wait> Sitting<'_, L, C, T, R> {
     /// Settles a load of a connection that has closed, at moment 0, which counts as the latest. An answer that is refused is followed by a
     /// give-up.
     fn settle_late(&mut self, seat: &mut Seat<L>, conn: Conn, load: u64, said: Option<Outcome>)
-        ensures { SettlesLate C.spaces C.events C.untaken C.KEEPS conn.namespace load said seat.old seat.new }
+        ensures { SettlesLate C.spaces C.events C.untaken C.KEEPS conn.namespace load said seat.old
+            seat.new }
     {
         match self.settle_load(seat, conn, load, said, 0, false) {
             Ok(_) => return,
@@ -254,7 +261,8 @@ impl<L: Seating, C: Takings, T: Teller, R: Wait> Sitting<'_, L, C, T, R> {
         key: &[u8],
         loader: &mut D,
     )
-        ensures { DropsOne C.spaces C.events C.untaken C.KEEPS D.loads conn.namespace load key.now seat.old seat.new loader.old loader.new }
+        ensures { DropsOne C.spaces C.events C.untaken C.KEEPS D.loads conn.namespace load key.now
+            seat.old seat.new loader.old loader.new }
     {
         let said = loader.load(key);
         self.settle_late(seat, conn, load, said);
@@ -268,7 +276,8 @@ impl<L: Seating, C: Takings, T: Teller, R: Wait> Sitting<'_, L, C, T, R> {
         loads: &[(LoadId, Bytes)],
         loader: &mut D,
     )
-        ensures { DropsBy C.spaces C.events C.untaken C.KEEPS D.loads conn loads.now seat.old seat.new loader.old loader.new }
+        ensures { DropsBy C.spaces C.events C.untaken C.KEEPS D.loads conn loads.now seat.old
+            seat.new loader.old loader.new }
     {
         for place in 0..loads.len() {
             let (load, key) = &loads[loads.len() - 1 - place];
@@ -278,7 +287,8 @@ impl<L: Seating, C: Takings, T: Teller, R: Wait> Sitting<'_, L, C, T, R> {
 
     /// Takes the loads of a connection's namespace that have gone out.
     fn take_loads(&mut self, conn: Conn) -> Option<Vec<(LoadId, Bytes)>>
-        ensures { IfSome (option_map (λ loads. loads.items) result) (AreOut C.spaces C.events conn.namespace) }
+        ensures { IfSome (option_map (λ loads. loads.items) result)
+            (AreOut C.spaces C.events conn.namespace) }
     {
         let Given { loads, .. } = self.take_owed(conn, true);
         loads
@@ -286,7 +296,8 @@ impl<L: Seating, C: Takings, T: Teller, R: Wait> Sitting<'_, L, C, T, R> {
 
     /// Opens a connection of a namespace.
     fn open_connection(&mut self, seat: &mut Seat<L>, namespace: u64) -> Result<Conn, RunError>
-        ensures opens { IfOk result (λ conn. Opens C.spaces C.events C.untaken C.KEEPS namespace conn seat.old seat.new) }
+        ensures opens { IfOk result
+            (λ conn. Opens C.spaces C.events C.untaken C.KEEPS namespace conn seat.old seat.new) }
         ensures rests { OnErr result (SeatRests (tally seat.old) (tally seat.new)) }
         ensures why { IfErr result (Stops (Unit {0}) ⊥) }
     {
@@ -306,8 +317,11 @@ impl<L: Seating, C: Takings, T: Teller, R: Wait> Sitting<'_, L, C, T, R> {
         moment: u64,
         wants_loads: bool,
     ) -> Result<Option<Given>, RunError>
-        ensures taken { TakesIfGiven C.KEEPS (feed_input conn (record { bytes = piece.now; moment = moment })) result (tally seat.old) (tally seat.new) }
-        ensures given { IfOk result (λ given. IfSome given (Gives C.spaces C.events C.untaken conn wants_loads)) }
+        ensures taken { TakesIfGiven C.KEEPS
+            (feed_input conn (record { bytes = piece.now; moment = moment })) result
+            (tally seat.old) (tally seat.new) }
+        ensures given { IfOk result
+            (λ given. IfSome given (Gives C.spaces C.events C.untaken conn wants_loads)) }
         ensures why { IfErr result (Stops (Unit {0}) (2 ^ 63 ≤ moment)) }
     {
         let Ok(copy) = Vec::from_slice(self.alloc, piece) else {
@@ -335,7 +349,8 @@ impl<L: Seating, C: Takings, T: Teller, R: Wait> Sitting<'_, L, C, T, R> {
         moment: u64,
         wants_loads: bool,
     ) -> Result<Given, RunError>
-        ensures settled { Settles C.spaces C.events C.untaken C.KEEPS conn.namespace load said moment seat.old seat.new }
+        ensures settled { Settles C.spaces C.events C.untaken C.KEEPS conn.namespace load said
+            moment seat.old seat.new }
         ensures rests { OnErr result (SeatRests (tally seat.old) (tally seat.new)) }
         ensures given { IfOk result (Gives C.spaces C.events C.untaken conn wants_loads) }
         ensures why { IfErr result (Stops (Unit {0}) (2 ^ 63 ≤ moment)) }
@@ -372,7 +387,8 @@ impl<L: Seating, C: Takings, T: Teller, R: Wait> Sitting<'_, L, C, T, R> {
         hand: &[(LoadId, Bytes)],
         loader: &mut D,
     )
-        ensures { DropsBy C.spaces C.events C.untaken C.KEEPS D.loads conn hand.now seat.old seat.new loader.old loader.new }
+        ensures { DropsBy C.spaces C.events C.untaken C.KEEPS D.loads conn hand.now seat.old
+            seat.new loader.old loader.new }
     {
         self.drop_each(seat, conn, hand, loader);
         for _turn in 0..u64::MAX {
@@ -468,5 +484,6 @@ impl<L: Seating, C: Takings, T: Teller, R: Wait> Host for Sitting<'_, L, C, T, R
 
     ghost exhausts_within = { λ i j k l below above used. used };
 
-    ghost closes_behind = { λ conn p q r rests closes. closes-behind conn (tally p) (tally q) (tally r) rests closes };
+    ghost closes_behind = { λ conn p q r rests closes.
+        closes-behind conn (tally p) (tally q) (tally r) rests closes };
 }

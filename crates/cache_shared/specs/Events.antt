@@ -25,7 +25,11 @@ record_count journals = sum_by (λ journal. length journal.records) journals
 
 -- transcripts that begin at this moment, without records
 abbrev pub AreEmpty : Instant → List Transcript → Type 0
-AreEmpty made transcripts = (namespace : ℕ) (transcript : Transcript) → slice_get transcripts namespace ≡ Some transcript → transcript ≡ record { made = made; records = [] }
+AreEmpty made transcripts =
+    (namespace : ℕ) (transcript : Transcript) → slice_get transcripts namespace ≡ Some transcript → transcript ≡ record {
+      made = made;
+      records = [];
+    }
 
 -- the journal obeys, none of its events is refused, and it leads to a situation for which the namespace stands
 pub record IsJournal (space : Shown) (journal : Transcript) : Type 0 where
@@ -37,7 +41,8 @@ pub record IsJournal (space : Shown) (journal : Transcript) : Type 0 where
 pub record AreJournals (spaces : List Shown) (journals : List Transcript) : Type 0 where
   pub count : length journals ≡ length spaces
   pub each : (namespace : ℕ) (space : Shown) (journal : Transcript)
-      → slice_get spaces namespace ≡ Some space → slice_get journals namespace ≡ Some journal → IsJournal space journal
+      → slice_get spaces namespace ≡ Some space → slice_get journals namespace ≡ Some journal
+      → IsJournal space journal
 
 -- some journals with this many records lead here
 pub record IsReached (spaces : List Shown) (events : ℕ) : Type 0 where
@@ -55,15 +60,21 @@ TakesNothing spaces events old new = (events new ≡ events old) × (spaces new 
 
 -- the number of the last record of the namespace's journal, if it has one
 abbrev pub IsLastNumber : List Transcript → ℕ → ℕ → Type 0
-IsLastNumber journals namespace number = (journal : Transcript) → slice_get journals namespace ≡ Some journal → number ≡ length journal.records
+IsLastNumber journals namespace number =
+    (journal : Transcript) → slice_get journals namespace ≡ Some journal
+    → number ≡ length journal.records
 
 -- the count of inputs is used up, or the service refuses the input
 abbrev pub RefusesEvent : {T : Type 0} → Input → ServiceError → ℕ → List (Space T) → Type 0
-RefusesEvent i e events spaces = ((e ≡ error.UsedUp) × (events ≡ 2 ^ 64 - 1)) ⊎ Refuses spaces (namespace_of i) e (RefusedInput i e)
+RefusesEvent i e events spaces =
+    ((e ≡ error.UsedUp) × (events ≡ 2 ^ 64 - 1))
+    ⊎ Refuses spaces (namespace_of i) e (RefusedInput i e)
 
 -- a count is used up, or there is no memory for a receipt, or the service refuses the input
 abbrev pub RefusesStep : Input → ServiceError → ℕ → ℕ → List Shown → Type 0
-RefusesStep i e count events spaces = ((e ≡ error.UsedUp) × (count ≡ 2 ^ 64 - 1)) ⊎ ((e ≡ error.OutOfMemory) ⊎ RefusesEvent i e events spaces)
+RefusesStep i e count events spaces =
+    ((e ≡ error.UsedUp) × (count ≡ 2 ^ 64 - 1))
+    ⊎ ((e ≡ error.OutOfMemory) ⊎ RefusesEvent i e events spaces)
 
 -- its moment is 2 ^ 63 nanoseconds or more
 abbrev pub IsLate : Input → Type 0

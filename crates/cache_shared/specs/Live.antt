@@ -26,7 +26,8 @@ pub record Lived (spaces : List BareSpace) (events : ℕ) : Type 0 where
   pub journals : List Transcript
   pub count : length journals ≡ length spaces
   pub each : (namespace : ℕ) (space : BareSpace) (journal : Transcript)
-      → slice_get spaces namespace ≡ Some space → slice_get journals namespace ≡ Some journal → HasLived space journal
+      → slice_get spaces namespace ≡ Some space → slice_get journals namespace ≡ Some journal
+      → HasLived space journal
   pub records : record_count journals ≡ events
 
 -- what can be seen of the namespace with a number; nothing if there is none

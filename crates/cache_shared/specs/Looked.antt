@@ -6,14 +6,16 @@ use Rattle.cache_shared.specs.Events.{IsReached}
 use Rattle.cache_spaces.specs.Spaces.{Shown}
 
 -- At some moment, in a service to which some journals that obey lead, this was true of its namespaces.
-pub record HeldAtSomeMoment {C : Type 0} (spaces : C → List Shown) (events : C → ℕ) (Fact : List Shown → Type 0) : Type 0 where
+pub record HeldAtSomeMoment {C : Type 0} (spaces : C → List Shown) (events : C → ℕ)
+    (Fact : List Shown → Type 0) : Type 0 where
   pub core : C
   pub reached : ∥ IsReached (spaces core) (events core) ∥₁
   pub fact : Fact (spaces core)
 
 -- At some moment, in a service to which some journals that obey lead, this was the oldest note of the namespace that was reported and not
 -- taken; none if there was none.
-pub record WasOldestNote {C : Type 0} (spaces : C → List Shown) (events : C → ℕ) (untold : C → ℕ → List Note) (namespace : ℕ) (note : Option Note) : Type 0 where
+pub record WasOldestNote {C : Type 0} (spaces : C → List Shown) (events : C → ℕ)
+    (untold : C → ℕ → List Note) (namespace : ℕ) (note : Option Note) : Type 0 where
   pub core : C
   pub reached : ∥ IsReached (spaces core) (events core) ∥₁
   pub rest : List Note
@@ -28,7 +30,8 @@ pub record Moves (behind behind' notes notes' : List Note) : Type 0 where
 
 -- At some moment, in a service to which some journals that obey lead, the oldest notes of the namespace that were reported and not taken
 -- were appended to others, in order.
-pub record WereMoved {C : Type 0} (spaces : C → List Shown) (events : C → ℕ) (untold : C → ℕ → List Note) (namespace : ℕ) (behind behind' : List Note) : Type 0 where
+pub record WereMoved {C : Type 0} (spaces : C → List Shown) (events : C → ℕ)
+    (untold : C → ℕ → List Note) (namespace : ℕ) (behind behind' : List Note) : Type 0 where
   pub core : C
   pub reached : ∥ IsReached (spaces core) (events core) ∥₁
   pub left : List Note

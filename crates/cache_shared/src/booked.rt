@@ -100,12 +100,19 @@ impl<L: Seating, C: Stepping> BookedService<L, C> {
         seat: &mut Seat<L>,
         input: Input,
     ) -> Result<Output, Refusal>
-        ensures taken { IfOk result (λ output. Performs input output (C.spaces self.old.core) (C.spaces self.new.core)) }
+        ensures taken { IfOk result
+            (λ output. Performs input output (C.spaces self.old.core) (C.spaces self.new.core)) }
         ensures events { OnOk result (C.events self.new.core ≡ C.events self.old.core + 1) }
-        ensures counted { IfOk result (λ output. Counts C.KEEPS input output seat.old.count seat.new.count seat.old.receipts.items seat.new.receipts.items) }
-        ensures receipt { C.KEEPS ≡ true → IfOk result (λ output. GainsReceipt (C.journals self.new.core) seat.old.receipts.items seat.new.receipts.items input output) }
-        ensures refused { IfErr result (λ refusal. RefusesStep input refusal.error seat.old.count (C.events self.old.core) (C.spaces self.old.core)) }
-        ensures unchanged { OnErr result (TakesNothing C.spaces C.events self.old.core self.new.core × (seat.new.count ≡ seat.old.count) × SameReceipts seat.old.receipts.items seat.new.receipts.items) }
+        ensures counted { IfOk result (λ output. Counts C.KEEPS input output seat.old.count
+            seat.new.count seat.old.receipts.items seat.new.receipts.items) }
+        ensures receipt { C.KEEPS ≡ true
+            → IfOk result (λ output. GainsReceipt (C.journals self.new.core) seat.old.receipts.items
+            seat.new.receipts.items input output) }
+        ensures refused { IfErr result (λ refusal. RefusesStep input refusal.error seat.old.count
+            (C.events self.old.core) (C.spaces self.old.core)) }
+        ensures unchanged { OnErr result (TakesNothing C.spaces C.events self.old.core self.new.core
+            × (seat.new.count ≡ seat.old.count)
+            × SameReceipts seat.old.receipts.items seat.new.receipts.items) }
         ensures back { IfErr result (λ refusal. refusal.input ≡ input) }
     {
         self.core.stands();
@@ -118,11 +125,15 @@ impl<L: Seating, C: Stepping> BookedService<L, C> {
 
     /// Takes an input for a seat, without a receipt.
     fn step_bare(&mut self, seat: &mut Seat<L>, input: Input) -> Result<Output, Refusal>
-        ensures taken { IfOk result (λ output. Performs input output (C.spaces self.old.core) (C.spaces self.new.core)) }
-        ensures count { OnOk result ((C.events self.new.core ≡ C.events self.old.core + 1) × (seat.new.count ≡ seat.old.count + 1)) }
+        ensures taken { IfOk result
+            (λ output. Performs input output (C.spaces self.old.core) (C.spaces self.new.core)) }
+        ensures count { OnOk result ((C.events self.new.core ≡ C.events self.old.core + 1)
+            × (seat.new.count ≡ seat.old.count + 1)) }
         ensures bare { seat.new.receipts ≡ seat.old.receipts }
-        ensures refused { IfErr result (λ refusal. RefusesStep input refusal.error seat.old.count (C.events self.old.core) (C.spaces self.old.core)) }
-        ensures unchanged { OnErr result (TakesNothing C.spaces C.events self.old.core self.new.core × (seat.new.count ≡ seat.old.count)) }
+        ensures refused { IfErr result (λ refusal. RefusesStep input refusal.error seat.old.count
+            (C.events self.old.core) (C.spaces self.old.core)) }
+        ensures unchanged { OnErr result (TakesNothing C.spaces C.events self.old.core self.new.core
+            × (seat.new.count ≡ seat.old.count)) }
         ensures back { IfErr result (λ refusal. refusal.input ≡ input) }
     {
         let Seat {
@@ -141,11 +152,17 @@ impl<L: Seating, C: Stepping> BookedService<L, C> {
         input: Input,
     ) -> Result<Output, Refusal>
         requires keeps { C.KEEPS ≡ true }
-        ensures taken { IfOk result (λ output. Performs input output (C.spaces self.old.core) (C.spaces self.new.core)) }
-        ensures count { OnOk result ((C.events self.new.core ≡ C.events self.old.core + 1) × (seat.new.count ≡ seat.old.count + 1)) }
-        ensures receipt { IfOk result (λ output. GainsReceipt (C.journals self.new.core) seat.old.receipts.items seat.new.receipts.items input output) }
-        ensures refused { IfErr result (λ refusal. RefusesStep input refusal.error seat.old.count (C.events self.old.core) (C.spaces self.old.core)) }
-        ensures unchanged { OnErr result (TakesNothing C.spaces C.events self.old.core self.new.core × (seat.new.count ≡ seat.old.count) × SameReceipts seat.old.receipts.items seat.new.receipts.items) }
+        ensures taken { IfOk result
+            (λ output. Performs input output (C.spaces self.old.core) (C.spaces self.new.core)) }
+        ensures count { OnOk result ((C.events self.new.core ≡ C.events self.old.core + 1)
+            × (seat.new.count ≡ seat.old.count + 1)) }
+        ensures receipt { IfOk result (λ output. GainsReceipt (C.journals self.new.core)
+            seat.old.receipts.items seat.new.receipts.items input output) }
+        ensures refused { IfErr result (λ refusal. RefusesStep input refusal.error seat.old.count
+            (C.events self.old.core) (C.spaces self.old.core)) }
+        ensures unchanged { OnErr result (TakesNothing C.spaces C.events self.old.core self.new.core
+            × (seat.new.count ≡ seat.old.count)
+            × SameReceipts seat.old.receipts.items seat.new.receipts.items) }
         ensures back { IfErr result (λ refusal. refusal.input ≡ input) }
     {
         let namespace = namespace_of(&input);
@@ -184,11 +201,17 @@ impl<L: Seating, C: Stepping> BookedService<L, C> {
     ) -> Result<Output, Refusal>
         requires { (share.old.parts ≡ 1) × (share.old.amount ≡ count.old) }
         ensures share { (share.new.parts ≡ 1) × (share.new.amount ≡ count.new) }
-        ensures taken { IfOk result (λ output. Performs input output (C.spaces self.old.core) (C.spaces self.new.core)) }
-        ensures count { OnOk result ((C.events self.new.core ≡ C.events self.old.core + 1) × (count.new ≡ count.old + 1)) }
-        ensures receipt { IfOk result (λ output. (number : ℕ) × IsLastNumber (C.journals self.new.core) (namespace_of input) number × (own.new.items ≡ own.old.items ++ receipt_for input output number ∷ [])) }
-        ensures refused { IfErr result (λ refusal. RefusesStep input refusal.error count.old (C.events self.old.core) (C.spaces self.old.core)) }
-        ensures unchanged { OnErr result (TakesNothing C.spaces C.events self.old.core self.new.core × (count.new ≡ count.old) × (own.new.items ≡ own.old.items)) }
+        ensures taken { IfOk result
+            (λ output. Performs input output (C.spaces self.old.core) (C.spaces self.new.core)) }
+        ensures count { OnOk result
+            ((C.events self.new.core ≡ C.events self.old.core + 1) × (count.new ≡ count.old + 1)) }
+        ensures receipt { IfOk result
+            (λ output. (number : ℕ) × IsLastNumber (C.journals self.new.core) (namespace_of input)
+            number × (own.new.items ≡ own.old.items ++ receipt_for input output number ∷ [])) }
+        ensures refused { IfErr result (λ refusal. RefusesStep input refusal.error count.old
+            (C.events self.old.core) (C.spaces self.old.core)) }
+        ensures unchanged { OnErr result (TakesNothing C.spaces C.events self.old.core self.new.core
+            × (count.new ≡ count.old) × (own.new.items ≡ own.old.items)) }
         ensures back { IfErr result (λ refusal. refusal.input ≡ input) }
     {
         if own.reserve(1).is_err() {
@@ -236,10 +259,14 @@ impl<L: Seating, C: Stepping> BookedService<L, C> {
     ) -> Result<Output, Refusal>
         requires { (share.old.parts ≡ 1) × (share.old.amount ≡ count.old) }
         ensures share { (share.new.parts ≡ 1) × (share.new.amount ≡ count.new) }
-        ensures taken { IfOk result (λ output. Performs input output (C.spaces self.old.core) (C.spaces self.new.core)) }
-        ensures count { OnOk result ((C.events self.new.core ≡ C.events self.old.core + 1) × (count.new ≡ count.old + 1)) }
-        ensures refused { IfErr result (λ refusal. RefusesStep input refusal.error count.old (C.events self.old.core) (C.spaces self.old.core)) }
-        ensures unchanged { OnErr result (TakesNothing C.spaces C.events self.old.core self.new.core × (count.new ≡ count.old)) }
+        ensures taken { IfOk result
+            (λ output. Performs input output (C.spaces self.old.core) (C.spaces self.new.core)) }
+        ensures count { OnOk result
+            ((C.events self.new.core ≡ C.events self.old.core + 1) × (count.new ≡ count.old + 1)) }
+        ensures refused { IfErr result (λ refusal. RefusesStep input refusal.error count.old
+            (C.events self.old.core) (C.spaces self.old.core)) }
+        ensures unchanged { OnErr result
+            (TakesNothing C.spaces C.events self.old.core self.new.core × (count.new ≡ count.old)) }
         ensures back { IfErr result (λ refusal. refusal.input ≡ input) }
     {
         let BookedService { core, book, .. } = self;
@@ -268,7 +295,8 @@ impl<L: Seating, C: Stepping> BookedService<L, C> {
     /// Returns whether the receipts of these seats stand in the journals, each of whose records has one. If there is not enough memory,
     /// `false`.
     pub fn agrees(&self, alloc: Global, seats: &[Seat<L>]) -> bool
-        ensures { result ≡ true → AgreeAll (C.journals self.now.core) (λ seat. seat.receipts.items) seats.now }
+        ensures { result ≡ true
+            → AgreeAll (C.journals self.now.core) (λ seat. seat.receipts.items) seats.now }
     {
         for namespace in 0..u64::MAX {
             match self.core.journal(namespace) {
@@ -322,7 +350,8 @@ impl<L: Seating, C: Takings> BookedService<L, C> {
     /// Returns the reply bytes of a connection since they were last taken, moved out.
     pub fn take_output(&mut self, conn: Conn) -> Result<Replies<C>, ServiceError>
         ensures conn { IfOk result (λ replies. replies.conn ≡ conn) }
-        ensures refused { IfErr result (λ e. HeldAtSomeMoment C.spaces C.events (λ spaces. Refuses spaces conn.namespace e (λ space. RefusesCopy space conn.number e))) }
+        ensures refused { IfErr result (λ e. HeldAtSomeMoment C.spaces C.events (λ spaces.
+            Refuses spaces conn.namespace e (λ space. RefusesCopy space conn.number e))) }
         ensures events { C.events self.new.core ≡ C.events self.old.core }
     {
         let BookedService { core, .. } = self;
@@ -332,7 +361,8 @@ impl<L: Seating, C: Takings> BookedService<L, C> {
     /// Returns the loads of a namespace that went out and were not taken, moved out.
     pub fn take_loads(&mut self, namespace: u64) -> Result<TakenLoads<C>, ServiceError>
         ensures namespace { IfOk result (λ loads. loads.namespace ≡ namespace) }
-        ensures refused { IfErr result (λ e. HeldAtSomeMoment C.spaces C.events (λ spaces. (e ≡ ServiceError.NoNamespace) × (length spaces ≤ namespace))) }
+        ensures refused { IfErr result (λ e. HeldAtSomeMoment C.spaces C.events
+            (λ spaces. (e ≡ ServiceError.NoNamespace) × (length spaces ≤ namespace))) }
         ensures events { C.events self.new.core ≡ C.events self.old.core }
     {
         let BookedService { core, .. } = self;
@@ -341,8 +371,10 @@ impl<L: Seating, C: Takings> BookedService<L, C> {
 
     /// Returns the oldest note of a namespace that was reported and not taken.
     pub fn next_notice(&mut self, namespace: u64) -> Result<Option<Note>, ServiceError>
-        ensures note { IfOk result (λ note. WasOldestNote C.spaces C.events C.untold namespace note) }
-        ensures refused { IfErr result (λ e. HeldAtSomeMoment C.spaces C.events (λ spaces. Refuses spaces namespace e (λ space. e ≡ ServiceError.OutOfMemory))) }
+        ensures note { IfOk result
+            (λ note. WasOldestNote C.spaces C.events C.untold namespace note) }
+        ensures refused { IfErr result (λ e. HeldAtSomeMoment C.spaces C.events
+            (λ spaces. Refuses spaces namespace e (λ space. e ≡ ServiceError.OutOfMemory))) }
         ensures events { C.events self.new.core ≡ C.events self.old.core }
     {
         let BookedService { core, .. } = self;
@@ -352,8 +384,10 @@ impl<L: Seating, C: Takings> BookedService<L, C> {
 
     /// Returns why a connection is closed, if it is.
     pub fn closed(&self, conn: Conn) -> Result<Option<Closing>, ServiceError>
-        ensures closing { IfOk result (λ closing. HeldAtSomeMoment C.spaces C.events (λ spaces. InSpace spaces conn.namespace (λ space. closing ≡ closing_of space conn.number))) }
-        ensures refused { IfErr result (λ e. HeldAtSomeMoment C.spaces C.events (λ spaces. Refuses spaces conn.namespace e (λ space. IsUnknown space conn.number e))) }
+        ensures closing { IfOk result (λ closing. HeldAtSomeMoment C.spaces C.events (λ spaces.
+            InSpace spaces conn.namespace (λ space. closing ≡ closing_of space conn.number))) }
+        ensures refused { IfErr result (λ e. HeldAtSomeMoment C.spaces C.events
+            (λ spaces. Refuses spaces conn.namespace e (λ space. IsUnknown space conn.number e))) }
     {
         self.core.stands();
         self.core.closed(conn)
@@ -361,8 +395,10 @@ impl<L: Seating, C: Takings> BookedService<L, C> {
 
     /// Returns whether a `LOAD` of a connection waits for its load.
     pub fn waiting(&self, conn: Conn) -> Result<bool, ServiceError>
-        ensures waits { IfOk result (λ waits. HeldAtSomeMoment C.spaces C.events (λ spaces. InSpace spaces conn.namespace (λ space. waits ≡ is_waiting_for space conn.number))) }
-        ensures refused { IfErr result (λ e. HeldAtSomeMoment C.spaces C.events (λ spaces. Refuses spaces conn.namespace e (λ space. IsUnknown space conn.number e))) }
+        ensures waits { IfOk result (λ waits. HeldAtSomeMoment C.spaces C.events (λ spaces.
+            InSpace spaces conn.namespace (λ space. waits ≡ is_waiting_for space conn.number))) }
+        ensures refused { IfErr result (λ e. HeldAtSomeMoment C.spaces C.events
+            (λ spaces. Refuses spaces conn.namespace e (λ space. IsUnknown space conn.number e))) }
     {
         self.core.stands();
         self.core.waiting(conn)

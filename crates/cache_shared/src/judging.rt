@@ -16,7 +16,8 @@ pub fn agree<L: Seating>(
     journal: &Transcript,
     seats: &[Seat<L>],
 ) -> bool
-    ensures { result ≡ true → Agree namespace journal.now.records (λ seat. receipts_at seat.receipts.items namespace) seats.now }
+    ensures { result ≡ true → Agree namespace journal.now.records
+        (λ seat. receipts_at seat.receipts.items namespace) seats.now }
 {
     are_parts(namespace, journal, seats)
         && are_marked_once(alloc, namespace, journal.records.len(), seats)
@@ -24,7 +25,8 @@ pub fn agree<L: Seating>(
 
 /// Whether each seat's receipts of a namespace stand in its journal, in their order.
 fn are_parts<L: Seating>(namespace: u64, journal: &Transcript, seats: &[Seat<L>]) -> bool
-    ensures { result ≡ true → ArePartsOf namespace journal.now.records (λ seat. receipts_at seat.receipts.items namespace) seats.now }
+    ensures { result ≡ true → ArePartsOf namespace journal.now.records
+        (λ seat. receipts_at seat.receipts.items namespace) seats.now }
 {
     for seat in seats {
         let own = seat.receipts(namespace);
@@ -42,7 +44,8 @@ fn are_marked_once<L: Seating>(
     count: usize,
     seats: &[Seat<L>],
 ) -> bool
-    ensures { result ≡ true → EachOnce (λ seat. receipts_at seat.receipts.items namespace) count seats.now }
+    ensures { result ≡ true
+        → EachOnce (λ seat. receipts_at seat.receipts.items namespace) count seats.now }
 {
     match vec![in alloc; false; count] {
         Ok(mut seen) => judge(&mut seen, namespace, seats),
@@ -53,7 +56,8 @@ fn are_marked_once<L: Seating>(
 /// Whether each number from 1 to the number of places is in one receipt, if no place is marked yet.
 fn judge<L: Seating>(seen: &mut [bool], namespace: u64, seats: &[Seat<L>]) -> bool
     requires { (k : ℕ) → k < length seen.old → marks seen.old k ≡ 0 }
-    ensures { result ≡ true → EachOnce (λ seat. receipts_at seat.receipts.items namespace) (length seen.old) seats.now }
+    ensures { result ≡ true
+        → EachOnce (λ seat. receipts_at seat.receipts.items namespace) (length seen.old) seats.now }
 {
     if !mark_all(seen, namespace, seats) {
         return false;
@@ -63,7 +67,8 @@ fn judge<L: Seating>(seen: &mut [bool], namespace: u64, seats: &[Seat<L>]) -> bo
 
 /// Marks the numbers of all receipts of the namespace. Returns `false` if one has no place, or was already marked.
 fn mark_all<L: Seating>(seen: &mut [bool], namespace: u64, seats: &[Seat<L>]) -> bool
-    ensures ok { result ≡ true → (k : ℕ) → k < length seen.old → marks seen.new k ≡ marks seen.old k + holders (λ seat. receipts_at seat.receipts.items namespace) (k + 1) seats.now }
+    ensures ok { result ≡ true → (k : ℕ) → k < length seen.old → marks seen.new k ≡ marks seen.old k
+        + holders (λ seat. receipts_at seat.receipts.items namespace) (k + 1) seats.now }
     ensures len { length seen.new ≡ length seen.old }
 {
     for seat in seats {
@@ -76,7 +81,8 @@ fn mark_all<L: Seating>(seen: &mut [bool], namespace: u64, seats: &[Seat<L>]) ->
 
 /// Marks the numbers of the receipts, which count from 1. Returns `false` if one has no place, or was already marked.
 fn mark(seen: &mut [bool], receipts: &[Receipt]) -> bool
-    ensures ok { result ≡ true → (k : ℕ) → k < length seen.old → marks seen.new k ≡ marks seen.old k + numbered (k + 1) receipts.now }
+    ensures ok { result ≡ true → (k : ℕ) → k < length seen.old
+        → marks seen.new k ≡ marks seen.old k + numbered (k + 1) receipts.now }
     ensures len { length seen.new ≡ length seen.old }
 {
     for receipt in receipts {

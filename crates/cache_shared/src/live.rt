@@ -48,11 +48,14 @@ impl LiveService {
         generator: Xoshiro256PlusPlus,
         moment: Instant,
     ) -> Result<LiveService, ServiceError>
-        ensures made { IfOk result (λ live. AreNew bare_tape None live.spaces configs.now generator moment.nanos) }
+        ensures made { IfOk result
+            (λ live. AreNew bare_tape None live.spaces configs.now generator moment.nanos) }
         ensures none { IfOk result (λ live. live.events ≡ 0) }
         ensures moment { IsErrOf result ServiceError.Moment ↔ (2 ^ 63 ≤ moment.nanos) }
-        ensures config { IsErrOf result ServiceError.Config ↔ ((moment.nanos < 2 ^ 63) × (are_taken configs.now ≡ false)) }
-        ensures memory { IfErr result (λ e. (e ≡ ServiceError.Moment) ⊎ (e ≡ ServiceError.Config) ⊎ (e ≡ ServiceError.OutOfMemory)) }
+        ensures config { IsErrOf result ServiceError.Config
+            ↔ ((moment.nanos < 2 ^ 63) × (are_taken configs.now ≡ false)) }
+        ensures memory { IfErr result (λ e. (e ≡ ServiceError.Moment) ⊎ (e ≡ ServiceError.Config)
+            ⊎ (e ≡ ServiceError.OutOfMemory)) }
     {
         match Service::new(alloc, configs, generator, moment) {
             Ok(service) => Ok(LiveService { service, events: 0 }),
@@ -65,9 +68,11 @@ impl LiveService {
     /// A refused input is returned, with the cause for which `Service` refuses it, or with `UsedUp` if 2^64 - 1 inputs were
     /// accepted; then nothing has changed.
     pub fn step(&mut self, input: Input) -> Result<Output, Refusal>
-        ensures taken { IfOk result (λ output. At self.old.spaces self.new.spaces (namespace_of input) (Performs bare_tape input output)) }
+        ensures taken { IfOk result (λ output. At self.old.spaces self.new.spaces
+            (namespace_of input) (Performs bare_tape input output)) }
         ensures count { OnOk result (self.new.events ≡ self.old.events + 1) }
-        ensures refused { IfErr result (λ refusal. RefusesEvent input refusal.error self.old.events self.old.spaces) }
+        ensures refused { IfErr result
+            (λ refusal. RefusesEvent input refusal.error self.old.events self.old.spaces) }
         ensures unchanged { OnErr result (self.new ≡ self.old) }
         ensures back { IfErr result (λ refusal. refusal.input ≡ input) }
     {
@@ -89,8 +94,10 @@ impl LiveService {
     /// Returns the reply bytes of a connection since they were last taken, with their line ends, moved out, even after it closed. This is
     /// not an event, and allocates nothing. Returns `NoNamespace`, then `NoConnection`.
     pub fn take_output(&mut self, conn: Conn) -> Result<Vec<u8>, ServiceError>
-        ensures taken { IfOk result (λ text. At self.old.spaces self.new.spaces conn.namespace (λ was is. TakesOutput was is conn.number text.items)) }
-        ensures refused { IfErr result (λ e. Refuses self.old.spaces conn.namespace e (λ was. IsUnknown was conn.number e)) }
+        ensures taken { IfOk result (λ text. At self.old.spaces self.new.spaces conn.namespace
+            (λ was is. TakesOutput was is conn.number text.items)) }
+        ensures refused { IfErr result
+            (λ e. Refuses self.old.spaces conn.namespace e (λ was. IsUnknown was conn.number e)) }
         ensures events { self.new.events ≡ self.old.events }
         ensures unchanged { OnErr result (self.new ≡ self.old) }
     {
@@ -100,8 +107,10 @@ impl LiveService {
     /// Returns the loads of a namespace that went out and were not taken, with their keys, in the order in which they were sent, moved out,
     /// so that each comes once. This is not an event, and allocates nothing. Returns `NoNamespace` if there is no such namespace.
     pub fn take_loads(&mut self, namespace: u64) -> Result<Vec<(LoadId, Bytes)>, ServiceError>
-        ensures taken { IfOk result (λ loads. At self.old.spaces self.new.spaces namespace (λ was is. TakesLoads was is loads.items)) }
-        ensures refused { IfErr result (λ e. (e ≡ ServiceError.NoNamespace) × (length self.old.spaces ≤ namespace)) }
+        ensures taken { IfOk result (λ loads. At self.old.spaces self.new.spaces namespace
+            (λ was is. TakesLoads was is loads.items)) }
+        ensures refused { IfErr result
+            (λ e. (e ≡ ServiceError.NoNamespace) × (length self.old.spaces ≤ namespace)) }
         ensures events { self.new.events ≡ self.old.events }
         ensures unchanged { OnErr result (self.new ≡ self.old) }
     {
@@ -111,8 +120,10 @@ impl LiveService {
     /// Returns the oldest note of a namespace that was reported and not taken; `None` if there is none. This is not an event, and allocates
     /// nothing. Returns `NoNamespace` if there is no such namespace.
     pub fn next_notice(&mut self, namespace: u64) -> Result<Option<Note>, ServiceError>
-        ensures taken { IfOk result (λ note. At self.old.spaces self.new.spaces namespace (λ was is. TakesNotice was is note)) }
-        ensures refused { IfErr result (λ e. (e ≡ ServiceError.NoNamespace) × (length self.old.spaces ≤ namespace)) }
+        ensures taken { IfOk result (λ note. At self.old.spaces self.new.spaces namespace
+            (λ was is. TakesNotice was is note)) }
+        ensures refused { IfErr result
+            (λ e. (e ≡ ServiceError.NoNamespace) × (length self.old.spaces ≤ namespace)) }
         ensures events { self.new.events ≡ self.old.events }
         ensures unchanged { OnErr result (self.new ≡ self.old) }
     {
@@ -121,8 +132,10 @@ impl LiveService {
 
     /// Returns why a connection is closed; `None` while it is open. Returns `NoNamespace`, then `NoConnection`.
     pub fn closed(&self, conn: Conn) -> Result<Option<Closing>, ServiceError>
-        ensures closing { IfOk result (λ closing. InSpace self.now.spaces conn.namespace (λ space. IsOpened space conn.number × (closing ≡ closing_of space conn.number))) }
-        ensures refused { IfErr result (λ e. Refuses self.now.spaces conn.namespace e (λ space. IsUnknown space conn.number e)) }
+        ensures closing { IfOk result (λ closing. InSpace self.now.spaces conn.namespace
+            (λ space. IsOpened space conn.number × (closing ≡ closing_of space conn.number))) }
+        ensures refused { IfErr result (λ e.
+            Refuses self.now.spaces conn.namespace e (λ space. IsUnknown space conn.number e)) }
     {
         self.service.closed(conn)
     }

@@ -30,7 +30,8 @@ impl<C: Takings> TakenLoads<C> {
 /// Takes the loads of a namespace. Returns `NoNamespace` if there is no such namespace.
 pub fn take_loads<C: Takings>(core: &mut C, namespace: u64) -> Result<TakenLoads<C>, ServiceError>
     ensures namespace { IfOk result (λ loads. loads.namespace ≡ namespace) }
-    ensures refused { IfErr result (λ e. HeldAtSomeMoment C.spaces C.events (λ spaces. (e ≡ ServiceError.NoNamespace) × (length spaces ≤ namespace))) }
+    ensures refused { IfErr result (λ e. HeldAtSomeMoment C.spaces C.events
+        (λ spaces. (e ≡ ServiceError.NoNamespace) × (length spaces ≤ namespace))) }
     ensures events { C.events core.new ≡ C.events core.old }
 {
     core.stands();

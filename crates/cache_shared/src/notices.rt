@@ -11,8 +11,10 @@ pub fn take_notices<C: Takings>(
     namespace: u64,
     notes: &mut Vec<Note>,
 ) -> Result<(), ServiceError>
-    ensures moved { Moves notes.old.items notes.new.items (C.untold core.old namespace) (C.untold core.new namespace) }
-    ensures refused { IfErr result (λ e. (e ≡ ServiceError.OutOfMemory) ⊎ (e ≡ ServiceError.NoNamespace)) }
+    ensures moved { Moves notes.old.items notes.new.items (C.untold core.old namespace)
+        (C.untold core.new namespace) }
+    ensures refused { IfErr result
+        (λ e. (e ≡ ServiceError.OutOfMemory) ⊎ (e ≡ ServiceError.NoNamespace)) }
     ensures room { vec_capacity notes.new ≡ vec_capacity notes.old }
     ensures events { C.events core.new ≡ C.events core.old }
 {

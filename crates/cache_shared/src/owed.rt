@@ -25,8 +25,10 @@ pub struct Owed<C: Takings> {
     pub waits: bool,
     ghost its_replies: { ForSome replies (λ replies. replies.conn ≡ conn) },
     ghost its_loads: { ForSome loads (λ loads. loads.namespace ≡ conn.namespace) },
-    ghost closed: { ∥ IfSome closing (λ closing. HeldAtSomeMoment C.spaces C.events (λ spaces. InSpace spaces conn.namespace (λ space. closing_of space conn.number ≡ Some closing))) ∥₁ },
-    ghost waiting: { ∥ (waits ≡ true → HeldAtSomeMoment C.spaces C.events (λ spaces. InSpace spaces conn.namespace (λ space. is_waiting_for space conn.number ≡ true))) ∥₁ },
+    ghost closed: { ∥ IfSome closing (λ closing. HeldAtSomeMoment C.spaces C.events (λ spaces.
+        InSpace spaces conn.namespace (λ space. closing_of space conn.number ≡ Some closing))) ∥₁ },
+    ghost waiting: { ∥ (waits ≡ true → HeldAtSomeMoment C.spaces C.events (λ spaces.
+        InSpace spaces conn.namespace (λ space. is_waiting_for space conn.number ≡ true))) ∥₁ },
 }
 
 /// Takes what a connection is owed, with the loads of its namespace only if they are requested; nothing if the connection is unknown.
@@ -53,7 +55,8 @@ pub fn take_owed<C: Takings>(core: &mut C, conn: Conn, wants_loads: bool) -> Owe
 
 /// Why a connection is closed; `None` if it is open or unknown.
 fn closing_in<C: Takings>(core: &C, conn: Conn) -> Option<Closing>
-    ensures { IfSome result (λ closing. HeldAtSomeMoment C.spaces C.events (λ spaces. InSpace spaces conn.namespace (λ space. closing_of space conn.number ≡ Some closing))) }
+    ensures { IfSome result (λ closing. HeldAtSomeMoment C.spaces C.events (λ spaces.
+        InSpace spaces conn.namespace (λ space. closing_of space conn.number ≡ Some closing))) }
 {
     core.stands();
     match core.closed(conn) {
@@ -64,7 +67,8 @@ fn closing_in<C: Takings>(core: &C, conn: Conn) -> Option<Closing>
 
 /// Whether a `LOAD` of a connection waits; false if it is unknown.
 fn is_waiting_in<C: Takings>(core: &C, conn: Conn) -> bool
-    ensures { result ≡ true → HeldAtSomeMoment C.spaces C.events (λ spaces. InSpace spaces conn.namespace (λ space. is_waiting_for space conn.number ≡ true)) }
+    ensures { result ≡ true → HeldAtSomeMoment C.spaces C.events (λ spaces.
+        InSpace spaces conn.namespace (λ space. is_waiting_for space conn.number ≡ true)) }
 {
     core.stands();
     match core.waiting(conn) {

@@ -70,7 +70,8 @@ impl Takings for RecordedService {
 /// Returns a copy of the replies of a connection since they were last taken. They are taken only if there is memory for the copy.
 fn take_text(recorded: &mut RecordedService, conn: Conn) -> Result<Vec<u8>, ServiceError>
     ensures taken { IfOk result (λ text. TakesReplies recorded.old recorded.new conn text.items) }
-    ensures refused { IfErr result (λ e. Refuses recorded.old.spaces conn.namespace e (λ space. RefusesCopy space conn.number e)) }
+    ensures refused { IfErr result (λ e. Refuses recorded.old.spaces conn.namespace e
+        (λ space. RefusesCopy space conn.number e)) }
     ensures unchanged { OnErr result (recorded.new ≡ recorded.old) }
 {
     let replies = match recorded.peek_output(conn) {
@@ -89,7 +90,8 @@ fn take_text(recorded: &mut RecordedService, conn: Conn) -> Result<Vec<u8>, Serv
 /// Returns a copy of the oldest note of a namespace that was not taken. It is taken only if there is memory for the copy.
 fn take_note(recorded: &mut RecordedService, namespace: u64) -> Result<Option<Note>, ServiceError>
     ensures taken { IfOk result (TakesNote recorded.old recorded.new namespace) }
-    ensures refused { IfErr result (λ e. Refuses recorded.old.spaces namespace e (λ space. e ≡ ServiceError.OutOfMemory)) }
+    ensures refused { IfErr result
+        (λ e. Refuses recorded.old.spaces namespace e (λ space. e ≡ ServiceError.OutOfMemory)) }
     ensures unchanged { OnErr result (recorded.new ≡ recorded.old) }
 {
     let note = match recorded.peek_notice(namespace) {

@@ -38,7 +38,8 @@ impl<C: Takings> Replies<C> {
 /// Takes the replies of a connection.
 pub fn take_replies<C: Takings>(core: &mut C, conn: Conn) -> Result<Replies<C>, ServiceError>
     ensures conn { IfOk result (λ replies. replies.conn ≡ conn) }
-    ensures refused { IfErr result (λ e. HeldAtSomeMoment C.spaces C.events (λ spaces. Refuses spaces conn.namespace e (λ space. RefusesCopy space conn.number e))) }
+    ensures refused { IfErr result (λ e. HeldAtSomeMoment C.spaces C.events
+        (λ spaces. Refuses spaces conn.namespace e (λ space. RefusesCopy space conn.number e))) }
     ensures events { C.events core.new ≡ C.events core.old }
 {
     core.stands();

@@ -34,9 +34,11 @@ pub trait Stepping: Drop {
     /// A refused input is returned; then nothing has changed. In addition to the service's refusals, `UsedUp` if 2^64 - 1 inputs
     /// were accepted.
     fn step(&mut self, input: Input) -> Result<Output, Refusal>
-        ensures taken { IfOk result (λ output. Performs input output (spaces self.old) (spaces self.new)) }
+        ensures taken { IfOk result
+            (λ output. Performs input output (spaces self.old) (spaces self.new)) }
         ensures count { OnOk result (events self.new ≡ events self.old + 1) }
-        ensures refused { IfErr result (λ refusal. RefusesEvent input refusal.error (events self.old) (spaces self.old)) }
+        ensures refused { IfErr result
+            (λ refusal. RefusesEvent input refusal.error (events self.old) (spaces self.old)) }
         ensures unchanged { OnErr result (TakesNothing spaces events self.old self.new) }
         ensures back { IfErr result (λ refusal. refusal.input ≡ input) };
 
@@ -47,7 +49,8 @@ pub trait Stepping: Drop {
 
     /// Returns the journal of a namespace: a record for each input that it accepted. Returns `NoNamespace` if it has none.
     fn journal(&self, namespace: u64) -> Result<&Transcript, ServiceError>
-        ensures journal { IfOk result (λ journal. slice_get (journals self.now) namespace ≡ Some journal.now) }
+        ensures journal { IfOk result
+            (λ journal. slice_get (journals self.now) namespace ≡ Some journal.now) }
         ensures error { IfErr result (λ e. e ≡ ServiceError.NoNamespace) }
         ensures refused { KEEPS ≡ true → OnErr result (length (spaces self.now) ≤ namespace) }
         ensures none { IfErr result (λ e. length (journals self.now) ≤ namespace) };
@@ -65,38 +68,50 @@ pub trait Takings: Stepping {
     /// `NoConnection`, then `OutOfMemory` if taking them needs memory that there is not; then they come the next time.
     fn take_output(&mut self, conn: Conn) -> Result<Vec<u8>, ServiceError>
         ensures taken { IfOk result (λ text. text.items ≡ untaken self.old conn) }
-        ensures known { OnOk result (InSpace (Self.spaces self.old) conn.namespace (λ space. IsOpened space conn.number)) }
+        ensures known { OnOk result
+            (InSpace (Self.spaces self.old) conn.namespace (λ space. IsOpened space conn.number)) }
         ensures none { OnOk result (untaken self.new conn ≡ []) }
-        ensures others { (other : Conn) → 0 < other.number → other ≢ conn → untaken self.new other ≡ untaken self.old other }
-        ensures refused { IfErr result (λ e. Refuses (Self.spaces self.old) conn.namespace e (λ space. RefusesCopy space conn.number e)) }
+        ensures others { (other : Conn) → 0 < other.number → other ≢ conn
+            → untaken self.new other ≡ untaken self.old other }
+        ensures refused { IfErr result (λ e. Refuses (Self.spaces self.old) conn.namespace e
+            (λ space. RefusesCopy space conn.number e)) }
         ensures kept { OnErr result (untaken self.new conn ≡ untaken self.old conn) }
         ensures events { Self.events self.new ≡ Self.events self.old };
 
     /// Returns the oldest note of a namespace that was reported and not taken; `None` if there is none. Those of other namespaces stay.
     /// Returns `NoNamespace`, then `OutOfMemory` if taking it needs memory that there is not; then it comes the next time.
     fn next_notice(&mut self, namespace: u64) -> Result<Option<Note>, ServiceError>
-        ensures note { IfOk result (λ note. untold self.old namespace ≡ option_to_list note ++ untold self.new namespace) }
+        ensures note { IfOk result
+            (λ note. untold self.old namespace ≡ option_to_list note ++ untold self.new namespace) }
         ensures none { IfOk result (λ note. IsNone note → untold self.old namespace ≡ []) }
-        ensures refused { IfErr result (λ e. Refuses (Self.spaces self.old) namespace e (λ space. e ≡ ServiceError.OutOfMemory)) }
+        ensures refused { IfErr result (λ e.
+            Refuses (Self.spaces self.old) namespace e (λ space. e ≡ ServiceError.OutOfMemory)) }
         ensures kept { OnErr result (untold self.new namespace ≡ untold self.old namespace) }
-        ensures others { (other : ℕ) → other ≢ namespace → untold self.new other ≡ untold self.old other }
+        ensures others { (other : ℕ) → other ≢ namespace
+            → untold self.new other ≡ untold self.old other }
         ensures events { Self.events self.new ≡ Self.events self.old };
 
     /// Returns the loads of a namespace that went out and were not taken, with their keys, in the order in which they were sent, moved out.
     /// Returns `NoNamespace` if there is no such namespace.
     fn take_loads(&mut self, namespace: u64) -> Result<Vec<(LoadId, Bytes)>, ServiceError>
-        ensures loads { IfOk result (λ loads. At (Self.spaces self.old) (Self.spaces self.new) namespace (λ was is. TakesLoads was is loads.items)) }
-        ensures refused { IfErr result (λ e. (e ≡ ServiceError.NoNamespace) × (length (Self.spaces self.old) ≤ namespace)) }
+        ensures loads { IfOk result (λ loads. At (Self.spaces self.old) (Self.spaces self.new)
+            namespace (λ was is. TakesLoads was is loads.items)) }
+        ensures refused { IfErr result
+            (λ e. (e ≡ ServiceError.NoNamespace) × (length (Self.spaces self.old) ≤ namespace)) }
         ensures events { Self.events self.new ≡ Self.events self.old };
 
     /// Returns why a connection is closed; `None` while it is open. Returns `NoNamespace`, then `NoConnection`.
     fn closed(&self, conn: Conn) -> Result<Option<Closing>, ServiceError>
-        ensures closing { IfOk result (λ closing. InSpace (Self.spaces self.now) conn.namespace (λ space. closing ≡ closing_of space conn.number)) }
-        ensures refused { IfErr result (λ e. Refuses (Self.spaces self.now) conn.namespace e (λ space. IsUnknown space conn.number e)) };
+        ensures closing { IfOk result (λ closing. InSpace (Self.spaces self.now) conn.namespace
+            (λ space. closing ≡ closing_of space conn.number)) }
+        ensures refused { IfErr result (λ e. Refuses (Self.spaces self.now) conn.namespace e
+            (λ space. IsUnknown space conn.number e)) };
 
     /// Returns whether a `LOAD` of a connection waits for its load, so that no later line runs. Returns `NoNamespace`, then
     /// `NoConnection`.
     fn waiting(&self, conn: Conn) -> Result<bool, ServiceError>
-        ensures waits { IfOk result (λ waits. InSpace (Self.spaces self.now) conn.namespace (λ space. waits ≡ is_waiting_for space conn.number)) }
-        ensures refused { IfErr result (λ e. Refuses (Self.spaces self.now) conn.namespace e (λ space. IsUnknown space conn.number e)) };
+        ensures waits { IfOk result (λ waits. InSpace (Self.spaces self.now) conn.namespace
+            (λ space. waits ≡ is_waiting_for space conn.number)) }
+        ensures refused { IfErr result (λ e. Refuses (Self.spaces self.now) conn.namespace e
+            (λ space. IsUnknown space conn.number e)) };
 }

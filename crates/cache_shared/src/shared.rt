@@ -101,11 +101,15 @@ impl<L: Seating, C: Stepping> SharedService<L, C> {
     /// the lock refuses it, with `OutOfMemory` also if there is no memory for the receipt, and with `UsedUp` if the seat's count or that
     /// of all inputs is at 2^64 - 1.
     pub fn step(&self, rt: &impl Wait, seat: &mut Seat<L>, input: Input) -> Result<Output, Refusal>
-        ensures counted { IfOk result (λ output. Counts C.KEEPS input output seat.old.count seat.new.count seat.old.receipts.items seat.new.receipts.items) }
+        ensures counted { IfOk result (λ output. Counts C.KEEPS input output seat.old.count
+            seat.new.count seat.old.receipts.items seat.new.receipts.items) }
         ensures back { IfErr result (λ refusal. refusal.input ≡ input) }
-        ensures unchanged { OnErr result ((seat.new.count ≡ seat.old.count) × SameReceipts seat.old.receipts.items seat.new.receipts.items) }
-        ensures late { IfErr result (λ refusal. refusal.error ≡ ServiceError.Moment → IsLate input) }
-        ensures unfit { IfErr result (λ refusal. is_of_outcome refusal.error ≡ true → IsUnfitAnswer input) }
+        ensures unchanged { OnErr result ((seat.new.count ≡ seat.old.count)
+            × SameReceipts seat.old.receipts.items seat.new.receipts.items) }
+        ensures late { IfErr result
+            (λ refusal. refusal.error ≡ ServiceError.Moment → IsLate input) }
+        ensures unfit { IfErr result
+            (λ refusal. is_of_outcome refusal.error ≡ true → IsUnfitAnswer input) }
     {
         let inner = self.inner();
         let mut guard = inner.booked.lock(rt);
@@ -127,10 +131,14 @@ impl<L: Seating, C: Stepping> SharedService<L, C> {
         seats: Vec<Seat<L>>,
     ) -> Result<Finished<C>, (SharedService<L, C>, Vec<Seat<L>>)>
         requires ledger { L.all ≡ L.parts }
-        ensures count { IfOk result (λ finished. C.events finished.service ≡ sum_by (λ seat. seat.count) seats.items) }
-        ensures receipts { IfOk result (λ finished. finished.receipts.items ≡ map (λ seat. seat.receipts) seats.items) }
-        ensures agree { IfOk result (λ finished. AgreeAll (C.journals finished.service) (λ seat. seat.receipts.items) seats.items) }
-        ensures reached { IfOk result (λ finished. ∥ IsReached (C.spaces finished.service) (C.events finished.service) ∥₁) }
+        ensures count { IfOk result
+            (λ finished. C.events finished.service ≡ sum_by (λ seat. seat.count) seats.items) }
+        ensures receipts { IfOk result
+            (λ finished. finished.receipts.items ≡ map (λ seat. seat.receipts) seats.items) }
+        ensures agree { IfOk result (λ finished.
+            AgreeAll (C.journals finished.service) (λ seat. seat.receipts.items) seats.items) }
+        ensures reached { IfOk result
+            (λ finished. ∥ IsReached (C.spaces finished.service) (C.events finished.service) ∥₁) }
         ensures back { IfErr result (λ both. both.1 ≡ seats) }
     {
         let SharedService { mut inner, alloc } = self;
@@ -152,7 +160,8 @@ impl<L: Seating, C: Takings> SharedService<L, C> {
     /// next time.
     pub fn take_output(&self, rt: &impl Wait, conn: Conn) -> Result<Replies<C>, ServiceError>
         ensures conn { IfOk result (λ replies. replies.conn ≡ conn) }
-        ensures refused { IfErr result (λ e. HeldAtSomeMoment C.spaces C.events (λ spaces. Refuses spaces conn.namespace e (λ space. RefusesCopy space conn.number e))) }
+        ensures refused { IfErr result (λ e. HeldAtSomeMoment C.spaces C.events (λ spaces.
+            Refuses spaces conn.namespace e (λ space. RefusesCopy space conn.number e))) }
     {
         let mut guard = self.inner().booked.lock(rt);
         let booked = &mut *guard;
@@ -173,13 +182,18 @@ impl<L: Seating, C: Takings> SharedService<L, C> {
         wants_loads: bool,
         notes: &mut Vec<Note>,
     ) -> Result<Turn<C>, Refusal>
-        ensures counted { IfOk result (λ turn. Counts C.KEEPS input turn.output seat.old.count seat.new.count seat.old.receipts.items seat.new.receipts.items) }
+        ensures counted { IfOk result (λ turn. Counts C.KEEPS input turn.output seat.old.count
+            seat.new.count seat.old.receipts.items seat.new.receipts.items) }
         ensures conn { IfOk result (λ turn. turn.owed.conn ≡ conn) }
         ensures back { IfErr result (λ refusal. refusal.input ≡ input) }
-        ensures unchanged { OnErr result ((seat.new.count ≡ seat.old.count) × SameReceipts seat.old.receipts.items seat.new.receipts.items) }
-        ensures late { IfErr result (λ refusal. refusal.error ≡ ServiceError.Moment → IsLate input) }
-        ensures unfit { IfErr result (λ refusal. is_of_outcome refusal.error ≡ true → IsUnfitAnswer input) }
-        ensures moved { WereMoved C.spaces C.events C.untold conn.namespace notes.old.items notes.new.items }
+        ensures unchanged { OnErr result ((seat.new.count ≡ seat.old.count)
+            × SameReceipts seat.old.receipts.items seat.new.receipts.items) }
+        ensures late { IfErr result
+            (λ refusal. refusal.error ≡ ServiceError.Moment → IsLate input) }
+        ensures unfit { IfErr result
+            (λ refusal. is_of_outcome refusal.error ≡ true → IsUnfitAnswer input) }
+        ensures moved { WereMoved C.spaces C.events C.untold conn.namespace notes.old.items
+            notes.new.items }
     {
         let inner = self.inner();
         let mut guard = inner.booked.lock(rt);
@@ -201,7 +215,8 @@ impl<L: Seating, C: Takings> SharedService<L, C> {
         notes: &mut Vec<Note>,
     ) -> Owed<C>
         ensures conn { result.conn ≡ conn }
-        ensures moved { WereMoved C.spaces C.events C.untold conn.namespace notes.old.items notes.new.items }
+        ensures moved { WereMoved C.spaces C.events C.untold conn.namespace notes.old.items
+            notes.new.items }
     {
         let mut guard = self.inner().booked.lock(rt);
         let booked = &mut *guard;
@@ -217,8 +232,10 @@ impl<L: Seating, C: Takings> SharedService<L, C> {
         namespace: u64,
         notes: &mut Vec<Note>,
     ) -> Result<(), ServiceError>
-        ensures moved { WereMoved C.spaces C.events C.untold namespace notes.old.items notes.new.items }
-        ensures refused { IfErr result (λ e. (e ≡ ServiceError.OutOfMemory) ⊎ (e ≡ ServiceError.NoNamespace)) }
+        ensures moved { WereMoved C.spaces C.events C.untold namespace notes.old.items
+            notes.new.items }
+        ensures refused { IfErr result
+            (λ e. (e ≡ ServiceError.OutOfMemory) ⊎ (e ≡ ServiceError.NoNamespace)) }
     {
         let mut guard = self.inner().booked.lock(rt);
         let booked = &mut *guard;
@@ -229,7 +246,8 @@ impl<L: Seating, C: Takings> SharedService<L, C> {
     /// in one hold of the lock. This is not an event, and leaves no receipt. Returns `NoNamespace` if there is no such namespace.
     pub fn take_loads(&self, rt: &impl Wait, namespace: u64) -> Result<TakenLoads<C>, ServiceError>
         ensures namespace { IfOk result (λ loads. loads.namespace ≡ namespace) }
-        ensures refused { IfErr result (λ e. HeldAtSomeMoment C.spaces C.events (λ spaces. (e ≡ ServiceError.NoNamespace) × (length spaces ≤ namespace))) }
+        ensures refused { IfErr result (λ e. HeldAtSomeMoment C.spaces C.events
+            (λ spaces. (e ≡ ServiceError.NoNamespace) × (length spaces ≤ namespace))) }
     {
         let mut guard = self.inner().booked.lock(rt);
         let booked = &mut *guard;
@@ -240,8 +258,10 @@ impl<L: Seating, C: Takings> SharedService<L, C> {
     /// and leaves no receipt.
     /// Returns `NoNamespace`, then `OutOfMemory` if the core copies notes; then it comes the next time.
     pub fn next_notice(&self, rt: &impl Wait, namespace: u64) -> Result<Option<Note>, ServiceError>
-        ensures note { IfOk result (λ note. WasOldestNote C.spaces C.events C.untold namespace note) }
-        ensures refused { IfErr result (λ e. HeldAtSomeMoment C.spaces C.events (λ spaces. Refuses spaces namespace e (λ space. e ≡ ServiceError.OutOfMemory))) }
+        ensures note { IfOk result
+            (λ note. WasOldestNote C.spaces C.events C.untold namespace note) }
+        ensures refused { IfErr result (λ e. HeldAtSomeMoment C.spaces C.events
+            (λ spaces. Refuses spaces namespace e (λ space. e ≡ ServiceError.OutOfMemory))) }
     {
         let mut guard = self.inner().booked.lock(rt);
         let booked = &mut *guard;
@@ -250,8 +270,10 @@ impl<L: Seating, C: Takings> SharedService<L, C> {
 
     /// Returns why a connection is closed, or `None` while it is open, in one hold of the lock. Returns `NoNamespace`, then `NoConnection`.
     pub fn closed(&self, rt: &impl Wait, conn: Conn) -> Result<Option<Closing>, ServiceError>
-        ensures closing { IfOk result (λ closing. HeldAtSomeMoment C.spaces C.events (λ spaces. InSpace spaces conn.namespace (λ space. closing ≡ closing_of space conn.number))) }
-        ensures refused { IfErr result (λ e. HeldAtSomeMoment C.spaces C.events (λ spaces. Refuses spaces conn.namespace e (λ space. IsUnknown space conn.number e))) }
+        ensures closing { IfOk result (λ closing. HeldAtSomeMoment C.spaces C.events (λ spaces.
+            InSpace spaces conn.namespace (λ space. closing ≡ closing_of space conn.number))) }
+        ensures refused { IfErr result (λ e. HeldAtSomeMoment C.spaces C.events
+            (λ spaces. Refuses spaces conn.namespace e (λ space. IsUnknown space conn.number e))) }
     {
         let guard = self.inner().booked.lock(rt);
         guard.closed(conn)
@@ -259,8 +281,10 @@ impl<L: Seating, C: Takings> SharedService<L, C> {
 
     /// Returns whether a `LOAD` of a connection waits for its load, in one hold of the lock. Returns `NoNamespace`, then `NoConnection`.
     pub fn waiting(&self, rt: &impl Wait, conn: Conn) -> Result<bool, ServiceError>
-        ensures waits { IfOk result (λ waits. HeldAtSomeMoment C.spaces C.events (λ spaces. InSpace spaces conn.namespace (λ space. waits ≡ is_waiting_for space conn.number))) }
-        ensures refused { IfErr result (λ e. HeldAtSomeMoment C.spaces C.events (λ spaces. Refuses spaces conn.namespace e (λ space. IsUnknown space conn.number e))) }
+        ensures waits { IfOk result (λ waits. HeldAtSomeMoment C.spaces C.events (λ spaces.
+            InSpace spaces conn.namespace (λ space. waits ≡ is_waiting_for space conn.number))) }
+        ensures refused { IfErr result (λ e. HeldAtSomeMoment C.spaces C.events
+            (λ spaces. Refuses spaces conn.namespace e (λ space. IsUnknown space conn.number e))) }
     {
         let guard = self.inner().booked.lock(rt);
         guard.waiting(conn)
@@ -289,10 +313,14 @@ fn close_if_all<L: Seating, C: Stepping>(
 ) -> Result<Finished<C>, Vec<Seat<L>>>
     requires ledger { L.all ≡ L.parts }
     requires full { IsSome slot.old }
-    ensures count { IfOk result (λ finished. C.events finished.service ≡ sum_by (λ seat. seat.count) seats.items) }
-    ensures receipts { IfOk result (λ finished. finished.receipts.items ≡ map (λ seat. seat.receipts) seats.items) }
-    ensures agree { IfOk result (λ finished. AgreeAll (C.journals finished.service) (λ seat. seat.receipts.items) seats.items) }
-    ensures reached { IfOk result (λ finished. ∥ IsReached (C.spaces finished.service) (C.events finished.service) ∥₁) }
+    ensures count { IfOk result
+        (λ finished. C.events finished.service ≡ sum_by (λ seat. seat.count) seats.items) }
+    ensures receipts { IfOk result
+        (λ finished. finished.receipts.items ≡ map (λ seat. seat.receipts) seats.items) }
+    ensures agree { IfOk result (λ finished.
+        AgreeAll (C.journals finished.service) (λ seat. seat.receipts.items) seats.items) }
+    ensures reached { IfOk result
+        (λ finished. ∥ IsReached (C.spaces finished.service) (C.events finished.service) ∥₁) }
     ensures back { IfErr result (λ back. back ≡ seats) }
     ensures full { OnErr result (IsSome slot.new) }
 {

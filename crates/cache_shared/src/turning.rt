@@ -34,13 +34,18 @@ impl<L: Seating, C: Takings> BookedService<L, C> {
         wants_loads: bool,
         notes: &mut Vec<Note>,
     ) -> Result<Turn<C>, Refusal>
-        ensures counted { IfOk result (λ turn. Counts C.KEEPS input turn.output seat.old.count seat.new.count seat.old.receipts.items seat.new.receipts.items) }
+        ensures counted { IfOk result (λ turn. Counts C.KEEPS input turn.output seat.old.count
+            seat.new.count seat.old.receipts.items seat.new.receipts.items) }
         ensures conn { IfOk result (λ turn. turn.owed.conn ≡ conn) }
         ensures back { IfErr result (λ refusal. refusal.input ≡ input) }
-        ensures unchanged { OnErr result ((seat.new.count ≡ seat.old.count) × SameReceipts seat.old.receipts.items seat.new.receipts.items) }
-        ensures late { IfErr result (λ refusal. refusal.error ≡ ServiceError.Moment → IsLate input) }
-        ensures unfit { IfErr result (λ refusal. is_of_outcome refusal.error ≡ true → IsUnfitAnswer input) }
-        ensures moved { WereMoved C.spaces C.events C.untold conn.namespace notes.old.items notes.new.items }
+        ensures unchanged { OnErr result ((seat.new.count ≡ seat.old.count)
+            × SameReceipts seat.old.receipts.items seat.new.receipts.items) }
+        ensures late { IfErr result
+            (λ refusal. refusal.error ≡ ServiceError.Moment → IsLate input) }
+        ensures unfit { IfErr result
+            (λ refusal. is_of_outcome refusal.error ≡ true → IsUnfitAnswer input) }
+        ensures moved { WereMoved C.spaces C.events C.untold conn.namespace notes.old.items
+            notes.new.items }
     {
         self.core.stands();
         match self.step(alloc, seat, input) {
@@ -56,7 +61,8 @@ impl<L: Seating, C: Takings> BookedService<L, C> {
     /// is unknown.
     pub fn take_owed(&mut self, conn: Conn, wants_loads: bool, notes: &mut Vec<Note>) -> Owed<C>
         ensures conn { result.conn ≡ conn }
-        ensures moved { WereMoved C.spaces C.events C.untold conn.namespace notes.old.items notes.new.items }
+        ensures moved { WereMoved C.spaces C.events C.untold conn.namespace notes.old.items
+            notes.new.items }
         ensures events { C.events self.new.core ≡ C.events self.old.core }
     {
         // Notes that are not taken for lack of memory stay.
@@ -71,8 +77,10 @@ impl<L: Seating, C: Takings> BookedService<L, C> {
         namespace: u64,
         notes: &mut Vec<Note>,
     ) -> Result<(), ServiceError>
-        ensures moved { WereMoved C.spaces C.events C.untold namespace notes.old.items notes.new.items }
-        ensures refused { IfErr result (λ e. (e ≡ ServiceError.OutOfMemory) ⊎ (e ≡ ServiceError.NoNamespace)) }
+        ensures moved { WereMoved C.spaces C.events C.untold namespace notes.old.items
+            notes.new.items }
+        ensures refused { IfErr result
+            (λ e. (e ≡ ServiceError.OutOfMemory) ⊎ (e ≡ ServiceError.NoNamespace)) }
         ensures events { C.events self.new.core ≡ C.events self.old.core }
     {
         let BookedService { core, .. } = self;

@@ -41,7 +41,8 @@ module _ {X : Type 0} where
 
   -- A call was refused: there is no such namespace; or there is, and the cause is true of it.
   abbrev pub Refuses : List X → ℕ → ServiceError → (X → Type 0) → Type 0
-  Refuses spaces namespace e Cause = ((e ≡ error.NoNamespace) × (length spaces ≤ namespace)) ⊎ InSpace spaces namespace Cause
+  Refuses spaces namespace e Cause =
+      ((e ≡ error.NoNamespace) × (length spaces ≤ namespace)) ⊎ InSpace spaces namespace Cause
 
 -- ---- events
 
@@ -54,7 +55,8 @@ module _ {T : Type 0} (tape : T → Option Taped) where
 
   -- A connection was opened, with the next number of the namespace, from 1 on.
   abbrev pub OpensNext : Space T → Space T → ℕ → Type 0
-  OpensNext was is number = ServesEvent was is (event.Open number) false × (number ≡ length was.closings + 1)
+  OpensNext was is number =
+      ServesEvent was is (event.Open number) false × (number ≡ length was.closings + 1)
 
   -- the same for an answer or a give-up, by which several connections may have steps
   abbrev pub Settled : Space T → Space T → Event → Type 0

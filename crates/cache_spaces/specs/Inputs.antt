@@ -37,11 +37,12 @@ module _ {T : Type 0} where
 
 module _ {T : Type 0} (tape : T → Option Taped) where
   -- from this situation the input's event happened, by a record with this output
-  pub record PerformsFrom (i : Input) (output : Output) (was is : Space T) (s : Situation) : Type 0 where
-    pub entry : Record
-    pub event : event_in (namespace_of i) (length was.closings) i ≡ Some entry.event
-    pub answers : output ≡ output_of (namespace_of i) entry
-    pub turned : Turned shown_of tape was is s entry
+  pub record PerformsFrom (i : Input) (output : Output) (was is : Space T) (s : Situation) : Type 0
+    where
+      pub entry : Record
+      pub event : event_in (namespace_of i) (length was.closings) i ≡ Some entry.event
+      pub answers : output ≡ output_of (namespace_of i) entry
+      pub turned : Turned shown_of tape was is s entry
 
   -- this is so from each situation that the namespace stood for
   pub record Performs (i : Input) (output : Output) (was is : Space T) : Type 0 where

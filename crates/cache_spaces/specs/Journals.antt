@@ -29,7 +29,9 @@ pub record LeadsSo {T : Type 0} (space : Space T) (journal : Transcript) : Type 
 
 -- this is so for each namespace and its journal
 abbrev pub IsSoOfEach : (Space Taped → Transcript → Type 0) → List (Space Taped) → Type 0
-IsSoOfEach Fact spaces = (namespace : ℕ) (space : Space Taped) → slice_get spaces namespace ≡ Some space → Fact space (journal_of space)
+IsSoOfEach Fact spaces =
+    (namespace : ℕ) (space : Space Taped) → slice_get spaces namespace ≡ Some space
+    → Fact space (journal_of space)
 
 -- The journal obeys, has no refused event, and leads to where the namespace stands. Each of its `SYNC`s left timely values, and after each
 -- event each part was within its bound. Under a plain LRU policy each `SYNC` right after a command left exactly the keys of the recency
@@ -40,5 +42,7 @@ pub record IsJournalOf (space : Space Taped) (journal : Transcript) : Type 0 whe
   pub leads : ∥ LeadsSo space journal ∥₁
   pub timely : IsTrue (is_timely_throughout (config_of space) journal)
   pub bounded : IsTrue (is_bounded_throughout (config_of space) journal)
-  pub exact : (places : ℕ) → IsPlainLru (config_of space) places → ∥ HasExactKeys (config_of space) places journal ∥₁
-  pub recent : (places : ℕ) → IsPlainLru (config_of space) places → ∥ KeepsList (config_of space) places journal ∥₁
+  pub exact : (places : ℕ) → IsPlainLru (config_of space) places
+      → ∥ HasExactKeys (config_of space) places journal ∥₁
+  pub recent : (places : ℕ) → IsPlainLru (config_of space) places
+      → ∥ KeepsList (config_of space) places journal ∥₁

@@ -25,7 +25,8 @@ module _ {X : Type 0} where
 
   -- what is in lists from a place in one of them on
   abbrev pub rest_in : List (List X) → ℕ → ℕ → List X
-  rest_in lists list place = drop place (get_or lists list []) ++ lists_joined (drop (list + 1) lists)
+  rest_in lists list place =
+      drop place (get_or lists list []) ++ lists_joined (drop (list + 1) lists)
 
 -- the lists of the record at a place
 abbrev pub lists_at : List Record → ℕ → List (List Note)
@@ -33,11 +34,15 @@ lists_at records place = option_map_or lists_of (slice_get records place) []
 
 -- the notes before a place
 abbrev pub notes_before : List Record → Told → List Note
-notes_before records told = notes_of_records (take told.entry records) ++ before_in (lists_at records told.entry) told.list told.note
+notes_before records told =
+    notes_of_records (take told.entry records)
+    ++ before_in (lists_at records told.entry) told.list told.note
 
 -- the notes from a place on
 abbrev pub notes_from : List Record → Told → List Note
-notes_from records told = rest_in (lists_at records told.entry) told.list told.note ++ notes_of_records (drop (told.entry + 1) records)
+notes_from records told =
+    rest_in (lists_at records told.entry) told.list told.note
+    ++ notes_of_records (drop (told.entry + 1) records)
 
 -- a place is in the records, or right after them: the notes of each record that is added come after it
 pub record IsPlaceIn (records : List Record) (told : Told) : Type 0 where
@@ -46,4 +51,5 @@ pub record IsPlaceIn (records : List Record) (told : Told) : Type 0 where
 
 -- the first of the notes from one place on is taken, if there is one, and those from another place on are left
 abbrev pub TakesFrom : List Record → Told → Told → Option Note → Type 0
-TakesFrom records was is note = notes_from records was ≡ option_to_list note ++ notes_from records is
+TakesFrom records was is note =
+    notes_from records was ≡ option_to_list note ++ notes_from records is

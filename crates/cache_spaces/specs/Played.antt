@@ -25,7 +25,8 @@ journal_of space = space.tape.journal
 -- The transcript of a namespace: it begins at this moment, belongs to the inputs, leads to a situation and obeys, and none of its events is
 -- refused. Each of its `SYNC`s leaves timely values, and after each event each part is within its bound. Under a plain LRU policy each
 -- `SYNC` right after a command leaves exactly the keys of the recency list.
-pub record Plays (config : Config) (namespace : ℕ) (moment : Instant) (inputs : List Input) (transcript : Transcript) : Type 0 where
+pub record Plays (config : Config) (namespace : ℕ) (moment : Instant) (inputs : List Input)
+    (transcript : Transcript) : Type 0 where
   pub made : transcript.made ≡ moment
   pub belongs : Belongs config namespace transcript inputs
   pub last : Situation
@@ -42,13 +43,16 @@ pub record Plays (config : Config) (namespace : ℕ) (moment : Instant) (inputs 
   pub recent : (places : ℕ) → IsPlainLru config places → KeepsList config places transcript
 
 -- one transcript for each configuration, in their order
-pub record ArePlayed (configs : List Config) (moment : Instant) (inputs : List Input) (transcripts : List Transcript) : Type 0 where
+pub record ArePlayed (configs : List Config) (moment : Instant) (inputs : List Input)
+    (transcripts : List Transcript) : Type 0 where
   pub count : length transcripts ≡ length configs
   pub each : (namespace : ℕ) (config : Config) (transcript : Transcript)
-      → slice_get configs namespace ≡ Some config → slice_get transcripts namespace ≡ Some transcript → Plays config namespace moment inputs transcript
+      → slice_get configs namespace ≡ Some config → slice_get transcripts namespace
+      ≡ Some transcript → Plays config namespace moment inputs transcript
 
 -- a namespace that took the inputs
-pub record HasPlayed (config : Config) (namespace : ℕ) (moment : Instant) (inputs : List Input) (space : Space Taped) : Type 0 where
+pub record HasPlayed (config : Config) (namespace : ℕ) (moment : Instant) (inputs : List Input)
+    (space : Space Taped) : Type 0 where
   pub made : (journal_of space).made ≡ moment
   pub configured : config_of space ≡ config
   pub served : IsTrue (is_served config)
@@ -56,18 +60,23 @@ pub record HasPlayed (config : Config) (namespace : ℕ) (moment : Instant) (inp
   pub stands : StandsFor space last
   pub within : HasItsParts config (part_in space)
   pub parted : LeadsBy config (part_in space) (journal_of space) last
-  pub belongs : BelongsIn config namespace (empty_situation moment.nanos) inputs (journal_of space).records last
+  pub belongs : BelongsIn config namespace (empty_situation moment.nanos) inputs
+      (journal_of space).records last
   pub made_is : made_of space ≡ moment.nanos
   pub timely : IsTrue (are_timely_from config moment.nanos (journal_of space).records)
   pub bounded : IsTrue (are_bounded_from config moment.nanos (journal_of space).records)
-  pub agrees : (places : ℕ) → IsPlainLru config places → AgreesWith (recency_of space) places (order_at_end config (suc places) (Settled []) (journal_of space).records)
-  pub exact : (places : ℕ) → IsPlainLru config places → HaveKeysFrom config (suc places) (Settled []) (empty_situation moment.nanos) (journal_of space).records
+  pub agrees : (places : ℕ) → IsPlainLru config places → AgreesWith (recency_of space) places
+      (order_at_end config (suc places) (Settled []) (journal_of space).records)
+  pub exact : (places : ℕ) → IsPlainLru config places → HaveKeysFrom config (suc places)
+      (Settled []) (empty_situation moment.nanos) (journal_of space).records
 
 -- each namespace took the inputs
-pub record HavePlayed (configs : List Config) (moment : Instant) (inputs : List Input) (spaces : List (Space Taped)) : Type 0 where
+pub record HavePlayed (configs : List Config) (moment : Instant) (inputs : List Input)
+    (spaces : List (Space Taped)) : Type 0 where
   pub count : length spaces ≡ length configs
   pub each : (namespace : ℕ) (config : Config) (space : Space Taped)
-      → slice_get configs namespace ≡ Some config → slice_get spaces namespace ≡ Some space → HasPlayed config namespace moment inputs space
+      → slice_get configs namespace ≡ Some config → slice_get spaces namespace ≡ Some space
+      → HasPlayed config namespace moment inputs space
 
 -- the journals are the result of some inputs, played from new namespaces
 pub record WerePlayed (spaces : List (Space Taped)) : Type 0 where

@@ -35,12 +35,15 @@ AreSynced config [] (step ∷ steps) = ⊥
 AreSynced config (command ∷ commands) [] = ⊥
 AreSynced config (command ∷ commands) (step ∷ []) = ⊥
 AreSynced config (command ∷ commands) (step ∷ next ∷ steps) =
-    IsCommand config step command × IsTrue (is_of_list command) × IsCommand config next says.Sync × AreSynced config commands steps
+    IsCommand config step command × IsTrue (is_of_list command) × IsCommand config next says.Sync
+    × AreSynced config commands steps
 
 -- Each front of the transcript's records whose steps are commands of a recency list, each followed at once by a `SYNC`, leads to a
 -- situation in which exactly the keys of that list, cut at `suc number`, are held.
 abbrev pub KeepsList : Config → ℕ → Transcript → Type 0
 KeepsList config number transcript =
-    (front rest : List Record) (commands : List Command) (s : Situation) → transcript.records ≡ front ++ rest
-    → after_records config (empty_situation transcript.made.nanos) front ≡ Some s → AreSynced config commands (flat_map steps_of front)
+    (front rest : List Record) (commands : List Command) (s : Situation)
+    → transcript.records ≡ front ++ rest
+    → after_records config (empty_situation transcript.made.nanos) front ≡ Some s
+    → AreSynced config commands (flat_map steps_of front)
     → AreKeysOf s.held (recency (suc number) commands)

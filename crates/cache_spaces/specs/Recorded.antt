@@ -35,15 +35,19 @@ records_in recorded namespace = records_at (journals_of recorded.spaces) namespa
 
 -- the replies of a connection in the records after the last taking
 abbrev pub untaken_in : Recorded → Conn → List ℕ
-untaken_in recorded conn = replies_for conn.number (drop (taken_through (cursor_in recorded conn.namespace) conn.number) (records_in recorded conn.namespace))
+untaken_in recorded conn =
+    replies_for conn.number (drop (taken_through (cursor_in recorded conn.namespace) conn.number)
+    (records_in recorded conn.namespace))
 
 -- the notes of a namespace's records that were taken
 abbrev pub notes_taken : Recorded → ℕ → List Note
-notes_taken recorded namespace = notes_before (records_in recorded namespace) (cursor_in recorded namespace).notes
+notes_taken recorded namespace =
+    notes_before (records_in recorded namespace) (cursor_in recorded namespace).notes
 
 -- those that were not taken
 abbrev pub untold_in : Recorded → ℕ → List Note
-untold_in recorded namespace = notes_from (records_in recorded namespace) (cursor_in recorded namespace).notes
+untold_in recorded namespace =
+    notes_from (records_in recorded namespace) (cursor_in recorded namespace).notes
 
 -- nothing of it was read
 abbrev pub IsUnread : Recorded → Type 0
@@ -56,12 +60,14 @@ pub record ReadsWithin (records : List Record) (cursor : Cursor) : Type 0 where
 
 -- this is so for each namespace and its journal
 abbrev pub ReadsJournals : Recorded → Type 0
-ReadsJournals recorded = (namespace : ℕ) → ReadsWithin (records_in recorded namespace) (cursor_in recorded namespace)
+ReadsJournals recorded =
+    (namespace : ℕ) → ReadsWithin (records_in recorded namespace) (cursor_in recorded namespace)
 
 -- of each connection and of each namespace as much was taken as before
 abbrev pub KeepsTaken : Recorded → Recorded → Type 0
 KeepsTaken was is = (namespace : ℕ)
-    → ((number : ℕ) → taken_through (cursor_in is namespace) number ≡ taken_through (cursor_in was namespace) number)
+    → ((number : ℕ) → taken_through (cursor_in is namespace) number
+    ≡ taken_through (cursor_in was namespace) number)
     × ((cursor_in is namespace).notes ≡ (cursor_in was namespace).notes)
 
 -- the records that the journal of a namespace gained
@@ -73,17 +79,21 @@ gained_in was is namespace = drop (length (records_in was namespace)) (records_i
 pub record GainsRecord (namespace : ℕ) (was is : Recorded) : Type 0 where
   pub one : (other : ℕ) → length (gained_in was is other) ≡ (if other == namespace then 1 else 0)
   pub journals : (other : ℕ) → records_in is other ≡ records_in was other ++ gained_in was is other
-  pub replies : (conn : Conn) → untaken_in is conn ≡ untaken_in was conn ++ replies_for conn.number (gained_in was is conn.namespace)
-  pub notes : (other : ℕ) → untold_in is other ≡ untold_in was other ++ notes_of_records (gained_in was is other)
+  pub replies : (conn : Conn) → untaken_in is conn ≡ untaken_in was conn
+      ++ replies_for conn.number (gained_in was is conn.namespace)
+  pub notes : (other : ℕ) → untold_in is other ≡ untold_in was other
+      ++ notes_of_records (gained_in was is other)
 
 -- the replies of a connection that was opened were taken: those since they were last taken, to the end of the journal; nothing else changed
 pub record TakesReplies (was is : Recorded) (conn : Conn) (text : List ℕ) : Type 0 where
   pub known : InSpace was.spaces conn.namespace (λ space. IsOpened space conn.number)
   pub text_is : text ≡ untaken_in was conn
   pub none : untaken_in is conn ≡ []
-  pub reached : taken_through (cursor_in is conn.namespace) conn.number ≡ length (records_in is conn.namespace)
+  pub reached : taken_through (cursor_in is conn.namespace) conn.number
+      ≡ length (records_in is conn.namespace)
   pub others : (other : Conn) → other ≢ conn → untaken_in is other ≡ untaken_in was other
-  pub notes : (namespace : ℕ) → (notes_taken is namespace ≡ notes_taken was namespace) × (untold_in is namespace ≡ untold_in was namespace)
+  pub notes : (namespace : ℕ) → (notes_taken is namespace ≡ notes_taken was namespace)
+      × (untold_in is namespace ≡ untold_in was namespace)
   pub spaces : is.spaces ≡ was.spaces
 
 -- The first note of a namespace that was not taken was taken, if there is one. Those that were taken and those that were not are all that
@@ -93,15 +103,18 @@ pub record TakesNote (was is : Recorded) (namespace : ℕ) (note : Option Note) 
   pub left : untold_in was namespace ≡ option_to_list note ++ untold_in is namespace
   pub none : IsNone note → untold_in was namespace ≡ []
   pub place : IsPlaceIn (records_in is namespace) (cursor_in is namespace).notes
-  pub all : notes_of_records (records_in is namespace) ≡ notes_taken is namespace ++ untold_in is namespace
-  pub others : (other : ℕ) → other ≢ namespace → (notes_taken is other ≡ notes_taken was other) × (untold_in is other ≡ untold_in was other)
+  pub all : notes_of_records (records_in is namespace) ≡ notes_taken is namespace
+      ++ untold_in is namespace
+  pub others : (other : ℕ) → other ≢ namespace → (notes_taken is other ≡ notes_taken was other)
+      × (untold_in is other ≡ untold_in was other)
   pub replies : (conn : Conn) → untaken_in is conn ≡ untaken_in was conn
   pub spaces : is.spaces ≡ was.spaces
 
 -- a connection has a cursor if it was opened
 abbrev pub HaveCursors : List (Space Taped) → List Cursors → Type 0
 HaveCursors spaces read = (namespace : ℕ) (space : Space Taped) (cursors : Cursors)
-    → slice_get spaces namespace ≡ Some space → slice_get read namespace ≡ Some cursors → length cursors.replies.items ≡ length space.closings
+    → slice_get spaces namespace ≡ Some space → slice_get read namespace ≡ Some cursors
+    → length cursors.replies.items ≡ length space.closings
 
 -- what was lent was taken; or nothing changed
 abbrev pub LendsReplies : Recorded → Conn → Result LentReplies ServiceError → Recorded → Type 0

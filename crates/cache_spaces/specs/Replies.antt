@@ -16,7 +16,8 @@ replies_for number records = flat_map (λ entry. flat_map (reply_for number) ent
 
 -- the records of a namespace
 abbrev pub records_at : List Transcript → ℕ → List Record
-records_at journals namespace = option_map_or (λ journal. journal.records) (slice_get journals namespace) []
+records_at journals namespace =
+    option_map_or (λ journal. journal.records) (slice_get journals namespace) []
 
 -- bytes, followed by some more
 pub record Lengthens (old new : List ℕ) : Type 0 where

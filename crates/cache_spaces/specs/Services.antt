@@ -15,15 +15,24 @@ use Rattle.cache_lines.specs.Tape.Taped.{Taped}
 
 -- the configurations with which a service is created: 1 to 16, each of them in range
 abbrev pub are_taken : List Config → Bool
-are_taken configs = nat_le 1 (length configs) && nat_le (length configs) 16 && list_all is_served configs
+are_taken configs =
+    nat_le 1 (length configs) && nat_le (length configs) 16 && list_all is_served configs
 
 -- a tape that keeps records, and has none
 abbrev pub blank_tape : Instant → Taped
-blank_tape made = record { journal = record { made = made; records = [] }; begun = false; steps = []; spare = 0; drafted = None }
+blank_tape made =
+    record {
+      journal = record { made = made; records = [] };
+      begun = false;
+      steps = [];
+      spare = 0;
+      drafted = None;
+    }
 
 module _ {T : Type 0} (tape : T → Option Taped) (blank : Option Taped) where
   -- a new namespace, at this place, with a blank tape
-  pub record IsNewNamespace (space : Space T) (namespace : ℕ) (config : Config) (generator : List ℕ) (made : ℕ) : Type 0 where
+  pub record IsNewNamespace (space : Space T) (namespace : ℕ) (config : Config) (generator : List ℕ)
+      (made : ℕ) : Type 0 where
     pub stands : StandsFor space (empty_situation made)
     pub configured : config_of space ≡ config
     pub made_is : made_of space ≡ made
@@ -33,7 +42,18 @@ module _ {T : Type 0} (tape : T → Option Taped) (blank : Option Taped) where
     pub forked : generator_of space ≡ generator
     pub unregistered : (part : ℕ) (id : List ℕ) → (identifiers_of space).registered part id ≡ false
     pub notices : notices_of space ≡ []
-    pub state_is : space ≡ record { store = space.store; tape = space.tape; latest = made; connections = []; closings = []; outputs = []; sent = 0; pending = []; outgoing = []; namespace = namespace }
+    pub state_is : space ≡ record {
+      store = space.store;
+      tape = space.tape;
+      latest = made;
+      connections = [];
+      closings = [];
+      outputs = [];
+      sent = 0;
+      pending = [];
+      outgoing = [];
+      namespace = namespace;
+    }
     pub taped : tape space.tape ≡ blank
 
 -- the rest of a generator's stream after this many forks
@@ -43,13 +63,17 @@ stream_after_forks (suc n) stream = (fill_bytes 32 (stream_after_forks n stream)
 
 -- the fork that a generator yields after this many
 abbrev pub fork_after : ℕ → List ℕ → List ℕ
-fork_after n generator = of_seed (fill_bytes 32 (stream_after_forks n (stream_of (steps_u64_high plus_plus) generator))).0
+fork_after n generator =
+    of_seed
+    (fill_bytes 32 (stream_after_forks n (stream_of (steps_u64_high plus_plus) generator))).0
 
 module _ {T : Type 0} (tape : T → Option Taped) (blank : Option Taped) where
   -- each namespace is new, with its configuration and the next fork of the generator
-  pub record AreNew (spaces : List (Space T)) (configs : List Config) (generator : List ℕ) (made : ℕ) : Type 0 where
+  pub record AreNew (spaces : List (Space T)) (configs : List Config) (generator : List ℕ)
+      (made : ℕ) : Type 0 where
     pub count : length spaces ≡ length configs
-    pub each : (namespace : ℕ) (config : Config) (space : Space T) → slice_get configs namespace ≡ Some config → slice_get spaces namespace ≡ Some space
+    pub each : (namespace : ℕ) (config : Config) (space : Space T)
+        → slice_get configs namespace ≡ Some config → slice_get spaces namespace ≡ Some space
         → IsNewNamespace tape blank space namespace config (fork_after namespace generator) made
 
 -- a feed that held a command back

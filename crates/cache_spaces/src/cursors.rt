@@ -47,7 +47,8 @@ impl Cursors {
         requires from { 0 < number }
         requires opened { number ≤ length self.old.replies.items }
         ensures cursor { taken_through (cursor_of self.new) number ≡ count }
-        ensures others { (other : ℕ) → other ≢ number → taken_through (cursor_of self.new) other ≡ taken_through (cursor_of self.old) other }
+        ensures others { (other : ℕ) → other ≢ number → taken_through (cursor_of self.new) other
+            ≡ taken_through (cursor_of self.old) other }
         ensures notes { self.new.notes ≡ self.old.notes }
         ensures len { length self.new.replies.items ≡ length self.old.replies.items }
     {
@@ -57,7 +58,8 @@ impl Cursors {
     /// Moves behind the first note in these records that was not taken, and returns the place from which it is the first.
     pub fn pass_note(&mut self, records: &[Record]) -> Told
         ensures was { result ≡ self.old.notes }
-        ensures note { TakesFrom records.now self.old.notes self.new.notes (slice_get (notes_from records.now self.old.notes) 0) }
+        ensures note { TakesFrom records.now self.old.notes self.new.notes
+            (slice_get (notes_from records.now self.old.notes) 0) }
         ensures place { IsPlaceIn records.now self.new.notes }
         ensures replies { self.new.replies ≡ self.old.replies }
     {

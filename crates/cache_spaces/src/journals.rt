@@ -51,7 +51,9 @@ impl Model for RecordedService {
 
     ghost view = { λ r. recorded_of r.core r.read.items };
 
-    ghost invariant = { λ r. ∥ WerePlayed r.core ∥₁ × (r.room.items ≡ []) × (length r.core ≤ vec_capacity r.room) × (length r.read.items ≡ length r.core) × ReadsJournals (recorded_of r.core r.read.items) × HaveCursors r.core r.read.items };
+    ghost invariant = { λ r. ∥ WerePlayed r.core ∥₁ × (r.room.items ≡ [])
+        × (length r.core ≤ vec_capacity r.room) × (length r.read.items ≡ length r.core)
+        × ReadsJournals (recorded_of r.core r.read.items) × HaveCursors r.core r.read.items };
 }
 
 impl RecordedService {
@@ -67,11 +69,14 @@ impl RecordedService {
         generator: Xoshiro256PlusPlus,
         moment: Instant,
     ) -> Result<RecordedService, ServiceError>
-        ensures made { IfOk result (λ recorded. AreNew kept_by (Some (blank_tape moment)) recorded.spaces configs.now generator moment.nanos) }
+        ensures made { IfOk result (λ recorded. AreNew kept_by (Some (blank_tape moment))
+            recorded.spaces configs.now generator moment.nanos) }
         ensures unread { IfOk result IsUnread }
         ensures moment { IsErrOf result ServiceError.Moment ↔ (2 ^ 63 ≤ moment.nanos) }
-        ensures config { IsErrOf result ServiceError.Config ↔ ((moment.nanos < 2 ^ 63) × (are_taken configs.now ≡ false)) }
-        ensures memory { IfErr result (λ e. (e ≡ ServiceError.Moment) ⊎ (e ≡ ServiceError.Config) ⊎ (e ≡ ServiceError.OutOfMemory)) }
+        ensures config { IsErrOf result ServiceError.Config
+            ↔ ((moment.nanos < 2 ^ 63) × (are_taken configs.now ≡ false)) }
+        ensures memory { IfErr result (λ e. (e ≡ ServiceError.Moment) ⊎ (e ≡ ServiceError.Config)
+            ⊎ (e ≡ ServiceError.OutOfMemory)) }
     {
         let core = match Core::new(alloc, configs, generator, moment) {
             Ok(core) => core,
@@ -93,11 +98,13 @@ impl RecordedService {
     /// before `OutOfMemory`, which is also possible for a closing and a give-up, if there is no memory for their records. Then nothing has
     /// changed, and no record is added.
     pub fn step(&mut self, input: Input) -> Result<Output, Refusal>
-        ensures performed { IfOk result (λ output. At self.old.spaces self.new.spaces (namespace_of input) (Performs kept_by input output)) }
+        ensures performed { IfOk result (λ output. At self.old.spaces self.new.spaces
+            (namespace_of input) (Performs kept_by input output)) }
         // the replies and notes, and nothing else, were added to what is left to be taken
         ensures gained { OnOk result (GainsRecord (namespace_of input) self.old self.new) }
         ensures cursors { KeepsTaken self.old self.new }
-        ensures refused { IfErr result (λ refusal. Refuses self.old.spaces (namespace_of input) refusal.error (RefusedInput input refusal.error)) }
+        ensures refused { IfErr result (λ refusal. Refuses self.old.spaces (namespace_of input)
+            refusal.error (RefusedInput input refusal.error)) }
         ensures back { IfErr result (λ refusal. refusal.input ≡ input) }
         ensures unchanged { OnErr result (self.new ≡ self.old) }
         // the journals obey, and each leads to where its namespace stands
@@ -111,10 +118,12 @@ impl RecordedService {
 
     /// Opens a connection, of whose replies none was taken.
     fn open(&mut self, namespace: u64) -> Result<Output, Refusal>
-        ensures performed { IfOk result (λ output. At self.old.spaces self.new.spaces namespace (Performs kept_by (input.Open namespace) output)) }
+        ensures performed { IfOk result (λ output. At self.old.spaces self.new.spaces namespace
+            (Performs kept_by (input.Open namespace) output)) }
         ensures gained { OnOk result (GainsRecord namespace self.old self.new) }
         ensures cursors { KeepsTaken self.old self.new }
-        ensures refused { IfErr result (λ refusal. Refuses self.old.spaces namespace refusal.error (RefusedInput (input.Open namespace) refusal.error)) }
+        ensures refused { IfErr result (λ refusal. Refuses self.old.spaces namespace refusal.error
+            (RefusedInput (input.Open namespace) refusal.error)) }
         ensures back { IfErr result (λ refusal. refusal.input ≡ input.Open namespace) }
         ensures unchanged { OnErr result (self.new ≡ self.old) }
         ensures journals { IsSoOfEach IsJournalOf self.new.spaces }
@@ -132,9 +141,11 @@ impl RecordedService {
     /// Returns the journal of a namespace: a record for each input that it took, in order. It obeys, and leads to where the namespace
     /// stands. This allocates nothing. Returns `NoNamespace` if there is no such namespace.
     pub fn journal(&self, namespace: u64) -> Result<&Transcript, ServiceError>
-        ensures journal { IfOk result (λ journal. slice_get (journals_of self.now.spaces) namespace ≡ Some journal.now) }
+        ensures journal { IfOk result
+            (λ journal. slice_get (journals_of self.now.spaces) namespace ≡ Some journal.now) }
         ensures is { IsSoOfEach IsJournalOf self.now.spaces }
-        ensures refused { IfErr result (λ e. (e ≡ ServiceError.NoNamespace) × (length self.now.spaces ≤ namespace)) }
+        ensures refused { IfErr result
+            (λ e. (e ≡ ServiceError.NoNamespace) × (length self.now.spaces ≤ namespace)) }
     {
         journal_in(&self.core, namespace)
     }
@@ -158,8 +169,10 @@ impl RecordedService {
     /// allocates nothing. Returns `NoNamespace`, then `NoConnection`.
     pub fn peek_output(&self, conn: Conn) -> Result<LentReplies<'_>, ServiceError>
         ensures replies { IfOk result (λ replies. lent_replies replies ≡ untaken_in self.now conn) }
-        ensures known { OnOk result (InSpace self.now.spaces conn.namespace (λ space. IsOpened space conn.number)) }
-        ensures refused { IfErr result (λ e. Refuses self.now.spaces conn.namespace e (λ space. IsUnknown space conn.number e)) }
+        ensures known { OnOk result
+            (InSpace self.now.spaces conn.namespace (λ space. IsOpened space conn.number)) }
+        ensures refused { IfErr result (λ e.
+            Refuses self.now.spaces conn.namespace e (λ space. IsUnknown space conn.number e)) }
     {
         match self.replies_taken(conn) {
             Ok(count) => Ok(self.replies_from(conn, count)),
@@ -175,7 +188,8 @@ impl RecordedService {
     pub fn take_output(&mut self, conn: Conn) -> Result<LentReplies<'_>, ServiceError>
         ensures* taken { sem 𝓛 (Rests the_row self.entry (LendsReplies self.old conn result)) }
         ensures replies { IfOk result (λ replies. lent_replies replies ≡ untaken_in self.old conn) }
-        ensures refused { IfErr result (λ e. Refuses self.old.spaces conn.namespace e (λ space. IsUnknown space conn.number e)) }
+        ensures refused { IfErr result (λ e.
+            Refuses self.old.spaces conn.namespace e (λ space. IsUnknown space conn.number e)) }
     {
         let count = match self.replies_taken(conn) {
             Ok(count) => count,
@@ -187,9 +201,12 @@ impl RecordedService {
 
     /// Through how many records the replies of a connection were taken. Returns `NoNamespace`, then `NoConnection`.
     fn replies_taken(&self, conn: Conn) -> Result<u64, ServiceError>
-        ensures count { IfOk result (λ count. count ≡ taken_through (cursor_in self.now conn.namespace) conn.number) }
-        ensures known { OnOk result (InSpace self.now.spaces conn.namespace (λ space. IsOpened space conn.number)) }
-        ensures refused { IfErr result (λ e. Refuses self.now.spaces conn.namespace e (λ space. IsUnknown space conn.number e)) }
+        ensures count { IfOk result
+            (λ count. count ≡ taken_through (cursor_in self.now conn.namespace) conn.number) }
+        ensures known { OnOk result
+            (InSpace self.now.spaces conn.namespace (λ space. IsOpened space conn.number)) }
+        ensures refused { IfErr result (λ e.
+            Refuses self.now.spaces conn.namespace e (λ space. IsUnknown space conn.number e)) }
     {
         match self.core.closed(conn) {
             Ok(_) => {
@@ -216,7 +233,8 @@ impl RecordedService {
     /// The replies of a connection in its namespace's records from this place on.
     fn replies_from(&self, conn: Conn, place: u64) -> LentReplies<'_>
         requires { conn.namespace < length self.now.spaces }
-        ensures { lent_replies result ≡ replies_for conn.number (drop place (records_in self.now conn.namespace)) }
+        ensures { lent_replies result
+            ≡ replies_for conn.number (drop place (records_in self.now conn.namespace)) }
     {
         let Ok(journal) = journal_in(&self.core, conn.namespace) else {
             unreachable!();
@@ -231,9 +249,11 @@ impl RecordedService {
     /// so that each comes once. This is not an event, adds no record, and allocates nothing. Returns `NoNamespace` if there is no such
     /// namespace.
     pub fn take_loads(&mut self, namespace: u64) -> Result<Vec<(LoadId, Bytes)>, ServiceError>
-        ensures taken { IfOk result (λ loads. At self.old.spaces self.new.spaces namespace (λ was is. TakesLoads was is loads.items)) }
+        ensures taken { IfOk result (λ loads. At self.old.spaces self.new.spaces namespace
+            (λ was is. TakesLoads was is loads.items)) }
         ensures cursors { self.new.cursors ≡ self.old.cursors }
-        ensures refused { IfErr result (λ e. (e ≡ ServiceError.NoNamespace) × (length self.old.spaces ≤ namespace)) }
+        ensures refused { IfErr result
+            (λ e. (e ≡ ServiceError.NoNamespace) × (length self.old.spaces ≤ namespace)) }
         ensures unchanged { OnErr result (self.new ≡ self.old) }
     {
         self.core.take_loads(namespace)
@@ -242,9 +262,11 @@ impl RecordedService {
     /// Returns the oldest note of a namespace that was reported and not taken, lent from the journal; `None` if there is none. It is not
     /// taken. This allocates nothing. Returns `NoNamespace` if there is no such namespace.
     pub fn peek_notice(&self, namespace: u64) -> Result<Option<&Note>, ServiceError>
-        ensures note { IfOk result (λ note. option_copied note ≡ slice_get (untold_in self.now namespace) 0) }
+        ensures note { IfOk result
+            (λ note. option_copied note ≡ slice_get (untold_in self.now namespace) 0) }
         ensures there { OnOk result (namespace < length self.now.spaces) }
-        ensures refused { IfErr result (λ e. (e ≡ ServiceError.NoNamespace) × (length self.now.spaces ≤ namespace)) }
+        ensures refused { IfErr result
+            (λ e. (e ≡ ServiceError.NoNamespace) × (length self.now.spaces ≤ namespace)) }
     {
         match self.read.get(namespace as usize) {
             Some(cursors) => Ok(self.note_from(namespace, cursors.notes)),
@@ -256,8 +278,10 @@ impl RecordedService {
     /// comes once. This is not an event, and allocates nothing. Returns `NoNamespace` if there is no such namespace.
     pub fn next_notice(&mut self, namespace: u64) -> Result<Option<&Note>, ServiceError>
         ensures* taken { sem 𝓛 (Rests the_row self.entry (LendsNote self.old namespace result)) }
-        ensures note { IfOk result (λ note. option_copied note ≡ slice_get (untold_in self.old namespace) 0) }
-        ensures refused { IfErr result (λ e. (e ≡ ServiceError.NoNamespace) × (length self.old.spaces ≤ namespace)) }
+        ensures note { IfOk result
+            (λ note. option_copied note ≡ slice_get (untold_in self.old namespace) 0) }
+        ensures refused { IfErr result
+            (λ e. (e ≡ ServiceError.NoNamespace) × (length self.old.spaces ≤ namespace)) }
     {
         match self.pass_note(namespace) {
             Ok(told) => Ok(self.note_from(namespace, told)),
@@ -269,9 +293,11 @@ impl RecordedService {
     /// `NoNamespace` if there is no such namespace.
     fn pass_note(&mut self, namespace: u64) -> Result<Told, ServiceError>
         ensures told { IfOk result (λ told. told ≡ (cursor_in self.old namespace).notes) }
-        ensures passed { OnOk result (TakesNote self.old self.new namespace (slice_get (untold_in self.old namespace) 0)) }
+        ensures passed { OnOk result
+            (TakesNote self.old self.new namespace (slice_get (untold_in self.old namespace) 0)) }
         ensures there { OnOk result (namespace < length self.old.spaces) }
-        ensures refused { IfErr result (λ e. (e ≡ ServiceError.NoNamespace) × (length self.old.spaces ≤ namespace)) }
+        ensures refused { IfErr result
+            (λ e. (e ≡ ServiceError.NoNamespace) × (length self.old.spaces ≤ namespace)) }
         ensures unchanged { OnErr result (self.new ≡ self.old) }
     {
         let RecordedService { core, read, .. } = self;
@@ -286,7 +312,8 @@ impl RecordedService {
     /// The first note in a namespace's records from this place on.
     fn note_from(&self, namespace: u64, told: Told) -> Option<&Note>
         requires { namespace < length self.now.spaces }
-        ensures { option_copied result ≡ slice_get (notes_from (records_in self.now namespace) told) 0 }
+        ensures { option_copied result
+            ≡ slice_get (notes_from (records_in self.now namespace) told) 0 }
     {
         let Ok(journal) = journal_in(&self.core, namespace) else {
             unreachable!();
@@ -326,9 +353,11 @@ fn new_cursors(alloc: Global, count: usize) -> Result<Vec<Cursors>, AllocError>
 /// Opens a connection in a namespace, and adds its cursor. An `Err` changes nothing.
 fn open_in(core: &mut Core<Kept>, replies: &mut Vec<u64>, namespace: u64) -> Result<Output, Refusal>
     requires { namespace < length core.old }
-    ensures performed { IfOk result (λ output. At core.old core.new namespace (Performs kept_by (input.Open namespace) output)) }
+    ensures performed { IfOk result (λ output.
+        At core.old core.new namespace (Performs kept_by (input.Open namespace) output)) }
     ensures added { OnOk result (replies.new.items ≡ replies.old.items ++ 0 ∷ []) }
-    ensures refused { IfErr result (λ refusal. Refuses core.old namespace refusal.error (RefusedInput (input.Open namespace) refusal.error)) }
+    ensures refused { IfErr result (λ refusal. Refuses core.old namespace refusal.error
+        (RefusedInput (input.Open namespace) refusal.error)) }
     ensures back { IfErr result (λ refusal. refusal.input ≡ input.Open namespace) }
     ensures unchanged { OnErr result (core.new ≡ core.old) }
     ensures kept { OnErr result (replies.new.items ≡ replies.old.items) }
@@ -351,8 +380,10 @@ fn open_in(core: &mut Core<Kept>, replies: &mut Vec<u64>, namespace: u64) -> Res
 
 /// The journal of a namespace, or `NoNamespace`.
 fn journal_in(core: &Core<Kept>, namespace: u64) -> Result<&Transcript, ServiceError>
-    ensures journal { IfOk result (λ journal. slice_get (journals_of core.now) namespace ≡ Some journal.now) }
-    ensures refused { IfErr result (λ e. (e ≡ ServiceError.NoNamespace) × (length core.now ≤ namespace)) }
+    ensures journal { IfOk result
+        (λ journal. slice_get (journals_of core.now) namespace ≡ Some journal.now) }
+    ensures refused { IfErr result
+        (λ e. (e ≡ ServiceError.NoNamespace) × (length core.now ≤ namespace)) }
 {
     match core.spaces.get(namespace as usize) {
         Some(space) => {

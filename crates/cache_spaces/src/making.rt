@@ -51,7 +51,8 @@ pub fn new_spaces<T: NewTape>(
 ) -> Result<Vec<Namespace<SpaceStore, T>>, AllocError>
     requires configs { IsTrue (list_all is_served configs.now) }
     requires moment { made.nanos < 2 ^ 63 }
-    ensures { IfOk result (λ spaces. AreNew T.Tape.view (T.blank made) spaces.items configs.now generator made.nanos) }
+    ensures { IfOk result (λ spaces. AreNew T.Tape.view (T.blank made) spaces.items configs.now
+        generator made.nanos) }
 {
     let mut generator = generator;
     let mut spaces = Vec::with_capacity(alloc, configs.len())?;
@@ -72,7 +73,8 @@ fn new_space<T: NewTape>(
 ) -> Result<Namespace<SpaceStore, T>, AllocError>
     requires config { IsTrue (is_served config) }
     requires moment { made.nanos < 2 ^ 63 }
-    ensures { IfOk result (λ space. IsNewNamespace T.Tape.view (T.blank made) space namespace config generator made.nanos) }
+    ensures { IfOk result (λ space. IsNewNamespace T.Tape.view (T.blank made) space namespace config
+        generator made.nanos) }
 {
     let hasher = keyed_by(&generator)?;
     let store = FrontStore::new(alloc, config, made.nanos, generator, hasher)?;

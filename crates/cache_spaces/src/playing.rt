@@ -27,10 +27,13 @@ pub fn play(
     moment: Instant,
     inputs: &[Input],
 ) -> Result<Vec<Transcript>, ServiceError>
-    ensures played { IfOk result (λ transcripts. ArePlayed configs.now moment inputs.now transcripts.items) }
+    ensures played { IfOk result
+        (λ transcripts. ArePlayed configs.now moment inputs.now transcripts.items) }
     ensures moment { IsErrOf result ServiceError.Moment ↔ (2 ^ 63 ≤ moment.nanos) }
-    ensures config { IsErrOf result ServiceError.Config ↔ ((moment.nanos < 2 ^ 63) × (are_taken configs.now ≡ false)) }
-    ensures memory { IfErr result (λ e. (e ≡ ServiceError.Moment) ⊎ (e ≡ ServiceError.Config) ⊎ (e ≡ ServiceError.OutOfMemory)) }
+    ensures config { IsErrOf result ServiceError.Config
+        ↔ ((moment.nanos < 2 ^ 63) × (are_taken configs.now ≡ false)) }
+    ensures memory { IfErr result (λ e. (e ≡ ServiceError.Moment) ⊎ (e ≡ ServiceError.Config)
+        ⊎ (e ≡ ServiceError.OutOfMemory)) }
 {
     let mut recorded = match RecordedService::new(alloc, configs, generator, moment) {
         Ok(recorded) => recorded,
@@ -48,7 +51,8 @@ fn hand_in(
     recorded: &mut RecordedService,
     input: &Input,
 ) -> Result<Output, ServiceError>
-    ensures performed { IfOk result (λ output. At recorded.old.spaces recorded.new.spaces (namespace_of input.now) (Performs kept_by input.now output)) }
+    ensures performed { IfOk result (λ output. At recorded.old.spaces recorded.new.spaces
+        (namespace_of input.now) (Performs kept_by input.now output)) }
     ensures unchanged { OnErr result (recorded.new ≡ recorded.old) }
 {
     let Ok(copy) = copy_input(alloc, input) else {

@@ -54,7 +54,8 @@ pub fn records_from(records: &[Record], place: u64) -> &[Record]
 
 /// Adds the replies of a connection in these records.
 fn add_all(records: &[Record], number: u64, text: &mut Vec<u8>) -> Result<(), AllocError>
-    ensures added { OnOk result (text.new.items ≡ text.old.items ++ replies_for number records.now) }
+    ensures added { OnOk result
+        (text.new.items ≡ text.old.items ++ replies_for number records.now) }
     ensures lengthens { Lengthens text.old.items text.new.items }
 {
     for entry in records {
@@ -65,7 +66,8 @@ fn add_all(records: &[Record], number: u64, text: &mut Vec<u8>) -> Result<(), Al
 
 /// Adds the replies of a connection in these steps.
 fn add_replies(steps: &[Step], number: u64, text: &mut Vec<u8>) -> Result<(), AllocError>
-    ensures added { OnOk result (text.new.items ≡ text.old.items ++ flat_map (reply_for number) steps.now) }
+    ensures added { OnOk result
+        (text.new.items ≡ text.old.items ++ flat_map (reply_for number) steps.now) }
     ensures lengthens { Lengthens text.old.items text.new.items }
 {
     for step in steps {

@@ -94,10 +94,13 @@ impl<T: NewTape> Core<T> {
         generator: Xoshiro256PlusPlus,
         moment: Instant,
     ) -> Result<Core<T>, ServiceError>
-        ensures made { IfOk result (λ core. AreNew T.Tape.view (T.blank moment) core configs.now generator moment.nanos) }
+        ensures made { IfOk result
+            (λ core. AreNew T.Tape.view (T.blank moment) core configs.now generator moment.nanos) }
         ensures moment { IsErrOf result ServiceError.Moment ↔ (2 ^ 63 ≤ moment.nanos) }
-        ensures config { IsErrOf result ServiceError.Config ↔ ((moment.nanos < 2 ^ 63) × (are_taken configs.now ≡ false)) }
-        ensures memory { IfErr result (λ e. (e ≡ ServiceError.Moment) ⊎ (e ≡ ServiceError.Config) ⊎ (e ≡ ServiceError.OutOfMemory)) }
+        ensures config { IsErrOf result ServiceError.Config
+            ↔ ((moment.nanos < 2 ^ 63) × (are_taken configs.now ≡ false)) }
+        ensures memory { IfErr result (λ e. (e ≡ ServiceError.Moment) ⊎ (e ≡ ServiceError.Config)
+            ⊎ (e ≡ ServiceError.OutOfMemory)) }
     {
         if moment.nanos > MAX_MOMENT {
             return Err(ServiceError::Moment);
@@ -117,8 +120,10 @@ impl<T: Tape> Core<T> {
     ///
     /// Returns `NoNamespace`, then `OutOfMemory`. Then nothing has changed.
     pub fn open(&mut self, namespace: u64) -> Result<Conn, ServiceError>
-        ensures taken { IfOk result (λ conn. (conn.namespace ≡ namespace) × At self.old self.new namespace (λ was is. OpensNext T.view was is conn.number)) }
-        ensures refused { IfErr result (λ e. Refuses self.old namespace e (λ was. e ≡ ServiceError.OutOfMemory)) }
+        ensures taken { IfOk result (λ conn. (conn.namespace ≡ namespace)
+            × At self.old self.new namespace (λ was is. OpensNext T.view was is conn.number)) }
+        ensures refused { IfErr result
+            (λ e. Refuses self.old namespace e (λ was. e ≡ ServiceError.OutOfMemory)) }
         ensures unchanged { OnErr result (self.new ≡ self.old) }
     {
         let Some(space) = self.spaces.get_mut(namespace as usize) else {
@@ -136,9 +141,13 @@ impl<T: Tape> Core<T> {
     /// Returns `NoNamespace`, `NoConnection` or `Closed`, in this order, and otherwise `OutOfMemory` if there is no memory for its record:
     /// without a journal there is no record, and so no such error. After a refusal nothing has changed.
     pub fn close(&mut self, conn: Conn) -> Result<(), ServiceError>
-        ensures taken { OnOk result (At self.old self.new conn.namespace (λ was is. ServesEvent T.view was is (event.Close conn.number) false)) }
-        ensures refused { IfErr result (λ e. Refuses self.old conn.namespace e (λ was. RefusedFor was (event.Close conn.number) false e)) }
-        ensures spare { IfErr result (λ e. Refuses self.old conn.namespace e (λ was. T.view was.tape ≡ None → refusal_of (config_of was) (known_of was) (event.Close conn.number) ≡ Some e)) }
+        ensures taken { OnOk result (At self.old self.new conn.namespace
+            (λ was is. ServesEvent T.view was is (event.Close conn.number) false)) }
+        ensures refused { IfErr result (λ e. Refuses self.old conn.namespace e
+            (λ was. RefusedFor was (event.Close conn.number) false e)) }
+        ensures spare { IfErr result
+            (λ e. Refuses self.old conn.namespace e (λ was. T.view was.tape ≡ None
+            → refusal_of (config_of was) (known_of was) (event.Close conn.number) ≡ Some e)) }
         ensures unchanged { OnErr result (self.new ≡ self.old) }
     {
         let Some(space) = self.spaces.get_mut(conn.namespace as usize) else {
@@ -155,8 +164,11 @@ impl<T: Tape> Core<T> {
     /// Returns `NoNamespace`, `NoConnection`, `Closed` or `Moment` (above 2^63 - 1 nanoseconds), in this order; otherwise `OutOfMemory`,
     /// or `HeldAgain` if there is still not enough memory for the held command. Then nothing has changed.
     pub fn feed(&mut self, conn: Conn, piece: &[u8], moment: Instant) -> Result<Fed, ServiceError>
-        ensures taken { IfOk result (λ done. At self.old self.new conn.namespace (λ was is. ServesEvent T.view was is (feeding conn.number piece.now moment.nanos) (feed_is_held done))) }
-        ensures refused { IfErr result (λ e. Refuses self.old conn.namespace e (λ was. RefusedFor was (feeding conn.number piece.now moment.nanos) (is_held_in was conn.number) e)) }
+        ensures taken { IfOk result
+            (λ done. At self.old self.new conn.namespace (λ was is. ServesEvent T.view was is
+            (feeding conn.number piece.now moment.nanos) (feed_is_held done))) }
+        ensures refused { IfErr result (λ e. Refuses self.old conn.namespace e (λ was. RefusedFor
+            was (feeding conn.number piece.now moment.nanos) (is_held_in was conn.number) e)) }
         ensures unchanged { OnErr result (self.new ≡ self.old) }
     {
         let Some(space) = self.spaces.get_mut(conn.namespace as usize) else {
@@ -180,8 +192,10 @@ impl<T: Tape> Core<T> {
         outcome: Outcome,
         moment: Instant,
     ) -> Result<(), AnswerError>
-        ensures taken { OnOk result (At self.old self.new load.namespace (λ was is. Settled T.view was is (answering load.number outcome moment.nanos))) }
-        ensures refused { IfErr result (λ e. Refuses self.old load.namespace e.error (λ was. RefusedFor was (answering load.number outcome moment.nanos) false e.error)) }
+        ensures taken { OnOk result (At self.old self.new load.namespace
+            (λ was is. Settled T.view was is (answering load.number outcome moment.nanos))) }
+        ensures refused { IfErr result (λ e. Refuses self.old load.namespace e.error
+            (λ was. RefusedFor was (answering load.number outcome moment.nanos) false e.error)) }
         ensures back { IfErr result (λ e. e.outcome ≡ outcome) }
         ensures unchanged { OnErr result (self.new ≡ self.old) }
     {
@@ -205,9 +219,13 @@ impl<T: Tape> Core<T> {
     /// memory for its record. Without a journal there is no such error, since a lack of memory holds lines back. After a refusal nothing
     /// has changed.
     pub fn give_up(&mut self, load: LoadId, moment: Instant) -> Result<(), ServiceError>
-        ensures taken { OnOk result (At self.old self.new load.namespace (λ was is. Settled T.view was is (giving_up load.number moment.nanos))) }
-        ensures refused { IfErr result (λ e. Refuses self.old load.namespace e (λ was. RefusedFor was (giving_up load.number moment.nanos) false e)) }
-        ensures spare { IfErr result (λ e. Refuses self.old load.namespace e (λ was. T.view was.tape ≡ None → refusal_of (config_of was) (known_of was) (giving_up load.number moment.nanos) ≡ Some e)) }
+        ensures taken { OnOk result (At self.old self.new load.namespace
+            (λ was is. Settled T.view was is (giving_up load.number moment.nanos))) }
+        ensures refused { IfErr result (λ e. Refuses self.old load.namespace e
+            (λ was. RefusedFor was (giving_up load.number moment.nanos) false e)) }
+        ensures spare { IfErr result
+            (λ e. Refuses self.old load.namespace e (λ was. T.view was.tape ≡ None → refusal_of
+            (config_of was) (known_of was) (giving_up load.number moment.nanos) ≡ Some e)) }
         ensures unchanged { OnErr result (self.new ≡ self.old) }
     {
         let Some(space) = self.spaces.get_mut(load.namespace as usize) else {
@@ -220,8 +238,10 @@ impl<T: Tape> Core<T> {
     /// allocates nothing.
     /// Returns `NoNamespace`, then `NoConnection`.
     pub fn take_output(&mut self, conn: Conn) -> Result<Vec<u8>, ServiceError>
-        ensures taken { IfOk result (λ text. At self.old self.new conn.namespace (λ was is. TakesOutput was is conn.number text.items)) }
-        ensures refused { IfErr result (λ e. Refuses self.old conn.namespace e (λ was. IsUnknown was conn.number e)) }
+        ensures taken { IfOk result (λ text. At self.old self.new conn.namespace
+            (λ was is. TakesOutput was is conn.number text.items)) }
+        ensures refused { IfErr result
+            (λ e. Refuses self.old conn.namespace e (λ was. IsUnknown was conn.number e)) }
         ensures unchanged { OnErr result (self.new ≡ self.old) }
     {
         let Some(space) = self.spaces.get_mut(conn.namespace as usize) else {
@@ -239,8 +259,10 @@ impl<T: Tape> Core<T> {
     /// }
     /// ```
     pub fn next_notice(&mut self, namespace: u64) -> Result<Option<Note>, ServiceError>
-        ensures taken { IfOk result (λ note. At self.old self.new namespace (λ was is. TakesNotice was is note)) }
-        ensures refused { IfErr result (λ e. (e ≡ ServiceError.NoNamespace) × (length self.old ≤ namespace)) }
+        ensures taken { IfOk result
+            (λ note. At self.old self.new namespace (λ was is. TakesNotice was is note)) }
+        ensures refused { IfErr result
+            (λ e. (e ≡ ServiceError.NoNamespace) × (length self.old ≤ namespace)) }
         ensures unchanged { OnErr result (self.new ≡ self.old) }
     {
         let Some(space) = self.spaces.get_mut(namespace as usize) else {
@@ -258,8 +280,10 @@ impl<T: Tape> Core<T> {
     /// }
     /// ```
     pub fn take_loads(&mut self, namespace: u64) -> Result<Vec<(LoadId, Bytes)>, ServiceError>
-        ensures taken { IfOk result (λ loads. At self.old self.new namespace (λ was is. TakesLoads was is loads.items)) }
-        ensures refused { IfErr result (λ e. (e ≡ ServiceError.NoNamespace) × (length self.old ≤ namespace)) }
+        ensures taken { IfOk result
+            (λ loads. At self.old self.new namespace (λ was is. TakesLoads was is loads.items)) }
+        ensures refused { IfErr result
+            (λ e. (e ≡ ServiceError.NoNamespace) × (length self.old ≤ namespace)) }
         ensures unchanged { OnErr result (self.new ≡ self.old) }
     {
         let Some(space) = self.spaces.get_mut(namespace as usize) else {
@@ -270,8 +294,10 @@ impl<T: Tape> Core<T> {
 
     /// Returns why a connection is closed; `None` while it is open. This allocates nothing. Returns `NoNamespace`, then `NoConnection`.
     pub fn closed(&self, conn: Conn) -> Result<Option<Closing>, ServiceError>
-        ensures closing { IfOk result (λ closing. InSpace self.now conn.namespace (λ space. IsOpened space conn.number × (closing ≡ closing_of space conn.number))) }
-        ensures refused { IfErr result (λ e. Refuses self.now conn.namespace e (λ space. IsUnknown space conn.number e)) }
+        ensures closing { IfOk result (λ closing. InSpace self.now conn.namespace
+            (λ space. IsOpened space conn.number × (closing ≡ closing_of space conn.number))) }
+        ensures refused { IfErr result
+            (λ e. Refuses self.now conn.namespace e (λ space. IsUnknown space conn.number e)) }
     {
         match self.spaces.get(conn.namespace as usize) {
             Some(space) => space.closed(conn.number),
@@ -282,8 +308,10 @@ impl<T: Tape> Core<T> {
     /// Returns whether a connection is open and its first line is a `LOAD` that waits for its load, so that no later line runs. This
     /// allocates nothing. Returns `NoNamespace`, then `NoConnection`.
     pub fn waiting(&self, conn: Conn) -> Result<bool, ServiceError>
-        ensures waits { IfOk result (λ waits. InSpace self.now conn.namespace (λ space. IsOpened space conn.number × (waits ≡ is_waiting_for space conn.number))) }
-        ensures refused { IfErr result (λ e. Refuses self.now conn.namespace e (λ space. IsUnknown space conn.number e)) }
+        ensures waits { IfOk result (λ waits. InSpace self.now conn.namespace
+            (λ space. IsOpened space conn.number × (waits ≡ is_waiting_for space conn.number))) }
+        ensures refused { IfErr result
+            (λ e. Refuses self.now conn.namespace e (λ space. IsUnknown space conn.number e)) }
     {
         match self.spaces.get(conn.namespace as usize) {
             Some(space) => space.waiting(conn.number),
@@ -294,8 +322,10 @@ impl<T: Tape> Core<T> {
     /// Returns how many loads of a namespace are under way: sent, and neither answered nor given up, whether they were taken or not. This
     /// allocates nothing. Returns `NoNamespace` if there is no such namespace.
     pub fn loads_open(&self, namespace: u64) -> Result<u64, ServiceError>
-        ensures count { IfOk result (λ count. InSpace self.now namespace (λ space. count ≡ length space.pending)) }
-        ensures refused { IfErr result (λ e. (e ≡ ServiceError.NoNamespace) × (length self.now ≤ namespace)) }
+        ensures count { IfOk result
+            (λ count. InSpace self.now namespace (λ space. count ≡ length space.pending)) }
+        ensures refused { IfErr result
+            (λ e. (e ≡ ServiceError.NoNamespace) × (length self.now ≤ namespace)) }
     {
         match self.spaces.get(namespace as usize) {
             Some(space) => Ok(space.loads_open()),

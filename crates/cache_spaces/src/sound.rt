@@ -11,7 +11,8 @@ impl<T: Tape> Core<T> {
     /// Does nothing. Its contract says what is true of a namespace, if it exists: it stands for a situation, it is in order, and its parts
     /// agree with each other.
     pub fn sound(&self, namespace: u64)
-        ensures { (space : Space T) → slice_get self.now namespace ≡ Some space → IsSound T.view space }
+        ensures { (space : Space T) → slice_get self.now namespace ≡ Some space
+            → IsSound T.view space }
     {
         match self.spaces.get(namespace as usize) {
             Some(space) => space.sound(),

@@ -34,8 +34,10 @@ impl<T: Tape> Core<T> {
     ///
     /// A refused input is returned, with the cause for which the call of that name refuses it; then nothing has changed.
     pub fn step(&mut self, input: Input) -> Result<Output, Refusal>
-        ensures performed { IfOk result (λ output. At self.old self.new (namespace_of input) (Performs T.view input output)) }
-        ensures refused { IfErr result (λ refusal. Refuses self.old (namespace_of input) refusal.error (RefusedInput input refusal.error)) }
+        ensures performed { IfOk result
+            (λ output. At self.old self.new (namespace_of input) (Performs T.view input output)) }
+        ensures refused { IfErr result (λ refusal. Refuses self.old (namespace_of input)
+            refusal.error (RefusedInput input refusal.error)) }
         ensures back { IfErr result (λ refusal. refusal.input ≡ input) }
         ensures unchanged { OnErr result (self.new ≡ self.old) }
     {
@@ -58,8 +60,10 @@ impl<T: Tape> Core<T> {
 
     /// Opens a connection.
     fn step_open(&mut self, namespace: u64) -> Result<Output, Refusal>
-        ensures performed { IfOk result (λ output. At self.old self.new namespace (Performs T.view (input.Open namespace) output)) }
-        ensures refused { IfErr result (λ refusal. Refuses self.old namespace refusal.error (RefusedInput (input.Open namespace) refusal.error)) }
+        ensures performed { IfOk result (λ output.
+            At self.old self.new namespace (Performs T.view (input.Open namespace) output)) }
+        ensures refused { IfErr result (λ refusal. Refuses self.old namespace refusal.error
+            (RefusedInput (input.Open namespace) refusal.error)) }
         ensures back { IfErr result (λ refusal. refusal.input ≡ input.Open namespace) }
         ensures unchanged { OnErr result (self.new ≡ self.old) }
     {
@@ -74,8 +78,10 @@ impl<T: Tape> Core<T> {
 
     /// Closes a connection.
     fn step_close(&mut self, conn: Conn) -> Result<Output, Refusal>
-        ensures performed { IfOk result (λ output. At self.old self.new conn.namespace (Performs T.view (input.Close conn) output)) }
-        ensures refused { IfErr result (λ refusal. Refuses self.old conn.namespace refusal.error (RefusedInput (input.Close conn) refusal.error)) }
+        ensures performed { IfOk result (λ output.
+            At self.old self.new conn.namespace (Performs T.view (input.Close conn) output)) }
+        ensures refused { IfErr result (λ refusal. Refuses self.old conn.namespace refusal.error
+            (RefusedInput (input.Close conn) refusal.error)) }
         ensures back { IfErr result (λ refusal. refusal.input ≡ input.Close conn) }
         ensures unchanged { OnErr result (self.new ≡ self.old) }
     {
@@ -90,8 +96,10 @@ impl<T: Tape> Core<T> {
 
     /// Takes a piece of a connection's bytes.
     fn step_feed(&mut self, conn: Conn, piece: Bytes, moment: Instant) -> Result<Output, Refusal>
-        ensures performed { IfOk result (λ output. At self.old self.new conn.namespace (Performs T.view (input.Feed conn piece moment) output)) }
-        ensures refused { IfErr result (λ refusal. Refuses self.old conn.namespace refusal.error (RefusedInput (input.Feed conn piece moment) refusal.error)) }
+        ensures performed { IfOk result (λ output. At self.old self.new conn.namespace
+            (Performs T.view (input.Feed conn piece moment) output)) }
+        ensures refused { IfErr result (λ refusal. Refuses self.old conn.namespace refusal.error
+            (RefusedInput (input.Feed conn piece moment) refusal.error)) }
         ensures back { IfErr result (λ refusal. refusal.input ≡ input.Feed conn piece moment) }
         ensures unchanged { OnErr result (self.new ≡ self.old) }
     {
@@ -116,8 +124,10 @@ impl<T: Tape> Core<T> {
         outcome: Outcome,
         moment: Instant,
     ) -> Result<Output, Refusal>
-        ensures performed { IfOk result (λ output. At self.old self.new load.namespace (Performs T.view (input.Answer load outcome moment) output)) }
-        ensures refused { IfErr result (λ refusal. Refuses self.old load.namespace refusal.error (RefusedInput (input.Answer load outcome moment) refusal.error)) }
+        ensures performed { IfOk result (λ output. At self.old self.new load.namespace
+            (Performs T.view (input.Answer load outcome moment) output)) }
+        ensures refused { IfErr result (λ refusal. Refuses self.old load.namespace refusal.error
+            (RefusedInput (input.Answer load outcome moment) refusal.error)) }
         ensures back { IfErr result (λ refusal. refusal.input ≡ input.Answer load outcome moment) }
         ensures unchanged { OnErr result (self.new ≡ self.old) }
     {
@@ -136,8 +146,10 @@ impl<T: Tape> Core<T> {
 
     /// Gives a load up.
     fn step_give_up(&mut self, load: LoadId, moment: Instant) -> Result<Output, Refusal>
-        ensures performed { IfOk result (λ output. At self.old self.new load.namespace (Performs T.view (input.GiveUp load moment) output)) }
-        ensures refused { IfErr result (λ refusal. Refuses self.old load.namespace refusal.error (RefusedInput (input.GiveUp load moment) refusal.error)) }
+        ensures performed { IfOk result (λ output. At self.old self.new load.namespace
+            (Performs T.view (input.GiveUp load moment) output)) }
+        ensures refused { IfErr result (λ refusal. Refuses self.old load.namespace refusal.error
+            (RefusedInput (input.GiveUp load moment) refusal.error)) }
         ensures back { IfErr result (λ refusal. refusal.input ≡ input.GiveUp load moment) }
         ensures unchanged { OnErr result (self.new ≡ self.old) }
     {

@@ -16,7 +16,8 @@ pub struct Told {
 
 /// Returns the first note from there on, and the place after it.
 pub fn find_note(records: &[Record], told: Told) -> Option<(&Note, Told)>
-    ensures first { MatchOption result (notes_from records.now told ≡ []) (λ found. notes_from records.now told ≡ found.0.now ∷ notes_from records.now found.1) }
+    ensures first { MatchOption result (notes_from records.now told ≡ [])
+        (λ found. notes_from records.now told ≡ found.0.now ∷ notes_from records.now found.1) }
     ensures within { IfSome result (λ found. found.1.entry < length records.now) }
 {
     let mut list = told.list;
@@ -35,7 +36,9 @@ pub fn find_note(records: &[Record], told: Told) -> Option<(&Note, Told)>
 
 /// The first note of a record from this place on, and the place after it.
 fn find_in(entry: &Record, list: usize, note: usize) -> Option<(&Note, usize, usize)>
-    ensures { MatchOption result (rest_in (lists_of entry.now) list note ≡ []) (λ found. rest_in (lists_of entry.now) list note ≡ found.0.now ∷ rest_in (lists_of entry.now) found.1 found.2) }
+    ensures { MatchOption result (rest_in (lists_of entry.now) list note ≡ [])
+        (λ found. rest_in (lists_of entry.now) list note ≡ found.0.now
+        ∷ rest_in (lists_of entry.now) found.1 found.2) }
 {
     let mut from = note;
     for at in list..entry.steps.as_slice().len() + 1 {

@@ -30,7 +30,8 @@ pub record KeepsIdentifiers (old_stream new_stream : Stream) (old new : Register
 pub record Registers (old_stream new_stream : Stream) (old new : Register) : Type 0 where
   pub number : ℕ
   pub stream : new_stream ≡ stream_after number old_stream
-  pub registered : (part : ℕ) → (place : ℕ) × (place < number) × ((id : List ℕ) → IsTrue (new part id) → IsTrue (old part id || same id (identifier_at place old_stream)))
+  pub registered : (part : ℕ) → (place : ℕ) × (place < number) × ((id : List ℕ)
+      → IsTrue (new part id) → IsTrue (old part id || same id (identifier_at place old_stream)))
 
 -- identifiers are drawn, and none is registered that was not before
 pub record DrawsAlone (old_stream new_stream : Stream) (old new : Register) : Type 0 where
@@ -39,11 +40,13 @@ pub record DrawsAlone (old_stream new_stream : Stream) (old new : Register) : Ty
   pub registered : (part : ℕ) (id : List ℕ) → IsTrue (new part id) → IsTrue (old part id)
 
 -- some identifiers are drawn, and then a thousand that are each registered in one and the same part
-pub record AreUsedUp (parts : ℕ) (old_stream new_stream : Stream) (registered : Register) : Type 0 where
+pub record AreUsedUp (parts : ℕ) (old_stream new_stream : Stream) (registered : Register) :
+    Type 0 where
   pub part : ℕ
   pub is_part : part < parts
   pub first : ℕ
   pub number : ℕ
   pub thousand : number ≡ first + 1000
   pub stream : new_stream ≡ stream_after number old_stream
-  pub each : (n : ℕ) → first ≤ n → n < number → IsTrue (registered part (identifier_at n old_stream))
+  pub each : (n : ℕ) → first ≤ n → n < number
+      → IsTrue (registered part (identifier_at n old_stream))

@@ -45,19 +45,29 @@ syncing = record no_deed { syncs = true }
 -- the value that is accepted for a key and bytes
 abbrev pub value_for : Frame → ℕ → List ℕ → List ℕ → Option ℕ → Value
 value_for frame now key bytes ms =
-    record { key = key; bytes = bytes; part = frame.part_of key; weight = weight_of frame.config.weight bytes; accepted_at = now; own_deadline = own_deadline_from now ms }
+    record {
+      key = key;
+      bytes = bytes;
+      part = frame.part_of key;
+      weight = weight_of frame.config.weight bytes;
+      accepted_at = now;
+      own_deadline = own_deadline_from now ms;
+    }
 
 -- ---- what a call does
 
 -- If these values were held, the call reported some with true causes, left the others as the deed leaves them, and passed its notes on.
-pub record Done (config : Config) (now : ℕ) (deed : Deed) (held : List HeldValue) (Stands : List HeldValue → Type 0) (Handed : List Note → Type 0) : Type 0 where
+pub record Done (config : Config) (now : ℕ) (deed : Deed) (held : List HeldValue)
+    (Stands : List HeldValue → Type 0) (Handed : List Note → Type 0) : Type 0 where
   pub told : List Note
-  pub right : IsTrue (are_true_notes config (map (candidate_at config now) held) deed (candidates_of config (map (candidate_at config now) held) deed) told)
+  pub right : IsTrue (are_true_notes config (map (candidate_at config now) held) deed
+      (candidates_of config (map (candidate_at config now) held) deed) told)
   pub left : Stands (all_held_after config now held deed told)
   pub handed : Handed told
 
 -- nothing has changed
-pub record IsUnchanged (old_stands new_stands : List HeldValue → Type 0) (old_frame new_frame : Frame) (old_untaken new_untaken : List Note) : Type 0 where
+pub record IsUnchanged (old_stands new_stands : List HeldValue → Type 0)
+    (old_frame new_frame : Frame) (old_untaken new_untaken : List Note) : Type 0 where
   pub stands : (held : List HeldValue) → old_stands held → new_stands held
   pub frame : new_frame ≡ old_frame
   pub untaken : new_untaken ≡ old_untaken

@@ -17,7 +17,8 @@ is_bounded config held = go config.capacity
   where
     go : Option ℕ → Bool
     go None = true
-    go (Some capacity) = list_all (λ h. nat_le (weight_in h.value.part held) (share config capacity + 524288)) held
+    go (Some capacity) =
+        list_all (λ h. nat_le (weight_in h.value.part held) (share config capacity + 524288)) held
 
 -- the tick of a moment: ticks have 2^30 nanoseconds, and are counted from the moment of creation rounded down to a multiple of 4096
 abbrev pub tick_of : ℕ → ℕ → ℕ

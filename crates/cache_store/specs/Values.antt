@@ -63,11 +63,13 @@ pub record IsSoundStore (v : Values) : Type 0 where
   -- the part of a value is that of its key, and there is such a part
   pub parted : (key : List ℕ) → v.frame.part_of key < part_count v.frame.config
   -- a step that does nothing to values leaves those that are held as they are
-  pub idle : (held : List HeldValue) (now : ℕ) → v.Stands held → v.Stands (all_held_after v.frame.config now held no_deed [])
+  pub idle : (held : List HeldValue) (now : ℕ) → v.Stands held
+      → v.Stands (all_held_after v.frame.config now held no_deed [])
   -- each part weighs at most its share plus 64 of the longest values
   pub bounded : (held : List HeldValue) → v.Stands held → IsTrue (is_bounded v.frame.config held)
   -- after a run of all parts the keys in their order of use are those held
-  pub ordered : (held : List HeldValue) (keys : List (List ℕ)) → v.Stands held → v.Used true keys → AreKeysOf held keys
+  pub ordered : (held : List HeldValue) (keys : List (List ℕ)) → v.Stands held → v.Used true keys
+      → AreKeysOf held keys
 
 -- ---- what a call does
 
@@ -87,7 +89,8 @@ DrawsBy (Prefixed prefix) was is = Registers was.stream is.stream was.registered
 DrawsBy other was is = KeepsIdentifiers was.stream is.stream was.registered is.registered
 
 -- the keys in their order of use: one that is written or found moves to the front, one that is deleted leaves
-abbrev pub keys_used_by : (uses : Option (List ℕ)) (value : Option Value) (deletes : Option (List ℕ)) → List (List ℕ) → List (List ℕ)
+abbrev pub keys_used_by : (uses : Option (List ℕ)) (value : Option Value)
+    (deletes : Option (List ℕ)) → List (List ℕ) → List (List ℕ)
 keys_used_by uses (Some value) deletes keys = put_first value.key keys
 keys_used_by uses None (Some key) keys = keys_without key keys
 keys_used_by (Some key) None None keys = used_first key keys
@@ -98,29 +101,40 @@ abbrev pub MovesUse : Deed → (was is : Values) → Type 0
 MovesUse deed was is = go deed.covers deed.syncs
   where
     go : Covering → Bool → Type 0
-    go Nothing false = (n : ℕ) (keys : List (List ℕ)) → IsPlainLru was.frame.config n → was.Used true keys → is.Used false (keys_used_by deed.uses deed.value deed.deletes keys)
-    go Nothing true = (n : ℕ) (settled : Bool) (keys : List (List ℕ)) → IsPlainLru was.frame.config n → was.Used settled keys → is.Used true (take (suc n) keys)
+    go Nothing false =
+        (n : ℕ) (keys : List (List ℕ)) → IsPlainLru was.frame.config n → was.Used true keys
+        → is.Used false (keys_used_by deed.uses deed.value deed.deletes keys)
+    go Nothing true =
+        (n : ℕ) (settled : Bool) (keys : List (List ℕ)) → IsPlainLru was.frame.config n
+        → was.Used settled keys → is.Used true (take (suc n) keys)
     go covers syncs = Unit {0}
 
 -- At this moment the call did this to values: it reported some with true causes and left the others as the deed leaves them, whichever list
 -- it stood for.
 pub record Does (now : ℕ) (deed : Deed) (was is : Values) : Type 0 where
-  pub done : (held : List HeldValue) → was.Stands held → Done was.frame.config now deed held is.Stands (HandsBy deed.covers was.untaken is.untaken)
-  pub frame : is.frame ≡ record was.frame { dropped = was.frame.dropped || covers_prefix deed.covers; latest = now }
+  pub done : (held : List HeldValue) → was.Stands held
+      → Done was.frame.config now deed held is.Stands (HandsBy deed.covers was.untaken is.untaken)
+  pub frame : is.frame ≡ record was.frame {
+    dropped = was.frame.dropped || covers_prefix deed.covers;
+    latest = now;
+  }
   pub used : MovesUse deed was is
   pub drawn : DrawsBy deed.covers was is
   pub spent : is.spent ≤ was.spent + 1
 
 -- a value was accepted, in the part of its key
-abbrev pub AcceptsValue : (now : ℕ) (key bytes : List ℕ) (milliseconds : Option ℕ) (looked_up : Bool) (part : ℕ) (was is : Values) → Type 0
+abbrev pub AcceptsValue : (now : ℕ) (key bytes : List ℕ) (milliseconds : Option ℕ)
+    (looked_up : Bool) (part : ℕ) (was is : Values) → Type 0
 AcceptsValue now key bytes milliseconds looked_up part was is =
-    (part ≡ was.frame.part_of key) × Does now (accepting (if looked_up then Some key else None) (value_for was.frame now key bytes milliseconds)) was is
+    (part ≡ was.frame.part_of key) × Does now (accepting (if looked_up then Some key else None)
+    (value_for was.frame now key bytes milliseconds)) was is
 
 -- Nothing is covered: a thousand identifiers were drawn that are each registered in one part, and only the generator moved on. A first
 -- `DROPIF` is never refused like this.
 pub record LacksIdentifiers (was is : Values) : Type 0 where
   pub used_up : AreUsedUp (part_count was.frame.config) was.stream is.stream was.registered
-  pub registered : (part : ℕ) (id : List ℕ) → IsTrue (is.registered part id) → IsTrue (was.registered part id)
+  pub registered : (part : ℕ) (id : List ℕ) → IsTrue (is.registered part id)
+      → IsTrue (was.registered part id)
   pub stands : (held : List HeldValue) → was.Stands held → is.Stands held
   pub frame : is.frame ≡ was.frame
   pub dropped : was.frame.dropped ≡ true
@@ -129,9 +143,12 @@ pub record LacksIdentifiers (was is : Values) : Type 0 where
 
 -- what a run of all parts leaves: this many values of this weight, each part within its share, none covered or long dead, no identifier
 pub record IsSettled (v : Values) (number weight : ℕ) : Type 0 where
-  pub held : (held : List HeldValue) → v.Stands held → (number ≡ length held) × (weight ≡ sum_by (λ h. h.value.weight) held)
-  pub within : (held : List HeldValue) → v.Stands held → IsTrue (is_within v.frame.config (map (λ h. h.value) held))
-  pub timely : (held : List HeldValue) → v.Stands held → IsTrue (list_all (is_timely v.frame.config v.frame.made v.frame.latest) held)
+  pub held : (held : List HeldValue) → v.Stands held → (number ≡ length held)
+      × (weight ≡ sum_by (λ h. h.value.weight) held)
+  pub within : (held : List HeldValue) → v.Stands held
+      → IsTrue (is_within v.frame.config (map (λ h. h.value) held))
+  pub timely : (held : List HeldValue) → v.Stands held
+      → IsTrue (list_all (is_timely v.frame.config v.frame.made v.frame.latest) held)
   pub released : (part : ℕ) (id : List ℕ) → v.registered part id ≡ false
 
 -- the note that was reported first is taken; nothing else changes
@@ -146,11 +163,15 @@ pub record GivesNote (was is : Values) : Type 0 where
 
 -- the bytes of the key's live value
 abbrev pub IsLive : Values → ℕ → List ℕ → Option (List ℕ) → Type 0
-IsLive v now key bytes = (held : List HeldValue) → v.Stands held → bytes ≡ option_map (λ value. value.bytes) (live_at v.frame.config now held key)
+IsLive v now key bytes =
+    (held : List HeldValue) → v.Stands held
+    → bytes ≡ option_map (λ value. value.bytes) (live_at v.frame.config now held key)
 
 -- a call was passed the bytes of the key's live value, if there is one, and the value behind a `&mut`; it returned this, and left that
 -- there
-pub record ReadsLive {F O R : Type 0} (read : Once F (Option (Bor (List ℕ)) × (MutBor O × Unit {0})) (R × (MutBor O × Unit {0}))) (f : F) (v : Values) (now : ℕ) (key : List ℕ) (old : O) (answer : R) (new : O) : Type 0 where
+pub record ReadsLive {F O R : Type 0}
+    (read : Once F (Option (Bor (List ℕ)) × (MutBor O × Unit {0})) (R × (MutBor O × Unit {0})))
+    (f : F) (v : Values) (now : ℕ) (key : List ℕ) (old : O) (answer : R) (new : O) : Type 0 where
   pub found : Option (Bor (List ℕ))
   pub live : IsLive v now key (option_map (λ (b : Bor (List ℕ)). b.now) found)
   pub shown : MutBor O

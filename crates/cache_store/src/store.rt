@@ -54,7 +54,8 @@ pub trait Store: Drop {
     /// Appends the live keys to `output`, in byte order, each with a line feed. After an error nothing was written.
     fn write_live_keys(&self, now: u64, output: &mut Vec<u8>) -> Result<(), AllocError>
         requires { IsMoment (view self.now) now }
-        ensures written { OnOk result (AreLive (view self.now) now (λ keys. output.new.items ≡ output.old.items ++ concat (map text_line keys))) }
+        ensures written { OnOk result (AreLive (view self.now) now
+            (λ keys. output.new.items ≡ output.old.items ++ concat (map text_line keys))) }
         ensures unwritten { OnErr result (output.new.items ≡ output.old.items) };
 
     /// Looks a key up: `read` is passed the bytes of its live value, if there is one, and the value behind `output`. If it returns `Ok`,
@@ -68,7 +69,8 @@ pub trait Store: Drop {
     ) -> Result<T, E>
         requires in_time { IsMoment (view self.old) now }
         requires callable { F.IsAlwaysCallable read }
-        ensures reads { ReadsLive F.FnOnce read (view self.old) now key.now output.old result output.new }
+        ensures reads { ReadsLive F.FnOnce read (view self.old) now key.now output.old result
+            output.new }
         ensures does { OnOk result (Does now (using key.now) (view self.old) (view self.new)) }
         ensures unchanged { OnErr result (self.new ≡ self.old) };
 
@@ -84,7 +86,8 @@ pub trait Store: Drop {
     ) -> Result<u64, StoreError>
         requires in_time { IsMoment (view self.old) now }
         requires fits { IsAcceptable (view self.old).frame.config bytes.now milliseconds }
-        ensures does { IfOk result (λ part. AcceptsValue now key.now bytes.now milliseconds looked_up part (view self.old) (view self.new)) }
+        ensures does { IfOk result (λ part. AcceptsValue now key.now bytes.now milliseconds
+            looked_up part (view self.old) (view self.new)) }
         ensures used_up { IsErrOf result StoreError.UsedUp → IsSpent (view self.old) }
         ensures unchanged { OnErr result (self.new ≡ self.old) };
 
@@ -99,16 +102,20 @@ pub trait Store: Drop {
     /// nothing.
     fn clear(&mut self, now: u64) -> Result<(), StoreError>
         requires { IsMoment (view self.old) now }
-        ensures does { OnOk result (Does now (covering Everything) (view self.old) (view self.new)) }
-        ensures used_up { OnErr result (IsErrOf result StoreError.UsedUp × IsSpent (view self.old)) }
+        ensures does { OnOk result
+            (Does now (covering Everything) (view self.old) (view self.new)) }
+        ensures used_up { OnErr result
+            (IsErrOf result StoreError.UsedUp × IsSpent (view self.old)) }
         ensures unchanged { OnErr result (self.new ≡ self.old) };
 
     /// Covers each value whose key begins with the prefix, in every part, and returns true; or, if one part drew a thousand identifiers
     /// that are each registered there, covers none, and returns false.
     fn drop_prefix(&mut self, prefix: &[u8], now: u64) -> Result<bool, StoreError>
         requires { IsMoment (view self.old) now }
-        ensures does { IfOk result (λ covers. covers ≡ true → Does now (covering (Prefixed prefix.now)) (view self.old) (view self.new)) }
-        ensures lacks { IfOk result (λ covers. covers ≡ false → LacksIdentifiers (view self.old) (view self.new)) }
+        ensures does { IfOk result (λ covers. covers ≡ true
+            → Does now (covering (Prefixed prefix.now)) (view self.old) (view self.new)) }
+        ensures lacks { IfOk result
+            (λ covers. covers ≡ false → LacksIdentifiers (view self.old) (view self.new)) }
         ensures used_up { IsErrOf result StoreError.UsedUp → IsSpent (view self.old) }
         ensures unchanged { OnErr result (self.new ≡ self.old) };
 

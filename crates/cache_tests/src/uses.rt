@@ -126,7 +126,8 @@ pub fn play_plainly(
     made: Instant,
     inputs: &[Input],
 ) -> Result<Vec<Transcript>, ServiceError>
-    ensures { IfOk result (λ transcripts. ArePlayed (PLAIN ∷ []) made inputs.now transcripts.items) }
+    ensures { IfOk result
+        (λ transcripts. ArePlayed (PLAIN ∷ []) made inputs.now transcripts.items) }
 {
     let generator = Xoshiro256PlusPlus::seed_from_u64(0);
     match play(alloc, &[PLAIN], generator, made, inputs) {
@@ -142,7 +143,8 @@ pub fn play_pair(
     made: Instant,
     inputs: &[Input],
 ) -> Result<Vec<Transcript>, ServiceError>
-    ensures { IfOk result (λ transcripts. IfSome (slice_get transcripts.items 0) (λ played. KeepsList PAIR 1 played)) }
+    ensures { IfOk result (λ transcripts. IfSome (slice_get transcripts.items 0)
+        (λ played. KeepsList PAIR 1 played)) }
 {
     let generator = Xoshiro256PlusPlus::seed_from_u64(0);
     match play(alloc, &[PAIR], generator, made, inputs) {

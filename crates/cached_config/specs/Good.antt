@@ -21,7 +21,9 @@ is_loadable listed = nat_le (length listed.value) 8192 && is_value listed.value
 
 -- a namespace has a name, a port from 1 on, limits in range and values that may be loaded
 abbrev pub is_good_namespace : HostedNamespace → Bool
-is_good_namespace space = is_name space.name && nat_le 1 space.port && is_valid space.config && list_all is_loadable space.loads.items
+is_good_namespace space =
+    is_name space.name && nat_le 1 space.port && is_valid space.config
+    && list_all is_loadable space.loads.items
 
 -- neither its name nor its port is the other's
 abbrev pub is_apart : HostedNamespace → HostedNamespace → Bool
@@ -34,4 +36,6 @@ are_distinct (space ∷ spaces) = list_all (is_apart space) spaces && are_distin
 
 -- 1 to 16 namespaces, each valid, all names and all ports different
 abbrev pub are_good : List HostedNamespace → Bool
-are_good spaces = nat_le 1 (length spaces) && nat_le (length spaces) 16 && list_all is_good_namespace spaces && are_distinct spaces
+are_good spaces =
+    nat_le 1 (length spaces) && nat_le (length spaces) 16 && list_all is_good_namespace spaces
+    && are_distinct spaces

@@ -10,7 +10,8 @@ named_note_line name note = name ++ 32 ∷ [] ++ note_text note
 
 -- a namespace that is served, with its port
 abbrev pub listening_line : List ℕ → ℕ → List ℕ
-listening_line name port = codes "listening " ++ name ++ codes " 127.0.0.1:" ++ decimal port ++ 10 ∷ []
+listening_line name port =
+    codes "listening " ++ name ++ codes " 127.0.0.1:" ++ decimal port ++ 10 ∷ []
 
 -- how many notices were lost
 abbrev pub lost_line : ℕ → List ℕ

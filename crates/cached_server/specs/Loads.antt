@@ -8,4 +8,5 @@ use Rattle.cached_config.specs.declared.listed.Listed.{Listed}
 -- the first value that is listed for a key, without a deadline; a key that is not listed has none
 abbrev pub listed_outcome : List Listed → List ℕ → Outcome
 listed_outcome [] key = outcome.None
-listed_outcome (listed ∷ rest) key = if same listed.key key then outcome.Value listed.value None else listed_outcome rest key
+listed_outcome (listed ∷ rest) key =
+    if same listed.key key then outcome.Value listed.value None else listed_outcome rest key

@@ -27,7 +27,8 @@ with_line line out =
 
 -- the line has to wait for room: there is none, and lines are read
 abbrev pub waits_for_room : List ℕ → Outgoing → Bool
-waits_for_room line out = not out.is_closed && (not out.is_stalled && not (has_room_for (length line) out))
+waits_for_room line out =
+    not out.is_closed && (not out.is_stalled && not (has_room_for (length line) out))
 
 -- there is nothing to write or to report, and more will come
 abbrev pub is_idle : Outgoing → Bool

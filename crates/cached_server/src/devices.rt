@@ -51,7 +51,8 @@ pub struct ListLoader {
 }
 
 impl Loader for ListLoader {
-    ghost loads = { λ c key answer d. (d ≡ c) × ((answer ≡ Some (listed_outcome (arc_value c.loads).items key)) ⊎ (answer ≡ None)) };
+    ghost loads = { λ c key answer d. (d ≡ c)
+        × ((answer ≡ Some (listed_outcome (arc_value c.loads).items key)) ⊎ (answer ≡ None)) };
 
     fn load(&mut self, key: &[u8]) -> Option<Outcome> {
         find_listed(self.alloc, self.loads.as_slice(), key)

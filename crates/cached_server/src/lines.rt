@@ -38,7 +38,8 @@ impl<W: Write + Drop> Lines<W> {
 
     /// Writes a text of whole lines. This allocates nothing.
     pub fn send(&mut self, text: &[u8]) -> Result<(), RunError>
-        ensures ok { OnOk result (Appends (W.contents (device self.old.writer)) (W.contents (device self.new.writer)) text.now) }
+        ensures ok { OnOk result (Appends (W.contents (device self.old.writer))
+            (W.contents (device self.new.writer)) text.now) }
         ensures whole { OnOk result (self.new.is_cut ≡ self.old.is_cut) }
         ensures cut { OnErr result (self.new.is_cut ≡ true) }
         ensures still { self.old.is_cut ≡ true → (self.new ≡ self.old) × IsErr result }
@@ -57,7 +58,8 @@ impl<W: Write + Drop> Lines<W> {
 
     /// Writes that a namespace of that name is served at a port, in one piece. This allocates nothing.
     pub fn show(&mut self, name: &[u8], port: u16) -> Result<(), RunError>
-        ensures ok { OnOk result (Appends (W.contents (device self.old.writer)) (W.contents (device self.new.writer)) (listening_line name.now port)) }
+        ensures ok { OnOk result (Appends (W.contents (device self.old.writer))
+            (W.contents (device self.new.writer)) (listening_line name.now port)) }
         ensures whole { OnOk result (self.new.is_cut ≡ self.old.is_cut) }
         ensures cut { OnErr result (self.new.is_cut ≡ true) }
         ensures still { self.old.is_cut ≡ true → (self.new ≡ self.old) × IsErr result }
@@ -81,7 +83,8 @@ impl<W: Write + Drop> Lines<W> {
 
     /// Writes how many notices were lost, in one piece. This allocates nothing.
     pub fn show_lost(&mut self, lost: u64) -> Result<(), RunError>
-        ensures ok { OnOk result (Appends (W.contents (device self.old.writer)) (W.contents (device self.new.writer)) (lost_line lost)) }
+        ensures ok { OnOk result (Appends (W.contents (device self.old.writer))
+            (W.contents (device self.new.writer)) (lost_line lost)) }
         ensures whole { OnOk result (self.new.is_cut ≡ self.old.is_cut) }
         ensures cut { OnErr result (self.new.is_cut ≡ true) }
         ensures still { self.old.is_cut ≡ true → (self.new ≡ self.old) × IsErr result }
@@ -111,8 +114,10 @@ fn write_listening_line<W: Write>(
     gathered: &mut Vec<u8>,
     writer: &mut Watched<W>,
 ) -> Result<(), RunError>
-    ensures ok { OnOk result (Appends (W.contents (device writer.old)) (W.contents (device writer.new)) (listening_line name.now port)) }
-    ensures cause { IfErr result (λ e. (e ≡ RunError.Write) × HasFailed (failures writer.old) (failures writer.new)) }
+    ensures ok { OnOk result (Appends (W.contents (device writer.old))
+        (W.contents (device writer.new)) (listening_line name.now port)) }
+    ensures cause { IfErr result
+        (λ e. (e ≡ RunError.Write) × HasFailed (failures writer.old) (failures writer.new)) }
 {
     gathered.clear();
     put(gathered, b"listening ", writer)?;
@@ -129,8 +134,10 @@ fn write_lost_line<W: Write>(
     gathered: &mut Vec<u8>,
     writer: &mut Watched<W>,
 ) -> Result<(), RunError>
-    ensures ok { OnOk result (Appends (W.contents (device writer.old)) (W.contents (device writer.new)) (lost_line lost)) }
-    ensures cause { IfErr result (λ e. (e ≡ RunError.Write) × HasFailed (failures writer.old) (failures writer.new)) }
+    ensures ok { OnOk result (Appends (W.contents (device writer.old))
+        (W.contents (device writer.new)) (lost_line lost)) }
+    ensures cause { IfErr result
+        (λ e. (e ≡ RunError.Write) × HasFailed (failures writer.old) (failures writer.new)) }
 {
     gathered.clear();
     put(gathered, b"cached: ", writer)?;
@@ -145,8 +152,10 @@ fn put_number<W: Write>(
     gathered: &mut Vec<u8>,
     writer: &mut Watched<W>,
 ) -> Result<(), RunError>
-    ensures ok { OnOk result (Gathers (W.contents (device writer.old)) gathered.old.items (decimal number) (W.contents (device writer.new)) gathered.new.items) }
-    ensures cause { IfErr result (λ e. (e ≡ RunError.Write) × HasFailed (failures writer.old) (failures writer.new)) }
+    ensures ok { OnOk result (Gathers (W.contents (device writer.old)) gathered.old.items
+        (decimal number) (W.contents (device writer.new)) gathered.new.items) }
+    ensures cause { IfErr result
+        (λ e. (e ≡ RunError.Write) × HasFailed (failures writer.old) (failures writer.new)) }
     ensures count { failures writer.old ≤ failures writer.new }
 {
     let mut digits = Buffer::new();

@@ -30,9 +30,16 @@ impl Model for Outbox {
 
     ghost Value = { Outgoing };
 
-    ghost view = { λ o. record { waiting = o.waiting.items; lost = o.lost; is_closed = o.is_closed; is_stalled = o.is_stalled; is_over = o.is_over } };
+    ghost view = { λ o. record {
+      waiting = o.waiting.items;
+      lost = o.lost;
+      is_closed = o.is_closed;
+      is_stalled = o.is_stalled;
+      is_over = o.is_over;
+    } };
 
-    ghost invariant = { λ o. record { within : vec_len o.waiting ≤ 1048576; room : 1048576 ≤ vec_capacity o.waiting } };
+    ghost invariant = { λ o.
+        record { within : vec_len o.waiting ≤ 1048576; room : 1048576 ≤ vec_capacity o.waiting } };
 }
 
 impl Outbox {
@@ -146,7 +153,8 @@ fn push(texts: &mut Vec<u8>, text: &[u8])
 
 /// Appends the line of a note to others, for which there is room.
 fn push_line(lines: &mut Vec<u8>, name: &[u8], note: &Note)
-    requires { vec_len lines.old + length (named_note_line name.now note.now) ≤ vec_capacity lines.old }
+    requires { vec_len lines.old + length (named_note_line name.now note.now)
+        ≤ vec_capacity lines.old }
     ensures pushed { lines.new.items ≡ lines.old.items ++ named_note_line name.now note.now }
     ensures room { vec_capacity lines.old ≤ vec_capacity lines.new }
 {

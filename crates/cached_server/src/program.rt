@@ -56,8 +56,10 @@ where
         + Sync
         + 'static,
     ensures status { result ≤ 2 }
-    ensures served { result ≡ 0 → ServesStreams I.remaining O.contents E.contents reader.old reader.new writer.old writer.new errors.old errors.new }
-    ensures usage { result ≡ 2 → Tells usage_text (E.contents (device errors.old)) (E.contents (device errors.new)) (failures errors.old) (failures errors.new) }
+    ensures served { result ≡ 0 → ServesStreams I.remaining O.contents E.contents reader.old
+        reader.new writer.old writer.new errors.old errors.new }
+    ensures usage { result ≡ 2 → Tells usage_text (E.contents (device errors.old))
+        (E.contents (device errors.new)) (failures errors.old) (failures errors.new) }
     ensures unread { result ≡ 2 → reader.new ≡ reader.old }
     ensures unwritten { result ≡ 2 → writer.new ≡ writer.old }
 {
@@ -91,7 +93,8 @@ where
         + Sync
         + 'static,
     ensures status { result ≡ 1 }
-    ensures told { (fault : Fault) × Tells (fault_message fault) (E.contents (device errors.old)) (E.contents (device errors.new)) (failures errors.old) (failures errors.new) }
+    ensures told { (fault : Fault) × Tells (fault_message fault) (E.contents (device errors.old))
+        (E.contents (device errors.new)) (failures errors.old) (failures errors.new) }
 {
     let Ok(begun) = Instant::now(&rt) else {
         return fail(errors, Fault::CannotListen);
@@ -129,7 +132,8 @@ where
         + Sync
         + 'static,
     ensures text { parse_document text.now ≡ None → IsErr result }
-    ensures causes { parse_document text.now ≡ None → IfErr result (λ e. (e ≡ Fault.BadConfiguration) ⊎ (e ≡ Fault.OutOfMemory)) }
+    ensures causes { parse_document text.now ≡ None
+        → IfErr result (λ e. (e ≡ Fault.BadConfiguration) ⊎ (e ≡ Fault.OutOfMemory)) }
     ensures faults { IfErr result (λ e. (e ≢ Fault.Read) × (e ≢ Fault.UsedUp)) }
 {
     let spaces = match read_spaces(alloc, text) {

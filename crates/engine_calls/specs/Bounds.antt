@@ -10,4 +10,5 @@ pub record IsBounded {K V : Type 0} (tickets : ℕ) (r : Record K V) : Type 0 wh
   pub written : r.entry.written < 2 ^ 64 - 1
 
 abbrev pub AreBounded : {K V P S R : Type 0} → State K V P S R → Type 0
-AreBounded {K} {V} s = (number : ℕ) (r : Record K V) → record_at s.records number ≡ Some r → IsBounded s.next_ticket r
+AreBounded {K} {V} s =
+    (number : ℕ) (r : Record K V) → record_at s.records number ≡ Some r → IsBounded s.next_ticket r

@@ -6,7 +6,8 @@ use Rattle.engine_cells.specs.Kept.{Kept, kept_at}
 
 module _ {K V P S R : Type 0} where
   -- a record was found in a place: it is held, and its key has this hash
-  pub record IsFoundIn (t : Kept K V P S R) (hash : ℕ) (o : Option (Record K V)) (place : ℕ) : Type 0 where
+  pub record IsFoundIn (t : Kept K V P S R) (hash : ℕ) (o : Option (Record K V)) (place : ℕ) :
+      Type 0 where
     pub found : Record K V
     pub is : o ≡ Some found
     pub there : kept_at t place ≡ Some found
@@ -18,7 +19,8 @@ module _ {K V P S R : Type 0} where
   WasFound t hash place o = MatchOption place (o ≡ None) (IsFoundIn t hash o)
 
   -- what was found was asked about, and is passed over or not
-  pub record PassesOver (Ignores : V → Bool → Type 0) (t : Kept K V P S R) (hash : ℕ) (o : Option (Record K V)) (place : Option ℕ) : Type 0 where
+  pub record PassesOver (Ignores : V → Bool → Type 0) (t : Kept K V P S R) (hash : ℕ)
+      (o : Option (Record K V)) (place : Option ℕ) : Type 0 where
     pub ignored : Bool
     pub asked : (r : Record K V) → o ≡ Some r → Ignores r.entry.value ignored
     pub found : WasFound t hash place (past ignored o)

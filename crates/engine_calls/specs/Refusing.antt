@@ -7,10 +7,13 @@ use Rattle.engine_reference.specs.Identifiers.Drawing.{AreInUse, is_registered}
 use Rattle.engine_reference.specs.State.{State}
 
 -- the cause of a refusal, if the generator had one stream and another is left: an identifier was drawn only if all that were are in use
-abbrev pub IsCauseToRegister : {K V P S R : Type 0} → State K V P S R → Stream → Stream → Refusal → Type 0
+abbrev pub IsCauseToRegister : {K V P S R : Type 0} → State K V P S R → Stream → Stream → Refusal
+    → Type 0
 IsCauseToRegister s drawn left refusal.OutOfMemory = left ≡ drawn
-IsCauseToRegister s drawn left refusal.InvalidationClosuresDisabled = (left ≡ drawn) × (s.settings.takes_predicates ≡ false)
-IsCauseToRegister s drawn left refusal.UsedUp = (left ≡ drawn) × (2 ^ 64 ≤ s.next_ticket + s.reserved + 1)
+IsCauseToRegister s drawn left refusal.InvalidationClosuresDisabled =
+    (left ≡ drawn) × (s.settings.takes_predicates ≡ false)
+IsCauseToRegister s drawn left refusal.UsedUp =
+    (left ≡ drawn) × (2 ^ 64 ≤ s.next_ticket + s.reserved + 1)
 IsCauseToRegister s drawn left refusal.IdsInUse = AreInUse drawn left (is_registered s.predicates)
 IsCauseToRegister s drawn left refusal.UnknownTicket = ⊥
 IsCauseToRegister s drawn left refusal.QueueFull = ⊥

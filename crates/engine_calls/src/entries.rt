@@ -34,7 +34,8 @@ pub fn first_entry<K: Eq + Hash, V, S: BuildHasher, R: Rules<K, V>>(
     now: Instant,
     step: u64,
 ) -> Entry<K, V>
-    ensures { result ≡ first_entry (answers_of R.weight_of R.created R.read R.updated R.covers) tables.now.state key value now step }
+    ensures { result ≡ first_entry (answers_of R.weight_of R.created R.read R.updated R.covers)
+        tables.now.state key value now step }
 {
     let rules = tables.rules();
     let weight = rules.weight(&key, &value);
@@ -60,7 +61,9 @@ pub fn next_entry<K: Eq + Hash, V, S: BuildHasher, R: Rules<K, V>>(
     step: u64,
 ) -> Entry<K, V>
     requires { is_some (kept_at tables.now place) ≡ true }
-    ensures { (r : Record K V) → kept_at tables.now place ≡ Some r → result ≡ next_entry (answers_of R.weight_of R.created R.read R.updated R.covers) tables.now.state r.entry key value now step }
+    ensures { (r : Record K V) → kept_at tables.now place ≡ Some r
+        → result ≡ next_entry (answers_of R.weight_of R.created R.read R.updated R.covers)
+        tables.now.state r.entry key value now step }
 {
     let rules = tables.rules();
     let before = tables.record_in(place).entry.expires;
@@ -87,8 +90,11 @@ pub fn expires_after_use<K: Eq + Hash, V, S: BuildHasher, R: Rules<K, V>>(
     now: Instant,
 ) -> Option<u64>
     requires there { is_some (kept_at tables.now place) ≡ true }
-    requires moment { (r : Record K V) → kept_at tables.now place ≡ Some r → r.entry.written < 2 ^ 64 - 1 }
-    ensures { (r : Record K V) → kept_at tables.now place ≡ Some r → result ≡ (used_entry (answers_of R.weight_of R.created R.read R.updated R.covers) tables.now.state now r.entry).expires }
+    requires moment { (r : Record K V) → kept_at tables.now place ≡ Some r
+        → r.entry.written < 2 ^ 64 - 1 }
+    ensures { (r : Record K V) → kept_at tables.now place ≡ Some r
+        → result ≡ (used_entry (answers_of R.weight_of R.created R.read R.updated R.covers)
+        tables.now.state now r.entry).expires }
 {
     let entry = &tables.record_in(place).entry;
     let left = time_left(tables.settings(), now.as_nanos(), entry);
@@ -105,7 +111,9 @@ pub fn cause_of_write<K: Eq + Hash, V, S: BuildHasher, R: Rules<K, V>>(
     now: u64,
 ) -> RemovalCause
     requires { is_some (kept_at tables.now place) ≡ true }
-    ensures { (r : Record K V) → kept_at tables.now place ≡ Some r → tables.now.state.settings.tells ≡ true → result ≡ cause_of_write (answers_of R.weight_of R.created R.read R.updated R.covers) tables.now.state now r.entry }
+    ensures { (r : Record K V) → kept_at tables.now place ≡ Some r
+        → tables.now.state.settings.tells ≡ true → result ≡ cause_of_write
+        (answers_of R.weight_of R.created R.read R.updated R.covers) tables.now.state now r.entry }
 {
     let settings = tables.settings();
     if !settings.tells {
@@ -139,7 +147,8 @@ pub fn entry_of<K: Eq + Hash, V, S: BuildHasher, R: Rules<K, V>>(
     value: V,
 ) -> Entry<K, V>
     requires there { is_some (kept_at tables.now place) ≡ true }
-    requires parts { (r : Record K V) → kept_at tables.now place ≡ Some r → (key ≡ r.entry.key) × (value ≡ r.entry.value) }
+    requires parts { (r : Record K V) → kept_at tables.now place ≡ Some r
+        → (key ≡ r.entry.key) × (value ≡ r.entry.value) }
     ensures { (r : Record K V) → kept_at tables.now place ≡ Some r → result ≡ r.entry }
 {
     let found = &tables.record_in(place).entry;

@@ -22,7 +22,8 @@ pub fn held<'a, K: Eq + Hash, V, S: BuildHasher, R: Rules<K, V>, Q: Names<K>>(
     key: &Q,
     hash: u64,
 ) -> Option<&'a Record<K, V>>
-    requires hashed { hash ≡ hash_of_key S.Hasher.finish S.Hasher.write S.build_hasher K.hash_input tables.now.state.hasher (Q.named_key key.now) }
+    requires hashed { hash ≡ hash_of_key S.Hasher.finish S.Hasher.write S.build_hasher K.hash_input
+        tables.now.state.hasher (Q.named_key key.now) }
     ensures { option_copied result ≡ held_at K.eq tables.now.state.records (Q.named_key key.now) }
 {
     match tables.place_of(key, hash) {
@@ -38,7 +39,8 @@ fn is_seen_at<K: Eq + Hash, V, S: BuildHasher, R: Rules<K, V>>(
     now: u64,
 ) -> bool
     requires { is_some (kept_at tables.now place) ≡ true }
-    ensures { (r : Record K V) → kept_at tables.now place ≡ Some r → result ≡ is_visible (answers_of R.weight_of R.created R.read R.updated R.covers) tables.now.state now r.entry }
+    ensures { (r : Record K V) → kept_at tables.now place ≡ Some r → result ≡ is_visible
+        (answers_of R.weight_of R.created R.read R.updated R.covers) tables.now.state now r.entry }
 {
     let entry = &tables.record_in(place).entry;
     !is_dead(tables.settings(), now, entry) && !tables.is_over(entry)
@@ -51,8 +53,11 @@ pub fn find<K: Eq + Hash, V, S: BuildHasher, R: Rules<K, V>, Q: Names<K>>(
     hash: u64,
     now: u64,
 ) -> Option<usize>
-    requires hashed { hash ≡ hash_of_key S.Hasher.finish S.Hasher.write S.build_hasher K.hash_input tables.now.state.hasher (Q.named_key key.now) }
-    ensures { WasFound tables.now hash result (visible_record (answers_of R.weight_of R.created R.read R.updated R.covers) K.eq tables.now.state now (Q.named_key key.now)) }
+    requires hashed { hash ≡ hash_of_key S.Hasher.finish S.Hasher.write S.build_hasher K.hash_input
+        tables.now.state.hasher (Q.named_key key.now) }
+    ensures { WasFound tables.now hash result
+        (visible_record (answers_of R.weight_of R.created R.read R.updated R.covers) K.eq
+        tables.now.state now (Q.named_key key.now)) }
 {
     match tables.place_of(key, hash) {
         Some(place) => {
@@ -74,8 +79,11 @@ pub fn find_unless<K: Eq + Hash, V, S: BuildHasher, R: Rules<K, V>, Q: Names<K>>
     now: u64,
     ignored: bool,
 ) -> Option<usize>
-    requires hashed { hash ≡ hash_of_key S.Hasher.finish S.Hasher.write S.build_hasher K.hash_input tables.now.state.hasher (Q.named_key key.now) }
-    ensures { WasFound tables.now hash result (past ignored (visible_record (answers_of R.weight_of R.created R.read R.updated R.covers) K.eq tables.now.state now (Q.named_key key.now))) }
+    requires hashed { hash ≡ hash_of_key S.Hasher.finish S.Hasher.write S.build_hasher K.hash_input
+        tables.now.state.hasher (Q.named_key key.now) }
+    ensures { WasFound tables.now hash result
+        (past ignored (visible_record (answers_of R.weight_of R.created R.read R.updated R.covers)
+        K.eq tables.now.state now (Q.named_key key.now))) }
 {
     if ignored {
         return None;
@@ -90,8 +98,11 @@ pub fn look_up<'a, K: Eq + Hash, V, S: BuildHasher, R: Rules<K, V>, Q: Names<K>>
     hash: u64,
     now: u64,
 ) -> Option<&'a Record<K, V>>
-    requires hashed { hash ≡ hash_of_key S.Hasher.finish S.Hasher.write S.build_hasher K.hash_input tables.now.state.hasher (Q.named_key key.now) }
-    ensures { option_copied result ≡ visible_record (answers_of R.weight_of R.created R.read R.updated R.covers) K.eq tables.now.state now (Q.named_key key.now) }
+    requires hashed { hash ≡ hash_of_key S.Hasher.finish S.Hasher.write S.build_hasher K.hash_input
+        tables.now.state.hasher (Q.named_key key.now) }
+    ensures { option_copied result
+        ≡ visible_record (answers_of R.weight_of R.created R.read R.updated R.covers) K.eq
+        tables.now.state now (Q.named_key key.now) }
 {
     match find(tables, key, hash, now) {
         Some(place) => Some(tables.record_in(place)),
@@ -102,7 +113,8 @@ pub fn look_up<'a, K: Eq + Hash, V, S: BuildHasher, R: Rules<K, V>, Q: Names<K>>
 /// A clone of a record's value, if there is one.
 pub fn clone_value<K, V: Clone>(found: Option<&Record<K, V>>) -> Result<Option<V>, AllocError>
     requires exact { (x y : V) → V.is_clone x y → y ≡ x }
-    ensures { IfOk result (λ value. value ≡ option_map (λ r. r.entry.value) (option_copied found.entry)) }
+    ensures { IfOk result
+        (λ value. value ≡ option_map (λ r. r.entry.value) (option_copied found.entry)) }
 {
     match found {
         Some(found) => {
@@ -134,7 +146,8 @@ pub fn clone_found<K: Eq + Hash, V: Clone, S: BuildHasher, R: Rules<K, V>>(
 ) -> Result<Option<V>, AllocError>
     requires exact { (x y : V) → V.is_clone x y → y ≡ x }
     requires found { (hash : ℕ) × (o : Option (Record K V)) × WasFound tables.now hash place o }
-    ensures { IfOk result (λ value. (hash : ℕ) (o : Option (Record K V)) → WasFound tables.now hash place o → value ≡ option_map (λ r. r.entry.value) o) }
+    ensures { IfOk result (λ value. (hash : ℕ) (o : Option (Record K V))
+        → WasFound tables.now hash place o → value ≡ option_map (λ r. r.entry.value) o) }
 {
     match place {
         Some(place) => {
@@ -161,7 +174,8 @@ fn is_ignored<K: Eq + Hash, V, S: BuildHasher, R: Rules<K, V>, F: FnOnce(&V) -> 
 ) -> bool
     requires callable { F.IsAlwaysCallable ignore_if }
     requires there { is_some (kept_at tables.now place) ≡ true }
-    ensures { (r : Record K V) → kept_at tables.now place ≡ Some r → FnOnceReturnsAt F.FnOnce ignore_if r.entry.value result }
+    ensures { (r : Record K V) → kept_at tables.now place ≡ Some r
+        → FnOnceReturnsAt F.FnOnce ignore_if r.entry.value result }
 {
     let found = tables.record_in(place);
     says_of(ignore_if, &found.entry.value)
@@ -175,7 +189,8 @@ pub fn pass_over<K: Eq + Hash, V, S: BuildHasher, R: Rules<K, V>, F: FnOnce(&V) 
 ) -> Option<usize>
     requires callable { F.IsAlwaysCallable ignore_if }
     requires found { (hash : ℕ) × (o : Option (Record K V)) × WasFound tables.now hash place o }
-    ensures { (hash : ℕ) (o : Option (Record K V)) → WasFound tables.now hash place o → PassesOver (FnOnceReturnsAt F.FnOnce ignore_if) tables.now hash o result }
+    ensures { (hash : ℕ) (o : Option (Record K V)) → WasFound tables.now hash place o
+        → PassesOver (FnOnceReturnsAt F.FnOnce ignore_if) tables.now hash o result }
 {
     match place {
         Some(place) => {

@@ -14,13 +14,18 @@ use std::hash::{BuildHasher, Hash};
 pub fn reserve<K: Eq + Hash, V, S: BuildHasher, R: Rules<K, V>>(
     tables: &mut Tables<K, V, S, R>,
 ) -> Result<(), Refusal>
-    ensures ok { OnOk result (tables.new ≡ record tables.old { state = with_room tables.old.state }) }
+    ensures ok { OnOk result
+        (tables.new ≡ record tables.old { state = with_room tables.old.state }) }
     ensures err { OnErr result (tables.new ≡ tables.old) }
     ensures takes { OnOk result (tables.old.state.settings.takes_predicates ≡ true) }
-    ensures first { tables.old.state.settings.takes_predicates ≡ false → IsErrOf result Refusal.InvalidationClosuresDisabled }
-    ensures disabled { IsErrOf result Refusal.InvalidationClosuresDisabled → tables.old.state.settings.takes_predicates ≡ false }
-    ensures used_up { IsErrOf result Refusal.UsedUp → 2 ^ 64 ≤ tables.old.state.next_ticket + tables.old.state.reserved + 1 }
-    ensures kinds { OnErr result ((IsErrOf result Refusal.OutOfMemory) ⊎ ((IsErrOf result Refusal.InvalidationClosuresDisabled) ⊎ (IsErrOf result Refusal.UsedUp))) }
+    ensures first { tables.old.state.settings.takes_predicates ≡ false
+        → IsErrOf result Refusal.InvalidationClosuresDisabled }
+    ensures disabled { IsErrOf result Refusal.InvalidationClosuresDisabled
+        → tables.old.state.settings.takes_predicates ≡ false }
+    ensures used_up { IsErrOf result Refusal.UsedUp
+        → 2 ^ 64 ≤ tables.old.state.next_ticket + tables.old.state.reserved + 1 }
+    ensures kinds { OnErr result ((IsErrOf result Refusal.OutOfMemory) ⊎
+        ((IsErrOf result Refusal.InvalidationClosuresDisabled) ⊎ (IsErrOf result Refusal.UsedUp))) }
 {
     if !tables.settings().takes_predicates {
         return Err(Refusal::InvalidationClosuresDisabled);
@@ -34,8 +39,10 @@ pub fn draw_id<K: Eq + Hash, V, S: BuildHasher, R: Rules<K, V>, G: Rng>(
     tables: &Tables<K, V, S, R>,
     generator: &mut G,
 ) -> Result<u128, Refusal>
-    ensures drawn { IfOk result (λ id. Draws (G.stream generator.old) (G.stream generator.new) (is_registered tables.now.state.predicates) id) }
-    ensures in_use { OnErr result (AreInUse (G.stream generator.old) (G.stream generator.new) (is_registered tables.now.state.predicates)) }
+    ensures drawn { IfOk result (λ id. Draws (G.stream generator.old) (G.stream generator.new)
+        (is_registered tables.now.state.predicates) id) }
+    ensures in_use { OnErr result (AreInUse (G.stream generator.old) (G.stream generator.new)
+        (is_registered tables.now.state.predicates)) }
     ensures kinds { OnErr result (IsErrOf result Refusal.IdsInUse) }
 {
     match draw(generator, tables.predicates()) {
@@ -50,11 +57,14 @@ pub fn prepare<K: Eq + Hash, V, S: BuildHasher, R: Rules<K, V>, G: Rng>(
     generator: &mut G,
 ) -> Result<u128, Refusal>
     ensures ok { OnOk result (tables.new.state ≡ with_room tables.old.state) }
-    ensures drawn { IfOk result (λ id. Draws (G.stream generator.old) (G.stream generator.new) (is_registered tables.old.state.predicates) id) }
+    ensures drawn { IfOk result (λ id. Draws (G.stream generator.old) (G.stream generator.new)
+        (is_registered tables.old.state.predicates) id) }
     ensures err { OnErr result (tables.new ≡ tables.old) }
     ensures takes { OnOk result (tables.old.state.settings.takes_predicates ≡ true) }
-    ensures first { tables.old.state.settings.takes_predicates ≡ false → IsErrOf result Refusal.InvalidationClosuresDisabled }
-    ensures refused { IfErr result (IsCauseToRegister tables.old.state (G.stream generator.old) (G.stream generator.new)) }
+    ensures first { tables.old.state.settings.takes_predicates ≡ false
+        → IsErrOf result Refusal.InvalidationClosuresDisabled }
+    ensures refused { IfErr result
+        (IsCauseToRegister tables.old.state (G.stream generator.old) (G.stream generator.new)) }
 {
     reserve(tables)?;
     match draw_id(tables, generator) {
@@ -74,7 +84,8 @@ pub fn commit<K: Eq + Hash, V, S: BuildHasher, R: Rules<K, V>>(
     step: u64,
 )
     requires { 0 < tables.old.state.reserved }
-    ensures { tables.new.state ≡ registered (record { id = id; predicate = predicate; step = step }) tables.old.state }
+    ensures { tables.new.state
+        ≡ registered (record { id = id; predicate = predicate; step = step }) tables.old.state }
 {
     tables.register(Registered {
         id,
@@ -90,12 +101,16 @@ pub fn invalidate<K: Eq + Hash, V, S: BuildHasher, R: Rules<K, V>, G: Rng>(
     step: u64,
     generator: &mut G,
 ) -> Result<u128, Refusal>
-    ensures ok { IfOk result (λ id. tables.new.state ≡ with_predicate (record { id = id; predicate = predicate; step = step }) tables.old.state) }
-    ensures drawn { IfOk result (λ id. Draws (G.stream generator.old) (G.stream generator.new) (is_registered tables.old.state.predicates) id) }
+    ensures ok { IfOk result (λ id. tables.new.state ≡ with_predicate
+        (record { id = id; predicate = predicate; step = step }) tables.old.state) }
+    ensures drawn { IfOk result (λ id. Draws (G.stream generator.old) (G.stream generator.new)
+        (is_registered tables.old.state.predicates) id) }
     ensures err { OnErr result (tables.new ≡ tables.old) }
     ensures takes { OnOk result (tables.old.state.settings.takes_predicates ≡ true) }
-    ensures first { tables.old.state.settings.takes_predicates ≡ false → IsErrOf result Refusal.InvalidationClosuresDisabled }
-    ensures refused { IfErr result (IsCauseToRegister tables.old.state (G.stream generator.old) (G.stream generator.new)) }
+    ensures first { tables.old.state.settings.takes_predicates ≡ false
+        → IsErrOf result Refusal.InvalidationClosuresDisabled }
+    ensures refused { IfErr result
+        (IsCauseToRegister tables.old.state (G.stream generator.old) (G.stream generator.new)) }
 {
     let id = prepare(tables, generator)?;
     commit(tables, id, predicate, step);

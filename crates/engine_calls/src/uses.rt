@@ -23,7 +23,9 @@ pub fn use_in<K: Eq + Hash, V, S: BuildHasher, R: Rules<K, V>>(
     requires room { length tables.old.state.reads < 64 }
     requires bounded { AreBounded tables.old.state }
     requires there { is_some (kept_at tables.old place) ≡ true }
-    ensures { (r : Record K V) → kept_at tables.old place ≡ Some r → tables.new.state ≡ with_read (answers_of R.weight_of R.created R.read R.updated R.covers) (Some r) hash now tables.old.state }
+    ensures { (r : Record K V) → kept_at tables.old place ≡ Some r
+        → tables.new.state ≡ with_read (answers_of R.weight_of R.created R.read R.updated R.covers)
+        (Some r) hash now tables.old.state }
 {
     let expires = expires_after_use(tables, place, now);
     let number = tables.use_at(place, now.as_nanos(), expires);
@@ -40,8 +42,11 @@ pub fn use_found<K: Eq + Hash, V, S: BuildHasher, R: Rules<K, V>>(
     requires room { length tables.old.state.reads < 64 }
     requires bounded { AreBounded tables.old.state }
     requires made { number < tables.old.state.next_number }
-    requires held { (r : Record K V) → record_at tables.old.state.records number ≡ Some r → (r.is_held ≡ true) × (r.hash ≡ hash) }
-    ensures { (r : Record K V) → r.number ≡ number → tables.new.state ≡ with_read (answers_of R.weight_of R.created R.read R.updated R.covers) (Some r) hash now tables.old.state }
+    requires held { (r : Record K V) → record_at tables.old.state.records number ≡ Some r
+        → (r.is_held ≡ true) × (r.hash ≡ hash) }
+    ensures { (r : Record K V) → r.number ≡ number
+        → tables.new.state ≡ with_read (answers_of R.weight_of R.created R.read R.updated R.covers)
+        (Some r) hash now tables.old.state }
 {
     match tables.place_of_number(number, hash) {
         Some(place) => use_in(tables, place, hash, now),

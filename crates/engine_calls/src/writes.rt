@@ -27,10 +27,13 @@ fn write_first<K: Eq + Hash, V, S: BuildHasher, R: Rules<K, V>>(
     now: Instant,
     step: u64,
 )
-    requires hashed { hash ≡ hash_of_key S.Hasher.finish S.Hasher.write S.build_hasher K.hash_input tables.old.state.hasher key }
+    requires hashed { hash ≡ hash_of_key S.Hasher.finish S.Hasher.write S.build_hasher K.hash_input
+        tables.old.state.hasher key }
     requires room { 0 < tables.old.state.reserved }
     requires absent { held_at K.eq tables.old.state.records key ≡ None }
-    ensures { tables.new.state ≡ with_written (answers_of R.weight_of R.created R.read R.updated R.covers) None tables.old.state key hash value now step }
+    ensures { tables.new.state
+        ≡ with_written (answers_of R.weight_of R.created R.read R.updated R.covers) None
+        tables.old.state key hash value now step }
 {
     let entry = first_entry(tables, key, value, now, step);
     let number = tables.next_number();
@@ -58,8 +61,11 @@ fn write_over<K: Eq + Hash + Drop, V: Drop, S: BuildHasher, R: Rules<K, V>>(
 )
     requires room { 0 < tables.old.state.reserved }
     requires bounded { AreBounded tables.old.state }
-    requires held { (r : Record K V) × (kept_at tables.old place ≡ Some r) × (held_at K.eq tables.old.state.records key ≡ Some r) × (r.hash ≡ hash) }
-    ensures { tables.new.state ≡ written (answers_of R.weight_of R.created R.read R.updated R.covers) K.eq tables.old.state key hash value now step }
+    requires held { (r : Record K V) × (kept_at tables.old place ≡ Some r)
+        × (held_at K.eq tables.old.state.records key ≡ Some r) × (r.hash ≡ hash) }
+    ensures { tables.new.state
+        ≡ written (answers_of R.weight_of R.created R.read R.updated R.covers) K.eq tables.old.state
+        key hash value now step }
 {
     let _hash = hash;
     tables.tickets_last();
@@ -77,10 +83,13 @@ pub fn write<K: Eq + Hash + Drop, V: Drop, S: BuildHasher, R: Rules<K, V>>(
     now: Instant,
     step: u64,
 )
-    requires hashed { hash ≡ hash_of_key S.Hasher.finish S.Hasher.write S.build_hasher K.hash_input tables.old.state.hasher key }
+    requires hashed { hash ≡ hash_of_key S.Hasher.finish S.Hasher.write S.build_hasher K.hash_input
+        tables.old.state.hasher key }
     requires room { 0 < tables.old.state.reserved }
     requires bounded { AreBounded tables.old.state }
-    ensures { tables.new.state ≡ written (answers_of R.weight_of R.created R.read R.updated R.covers) K.eq tables.old.state key hash value now step }
+    ensures { tables.new.state
+        ≡ written (answers_of R.weight_of R.created R.read R.updated R.covers) K.eq tables.old.state
+        key hash value now step }
 {
     match tables.place_of(&key, hash) {
         Some(place) => write_over(tables, place, key, hash, value, now, step),
@@ -105,10 +114,12 @@ fn clone_held<K: Eq + Hash + Clone + Drop, Q: Names<K>, V: Clone, S: BuildHasher
     key: &Q,
     hash: u64,
 ) -> Result<Option<(K, V)>, AllocError>
-    requires hashed { hash ≡ hash_of_key S.Hasher.finish S.Hasher.write S.build_hasher K.hash_input tables.now.state.hasher (Q.named_key key.now) }
+    requires hashed { hash ≡ hash_of_key S.Hasher.finish S.Hasher.write S.build_hasher K.hash_input
+        tables.now.state.hasher (Q.named_key key.now) }
     requires exact_key { (x y : K) → K.is_clone x y → y ≡ x }
     requires exact { (x y : V) → V.is_clone x y → y ≡ x }
-    ensures { IfOk result (λ parts. parts ≡ option_map (λ r. (r.entry.key, r.entry.value)) (held_at K.eq tables.now.state.records (Q.named_key key.now))) }
+    ensures { IfOk result (λ parts. parts ≡ option_map (λ r. (r.entry.key, r.entry.value))
+        (held_at K.eq tables.now.state.records (Q.named_key key.now))) }
 {
     match held(tables, key, hash) {
         Some(found) => {
@@ -123,10 +134,15 @@ fn clone_held<K: Eq + Hash + Clone + Drop, Q: Names<K>, V: Clone, S: BuildHasher
 fn make_removal_room<K: Eq + Hash, V, S: BuildHasher, R: Rules<K, V>>(
     tables: &mut Tables<K, V, S, R>,
 ) -> Result<(), Refusal>
-    ensures ok { OnOk result (tables.new ≡ record tables.old { state = record tables.old.state { reserved = tables.old.state.reserved + removal_rooms tables.old.state.settings } }) }
+    ensures ok { OnOk result (tables.new ≡ record tables.old {
+      state = record tables.old.state
+          { reserved = tables.old.state.reserved + removal_rooms tables.old.state.settings };
+    }) }
     ensures err { OnErr result (tables.new ≡ tables.old) }
-    ensures used_up { IsErrOf result Refusal.UsedUp → 2 ^ 64 ≤ tables.old.state.next_ticket + tables.old.state.reserved + removal_rooms tables.old.state.settings }
-    ensures only { OnErr result ((IsErrOf result Refusal.OutOfMemory) ⊎ (IsErrOf result Refusal.UsedUp)) }
+    ensures used_up { IsErrOf result Refusal.UsedUp → 2 ^ 64 ≤ tables.old.state.next_ticket
+        + tables.old.state.reserved + removal_rooms tables.old.state.settings }
+    ensures only { OnErr result
+        ((IsErrOf result Refusal.OutOfMemory) ⊎ (IsErrOf result Refusal.UsedUp)) }
 {
     let by = rooms_of_removal(tables.settings());
     tables.make_room(by)?;
@@ -141,14 +157,19 @@ pub fn prepare_removal<
     S: BuildHasher,
     R: Rules<K, V>,
 >(tables: &mut Tables<K, V, S, R>, key: &Q, hash: u64) -> Result<Option<(K, V)>, Refusal>
-    requires hashed { hash ≡ hash_of_key S.Hasher.finish S.Hasher.write S.build_hasher K.hash_input tables.old.state.hasher (Q.named_key key.now) }
+    requires hashed { hash ≡ hash_of_key S.Hasher.finish S.Hasher.write S.build_hasher K.hash_input
+        tables.old.state.hasher (Q.named_key key.now) }
     requires exact_key { (x y : K) → K.is_clone x y → y ≡ x }
     requires exact { (x y : V) → V.is_clone x y → y ≡ x }
-    ensures ok { OnOk result (tables.new.state ≡ with_removal_room (held_at K.eq tables.old.state.records (Q.named_key key.now)) tables.old.state) }
-    ensures parts { IfOk result (λ parts. parts ≡ option_map (λ r. (r.entry.key, r.entry.value)) (held_at K.eq tables.old.state.records (Q.named_key key.now))) }
+    ensures ok { OnOk result (tables.new.state ≡ with_removal_room
+        (held_at K.eq tables.old.state.records (Q.named_key key.now)) tables.old.state) }
+    ensures parts { IfOk result (λ parts. parts ≡ option_map (λ r. (r.entry.key, r.entry.value))
+        (held_at K.eq tables.old.state.records (Q.named_key key.now))) }
     ensures err { OnErr result (tables.new ≡ tables.old) }
-    ensures used_up { IsErrOf result Refusal.UsedUp → 2 ^ 64 ≤ tables.old.state.next_ticket + tables.old.state.reserved + removal_rooms tables.old.state.settings }
-    ensures only { OnErr result ((IsErrOf result Refusal.OutOfMemory) ⊎ (IsErrOf result Refusal.UsedUp)) }
+    ensures used_up { IsErrOf result Refusal.UsedUp → 2 ^ 64 ≤ tables.old.state.next_ticket
+        + tables.old.state.reserved + removal_rooms tables.old.state.settings }
+    ensures only { OnErr result
+        ((IsErrOf result Refusal.OutOfMemory) ⊎ (IsErrOf result Refusal.UsedUp)) }
 {
     match clone_held(tables, key, hash)? {
         Some(parts) => {
@@ -167,8 +188,10 @@ fn remove_at<K: Eq + Hash, V, S: BuildHasher, R: Rules<K, V>, Q: Names<K>>(
 )
     requires room { removal_rooms tables.old.state.settings ≤ tables.old.state.reserved }
     requires bounded { AreBounded tables.old.state }
-    requires held { (r : Record K V) × (kept_at tables.old place ≡ Some r) × (held_at K.eq tables.old.state.records (Q.named_key key.now) ≡ Some r) }
-    ensures { tables.new.state ≡ with_reserved_removal (held_at K.eq tables.old.state.records (Q.named_key key.now)) tables.old.state }
+    requires held { (r : Record K V) × (kept_at tables.old place ≡ Some r)
+        × (held_at K.eq tables.old.state.records (Q.named_key key.now) ≡ Some r) }
+    ensures { tables.new.state ≡ with_reserved_removal
+        (held_at K.eq tables.old.state.records (Q.named_key key.now)) tables.old.state }
 {
     let _key = key;
     tables.tickets_last();
@@ -182,12 +205,16 @@ pub fn remove_reserved<K: Eq + Hash + Drop, Q: Names<K>, V: Drop, S: BuildHasher
     hash: u64,
     parts: (K, V),
 ) -> Option<(Entry<K, V>, u64)>
-    requires hashed { hash ≡ hash_of_key S.Hasher.finish S.Hasher.write S.build_hasher K.hash_input tables.old.state.hasher (Q.named_key key.now) }
+    requires hashed { hash ≡ hash_of_key S.Hasher.finish S.Hasher.write S.build_hasher K.hash_input
+        tables.old.state.hasher (Q.named_key key.now) }
     requires room { removal_rooms tables.old.state.settings ≤ tables.old.state.reserved }
     requires bounded { AreBounded tables.old.state }
-    requires parts { (r : Record K V) → held_at K.eq tables.old.state.records (Q.named_key key.now) ≡ Some r → (parts.0 ≡ r.entry.key) × (parts.1 ≡ r.entry.value) }
-    ensures removed { tables.new.state ≡ with_reserved_removal (held_at K.eq tables.old.state.records (Q.named_key key.now)) tables.old.state }
-    ensures entry { result ≡ option_map (λ r. (r.entry, tables.old.state.next_ticket)) (held_at K.eq tables.old.state.records (Q.named_key key.now)) }
+    requires parts { (r : Record K V) → held_at K.eq tables.old.state.records (Q.named_key key.now)
+        ≡ Some r → (parts.0 ≡ r.entry.key) × (parts.1 ≡ r.entry.value) }
+    ensures removed { tables.new.state ≡ with_reserved_removal
+        (held_at K.eq tables.old.state.records (Q.named_key key.now)) tables.old.state }
+    ensures entry { result ≡ option_map (λ r. (r.entry, tables.old.state.next_ticket))
+        (held_at K.eq tables.old.state.records (Q.named_key key.now)) }
 {
     match tables.place_of(key, hash) {
         Some(place) => {
@@ -207,7 +234,8 @@ pub fn tell_removed<K: Eq + Hash + Drop, V: Drop, S: BuildHasher, R: Rules<K, V>
     now: Instant,
 )
     requires { tables.old.state.settings.tells ≡ true → 0 < tables.old.state.reserved }
-    ensures { tables.new.state ≡ removal_told (answers_of R.weight_of R.created R.read R.updated R.covers) entry now tables.old.state }
+    ensures { tables.new.state ≡ removal_told
+        (answers_of R.weight_of R.created R.read R.updated R.covers) entry now tables.old.state }
 {
     if tables.settings().tells {
         let cause = cause_of_removal(tables.settings(), now.as_nanos(), &entry);

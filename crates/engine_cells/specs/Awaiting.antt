@@ -6,4 +6,6 @@ use Rattle.engine_cells.specs.Cells.{cell_at}
 
 -- each held record that expires by itself has a timer no later, if there was memory for all
 abbrev pub AreAwaited : {K V : Type 0} → List (Option (Record K V)) → Awaited → Type 0
-AreAwaited {K} {V} cells a = (i : ℕ) (c : Record K V) → cell_at cells i ≡ Some c → c.is_held ≡ true → IsSet a i c.entry.expires
+AreAwaited {K} {V} cells a =
+    (i : ℕ) (c : Record K V) → cell_at cells i ≡ Some c → c.is_held ≡ true
+    → IsSet a i c.entry.expires

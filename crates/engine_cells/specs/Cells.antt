@@ -33,7 +33,9 @@ module _ {K V : Type 0} where
 
   -- no number occurs twice
   abbrev pub HaveOwnNumbers : List (Option (Record K V)) → Type 0
-  HaveOwnNumbers cells = (i j : ℕ) (c d : Record K V) → cell_at cells i ≡ Some c → cell_at cells j ≡ Some d → c.number ≡ d.number → i ≡ j
+  HaveOwnNumbers cells =
+      (i j : ℕ) (c d : Record K V) → cell_at cells i ≡ Some c → cell_at cells j ≡ Some d
+      → c.number ≡ d.number → i ≡ j
 
   -- each record has a number of its own, below the next one
   pub record AreNumbered (cells : List (Option (Record K V))) (next : ℕ) : Type 0 where

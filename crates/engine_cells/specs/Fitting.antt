@@ -4,7 +4,8 @@ use Rattle.slab.specs.Slab.{Slab, slab_len}
 use Rattle.policy_queue.specs.Indices.{Indices, has_index, without_index, index_moved_to_back}
 
 -- a queue with this many records has room for the others, and for `more` that come
-pub record HasPlacesFor {X : Type 0} (cells : Slab X) (number more : ℕ) (queue : Indices) : Type 0 where
+pub record HasPlacesFor {X : Type 0} (cells : Slab X) (number more : ℕ) (queue : Indices) :
+    Type 0 where
   pub room : slab_len cells + more ≤ number + queue.room
   pub taken : length cells.slots ≤ queue.bound
   pub coming : slab_len cells + more ≤ queue.bound
@@ -17,7 +18,8 @@ pub record StepsOut (place : ℕ) (old new : Indices) : Type 0 where
 
 -- a place is in the queue, or there is room for it
 abbrev pub HasPlaceFor : ℕ → Indices → Type 0
-HasPlaceFor place queue = has_index place queue.indices ≡ false → (0 < queue.room) × (place < queue.bound)
+HasPlaceFor place queue =
+    has_index place queue.indices ≡ false → (0 < queue.room) × (place < queue.bound)
 
 -- a place was moved or added to the back
 pub record ComesLast (place : ℕ) (old new : Indices) : Type 0 where

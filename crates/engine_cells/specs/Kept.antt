@@ -19,7 +19,9 @@ kept_at t place = option_and_then (λ n. record_at t.state.records n) (numbered_
 
 -- the place has the record of the first of these numbers, and it is admitted
 abbrev pub StandsFirst : {K V P S R : Type 0} → Kept K V P S R → List ℕ → ℕ → Type 0
-StandsFirst {K} {V} t numbers place = (r : Record K V) × (kept_at t place ≡ Some r) × (slice_get numbers 0 ≡ Some r.number) × (is_some r.counts ≡ true)
+StandsFirst {K} {V} t numbers place =
+    (r : Record K V) × (kept_at t place ≡ Some r) × (slice_get numbers 0 ≡ Some r.number)
+    × (is_some r.counts ≡ true)
 
 -- there is a record, with this number, and it is admitted
 abbrev pub is_admitted_as : {K V : Type 0} → ℕ → Option (Record K V) → Bool

@@ -8,7 +8,10 @@ module _ {K V : Type 0} where
   -- the held record in a place
   abbrev pub stand_of : ℕ → Option (Record K V) → List Stand
   stand_of place None = []
-  stand_of place (Some c) = if c.is_held then (record { number = c.number; place = place }) ∷ [] else []
+  stand_of place (Some c) = if c.is_held then (record {
+    number = c.number;
+    place = place;
+  }) ∷ [] else []
 
   -- the held records of cells, the first of which is in this place
   abbrev pub stands_from : ℕ → List (Option (Record K V)) → List Stand

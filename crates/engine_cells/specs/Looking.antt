@@ -23,4 +23,6 @@ module _ {K V : Type 0} where
 
   -- a place has the first settled record of a list that these places represent
   abbrev pub HasFirstSettled : List (Option (Record K V)) → List ℕ → ℕ → Type 0
-  HasFirstSettled cells places place = (r : Record K V) × (cell_at cells place ≡ Some r) × (first_of (settled_in (records_by_number cells) (numbers_in cells places)) ≡ Some r)
+  HasFirstSettled cells places place =
+      (r : Record K V) × (cell_at cells place ≡ Some r)
+      × (first_of (settled_in (records_by_number cells) (numbers_in cells places)) ≡ Some r)

@@ -28,7 +28,9 @@ number_written (Removed number) = number
 
 -- whatever cell has the number is in the place
 abbrev pub AimsAt : {K V : Type 0} → List (Option (Record K V)) → ℕ → ℕ → ℕ → Type 0
-AimsAt {K} {V} cells next place number = (number < next) × ((i : ℕ) (c : Record K V) → cell_at cells i ≡ Some c → c.number ≡ number → i ≡ place)
+AimsAt {K} {V} cells next place number =
+    (number < next)
+    × ((i : ℕ) (c : Record K V) → cell_at cells i ≡ Some c → c.number ≡ number → i ≡ place)
 
 abbrev pub IsAimed : {K V : Type 0} → List (Option (Record K V)) → ℕ → Noted → Type 0
 IsAimed cells next (Hit hash place number) = AimsAt cells next place number
@@ -38,16 +40,22 @@ abbrev pub AreAimed : {K V : Type 0} → List (Option (Record K V)) → ℕ → 
 AreAimed cells next [] = Unit {0}
 AreAimed cells next (n ∷ ns) = IsAimed cells next n × AreAimed cells next ns
 
-abbrev pub AreWritesAimed : {K V : Type 0} → List (Option (Record K V)) → ℕ → List PlacedWrite → Type 0
+abbrev pub AreWritesAimed : {K V : Type 0} → List (Option (Record K V)) → ℕ → List PlacedWrite
+    → Type 0
 AreWritesAimed cells next [] = Unit {0}
-AreWritesAimed cells next (w ∷ ws) = AimsAt cells next w.place (number_written w.write) × AreWritesAimed cells next ws
+AreWritesAimed cells next (w ∷ ws) =
+    AimsAt cells next w.place (number_written w.write) × AreWritesAimed cells next ws
 
-abbrev pub AreUnsentAimed : {K V : Type 0} → List (Option (Record K V)) → ℕ → List (Ticketed PlacedWrite) → Type 0
+abbrev pub AreUnsentAimed : {K V : Type 0} → List (Option (Record K V)) → ℕ
+    → List (Ticketed PlacedWrite) → Type 0
 AreUnsentAimed cells next [] = Unit {0}
-AreUnsentAimed cells next (u ∷ us) = AimsAt cells next u.write.place (number_written u.write.write) × AreUnsentAimed cells next us
+AreUnsentAimed cells next (u ∷ us) =
+    AimsAt cells next u.write.place (number_written u.write.write) × AreUnsentAimed cells next us
 
 -- all that waits has the places of its records
-pub record AreAllAimed {K V : Type 0} (cells : List (Option (Record K V))) (next : ℕ) (reads : List Noted) (writes : List PlacedWrite) (unsent : List (Ticketed PlacedWrite)) : Type 0 where
+pub record AreAllAimed {K V : Type 0} (cells : List (Option (Record K V))) (next : ℕ)
+    (reads : List Noted) (writes : List PlacedWrite) (unsent : List (Ticketed PlacedWrite)) :
+    Type 0 where
   pub reads_are : AreAimed cells next reads
   pub writes_are : AreWritesAimed cells next writes
   pub unsent_are : AreUnsentAimed cells next unsent

@@ -10,7 +10,8 @@ pub record OnlyMoreCells {X : Type 0} (old new : Slab X) : Type 0 where
   pub capacity : old.capacity ≤ new.capacity
 
 -- there is room for `more` records, where `waiting` of those that are there are in no queue
-pub record HasRooms {X : Type 0} (cells : Slab X) (access order : Indices) (keys : Spots) (more waiting : ℕ) : Type 0 where
+pub record HasRooms {X : Type 0} (cells : Slab X) (access order : Indices) (keys : Spots)
+    (more waiting : ℕ) : Type 0 where
   pub cells_fit : slab_len cells + more ≤ cells.capacity
   pub places_fit : length cells.slots ≤ cells.capacity
   pub access_fits : waiting + more ≤ access.room

@@ -14,7 +14,9 @@ module _ {K V : Type 0} where
 
   -- the hash of each held record is that of its key
   abbrev pub AreHashed : (K → ℕ) → List (Option (Record K V)) → Type 0
-  AreHashed hash_of cells = (i : ℕ) (c : Record K V) → cell_at cells i ≡ Some c → c.is_held ≡ true → c.hash ≡ hash_of c.entry.key
+  AreHashed hash_of cells =
+      (i : ℕ) (c : Record K V) → cell_at cells i ≡ Some c → c.is_held ≡ true
+      → c.hash ≡ hash_of c.entry.key
 
 module _ {K V : Type 0} where
   -- there is a cell, and its record has this number
@@ -24,7 +26,9 @@ module _ {K V : Type 0} where
 
   -- the record with a number, if it is there, is held and has this hash
   abbrev pub IsHeldUnder : ℕ → ℕ → List (Option (Record K V)) → Type 0
-  IsHeldUnder number hash cells = (i : ℕ) (c : Record K V) → cell_at cells i ≡ Some c → is_numbered number (Some c) ≡ true → (c.is_held ≡ true) × (c.hash ≡ hash)
+  IsHeldUnder number hash cells =
+      (i : ℕ) (c : Record K V) → cell_at cells i ≡ Some c → is_numbered number (Some c) ≡ true
+      → (c.is_held ≡ true) × (c.hash ≡ hash)
 
 -- a place is removed from under a hash, if it has to be
 abbrev pub LeavesIf : Bool → Spots → Spots → ℕ → ℕ → Type 0
@@ -39,10 +43,14 @@ module _ {K V : Type 0} (eq : K → K → Bool) where
 
   -- the place of each held record is under its hash, and nothing else is, and no two held records have equal keys
   pub record AreSpotted (cells : List (Option (Record K V))) (spots : Spots) : Type 0 where
-    pub spotted : (i : ℕ) (c : Record K V) → cell_at cells i ≡ Some c → c.is_held ≡ true → IsUnder spots c.hash i
+    pub spotted : (i : ℕ) (c : Record K V) → cell_at cells i ≡ Some c → c.is_held ≡ true
+        → IsUnder spots c.hash i
     pub only : (hash i : ℕ) → IsUnder spots hash i → HoldsAt cells hash i
-    pub single : (key : K) (i j : ℕ) → is_match key (cell_at cells i) ≡ true → is_match key (cell_at cells j) ≡ true → i ≡ j
+    pub single : (key : K) (i j : ℕ) → is_match key (cell_at cells i) ≡ true
+        → is_match key (cell_at cells j) ≡ true → i ≡ j
 
   -- held records with equal keys have this hash
   abbrev pub HaveHash : K → ℕ → List (Option (Record K V)) → Type 0
-  HaveHash key hash cells = (i : ℕ) (c : Record K V) → cell_at cells i ≡ Some c → is_match key (Some c) ≡ true → c.hash ≡ hash
+  HaveHash key hash cells =
+      (i : ℕ) (c : Record K V) → cell_at cells i ≡ Some c → is_match key (Some c) ≡ true
+      → c.hash ≡ hash

@@ -9,18 +9,28 @@ use Rattle.engine_reference.specs.State.{State}
 module _ {K V : Type 0} where
   -- the write of a record, if this much is held
   abbrev pub put_for : Record K V → ℕ → Write
-  put_for r kept = Put (record { number = r.number; write = r.writes; weight = r.entry.weight; hash = r.hash; kept = kept })
+  put_for r kept = Put (record {
+    number = r.number;
+    write = r.writes;
+    weight = r.entry.weight;
+    hash = r.hash;
+    kept = kept;
+  })
 
   -- it waits to be sent, with the weight of all that is held
   abbrev pub with_put_for : {P S R : Type 0} → Record K V → State K V P S R → State K V P S R
   with_put_for r s = record s {
-    unsent = s.unsent ++ (record { ticket = s.next_ticket; write = put_for r (held_weight s.records) }) ∷ [];
+    unsent = s.unsent ++ (record {
+      ticket = s.next_ticket;
+      write = put_for r (held_weight s.records);
+    }) ∷ [];
     next_ticket = s.next_ticket + 1;
     reserved = s.reserved - 1;
   }
 
 -- a record is added whose key is not held
-pub record IsNewcomer {K V P S R : Type 0} (eq : K → K → Bool) (hash_of : K → ℕ) (s : State K V P S R) (r : Record K V) : Type 0 where
+pub record IsNewcomer {K V P S R : Type 0} (eq : K → K → Bool) (hash_of : K → ℕ)
+    (s : State K V P S R) (r : Record K V) : Type 0 where
   pub numbered : r.number ≡ s.next_number
   pub uncounted : r.counts ≡ None
   pub held : r.is_held ≡ true

@@ -118,7 +118,8 @@ impl<T> CellSlab<T> {
         ensures was_vacant { get self.old result ≡ None }
         ensures updates { Updates self.old self.new result (Some value) }
         ensures len { slab_len self.new ≡ slab_len self.old + 1 }
-        ensures slots { length self.new.slots ≤ max (length self.old.slots) (slab_len self.old + 1) }
+        ensures slots { length self.new.slots
+            ≤ max (length self.old.slots) (slab_len self.old + 1) }
         ensures key_in_range { result < self.new.capacity }
         ensures capacity { self.new.capacity ≡ self.old.capacity }
     {

@@ -38,10 +38,13 @@ pub fn find_held<K: Eq, Q: Names<K>, V>(
 ) -> Option<usize>
     requires spotted { AreSpotted K.eq cells.now.slots keys.now }
     requires hashed { HaveHash K.eq (Q.named_key key.now) hash cells.now.slots }
-    ensures found { IfSome result (λ i. held_at K.eq (records_by_number cells.now.slots) (Q.named_key key.now) ≡ cell_at cells.now.slots i) }
-    ensures matched { IfSome result (λ i. is_match K.eq (Q.named_key key.now) (cell_at cells.now.slots i) ≡ true) }
+    ensures found { IfSome result (λ i. held_at K.eq (records_by_number cells.now.slots)
+        (Q.named_key key.now) ≡ cell_at cells.now.slots i) }
+    ensures matched { IfSome result
+        (λ i. is_match K.eq (Q.named_key key.now) (cell_at cells.now.slots i) ≡ true) }
     ensures there { IfSome result (λ i. is_some (cell_at cells.now.slots i) ≡ true) }
-    ensures none { IfNone result (held_at K.eq (records_by_number cells.now.slots) (Q.named_key key.now) ≡ None) }
+    ensures none { IfNone result
+        (held_at K.eq (records_by_number cells.now.slots) (Q.named_key key.now) ≡ None) }
 {
     keys.get(hash, |place| is_match(cells, place, key))
 }
@@ -66,7 +69,8 @@ pub fn find_number<K: Eq, V>(
     requires spotted { AreSpotted K.eq cells.now.slots keys.now }
     requires held { IsHeldUnder number hash cells.now.slots }
     ensures found { IfSome result (λ i. is_numbered number (cell_at cells.now.slots i) ≡ true) }
-    ensures none { IfNone result ((i : ℕ) → is_numbered number (cell_at cells.now.slots i) ≡ false) }
+    ensures none { IfNone result
+        ((i : ℕ) → is_numbered number (cell_at cells.now.slots i) ≡ false) }
 {
     keys.get(hash, |place| is_numbered(cells, place, number))
 }

@@ -39,7 +39,8 @@ impl Model for Keys {
 
     ghost Value = { Spots };
 
-    ghost view = { λ k. record { entries = entries_in k.slots.items; space = most_in (length k.slots.items) - k.count } };
+    ghost view = { λ k. record
+        { entries = entries_in k.slots.items; space = most_in (length k.slots.items) - k.count } };
 
     // each place is found from its tag's home on, and there are vacant slots
     ghost invariant = { λ k. record {
@@ -87,8 +88,10 @@ impl Keys {
     /// stands under another tag, nor about any once one is found.
     pub fn get<F: Fn(usize) -> bool>(&self, hash: u64, is_sought: F) -> Option<usize>
         requires { F.IsAlwaysCallable is_sought }
-        ensures found { IfSome result (λ place. IsUnder self.now hash place × F.post is_sought place true) }
-        ensures none { IfNone result ((place : ℕ) → IsUnder self.now hash place → F.post is_sought place false) }
+        ensures found { IfSome result
+            (λ place. IsUnder self.now hash place × F.post is_sought place true) }
+        ensures none { IfNone result
+            ((place : ℕ) → IsUnder self.now hash place → F.post is_sought place false) }
     {
         find(&self.slots, tag_of(hash), is_sought)
     }
@@ -161,7 +164,8 @@ fn steps_on(many: usize, from: usize, steps: usize) -> usize
 /// The slot behind another: the first one behind the last.
 fn next_slot(many: usize, at: usize) -> usize
     requires { at < many }
-    ensures { (from steps : ℕ) → from < many → steps < many → at ≡ steps_on many from steps → result ≡ steps_on many from (steps + 1) }
+    ensures { (from steps : ℕ) → from < many → steps < many → at ≡ steps_on many from steps
+        → result ≡ steps_on many from (steps + 1) }
 {
     if at + 1 < many { at + 1 } else { 0 }
 }
@@ -242,8 +246,10 @@ fn put_all(slots: &mut Vec<Slot>, others: &Vec<Slot>)
 fn find<F: Fn(usize) -> bool>(slots: &Vec<Slot>, tag: u32, is_sought: F) -> Option<usize>
     requires callable { F.IsAlwaysCallable is_sought }
     requires stand { AreFound slots.now.items }
-    ensures found { IfSome result (λ place. Has slots.now.items tag place × F.post is_sought place true) }
-    ensures none { IfNone result ((place : ℕ) → Has slots.now.items tag place → F.post is_sought place false) }
+    ensures found { IfSome result
+        (λ place. Has slots.now.items tag place × F.post is_sought place true) }
+    ensures none { IfNone result
+        ((place : ℕ) → Has slots.now.items tag place → F.post is_sought place false) }
 {
     let many = slots.len();
     let home = home_of(tag, many);

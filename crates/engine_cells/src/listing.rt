@@ -22,7 +22,8 @@ fn push_held<K, V>(
     place: usize,
     found: &mut Vec<Stand>,
 ) -> Result<(), AllocError>
-    ensures { OnOk result (found.new.items ≡ found.old.items ++ stand_of place (cell_at cells.now.slots place)) }
+    ensures { OnOk result
+        (found.new.items ≡ found.old.items ++ stand_of place (cell_at cells.now.slots place)) }
 {
     if let Some(cell) = cells.get(place)
         && cell.is_held
@@ -61,7 +62,8 @@ fn push_key<K: Clone + Drop, V>(
     keys: &mut Vec<K>,
 ) -> Result<(), AllocError>
     requires exact_key { (x y : K) → K.is_clone x y → y ≡ x }
-    ensures { OnOk result (keys.new.items ≡ keys.old.items ++ key_of (cell_at cells.now.slots place)) }
+    ensures { OnOk result
+        (keys.new.items ≡ keys.old.items ++ key_of (cell_at cells.now.slots place)) }
 {
     if let Some(cell) = cells.get(place) {
         let key = cell.entry.key.clone()?;

@@ -24,8 +24,10 @@ fn is_expired<K, V>(found: &Record<K, V>, now: u64) -> bool
 
 /// Whether a place has a held record whose own expiration was reached.
 fn is_expired_at<K, V>(cells: &CellSlab<Record<K, V>>, place: usize, now: u64) -> bool
-    ensures due { result ≡ true → (c : Record K V) × (cell_at cells.now.slots place ≡ Some c) × (is_expired now c ≡ true) }
-    ensures not { result ≡ false → (c : Record K V) → cell_at cells.now.slots place ≡ Some c → is_expired now c ≡ false }
+    ensures due { result ≡ true → (c : Record K V) × (cell_at cells.now.slots place ≡ Some c)
+        × (is_expired now c ≡ true) }
+    ensures not { result ≡ false → (c : Record K V) → cell_at cells.now.slots place ≡ Some c
+        → is_expired now c ≡ false }
 {
     match cells.get(place) {
         Some(cell) => is_expired(cell, now),
@@ -35,8 +37,10 @@ fn is_expired_at<K, V>(cells: &CellSlab<Record<K, V>>, place: usize, now: u64) -
 
 /// The place of a held record whose own expiration was reached, by a look at every record.
 fn first_due<K, V>(cells: &CellSlab<Record<K, V>>, now: u64) -> Option<usize>
-    ensures found { IfSome result (λ i. (c : Record K V) × (cell_at cells.now.slots i ≡ Some c) × (is_expired now c ≡ true)) }
-    ensures none { IfNone result ((i : ℕ) (c : Record K V) → cell_at cells.now.slots i ≡ Some c → is_expired now c ≡ false) }
+    ensures found { IfSome result
+        (λ i. (c : Record K V) × (cell_at cells.now.slots i ≡ Some c) × (is_expired now c ≡ true)) }
+    ensures none { IfNone result
+        ((i : ℕ) (c : Record K V) → cell_at cells.now.slots i ≡ Some c → is_expired now c ≡ false) }
 {
     for place in 0..cells.capacity() {
         if is_expired_at(cells, place, now) {
@@ -54,8 +58,10 @@ pub fn first_expired<K, V>(
     now: u64,
 ) -> Option<usize>
     requires { ∥ AreAwaited cells.now.slots expirations.now ∥₁ }
-    ensures found { IfSome result (λ i. (c : Record K V) × (cell_at cells.now.slots i ≡ Some c) × (is_expired now c ≡ true)) }
-    ensures none { IfNone result ((i : ℕ) (c : Record K V) → cell_at cells.now.slots i ≡ Some c → is_expired now c ≡ false) }
+    ensures found { IfSome result
+        (λ i. (c : Record K V) × (cell_at cells.now.slots i ≡ Some c) × (is_expired now c ≡ true)) }
+    ensures none { IfNone result
+        ((i : ℕ) (c : Record K V) → cell_at cells.now.slots i ≡ Some c → is_expired now c ≡ false) }
 {
     if MAX_NANOS < now {
         return first_due(cells, now);
@@ -91,7 +97,8 @@ pub fn first_settled<K, V>(cells: &CellSlab<Record<K, V>>, queue: &IndexQueue) -
     requires apart { HaveOwnNumbers cells.now.slots }
     requires listed { AreListed cells.now.slots queue.now.indices }
     ensures found { IfSome result (HasFirstSettled cells.now.slots queue.now.indices) }
-    ensures none { IfNone result (settled_in (records_by_number cells.now.slots) (numbers_in cells.now.slots queue.now.indices) ≡ []) }
+    ensures none { IfNone result (settled_in (records_by_number cells.now.slots)
+        (numbers_in cells.now.slots queue.now.indices) ≡ []) }
 {
     let mut next = queue.first();
     while let Some(index) = next {

@@ -20,7 +20,11 @@ impl Tally {
         requires weight { self.weight + 2 ^ 32 ≤ 2 ^ 64 }
         requires number { self.number + 2 ^ 32 ≤ 2 ^ 64 }
         ensures light { IsLightly came.now }
-        ensures more { result ≡ record { held = self.held + held_part came.now; weight = self.weight + weight_at came.now; number = self.number + admitted_part came.now } }
+        ensures more { result ≡ record {
+          held = self.held + held_part came.now;
+          weight = self.weight + weight_at came.now;
+          number = self.number + admitted_part came.now;
+        } }
     {
         Tally {
             held: self.held + u64::from(weight_if_held(came)),
@@ -34,7 +38,11 @@ impl Tally {
         requires held { held_part went.now ≤ self.held }
         requires weight { weight_at went.now ≤ self.weight }
         requires number { admitted_part went.now ≤ self.number }
-        ensures { result ≡ record { held = self.held - held_part went.now; weight = self.weight - weight_at went.now; number = self.number - admitted_part went.now } }
+        ensures { result ≡ record {
+          held = self.held - held_part went.now;
+          weight = self.weight - weight_at went.now;
+          number = self.number - admitted_part went.now;
+        } }
     {
         Tally {
             held: self.held - u64::from(weight_if_held(went)),

@@ -27,7 +27,8 @@ pub fn set_changed(
 
 /// When the record in a place expires by itself, if it is held.
 fn expiration_at<K, V>(cells: &CellSlab<Record<K, V>>, place: usize) -> Option<u64>
-    ensures { (c : Record K V) → cell_at cells.now.slots place ≡ Some c → c.is_held ≡ true → result ≡ c.entry.expires }
+    ensures { (c : Record K V) → cell_at cells.now.slots place ≡ Some c → c.is_held ≡ true
+        → result ≡ c.entry.expires }
 {
     match cells.get(place) {
         Some(cell) => {
@@ -45,7 +46,8 @@ fn expiration_at<K, V>(cells: &CellSlab<Record<K, V>>, place: usize) -> Option<u
 fn time_place<K, V>(cells: &CellSlab<Record<K, V>>, place: usize, expirations: &mut Expirations)
     ensures others { KeepsOthers place expirations.old.timers expirations.new.timers }
     ensures whole { expirations.new.is_whole ≡ true → expirations.old.is_whole ≡ true }
-    ensures set { (c : Record K V) → cell_at cells.now.slots place ≡ Some c → c.is_held ≡ true → IsSet expirations.new place c.entry.expires }
+    ensures set { (c : Record K V) → cell_at cells.now.slots place ≡ Some c → c.is_held ≡ true
+        → IsSet expirations.new place c.entry.expires }
 {
     let expires = expiration_at(cells, place);
     expirations.set(place, expires);

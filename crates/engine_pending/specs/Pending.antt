@@ -45,7 +45,8 @@ without_ticketed ticket [] = []
 without_ticketed ticket (u ∷ us) = if u.ticket == ticket then us else u ∷ without_ticketed ticket us
 
 -- nothing was asked of it yet
-pub record IsUntouched {K V O W P S R : Type 0} (name : Option (List ℕ)) (settings : Settings) (hasher : S) (rules : R) (s : Pending K V O W P S R) : Type 0 where
+pub record IsUntouched {K V O W P S R : Type 0} (name : Option (List ℕ)) (settings : Settings)
+    (hasher : S) (rules : R) (s : Pending K V O W P S R) : Type 0 where
   pub cleared : s.cleared ≡ 0
   pub predicates : s.predicates ≡ []
   pub unsent : s.unsent ≡ []
@@ -67,31 +68,49 @@ pub record IsUntouched {K V O W P S R : Type 0} (name : Option (List ℕ)) (sett
 module _ {K V O W P S R : Type 0} where
   -- a write waits under the next ticket, in the room that was made for it
   abbrev pub with_ticketed : W → Pending K V O W P S R → Pending K V O W P S R
-  with_ticketed w s = record s { unsent = s.unsent ++ (record { ticket = s.next_ticket; write = w }) ∷ []; next_ticket = s.next_ticket + 1; reserved = s.reserved - 1 }
+  with_ticketed w s = record s {
+    unsent = s.unsent ++ (record { ticket = s.next_ticket; write = w }) ∷ [];
+    next_ticket = s.next_ticket + 1;
+    reserved = s.reserved - 1;
+  }
 
   abbrev pub with_sent_of : ℕ → Option W → Pending K V O W P S R → Pending K V O W P S R
   with_sent_of ticket None s = s
-  with_sent_of ticket (Some w) s = record s { unsent = without_ticketed ticket s.unsent; writes = s.writes ++ w ∷ [] }
+  with_sent_of ticket (Some w) s = record s {
+    unsent = without_ticketed ticket s.unsent;
+    writes = s.writes ++ w ∷ [];
+  }
 
   -- the write of a ticket goes into the queue
   abbrev pub ticket_sent : ℕ → Pending K V O W P S R → Pending K V O W P S R
   ticket_sent ticket s = with_sent_of ticket (ticketed_at s.unsent ticket) s
 
   -- an entry that left is reported, if it has to be
-  abbrev pub told_if : Bool → RemovalCause → Entry K V → Pending K V O W P S R → Pending K V O W P S R
-  told_if is_told why e s = if is_told then record s { notices = s.notices ++ notice_of why e ∷ []; notice_room = s.notice_room - 1 } else s
+  abbrev pub told_if : Bool → RemovalCause → Entry K V → Pending K V O W P S R
+      → Pending K V O W P S R
+  told_if is_told why e s = if is_told then record s {
+    notices = s.notices ++ notice_of why e ∷ [];
+    notice_room = s.notice_room - 1;
+  } else s
 
   -- the oldest notice is taken, and its place is free
   abbrev pub notice_taken : Pending K V O W P S R → Pending K V O W P S R
-  notice_taken s = record s { notices = drop 1 s.notices; notice_room = s.notice_room + min 1 (length s.notices) }
+  notice_taken s = record s {
+    notices = drop 1 s.notices;
+    notice_room = s.notice_room + min 1 (length s.notices);
+  }
 
   -- a clear of a later step than the write, or a predicate that was registered at a later step, covers the entry
   abbrev pub stands_over : (R → P → K → V → Bool) → Pending K V O W P S R → Entry K V → Bool
-  stands_over covers s e = nat_lt e.step s.cleared || list_any (λ p. nat_lt e.step p.step && covers s.rules p.predicate e.key e.value) s.predicates
+  stands_over covers s e =
+      nat_lt e.step s.cleared || list_any
+      (λ p. nat_lt e.step p.step && covers s.rules p.predicate e.key e.value) s.predicates
 
   -- 64 writes or 64 reads wait, or the last run is 300 milliseconds old
   abbrev pub is_run_due : Pending K V O W P S R → ℕ → Bool
-  is_run_due s now = nat_le 64 (length s.writes) || nat_le 64 (length s.reads) || is_reached (end_of s.ran (Some 300000000)) now
+  is_run_due s now =
+      nat_le 64 (length s.writes) || nat_le 64 (length s.reads)
+      || is_reached (end_of s.ran (Some 300000000)) now
 
   -- there is room for this many more writes or predicates, and for a notice of each record that is or may come
   pub record MakesRoom (by records : ℕ) (old new : Pending K V O W P S R) : Type 0 where

@@ -18,7 +18,8 @@ abbrev pub unsent_of : {W : Type 0} → (W → Write) → Ticketed W → Unsent
 unsent_of write_of u = record { ticket = u.ticket; write = write_of u.write }
 
 module _ {K V O W P S R : Type 0} (read_of : O → Read) (write_of : W → Write) where
-  abbrev pub whole : (records : List (Record K V)) (access order : List ℕ) (next_number : ℕ) → Pending K V O W P S R → State K V P S R
+  abbrev pub whole : (records : List (Record K V)) (access order : List ℕ) (next_number : ℕ)
+      → Pending K V O W P S R → State K V P S R
   whole records access order next_number p = record {
     records = records;
     access = access;
@@ -45,25 +46,44 @@ module _ {K V O W P S R : Type 0} (read_of : O → Read) (write_of : W → Write
 
 module _ (K V O W P S R : Type 0) where
   -- what is said of the pending part is said of the state
-  pub record AgreesWithState (read_of : O → Read) (write_of : W → Write) (records : List (Record K V)) (access order : List ℕ) (next : ℕ) : Type 0 where
-    pub unsent : (ticket : ℕ) (p : Pending K V O W P S R) → unsent_at (whole read_of write_of records access order next p).unsent ticket ≡ option_map write_of (ticketed_at p.unsent ticket)
-    pub sent : (ticket : ℕ) (p : Pending K V O W P S R) → whole read_of write_of records access order next (ticket_sent ticket p) ≡ sent ticket (whole read_of write_of records access order next p)
-    pub full : (p : Pending K V O W P S R) → is_full (whole read_of write_of records access order next p) ≡ nat_le 128 (length p.writes)
-    pub added : (w : W) (p : Pending K V O W P S R) → whole read_of write_of records access order next (with_ticketed w p)
+  pub record AgreesWithState (read_of : O → Read) (write_of : W → Write)
+      (records : List (Record K V)) (access order : List ℕ) (next : ℕ) : Type 0 where
+    pub unsent : (ticket : ℕ) (p : Pending K V O W P S R)
+        → unsent_at (whole read_of write_of records access order next p).unsent ticket
+        ≡ option_map write_of (ticketed_at p.unsent ticket)
+    pub sent : (ticket : ℕ) (p : Pending K V O W P S R)
+        → whole read_of write_of records access order next (ticket_sent ticket p)
+        ≡ sent ticket (whole read_of write_of records access order next p)
+    pub full : (p : Pending K V O W P S R) → is_full
+        (whole read_of write_of records access order next p) ≡ nat_le 128 (length p.writes)
+    pub added : (w : W) (p : Pending K V O W P S R)
+        → whole read_of write_of records access order next (with_ticketed w p)
         ≡ (let s = whole read_of write_of records access order next p in
-        record s { unsent = s.unsent ++ (record { ticket = s.next_ticket; write = write_of w }) ∷ []; next_ticket = s.next_ticket + 1; reserved = s.reserved - 1 })
+        record s {
+          unsent = s.unsent ++ (record { ticket = s.next_ticket; write = write_of w }) ∷ [];
+          next_ticket = s.next_ticket + 1;
+          reserved = s.reserved - 1;
+        })
     pub read : (o : O) (p : Pending K V O W P S R) → whole read_of write_of records access order next (record p { reads = p.reads ++ o ∷ [] })
         ≡ (let s = whole read_of write_of records access order next p in record s { reads = s.reads ++ read_of o ∷ [] })
     pub counted : (p : Pending K V O W P S R) → whole read_of write_of records access order next (record p { reads = drop 1 p.reads })
         ≡ (let s = whole read_of write_of records access order next p in record s { reads = drop 1 s.reads })
     pub applied : (p : Pending K V O W P S R) → whole read_of write_of records access order next (record p { writes = drop 1 p.writes })
         ≡ (let s = whole read_of write_of records access order next p in record s { writes = drop 1 s.writes })
-    pub told : (is_told : Bool) (why : RemovalCause) (e : Entry K V) (p : Pending K V O W P S R) → whole read_of write_of records access order next (told_if is_told why e p)
+    pub told : (is_told : Bool) (why : RemovalCause) (e : Entry K V) (p : Pending K V O W P S R)
+        → whole read_of write_of records access order next (told_if is_told why e p)
         ≡ (let s = whole read_of write_of records access order next p in record s { notices = told is_told why e s.notices })
-    pub taken : (p : Pending K V O W P S R) → whole read_of write_of records access order next (notice_taken p) ≡ without_notice (whole read_of write_of records access order next p)
-    pub covered : (answers : Answers K V P R) (e : Entry K V) (p : Pending K V O W P S R) → stands_over answers.covers p e ≡ is_covered answers (whole read_of write_of records access order next p) e
-    pub due : (now : ℕ) (p : Pending K V O W P S R) → is_run_due p now ≡ is_due (whole read_of write_of records access order next p) now
+    pub taken : (p : Pending K V O W P S R) → whole read_of write_of records access order next
+        (notice_taken p) ≡ without_notice (whole read_of write_of records access order next p)
+    pub covered : (answers : Answers K V P R) (e : Entry K V) (p : Pending K V O W P S R)
+        → stands_over answers.covers p e
+        ≡ is_covered answers (whole read_of write_of records access order next p) e
+    pub due : (now : ℕ) (p : Pending K V O W P S R)
+        → is_run_due p now ≡ is_due (whole read_of write_of records access order next p) now
 
   -- whatever is kept of reads and writes, and whichever records and lists there are
   abbrev pub PendingAgrees : Type 0
-  PendingAgrees = (read_of : O → Read) (write_of : W → Write) (records : List (Record K V)) (access order : List ℕ) (next : ℕ) → AgreesWithState read_of write_of records access order next
+  PendingAgrees =
+      (read_of : O → Read) (write_of : W → Write)
+      (records : List (Record K V)) (access order : List ℕ) (next : ℕ)
+      → AgreesWithState read_of write_of records access order next

@@ -103,7 +103,8 @@ impl<K, V, O, W, S, R: Rules<K, V>> Backlog<K, V, O, W, S, R> {
         W: Drop,
         S: Drop,
         R: Drop,
-        ensures { IfOk result (λ made. IsUntouched (option_map string_bytes name) settings hasher rules made) }
+        ensures { IfOk result
+            (λ made. IsUntouched (option_map string_bytes name) settings hasher rules made) }
     {
         let reads = HeapCircularBuffer::with_capacity(alloc, MAX_READS)?;
         let writes = HeapCircularBuffer::with_capacity(alloc, MAX_WRITES)?;
@@ -273,7 +274,11 @@ impl<K, V, O, W, S, R: Rules<K, V>> Backlog<K, V, O, W, S, R> {
     /// Registers a predicate, for which there is room.
     pub fn register(&mut self, registered: Registered<R::Predicate>)
         requires { 0 < self.old.reserved }
-        ensures { self.new ≡ record self.old { predicates = self.old.predicates ++ registered ∷ []; reserved = self.old.reserved - 1 } }
+        ensures { self.new ≡ record self.old {
+          predicates = self.old.predicates ++ registered
+              ∷ [];
+          reserved = self.old.reserved - 1;
+        } }
     {
         self.predicates.push_reserved(registered);
         self.reserved -= 1;
@@ -339,7 +344,8 @@ impl<K, V, O, W, S, R: Rules<K, V>> Backlog<K, V, O, W, S, R> {
         V: Drop,
         requires room { 0 < self.old.notice_room }
         requires reserved { 0 < self.old.reserved }
-        ensures { self.new ≡ told_if self.old.settings.tells cause entry (record self.old { reserved = self.old.reserved - 1 }) }
+        ensures { self.new ≡ told_if self.old.settings.tells cause entry
+            (record self.old { reserved = self.old.reserved - 1 }) }
     {
         self.reserved -= 1;
         self.tell(true, cause, entry);
@@ -351,8 +357,10 @@ impl<K, V, O, W, S, R: Rules<K, V>> Backlog<K, V, O, W, S, R> {
     pub fn make_room(&mut self, by: u64, records: usize) -> Result<(), Refusal>
         ensures ok { OnOk result (MakesRoom by records self.old self.new) }
         ensures err { OnErr result (self.new ≡ self.old) }
-        ensures used_up { IsErrOf result Refusal.UsedUp → 2 ^ 64 ≤ self.old.next_ticket + self.old.reserved + by }
-        ensures only { OnErr result ((IsErrOf result Refusal.OutOfMemory) ⊎ (IsErrOf result Refusal.UsedUp)) }
+        ensures used_up { IsErrOf result Refusal.UsedUp
+            → 2 ^ 64 ≤ self.old.next_ticket + self.old.reserved + by }
+        ensures only { OnErr result
+            ((IsErrOf result Refusal.OutOfMemory) ⊎ (IsErrOf result Refusal.UsedUp)) }
     {
         let free = (u64::MAX - self.next_ticket).saturating_sub(self.reserved);
         if free < by {
@@ -399,9 +407,13 @@ impl<K, V, O, W, S, R: Rules<K, V>> Backlog<K, V, O, W, S, R> {
         ensures ok { OnOk result (self.new ≡ ticket_sent ticket self.old) }
         ensures known { OnOk result (is_some (ticketed_at self.old.unsent ticket) ≡ true) }
         ensures err { OnErr result (self.new ≡ self.old) }
-        ensures unknown { IsErrOf result Refusal.UnknownTicket → ticketed_at self.old.unsent ticket ≡ None }
-        ensures full { IsErrOf result Refusal.QueueFull → (is_some (ticketed_at self.old.unsent ticket) ≡ true) × (128 ≤ length self.old.writes) }
-        ensures only { OnErr result ((IsErrOf result Refusal.UnknownTicket) ⊎ (IsErrOf result Refusal.QueueFull)) }
+        ensures unknown { IsErrOf result Refusal.UnknownTicket
+            → ticketed_at self.old.unsent ticket ≡ None }
+        ensures full { IsErrOf result Refusal.QueueFull
+            → (is_some (ticketed_at self.old.unsent ticket) ≡ true)
+            × (128 ≤ length self.old.writes) }
+        ensures only { OnErr result
+            ((IsErrOf result Refusal.UnknownTicket) ⊎ (IsErrOf result Refusal.QueueFull)) }
     {
         match place_of_ticket(self.unsent.as_slice(), ticket) {
             Some(place) => {
@@ -419,7 +431,9 @@ impl<K, V, O, W, S, R: Rules<K, V>> Backlog<K, V, O, W, S, R> {
     fn send_at(&mut self, place: usize, _ticket: u64)
         requires within { place < length self.old.unsent }
         requires room { length self.old.writes < 128 }
-        requires found { (u : Ticketed W) × (slice_get self.old.unsent place ≡ Some u) × (ticketed_at self.old.unsent _ticket ≡ Some u.write) × (without_ticketed _ticket self.old.unsent ≡ remove self.old.unsent place) }
+        requires found { (u : Ticketed W) × (slice_get self.old.unsent place ≡ Some u)
+            × (ticketed_at self.old.unsent _ticket ≡ Some u.write)
+            × (without_ticketed _ticket self.old.unsent ≡ remove self.old.unsent place) }
         ensures { self.new ≡ ticket_sent _ticket self.old }
     {
         let sent = take_ticketed(&mut self.unsent, place);
@@ -469,7 +483,8 @@ impl<K, V, O, W, S, R: Rules<K, V>> Backlog<K, V, O, W, S, R> {
 
     /// Makes the sketch's table for so many hashes.
     pub fn make_table(&mut self, hashes: u32) -> Result<(), AllocError>
-        ensures made { OnOk result ((words : ℕ) × IsNextPowerOfTwo (min hashes (2 ^ 24)) words × (self.new ≡ record self.old { sketch = grown self.old.sketch words hashes })) }
+        ensures made { OnOk result ((words : ℕ) × IsNextPowerOfTwo (min hashes (2 ^ 24)) words
+            × (self.new ≡ record self.old { sketch = grown self.old.sketch words hashes })) }
         ensures err { OnErr result (self.new ≡ self.old) }
     {
         self.sketch.ensure_capacity(hashes)?;
@@ -478,7 +493,8 @@ impl<K, V, O, W, S, R: Rules<K, V>> Backlog<K, V, O, W, S, R> {
 
     /// Takes down the counts at the end of a run, and whether there was no memory for the sketch's table.
     pub fn finish_run(&mut self, number: u64, weight: u64, now: u64, table_refused: bool)
-        ensures { self.new ≡ record self.old { number = number; weight = weight; ran = now; table_refused = table_refused } }
+        ensures { self.new ≡ record self.old
+            { number = number; weight = weight; ran = now; table_refused = table_refused } }
     {
         self.number = number;
         self.weight = weight;

@@ -10,7 +10,8 @@ pub fn is_any_over<K, V, R: Rules<K, V>>(
     predicates: &[Registered<R::Predicate>],
     entry: &Entry<K, V>,
 ) -> bool
-    ensures { result ≡ list_any (λ p. nat_lt entry.now.step p.step && R.covers rules.now p.predicate entry.now.key entry.now.value) predicates.now }
+    ensures { result ≡ list_any (λ p. nat_lt entry.now.step p.step
+        && R.covers rules.now p.predicate entry.now.key entry.now.value) predicates.now }
 {
     for p in predicates {
         if entry.step < p.step && rules.is_covered(&p.predicate, &entry.key, &entry.value) {

@@ -12,7 +12,9 @@ pub struct Ticketed<W> {
 
 /// The place of the write of a ticket.
 pub fn place_of_ticket<W>(unsent: &[Ticketed<W>], ticket: u64) -> Option<usize>
-    ensures found { IfSome result (λ i. (u : Ticketed W) × (slice_get unsent.now i ≡ Some u) × (ticketed_at unsent.now ticket ≡ Some u.write) × (without_ticketed ticket unsent.now ≡ remove unsent.now i)) }
+    ensures found { IfSome result (λ i. (u : Ticketed W) × (slice_get unsent.now i ≡ Some u)
+        × (ticketed_at unsent.now ticket ≡ Some u.write)
+        × (without_ticketed ticket unsent.now ≡ remove unsent.now i)) }
     ensures within { IfSome result (λ i. i < length unsent.now) }
     ensures none { IfNone result (ticketed_at unsent.now ticket ≡ None) }
 {

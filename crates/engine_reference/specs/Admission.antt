@@ -27,7 +27,8 @@ sketch_room capacity number weight =
 -- at least half the capacity is held, and there is no table yet
 abbrev pub wants_table : Option ℕ → Sketch → ℕ → Bool
 wants_table None sketch weight = false
-wants_table (Some capacity) sketch weight = nat_lt 0 capacity && (sketch.words == 0) && nat_le (capacity / 2) weight
+wants_table (Some capacity) sketch weight =
+    nat_lt 0 capacity && (sketch.words == 0) && nat_le (capacity / 2) weight
 
 -- the verdict on a write of a record that is not admitted
 pub data Verdict (K V : Type 0) : Type 0 where
@@ -40,7 +41,8 @@ module _ {K V : Type 0} where
   -- the shortest front of records whose total weight reaches a weight
   abbrev pub shortest_front : ℕ → List (Record K V) → Option (List (Record K V))
   shortest_front weight [] = if weight == 0 then Some [] else None
-  shortest_front weight (r ∷ rs) = if weight == 0 then Some [] else with_first r (shortest_front (weight - weight_at r) rs)
+  shortest_front weight (r ∷ rs) =
+      if weight == 0 then Some [] else with_first r (shortest_front (weight - weight_at r) rs)
 
   -- how often these were requested, in total
   abbrev pub frequencies : Sketch → List (Record K V) → ℕ
@@ -49,7 +51,9 @@ module _ {K V : Type 0} where
   -- the newcomer is admitted exactly if there are victims and it was requested more often than all of them together
   abbrev pub contest : Sketch → ℕ → Option (List (Record K V)) → Verdict K V
   contest sketch hash None = refuse
-  contest sketch hash (Some victims) = if nat_lt (frequencies sketch victims) (frequency_of sketch hash) then displace victims else refuse
+  contest sketch hash (Some victims) =
+      if nat_lt (frequencies sketch victims) (frequency_of sketch hash) then displace victims
+      else refuse
 
   abbrev pub verdict_of_full : EvictionPolicy → Sketch → Upsert → List (Record K V) → Verdict K V
   verdict_of_full Lru sketch u settled = admit
@@ -61,5 +65,6 @@ module _ {K V P S R : Type 0} where
   abbrev pub verdict : State K V P S R → Upsert → Verdict K V
   verdict s u =
       if is_above s.settings.capacity (admitted_weight s.records + u.weight)
-      then (if is_above s.settings.capacity u.weight then refuse else verdict_of_full s.settings.policy s.sketch u (settled_in s.records s.access))
+      then (if is_above s.settings.capacity u.weight then refuse
+      else verdict_of_full s.settings.policy s.sketch u (settled_in s.records s.access))
       else admit

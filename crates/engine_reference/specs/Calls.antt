@@ -36,7 +36,10 @@ module _ {K V P S R : Type 0} where
 
   abbrev pub with_sent : ℕ → Option Write → State K V P S R → State K V P S R
   with_sent ticket None s = s
-  with_sent ticket (Some w) s = record s { unsent = without_ticket ticket s.unsent; writes = s.writes ++ w ∷ [] }
+  with_sent ticket (Some w) s = record s {
+    unsent = without_ticket ticket s.unsent;
+    writes = s.writes ++ w ∷ [];
+  }
 
   -- the write of a ticket goes into the queue
   abbrev pub sent : ℕ → State K V P S R → State K V P S R
@@ -47,7 +50,10 @@ module _ {K V P S R : Type 0} where
   abbrev pub with_removed : Option (Record K V) → State K V P S R → State K V P S R
   with_removed None s = s
   with_removed (Some r) s = record s {
-    records = changed_at r.number (λ x. record x { is_held = false; writes = x.writes + 1 }) s.records;
+    records = changed_at r.number (λ x. record x {
+      is_held = false;
+      writes = x.writes + 1;
+    }) s.records;
     unsent = s.unsent ++ (record { ticket = s.next_ticket; write = Removed r.number }) ∷ [];
     next_ticket = s.next_ticket + 1;
     reserved = if s.settings.tells then s.reserved + 1 else s.reserved;
@@ -66,7 +72,9 @@ module _ {K V P S R : Type 0} where
   -- the second half removes it in that room
   abbrev pub with_reserved_removal : Option (Record K V) → State K V P S R → State K V P S R
   with_reserved_removal None s = s
-  with_reserved_removal (Some r) s = with_removed (Some r) (record s { reserved = s.reserved - removal_rooms s.settings })
+  with_reserved_removal (Some r) s = with_removed (Some r) (record s {
+    reserved = s.reserved - removal_rooms s.settings;
+  })
 
   -- ---- clears, predicates, room, notices
 
@@ -122,33 +130,51 @@ module _ {K V P S R : Type 0} (answers : Answers K V P R) where
   abbrev pub next_entry : State K V P S R → Entry K V → K → V → ℕ → ℕ → Entry K V
   next_entry s e key value now step =
       let w = written_over s e key value now step in
-      record w { expires = changed_expiration now (answers.updated s.rules key value now (time_left s.settings now w)) e.expires }
+      record w {
+        expires = changed_expiration now (answers.updated s.rules key value now (time_left s.settings now w)) e.expires;
+      }
 
   -- a write of this record, with the weight of everything that is held, waits to be sent
   abbrev pub with_put : (number write weight hash : ℕ) → State K V P S R → State K V P S R
   with_put number write weight hash s = record s {
-    unsent = s.unsent ++ (record { ticket = s.next_ticket; write = Put (record { number = number; write = write; weight = weight; hash = hash; kept = held_weight s.records }) }) ∷ [];
+    unsent = s.unsent ++ (record {
+      ticket = s.next_ticket;
+      write = Put (record { number = number; write = write; weight = weight; hash = hash; kept = held_weight s.records });
+    }) ∷ [];
     next_ticket = s.next_ticket + 1;
     reserved = s.reserved - 1;
   }
 
-  abbrev pub with_written : Option (Record K V) → State K V P S R → K → ℕ → V → ℕ → ℕ → State K V P S R
+  abbrev pub with_written : Option (Record K V) → State K V P S R → K → ℕ → V → ℕ → ℕ
+      → State K V P S R
   with_written None s key hash value now step =
       let e = first_entry s key value now step in
       with_put s.next_number 1 e.weight hash (record s {
-        records = s.records ++ (record { number = s.next_number; hash = hash; entry = e; is_held = true; writes = 1; applied = 0; counts = None }) ∷ [];
+        records = s.records ++ (record {
+          number = s.next_number;
+          hash = hash;
+          entry = e;
+          is_held = true;
+          writes = 1;
+          applied = 0;
+          counts = None;
+        }) ∷ [];
         next_number = s.next_number + 1;
       })
   with_written (Some r) s key hash value now step =
       let e = next_entry s r.entry key value now step in
       with_put r.number (r.writes + 1) e.weight hash (record s {
-        records = changed_at r.number (λ x. record x { entry = e; writes = x.writes + 1 }) s.records;
+        records = changed_at r.number (λ x. record x {
+          entry = e;
+          writes = x.writes + 1;
+        }) s.records;
         notices = told s.settings.tells (cause_of_write answers s now r.entry) r.entry s.notices;
       })
 
   -- a value is written under its key, and what it replaces is reported. It is visible at once, and its write waits to be sent
   abbrev pub written : (K → K → Bool) → State K V P S R → K → ℕ → V → ℕ → ℕ → State K V P S R
-  written eq s key hash value now step = with_written (held_at eq s.records key) s key hash value now step
+  written eq s key hash value now step =
+      with_written (held_at eq s.records key) s key hash value now step
 
   -- ---- looking up
 
@@ -156,7 +182,8 @@ module _ {K V P S R : Type 0} (answers : Answers K V P R) where
   abbrev pub used_entry : State K V P S R → ℕ → Entry K V → Entry K V
   used_entry s now e = record e {
     used = now;
-    expires = changed_expiration now (answers.found s.rules e.key e.value now (time_left s.settings now e) e.written) e.expires;
+    expires = changed_expiration now
+        (answers.found s.rules e.key e.value now (time_left s.settings now e) e.written) e.expires;
   }
 
   -- the read waits to be counted
@@ -169,10 +196,12 @@ module _ {K V P S R : Type 0} (answers : Answers K V P R) where
 
   -- maintenance runs if it is due, and is not cut short
   abbrev pub MaintainsIfDue : ℕ → State K V P S R → State K V P S R → Type 0
-  MaintainsIfDue now old new = MatchBool (is_due old now) (RunsToEnd answers now old new) (new ≡ old)
+  MaintainsIfDue now old new =
+      MatchBool (is_due old now) (RunsToEnd answers now old new) (new ≡ old)
 
   -- a look-up with its read: the result is what is visible as it begins, then maintenance runs if it is due, then the read is noted
-  pub record LooksUp (eq : K → K → Bool) (key : K) (hash now : ℕ) (old new : State K V P S R) : Type 0 where
+  pub record LooksUp (eq : K → K → Bool) (key : K) (hash now : ℕ) (old new : State K V P S R) :
+      Type 0 where
     pub mid : State K V P S R
     pub maintains : MaintainsIfDue now old mid
     pub reads : new ≡ with_read (visible_record answers eq old now key) hash now mid
@@ -189,7 +218,8 @@ module _ {K V P S R : Type 0} (answers : Answers K V P R) where
 -- ---- creating
 
 -- a cache that was just created
-pub record IsNew {K V P S R : Type 0} (name : Option (List ℕ)) (settings : Settings) (hasher : S) (rules : R) (s : State K V P S R) : Type 0 where
+pub record IsNew {K V P S R : Type 0} (name : Option (List ℕ)) (settings : Settings) (hasher : S)
+    (rules : R) (s : State K V P S R) : Type 0 where
   pub records : s.records ≡ []
   pub access : s.access ≡ []
   pub order : s.order ≡ []

@@ -25,7 +25,8 @@ module _ {K V : Type 0} where
   -- the records with the one with a number changed
   abbrev pub changed_at : ℕ → (Record K V → Record K V) → List (Record K V) → List (Record K V)
   changed_at number change [] = []
-  changed_at number change (r ∷ rs) = if r.number == number then change r ∷ rs else r ∷ changed_at number change rs
+  changed_at number change (r ∷ rs) =
+      if r.number == number then change r ∷ rs else r ∷ changed_at number change rs
 
   -- the entries of the keys that are held
   abbrev pub held_entries : List (Record K V) → List (Entry K V)

@@ -51,14 +51,16 @@ module _ {K V : Type 0} where
   Fits (Removed number) r = number ≡ r.number → r.is_held ≡ false
 
   -- a settled record counts with its weight; of any other record the last write is pending
-  pub record IsAccounted (unsent : List Unsent) (writes : List Write) (r : Record K V) : Type 0 where
-    pub applied : r.applied ≤ r.writes
-    pub counts : r.applied ≡ r.writes → (r.is_held ≡ true) × (r.counts ≡ Some r.entry.weight)
-    pub waits : (r.applied ≡ r.writes → ⊥) → (w : Write) × IsPending unsent writes w × IsLastOf w r
-    pub fits : (w : Write) → IsPending unsent writes w → Fits w r
+  pub record IsAccounted (unsent : List Unsent) (writes : List Write) (r : Record K V) : Type 0
+    where
+      pub applied : r.applied ≤ r.writes
+      pub counts : r.applied ≡ r.writes → (r.is_held ≡ true) × (r.counts ≡ Some r.entry.weight)
+      pub waits : (r.applied ≡ r.writes → ⊥) → (w : Write) × IsPending unsent writes w × IsLastOf w r
+      pub fits : (w : Write) → IsPending unsent writes w → Fits w r
 
   -- the records and the access list, together with what is pending
-  pub record AreSound (unsent : List Unsent) (writes : List Write) (next : ℕ) (records : List (Record K V)) (access : List ℕ) : Type 0 where
+  pub record AreSound (unsent : List Unsent) (writes : List Write) (next : ℕ)
+      (records : List (Record K V)) (access : List ℕ) : Type 0 where
     pub numbered : AreNumbered records
     pub below : Each (λ r. r.number < next) records
     pub accounted : Each (IsAccounted unsent writes) records

@@ -31,7 +31,8 @@ module _ {K V : Type 0} where
   -- entries are removed, one after another, and the others stay in their order
   abbrev pub TakesAway : List (Entry K V) → List (Entry K V) → List (Entry K V) → Type 0
   TakesAway [] old new = new ≡ old
-  TakesAway (e ∷ gone) old new = (place : ℕ) × (slice_get old place ≡ Some e) × TakesAway gone (remove old place) new
+  TakesAway (e ∷ gone) old new =
+      (place : ℕ) × (slice_get old place ≡ Some e) × TakesAway gone (remove old place) new
 
   -- the entry of a key
   abbrev pub entry_of : (K → K → Bool) → List (Entry K V) → K → Option (Entry K V)
@@ -51,9 +52,11 @@ module _ {K V : Type 0} where
 module _ {K V P S R : Type 0} where
   -- each entry that was removed is reported once, in order, if removals are reported, and nothing else is; the other entries stay as they
   -- are
-  pub record Tells (old : State K V P S R) (removals : List (Removal K V)) (new : State K V P S R) : Type 0 where
+  pub record Tells (old : State K V P S R) (removals : List (Removal K V)) (new : State K V P S R) :
+      Type 0 where
     pub notices : new.notices ≡ old.notices ++ notices_of old.settings.tells removals
-    pub entries : TakesAway (removed_entries removals) (held_entries old.records) (held_entries new.records)
+    pub entries : TakesAway (removed_entries removals) (held_entries old.records)
+        (held_entries new.records)
 
   -- what decides about visibility apart from the entries
   pub record Keeps (old new : State K V P S R) : Type 0 where
@@ -69,10 +72,13 @@ module _ {K V P S R : Type 0} where
     pub cleared : new.cleared ≡ old.cleared
     pub rules : new.rules ≡ old.rules
     pub unsent : new.unsent ≡ old.unsent
-    pub covered : (place : ℕ) (e : Entry K V) → slice_get (held_entries new.records) place ≡ Some e → is_covered answers new e ≡ is_covered answers old e
+    pub covered : (place : ℕ) (e : Entry K V) → slice_get (held_entries new.records) place ≡ Some e
+        → is_covered answers new e ≡ is_covered answers old e
 
   -- a look-up returns what it did before, or finds nothing because what it found was removed
-  abbrev pub StaysVisible : (K → K → Bool) → Answers K V P R → List (Removal K V) → State K V P S R → State K V P S R → ℕ → K → Type 0
+  abbrev pub StaysVisible : (K → K → Bool) → Answers K V P R → List (Removal K V) → State K V P S R
+      → State K V P S R → ℕ → K → Type 0
   StaysVisible eq answers removals old new moment key =
       (visible answers eq new moment key ≡ visible answers eq old moment key)
-      ⊎ ((visible answers eq new moment key ≡ None) × ((gone : Removal K V) × IsAmong gone removals × (visible answers eq old moment key ≡ Some gone.entry)))
+      ⊎ ((visible answers eq new moment key ≡ None) × ((gone : Removal K V) × IsAmong gone removals
+      × (visible answers eq old moment key ≡ Some gone.entry)))

@@ -35,7 +35,9 @@ changed_expiration now (Some time) before = own_expiration now time
 module _ {K V : Type 0} where
   -- the earliest of the own expiration, the write plus the live time and the last use plus the idle time, of those that exist
   abbrev pub deadline_of : Settings → Entry K V → Option ℕ
-  deadline_of settings e = earlier_of e.expires (earlier_of (end_of e.written settings.live) (end_of e.used settings.idle))
+  deadline_of settings e =
+      earlier_of e.expires
+      (earlier_of (end_of e.written settings.live) (end_of e.used settings.idle))
 
   -- the deadline has come: it ends at the very moment
   abbrev pub has_come : Settings → ℕ → Entry K V → Bool

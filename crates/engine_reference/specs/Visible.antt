@@ -32,7 +32,8 @@ module _ {K V P R : Type 0} (answers : Answers K V P R) where
 module _ {K V P S R : Type 0} (answers : Answers K V P R) where
   -- a clear of a later step than the write, or such a predicate, covers the entry: steps decide, never moments
   abbrev pub is_covered : State K V P S R → Entry K V → Bool
-  is_covered s e = nat_lt e.step s.cleared || list_any (λ p. is_covered_by answers s.rules p e) s.predicates
+  is_covered s e =
+      nat_lt e.step s.cleared || list_any (λ p. is_covered_by answers s.rules p e) s.predicates
 
   abbrev pub is_visible : State K V P S R → ℕ → Entry K V → Bool
   is_visible s now e = not (has_come s.settings now e) && not (is_covered s e)
@@ -50,7 +51,9 @@ module _ {K V P S R : Type 0} (answers : Answers K V P R) where
 
   -- what a write reports of the value that it replaces: the first of three causes that is true
   abbrev pub cause_of_write : State K V P S R → ℕ → Entry K V → RemovalCause
-  cause_of_write s now e = if has_come s.settings now e then cause.Expired else (if is_covered s e then cause.Explicit else cause.Replaced)
+  cause_of_write s now e =
+      if has_come s.settings now e then cause.Expired
+      else (if is_covered s e then cause.Explicit else cause.Replaced)
 
   -- what a removal by key reports
   abbrev pub cause_of_removal : State K V P S R → ℕ → Entry K V → RemovalCause

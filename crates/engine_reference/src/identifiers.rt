@@ -30,7 +30,8 @@ fn whole(bytes: [u8; 16]) -> [u8; 16]
 
 /// Draws an identifier, a UUID of version 4.
 fn draw_one<G: Rng>(generator: &mut G) -> Uuid
-    ensures drawn { (result, G.stream generator.new) ≡ v4_of_fill (fill_bytes 16 (G.stream generator.old)) }
+    ensures drawn { (result, G.stream generator.new)
+        ≡ v4_of_fill (fill_bytes 16 (G.stream generator.old)) }
     ensures bytes { AreSixteenBytes result }
 {
     let drawn = Uuid::new_v4(generator);
@@ -40,8 +41,10 @@ fn draw_one<G: Rng>(generator: &mut G) -> Uuid
 
 /// Draws identifiers until one is not registered, at most a thousand. They are UUIDs of version 4.
 pub fn draw<G: Rng, P>(generator: &mut G, registered: &[Registered<P>]) -> Option<u128>
-    ensures some { IfSome result (λ id. Draws (G.stream generator.old) (G.stream generator.new) (is_registered registered.now) id) }
-    ensures none { result ≡ None → AreInUse (G.stream generator.old) (G.stream generator.new) (is_registered registered.now) }
+    ensures some { IfSome result (λ id. Draws (G.stream generator.old) (G.stream generator.new)
+        (is_registered registered.now) id) }
+    ensures none { result ≡ None → AreInUse (G.stream generator.old) (G.stream generator.new)
+        (is_registered registered.now) }
 {
     for _try in 0..1000u64 {
         let drawn = draw_one(generator);

@@ -17,7 +17,9 @@ module _ {K V : Type 0} where
   -- what is left to reach and how far the newcomer is ahead, after a record was looked at, decide in the same way about the records after
   -- it
   abbrev pub GoesPast : Sketch → ℕ → ℕ → Record K V → ℕ × ℕ → Type 0
-  GoesPast sketch left ahead r after = (rest : List (Record K V)) → is_won sketch after.1 (shortest_front after.0 rest) ≡ is_won sketch ahead (shortest_front left (with_settled (Some r) rest))
+  GoesPast sketch left ahead r after =
+      (rest : List (Record K V)) → is_won sketch after.1 (shortest_front after.0 rest)
+      ≡ is_won sketch ahead (shortest_front left (with_settled (Some r) rest))
 
   -- a list of numbers from that of a record on
   abbrev pub on_from : Option (Record K V) → List ℕ → List ℕ
@@ -32,11 +34,15 @@ module _ {K V P S R : Type 0} where
 
   -- the place, if there is one, has an admitted record
   abbrev pub IsOnList : Kept K V P S R → Option ℕ → Type 0
-  IsOnList t next = IfSome next (λ place. (r : Record K V) × (kept_at t place ≡ Some r) × (is_some r.counts ≡ true))
+  IsOnList t next =
+      IfSome next
+      (λ place. (r : Record K V) × (kept_at t place ≡ Some r) × (is_some r.counts ≡ true))
 
   -- the result of a contest that is under way
   abbrev pub outcome : Kept K V P S R → Contest → Bool
-  outcome t c = is_won t.state.sketch c.ahead (shortest_front c.left (settled_in t.state.records (from_place t c.next)))
+  outcome t c =
+      is_won t.state.sketch c.ahead
+      (shortest_front c.left (settled_in t.state.records (from_place t c.next)))
 
 -- it is decided: the weight is reached, the newcomer lost, or no record is left
 pub data IsDecided (c : Contest) : Type 0 where

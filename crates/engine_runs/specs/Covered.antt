@@ -12,7 +12,8 @@ module _ {K V P R : Type 0} (answers : Answers K V P R) where
   -- these predicates cover none of these records that is held
   abbrev pub EachCoversNone : R → List (Record K V) → List (Registered P) → Type 0
   EachCoversNone rules rs [] = Unit {0}
-  EachCoversNone rules rs (p ∷ ps) = (covers_none answers rules p rs ≡ true) × EachCoversNone rules rs ps
+  EachCoversNone rules rs (p ∷ ps) =
+      (covers_none answers rules p rs ≡ true) × EachCoversNone rules rs ps
 
 module _ {K V P S R : Type 0} (answers : Answers K V P R) where
   -- there is a record, and it is held and covered
@@ -26,7 +27,8 @@ module _ {K V P S R : Type 0} (answers : Answers K V P R) where
 
   -- no held record is covered
   abbrev pub NoneIsCovered : State K V P S R → Type 0
-  NoneIsCovered s = (r : Record K V) → record_at s.records r.number ≡ Some r → is_covered_as s (Some r) ≡ false
+  NoneIsCovered s =
+      (r : Record K V) → record_at s.records r.number ≡ Some r → is_covered_as s (Some r) ≡ false
 
   -- no predicate covers any that is held
   abbrev pub CoverNone : State K V P S R → Type 0

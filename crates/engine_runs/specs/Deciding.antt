@@ -20,4 +20,7 @@ module _ {K V : Type 0} where
 
 module _ {K V P S R : Type 0} where
   abbrev pub decision : State K V P S R → Upsert → Record K V → Decision
-  decision s u r = if nat_lt r.applied u.write then (if is_some r.counts then decide.Count else decided (refused_as u r) (verdict s u)) else decide.Skip
+  decision s u r =
+      if nat_lt r.applied u.write
+      then (if is_some r.counts then decide.Count else decided (refused_as u r) (verdict s u))
+      else decide.Skip

@@ -23,7 +23,9 @@ module _ {K V P S R : Type 0} where
 
   -- records that do not count stay in their places
   abbrev pub KeepsUncounted : Kept K V P S R → Kept K V P S R → Type 0
-  KeepsUncounted old new = (place : ℕ) (r : Record K V) → kept_at old place ≡ Some r → is_some r.counts ≡ false → kept_at new place ≡ Some r
+  KeepsUncounted old new =
+      (place : ℕ) (r : Record K V) → kept_at old place ≡ Some r → is_some r.counts ≡ false
+      → kept_at new place ≡ Some r
 
   -- some of the front have left, and the others are to reach the rest of the weight
   pub record GivesWay (weight rest : ℕ) (old new : Kept K V P S R) : Type 0 where

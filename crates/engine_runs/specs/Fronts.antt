@@ -19,18 +19,25 @@ module _ {K V : Type 0} where
 
   -- why by its last use: it is past its idle time
   abbrev pub why_used : Option ℕ → ℕ → Record K V → Option RemovalCause
-  why_used idle now r = if r.is_held && is_reached (end_of r.entry.used idle) now then Some cause.Expired else None
+  why_used idle now r =
+      if r.is_held && is_reached (end_of r.entry.used idle) now then Some cause.Expired else None
 
 module _ {K V P S R : Type 0} where
   -- a record may leave for this cause: it is held and its deadline has come, or it is of a step before the clear, or it is the next to go for the weight, where nothing else has to leave
-  pub data MayLeave (s : State K V P S R) (now : ℕ) (r : Record K V) (why : RemovalCause) : Type 0 where
-    dies : r.is_held ≡ true → has_come s.settings now r.entry ≡ true → why ≡ cause.Expired → MayLeave s now r why
-    cleared : r.is_held ≡ true → nat_lt r.entry.step s.cleared ≡ true → why ≡ cause.Explicit → MayLeave s now r why
-    excess : FrontsAreClean now s → is_above s.settings.capacity (admitted_weight s.records) ≡ true → next_to_evict s ≡ Some r → why ≡ cause.Size → MayLeave s now r why
+  pub data MayLeave (s : State K V P S R) (now : ℕ) (r : Record K V) (why : RemovalCause) : Type 0
+    where
+      dies : r.is_held ≡ true → has_come s.settings now r.entry ≡ true → why ≡ cause.Expired
+          → MayLeave s now r why
+      cleared : r.is_held ≡ true → nat_lt r.entry.step s.cleared ≡ true → why ≡ cause.Explicit
+          → MayLeave s now r why
+      excess : FrontsAreClean now s → is_above s.settings.capacity (admitted_weight s.records) ≡ true
+          → next_to_evict s ≡ Some r → why ≡ cause.Size → MayLeave s now r why
 
   -- where the weight is above the capacity nothing is settled
   abbrev pub IsLight : State K V P S R → Type 0
-  IsLight s = is_above s.settings.capacity (admitted_weight s.records) ≡ true → settled_in s.records s.access ≡ []
+  IsLight s =
+      is_above s.settings.capacity (admitted_weight s.records) ≡ true
+      → settled_in s.records s.access ≡ []
 
   -- nothing has to leave
   pub record IsClean (now : ℕ) (s : State K V P S R) : Type 0 where

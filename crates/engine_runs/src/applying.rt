@@ -21,8 +21,10 @@ fn apply_found<K: Eq + Hash + Drop, V: Drop, S: BuildHasher, R: Rules<K, V>>(
     place: usize,
     write: Upsert,
 )
-    requires { (r : Record K V) × (kept_at tables.old place ≡ Some r) × (record_at tables.old.state.records write.number ≡ Some r) }
-    ensures { tables.new.state ≡ after_put write (record_at tables.old.state.records write.number) tables.old.state }
+    requires { (r : Record K V) × (kept_at tables.old place ≡ Some r)
+        × (record_at tables.old.state.records write.number ≡ Some r) }
+    ensures { tables.new.state
+        ≡ after_put write (record_at tables.old.state.records write.number) tables.old.state }
 {
     match decide(tables, place, write) {
         Decision::Skip => {}
@@ -40,7 +42,8 @@ pub fn apply_put<K: Eq + Hash + Drop, V: Drop, S: BuildHasher, R: Rules<K, V>>(
     write: Upsert,
 )
     requires { AimsOnlyAt tables.old.numbers place write.number }
-    ensures { tables.new.state ≡ after_put write (record_at tables.old.state.records write.number) tables.old.state }
+    ensures { tables.new.state
+        ≡ after_put write (record_at tables.old.state.records write.number) tables.old.state }
 {
     if tables.has_record(place, write.number) {
         apply_found(tables, place, write);
@@ -68,7 +71,8 @@ fn apply_read<K: Eq + Hash, V, S: BuildHasher, R: Rules<K, V>>(
     now: u64,
 )
     requires { 0 < length tables.old.state.reads }
-    ensures step { (answers : Answers K V R.Predicate R) → StepsFor answers now tables.old.state tables.new.state }
+    ensures step { (answers : Answers K V R.Predicate R)
+        → StepsFor answers now tables.old.state tables.new.state }
     ensures fewer { length tables.new.state.reads < length tables.old.state.reads }
 {
     let _now = now;
@@ -80,7 +84,8 @@ pub fn apply_reads<K: Eq + Hash, V, S: BuildHasher, R: Rules<K, V>>(
     tables: &mut Tables<K, V, S, R>,
     now: u64,
 )
-    ensures stretch { (answers : Answers K V R.Predicate R) → Stretch answers now tables.old.state tables.new.state }
+    ensures stretch { (answers : Answers K V R.Predicate R)
+        → Stretch answers now tables.old.state tables.new.state }
     ensures counted { tables.new.state.reads ≡ [] }
 {
     while 0 < tables.number_of_reads() {
@@ -95,7 +100,8 @@ fn apply_oldest<K: Eq + Hash + Drop, V: Drop, S: BuildHasher, R: Rules<K, V>>(
 )
     requires read { tables.old.state.reads ≡ [] }
     requires some { 0 < length tables.old.state.writes }
-    ensures step { (answers : Answers K V R.Predicate R) → StepsFor answers now tables.old.state tables.new.state }
+    ensures step { (answers : Answers K V R.Predicate R)
+        → StepsFor answers now tables.old.state tables.new.state }
     ensures read { tables.new.state.reads ≡ [] }
     ensures fewer { length tables.new.state.writes < length tables.old.state.writes }
 {
@@ -110,7 +116,8 @@ pub fn apply_writes<K: Eq + Hash + Drop, V: Drop, S: BuildHasher, R: Rules<K, V>
     now: u64,
 )
     requires { tables.old.state.reads ≡ [] }
-    ensures stretch { (answers : Answers K V R.Predicate R) → Stretch answers now tables.old.state tables.new.state }
+    ensures stretch { (answers : Answers K V R.Predicate R)
+        → Stretch answers now tables.old.state tables.new.state }
     ensures applied { IsApplied tables.new.state }
 {
     while 0 < tables.number_of_writes() {

@@ -36,7 +36,8 @@ fn place_behind<K: Eq + Hash, V, S: BuildHasher, R: Rules<K, V>>(
     place: usize,
 ) -> Option<usize>
     requires { IsOnList tables.now (Some place) }
-    ensures rest { (r : Record K V) → kept_at tables.now place ≡ Some r → from_place tables.now result ≡ behind r.number tables.now.state.access }
+    ensures rest { (r : Record K V) → kept_at tables.now place ≡ Some r
+        → from_place tables.now result ≡ behind r.number tables.now.state.access }
     ensures listed { IsOnList tables.now result }
 {
     tables.access_stands();
@@ -53,7 +54,8 @@ fn past<K: Eq + Hash, V, S: BuildHasher, R: Rules<K, V>>(
 ) -> (u32, u8)
     requires there { is_some (kept_at tables.now place) ≡ true }
     requires some { 0 < left }
-    ensures { (r : Record K V) → kept_at tables.now place ≡ Some r → GoesPast tables.now.state.sketch left ahead r result }
+    ensures { (r : Record K V) → kept_at tables.now place ≡ Some r
+        → GoesPast tables.now.state.sketch left ahead r result }
 {
     let found = tables.record_in(place);
     if found.writes != found.applied {
@@ -89,7 +91,8 @@ fn go_on<K: Eq + Hash, V, S: BuildHasher, R: Rules<K, V>>(
     requires some { 0 < contest.left }
     ensures same { outcome tables.now result ≡ outcome tables.now contest }
     ensures listed { IsOnList tables.now result.next }
-    ensures fewer { length (from_place tables.now result.next) < length (from_place tables.now contest.next) }
+    ensures fewer { length (from_place tables.now result.next)
+        < length (from_place tables.now contest.next) }
 {
     let (left, ahead) = past(tables, place, contest.left, contest.ahead);
     let next = place_behind(tables, place);
@@ -104,7 +107,8 @@ pub(crate) fn is_won<K: Eq + Hash, V, S: BuildHasher, R: Rules<K, V>>(
     weight: u32,
     wanted: u8,
 ) -> bool
-    ensures { result ≡ is_won tables.now.state.sketch wanted (shortest_front weight (settled_in tables.now.state.records tables.now.state.access)) }
+    ensures { result ≡ is_won tables.now.state.sketch wanted
+        (shortest_front weight (settled_in tables.now.state.records tables.now.state.access)) }
 {
     let mut contest = Contest {
         left: weight,

@@ -53,7 +53,8 @@ fn contest<K: Eq + Hash, V, S: BuildHasher, R: Rules<K, V>>(
     write: Upsert,
     refused: Decision,
 ) -> Decision
-    ensures { result ≡ decided refused (contest tables.now.state.sketch write.hash (shortest_front write.weight (settled_in tables.now.state.records tables.now.state.access))) }
+    ensures { result ≡ decided refused (contest tables.now.state.sketch write.hash (shortest_front
+        write.weight (settled_in tables.now.state.records tables.now.state.access))) }
 {
     let wanted = tables.sketch().frequency(write.hash);
     if is_won(tables, write.weight, wanted) {
@@ -69,7 +70,9 @@ fn decide_full<K: Eq + Hash, V, S: BuildHasher, R: Rules<K, V>>(
     write: Upsert,
     refused: Decision,
 ) -> Decision
-    ensures { result ≡ decided refused (verdict_of_full tables.now.state.settings.policy tables.now.state.sketch write (settled_in tables.now.state.records tables.now.state.access)) }
+    ensures { result
+        ≡ decided refused (verdict_of_full tables.now.state.settings.policy tables.now.state.sketch
+        write (settled_in tables.now.state.records tables.now.state.access)) }
 {
     match tables.settings().policy {
         EvictionPolicy::Lru => Decision::Count,
@@ -121,7 +124,8 @@ pub fn decide<K: Eq + Hash, V, S: BuildHasher, R: Rules<K, V>>(
     write: Upsert,
 ) -> Decision
     requires { is_some (kept_at tables.now place) ≡ true }
-    ensures { (r : Record K V) → kept_at tables.now place ≡ Some r → result ≡ decision tables.now.state write r }
+    ensures { (r : Record K V) → kept_at tables.now place ≡ Some r
+        → result ≡ decision tables.now.state write r }
 {
     let found = tables.record_in(place);
     decide_on(tables, found, write)

@@ -16,7 +16,8 @@ fn next_victim<K: Eq + Hash, V, S: BuildHasher, R: Rules<K, V>>(
 ) -> Option<usize>
     requires { is_some (front_of left tables.now.state) ≡ true }
     ensures some { IfSome result (λ i. 0 < left) }
-    ensures oldest { IfSome result (λ i. (r : Record K V) × (kept_at tables.now i ≡ Some r) × (next_to_evict tables.now.state ≡ Some r)) }
+    ensures oldest { IfSome result (λ i. (r : Record K V) × (kept_at tables.now i ≡ Some r)
+        × (next_to_evict tables.now.state ≡ Some r)) }
     ensures none { IfNone result (displaced left tables.now.state ≡ tables.now.state) }
 {
     if left == 0 {
@@ -33,7 +34,8 @@ fn displace_one<K: Eq + Hash + Drop, V: Drop, S: BuildHasher, R: Rules<K, V>>(
 ) -> u32
     requires front { is_some (front_of left tables.old.state) ≡ true }
     requires some { 0 < left }
-    requires oldest { (r : Record K V) × (kept_at tables.old place ≡ Some r) × (next_to_evict tables.old.state ≡ Some r) }
+    requires oldest { (r : Record K V) × (kept_at tables.old place ≡ Some r)
+        × (next_to_evict tables.old.state ≡ Some r) }
     ensures way { GivesWay left result tables.old tables.new }
     ensures fewer { length tables.new.state.records < length tables.old.state.records }
 {
@@ -65,7 +67,8 @@ pub(crate) fn displace_for<K: Eq + Hash + Drop, V: Drop, S: BuildHasher, R: Rule
     write: Upsert,
 )
     requires front { is_some (front_of write.weight tables.old.state) ≡ true }
-    requires found { (r : Record K V) × (kept_at tables.old place ≡ Some r) × (r.number ≡ write.number) × (is_some r.counts ≡ false) }
+    requires found { (r : Record K V) × (kept_at tables.old place ≡ Some r)
+        × (r.number ≡ write.number) × (is_some r.counts ≡ false) }
     ensures { tables.new.state ≡ counting write (displaced write.weight tables.old.state) }
 {
     displace(tables, write.weight);

@@ -67,7 +67,8 @@ fn written_leaving<K: Eq + Hash, V, S: BuildHasher, R: Rules<K, V>>(
     tables: &Tables<K, V, S, R>,
     now: u64,
 ) -> Option<(usize, RemovalCause)>
-    ensures found { IfSome result (λ due. (r : Record K V) × (kept_at tables.now due.0 ≡ Some r) × MayLeave tables.now.state now r due.1) }
+    ensures found { IfSome result (λ due. (r : Record K V) × (kept_at tables.now due.0 ≡ Some r)
+        × MayLeave tables.now.state now r due.1) }
     ensures none { IfNone result (IsWrittenClean now tables.now.state) }
 {
     let settings = tables.settings();
@@ -90,7 +91,8 @@ fn used_leaving<K: Eq + Hash, V, S: BuildHasher, R: Rules<K, V>>(
     tables: &Tables<K, V, S, R>,
     now: u64,
 ) -> Option<(usize, RemovalCause)>
-    ensures found { IfSome result (λ due. (r : Record K V) × (kept_at tables.now due.0 ≡ Some r) × MayLeave tables.now.state now r due.1) }
+    ensures found { IfSome result (λ due. (r : Record K V) × (kept_at tables.now due.0 ≡ Some r)
+        × MayLeave tables.now.state now r due.1) }
     ensures none { IfNone result (IsUsedClean now tables.now.state) }
 {
     let settings = tables.settings();
@@ -128,7 +130,8 @@ fn timer_leaving<K: Eq + Hash, V, S: BuildHasher, R: Rules<K, V>>(
     tables: &Tables<K, V, S, R>,
     now: u64,
 ) -> Option<(usize, RemovalCause)>
-    ensures found { IfSome result (λ due. (r : Record K V) × (kept_at tables.now due.0 ≡ Some r) × MayLeave tables.now.state now r due.1) }
+    ensures found { IfSome result (λ due. (r : Record K V) × (kept_at tables.now due.0 ≡ Some r)
+        × MayLeave tables.now.state now r due.1) }
     ensures none { IfNone result (IsTimerClean now tables.now.state) }
 {
     if !is_in_later_tick(tables, now) {
@@ -146,7 +149,8 @@ fn excess_leaving<K: Eq + Hash, V, S: BuildHasher, R: Rules<K, V>>(
     now: u64,
 ) -> Option<(usize, RemovalCause)>
     requires { FrontsAreClean now tables.now.state }
-    ensures found { IfSome result (λ due. (r : Record K V) × (kept_at tables.now due.0 ≡ Some r) × MayLeave tables.now.state now r due.1) }
+    ensures found { IfSome result (λ due. (r : Record K V) × (kept_at tables.now due.0 ≡ Some r)
+        × MayLeave tables.now.state now r due.1) }
     ensures none { IfNone result (IsLight tables.now.state) }
 {
     let _now = now;
@@ -165,7 +169,8 @@ pub fn next_leaving<K: Eq + Hash, V, S: BuildHasher, R: Rules<K, V>>(
     now: u64,
 ) -> Option<(usize, RemovalCause)>
     requires { tables.now.state.predicates ≡ [] }
-    ensures found { IfSome result (λ due. (r : Record K V) × (kept_at tables.now due.0 ≡ Some r) × MayLeave tables.now.state now r due.1) }
+    ensures found { IfSome result (λ due. (r : Record K V) × (kept_at tables.now due.0 ≡ Some r)
+        × MayLeave tables.now.state now r due.1) }
     ensures none { IfNone result (IsClean now tables.now.state) }
 {
     if let Some(found) = written_leaving(tables, now) {

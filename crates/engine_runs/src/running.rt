@@ -24,9 +24,13 @@ pub fn try_run<K: Eq + Hash + Drop, V: Drop, S: BuildHasher, R: Rules<K, V>>(
     now: u64,
 ) -> Result<(), AllocError>
     requires { ∥ IsSound tables.old.state ∥₁ }
-    ensures runs { (answers : Answers K V R.Predicate R) → answers.covers ≡ R.covers → RunsToEnd answers now tables.old.state tables.new.state }
-    ensures counts { (answers : Answers K V R.Predicate R) → answers.covers ≡ R.covers → tables.old.state.unsent ≡ [] → CountsExactly K V R.Predicate S R answers tables.new.state }
-    ensures due { (moment step : ℕ) → IsTimely moment step tables.old.state → moment ≤ now → now ≤ 9223372036854775807 → LeavesNoneDue now tables.new.state }
+    ensures runs { (answers : Answers K V R.Predicate R) → answers.covers ≡ R.covers
+        → RunsToEnd answers now tables.old.state tables.new.state }
+    ensures counts { (answers : Answers K V R.Predicate R)
+        → answers.covers ≡ R.covers → tables.old.state.unsent ≡ []
+        → CountsExactly K V R.Predicate S R answers tables.new.state }
+    ensures due { (moment step : ℕ) → IsTimely moment step tables.old.state → moment ≤ now
+        → now ≤ 9223372036854775807 → LeavesNoneDue now tables.new.state }
     ensures sound { ∥ IsSound tables.new.state ∥₁ }
     ensures made { OnOk result (tables.new.state.table_refused ≡ false) }
     ensures refused { OnErr result (tables.new.state.table_refused ≡ true) }
@@ -46,9 +50,13 @@ pub fn run<K: Eq + Hash + Drop, V: Drop, S: BuildHasher, R: Rules<K, V>>(
     now: u64,
 )
     requires { ∥ IsSound tables.old.state ∥₁ }
-    ensures runs { (answers : Answers K V R.Predicate R) → answers.covers ≡ R.covers → RunsToEnd answers now tables.old.state tables.new.state }
-    ensures counts { (answers : Answers K V R.Predicate R) → answers.covers ≡ R.covers → tables.old.state.unsent ≡ [] → CountsExactly K V R.Predicate S R answers tables.new.state }
-    ensures due { (moment step : ℕ) → IsTimely moment step tables.old.state → moment ≤ now → now ≤ 9223372036854775807 → LeavesNoneDue now tables.new.state }
+    ensures runs { (answers : Answers K V R.Predicate R) → answers.covers ≡ R.covers
+        → RunsToEnd answers now tables.old.state tables.new.state }
+    ensures counts { (answers : Answers K V R.Predicate R)
+        → answers.covers ≡ R.covers → tables.old.state.unsent ≡ []
+        → CountsExactly K V R.Predicate S R answers tables.new.state }
+    ensures due { (moment step : ℕ) → IsTimely moment step tables.old.state → moment ≤ now
+        → now ≤ 9223372036854775807 → LeavesNoneDue now tables.new.state }
     ensures sound { ∥ IsSound tables.new.state ∥₁ }
 {
     let _grown = try_run(tables, now);
@@ -60,7 +68,8 @@ pub fn run_if_due<K: Eq + Hash + Drop, V: Drop, S: BuildHasher, R: Rules<K, V>>(
     now: u64,
 )
     requires { ∥ IsSound tables.old.state ∥₁ }
-    ensures due { (answers : Answers K V R.Predicate R) → answers.covers ≡ R.covers → MaintainsIfDue answers now tables.old.state tables.new.state }
+    ensures due { (answers : Answers K V R.Predicate R) → answers.covers ≡ R.covers
+        → MaintainsIfDue answers now tables.old.state tables.new.state }
     ensures sound { ∥ IsSound tables.new.state ∥₁ }
     ensures room { length tables.new.state.reads < 64 }
 {

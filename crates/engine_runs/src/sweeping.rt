@@ -22,8 +22,10 @@ fn leave_for<K: Eq + Hash + Drop, V: Drop, S: BuildHasher, R: Rules<K, V>>(
     now: u64,
 )
     requires applied { IsApplied tables.old.state }
-    requires due { (r : Record K V) × (kept_at tables.old place ≡ Some r) × MayLeave tables.old.state now r cause }
-    ensures step { (answers : Answers K V R.Predicate R) → StepsFor answers now tables.old.state tables.new.state }
+    requires due { (r : Record K V) × (kept_at tables.old place ≡ Some r)
+        × MayLeave tables.old.state now r cause }
+    ensures step { (answers : Answers K V R.Predicate R)
+        → StepsFor answers now tables.old.state tables.new.state }
     ensures applied { IsApplied tables.new.state }
     ensures rest { KeepsRest tables.old.state tables.new.state }
     ensures fewer { length tables.new.state.records < length tables.old.state.records }
@@ -39,7 +41,8 @@ pub fn sweep<K: Eq + Hash + Drop, V: Drop, S: BuildHasher, R: Rules<K, V>>(
 )
     requires applied { IsApplied tables.old.state }
     requires predicates { tables.old.state.predicates ≡ [] }
-    ensures stretch { (answers : Answers K V R.Predicate R) → Stretch answers now tables.old.state tables.new.state }
+    ensures stretch { (answers : Answers K V R.Predicate R)
+        → Stretch answers now tables.old.state tables.new.state }
     ensures applied { IsApplied tables.new.state }
     ensures rest { KeepsRest tables.old.state tables.new.state }
     ensures clean { IsClean now tables.new.state }
@@ -60,7 +63,8 @@ pub fn settle<K: Eq + Hash + Drop, V: Drop, S: BuildHasher, R: Rules<K, V>>(
     requires predicates { tables.old.state.predicates ≡ [] }
     requires sound { ∥ IsSound tables.old.state ∥₁ }
     requires table { table_refused ≡ false → lacks_table tables.old.state ≡ false }
-    ensures runs { (answers : Answers K V R.Predicate R) → RunsToEnd answers now tables.old.state tables.new.state }
+    ensures runs { (answers : Answers K V R.Predicate R)
+        → RunsToEnd answers now tables.old.state tables.new.state }
     ensures refused { tables.new.state.table_refused ≡ table_refused }
 {
     sweep(tables, now);

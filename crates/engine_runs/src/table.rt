@@ -64,7 +64,8 @@ fn make_table<K: Eq + Hash, V, S: BuildHasher, R: Rules<K, V>>(
 ) -> Result<(), AllocError>
     requires applied { IsApplied tables.old.state }
     requires lacks { LacksTableFor hashes tables.old.state }
-    ensures stretch { (answers : Answers K V R.Predicate R) → Stretch answers now tables.old.state tables.new.state }
+    ensures stretch { (answers : Answers K V R.Predicate R)
+        → Stretch answers now tables.old.state tables.new.state }
     ensures applied { IsApplied tables.new.state }
     ensures table { OnOk result (lacks_table tables.new.state ≡ false) }
     ensures err { OnErr result (tables.new ≡ tables.old) }
@@ -80,7 +81,8 @@ pub fn grow<K: Eq + Hash, V, S: BuildHasher, R: Rules<K, V>>(
     now: u64,
 ) -> Result<(), AllocError>
     requires { IsApplied tables.old.state }
-    ensures stretch { (answers : Answers K V R.Predicate R) → Stretch answers now tables.old.state tables.new.state }
+    ensures stretch { (answers : Answers K V R.Predicate R)
+        → Stretch answers now tables.old.state tables.new.state }
     ensures applied { IsApplied tables.new.state }
     ensures table { OnOk result (lacks_table tables.new.state ≡ false) }
 {

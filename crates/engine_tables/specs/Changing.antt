@@ -33,7 +33,10 @@ module _ {K V P S R : Type 0} where
 
   -- it was removed, and nothing is reported
   abbrev pub IsForgotten : ℕ → Kept K V P S R → Kept K V P S R → Type 0
-  IsForgotten place old new = (r : Record K V) × (kept_at old place ≡ Some r) × (new ≡ record old { state = record old.state { records = without_record r.number old.state.records; access = without r.number old.state.access; order = without r.number old.state.order }; numbers = slice_set old.numbers place None })
+  IsForgotten place old new = (r : Record K V) × (kept_at old place ≡ Some r) × (new ≡ record old {
+    state = record old.state { records = without_record r.number old.state.records; access = without r.number old.state.access; order = without r.number old.state.order };
+    numbers = slice_set old.numbers place None;
+  })
 
   -- it was removed, and is reported with a cause if it was held and removals are reported
   abbrev pub LeavesAt : RemovalCause → ℕ → Kept K V P S R → Kept K V P S R → Type 0
@@ -41,4 +44,9 @@ module _ {K V P S R : Type 0} where
 
   -- number and weight of the admitted records are noted at the end of a run
   abbrev pub taken_down : ℕ → Bool → State K V P S R → State K V P S R
-  taken_down now refused s = record s { number = admitted_number s.records; weight = min (admitted_weight s.records) 18446744073709551615; ran = now; table_refused = refused }
+  taken_down now refused s = record s {
+    number = admitted_number s.records;
+    weight = min (admitted_weight s.records) 18446744073709551615;
+    ran = now;
+    table_refused = refused;
+  }

@@ -110,7 +110,8 @@ impl<K: Eq + Hash, V, S: BuildHasher, R: Rules<K, V>> Tables<K, V, S, R> {
     where
         S: Drop,
         R: Drop,
-        ensures { IfOk result (λ made. IsNew (option_map string_bytes name) settings hasher rules made.state) }
+        ensures { IfOk result
+            (λ made. IsNew (option_map string_bytes name) settings hasher rules made.state) }
     {
         let backlog = Backlog::new(alloc, name, settings, hasher, rules)?;
         Ok(Tables {
@@ -134,10 +135,13 @@ impl<K: Eq + Hash, V, S: BuildHasher, R: Rules<K, V>> Tables<K, V, S, R> {
 
     /// Makes room for `by` more writes or predicates, which are then not refused.
     pub fn make_room(&mut self, by: u64) -> Result<(), Refusal>
-        ensures ok { OnOk result (self.new ≡ record self.old { state = record self.old.state { reserved = self.old.state.reserved + by } }) }
+        ensures ok { OnOk result (self.new ≡ record self.old
+            { state = record self.old.state { reserved = self.old.state.reserved + by } }) }
         ensures err { OnErr result (self.new ≡ self.old) }
-        ensures used_up { (result ≡ Err Refusal.UsedUp) ↔ (2 ^ 64 ≤ self.old.state.next_ticket + self.old.state.reserved + by) }
-        ensures only { OnErr result ((IsErrOf result Refusal.OutOfMemory) ⊎ (IsErrOf result Refusal.UsedUp)) }
+        ensures used_up { (result ≡ Err Refusal.UsedUp)
+            ↔ (2 ^ 64 ≤ self.old.state.next_ticket + self.old.state.reserved + by) }
+        ensures only { OnErr result
+            ((IsErrOf result Refusal.OutOfMemory) ⊎ (IsErrOf result Refusal.UsedUp)) }
     {
         if by <= self.backlog.reserved() - self.reserved {
             self.reserved += by;
@@ -148,10 +152,13 @@ impl<K: Eq + Hash, V, S: BuildHasher, R: Rules<K, V>> Tables<K, V, S, R> {
 
     /// Makes room for `by` more writes or predicates, and for some to come, by memory.
     fn make_more_room(&mut self, by: u64) -> Result<(), Refusal>
-        ensures ok { OnOk result (self.new ≡ record self.old { state = record self.old.state { reserved = self.old.state.reserved + by } }) }
+        ensures ok { OnOk result (self.new ≡ record self.old
+            { state = record self.old.state { reserved = self.old.state.reserved + by } }) }
         ensures err { OnErr result (self.new ≡ self.old) }
-        ensures used_up { (result ≡ Err Refusal.UsedUp) ↔ (2 ^ 64 ≤ self.old.state.next_ticket + self.old.state.reserved + by) }
-        ensures only { OnErr result ((IsErrOf result Refusal.OutOfMemory) ⊎ (IsErrOf result Refusal.UsedUp)) }
+        ensures used_up { (result ≡ Err Refusal.UsedUp)
+            ↔ (2 ^ 64 ≤ self.old.state.next_ticket + self.old.state.reserved + by) }
+        ensures only { OnErr result
+            ((IsErrOf result Refusal.OutOfMemory) ⊎ (IsErrOf result Refusal.UsedUp)) }
     {
         let free = (u64::MAX - self.backlog.next_ticket()).saturating_sub(self.reserved);
         if free < by {
@@ -211,7 +218,10 @@ impl<K: Eq + Hash, V, S: BuildHasher, R: Rules<K, V>> Tables<K, V, S, R> {
     /// The predicate at a place of them goes.
     pub fn end_predicate(&mut self, place: usize)
         requires { place < length self.old.state.predicates }
-        ensures { self.new ≡ record self.old { state = record self.old.state { predicates = remove self.old.state.predicates place } } }
+        ensures { self.new ≡ record self.old {
+          state
+              = record self.old.state { predicates = remove self.old.state.predicates place };
+        } }
     {
         self.backlog.end_predicate(place);
     }
@@ -225,7 +235,8 @@ impl<K: Eq + Hash, V, S: BuildHasher, R: Rules<K, V>> Tables<K, V, S, R> {
 
     /// Whether a later clear or predicate stands over an entry.
     pub fn is_over(&self, entry: &Entry<K, V>) -> bool
-        ensures { (answers : Answers K V R.Predicate R) → answers.covers ≡ R.covers → result ≡ is_covered answers self.now.state entry.now }
+        ensures { (answers : Answers K V R.Predicate R) → answers.covers ≡ R.covers
+            → result ≡ is_covered answers self.now.state entry.now }
     {
         self.backlog.is_over(entry)
     }
@@ -253,17 +264,22 @@ impl<K: Eq + Hash, V, S: BuildHasher, R: Rules<K, V>> Tables<K, V, S, R> {
     /// How many places there are at most: each record stands in one of them.
     pub fn places(&self) -> usize
         ensures most { length self.now.numbers ≤ result }
-        ensures stand { (r : Record K V) → record_at self.now.state.records r.number ≡ Some r → (i : ℕ) × (i < length self.now.numbers) × (kept_at self.now i ≡ Some r) }
+        ensures stand { (r : Record K V) → record_at self.now.state.records r.number ≡ Some r
+            → (i : ℕ) × (i < length self.now.numbers) × (kept_at self.now i ≡ Some r) }
     {
         self.cells.capacity()
     }
 
     /// The place of a key's record, where it is held, by the key's hash.
     pub fn place_of<Q: Names<K>>(&self, key: &Q, hash: u64) -> Option<usize>
-        requires hashed { hash ≡ hash_of_key S.Hasher.finish S.Hasher.write S.build_hasher K.hash_input self.now.state.hasher (Q.named_key key.now) }
-        ensures found { IfSome result (λ i. (r : Record K V) × (kept_at self.now i ≡ Some r) × (held_at K.eq self.now.state.records (Q.named_key key.now) ≡ Some r)) }
-        ensures hash { IfSome result (λ i. (r : Record K V) → kept_at self.now i ≡ Some r → r.hash ≡ hash) }
-        ensures none { IfNone result (held_at K.eq self.now.state.records (Q.named_key key.now) ≡ None) }
+        requires hashed { hash ≡ hash_of_key S.Hasher.finish S.Hasher.write S.build_hasher
+            K.hash_input self.now.state.hasher (Q.named_key key.now) }
+        ensures found { IfSome result (λ i. (r : Record K V) × (kept_at self.now i ≡ Some r)
+            × (held_at K.eq self.now.state.records (Q.named_key key.now) ≡ Some r)) }
+        ensures hash { IfSome result
+            (λ i. (r : Record K V) → kept_at self.now i ≡ Some r → r.hash ≡ hash) }
+        ensures none { IfNone result
+            (held_at K.eq self.now.state.records (Q.named_key key.now) ≡ None) }
     {
         find_held(&self.cells, &self.keys, key, hash)
     }
@@ -287,7 +303,8 @@ impl<K: Eq + Hash, V, S: BuildHasher, R: Rules<K, V>> Tables<K, V, S, R> {
 
     /// Moves the number of the record in a place, which is admitted, to the back of the access list.
     pub fn use_again(&mut self, place: usize)
-        requires { (r : Record K V) × (kept_at self.old place ≡ Some r) × (is_some r.counts ≡ true) }
+        requires { (r : Record K V) × (kept_at self.old place ≡ Some r)
+            × (is_some r.counts ≡ true) }
         ensures { GoesToBack place self.old self.new }
     {
         let index = self.cells.index_of(place);
@@ -297,11 +314,18 @@ impl<K: Eq + Hash, V, S: BuildHasher, R: Rules<K, V>> Tables<K, V, S, R> {
     /// Adds the record of a new key, and its write, for which there is room. Its place is answered.
     pub fn add(&mut self, added: Record<K, V>) -> usize
         requires room { 0 < self.old.state.reserved }
-        requires newcomer { IsNewcomer K.eq (hash_of_key S.Hasher.finish S.Hasher.write S.build_hasher K.hash_input self.old.state.hasher) self.old.state added }
+        requires newcomer { IsNewcomer K.eq (hash_of_key S.Hasher.finish S.Hasher.write
+            S.build_hasher K.hash_input self.old.state.hasher) self.old.state added }
         ensures vacant { numbered_at self.old.numbers result ≡ None }
         ensures place { kept_at self.new result ≡ Some added }
-        ensures others { (i : ℕ) → i ≢ result → numbered_at self.new.numbers i ≡ numbered_at self.old.numbers i }
-        ensures state { self.new.state ≡ with_put_for added (record self.old.state { records = self.old.state.records ++ added ∷ []; next_number = self.old.state.next_number + 1 }) }
+        ensures others { (i : ℕ) → i ≢ result → numbered_at self.new.numbers i
+            ≡ numbered_at self.old.numbers i }
+        ensures state { self.new.state
+            ≡ with_put_for added (record self.old.state {
+              records = self.old.state.records ++ added
+                  ∷ [];
+              next_number = self.old.state.next_number + 1;
+            }) }
     {
         let _many = self.cells.capacity();
         self.tally = self.tally.with(&added);
@@ -326,7 +350,8 @@ impl<K: Eq + Hash, V, S: BuildHasher, R: Rules<K, V>> Tables<K, V, S, R> {
         requires there { is_some (kept_at self.old place) ≡ true }
         requires room { 0 < self.old.state.reserved }
         requires fits { (r : Record K V) → kept_at self.old place ≡ Some r → r.writes < 2 ^ 64 - 1 }
-        requires alike { (r : Record K V) → kept_at self.old place ≡ Some r → K.eq r.entry.key entry.key ≡ true }
+        requires alike { (r : Record K V) → kept_at self.old place ≡ Some r
+            → K.eq r.entry.key entry.key ≡ true }
         ensures { IsWrittenOver entry cause place self.old self.new }
     {
         let _many = self.cells.capacity();
@@ -395,7 +420,13 @@ impl<K: Eq + Hash, V, S: BuildHasher, R: Rules<K, V>> Tables<K, V, S, R> {
         K: Drop,
         V: Drop,
         requires room { 0 < self.old.state.reserved }
-        ensures { self.new ≡ record self.old { state = record self.old.state { notices = told self.old.state.settings.tells cause entry self.old.state.notices; reserved = self.old.state.reserved - 1 } } }
+        ensures { self.new ≡ record self.old {
+          state = record self.old.state {
+            notices = told self.old.state.settings.tells cause
+                entry self.old.state.notices;
+            reserved = self.old.state.reserved - 1;
+          };
+        } }
     {
         self.backlog.tell_removed(cause, entry);
         self.reserved -= 1;
@@ -407,7 +438,8 @@ impl<K: Eq + Hash, V, S: BuildHasher, R: Rules<K, V>> Tables<K, V, S, R> {
         K: Drop,
         V: Drop,
         requires { AimsOnlyAt self.old.numbers place number }
-        ensures { self.new.state ≡ after_removal (record_at self.old.state.records number) self.old.state }
+        ensures { self.new.state
+            ≡ after_removal (record_at self.old.state.records number) self.old.state }
     {
         let _ = &self.cells;
         if self.is_removed_at(place, number) {
@@ -468,7 +500,8 @@ impl<K: Eq + Hash, V, S: BuildHasher, R: Rules<K, V>> Tables<K, V, S, R> {
 
     /// The place of the record used longest ago.
     pub fn oldest(&self) -> Option<usize>
-        ensures first { IfSome result (λ i. (r : Record K V) × (kept_at self.now i ≡ Some r) × (slice_get self.now.state.access 0 ≡ Some r.number) × (is_some r.counts ≡ true)) }
+        ensures first { IfSome result (λ i. (r : Record K V) × (kept_at self.now i ≡ Some r)
+            × (slice_get self.now.state.access 0 ≡ Some r.number) × (is_some r.counts ≡ true)) }
         ensures none { IfNone result (self.now.state.access ≡ []) }
     {
         place_at(self.access.first())
@@ -476,9 +509,12 @@ impl<K: Eq + Hash, V, S: BuildHasher, R: Rules<K, V>> Tables<K, V, S, R> {
 
     /// The place of the record behind that of a place on the access list.
     pub fn next_used(&self, place: usize) -> Option<usize>
-        requires { (r : Record K V) × (kept_at self.now place ≡ Some r) × (is_some r.counts ≡ true) }
-        ensures next { (r : Record K V) → kept_at self.now place ≡ Some r → IfSome result (StandsFirst self.now (behind r.number self.now.state.access)) }
-        ensures last { (r : Record K V) → kept_at self.now place ≡ Some r → IfNone result (behind r.number self.now.state.access ≡ []) }
+        requires { (r : Record K V) × (kept_at self.now place ≡ Some r)
+            × (is_some r.counts ≡ true) }
+        ensures next { (r : Record K V) → kept_at self.now place ≡ Some r
+            → IfSome result (StandsFirst self.now (behind r.number self.now.state.access)) }
+        ensures last { (r : Record K V) → kept_at self.now place ≡ Some r
+            → IfNone result (behind r.number self.now.state.access ≡ []) }
     {
         let index = self.cells.index_of(place);
         place_at(self.access.behind(index))
@@ -487,14 +523,16 @@ impl<K: Eq + Hash, V, S: BuildHasher, R: Rules<K, V>> Tables<K, V, S, R> {
     /// No number stands on the access list twice, and each there is of an admitted record.
     pub fn access_stands(&self)
         ensures once { AreOnce self.now.state.access }
-        ensures admitted { (number : ℕ) → IsIn number self.now.state.access → is_admitted_as number (record_at self.now.state.records number) ≡ true }
+        ensures admitted { (number : ℕ) → IsIn number self.now.state.access
+            → is_admitted_as number (record_at self.now.state.records number) ≡ true }
     {
         let _ = &self.access;
     }
 
     /// The place of the record whose write was applied longest ago.
     pub fn first_written(&self) -> Option<usize>
-        ensures first { IfSome result (λ i. (r : Record K V) × (kept_at self.now i ≡ Some r) × (slice_get self.now.state.order 0 ≡ Some r.number) × (is_some r.counts ≡ true)) }
+        ensures first { IfSome result (λ i. (r : Record K V) × (kept_at self.now i ≡ Some r)
+            × (slice_get self.now.state.order 0 ≡ Some r.number) × (is_some r.counts ≡ true)) }
         ensures none { IfNone result (self.now.state.order ≡ []) }
     {
         place_at(self.order.first())
@@ -502,16 +540,20 @@ impl<K: Eq + Hash, V, S: BuildHasher, R: Rules<K, V>> Tables<K, V, S, R> {
 
     /// The place of the settled record used longest ago.
     pub fn first_settled(&self) -> Option<usize>
-        ensures found { IfSome result (λ i. (r : Record K V) × (kept_at self.now i ≡ Some r) × (next_to_evict self.now.state ≡ Some r)) }
-        ensures none { IfNone result (settled_in self.now.state.records self.now.state.access ≡ []) }
+        ensures found { IfSome result (λ i. (r : Record K V) × (kept_at self.now i ≡ Some r)
+            × (next_to_evict self.now.state ≡ Some r)) }
+        ensures none { IfNone result
+            (settled_in self.now.state.records self.now.state.access ≡ []) }
     {
         first_settled(&self.cells, &self.access)
     }
 
     /// The place of a held record whose own expiration was reached.
     pub fn first_due(&self, now: u64) -> Option<usize>
-        ensures found { IfSome result (λ i. (r : Record K V) × (kept_at self.now i ≡ Some r) × (is_expired now r ≡ true)) }
-        ensures none { IfNone result ((r : Record K V) → record_at self.now.state.records r.number ≡ Some r → is_expired now r ≡ false) }
+        ensures found { IfSome result
+            (λ i. (r : Record K V) × (kept_at self.now i ≡ Some r) × (is_expired now r ≡ true)) }
+        ensures none { IfNone result ((r : Record K V) → record_at self.now.state.records r.number
+            ≡ Some r → is_expired now r ≡ false) }
     {
         first_expired(&self.cells, &self.expirations, now)
     }
@@ -527,7 +569,8 @@ impl<K: Eq + Hash, V, S: BuildHasher, R: Rules<K, V>> Tables<K, V, S, R> {
 
     /// Whether the admitted records weigh more than the capacity.
     pub fn is_too_heavy(&self) -> bool
-        ensures { result ≡ is_above self.now.state.settings.capacity (admitted_weight self.now.state.records) }
+        ensures { result
+            ≡ is_above self.now.state.settings.capacity (admitted_weight self.now.state.records) }
     {
         match self.backlog.settings().capacity {
             Some(capacity) => capacity < self.tally.weight,
@@ -621,7 +664,8 @@ impl<K: Eq + Hash, V, S: BuildHasher, R: Rules<K, V>> Tables<K, V, S, R> {
 
     /// Takes down number and weight of the admitted records at the end of a run.
     pub fn finish_run(&mut self, now: u64, table_refused: bool)
-        ensures { self.new ≡ record self.old { state = taken_down now table_refused self.old.state } }
+        ensures { self.new
+            ≡ record self.old { state = taken_down now table_refused self.old.state } }
     {
         let _many = self.cells.capacity();
         self.backlog
@@ -630,7 +674,11 @@ impl<K: Eq + Hash, V, S: BuildHasher, R: Rules<K, V>> Tables<K, V, S, R> {
 
     /// Makes the sketch's table for so many hashes.
     pub fn make_table(&mut self, hashes: u32) -> Result<(), AllocError>
-        ensures made { OnOk result ((words : ℕ) × IsNextPowerOfTwo (min hashes (2 ^ 24)) words × (self.new ≡ record self.old { state = record self.old.state { sketch = grown self.old.state.sketch words hashes } })) }
+        ensures made { OnOk result ((words : ℕ) × IsNextPowerOfTwo (min hashes (2 ^ 24)) words
+            × (self.new ≡ record self.old {
+              state
+                  = record self.old.state { sketch = grown self.old.state.sketch words hashes };
+            })) }
         ensures err { OnErr result (self.new ≡ self.old) }
     {
         self.backlog.make_table(hashes)
@@ -664,12 +712,17 @@ impl<K: Eq + Hash, V, S: BuildHasher, R: Rules<K, V>> Tables<K, V, S, R> {
 
     /// Moves the write of a ticket into the queue. An unknown ticket is refused before a full queue.
     pub fn send(&mut self, ticket: u64) -> Result<(), Refusal>
-        ensures ok { OnOk result (self.new ≡ record self.old { state = sent ticket self.old.state }) }
+        ensures ok { OnOk result
+            (self.new ≡ record self.old { state = sent ticket self.old.state }) }
         ensures known { OnOk result (is_some (unsent_at self.old.state.unsent ticket) ≡ true) }
         ensures err { OnErr result (self.new ≡ self.old) }
-        ensures unknown { IsErrOf result Refusal.UnknownTicket → unsent_at self.old.state.unsent ticket ≡ None }
-        ensures full { IsErrOf result Refusal.QueueFull → (is_some (unsent_at self.old.state.unsent ticket) ≡ true) × (is_full self.old.state ≡ true) }
-        ensures only { OnErr result ((IsErrOf result Refusal.UnknownTicket) ⊎ (IsErrOf result Refusal.QueueFull)) }
+        ensures unknown { IsErrOf result Refusal.UnknownTicket
+            → unsent_at self.old.state.unsent ticket ≡ None }
+        ensures full { IsErrOf result Refusal.QueueFull
+            → (is_some (unsent_at self.old.state.unsent ticket) ≡ true)
+            × (is_full self.old.state ≡ true) }
+        ensures only { OnErr result
+            ((IsErrOf result Refusal.UnknownTicket) ⊎ (IsErrOf result Refusal.QueueFull)) }
     {
         self.backlog.send(ticket)
     }
@@ -679,7 +732,8 @@ impl<K: Eq + Hash, V, S: BuildHasher, R: Rules<K, V>> Tables<K, V, S, R> {
         requires { 0 < length self.old.state.writes }
         ensures first { self.old.state.writes ≡ write_of result ∷ self.new.state.writes }
         ensures right { AimsOnlyAt self.new.numbers result.place (number_written result.write) }
-        ensures rest { self.new ≡ record self.old { state = record self.old.state { writes = self.new.state.writes } } }
+        ensures rest { self.new
+            ≡ record self.old { state = record self.old.state { writes = self.new.state.writes } } }
     {
         match self.backlog.pop_write() {
             Some(write) => write,
@@ -699,8 +753,13 @@ impl<K: Eq + Hash, V, S: BuildHasher, R: Rules<K, V>> Tables<K, V, S, R> {
     /// A look-up that found the record of a number, in a place, waits to be counted, for which there is room.
     pub fn push_hit(&mut self, place: usize, number: u64, hash: u64)
         requires room { length self.old.state.reads < 64 }
-        requires there { (r : Record K V) × (kept_at self.old place ≡ Some r) × (number ≡ r.number) }
-        ensures { (r : Record K V) × (kept_at self.old place ≡ Some r) × (self.new ≡ record self.old { state = record self.old.state { reads = self.old.state.reads ++ Read.Hit r.number hash ∷ [] } }) }
+        requires there { (r : Record K V) × (kept_at self.old place ≡ Some r)
+            × (number ≡ r.number) }
+        ensures { (r : Record K V) × (kept_at self.old place ≡ Some r)
+            × (self.new ≡ record self.old {
+              state = record self.old.state
+                  { reads = self.old.state.reads ++ Read.Hit r.number hash ∷ [] };
+            }) }
     {
         self.backlog.push_read(Noted::Hit {
             hash,
@@ -712,14 +771,18 @@ impl<K: Eq + Hash, V, S: BuildHasher, R: Rules<K, V>> Tables<K, V, S, R> {
     /// A look-up that found nothing waits to be counted, for which there is room.
     pub fn push_miss(&mut self, hash: u64)
         requires { length self.old.state.reads < 64 }
-        ensures { self.new ≡ record self.old { state = record self.old.state { reads = self.old.state.reads ++ Read.Miss hash ∷ [] } } }
+        ensures { self.new ≡ record self.old {
+          state
+              = record self.old.state { reads = self.old.state.reads ++ Read.Miss hash ∷ [] };
+        } }
     {
         self.backlog.push_read(Noted::Miss(hash));
     }
 
     /// Counts a hash as asked for.
     pub fn count_hash(&mut self, hash: u64)
-        ensures { self.new ≡ record self.old { state = record self.old.state { sketch = incremented self.old.state.sketch hash } } }
+        ensures { self.new ≡ record self.old
+            { state = record self.old.state { sketch = incremented self.old.state.sketch hash } } }
     {
         self.backlog.count_hash(hash);
     }
@@ -729,7 +792,8 @@ impl<K: Eq + Hash, V, S: BuildHasher, R: Rules<K, V>> Tables<K, V, S, R> {
         requires { 0 < length self.old.state.reads }
         ensures first { self.old.state.reads ≡ read_of result ∷ self.new.state.reads }
         ensures right { AimsRight self.new.numbers result }
-        ensures rest { self.new ≡ record self.old { state = record self.old.state { reads = self.new.state.reads } } }
+        ensures rest { self.new
+            ≡ record self.old { state = record self.old.state { reads = self.new.state.reads } } }
     {
         match self.backlog.pop_read() {
             Some(noted) => noted,
@@ -740,7 +804,8 @@ impl<K: Eq + Hash, V, S: BuildHasher, R: Rules<K, V>> Tables<K, V, S, R> {
     /// Moves the record of a number to the back of the access list, where it is there and admitted. It can only stand in this place.
     pub fn hit(&mut self, place: usize, number: u64)
         requires { AimsOnlyAt self.old.numbers place number }
-        ensures { self.new ≡ record self.old { state = after_hit (record_at self.old.state.records number) self.old.state } }
+        ensures { self.new ≡ record self.old
+            { state = after_hit (record_at self.old.state.records number) self.old.state } }
     {
         let _ = &self.cells;
         if self.is_admitted_at(place, number) {
@@ -751,7 +816,8 @@ impl<K: Eq + Hash, V, S: BuildHasher, R: Rules<K, V>> Tables<K, V, S, R> {
     /// Whether the record of a number is there. It can only stand in this place.
     pub fn has_record(&self, place: usize, number: u64) -> bool
         requires { AimsOnlyAt self.now.numbers place number }
-        ensures there { result ≡ true → (r : Record K V) × (kept_at self.now place ≡ Some r) × (record_at self.now.state.records number ≡ Some r) }
+        ensures there { result ≡ true → (r : Record K V) × (kept_at self.now place ≡ Some r)
+            × (record_at self.now.state.records number ≡ Some r) }
         ensures gone { result ≡ false → record_at self.now.state.records number ≡ None }
     {
         match self.cells.get(place) {
@@ -773,7 +839,8 @@ impl<K: Eq + Hash, V, S: BuildHasher, R: Rules<K, V>> Tables<K, V, S, R> {
     /// Applies the oldest read.
     pub fn apply_read(&mut self)
         requires { 0 < length self.old.state.reads }
-        ensures { (r : Read) × (rest : List Read) × (self.old.state.reads ≡ r ∷ rest) × (self.new ≡ record self.old { state = after_read r (record self.old.state { reads = rest }) }) }
+        ensures { (r : Read) × (rest : List Read) × (self.old.state.reads ≡ r ∷ rest) × (self.new
+            ≡ record self.old { state = after_read r (record self.old.state { reads = rest }) }) }
     {
         match self.pop_read() {
             Noted::Hit {

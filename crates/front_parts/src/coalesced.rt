@@ -35,11 +35,15 @@ pub fn look<
     now: Instant,
     replace_if: P,
 ) -> Result<(bool, Option<V>), AllocError>
-    requires hashed { hash ≡ hash_of_key S.Hasher.finish S.Hasher.write S.build_hasher K.hash_input part.now.hasher (Q.named_key key.now) }
+    requires hashed { hash ≡ hash_of_key S.Hasher.finish S.Hasher.write S.build_hasher K.hash_input
+        part.now.hasher (Q.named_key key.now) }
     requires exact { (x y : V) → V.is_clone x y → y ≡ x }
     requires callable { P.IsAlwaysCallable replace_if }
-    ensures asked { IfOk result (λ looked. AsksPart (answers_of R.weight_of R.created R.read R.updated R.covers) K.eq (Q.named_key key.now) now (FnOnceReturnsAt P.FnOnce replace_if) part.now looked.0) }
-    ensures found { IfOk result (λ looked. looked.1 ≡ past looked.0 (visible_value (answers_of R.weight_of R.created R.read R.updated R.covers) K.eq part.now now (Q.named_key key.now))) }
+    ensures asked { IfOk result
+        (λ looked. AsksPart (answers_of R.weight_of R.created R.read R.updated R.covers) K.eq
+        (Q.named_key key.now) now (FnOnceReturnsAt P.FnOnce replace_if) part.now looked.0) }
+    ensures found { IfOk result (λ looked. looked.1 ≡ past looked.0 (visible_value (answers_of
+        R.weight_of R.created R.read R.updated R.covers) K.eq part.now now (Q.named_key key.now))) }
 {
     match part.peek(key, hash, now) {
         Some(value) => {
@@ -63,9 +67,11 @@ pub(crate) fn note_and_insert<K: Eq + Hash + Drop, V: Drop, S: BuildHasher, R: R
     at: At,
     ignored: bool,
 ) -> Result<(), CacheError>
-    requires hashed { hash ≡ hash_of_key S.Hasher.finish S.Hasher.write S.build_hasher K.hash_input part.old.hasher key }
+    requires hashed { hash ≡ hash_of_key S.Hasher.finish S.Hasher.write S.build_hasher K.hash_input
+        part.old.hasher key }
     requires ready { IsReady part.old }
-    ensures acts { OnOk result (Acts (answers_of R.weight_of R.created R.read R.updated R.covers) K.eq key hash at.now at.step ignored (op.Put value) part.old part.new) }
+    ensures acts { OnOk result (Acts (answers_of R.weight_of R.created R.read R.updated R.covers)
+        K.eq key hash at.now at.step ignored (op.Put value) part.old part.new) }
     ensures err { OnErr result (part.new ≡ part.old) }
     ensures cause { IfErr result (IsCause 1 part.old) }
 {
@@ -83,8 +89,10 @@ pub(crate) fn note<K: Eq + Hash + Drop, V: Drop, S: BuildHasher, R: Rules<K, V>,
     at: At,
     ignored: bool,
 )
-    requires hashed { hash ≡ hash_of_key S.Hasher.finish S.Hasher.write S.build_hasher K.hash_input part.old.hasher (Q.named_key key.now) }
-    ensures { Acts (answers_of R.weight_of R.created R.read R.updated R.covers) K.eq (Q.named_key key.now) hash at.now at.step ignored op.Nop part.old part.new }
+    requires hashed { hash ≡ hash_of_key S.Hasher.finish S.Hasher.write S.build_hasher K.hash_input
+        part.old.hasher (Q.named_key key.now) }
+    ensures { Acts (answers_of R.weight_of R.created R.read R.updated R.covers) K.eq
+        (Q.named_key key.now) hash at.now at.step ignored op.Nop part.old part.new }
 {
     part.note_look_up(key, hash, at.now, ignored);
 }
@@ -105,12 +113,14 @@ fn settle<
     at: At,
     ignored: bool,
 ) -> Result<Made<V, F>, CacheError>
-    requires hashed { hash ≡ hash_of_key S.Hasher.finish S.Hasher.write S.build_hasher K.hash_input part.old.hasher (Q.named_key name) }
+    requires hashed { hash ≡ hash_of_key S.Hasher.finish S.Hasher.write S.build_hasher K.hash_input
+        part.old.hasher (Q.named_key name) }
     requires becomes { Q.can_become name }
     requires exact { (x y : V) → V.is_clone x y → y ≡ x }
     requires ready { IsReady part.old }
     ensures same { IfOk result (λ answer. answer ≡ made) }
-    ensures acts { OnOk result (Acts (answers_of R.weight_of R.created R.read R.updated R.covers) K.eq (Q.named_key name) hash at.now at.step ignored (op_of_made made) part.old part.new) }
+    ensures acts { OnOk result (Acts (answers_of R.weight_of R.created R.read R.updated R.covers)
+        K.eq (Q.named_key name) hash at.now at.step ignored (op_of_made made) part.old part.new) }
     ensures err { OnErr result (part.new ≡ part.old) }
     ensures cause { IfErr result (IsCause 1 part.old) }
 {
@@ -152,12 +162,15 @@ pub fn coalesce<
     replace_if: P,
     make: M,
 ) -> Result<(Made<V, F>, bool), CacheError>
-    requires hashed { hash ≡ hash_of_key S.Hasher.finish S.Hasher.write S.build_hasher K.hash_input part.old.hasher (Q.named_key name) }
+    requires hashed { hash ≡ hash_of_key S.Hasher.finish S.Hasher.write S.build_hasher K.hash_input
+        part.old.hasher (Q.named_key name) }
     requires becomes { Q.can_become name }
     requires exact { (x y : V) → V.is_clone x y → y ≡ x }
     requires callable { P.IsAlwaysCallable replace_if × M.IsAlwaysCallable make }
     requires ready { IsReady part.old }
-    ensures answer { IfOk result (CoalescesPart (answers_of R.weight_of R.created R.read R.updated R.covers) K.eq (Q.named_key name) hash at (FnOnceReturnsAt P.FnOnce replace_if) (M.post make) part.old part.new) }
+    ensures answer { IfOk result (CoalescesPart
+        (answers_of R.weight_of R.created R.read R.updated R.covers) K.eq (Q.named_key name) hash at
+        (FnOnceReturnsAt P.FnOnce replace_if) (M.post make) part.old part.new) }
     ensures err { OnErr result (part.new ≡ part.old) }
     ensures cause { IfErr result (IsCause 1 part.old) }
 {

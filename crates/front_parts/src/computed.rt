@@ -27,12 +27,15 @@ fn note_and_remove<
     R: Rules<K, V>,
     Q: Names<K>,
 >(part: &mut BaseCache<K, V, S, R>, key: &Q, hash: u64, at: At) -> Result<Option<V>, CacheError>
-    requires hashed { hash ≡ hash_of_key S.Hasher.finish S.Hasher.write S.build_hasher K.hash_input part.old.hasher (Q.named_key key.now) }
+    requires hashed { hash ≡ hash_of_key S.Hasher.finish S.Hasher.write S.build_hasher K.hash_input
+        part.old.hasher (Q.named_key key.now) }
     requires exact_key { (x y : K) → K.is_clone x y → y ≡ x }
     requires exact { (x y : V) → V.is_clone x y → y ≡ x }
     requires ready { IsReady part.old }
     requires apart { AreApart K.eq (held_entries part.old.records) }
-    ensures removes { IfOk result (λ removed. RemovesAfterLook (answers_of R.weight_of R.created R.read R.updated R.covers) K.eq (Q.named_key key.now) hash at.now at.step part.old part.new removed) }
+    ensures removes { IfOk result
+        (λ removed. RemovesAfterLook (answers_of R.weight_of R.created R.read R.updated R.covers)
+        K.eq (Q.named_key key.now) hash at.now at.step part.old part.new removed) }
     ensures err { OnErr result (part.new ≡ part.old) }
     ensures cause { IfErr result (IsCause (removal_rooms part.old.settings) part.old) }
 {
@@ -61,12 +64,18 @@ fn operate<
     at: At,
     was_seen: bool,
 ) -> Result<Computed<V>, CacheError>
-    requires open { IsOpen K.eq (hash_of_key S.Hasher.finish S.Hasher.write S.build_hasher K.hash_input) (Q.named_key name) hash part.old }
+    requires open { IsOpen K.eq
+        (hash_of_key S.Hasher.finish S.Hasher.write S.build_hasher K.hash_input) (Q.named_key name)
+        hash part.old }
     requires becomes { Q.can_become name }
     requires exact_key { (x y : K) → K.is_clone x y → y ≡ x }
     requires exact { (x y : V) → V.is_clone x y → y ≡ x }
-    requires seen { was_seen ≡ is_some (visible_value (answers_of R.weight_of R.created R.read R.updated R.covers) K.eq part.old at.now (Q.named_key name)) }
-    ensures operates { IfOk result (λ done. OperatesAfterLook (answers_of R.weight_of R.created R.read R.updated R.covers) K.eq (Q.named_key name) hash at.now at.step does part.old part.new done) }
+    requires seen { was_seen
+        ≡ is_some (visible_value (answers_of R.weight_of R.created R.read R.updated R.covers) K.eq
+        part.old at.now (Q.named_key name)) }
+    ensures operates { IfOk result
+        (λ done. OperatesAfterLook (answers_of R.weight_of R.created R.read R.updated R.covers) K.eq
+        (Q.named_key name) hash at.now at.step does part.old part.new done) }
     ensures err { OnErr result (part.new ≡ part.old) }
     ensures cause { IfErr result (IsCause (removal_rooms part.old.settings) part.old) }
 {
@@ -102,7 +111,8 @@ pub fn shown_unchanged<V>(seen: Option<V>) -> Computed<V>
 
 /// The result if a value was put.
 pub fn shown_put<V>(value: V, was_seen: bool) -> Computed<V>
-    ensures shown { (seen held : Option V) → was_seen ≡ is_some seen → result ≡ computed_as (op.Put value) seen held }
+    ensures shown { (seen held : Option V) → was_seen ≡ is_some seen
+        → result ≡ computed_as (op.Put value) seen held }
     ensures fits { IsOutcomeOf (op.Put value) result }
 {
     if was_seen {
@@ -141,12 +151,16 @@ pub fn compute<
     at: At,
     decide: D,
 ) -> Result<Result<Computed<V>, E>, CacheError>
-    requires open { IsOpen K.eq (hash_of_key S.Hasher.finish S.Hasher.write S.build_hasher K.hash_input) (Q.named_key name) hash part.old }
+    requires open { IsOpen K.eq
+        (hash_of_key S.Hasher.finish S.Hasher.write S.build_hasher K.hash_input) (Q.named_key name)
+        hash part.old }
     requires becomes { Q.can_become name }
     requires exact_key { (x y : K) → K.is_clone x y → y ≡ x }
     requires exact { (x y : V) → V.is_clone x y → y ≡ x }
     requires decides { D.IsAlwaysCallable decide }
-    ensures computes { IfOk result (Computes (answers_of R.weight_of R.created R.read R.updated R.covers) K.eq (Q.named_key name) hash at.now at.step (D.post decide) part.old part.new) }
+    ensures computes { IfOk result
+        (Computes (answers_of R.weight_of R.created R.read R.updated R.covers) K.eq
+        (Q.named_key name) hash at.now at.step (D.post decide) part.old part.new) }
     ensures err { OnErr result (part.new ≡ part.old) }
     ensures cause { IfErr result (IsCause (removal_rooms part.old.settings) part.old) }
 {

@@ -69,10 +69,12 @@ fn put_reserved<K: Eq + Hash + Drop, V: Drop, S: BuildHasher, R: Rules<K, V>>(
     now: Instant,
     step: u64,
 )
-    requires hashed { hash ≡ hash_of_key S.Hasher.finish S.Hasher.write S.build_hasher K.hash_input part.old.hasher key }
+    requires hashed { hash ≡ hash_of_key S.Hasher.finish S.Hasher.write S.build_hasher K.hash_input
+        part.old.hasher key }
     requires ready { IsReady part.old }
     requires reserved { 0 < part.old.reserved }
-    ensures { part.new ≡ put_sent (answers_of R.weight_of R.created R.read R.updated R.covers) K.eq key hash value now step part.old }
+    ensures { part.new ≡ put_sent (answers_of R.weight_of R.created R.read R.updated R.covers) K.eq
+        key hash value now step part.old }
 {
     let ticket = part.do_insert_with_hash(key, hash, value, now, step);
     send_now(part, ticket);
@@ -86,10 +88,12 @@ pub fn insert_reserved<K: Eq + Hash + Drop, V: Drop, S: BuildHasher, R: Rules<K,
     value: V,
     at: At,
 )
-    requires hashed { hash ≡ hash_of_key S.Hasher.finish S.Hasher.write S.build_hasher K.hash_input part.old.hasher key }
+    requires hashed { hash ≡ hash_of_key S.Hasher.finish S.Hasher.write S.build_hasher K.hash_input
+        part.old.hasher key }
     requires ready { IsReady part.old }
     requires reserved { takes_nothing part.old.settings.capacity ≡ false → 0 < part.old.reserved }
-    ensures { InsertsReserved (answers_of R.weight_of R.created R.read R.updated R.covers) K.eq key hash value at.now at.step part.old part.new }
+    ensures { InsertsReserved (answers_of R.weight_of R.created R.read R.updated R.covers) K.eq key
+        hash value at.now at.step part.old part.new }
 {
     let At { now, step } = at;
     if !part.is_map_disabled() {
@@ -106,9 +110,12 @@ pub fn insert<K: Eq + Hash + Drop, V: Drop, S: BuildHasher, R: Rules<K, V>>(
     value: V,
     at: At,
 ) -> Result<(), CacheError>
-    requires hashed { hash ≡ hash_of_key S.Hasher.finish S.Hasher.write S.build_hasher K.hash_input part.old.hasher key }
+    requires hashed { hash ≡ hash_of_key S.Hasher.finish S.Hasher.write S.build_hasher K.hash_input
+        part.old.hasher key }
     requires ready { IsReady part.old }
-    ensures inserts { OnOk result (Inserts (answers_of R.weight_of R.created R.read R.updated R.covers) K.eq key hash value at.now at.step part.old part.new) }
+    ensures inserts { OnOk result
+        (Inserts (answers_of R.weight_of R.created R.read R.updated R.covers) K.eq key hash value
+        at.now at.step part.old part.new) }
     ensures err { OnErr result (part.new ≡ part.old) }
     ensures cause { IfErr result (IsCause 1 part.old) }
 {
@@ -125,9 +132,12 @@ pub fn insert_or_back<K: Eq + Hash + Drop, V: Drop, S: BuildHasher, R: Rules<K, 
     value: V,
     at: At,
 ) -> Result<(), (CacheError, V)>
-    requires hashed { hash ≡ hash_of_key S.Hasher.finish S.Hasher.write S.build_hasher K.hash_input part.old.hasher key }
+    requires hashed { hash ≡ hash_of_key S.Hasher.finish S.Hasher.write S.build_hasher K.hash_input
+        part.old.hasher key }
     requires ready { IsReady part.old }
-    ensures inserts { OnOk result (Inserts (answers_of R.weight_of R.created R.read R.updated R.covers) K.eq key hash value at.now at.step part.old part.new) }
+    ensures inserts { OnOk result
+        (Inserts (answers_of R.weight_of R.created R.read R.updated R.covers) K.eq key hash value
+        at.now at.step part.old part.new) }
     ensures err { OnErr result (part.new ≡ part.old) }
     ensures back { IfErr result (λ refused. refused.1 ≡ value) }
     ensures cause { IfErr result (λ refused. IsCause 1 part.old refused.0) }
@@ -148,10 +158,14 @@ pub fn get<K: Eq + Hash + Drop, V: Clone + Drop, S: BuildHasher, R: Rules<K, V>,
     hash: u64,
     now: Instant,
 ) -> Result<Option<V>, AllocError>
-    requires hashed { hash ≡ hash_of_key S.Hasher.finish S.Hasher.write S.build_hasher K.hash_input part.old.hasher (Q.named_key key.now) }
+    requires hashed { hash ≡ hash_of_key S.Hasher.finish S.Hasher.write S.build_hasher K.hash_input
+        part.old.hasher (Q.named_key key.now) }
     requires exact { (x y : V) → V.is_clone x y → y ≡ x }
-    ensures found { IfOk result (λ found. found ≡ visible_value (answers_of R.weight_of R.created R.read R.updated R.covers) K.eq part.old now (Q.named_key key.now)) }
-    ensures used { OnOk result (LooksUp (answers_of R.weight_of R.created R.read R.updated R.covers) K.eq (Q.named_key key.now) hash now part.old part.new) }
+    ensures found { IfOk result
+        (λ found. found ≡ visible_value (answers_of R.weight_of R.created R.read R.updated R.covers)
+        K.eq part.old now (Q.named_key key.now)) }
+    ensures used { OnOk result (LooksUp (answers_of R.weight_of R.created R.read R.updated R.covers)
+        K.eq (Q.named_key key.now) hash now part.old part.new) }
     ensures err { OnErr result (part.new ≡ part.old) }
 {
     part.get_with_hash(key, hash, now)
@@ -164,8 +178,11 @@ pub fn contains_key<K: Eq + Hash, V, S: BuildHasher, R: Rules<K, V>, Q: Names<K>
     hash: u64,
     now: Instant,
 ) -> bool
-    requires hashed { hash ≡ hash_of_key S.Hasher.finish S.Hasher.write S.build_hasher K.hash_input part.now.hasher (Q.named_key key.now) }
-    ensures { result ≡ is_some (visible_record (answers_of R.weight_of R.created R.read R.updated R.covers) K.eq part.now now (Q.named_key key.now)) }
+    requires hashed { hash ≡ hash_of_key S.Hasher.finish S.Hasher.write S.build_hasher K.hash_input
+        part.now.hasher (Q.named_key key.now) }
+    ensures { result
+        ≡ is_some (visible_record (answers_of R.weight_of R.created R.read R.updated R.covers) K.eq
+        part.now now (Q.named_key key.now)) }
 {
     part.contains_key_with_hash(key, hash, now)
 }
@@ -176,7 +193,8 @@ pub fn run_pending_tasks<K: Eq + Hash + Drop, V: Drop, S: BuildHasher, R: Rules<
     now: Instant,
 )
     requires sent { part.old.unsent ≡ [] }
-    ensures { RunsPart (answers_of R.weight_of R.created R.read R.updated R.covers) now part.old part.new }
+    ensures { RunsPart (answers_of R.weight_of R.created R.read R.updated R.covers) now part.old
+        part.new }
 {
     part.run_pending_tasks(now);
 }

@@ -24,11 +24,14 @@ pub(crate) fn prepare<
     R: Rules<K, V>,
     Q: Names<K>,
 >(part: &mut BaseCache<K, V, S, R>, key: &Q, hash: u64) -> Result<Option<(K, V)>, CacheError>
-    requires hashed { hash ≡ hash_of_key S.Hasher.finish S.Hasher.write S.build_hasher K.hash_input part.old.hasher (Q.named_key key.now) }
+    requires hashed { hash ≡ hash_of_key S.Hasher.finish S.Hasher.write S.build_hasher K.hash_input
+        part.old.hasher (Q.named_key key.now) }
     requires exact_key { (x y : K) → K.is_clone x y → y ≡ x }
     requires exact { (x y : V) → V.is_clone x y → y ≡ x }
-    ensures ok { OnOk result (part.new ≡ with_removal_room (held_at K.eq part.old.records (Q.named_key key.now)) part.old) }
-    ensures parts { IfOk result (λ parts. parts ≡ option_map (λ r. (r.entry.key, r.entry.value)) (held_at K.eq part.old.records (Q.named_key key.now))) }
+    ensures ok { OnOk result (part.new
+        ≡ with_removal_room (held_at K.eq part.old.records (Q.named_key key.now)) part.old) }
+    ensures parts { IfOk result (λ parts. parts ≡ option_map (λ r. (r.entry.key, r.entry.value))
+        (held_at K.eq part.old.records (Q.named_key key.now))) }
     ensures err { OnErr result (part.new ≡ part.old) }
     ensures cause { IfErr result (IsCause (removal_rooms part.old.settings) part.old) }
 {
@@ -45,9 +48,11 @@ pub(crate) fn clone_shown<K: Eq + Hash, V: Clone, S: BuildHasher, R: Rules<K, V>
     key: &Q,
     hash: u64,
 ) -> Result<Option<V>, AllocError>
-    requires hashed { hash ≡ hash_of_key S.Hasher.finish S.Hasher.write S.build_hasher K.hash_input part.now.hasher (Q.named_key key.now) }
+    requires hashed { hash ≡ hash_of_key S.Hasher.finish S.Hasher.write S.build_hasher K.hash_input
+        part.now.hasher (Q.named_key key.now) }
     requires exact { (x y : V) → V.is_clone x y → y ≡ x }
-    ensures { IfOk result (λ shown. shown ≡ (if part.now.settings.tells then held_value K.eq part.now (Q.named_key key.now) else None)) }
+    ensures { IfOk result (λ shown. shown ≡ (if part.now.settings.tells
+        then held_value K.eq part.now (Q.named_key key.now) else None)) }
 {
     if part.is_removal_notifier_enabled() {
         part.held_value_with_hash(key, hash)
@@ -66,7 +71,8 @@ fn tell<K: Eq + Hash + Drop, V: Drop, S: BuildHasher, R: Rules<K, V>, Q: Names<K
 ) -> V
     requires room { part.old.settings.tells ≡ true → 0 < part.old.reserved }
     requires shown { shown ≡ (if part.old.settings.tells then Some entry.value else None) }
-    ensures told { part.new ≡ removal_told (answers_of R.weight_of R.created R.read R.updated R.covers) entry now part.old }
+    ensures told { part.new ≡ removal_told
+        (answers_of R.weight_of R.created R.read R.updated R.covers) entry now part.old }
     ensures value { result ≡ entry.value }
 {
     match shown {
@@ -101,12 +107,16 @@ pub(crate) fn take_out<K: Eq + Hash + Drop, V: Drop, S: BuildHasher, R: Rules<K,
     shown: Option<V>,
     now: Instant,
 ) -> Option<V>
-    requires hashed { hash ≡ hash_of_key S.Hasher.finish S.Hasher.write S.build_hasher K.hash_input part.old.hasher (Q.named_key key.now) }
+    requires hashed { hash ≡ hash_of_key S.Hasher.finish S.Hasher.write S.build_hasher K.hash_input
+        part.old.hasher (Q.named_key key.now) }
     requires ready { IsReady part.old }
     requires reserved { removal_rooms part.old.settings ≤ part.old.reserved }
-    requires parts { (r : Record K V) → held_at K.eq part.old.records (Q.named_key key.now) ≡ Some r → (parts.0 ≡ r.entry.key) × (parts.1 ≡ r.entry.value) }
-    requires shown { (r : Record K V) → held_at K.eq part.old.records (Q.named_key key.now) ≡ Some r → shown ≡ (if part.old.settings.tells then Some r.entry.value else None) }
-    ensures takes_out { TakesOut (answers_of R.weight_of R.created R.read R.updated R.covers) K.eq (Q.named_key key.now) now (freed (removal_rooms part.old.settings) part.old) part.new }
+    requires parts { (r : Record K V) → held_at K.eq part.old.records (Q.named_key key.now) ≡ Some r
+        → (parts.0 ≡ r.entry.key) × (parts.1 ≡ r.entry.value) }
+    requires shown { (r : Record K V) → held_at K.eq part.old.records (Q.named_key key.now) ≡ Some r
+        → shown ≡ (if part.old.settings.tells then Some r.entry.value else None) }
+    ensures takes_out { TakesOut (answers_of R.weight_of R.created R.read R.updated R.covers) K.eq
+        (Q.named_key key.now) now (freed (removal_rooms part.old.settings) part.old) part.new }
     ensures value { result ≡ held_value K.eq part.old (Q.named_key key.now) }
 {
     match part.remove_reserved(key, hash, parts) {
@@ -136,12 +146,15 @@ pub fn remove<
     hash: u64,
     now: Instant,
 ) -> Result<Option<V>, CacheError>
-    requires hashed { hash ≡ hash_of_key S.Hasher.finish S.Hasher.write S.build_hasher K.hash_input part.old.hasher (Q.named_key key.now) }
+    requires hashed { hash ≡ hash_of_key S.Hasher.finish S.Hasher.write S.build_hasher K.hash_input
+        part.old.hasher (Q.named_key key.now) }
     requires exact_key { (x y : K) → K.is_clone x y → y ≡ x }
     requires exact { (x y : V) → V.is_clone x y → y ≡ x }
     requires ready { IsReady part.old }
     ensures value { IfOk result (λ value. value ≡ held_value K.eq part.old (Q.named_key key.now)) }
-    ensures takes_out { OnOk result (TakesOut (answers_of R.weight_of R.created R.read R.updated R.covers) K.eq (Q.named_key key.now) now part.old part.new) }
+    ensures takes_out { OnOk result
+        (TakesOut (answers_of R.weight_of R.created R.read R.updated R.covers) K.eq
+        (Q.named_key key.now) now part.old part.new) }
     ensures err { OnErr result (part.new ≡ part.old) }
     ensures cause { IfErr result (IsCause (removal_rooms part.old.settings) part.old) }
 {
@@ -160,11 +173,14 @@ pub fn invalidate<
     R: Rules<K, V>,
     Q: Names<K>,
 >(part: &mut BaseCache<K, V, S, R>, key: &Q, hash: u64, now: Instant) -> Result<(), CacheError>
-    requires hashed { hash ≡ hash_of_key S.Hasher.finish S.Hasher.write S.build_hasher K.hash_input part.old.hasher (Q.named_key key.now) }
+    requires hashed { hash ≡ hash_of_key S.Hasher.finish S.Hasher.write S.build_hasher K.hash_input
+        part.old.hasher (Q.named_key key.now) }
     requires exact_key { (x y : K) → K.is_clone x y → y ≡ x }
     requires exact { (x y : V) → V.is_clone x y → y ≡ x }
     requires ready { IsReady part.old }
-    ensures takes_out { OnOk result (TakesOut (answers_of R.weight_of R.created R.read R.updated R.covers) K.eq (Q.named_key key.now) now part.old part.new) }
+    ensures takes_out { OnOk result
+        (TakesOut (answers_of R.weight_of R.created R.read R.updated R.covers) K.eq
+        (Q.named_key key.now) now part.old part.new) }
     ensures err { OnErr result (part.new ≡ part.old) }
     ensures cause { IfErr result (IsCause (removal_rooms part.old.settings) part.old) }
 {

@@ -25,7 +25,8 @@ module _ {K : Type 0} where
   -- the turn of a kind and a key
   abbrev pub turn_of : (K → K → Bool) → List (OpenTurn K) → TurnKind → K → Option (OpenTurn K)
   turn_of eq [] kind key = None
-  turn_of eq (t ∷ ts) kind key = if same_kind t.kind kind && eq key t.key then Some t else turn_of eq ts kind key
+  turn_of eq (t ∷ ts) kind key =
+      if same_kind t.kind kind && eq key t.key then Some t else turn_of eq ts kind key
 
   -- the turn with a number
   abbrev pub turn_at : List (OpenTurn K) → ℕ → Option (OpenTurn K)
@@ -39,7 +40,9 @@ module _ {K : Type 0} where
   -- at most one turn of each kind and key, no number twice, each below the next one, and each hash that of its key
   abbrev pub AreTurns : (K → K → Bool) → (K → ℕ) → (next : ℕ) → List (OpenTurn K) → Type 0
   AreTurns eq hash next [] = Unit {0}
-  AreTurns eq hash next (t ∷ ts) = (turn_of eq ts t.kind t.key ≡ None) × (turn_at ts t.number ≡ None) × (t.number < next) × (t.hash ≡ hash t.key) × AreTurns eq hash next ts
+  AreTurns eq hash next (t ∷ ts) =
+      (turn_of eq ts t.kind t.key ≡ None) × (turn_at ts t.number ≡ None) × (t.number < next)
+      × (t.hash ≡ hash t.key) × AreTurns eq hash next ts
 
 -- the part at a place is changed
 pub record CallsAt {X : Type 0} (place : ℕ) (Rel : X → X → Type 0) (old new : List X) : Type 0 where
@@ -52,7 +55,8 @@ pub record CallsAt {X : Type 0} (place : ℕ) (Rel : X → X → Type 0) (old ne
 -- each part is changed
 pub record CallsEach {X : Type 0} (Rel : X → X → Type 0) (old new : List X) : Type 0 where
   pub count : length new ≡ length old
-  pub each : (place : ℕ) (before : X) → slice_get old place ≡ Some before → (after : X) × (slice_get new place ≡ Some after) × Rel before after
+  pub each : (place : ℕ) (before : X) → slice_get old place ≡ Some before
+      → (after : X) × (slice_get new place ≡ Some after) × Rel before after
 
 pub record Front (K V P S R : Type 0) : Type 0 where
   pub parts : List (State K V P S R)
@@ -82,13 +86,15 @@ module _ {K V P S R : Type 0} where
   passed now step f = record f { moment = now; step = step }
 
   -- a call comes to the part of a hash, and nothing else changes but the moment and the step
-  pub record CallsPart (hash now step : ℕ) (Rel : State K V P S R → State K V P S R → Type 0) (old new : Front K V P S R) : Type 0 where
+  pub record CallsPart (hash now step : ℕ) (Rel : State K V P S R → State K V P S R → Type 0)
+      (old new : Front K V P S R) : Type 0 where
     pub parts : List (State K V P S R)
     pub call : CallsAt (part_of old.bits hash) Rel old.parts parts
     pub changed : new ≡ passed now step (record old { parts = parts })
 
   -- a call comes to each part
-  pub record CallsAll (now step : ℕ) (Rel : State K V P S R → State K V P S R → Type 0) (old new : Front K V P S R) : Type 0 where
+  pub record CallsAll (now step : ℕ) (Rel : State K V P S R → State K V P S R → Type 0)
+      (old new : Front K V P S R) : Type 0 where
     pub parts : List (State K V P S R)
     pub each : CallsEach Rel old.parts parts
     pub changed : new ≡ passed now step (record old { parts = parts })
@@ -100,7 +106,8 @@ module _ {K V P S R : Type 0} where
   -- what the front keeps, if keys are hashed like this
   pub record IsSteady (eq : K → K → Bool) (hash : K → ℕ) (f : Front K V P S R) : Type 0 where
     -- each part, to which the keys belong whose hash leads to it
-    pub kept : (place : ℕ) (s : State K V P S R) → slice_get f.parts place ≡ Some s → IsKept 63 eq f.common (λ key. part_of f.bits (hash key) == place) f.moment f.step s
+    pub kept : (place : ℕ) (s : State K V P S R) → slice_get f.parts place ≡ Some s
+        → IsKept 63 eq f.common (λ key. part_of f.bits (hash key) == place) f.moment f.step s
     pub count : length f.parts ≡ 2 ^ f.bits
     pub few : f.bits ≤ 16
     pub share : f.common.settings.capacity ≡ option_map (share_of (length f.parts)) f.capacity

@@ -27,7 +27,8 @@ module _ {K V P S R : Type 0} where
 
   -- The last call came at this moment and step at the latest. At most this many writes are unapplied: 63 between calls, 64 before a call
   -- checks whether a run is due. Only keys that belong to the part are written to it
-  pub record IsKept (limit : ℕ) (eq : K → K → Bool) (common : Common S R) (belongs : K → Bool) (moment step : ℕ) (s : State K V P S R) : Type 0 where
+  pub record IsKept (limit : ℕ) (eq : K → K → Bool) (common : Common S R) (belongs : K → Bool)
+      (moment step : ℕ) (s : State K V P S R) : Type 0 where
     -- tickets were sent in the order in which they were made, and none waits
     pub ordered : IsInOrder s
     pub sent : s.unsent ≡ []

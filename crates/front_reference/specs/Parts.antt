@@ -43,7 +43,8 @@ module _ {V : Type 0} where
   computed_as op.Remove seen (Some v) = did.Removed v
 
   -- what a compute call returns: the closure's error if it failed
-  abbrev pub computed_by : {E : Type 0} → Result (Op V) E → (seen held : Option V) → Result (Computed V) E
+  abbrev pub computed_by : {E : Type 0} → Result (Op V) E → (seen held : Option V)
+      → Result (Computed V) E
   computed_by (Ok does) seen held = Ok (computed_as does seen held)
   computed_by (Err e) seen held = Err e
 
@@ -76,64 +77,82 @@ module _ {K V P S R : Type 0} (answers : Answers K V P R) where
 
   -- a value is written in room that was made, and its write is sent
   abbrev pub put_sent : (K → K → Bool) → K → ℕ → V → ℕ → ℕ → State K V P S R → State K V P S R
-  put_sent eq key hash value now step s = sent s.next_ticket (written answers eq s key hash value now step)
+  put_sent eq key hash value now step s =
+      sent s.next_ticket (written answers eq s key hash value now step)
 
   -- room is made, and a value is written and sent
   abbrev pub inserted : (K → K → Bool) → K → ℕ → V → ℕ → ℕ → State K V P S R → State K V P S R
   inserted eq key hash value now step s = put_sent eq key hash value now step (with_room s)
 
   -- a value is inserted, and then maintenance runs if it is due; at capacity 0 nothing happens
-  pub record Inserts (eq : K → K → Bool) (key : K) (hash : ℕ) (value : V) (now step : ℕ) (old new : State K V P S R) : Type 0 where
+  pub record Inserts (eq : K → K → Bool) (key : K) (hash : ℕ) (value : V) (now step : ℕ)
+      (old new : State K V P S R) : Type 0 where
     pub off : takes_nothing old.settings.capacity ≡ true → new ≡ old
-    pub takes : takes_nothing old.settings.capacity ≡ false → MaintainsIfDue answers now (inserted eq key hash value now step old) new
+    pub takes : takes_nothing old.settings.capacity ≡ false
+        → MaintainsIfDue answers now (inserted eq key hash value now step old) new
 
   -- a value is inserted in room that was made
-  pub record InsertsReserved (eq : K → K → Bool) (key : K) (hash : ℕ) (value : V) (now step : ℕ) (old new : State K V P S R) : Type 0 where
+  pub record InsertsReserved (eq : K → K → Bool) (key : K) (hash : ℕ) (value : V) (now step : ℕ)
+      (old new : State K V P S R) : Type 0 where
     pub off : takes_nothing old.settings.capacity ≡ true → new ≡ old
-    pub takes : takes_nothing old.settings.capacity ≡ false → MaintainsIfDue answers now (put_sent eq key hash value now step old) new
+    pub takes : takes_nothing old.settings.capacity ≡ false
+        → MaintainsIfDue answers now (put_sent eq key hash value now step old) new
 
   -- ---- removing
 
   -- a record is no longer held, and its removal is sent and reported
   abbrev pub taken_out : Record K V → ℕ → State K V P S R → State K V P S R
-  taken_out r now s = removal_told answers r.entry now (sent s.next_ticket (with_removed (Some r) s))
+  taken_out r now s =
+      removal_told answers r.entry now (sent s.next_ticket (with_removed (Some r) s))
 
   -- the key's record is removed, whether its deadline has come or not, and then maintenance runs if it is due; if the key is not held,
   -- nothing happens
   abbrev pub TakesOut : (K → K → Bool) → K → ℕ → State K V P S R → State K V P S R → Type 0
-  TakesOut eq key now old new = MatchOption (held_at eq old.records key) (new ≡ old) (λ r. MaintainsIfDue answers now (taken_out r now old) new)
+  TakesOut eq key now old new =
+      MatchOption (held_at eq old.records key) (new ≡ old)
+      (λ r. MaintainsIfDue answers now (taken_out r now old) new)
 
   -- ---- a look-up with what is done after it
 
-  abbrev pub Operates : (K → K → Bool) → K → ℕ → ℕ → ℕ → Op V → State K V P S R → State K V P S R → Type 0
+  abbrev pub Operates : (K → K → Bool) → K → ℕ → ℕ → ℕ → Op V → State K V P S R → State K V P S R
+      → Type 0
   Operates eq key hash now step op.Nop old new = new ≡ old
   Operates eq key hash now step (op.Put value) old new = Inserts eq key hash value now step old new
   Operates eq key hash now step op.Remove old new = TakesOut eq key now old new
 
   -- the second half of a look-up, and then an operation. Room for this many writes and notices is made before, so that nothing is refused
   -- between them
-  pub record Acts (eq : K → K → Bool) (key : K) (hash now step : ℕ) (ignored : Bool) (does : Op V) (old new : State K V P S R) : Type 0 where
+  pub record Acts (eq : K → K → Bool) (key : K) (hash now step : ℕ) (ignored : Bool) (does : Op V)
+      (old new : State K V P S R) : Type 0 where
     pub rooms : ℕ
     pub mid : State K V P S R
-    pub looks : NotesLookUp answers eq key hash now ignored (record old { reserved = old.reserved + rooms }) mid
+    pub looks : NotesLookUp answers eq key hash now ignored (record old {
+      reserved = old.reserved + rooms;
+    }) mid
     pub operates : Operates eq key hash now step does (freed rooms mid) new
 
   -- ---- coalesced calls
 
   -- a visible value that is not passed over is returned, with its read; otherwise something is made, and if that is a value it is inserted
   -- after the read
-  pub record Coalesces {F : Type 0} (eq : K → K → Bool) (key : K) (hash now step : ℕ) (Ignores : V → Bool → Type 0) (Makes : Made V F → Type 0) (old new : State K V P S R) (answer : Made V F) (is_fresh : Bool) : Type 0 where
+  pub record Coalesces {
+      F : Type 0} (eq : K → K → Bool) (key : K) (hash now step : ℕ) (Ignores : V → Bool → Type 0) (Makes : Made V F → Type 0) (old new : State K V P S R) (answer : Made V F) (is_fresh : Bool) : Type 0 where
     pub ignored : Bool
-    pub asked : (value : V) → visible_value answers eq old now key ≡ Some value → Ignores value ignored
+    pub asked : (value : V) → visible_value answers eq old now key ≡ Some value
+        → Ignores value ignored
     pub ends : MatchOption (past ignored (visible_value answers eq old now key))
-        (Makes answer × (is_fresh ≡ true) × Acts eq key hash now step ignored (op_of_made answer) old new)
-        (λ value. (answer ≡ made.Value value) × (is_fresh ≡ false) × NotesLookUp answers eq key hash now ignored old new)
+        (Makes answer × (is_fresh ≡ true)
+        × Acts eq key hash now step ignored (op_of_made answer) old new)
+        (λ value. (answer ≡ made.Value value) × (is_fresh ≡ false)
+        × NotesLookUp answers eq key hash now ignored old new)
 
   -- ---- compute calls
 
   -- a closure decides by the visible value what is done; it is done after the read
-  pub record Computes {E : Type 0} (eq : K → K → Bool) (key : K) (hash now step : ℕ) (Decides : Option V → Result (Op V) E → Type 0) (old new : State K V P S R) (answer : Result (Computed V) E) : Type 0 where
+  pub record Computes {
+      E : Type 0} (eq : K → K → Bool) (key : K) (hash now step : ℕ) (Decides : Option V → Result (Op V) E → Type 0) (old new : State K V P S R) (answer : Result (Computed V) E) : Type 0 where
     pub decided : Result (Op V) E
     pub decides : Decides (visible_value answers eq old now key) decided
     pub acts : Acts eq key hash now step false (op_decided decided) old new
-    pub gives : answer ≡ computed_by decided (visible_value answers eq old now key) (held_value eq acts.mid key)
+    pub gives : answer ≡ computed_by decided (visible_value answers eq old now key)
+        (held_value eq acts.mid key)

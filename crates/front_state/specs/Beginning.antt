@@ -11,6 +11,9 @@ use Rattle.front_reference.specs.declared.data.TurnStart.{TurnStart}
 
 module _ {K V P S R : Type 0} (ways : Ways K V P S R) where
   -- a compute call waits or leads, and looks nothing up; one that makes a value looks up first
-  abbrev pub BeginsBy : TurnKind → K → (hash : ℕ) → At → (Ignores : V → Bool → Type 0) → Front K V P S R → Front K V P S R → TurnStart V → Type 0
-  BeginsBy Compute key hash at Ignores old new start = (start, new) ≡ begun_compute ways.eq key hash at.now at.step old
-  BeginsBy kind key hash at Ignores old new start = BeginsIn ways kind key hash at Ignores old new start
+  abbrev pub BeginsBy : TurnKind → K → (hash : ℕ) → At → (Ignores : V → Bool → Type 0)
+      → Front K V P S R → Front K V P S R → TurnStart V → Type 0
+  BeginsBy Compute key hash at Ignores old new start =
+      (start, new) ≡ begun_compute ways.eq key hash at.now at.step old
+  BeginsBy kind key hash at Ignores old new start =
+      BeginsIn ways kind key hash at Ignores old new start

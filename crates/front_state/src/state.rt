@@ -83,17 +83,18 @@ impl<K: Eq + Hash, V, S: BuildHasher, R: Rules<K, V>, C> Model for LentState<K, 
       step = c.step;
     } };
 
-    ghost invariant = { λ c. ∥ IsSteadyBy (ways_by R.Rules K.eq K.hash_input S.BuildHasher S.Hasher.Hasher) (record {
-      parts = c.parts.items;
-      bits = c.bits;
-      name = option_map string_bytes c.name;
-      capacity = c.capacity;
-      common = record { settings = c.settings; hasher = c.hasher; rules = c.rules };
-      turns = c.turns;
-      next_turn = c.next_turn;
-      moment = c.moment;
-      step = c.step;
-    }) ∥₁ };
+    ghost invariant = { λ c. ∥ IsSteadyBy
+        (ways_by R.Rules K.eq K.hash_input S.BuildHasher S.Hasher.Hasher) (record {
+          parts = c.parts.items;
+          bits = c.bits;
+          name = option_map string_bytes c.name;
+          capacity = c.capacity;
+          common = record { settings = c.settings; hasher = c.hasher; rules = c.rules };
+          turns = c.turns;
+          next_turn = c.next_turn;
+          moment = c.moment;
+          step = c.step;
+        }) ∥₁ };
 }
 
 impl<K: Eq + Hash, V, S: BuildHasher, R: Rules<K, V>, C> LentState<K, V, S, R, C> {
@@ -103,7 +104,8 @@ impl<K: Eq + Hash, V, S: BuildHasher, R: Rules<K, V>, C> LentState<K, V, S, R, C
     /// cache.insert_with_hash(OwnedKey { key: 7, alloc }, hash, value, at)?;
     /// ```
     pub fn hash(&self, key: &K) -> u64
-        ensures { result ≡ hash_in (ways_by R.Rules K.eq K.hash_input S.BuildHasher S.Hasher.Hasher) self.now key.now }
+        ensures { result ≡ hash_in (ways_by R.Rules K.eq K.hash_input S.BuildHasher S.Hasher.Hasher)
+            self.now key.now }
     {
         hash_key(&self.hasher, key)
     }
@@ -124,8 +126,11 @@ impl<K: Eq + Hash, V, S: BuildHasher, R: Rules<K, V>, C> LentState<K, V, S, R, C
         V: Clone + Drop,
         requires exact { (x y : V) → V.is_clone x y → y ≡ x }
         requires follows { ComesAfter at.now at.step self.old }
-        ensures found { IfOk result (λ found. found ≡ visible_in (ways_by R.Rules K.eq K.hash_input S.BuildHasher S.Hasher.Hasher) self.old at.now key.now) }
-        ensures used { OnOk result (LooksUpIn (ways_by R.Rules K.eq K.hash_input S.BuildHasher S.Hasher.Hasher) key.now at self.old self.new) }
+        ensures found { IfOk result (λ found. found ≡ visible_in (ways_by R.Rules K.eq K.hash_input
+            S.BuildHasher S.Hasher.Hasher) self.old at.now key.now) }
+        ensures used { OnOk result
+            (LooksUpIn (ways_by R.Rules K.eq K.hash_input S.BuildHasher S.Hasher.Hasher) key.now at
+            self.old self.new) }
         ensures err { OnErr result (self.new ≡ self.old) }
         ensures cause { IfErr result (λ e. e ≡ errors.OutOfMemory) }
     {
@@ -146,7 +151,9 @@ impl<K: Eq + Hash, V, S: BuildHasher, R: Rules<K, V>, C> LentState<K, V, S, R, C
     /// }
     /// ```
     pub fn contains_key(&self, key: &K, now: Instant) -> bool
-        ensures { result ≡ is_some (visible_in (ways_by R.Rules K.eq K.hash_input S.BuildHasher S.Hasher.Hasher) self.now now key.now) }
+        ensures { result
+            ≡ is_some (visible_in (ways_by R.Rules K.eq K.hash_input S.BuildHasher S.Hasher.Hasher)
+            self.now now key.now) }
     {
         let hash = hash_key(&self.hasher, key);
         let place = place_of(self.bits, hash);
@@ -165,9 +172,13 @@ impl<K: Eq + Hash, V, S: BuildHasher, R: Rules<K, V>, C> LentState<K, V, S, R, C
         K: Drop,
         V: Drop,
         requires follows { ComesAfter at.now at.step self.old }
-        ensures inserts { OnOk result (InsertsIn (ways_by R.Rules K.eq K.hash_input S.BuildHasher S.Hasher.Hasher) key value at self.old self.new) }
+        ensures inserts { OnOk result
+            (InsertsIn (ways_by R.Rules K.eq K.hash_input S.BuildHasher S.Hasher.Hasher) key value
+            at self.old self.new) }
         ensures err { OnErr result (self.new ≡ self.old) }
-        ensures cause { IfErr result (IsCauseIn (ways_by R.Rules K.eq K.hash_input S.BuildHasher S.Hasher.Hasher) (λ _. 1) self.old key) }
+        ensures cause { IfErr result
+            (IsCauseIn (ways_by R.Rules K.eq K.hash_input S.BuildHasher S.Hasher.Hasher) (λ _. 1)
+            self.old key) }
     {
         let hash = hash_key(&self.hasher, &key);
         let alloc = self.alloc;
@@ -189,12 +200,18 @@ impl<K: Eq + Hash, V, S: BuildHasher, R: Rules<K, V>, C> LentState<K, V, S, R, C
     where
         K: Drop,
         V: Drop,
-        requires hashed { hash ≡ hash_in (ways_by R.Rules K.eq K.hash_input S.BuildHasher S.Hasher.Hasher) self.old (Q.named_key name) }
+        requires hashed { hash
+            ≡ hash_in (ways_by R.Rules K.eq K.hash_input S.BuildHasher S.Hasher.Hasher) self.old
+            (Q.named_key name) }
         requires becomes { Q.can_become name }
         requires follows { ComesAfter at.now at.step self.old }
-        ensures inserts { OnOk result (InsertsIn (ways_by R.Rules K.eq K.hash_input S.BuildHasher S.Hasher.Hasher) (Q.named_key name) value at self.old self.new) }
+        ensures inserts { OnOk result
+            (InsertsIn (ways_by R.Rules K.eq K.hash_input S.BuildHasher S.Hasher.Hasher)
+            (Q.named_key name) value at self.old self.new) }
         ensures err { OnErr result (self.new ≡ self.old) }
-        ensures cause { IfErr result (IsCauseIn (ways_by R.Rules K.eq K.hash_input S.BuildHasher S.Hasher.Hasher) (λ _. 1) self.old (Q.named_key name)) }
+        ensures cause { IfErr result
+            (IsCauseIn (ways_by R.Rules K.eq K.hash_input S.BuildHasher S.Hasher.Hasher) (λ _. 1)
+            self.old (Q.named_key name)) }
     {
         let At { now, step } = at;
         let place = place_of(self.bits, hash);
@@ -216,10 +233,15 @@ impl<K: Eq + Hash, V, S: BuildHasher, R: Rules<K, V>, C> LentState<K, V, S, R, C
         V: Clone + Drop,
         requires exact { (x y : V) → V.is_clone x y → y ≡ x }
         requires follows { ComesAfter at.now at.step self.old }
-        ensures value { IfOk result (λ value. value ≡ held_value_in (ways_by R.Rules K.eq K.hash_input S.BuildHasher S.Hasher.Hasher) self.old key.now) }
-        ensures takes_out { OnOk result (TakesOutIn (ways_by R.Rules K.eq K.hash_input S.BuildHasher S.Hasher.Hasher) key.now at self.old self.new) }
+        ensures value { IfOk result (λ value. value ≡ held_value_in
+            (ways_by R.Rules K.eq K.hash_input S.BuildHasher S.Hasher.Hasher) self.old key.now) }
+        ensures takes_out { OnOk result
+            (TakesOutIn (ways_by R.Rules K.eq K.hash_input S.BuildHasher S.Hasher.Hasher) key.now at
+            self.old self.new) }
         ensures err { OnErr result (self.new ≡ self.old) }
-        ensures cause { IfErr result (IsCauseIn (ways_by R.Rules K.eq K.hash_input S.BuildHasher S.Hasher.Hasher) removal_rooms self.old key.now) }
+        ensures cause { IfErr result
+            (IsCauseIn (ways_by R.Rules K.eq K.hash_input S.BuildHasher S.Hasher.Hasher)
+            removal_rooms self.old key.now) }
     {
         let At { now, step } = at;
         let hash = hash_key(&self.hasher, key);
@@ -241,9 +263,13 @@ impl<K: Eq + Hash, V, S: BuildHasher, R: Rules<K, V>, C> LentState<K, V, S, R, C
         V: Clone + Drop,
         requires exact { (x y : V) → V.is_clone x y → y ≡ x }
         requires follows { ComesAfter at.now at.step self.old }
-        ensures takes_out { OnOk result (TakesOutIn (ways_by R.Rules K.eq K.hash_input S.BuildHasher S.Hasher.Hasher) key.now at self.old self.new) }
+        ensures takes_out { OnOk result
+            (TakesOutIn (ways_by R.Rules K.eq K.hash_input S.BuildHasher S.Hasher.Hasher) key.now at
+            self.old self.new) }
         ensures err { OnErr result (self.new ≡ self.old) }
-        ensures cause { IfErr result (IsCauseIn (ways_by R.Rules K.eq K.hash_input S.BuildHasher S.Hasher.Hasher) removal_rooms self.old key.now) }
+        ensures cause { IfErr result
+            (IsCauseIn (ways_by R.Rules K.eq K.hash_input S.BuildHasher S.Hasher.Hasher)
+            removal_rooms self.old key.now) }
     {
         let hash = hash_key(&self.hasher, key);
         self.invalidate_with_hash(key, hash, at)
@@ -258,12 +284,17 @@ impl<K: Eq + Hash, V, S: BuildHasher, R: Rules<K, V>, C> LentState<K, V, S, R, C
     where
         K: Drop,
         V: Clone + Drop,
-        requires hashed { hash ≡ hash_in (ways_by R.Rules K.eq K.hash_input S.BuildHasher S.Hasher.Hasher) self.old key.now }
+        requires hashed { hash ≡ hash_in
+            (ways_by R.Rules K.eq K.hash_input S.BuildHasher S.Hasher.Hasher) self.old key.now }
         requires exact { (x y : V) → V.is_clone x y → y ≡ x }
         requires follows { ComesAfter at.now at.step self.old }
-        ensures takes_out { OnOk result (TakesOutIn (ways_by R.Rules K.eq K.hash_input S.BuildHasher S.Hasher.Hasher) key.now at self.old self.new) }
+        ensures takes_out { OnOk result
+            (TakesOutIn (ways_by R.Rules K.eq K.hash_input S.BuildHasher S.Hasher.Hasher) key.now at
+            self.old self.new) }
         ensures err { OnErr result (self.new ≡ self.old) }
-        ensures cause { IfErr result (IsCauseIn (ways_by R.Rules K.eq K.hash_input S.BuildHasher S.Hasher.Hasher) removal_rooms self.old key.now) }
+        ensures cause { IfErr result
+            (IsCauseIn (ways_by R.Rules K.eq K.hash_input S.BuildHasher S.Hasher.Hasher)
+            removal_rooms self.old key.now) }
     {
         let At { now, step } = at;
         let place = place_of(self.bits, hash);
@@ -299,14 +330,20 @@ impl<K: Eq + Hash, V, S: BuildHasher, R: Rules<K, V>, C> LentState<K, V, S, R, C
     where
         K: Drop,
         V: Clone + Drop,
-        requires hashed { hash ≡ hash_in (ways_by R.Rules K.eq K.hash_input S.BuildHasher S.Hasher.Hasher) self.old (Q.named_key name) }
+        requires hashed { hash
+            ≡ hash_in (ways_by R.Rules K.eq K.hash_input S.BuildHasher S.Hasher.Hasher) self.old
+            (Q.named_key name) }
         requires becomes { Q.can_become name }
         requires exact { (x y : V) → V.is_clone x y → y ≡ x }
         requires callable { P.IsAlwaysCallable replace_if × M.IsAlwaysCallable make }
         requires follows { ComesAfter at.now at.step self.old }
-        ensures answer { IfOk result (CoalescesBy (ways_by R.Rules K.eq K.hash_input S.BuildHasher S.Hasher.Hasher) (Q.named_key name) at (FnOnceReturnsAt P.FnOnce replace_if) (M.post make) self.old self.new) }
+        ensures answer { IfOk result (CoalescesBy
+            (ways_by R.Rules K.eq K.hash_input S.BuildHasher S.Hasher.Hasher) (Q.named_key name) at
+            (FnOnceReturnsAt P.FnOnce replace_if) (M.post make) self.old self.new) }
         ensures err { OnErr result (self.new ≡ self.old) }
-        ensures cause { IfErr result (IsCauseIn (ways_by R.Rules K.eq K.hash_input S.BuildHasher S.Hasher.Hasher) (λ _. 1) self.old (Q.named_key name)) }
+        ensures cause { IfErr result
+            (IsCauseIn (ways_by R.Rules K.eq K.hash_input S.BuildHasher S.Hasher.Hasher) (λ _. 1)
+            self.old (Q.named_key name)) }
     {
         let At { now, step } = at;
         let place = place_of(self.bits, hash);
@@ -346,14 +383,20 @@ impl<K: Eq + Hash, V, S: BuildHasher, R: Rules<K, V>, C> LentState<K, V, S, R, C
     where
         K: Drop,
         V: Clone + Drop,
-        requires hashed { hash ≡ hash_in (ways_by R.Rules K.eq K.hash_input S.BuildHasher S.Hasher.Hasher) self.old (Q.named_key name) }
+        requires hashed { hash
+            ≡ hash_in (ways_by R.Rules K.eq K.hash_input S.BuildHasher S.Hasher.Hasher) self.old
+            (Q.named_key name) }
         requires becomes { Q.can_become name }
         requires exact { (x y : V) → V.is_clone x y → y ≡ x }
         requires callable { D.IsAlwaysCallable decide }
         requires follows { ComesAfter at.now at.step self.old }
-        ensures computes { IfOk result (ComputesIn (ways_by R.Rules K.eq K.hash_input S.BuildHasher S.Hasher.Hasher) (Q.named_key name) at (D.post decide) self.old self.new) }
+        ensures computes { IfOk result
+            (ComputesIn (ways_by R.Rules K.eq K.hash_input S.BuildHasher S.Hasher.Hasher)
+            (Q.named_key name) at (D.post decide) self.old self.new) }
         ensures err { OnErr result (self.new ≡ self.old) }
-        ensures cause { IfErr result (IsCauseIn (ways_by R.Rules K.eq K.hash_input S.BuildHasher S.Hasher.Hasher) removal_rooms self.old (Q.named_key name)) }
+        ensures cause { IfErr result
+            (IsCauseIn (ways_by R.Rules K.eq K.hash_input S.BuildHasher S.Hasher.Hasher)
+            removal_rooms self.old (Q.named_key name)) }
     {
         let At { now, step } = at;
         let place = place_of(self.bits, hash);
@@ -376,7 +419,9 @@ impl<K: Eq + Hash, V, S: BuildHasher, R: Rules<K, V>, C> LentState<K, V, S, R, C
         K: Drop,
         V: Drop,
         requires { ComesAfter at.now at.step self.old }
-        ensures { CallsAll at.now at.step (RunsPart (answers_of R.weight_of R.created R.read R.updated R.covers) at.now) self.old self.new }
+        ensures { CallsAll at.now at.step
+            (RunsPart (answers_of R.weight_of R.created R.read R.updated R.covers) at.now) self.old
+            self.new }
     {
         let At { now, step } = at;
         run_all(&mut self.parts, now);
@@ -394,7 +439,9 @@ impl<K: Eq + Hash, V, S: BuildHasher, R: Rules<K, V>, C> LentState<K, V, S, R, C
         K: Drop,
         V: Drop,
         requires { ComesAfter at.now at.step self.old }
-        ensures runs { CallsAll at.now at.step (RunsPart (answers_of R.weight_of R.created R.read R.updated R.covers) at.now) self.old self.new }
+        ensures runs { CallsAll at.now at.step
+            (RunsPart (answers_of R.weight_of R.created R.read R.updated R.covers) at.now) self.old
+            self.new }
         ensures made { OnOk result (list_any (λ s. s.table_refused) self.new.parts ≡ false) }
         ensures refused { OnErr result (list_any (λ s. s.table_refused) self.new.parts ≡ true) }
     {

@@ -18,10 +18,14 @@ is_too_long None = false
 is_too_long (Some time) = nat_lt 31536000000000000000 (as_nanos time)
 
 abbrev pub time_fault : (live idle : Option Duration) → Option BuildError
-time_fault live idle = if is_too_long live then Some TimeToLiveTooLong else (if is_too_long idle then Some TimeToIdleTooLong else None)
+time_fault live idle =
+    if is_too_long live then Some TimeToLiveTooLong
+    else (if is_too_long idle then Some TimeToIdleTooLong else None)
 
 abbrev pub segments_fault : ℕ → Option BuildError
-segments_fault segments = if segments == 0 then Some NoSegments else (if nat_lt 65536 segments then Some TooManySegments else None)
+segments_fault segments =
+    if segments == 0 then Some NoSegments
+    else (if nat_lt 65536 segments then Some TooManySegments else None)
 
 abbrev pub first_fault : Option BuildError → Option BuildError → Option BuildError
 first_fault (Some e) other = Some e
@@ -34,11 +38,23 @@ as_limit (Some time) = Some (min (as_nanos time) 18446744073709551614)
 
 -- nothing is set
 abbrev pub blank : Plan
-blank = record { name = None; max_capacity = None; initial_capacity = 0; segments = 1; policy = TinyLfu; expiration = record { time_to_live = None; time_to_idle = None }; tells = false; takes_predicates = false }
+blank =
+    record {
+      name = None;
+      max_capacity = None;
+      initial_capacity = 0;
+      segments = 1;
+      policy = TinyLfu;
+      expiration = record { time_to_live = None; time_to_idle = None };
+      tells = false;
+      takes_predicates = false;
+    }
 
 -- the first thing that is wrong with the settings, if anything is
 abbrev pub fault_of : Plan → Option BuildError
-fault_of p = first_fault (time_fault p.expiration.time_to_live p.expiration.time_to_idle) (segments_fault p.segments)
+fault_of p =
+    first_fault (time_fault p.expiration.time_to_live p.expiration.time_to_idle)
+    (segments_fault p.segments)
 
 -- the settings with which all segments together are created
 abbrev pub settings_of : Plan → (made : ℕ) → Settings
@@ -53,7 +69,8 @@ settings_of p made = record {
 }
 
 -- a new cache of the fewest parts, a power of two, that are at least as many as requested
-pub record IsBuilt {K V Q S X W P F : Type 0} (p : Plan) (expiry : X) (weigher : W) (hasher : S) (moment : ℕ) (f : Front K V Q S (Bundle X W P F)) : Type 0 where
+pub record IsBuilt {K V Q S X W P F : Type 0} (p : Plan) (expiry : X) (weigher : W) (hasher : S)
+    (moment : ℕ) (f : Front K V Q S (Bundle X W P F)) : Type 0 where
   pub rules : Bundle X W P F
   pub expires : rules.expiry ≡ expiry
   pub weighs : rules.weigher ≡ weigher
@@ -63,8 +80,12 @@ pub record IsBuilt {K V Q S X W P F : Type 0} (p : Plan) (expiry : X) (weigher :
   pub made : IsMadeWith (option_map string_bytes p.name) bits (settings_of p moment) hasher rules f
 
 -- the same with plain rules: with this capacity and this many segments, and nothing else set
-pub record IsBuiltPlainly {K V Q S X W P F : Type 0} (max_capacity segments moment : ℕ) (f : Front K V Q S (Bundle X W P F)) : Type 0 where
+pub record IsBuiltPlainly {K V Q S X W P F : Type 0} (max_capacity segments moment : ℕ)
+    (f : Front K V Q S (Bundle X W P F)) : Type 0 where
   pub expiry : X
   pub weigher : W
   pub hasher : S
-  pub built : IsBuilt (record blank { max_capacity = Some max_capacity; segments = segments }) expiry weigher hasher moment f
+  pub built : IsBuilt (record blank {
+    max_capacity = Some max_capacity;
+    segments = segments;
+  }) expiry weigher hasher moment f

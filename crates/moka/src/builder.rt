@@ -117,7 +117,8 @@ impl<X, W, P, F, C> CacheBuilder<X, W, P, F, C> {
     /// let builder = CacheBuilder::default().max_capacity(1000);
     /// ```
     pub fn max_capacity(mut self, max_capacity: u64) -> Self
-        ensures { result ≡ record self { plan = record self.plan { max_capacity = Some max_capacity } } }
+        ensures { result
+            ≡ record self { plan = record self.plan { max_capacity = Some max_capacity } } }
     {
         self.plan.max_capacity = Some(max_capacity);
         self
@@ -128,7 +129,8 @@ impl<X, W, P, F, C> CacheBuilder<X, W, P, F, C> {
     /// let builder = CacheBuilder::new(1000).initial_capacity(100);
     /// ```
     pub fn initial_capacity(mut self, number_of_entries: usize) -> Self
-        ensures { result ≡ record self { plan = record self.plan { initial_capacity = number_of_entries } } }
+        ensures { result
+            ≡ record self { plan = record self.plan { initial_capacity = number_of_entries } } }
     {
         self.plan.initial_capacity = number_of_entries;
         self
@@ -164,7 +166,10 @@ impl<X, W, P, F, C> CacheBuilder<X, W, P, F, C> {
     /// let builder = CacheBuilder::new(1000).time_to_live(Duration::from_secs(60));
     /// ```
     pub fn time_to_live(mut self, duration: Duration) -> Self
-        ensures { result ≡ record self { plan = record self.plan { expiration = record self.plan.expiration { time_to_live = Some duration } } } }
+        ensures { result ≡ record self {
+          plan = record self.plan
+              { expiration = record self.plan.expiration { time_to_live = Some duration } };
+        } }
     {
         self.plan.expiration.set_time_to_live(duration);
         self
@@ -176,7 +181,10 @@ impl<X, W, P, F, C> CacheBuilder<X, W, P, F, C> {
     /// let builder = CacheBuilder::new(1000).time_to_idle(Duration::from_secs(60));
     /// ```
     pub fn time_to_idle(mut self, duration: Duration) -> Self
-        ensures { result ≡ record self { plan = record self.plan { expiration = record self.plan.expiration { time_to_idle = Some duration } } } }
+        ensures { result ≡ record self {
+          plan = record self.plan
+              { expiration = record self.plan.expiration { time_to_idle = Some duration } };
+        } }
     {
         self.plan.expiration.set_time_to_idle(duration);
         self
@@ -280,7 +288,8 @@ impl<X, W, P, F, C> CacheBuilder<X, W, P, F, C> {
         F: Drop,
         ensures built { IfOk result (IsBuilt self.plan self.expiry self.weigher hasher moment) }
         ensures sound { OnOk result (fault_of self.plan ≡ None) }
-        ensures cause { IfErr result (λ e. (fault_of self.plan ≡ Some e) ⊎ ((e ≡ OutOfMemory) × (fault_of self.plan ≡ None))) }
+        ensures cause { IfErr result (λ e. (fault_of self.plan ≡ Some e)
+            ⊎ ((e ≡ OutOfMemory) × (fault_of self.plan ≡ None))) }
     {
         let CacheBuilder {
             plan,

@@ -20,7 +20,8 @@ pub fn next_call<K: Eq + Hash, V, S: BuildHasher, R: Rules<K, V>, C>(
 ) -> Result<At, CacheError>
     ensures follows { IfOk result (λ at. ComesAfter at.now at.step cache.now) }
     ensures rises { IfOk result (λ at. cache.now.step < at.step) }
-    ensures cause { IfErr result (λ e. (e ≡ CacheError.UsedUp) × (cache.now.step ≡ 18446744073709551615)) }
+    ensures cause { IfErr result
+        (λ e. (e ≡ CacheError.UsedUp) × (cache.now.step ≡ 18446744073709551615)) }
 {
     let last = cache.last_call();
     match last.step.checked_add(1) {

@@ -127,7 +127,8 @@ impl<V> Predicate<String, V> for KeyPrefix {
     ghost use Rattle.std.specs.List.{starts_with};
     ghost use Rattle.std.specs.String.{string_bytes};
 
-    ghost covers = { λ prefix key _. starts_with nat_eq (string_bytes key) (string_bytes prefix.0) };
+    ghost covers = { λ prefix key _. starts_with nat_eq (string_bytes key)
+        (string_bytes prefix.0) };
 
     fn is_match(&self, key: &String, _value: &V) -> bool {
         key.as_bytes().starts_with(self.0.as_bytes())

@@ -68,7 +68,8 @@ pub trait NewSegmentedState: Sized {
     ) -> Result<Self, BuildError>
         ensures built { IfOk result (λ state. is_new state max_capacity segments moment) }
         ensures sound { OnOk result (segments_fault segments ≡ None) }
-        ensures cause { IfErr result (λ e. (segments_fault segments ≡ Some e) ⊎ ((e ≡ OutOfMemory) × (segments_fault segments ≡ None))) };
+        ensures cause { IfErr result (λ e. (segments_fault segments ≡ Some e)
+            ⊎ ((e ≡ OutOfMemory) × (segments_fault segments ≡ None))) };
 
     /// Returns a builder with this number of segments, and nothing else set.
     /// ```
@@ -96,7 +97,8 @@ impl<K: Eq + Hash + Drop, V: Drop> NewSegmentedState
     for LentState<K, V, StdHasher, PlainRules, Segmented> {
     ghost use Rattle.moka.specs.Building.{IsBuiltPlainly};
 
-    ghost is_new = { λ state max_capacity segments moment. IsBuiltPlainly max_capacity segments moment state };
+    ghost is_new = { λ state max_capacity segments moment.
+        IsBuiltPlainly max_capacity segments moment state };
 
     fn new(
         alloc: Global,

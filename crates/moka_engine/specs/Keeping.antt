@@ -12,7 +12,8 @@ pub record IsWellKept {K V P S R : Type 0} (s : State K V P S R) : Type 0 where
   pub bounded : AreBounded s
 
 -- maintenance runs if it is due, and then the read of what was found waits to be counted
-pub record NotesRead {K V P S R : Type 0} (answers : Answers K V P R) (found : Option (Record K V)) (hash now : ℕ) (old new : State K V P S R) : Type 0 where
+pub record NotesRead {K V P S R : Type 0} (answers : Answers K V P R) (found : Option (Record K V))
+    (hash now : ℕ) (old new : State K V P S R) : Type 0 where
   pub mid : State K V P S R
   pub maintains : MaintainsIfDue answers now old mid
   pub reads : new ≡ with_read answers found hash now mid

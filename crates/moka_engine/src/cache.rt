@@ -60,7 +60,8 @@ impl<K: Eq + Hash, V, S: BuildHasher, R: Rules<K, V>> BaseCache<K, V, S, R> {
     where
         S: Drop,
         R: Drop,
-        ensures { IfOk result (λ made. IsNew (option_map string_bytes name) settings hasher rules made) }
+        ensures { IfOk result
+            (λ made. IsNew (option_map string_bytes name) settings hasher rules made) }
     {
         let mut tables = Tables::new(alloc, name, settings, hasher, rules)?;
         let _has_space = tables.make_space(initial_capacity);
@@ -117,8 +118,10 @@ impl<K: Eq + Hash, V, S: BuildHasher, R: Rules<K, V>> BaseCache<K, V, S, R> {
     pub fn reserve_write(&mut self) -> Result<(), Refusal>
         ensures ok { OnOk result (self.new ≡ with_room self.old) }
         ensures err { OnErr result (self.new ≡ self.old) }
-        ensures used_up { IsErrOf result Refusal.UsedUp → 2 ^ 64 ≤ self.old.next_ticket + self.old.reserved + 1 }
-        ensures only { OnErr result ((IsErrOf result Refusal.OutOfMemory) ⊎ (IsErrOf result Refusal.UsedUp)) }
+        ensures used_up { IsErrOf result Refusal.UsedUp
+            → 2 ^ 64 ≤ self.old.next_ticket + self.old.reserved + 1 }
+        ensures only { OnErr result
+            ((IsErrOf result Refusal.OutOfMemory) ⊎ (IsErrOf result Refusal.UsedUp)) }
     {
         self.tables.make_room(1)?;
         Ok(())
@@ -126,8 +129,11 @@ impl<K: Eq + Hash, V, S: BuildHasher, R: Rules<K, V>> BaseCache<K, V, S, R> {
 
     /// Returns whether a key has a visible value. This does not count as a use of it.
     pub fn contains_key_with_hash<Q: Names<K>>(&self, key: &Q, hash: u64, now: Instant) -> bool
-        requires hashed { hash ≡ hash_of_key S.Hasher.finish S.Hasher.write S.build_hasher K.hash_input self.now.hasher (Q.named_key key.now) }
-        ensures { result ≡ is_some (visible_record (answers_of R.weight_of R.created R.read R.updated R.covers) K.eq self.now now (Q.named_key key.now)) }
+        requires hashed { hash ≡ hash_of_key S.Hasher.finish S.Hasher.write S.build_hasher
+            K.hash_input self.now.hasher (Q.named_key key.now) }
+        ensures { result
+            ≡ is_some (visible_record (answers_of R.weight_of R.created R.read R.updated R.covers)
+            K.eq self.now now (Q.named_key key.now)) }
     {
         look_up(&self.tables, key, hash, now.as_nanos()).is_some()
     }
@@ -141,9 +147,11 @@ impl<K: Eq + Hash, V, S: BuildHasher, R: Rules<K, V>> BaseCache<K, V, S, R> {
     ) -> Result<Option<V>, AllocError>
     where
         V: Clone,
-        requires hashed { hash ≡ hash_of_key S.Hasher.finish S.Hasher.write S.build_hasher K.hash_input self.now.hasher (Q.named_key key.now) }
+        requires hashed { hash ≡ hash_of_key S.Hasher.finish S.Hasher.write S.build_hasher
+            K.hash_input self.now.hasher (Q.named_key key.now) }
         requires exact { (x y : V) → V.is_clone x y → y ≡ x }
-        ensures { IfOk result (λ found. found ≡ visible_value (answers_of R.weight_of R.created R.read R.updated R.covers) K.eq self.now now (Q.named_key key.now)) }
+        ensures { IfOk result (λ found. found ≡ visible_value (answers_of R.weight_of R.created
+            R.read R.updated R.covers) K.eq self.now now (Q.named_key key.now)) }
     {
         clone_value(look_up(&self.tables, key, hash, now.as_nanos()))
     }
@@ -162,10 +170,13 @@ impl<K: Eq + Hash, V, S: BuildHasher, R: Rules<K, V>> BaseCache<K, V, S, R> {
     where
         K: Drop,
         V: Drop,
-        requires hashed { hash ≡ hash_of_key S.Hasher.finish S.Hasher.write S.build_hasher K.hash_input self.old.hasher key }
+        requires hashed { hash ≡ hash_of_key S.Hasher.finish S.Hasher.write S.build_hasher
+            K.hash_input self.old.hasher key }
         requires room { 0 < self.old.reserved }
         ensures ticket { result ≡ self.old.next_ticket }
-        ensures written { self.new ≡ written (answers_of R.weight_of R.created R.read R.updated R.covers) K.eq self.old key hash value now step }
+        ensures written { self.new
+            ≡ written (answers_of R.weight_of R.created R.read R.updated R.covers) K.eq self.old key
+            hash value now step }
     {
         let _moment = now.as_nanos();
         let ticket = self.tables.next_ticket();
@@ -179,7 +190,8 @@ impl<K: Eq + Hash, V, S: BuildHasher, R: Rules<K, V>> BaseCache<K, V, S, R> {
         K: Drop,
         V: Drop,
         requires room { self.old.settings.tells ≡ true → 0 < self.old.reserved }
-        ensures { self.new ≡ removal_told (answers_of R.weight_of R.created R.read R.updated R.covers) entry now self.old }
+        ensures { self.new ≡ removal_told
+            (answers_of R.weight_of R.created R.read R.updated R.covers) entry now self.old }
     {
         tell_removed(&mut self.tables, entry, now);
     }
@@ -189,9 +201,12 @@ impl<K: Eq + Hash, V, S: BuildHasher, R: Rules<K, V>> BaseCache<K, V, S, R> {
         ensures ok { OnOk result (self.new ≡ sent ticket self.old) }
         ensures known { OnOk result (is_some (unsent_at self.old.unsent ticket) ≡ true) }
         ensures err { OnErr result (self.new ≡ self.old) }
-        ensures unknown { IsErrOf result Refusal.UnknownTicket → unsent_at self.old.unsent ticket ≡ None }
-        ensures full { IsErrOf result Refusal.QueueFull → (is_some (unsent_at self.old.unsent ticket) ≡ true) × (is_full self.old ≡ true) }
-        ensures only { OnErr result ((IsErrOf result Refusal.UnknownTicket) ⊎ (IsErrOf result Refusal.QueueFull)) }
+        ensures unknown { IsErrOf result Refusal.UnknownTicket
+            → unsent_at self.old.unsent ticket ≡ None }
+        ensures full { IsErrOf result Refusal.QueueFull
+            → (is_some (unsent_at self.old.unsent ticket) ≡ true) × (is_full self.old ≡ true) }
+        ensures only { OnErr result
+            ((IsErrOf result Refusal.UnknownTicket) ⊎ (IsErrOf result Refusal.QueueFull)) }
     {
         self.tables.send(ticket)
     }
@@ -205,9 +220,12 @@ impl<K: Eq + Hash, V, S: BuildHasher, R: Rules<K, V>> BaseCache<K, V, S, R> {
     where
         K: Drop,
         V: Drop,
-        ensures runs { RunsToEnd (answers_of R.weight_of R.created R.read R.updated R.covers) now self.old self.new }
-        ensures counts { self.old.unsent ≡ [] → CountsExactly K V R.Predicate S R (answers_of R.weight_of R.created R.read R.updated R.covers) self.new }
-        ensures due { (moment step : ℕ) → IsTimely moment step self.old → moment ≤ now → now ≤ 9223372036854775807 → LeavesNoneDue now self.new }
+        ensures runs { RunsToEnd (answers_of R.weight_of R.created R.read R.updated R.covers) now
+            self.old self.new }
+        ensures counts { self.old.unsent ≡ [] → CountsExactly K V R.Predicate S R
+            (answers_of R.weight_of R.created R.read R.updated R.covers) self.new }
+        ensures due { (moment step : ℕ) → IsTimely moment step self.old → moment ≤ now
+            → now ≤ 9223372036854775807 → LeavesNoneDue now self.new }
         ensures made { OnOk result (self.new.table_refused ≡ false) }
         ensures refused { OnErr result (self.new.table_refused ≡ true) }
     {
@@ -219,9 +237,12 @@ impl<K: Eq + Hash, V, S: BuildHasher, R: Rules<K, V>> BaseCache<K, V, S, R> {
     where
         K: Drop,
         V: Drop,
-        ensures runs { RunsToEnd (answers_of R.weight_of R.created R.read R.updated R.covers) now self.old self.new }
-        ensures counts { self.old.unsent ≡ [] → CountsExactly K V R.Predicate S R (answers_of R.weight_of R.created R.read R.updated R.covers) self.new }
-        ensures due { (moment step : ℕ) → IsTimely moment step self.old → moment ≤ now → now ≤ 9223372036854775807 → LeavesNoneDue now self.new }
+        ensures runs { RunsToEnd (answers_of R.weight_of R.created R.read R.updated R.covers) now
+            self.old self.new }
+        ensures counts { self.old.unsent ≡ [] → CountsExactly K V R.Predicate S R
+            (answers_of R.weight_of R.created R.read R.updated R.covers) self.new }
+        ensures due { (moment step : ℕ) → IsTimely moment step self.old → moment ≤ now
+            → now ≤ 9223372036854775807 → LeavesNoneDue now self.new }
     {
         run(&mut self.tables, now.as_nanos());
     }
@@ -238,7 +259,8 @@ impl<K: Eq + Hash, V, S: BuildHasher, R: Rules<K, V>> BaseCache<K, V, S, R> {
     where
         K: Drop,
         V: Drop,
-        ensures due { MaintainsIfDue (answers_of R.weight_of R.created R.read R.updated R.covers) now self.old self.new }
+        ensures due { MaintainsIfDue (answers_of R.weight_of R.created R.read R.updated R.covers)
+            now self.old self.new }
         ensures room { length self.new.reads < 64 }
     {
         run_if_due(&mut self.tables, now.as_nanos());

@@ -14,7 +14,8 @@ pub fn value_in<K: Eq + Hash, V, S: BuildHasher, R: Rules<K, V>>(
     place: Option<usize>,
 ) -> Option<&V>
     requires { (hash : ℕ) × (o : Option (Record K V)) × WasFound tables.now hash place o }
-    ensures { (hash : ℕ) (o : Option (Record K V)) → WasFound tables.now hash place o → option_map (λ value. value.now) result ≡ option_map (λ r. r.entry.value) o }
+    ensures { (hash : ℕ) (o : Option (Record K V)) → WasFound tables.now hash place o
+        → option_map (λ value. value.now) result ≡ option_map (λ r. r.entry.value) o }
 {
     match place {
         Some(place) => Some(&tables.record_in(place).entry.value),
@@ -29,7 +30,8 @@ pub fn show<V, O, T, E, F: FnOnce(Option<&V>, &mut O) -> Result<T, E> + Drop>(
     see: F,
 ) -> Result<T, E>
     requires { F.IsAlwaysCallable see }
-    ensures { IsShown F.FnOnce see (option_map (λ value. value.now) found.entry) output.old result output.new }
+    ensures { IsShown F.FnOnce see (option_map (λ value. value.now) found.entry) output.old result
+        output.new }
 {
     see(found, output)
 }

@@ -13,5 +13,8 @@ IsMakingRefusal None e = IsShortage e
 IsMakingRefusal (Some kind) e = IsTurnRefusal e
 
 -- what is returned as fresh was made; nothing is said about what was seen
-abbrev pub GivesFresh : {V F E : Type 0} → (Ignores : V → Bool → Type 0) → (Makes : Result (Made V F) E → Type 0) → Made V F → (is_fresh : Bool) → Type 0
-GivesFresh Ignores Makes answer is_fresh = Gives (λ seen. Unit {0}) (λ ignored made fresh. Unit {0}) Ignores (λ made. Makes (Ok made)) answer is_fresh
+abbrev pub GivesFresh : {V F E : Type 0} → (Ignores : V → Bool → Type 0)
+    → (Makes : Result (Made V F) E → Type 0) → Made V F → (is_fresh : Bool) → Type 0
+GivesFresh Ignores Makes answer is_fresh =
+    Gives (λ seen. Unit {0}) (λ ignored made fresh. Unit {0}) Ignores (λ made. Makes (Ok made))
+    answer is_fresh

@@ -12,7 +12,8 @@ use Rattle.moka_sync.specs.declared.turns.MakingStart.TheVariants.{Answered, Led
 use Rattle.sync_desk.specs.Slots.Endings.{suits}
 
 -- a closure decided about something that it was shown, and what it decided was done; or its error is returned
-abbrev pub DoesAsDecided : {V E : Type 0} → (Says : Option V → Result (Op V) E → Type 0) → Result (Computed V) E → Type 0
+abbrev pub DoesAsDecided : {V E : Type 0} → (Says : Option V → Result (Op V) E → Type 0)
+    → Result (Computed V) E → Type 0
 DoesAsDecided Says answer = Decides (λ seen. Unit {0}) (λ does done. Unit {0}) Says answer
 
 module _ {V F : Type 0} where
@@ -31,6 +32,7 @@ module _ {V F : Type 0} where
   MayMake kind Makes = (made : Made V F) → Makes (Ok made) → suits kind made ≡ true
 
   -- what is returned is a result with which a turn of the kind may end; if it is fresh, it was made here
-  pub record IsAnswer (kind : TurnKind) (Makes : Result (Made V F) AllocError → Type 0) (answer : Made V F) (is_fresh : Bool) : Type 0 where
+  pub record IsAnswer (kind : TurnKind) (Makes : Result (Made V F) AllocError → Type 0)
+      (answer : Made V F) (is_fresh : Bool) : Type 0 where
     pub suits : suits kind answer ≡ true
     pub made : is_fresh ≡ true → Makes (Ok answer)

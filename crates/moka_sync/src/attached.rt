@@ -106,7 +106,8 @@ impl<
         requires exact { (x y : V) → V.is_clone x y → y ≡ x }
         requires callable { P.IsAlwaysCallable replace_if × M.IsAlwaysCallable make }
         requires suitable { (made : Made V R.Fault) → M.post make (Ok made) → Suits kind made }
-        ensures gives { IfOk result (λ a. GivesFresh (FnOnceReturnsAt P.FnOnce replace_if) (M.post make) a.0 a.1) }
+        ensures gives { IfOk result
+            (λ a. GivesFresh (FnOnceReturnsAt P.FnOnce replace_if) (M.post make) a.0 a.1) }
         ensures suits { IfOk result (λ a. Suits kind a.0) }
         ensures cause { IfErr result (IsMakingRefusal kind) }
     {
@@ -236,7 +237,8 @@ impl<
         requires exact { (x y : V) → V.is_clone x y → y ≡ x }
         requires callable { P.IsAlwaysCallable replace_if × M.IsAlwaysCallable make }
         requires suitable { (made : Made V R.Fault) → M.post make (Ok made) → Suits kind made }
-        ensures gives { IfOk result (λ a. GivesFresh (FnOnceReturnsAt P.FnOnce replace_if) (M.post make) a.0 a.1) }
+        ensures gives { IfOk result
+            (λ a. GivesFresh (FnOnceReturnsAt P.FnOnce replace_if) (M.post make) a.0 a.1) }
         ensures suits { IfOk result (λ a. Suits kind a.0) }
         ensures err { OnErr result (self.new ≡ self.old) }
         ensures cause { IfErr result (IsMakingRefusal kind) }

@@ -40,7 +40,8 @@ pub trait Build<K: Eq + Hash, V>: Sized {
         env: E,
     ) -> Result<SharedCache<K, V, StdHasher, Self::Rules, E, Self::Form>, BuildError>
         ensures sound { OnOk result (fault self ≡ None) }
-        ensures cause { IfErr result (λ e. (fault self ≡ Some e) ⊎ ((e ≡ OutOfMemory) × (fault self ≡ None))) };
+        ensures cause { IfErr result
+            (λ e. (fault self ≡ Some e) ⊎ ((e ≡ OutOfMemory) × (fault self ≡ None))) };
 
     /// Like `build`, with another hasher.
     /// ```
@@ -54,7 +55,8 @@ pub trait Build<K: Eq + Hash, V>: Sized {
         env: E,
     ) -> Result<SharedCache<K, V, S, Self::Rules, E, Self::Form>, BuildError>
         ensures sound { OnOk result (fault self ≡ None) }
-        ensures cause { IfErr result (λ e. (fault self ≡ Some e) ⊎ ((e ≡ OutOfMemory) × (fault self ≡ None))) };
+        ensures cause { IfErr result
+            (λ e. (fault self ≡ Some e) ⊎ ((e ≡ OutOfMemory) × (fault self ≡ None))) };
 }
 
 impl<
@@ -143,7 +145,8 @@ impl<K: Eq + Hash + Drop, V: Clone + Drop, E: Env + Drop> SharedCache<
         env: E,
     ) -> Result<Self, BuildError>
         ensures sound { OnOk result (segments_fault segments ≡ None) }
-        ensures cause { IfErr result (λ e. (segments_fault segments ≡ Some e) ⊎ ((e ≡ OutOfMemory) × (segments_fault segments ≡ None))) }
+        ensures cause { IfErr result (λ e. (segments_fault segments ≡ Some e)
+            ⊎ ((e ≡ OutOfMemory) × (segments_fault segments ≡ None))) }
     {
         CacheBuilder::new(max_capacity)
             .segments(segments)

@@ -22,7 +22,9 @@ half c = c / 2
 
 -- the multiplier of the i-th count of a hash
 abbrev pub multiplier : ℕ → ℕ
-multiplier i = if i == 0 then 0xc3a5c85c97cb3127 else (if i == 1 then 0xb492b66fbe98f273 else (if i == 2 then 0x9ae16a3b2f90404f else 0xcbf29ce484222325))
+multiplier i =
+    if i == 0 then 0xc3a5c85c97cb3127 else (if i == 1 then 0xb492b66fbe98f273
+    else (if i == 2 then 0x9ae16a3b2f90404f else 0xcbf29ce484222325))
 
 -- the spread hash
 abbrev pub spread : ℕ → ℕ → ℕ
@@ -34,7 +36,9 @@ place z h i = 16 * (spread h i % z) + (4 * (h % 4) + i)
 
 -- one more at a place, up to 15
 abbrev pub bump : List ℕ → ℕ → List ℕ
-bump counts k = if nat_lt (slice_index counts k) 15 then slice_set counts k (slice_index counts k + 1) else counts
+bump counts k =
+    if nat_lt (slice_index counts k) 15 then slice_set counts k (slice_index counts k + 1)
+    else counts
 
 -- the count of a place
 abbrev pub count : Sketch → ℕ → ℕ → ℕ
@@ -43,19 +47,26 @@ count s h i = slice_index s.counts (place s.words h i)
 -- the smallest of the four counts of a hash, in a table of z words
 abbrev pub least_in : ℕ → List ℕ → ℕ → ℕ
 least_in z counts h =
-    min (min (slice_index counts (place z h 0)) (slice_index counts (place z h 1))) (min (slice_index counts (place z h 2)) (slice_index counts (place z h 3)))
+    min (min (slice_index counts (place z h 0)) (slice_index counts (place z h 1)))
+    (min (slice_index counts (place z h 2)) (slice_index counts (place z h 3)))
 
 -- the same, of a sketch
 abbrev pub frequency_of : Sketch → ℕ → ℕ
-frequency_of s h = if s.words == 0 then 0 else min (min (count s h 0) (count s h 1)) (min (count s h 2) (count s h 3))
+frequency_of s h =
+    if s.words == 0 then 0
+    else min (min (count s h 0) (count s h 1)) (min (count s h 2) (count s h 3))
 
 -- one of the four counts of a hash is below 15
 abbrev pub can_grow_in : ℕ → List ℕ → ℕ → Bool
-can_grow_in z counts h = nat_lt (slice_index counts (place z h 0)) 15 || nat_lt (slice_index counts (place z h 1)) 15 || nat_lt (slice_index counts (place z h 2)) 15 || nat_lt (slice_index counts (place z h 3)) 15
+can_grow_in z counts h =
+    nat_lt (slice_index counts (place z h 0)) 15 || nat_lt (slice_index counts (place z h 1)) 15
+    || nat_lt (slice_index counts (place z h 2)) 15
+    || nat_lt (slice_index counts (place z h 3)) 15
 
 -- one more in each of the four
 abbrev pub bumped_in : ℕ → List ℕ → ℕ → List ℕ
-bumped_in z counts h = bump (bump (bump (bump counts (place z h 0)) (place z h 1)) (place z h 2)) (place z h 3)
+bumped_in z counts h =
+    bump (bump (bump (bump counts (place z h 0)) (place z h 1)) (place z h 2)) (place z h 3)
 
 abbrev pub can_grow : Sketch → ℕ → Bool
 can_grow s h = can_grow_in s.words s.counts h
@@ -65,19 +76,31 @@ bumped s h = bumped_in s.words s.counts h
 
 -- every count and the size are halved once the size reaches the sample
 abbrev pub aged : Sketch → Sketch
-aged s = if nat_lt s.size s.sample then s else record s { counts = map half s.counts; size = s.size / 2 }
+aged s =
+    if nat_lt s.size s.sample then s else record s { counts = map half s.counts; size = s.size / 2 }
 
 -- the sketch after one increment
 abbrev pub incremented : Sketch → ℕ → Sketch
-incremented s h = if s.words == 0 then s else (aged (record s { counts = bumped s h; size = s.size + (if can_grow s h then 1 else 0) }))
+incremented s h =
+    if s.words == 0 then s else (aged (record s {
+      counts = bumped s h;
+      size = s.size + (if can_grow s h then 1 else 0);
+    }))
 
 -- the sketch that a table of words, a size and a sample represent
 abbrev pub sketch_of : ℕ → List ℕ → ℕ → ℕ → Sketch
-sketch_of words table size sample = record { words = words; counts = counts_of table; size = size; sample = sample }
+sketch_of words table size sample =
+    record { words = words; counts = counts_of table; size = size; sample = sample }
 
 -- a table of this many words, made for this many hashes
 abbrev pub fresh : ℕ → ℕ → Sketch
-fresh words capacity = record { words = words; counts = replicate (16 * words) 0; size = 0; sample = max (10 * min capacity (2 ^ 24)) 10 }
+fresh words capacity =
+    record {
+      words = words;
+      counts = replicate (16 * words) 0;
+      size = 0;
+      sample = max (10 * min capacity (2 ^ 24)) 10;
+    }
 
 -- the sketch once there is a table of this many words, or a larger one
 abbrev pub grown : Sketch → ℕ → ℕ → Sketch

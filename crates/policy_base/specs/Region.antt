@@ -20,4 +20,5 @@ name_of Other = codes "other"
 
 -- the two name the same node
 abbrev pub same_id : NodeId → NodeId → Bool
-same_id a b = eqb a.serial b.serial && (eqb a.slot b.slot && eqb (region_code a.queue) (region_code b.queue))
+same_id a b =
+    eqb a.serial b.serial && (eqb a.slot b.slot && eqb (region_code a.queue) (region_code b.queue))

@@ -33,7 +33,8 @@ impl HousekeeperConfig {
 }
 
 impl Default for HousekeeperConfig {
-    ghost is_default = { λ c. (as_nanos c.maintenance_task_timeout ≡ 100_000_000) × (c.max_log_sync_repeats ≡ 4) × (c.eviction_batch_size ≡ 500) };
+    ghost is_default = { λ c. (as_nanos c.maintenance_task_timeout ≡ 100_000_000)
+        × (c.max_log_sync_repeats ≡ 4) × (c.eviction_batch_size ≡ 500) };
 
     /// A tenth of a second, 4 and 500.
     fn default() -> Self {

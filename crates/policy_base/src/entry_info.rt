@@ -112,7 +112,8 @@ impl<K> EntryInfo<K> {
 
     /// Counts a write, and returns its number.
     pub fn incr_entry_gen(&mut self) -> Result<u64, UsedUp>
-        ensures counted { IfOk result (λ v. (v ≡ self.old.entry_gen + 1) × (self.new ≡ record self.old { entry_gen = v })) }
+        ensures counted { IfOk result
+            (λ v. (v ≡ self.old.entry_gen + 1) × (self.new ≡ record self.old { entry_gen = v })) }
         ensures refused { IsErr result ↔ (self.old.entry_gen ≡ u64.MAX) }
         ensures unchanged { OnErr result (self.new ≡ self.old) }
     {
@@ -132,7 +133,8 @@ impl<K> EntryInfo<K> {
 
     /// Notes that a write was applied, unless one with a higher number was.
     pub fn set_policy_gen(&mut self, value: u64)
-        ensures { self.new ≡ (if nat_lt self.old.policy_gen value then record self.old { policy_gen = value } else self.old) }
+        ensures { self.new ≡ (if nat_lt self.old.policy_gen value
+            then record self.old { policy_gen = value } else self.old) }
     {
         if self.policy_gen < value {
             self.policy_gen = value;
@@ -207,7 +209,11 @@ impl<K> EntryInfo<K> {
 
     /// Sets the entry's own expiration, rounded down to a multiple of 4096 nanoseconds, and starts its next generation.
     pub fn set_expiration_time(&mut self, time: Option<Instant>)
-        ensures { self.new ≡ record self.old { expiration_time = option_map kept_time time; expiry_gen = (self.old.expiry_gen + 1) % 4096 } }
+        ensures { self.new ≡ record self.old {
+          expiration_time
+              = option_map kept_time time;
+          expiry_gen = (self.old.expiry_gen + 1) % 4096;
+        } }
     {
         self.expiration_time = match time {
             Some(moment) => Some(kept(moment)),

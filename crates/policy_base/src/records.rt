@@ -248,7 +248,8 @@ impl DeqNodes {
 }
 
 impl Default for DeqNodes {
-    ghost is_default = { λ nodes. nodes ≡ record { access_queue = None; write_queue = None; timer = None } };
+    ghost is_default = { λ nodes. nodes
+        ≡ record { access_queue = None; write_queue = None; timer = None } };
 
     /// No place.
     fn default() -> Self {
@@ -271,7 +272,8 @@ impl<K> Slot<K> {
     /// Creates an entry that has no place yet.
     pub fn new(info: EntryInfo<K>) -> Self
         ensures info { result.info ≡ info }
-        ensures nodes { result.nodes ≡ record { access_queue = None; write_queue = None; timer = None } }
+        ensures nodes { result.nodes
+            ≡ record { access_queue = None; write_queue = None; timer = None } }
     {
         Slot {
             info,

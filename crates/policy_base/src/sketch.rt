@@ -19,7 +19,8 @@ fn count_at(word: u64, i: u32) -> u8
 fn with_one_more(word: u64, i: u32) -> u64
     requires index { i < 16 }
     requires below { slice_index (nibbles 16 word) i < 15 }
-    ensures { nibbles 16 result ≡ slice_set (nibbles 16 word) i (slice_index (nibbles 16 word) i + 1) }
+    ensures { nibbles 16 result
+        ≡ slice_set (nibbles 16 word) i (slice_index (nibbles 16 word) i + 1) }
 {
     word + (1u64 << (4 * i))
 }
@@ -73,9 +74,15 @@ impl Model for FrequencySketch {
 
     ghost Value = { Sketch };
 
-    ghost view = { λ s. record { words = vec_len s.table; counts = counts_of s.table.items; size = s.size; sample = s.sample } };
+    ghost view = { λ s. record {
+      words = vec_len s.table;
+      counts = counts_of s.table.items;
+      size = s.size;
+      sample = s.sample;
+    } };
 
-    ghost invariant = { λ s. (s.size < s.sample) × (s.sample < 2 ^ 32) × (0 < vec_len s.table → IsPowerOfTwo (vec_len s.table)) };
+    ghost invariant = { λ s. (s.size < s.sample) × (s.sample < 2 ^ 32)
+        × (0 < vec_len s.table → IsPowerOfTwo (vec_len s.table)) };
 }
 
 /// The word of the `i`-th count of a hash, in a table with this number of words.
@@ -155,7 +162,8 @@ fn counted(table: &mut [u64], size: u64, sample: u64, hash: u64) -> u64
     requires power { IsPowerOfTwo (length table.old) }
     requires size { size < sample }
     requires sample { sample < 2 ^ 32 }
-    ensures sketch { sketch_of (length table.new) table.new result sample ≡ incremented (sketch_of (length table.old) table.old size sample) hash }
+    ensures sketch { sketch_of (length table.new) table.new result sample
+        ≡ incremented (sketch_of (length table.old) table.old size sample) hash }
     ensures fits { result < sample }
 {
     let grew = bump_all(table, hash);
@@ -172,7 +180,8 @@ fn make_table(table: &mut Vec<u64>, words: usize) -> Result<(), AllocError>
     requires { vec_len table.old ≤ words }
     ensures len { OnOk result (vec_len table.new ≡ words) }
     ensures zeros { OnOk result (table.new.items ≡ replicate words 0) }
-    ensures err { OnErr result ((table.new.items ≡ table.old.items) × (vec_len table.new ≡ vec_len table.old)) }
+    ensures err { OnErr result
+        ((table.new.items ≡ table.old.items) × (vec_len table.new ≡ vec_len table.old)) }
 {
     table.resize(words, 0)?;
     table.as_mut_slice().fill(0);
@@ -203,9 +212,11 @@ impl FrequencySketch {
     /// Creates a table for this many hashes, unless there is one as large: as many words as the next power of two, at most
     /// 2^24. The counts start again at 0.
     pub fn ensure_capacity(&mut self, capacity: u32) -> Result<(), AllocError>
-        ensures grown { OnOk result ((words : ℕ) × IsNextPowerOfTwo (min capacity (2 ^ 24)) words × (self.new ≡ grown self.old words capacity)) }
+        ensures grown { OnOk result ((words : ℕ) × IsNextPowerOfTwo (min capacity (2 ^ 24)) words
+            × (self.new ≡ grown self.old words capacity)) }
         ensures err { OnErr result (self.new ≡ self.old) }
-        ensures err_where_larger { OnErr result ((words : ℕ) × IsNextPowerOfTwo (min capacity (2 ^ 24)) words × (self.old.words < words)) }
+        ensures err_where_larger { OnErr result ((words : ℕ)
+            × IsNextPowerOfTwo (min capacity (2 ^ 24)) words × (self.old.words < words)) }
     {
         let words = wanted_words(capacity);
         if words <= self.table.len() {
@@ -250,7 +261,9 @@ impl FrequencySketch {
 /// A hash's frequency is at least its own count, whatever hashes are counted: one more each time it is counted, at most 15, and halved at
 /// each aging.
 pub fn own_counts_stand(sketch: &FrequencySketch)
-    ensures { (hash own : ℕ) (hashes : List ℕ) → 0 < sketch.now.words → own ≤ frequency_of sketch.now hash → own_count sketch.now hash own hashes ≤ frequency_of (after sketch.now hashes) hash }
+    ensures { (hash own : ℕ) (hashes : List ℕ) → 0 < sketch.now.words
+        → own ≤ frequency_of sketch.now hash → own_count sketch.now hash own hashes
+        ≤ frequency_of (after sketch.now hashes) hash }
 {
     let _ = &sketch.table;
 }

@@ -54,13 +54,16 @@ order (p ∷ rest) = if eqb p vacant then order rest else p ∷ order rest
 
 -- each index has its place as its seat, and each seat that is taken names the place of its index
 pub record AreSeated (places seats : List ℕ) : Type 0 where
-  pub placed : (k : ℕ) → slice_index_or places k vacant ≢ vacant → slice_index_or seats (slice_index_or places k vacant) vacant ≡ k
-  pub seated : (index : ℕ) → slice_index_or seats index vacant ≢ vacant → slice_index_or places (slice_index_or seats index vacant) vacant ≡ index
+  pub placed : (k : ℕ) → slice_index_or places k vacant ≢ vacant
+      → slice_index_or seats (slice_index_or places k vacant) vacant ≡ k
+  pub seated : (index : ℕ) → slice_index_or seats index vacant ≢ vacant
+      → slice_index_or places (slice_index_or seats index vacant) vacant ≡ index
 
 -- there are indices in the place `front`, with none before it, and in the last place
 pub record Ends (places : List ℕ) (front : ℕ) : Type 0 where
   pub before : (j : ℕ) → j < front → slice_index_or places j vacant ≡ vacant
-  pub first : 0 < length places → (front < length places) × (slice_index_or places front vacant ≢ vacant)
+  pub first : 0 < length places → (front < length places)
+      × (slice_index_or places front vacant ≢ vacant)
   pub last : 0 < length places → slice_index_or places (length places - 1) vacant ≢ vacant
   pub none : length places ≡ 0 → front ≡ 0
 
@@ -124,7 +127,8 @@ abbrev pub indices_for : ℕ → ℕ
 indices_for capacity = if nat_lt capacity (2 ^ 32 - 1) then capacity / 2 else 2 ^ 32 - 2
 
 -- the array of a queue, with places enough
-pub record IsIndexed (places : List ℕ) (capacity : ℕ) (seats : List ℕ) (len : ℕ) (cursors : Cursors) : Type 0 where
+pub record IsIndexed (places : List ℕ) (capacity : ℕ) (seats : List ℕ) (len : ℕ) (cursors : Cursors)
+    : Type 0 where
   pub arranged : AreArranged places seats cursors
   pub counted : len ≡ length (order places)
   pub enough : len ≤ indices_for capacity

@@ -116,7 +116,8 @@ with_node_at_back id nodes = without_node id nodes ++ option_to_list (find id no
 -- the node of this name was moved to the back: the cursor moves on if it was there, but not from the last node
 pub record MovesToBack {T : Type 0} (old new : Queue T) (id : NodeId) : Type 0 where
   pub nodes : new.nodes ≡ with_node_at_back id old.nodes
-  pub cursor : new.cursor ≡ (if is_nonempty (tail (from_id id old.nodes)) then cursor_without old.cursor id old.nodes else old.cursor)
+  pub cursor : new.cursor ≡ (if is_nonempty (tail (from_id id old.nodes))
+      then cursor_without old.cursor id old.nodes else old.cursor)
   pub region : new.region ≡ old.region
   pub next_serial : new.next_serial ≡ old.next_serial
   pub room : new.room ≡ old.room
@@ -135,12 +136,15 @@ LacksSerial serial (n ∷ rest) = (n.id.serial ≢ serial) × LacksSerial serial
 -- the nodes are of this region, with serials below the next one, each its own
 abbrev pub AreNamed : {T : Type 0} → CacheRegion → ℕ → List (Node T) → Type 0
 AreNamed region next [] = Unit {0}
-AreNamed region next (n ∷ rest) = (n.id.queue ≡ region) × (n.id.serial < next) × LacksSerial n.id.serial rest × AreNamed region next rest
+AreNamed region next (n ∷ rest) =
+    (n.id.queue ≡ region) × (n.id.serial < next) × LacksSerial n.id.serial rest
+    × AreNamed region next rest
 
 -- what this many calls of `next` return from a cursor on
 abbrev pub given : {T : Type 0} → ℕ → Cursor → List (Node T) → List (Option (Node T))
 given zero cursor nodes = []
-given (suc k) cursor nodes = head (to_give cursor nodes) ∷ given k (cursor_past (to_give cursor nodes)) nodes
+given (suc k) cursor nodes =
+    head (to_give cursor nodes) ∷ given k (cursor_past (to_give cursor nodes)) nodes
 
 -- where the cursor is then
 abbrev pub walked : {T : Type 0} → ℕ → Cursor → List (Node T) → Cursor
@@ -155,14 +159,16 @@ pub record WalksOnce {T : Type 0} (nodes : List (Node T)) : Type 0 where
 -- a removed name is stale, and stays so: no push gives it again
 pub record StaysStale {T : Type 0} (id : NodeId) (next : ℕ) (nodes : List (Node T)) : Type 0 where
   pub left : find id (without_node id nodes) ≡ None
-  pub pushed : (new : Node T) → id.serial < next → find id nodes ≡ None → new.id.serial ≡ next → find id (nodes ++ new ∷ []) ≡ None
+  pub pushed : (new : Node T) → id.serial < next → find id nodes ≡ None → new.id.serial ≡ next
+      → find id (nodes ++ new ∷ []) ≡ None
 
 -- no element of these nodes passes a test
 pub record NonePasses {T : Type 0} (Test : T → Bool → Type 0) (nodes : List (Node T)) : Type 0 where
   pub fails : All (λ n. Test n.element false) nodes
 
 -- this element passes a test, and none before it does
-pub record IsFirstThat {T : Type 0} (Test : T → Bool → Type 0) (nodes : List (Node T)) (element : T) : Type 0 where
+pub record IsFirstThat {T : Type 0} (Test : T → Bool → Type 0) (nodes : List (Node T)) (element : T)
+    : Type 0 where
   pub before : List (Node T)
   pub first : Node T
   pub behind : List (Node T)

@@ -140,7 +140,8 @@ impl<T: Drop> Deque<T> {
     /// Returns the first element, from the front on, for which `passes` returns true. `passes` is not called on any element after that one.
     pub fn first_where<F: Fn(&T) -> bool>(&self, passes: F) -> Option<&T>
         requires { F.IsAlwaysCallable passes }
-        ensures found { IfSome result (λ element. IsFirstThat (FnReturnsAt F.Fn passes) self.now.nodes element.now) }
+        ensures found { IfSome result
+            (λ element. IsFirstThat (FnReturnsAt F.Fn passes) self.now.nodes element.now) }
         ensures none { IfNone result (NonePasses (FnReturnsAt F.Fn passes) self.now.nodes) }
     {
         let mut next = self.slots.first();
@@ -159,7 +160,8 @@ impl<T: Drop> Deque<T> {
         ensures room { OnOk result (n ≤ self.new.room) }
         ensures had_room { n ≤ self.old.room → IsOk result }
         ensures stays { Stays self.old self.new }
-        ensures used_up { (result ≡ Err ReserveError.UsedUp) ↔ (2 ^ 64 - 1 < self.old.next_serial + n) }
+        ensures used_up { (result ≡ Err ReserveError.UsedUp)
+            ↔ (2 ^ 64 - 1 < self.old.next_serial + n) }
     {
         if u64::MAX - self.next_serial < n as u64 {
             return Err(ReserveError::UsedUp);
@@ -202,7 +204,9 @@ impl<T: Drop> Deque<T> {
 
     /// Removes a node and returns its element.
     pub fn unlink(&mut self, id: NodeId) -> Result<T, Stale>
-        ensures value { MatchResult result (λ x. option_map (λ n. n.element) (find id self.old.nodes) ≡ Some x) (λ _. find id self.old.nodes ≡ None) }
+        ensures value { MatchResult result
+            (λ x. option_map (λ n. n.element) (find id self.old.nodes) ≡ Some x)
+            (λ _. find id self.old.nodes ≡ None) }
         ensures leaves { OnOk result (Leaves self.old self.new id) }
         ensures stale { OnErr result (self.new ≡ self.old) }
     {
@@ -258,7 +262,8 @@ impl<T: Drop> Deque<T> {
     /// Removes the first node and returns its element.
     pub fn pop_front(&mut self) -> Option<T>
         ensures value { result ≡ option_map (λ n. n.element) (head self.old.nodes) }
-        ensures leaves { MatchOption (head self.old.nodes) (self.new ≡ self.old) (λ n. Leaves self.old self.new n.id) }
+        ensures leaves { MatchOption (head self.old.nodes) (self.new ≡ self.old)
+            (λ n. Leaves self.old self.new n.id) }
     {
         match self.peek_front_ptr() {
             None => None,
@@ -271,7 +276,8 @@ impl<T: Drop> Deque<T> {
 
     /// Moves the first node to the back.
     pub fn move_front_to_back(&mut self)
-        ensures { MatchOption (head self.old.nodes) (self.new ≡ self.old) (λ n. MovesToBack self.old self.new n.id) }
+        ensures { MatchOption (head self.old.nodes) (self.new ≡ self.old)
+            (λ n. MovesToBack self.old self.new n.id) }
     {
         match self.peek_front_ptr() {
             None => {}
@@ -292,7 +298,8 @@ impl<T: Drop> Deque<T> {
     /// Returns the next element of the walk, from the front on; after the last one `None`, and then the first one again.
     pub fn next(&mut self) -> Option<&T>
         ensures* stays { sem 𝓛 (walks T.row self.entry) }
-        ensures value { option_copied result ≡ option_map (λ n. n.element) (head (to_give self.old.cursor self.old.nodes)) }
+        ensures value { option_copied result
+            ≡ option_map (λ n. n.element) (head (to_give self.old.cursor self.old.nodes)) }
     {
         match walk_slot(self.cursor, self.region, &self.slots, &self.nodes) {
             Some(slot) => {
@@ -308,7 +315,9 @@ impl<T: Drop> Deque<T> {
 
     /// Returns the name of the node after this one.
     pub fn next_node_ptr(&self, id: NodeId) -> Result<Option<NodeId>, Stale>
-        ensures { MatchResult result (λ next. IsSome (find id self.now.nodes) × (next ≡ option_map (λ n. n.id) (head (tail (from_id id self.now.nodes))))) (λ _. find id self.now.nodes ≡ None) }
+        ensures { MatchResult result (λ next. IsSome (find id self.now.nodes)
+            × (next ≡ option_map (λ n. n.id) (head (tail (from_id id self.now.nodes)))))
+            (λ _. find id self.now.nodes ≡ None) }
     {
         if !holds(self.region, &self.slots, &self.nodes, id) {
             return Err(Stale);
@@ -321,7 +330,8 @@ impl<T: Drop> Deque<T> {
 
     /// Returns the element after the node with this name; `None` after the last one, and for a name that the queue does not have.
     pub fn peek_behind(&self, id: NodeId) -> Option<&T>
-        ensures { option_copied result ≡ option_map (λ n. n.element) (head (tail (from_id id self.now.nodes))) }
+        ensures { option_copied result
+            ≡ option_map (λ n. n.element) (head (tail (from_id id self.now.nodes))) }
     {
         if !holds(self.region, &self.slots, &self.nodes, id) {
             return None;
@@ -334,8 +344,10 @@ impl<T: Drop> Deque<T> {
 
     /// Returns the name of the next node of the walk.
     pub fn next_id(&mut self) -> Option<NodeId>
-        ensures value { result ≡ option_map (λ n. n.id) (head (to_give self.old.cursor self.old.nodes)) }
-        ensures cursor { self.new ≡ record self.old { cursor = cursor_past (to_give self.old.cursor self.old.nodes) } }
+        ensures value { result
+            ≡ option_map (λ n. n.id) (head (to_give self.old.cursor self.old.nodes)) }
+        ensures cursor { self.new
+            ≡ record self.old { cursor = cursor_past (to_give self.old.cursor self.old.nodes) } }
     {
         match walk_slot(self.cursor, self.region, &self.slots, &self.nodes) {
             Some(slot) => {

@@ -54,7 +54,8 @@ impl Model for IndexQueue {
       bound = length q.seats.items;
     } };
 
-    ghost invariant = { λ q. IsIndexed q.places.items (vec_capacity q.places) q.seats.items q.len q.cursors };
+    ghost invariant = { λ q. IsIndexed q.places.items (vec_capacity q.places) q.seats.items q.len
+        q.cursors };
 }
 
 impl IndexQueue {
@@ -151,7 +152,8 @@ impl IndexQueue {
         requires new { has_index index self.old.indices ≡ false }
         requires bound { index < self.old.bound }
         requires room { 0 < self.old.room }
-        ensures { self.new ≡ record self.old { indices = self.old.indices ++ index ∷ []; room = self.old.room - 1 } }
+        ensures { self.new ≡ record self.old
+            { indices = self.old.indices ++ index ∷ []; room = self.old.room - 1 } }
     {
         attach(&mut self.places, &mut self.seats, &mut self.cursors, index);
         self.len += 1;
@@ -160,7 +162,8 @@ impl IndexQueue {
     /// Moves an index that is in the queue to the back.
     pub fn move_to_back(&mut self, index: u32)
         requires { IsTrue (has_index index self.old.indices) }
-        ensures { self.new ≡ record self.old { indices = index_moved_to_back index self.old.indices } }
+        ensures { self.new
+            ≡ record self.old { indices = index_moved_to_back index self.old.indices } }
     {
         let k = self.seats[index as usize] as usize;
         if k + 1 < self.places.len() {
@@ -178,7 +181,8 @@ impl IndexQueue {
     /// Removes an index that is in the queue.
     pub fn remove(&mut self, index: u32)
         requires { IsTrue (has_index index self.old.indices) }
-        ensures { self.new ≡ record self.old { indices = without_index index self.old.indices; room = self.old.room + 1 } }
+        ensures { self.new ≡ record self.old
+            { indices = without_index index self.old.indices; room = self.old.room + 1 } }
     {
         let k = self.seats[index as usize] as usize;
         detach(
@@ -214,7 +218,8 @@ fn reserve_places(places: &mut Vec<u32>, wanted: usize) -> Result<(), AllocError
 
 /// Makes this many seats in all. New ones are vacant.
 fn reserve_seats(seats: &mut Vec<u32>, bound: usize) -> Result<(), AllocError>
-    ensures same { (index : ℕ) → slice_index_or seats.new.items index vacant ≡ slice_index_or seats.old.items index vacant }
+    ensures same { (index : ℕ) → slice_index_or seats.new.items index vacant
+        ≡ slice_index_or seats.old.items index vacant }
     ensures room { OnOk result (bound ≤ vec_len seats.new) }
     ensures had_room { bound ≤ vec_len seats.old → IsOk result }
     ensures more { vec_len seats.old ≤ vec_len seats.new }
@@ -247,7 +252,8 @@ fn first_taken(places: &[u32], from: usize, end: usize) -> usize
 /// emptied.
 fn next_taken(places: &[u32], cursors: Cursors, from: usize) -> usize
     requires low { from ≤ length places.now }
-    requires gap { (j : ℕ) → cursors.carried ≤ j → j < cursors.unread → slice_index_or places.now j vacant ≡ vacant }
+    requires gap { (j : ℕ) → cursors.carried ≤ j → j < cursors.unread
+        → slice_index_or places.now j vacant ≡ vacant }
     requires within { (cursors.carried ≤ cursors.unread) × (cursors.unread ≤ length places.now) }
     ensures empty { (j : ℕ) → from ≤ j → j < result → slice_index_or places.now j vacant ≡ vacant }
     ensures first { result < length places.now → slice_index_or places.now result vacant ≢ vacant }
@@ -300,7 +306,8 @@ fn detach(places: &mut Vec<u32>, seats: &mut Vec<u32>, cursors: &mut Cursors, in
     requires arranged { AreArranged places.old.items seats.old.items cursors.old }
     requires there { IsSeatedAt places.old.items seats.old.items index k }
     ensures arranged { AreArranged places.new.items seats.new.items cursors.new }
-    ensures emptied { order places.new.items ≡ order (take k places.old.items) ++ order (drop (k + 1) places.old.items) }
+    ensures emptied { order places.new.items ≡ order (take k places.old.items)
+        ++ order (drop (k + 1) places.old.items) }
     ensures bound { vec_len seats.new ≡ vec_len seats.old }
     ensures capacity { vec_capacity places.new ≡ vec_capacity places.old }
 {
@@ -345,7 +352,8 @@ fn close_some(places: &mut Vec<u32>, seats: &mut Vec<u32>, cursors: &mut Cursors
     requires many { (0 < many) × (many ≤ 2 ^ 32) }
     ensures same { order places.new.items ≡ order places.old.items }
     ensures arranged { AreArranged places.new.items seats.new.items cursors.new }
-    ensures closed { cursors.old.carried ≡ 0 → vec_len places.old ≤ many → vec_len places.new ≡ length (order places.old.items) }
+    ensures closed { cursors.old.carried ≡ 0 → vec_len places.old ≤ many
+        → vec_len places.new ≡ length (order places.old.items) }
     ensures bound { vec_len seats.new ≡ vec_len seats.old }
     ensures capacity { vec_capacity places.new ≡ vec_capacity places.old }
 {

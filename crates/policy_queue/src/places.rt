@@ -39,7 +39,8 @@ pub(crate) fn element_of<T>(nodes: &Cells<u64, T>, slot: u32) -> &T
 /// The name of the node in a slot.
 pub(crate) fn id_of<T>(region: CacheRegion, nodes: &Cells<u64, T>, slot: u32) -> NodeId
     requires { ContainsKey nodes.now slot }
-    ensures { option_map (λ value. (node_of region slot value).id) (get nodes.now slot) ≡ Some result }
+    ensures { option_map (λ value. (node_of region slot value).id) (get nodes.now slot)
+        ≡ Some result }
 {
     match nodes.get(slot) {
         Some((serial, _)) => NodeId {
@@ -86,7 +87,8 @@ pub(crate) fn walk_slot<T>(
     nodes: &Cells<u64, T>,
 ) -> Option<u32>
     requires { AreTaken nodes.now slots.now.indices }
-    ensures gives { to_give cursor (nodes_of region nodes.now slots.now.indices) ≡ nodes_of region nodes.now (slots_from result slots.now.indices) }
+    ensures gives { to_give cursor (nodes_of region nodes.now slots.now.indices)
+        ≡ nodes_of region nodes.now (slots_from result slots.now.indices) }
     ensures there { IfSome result (λ slot. IsTrue (has_index slot slots.now.indices)) }
 {
     match cursor {
@@ -113,7 +115,8 @@ pub(crate) fn cursor_leaving<T>(
 ) -> Cursor
     requires taken { AreTaken nodes.now slots.now.indices }
     requires there { IsSome (find id (nodes_of region nodes.now slots.now.indices)) }
-    ensures { result ≡ cursor_off cursor id last (tail (from_id id (nodes_of region nodes.now slots.now.indices))) }
+    ensures { result ≡ cursor_off cursor id last
+        (tail (from_id id (nodes_of region nodes.now slots.now.indices))) }
 {
     match cursor {
         Cursor::At(at) => {
@@ -140,8 +143,10 @@ pub(crate) fn make_room<T>(
     ensures slots { OnlyGainsPlaces slots.old slots.new }
     ensures kept { nodes.new ≡ record nodes.old { capacity = nodes.new.capacity } }
     ensures cells { nodes.old.capacity ≤ nodes.new.capacity }
-    ensures room { OnOk result (HasRoomFor nodes.new n × (n ≤ slots.new.room) × (slab_len nodes.old + n ≤ slots.new.bound)) }
-    ensures had_room { HasRoomFor nodes.old n → n ≤ slots.old.room → slab_len nodes.old + n ≤ slots.old.bound → IsOk result }
+    ensures room { OnOk result (HasRoomFor nodes.new n × (n ≤ slots.new.room)
+        × (slab_len nodes.old + n ≤ slots.new.bound)) }
+    ensures had_room { HasRoomFor nodes.old n → n ≤ slots.old.room
+        → slab_len nodes.old + n ≤ slots.old.bound → IsOk result }
 {
     nodes.reserve(n)?;
     slots.reserve(n, (nodes.len() + n) as u32)

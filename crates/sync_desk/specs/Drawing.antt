@@ -25,16 +25,24 @@ state_start (Lead number) = state.Lead number
 module _ {K V P S R : Type 0} (ways : Ways K V P S R) where
   -- the visible value of a key is found, and used
   abbrev pub LooksUpAsDrawn : K → Front K V P S R → Front K V P S R → Option V → Type 0
-  LooksUpAsDrawn key old new found = (at : At) × IsDrawn old at × (found ≡ visible_in ways old at.now key) × LooksUpIn ways key at old new
+  LooksUpAsDrawn key old new found =
+      (at : At) × IsDrawn old at × (found ≡ visible_in ways old at.now key)
+      × LooksUpIn ways key at old new
 
   -- a value is inserted
   abbrev pub InsertsAsDrawn : K → V → Front K V P S R → Front K V P S R → Type 0
-  InsertsAsDrawn key value old new = (at : At) × IsDrawn old at × InsertsIn ways key value at old new
+  InsertsAsDrawn key value old new =
+      (at : At) × IsDrawn old at × InsertsIn ways key value at old new
 
   -- a call of a kind begins
-  abbrev pub BeginsAsDrawn : {A : Type 0} → TurnKind → K → (Ignores : V → Bool → Type 0) → Front K V P S R → Front K V P S R → Start A V → Type 0
-  BeginsAsDrawn kind key Ignores old new start = (at : At) × IsDrawn old at × BeginsBy ways kind key (hash_in ways old key) at Ignores old new (state_start start)
+  abbrev pub BeginsAsDrawn : {A : Type 0} → TurnKind → K → (Ignores : V → Bool → Type 0)
+      → Front K V P S R → Front K V P S R → Start A V → Type 0
+  BeginsAsDrawn kind key Ignores old new start =
+      (at : At) × IsDrawn old at
+      × BeginsBy ways kind key (hash_in ways old key) at Ignores old new (state_start start)
 
   -- the turn with a number ends with what was made
-  abbrev pub FinishesAsDrawn : {F : Type 0} → (number : ℕ) → Made V F → Front K V P S R → Front K V P S R → Type 0
-  FinishesAsDrawn number made old new = (at : At) × IsDrawn old at × FinishesBy ways number made at old new
+  abbrev pub FinishesAsDrawn : {F : Type 0} → (number : ℕ) → Made V F → Front K V P S R
+      → Front K V P S R → Type 0
+  FinishesAsDrawn number made old new =
+      (at : At) × IsDrawn old at × FinishesBy ways number made at old new

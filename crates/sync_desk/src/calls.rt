@@ -32,7 +32,9 @@ impl<
     /// Returns a clone of the visible value of a key, which counts as a use of it.
     pub fn get(&mut self, key: &K) -> Result<Option<V>, CacheError>
         requires exact { (x y : V) → V.is_clone x y → y ≡ x }
-        ensures found { IfOk result (LooksUpAsDrawn (ways_by R.Rules K.eq K.hash_input S.BuildHasher S.Hasher.Hasher) key.now self.old.state self.new.state) }
+        ensures found { IfOk result
+            (LooksUpAsDrawn (ways_by R.Rules K.eq K.hash_input S.BuildHasher S.Hasher.Hasher)
+            key.now self.old.state self.new.state) }
         ensures err { OnErr result (self.new.state ≡ self.old.state) }
         ensures cause { IfErr result IsShortage }
     {
@@ -55,7 +57,9 @@ impl<
 
     /// Inserts a value. A cache of capacity 0 stores none.
     pub fn insert(&mut self, key: K, value: V) -> Result<(), CacheError>
-        ensures inserts { OnOk result (InsertsAsDrawn (ways_by R.Rules K.eq K.hash_input S.BuildHasher S.Hasher.Hasher) key value self.old.state self.new.state) }
+        ensures inserts { OnOk result
+            (InsertsAsDrawn (ways_by R.Rules K.eq K.hash_input S.BuildHasher S.Hasher.Hasher) key
+            value self.old.state self.new.state) }
         ensures err { OnErr result (self.new.state ≡ self.old.state) }
         ensures cause { IfErr result IsShortage }
     {

@@ -58,7 +58,10 @@ impl<
         requires becomes { (a : A) → A.can_become a }
         requires exact { (x y : V) → V.is_clone x y → y ≡ x }
         requires callable { P.IsAlwaysCallable replace_if }
-        ensures begins { IfOk result (BeginsAsDrawn (ways_by R.Rules K.eq K.hash_input S.BuildHasher S.Hasher.Hasher) kind (A.named_key asked) (FnOnceReturnsAt P.FnOnce replace_if) self.old.state self.new.state) }
+        ensures begins { IfOk result
+            (BeginsAsDrawn (ways_by R.Rules K.eq K.hash_input S.BuildHasher S.Hasher.Hasher)
+            kind (A.named_key asked) (FnOnceReturnsAt P.FnOnce replace_if) self.old.state
+            self.new.state) }
         ensures cause { IfErr result IsShortage }
     {
         if self.state.is_turn_free(kind, asked.key()) {
@@ -79,7 +82,10 @@ impl<
         requires becomes { (a : A) → A.can_become a }
         requires exact { (x y : V) → V.is_clone x y → y ≡ x }
         requires callable { P.IsAlwaysCallable replace_if }
-        ensures begins { IfOk result (BeginsAsDrawn (ways_by R.Rules K.eq K.hash_input S.BuildHasher S.Hasher.Hasher) kind (A.named_key asked) (FnOnceReturnsAt P.FnOnce replace_if) self.old.state self.new.state) }
+        ensures begins { IfOk result
+            (BeginsAsDrawn (ways_by R.Rules K.eq K.hash_input S.BuildHasher S.Hasher.Hasher)
+            kind (A.named_key asked) (FnOnceReturnsAt P.FnOnce replace_if) self.old.state
+            self.new.state) }
         ensures cause { IfErr result IsShortage }
     {
         let Some(at) = self.draw() else {
@@ -110,7 +116,10 @@ impl<
         requires busy { IsSome (turn_of K.eq self.old.state.turns kind (A.named_key asked)) }
         requires exact { (x y : V) → V.is_clone x y → y ≡ x }
         requires callable { P.IsAlwaysCallable replace_if }
-        ensures begins { IfOk result (BeginsAsDrawn (ways_by R.Rules K.eq K.hash_input S.BuildHasher S.Hasher.Hasher) kind (A.named_key asked) (FnOnceReturnsAt P.FnOnce replace_if) self.old.state self.new.state) }
+        ensures begins { IfOk result
+            (BeginsAsDrawn (ways_by R.Rules K.eq K.hash_input S.BuildHasher S.Hasher.Hasher)
+            kind (A.named_key asked) (FnOnceReturnsAt P.FnOnce replace_if) self.old.state
+            self.new.state) }
         ensures cause { IfErr result IsShortage }
     {
         let Some(at) = self.draw() else {
@@ -204,7 +213,9 @@ impl<
         made: Made<V, Shared<R::Fault>>,
     ) -> Result<(), CacheError>
         requires suits { suits kind made ≡ true }
-        ensures ends { OnOk result (FinishesAsDrawn (ways_by R.Rules K.eq K.hash_input S.BuildHasher S.Hasher.Hasher) number made self.old.state self.new.state) }
+        ensures ends { OnOk result
+            (FinishesAsDrawn (ways_by R.Rules K.eq K.hash_input S.BuildHasher S.Hasher.Hasher)
+            number made self.old.state self.new.state) }
         ensures known { OnOk result (is_some (turn_at self.old.state.turns number) ≡ true) }
         ensures err { OnErr result (GivesUp number self.old.state self.new.state) }
         ensures cause { IfErr result IsEndRefusal }
@@ -244,7 +255,9 @@ impl<
         ending: Ending<V, Shared<R::Fault>>,
     ) -> Result<(), CacheError>
         requires { fits kind ending ≡ true }
-        ensures ends { OnOk result (FinishesAsDrawn (ways_by R.Rules K.eq K.hash_input S.BuildHasher S.Hasher.Hasher) number made self.old.state self.new.state) }
+        ensures ends { OnOk result
+            (FinishesAsDrawn (ways_by R.Rules K.eq K.hash_input S.BuildHasher S.Hasher.Hasher)
+            number made self.old.state self.new.state) }
         ensures known { OnOk result (is_some (turn_at self.old.state.turns number) ≡ true) }
         ensures err { OnErr result (GivesUp number self.old.state self.new.state) }
         ensures cause { IfErr result IsEndRefusal }
@@ -274,7 +287,9 @@ impl<
 
     /// Ends the turn of the state. Any refusal other than a lack of memory or of numbers means that no such turn is under way.
     fn end_state(&mut self, number: u64, made: Made<V, Shared<R::Fault>>) -> Result<(), CacheError>
-        ensures ends { OnOk result (FinishesAsDrawn (ways_by R.Rules K.eq K.hash_input S.BuildHasher S.Hasher.Hasher) number made self.old.state self.new.state) }
+        ensures ends { OnOk result
+            (FinishesAsDrawn (ways_by R.Rules K.eq K.hash_input S.BuildHasher S.Hasher.Hasher)
+            number made self.old.state self.new.state) }
         ensures known { OnOk result (is_some (turn_at self.old.state.turns number) ≡ true) }
         ensures err { OnErr result (self.new.state ≡ self.old.state) }
         ensures cause { IfErr result IsEndRefusal }

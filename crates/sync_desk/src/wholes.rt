@@ -108,7 +108,9 @@ impl<
     /// Returns a clone of the visible value of a key. It does not count as a use, and changes nothing.
     pub fn scan(&mut self, key: &K) -> Result<Option<V>, CacheError>
         requires exact { (x y : V) → V.is_clone x y → y ≡ x }
-        ensures found { IfOk result (λ found. (now : ℕ) × (self.old.state.moment ≤ now) × (found ≡ visible_in (ways_by R.Rules K.eq K.hash_input S.BuildHasher S.Hasher.Hasher) self.old.state now key.now)) }
+        ensures found { IfOk result (λ found. (now : ℕ) × (self.old.state.moment ≤ now)
+            × (found ≡ visible_in (ways_by R.Rules K.eq K.hash_input S.BuildHasher S.Hasher.Hasher)
+            self.old.state now key.now)) }
         ensures state { self.new.state ≡ self.old.state }
         ensures cause { IfErr result (λ e. e ≡ errors.OutOfMemory) }
     {

@@ -10,13 +10,15 @@ use Rattle.audit_text.specs.declared.reader.inputs.Replay.{Replay}
 
 -- a namespace: its number, and its transcript
 abbrev pub namespace_text : ℕ → Config → Transcript → List ℕ
-namespace_text number config transcript = codes "namespace " ++ decimal number ++ 10 ∷ [] ++ transcript_text config transcript
+namespace_text number config transcript =
+    codes "namespace " ++ decimal number ++ 10 ∷ [] ++ transcript_text config transcript
 
 -- namespaces, from the one of this number on
 abbrev pub namespaces_text : ℕ → List Config → List Transcript → List ℕ
 namespaces_text number [] ts = []
 namespaces_text number (c ∷ cs) [] = []
-namespaces_text number (c ∷ cs) (t ∷ ts) = namespace_text number c t ++ namespaces_text (number + 1) cs ts
+namespaces_text number (c ∷ cs) (t ∷ ts) =
+    namespace_text number c t ++ namespaces_text (number + 1) cs ts
 
 -- the lines of the text that are kept are those of a replay's inputs, and what was printed are the transcripts that it comes to
 pub record IsPrintedOf (text printed : List ℕ) : Type 0 where

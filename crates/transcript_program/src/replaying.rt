@@ -73,7 +73,8 @@ fn print_transcripts(
     configs: &[Config],
     transcripts: &[Transcript],
 ) -> Result<Vec<u8>, AllocError>
-    ensures { IfOk result (λ printed. printed.items ≡ namespaces_text 0 configs.now transcripts.now) }
+    ensures { IfOk result
+        (λ printed. printed.items ≡ namespaces_text 0 configs.now transcripts.now) }
 {
     let mut printed = Vec::new(alloc);
     let mut left = transcripts;
@@ -97,7 +98,8 @@ fn print_namespace(
     config: &Config,
     transcript: &Transcript,
 ) -> Result<(), AllocError>
-    ensures { OnOk result (printed.new.items ≡ printed.old.items ++ namespace_text number config.now transcript.now) }
+    ensures { OnOk result
+        (printed.new.items ≡ printed.old.items ++ namespace_text number config.now transcript.now) }
 {
     let mut digits = Buffer::new();
     let text = write_transcript(alloc, config, transcript)?;

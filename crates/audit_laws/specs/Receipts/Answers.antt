@@ -12,10 +12,14 @@ use Rattle.audit_laws.specs.declared.receipts.output.Output.TheVariants.{Opened,
 -- the input that asks a namespace for an event
 abbrev pub input_of : ℕ → Event → Input
 input_of namespace (event.Open conn) = input.Open namespace
-input_of namespace (event.Close conn) = input.Close (record { namespace = namespace; number = conn })
-input_of namespace (event.Feed conn piece moment) = input.Feed (record { namespace = namespace; number = conn }) piece moment
-input_of namespace (event.Answer load outcome moment) = input.Answer (record { namespace = namespace; number = load }) outcome moment
-input_of namespace (event.GiveUp load moment) = input.GiveUp (record { namespace = namespace; number = load }) moment
+input_of namespace (event.Close conn) =
+    input.Close (record { namespace = namespace; number = conn })
+input_of namespace (event.Feed conn piece moment) =
+    input.Feed (record { namespace = namespace; number = conn }) piece moment
+input_of namespace (event.Answer load outcome moment) =
+    input.Answer (record { namespace = namespace; number = load }) outcome moment
+input_of namespace (event.GiveUp load moment) =
+    input.GiveUp (record { namespace = namespace; number = load }) moment
 
 -- the last step is held back
 abbrev pub last_is_held : List Step → Bool
@@ -25,8 +29,10 @@ last_is_held (step ∷ next ∷ steps) = last_is_held (next ∷ steps)
 
 -- the output of an event with its steps
 abbrev pub output_with : ℕ → Event → List Step → Output
-output_with namespace (event.Open conn) steps = Opened (record { namespace = namespace; number = conn })
-output_with namespace (event.Feed conn piece moment) steps = if last_is_held steps then Held else All
+output_with namespace (event.Open conn) steps =
+    Opened (record { namespace = namespace; number = conn })
+output_with namespace (event.Feed conn piece moment) steps =
+    if last_is_held steps then Held else All
 output_with namespace happened steps = Done
 
 -- the output of a record of a namespace

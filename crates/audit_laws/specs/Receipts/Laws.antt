@@ -15,7 +15,8 @@ abbrev pub AreOfRecords : List Receipt → List Record → Type 0
 AreOfRecords [] [] = Unit {0}
 AreOfRecords [] (entry ∷ entries) = ⊥
 AreOfRecords (receipt ∷ receipts) [] = ⊥
-AreOfRecords (receipt ∷ receipts) (entry ∷ entries) = IsOfRecord receipt entry × AreOfRecords receipts entries
+AreOfRecords (receipt ∷ receipts) (entry ∷ entries) =
+    IsOfRecord receipt entry × AreOfRecords receipts entries
 
 -- the receipts are of some of the records, in their order
 pub record AreReceiptsInOrder (records : List Record) (receipts : List Receipt) : Type 0 where
@@ -25,4 +26,6 @@ pub record AreReceiptsInOrder (records : List Record) (receipts : List Receipt) 
 
 -- this is so for receipts that stand
 abbrev pub ReceiptsInOrder : Type 0
-ReceiptsInOrder = (records : List Record) (receipts : List Receipt) → StandFrom 0 records receipts → AreReceiptsInOrder records receipts
+ReceiptsInOrder =
+    (records : List Record) (receipts : List Receipt) → StandFrom 0 records receipts
+    → AreReceiptsInOrder records receipts

@@ -34,5 +34,6 @@ IsTurnOf conn (event.GiveUp load moment) = Unit {0}
 -- if no other connection waits, such a record has steps of this connection only, and no other waits after it
 abbrev pub RecordsAlone : Type 0
 RecordsAlone =
-    (config : Config) (s t : Situation) (entry : Record) (conn : ℕ) → Follows config s entry t → IsTurnOf conn entry.event → WaitsAlone conn s.pending
+    (config : Config) (s t : Situation) (entry : Record) (conn : ℕ) → Follows config s entry t
+    → IsTurnOf conn entry.event → WaitsAlone conn s.pending
     → StepsOf conn entry.steps × WaitsAlone conn t.pending

@@ -9,5 +9,6 @@ use Rattle.audit_laws.specs.Waiting.Alone.{IsTurnOf, WaitsAlone}
 -- if no other connection waits, such a record leaves each other connection as it was
 abbrev pub RecordsApart : Type 0
 RecordsApart =
-    (config : Config) (s t : Situation) (entry : Record) (conn other : ℕ) → Follows config s entry t → IsTurnOf conn entry.event → WaitsAlone conn s.pending → other ≢ conn
+    (config : Config) (s t : Situation) (entry : Record) (conn other : ℕ) → Follows config s entry t
+    → IsTurnOf conn entry.event → WaitsAlone conn s.pending → other ≢ conn
     → connection_in other t ≡ connection_in other s

@@ -16,10 +16,13 @@ NobodyWaits (load ∷ loads) = (load.waiting ≡ []) × NobodyWaits loads
 
 -- if no other connection waits, and this one is not open, nobody waits
 abbrev pub ClosedUnwaited : Type 0
-ClosedUnwaited = (s : Situation) (conn : ℕ) → Tidy [] s → WaitsAlone conn s.pending → connection_in conn s ≡ None → NobodyWaits s.pending
+ClosedUnwaited =
+    (s : Situation) (conn : ℕ) → Tidy [] s → WaitsAlone conn s.pending → connection_in conn s ≡ None
+    → NobodyWaits s.pending
 
 -- a give-up while nobody waits has no steps, and only removes its load
 abbrev pub GivesUpUnwaited : Type 0
 GivesUpUnwaited =
-    (config : Config) (s t : Situation) (entry : Record) (load : ℕ) (moment : Instant) → entry.event ≡ event.GiveUp load moment → Follows config s entry t → NobodyWaits s.pending
+    (config : Config) (s t : Situation) (entry : Record) (load : ℕ) (moment : Instant)
+    → entry.event ≡ event.GiveUp load moment → Follows config s entry t → NobodyWaits s.pending
     → (entry.steps ≡ []) × (t ≡ without_load load moment.nanos s) × NobodyWaits t.pending

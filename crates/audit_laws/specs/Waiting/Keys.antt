@@ -16,4 +16,6 @@ IsKnown number key s = (number ≤ s.sent) × HasKey number key s.pending
 
 -- a record that follows leaves each load that was sent its key
 abbrev pub RecordsKeepKeys : Type 0
-RecordsKeepKeys = (config : Config) (s t : Situation) (entry : Record) (number : ℕ) (key : List ℕ) → Follows config s entry t → IsKnown number key s → IsKnown number key t
+RecordsKeepKeys =
+    (config : Config) (s t : Situation) (entry : Record) (number : ℕ) (key : List ℕ)
+    → Follows config s entry t → IsKnown number key s → IsKnown number key t

@@ -34,8 +34,12 @@ IsSettlingOf number (event.GiveUp load moment) = load ≡ number
 
 -- a load that a record sends has a number above those that were sent before
 abbrev pub RecordsSendLater : Type 0
-RecordsSendLater = (config : Config) (s t : Situation) (entry : Record) → Follows config s entry t → IsTrue (are_old_or_later s.pending s.sent t.pending)
+RecordsSendLater =
+    (config : Config) (s t : Situation) (entry : Record) → Follows config s entry t
+    → IsTrue (are_old_or_later s.pending s.sent t.pending)
 
 -- a load that was sent is not under way after the record that settles it
 abbrev pub RecordsSettle : Type 0
-RecordsSettle = (config : Config) (s t : Situation) (entry : Record) (number : ℕ) → Follows config s entry t → IsSettlingOf number entry.event → number ≤ s.sent → IsTrue (are_others number t.pending)
+RecordsSettle =
+    (config : Config) (s t : Situation) (entry : Record) (number : ℕ) → Follows config s entry t
+    → IsSettlingOf number entry.event → number ≤ s.sent → IsTrue (are_others number t.pending)

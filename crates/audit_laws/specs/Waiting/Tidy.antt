@@ -28,7 +28,8 @@ times_loaded key (load ∷ loads) = (if same load.key key then 1 else 0) + times
 
 -- 1 if the connection is open and its `LOAD` waits, otherwise 0
 abbrev pub waits_now : ℕ → Situation → ℕ
-waits_now c s = option_map_or (λ k. if is_waiting_now k.standing then 1 else 0) (connection_in c s) 0
+waits_now c s =
+    option_map_or (λ k. if is_waiting_now k.standing then 1 else 0) (connection_in c s) 0
 
 -- A connection that waits for a load, or still has to be told of one that was settled, is open, its `LOAD` waits, and it is there once; and
 -- no two loads under way have the same key.
@@ -56,14 +57,20 @@ TidyAtFirst = (made : ℕ) → Tidy [] (empty_situation made)
 
 -- when a load is settled, those that waited for it still have to be told
 abbrev pub TidySettled : Type 0
-TidySettled = (number moment : ℕ) (s : Situation) → Tidy [] s → Tidy (waiting_in number s) (without_load number moment s)
+TidySettled =
+    (number moment : ℕ) (s : Situation) → Tidy [] s
+    → Tidy (waiting_in number s) (without_load number moment s)
 
 -- a step that is right keeps the others tidy
 abbrev pub StepsTidy : Type 0
 StepsTidy =
-    (config : Config) (s : Situation) (task : Task) (step : Step) (rest : List ℕ) → SuitsTask task s → is_right config (placed_step_in config s (Some task) step) ≡ true
-    → Tidy (told_of_load task ++ rest) s → Tidy rest (after_step config s (Some task) step (placed_step_in config s (Some task) step).effect)
+    (config : Config) (s : Situation) (task : Task) (step : Step) (rest : List ℕ) → SuitsTask task s
+    → is_right config (placed_step_in config s (Some task) step) ≡ true
+    → Tidy (told_of_load task ++ rest) s → Tidy rest
+    (after_step config s (Some task) step (placed_step_in config s (Some task) step).effect)
 
 -- a record that follows keeps it tidy
 abbrev pub RecordsTidy : Type 0
-RecordsTidy = (config : Config) (s t : Situation) (entry : Record) → Follows config s entry t → Tidy [] s → Tidy [] t
+RecordsTidy =
+    (config : Config) (s t : Situation) (entry : Record) → Follows config s entry t → Tidy [] s
+    → Tidy [] t

@@ -23,7 +23,12 @@ is_open_key key open_keys = contains_by (λ k. slice_cmp nat_cmp key k.items) op
 -- a value held, by the open keys, and by the numbers at which each part's weight was last a point
 abbrev pub held_by : Open → List ℕ → HeldSlot → HeldValue
 held_by open_keys marks s =
-    record { value = s.value; last_use = s.last_use; covered = not (is_open_key s.value.key open_keys); evictable = nat_lt s.stamp (get_or marks s.value.part 0) }
+    record {
+      value = s.value;
+      last_use = s.last_use;
+      covered = not (is_open_key s.value.key open_keys);
+      evictable = nat_lt s.stamp (get_or marks s.value.part 0);
+    }
 
 -- each number was given out before this one, and each part is one of 256
 abbrev pub are_sound : ℕ → List HeldSlot → Bool
@@ -43,14 +48,17 @@ value_used_at key now h = if same key h.value.key then record h { last_use = now
 
 -- a value that a prefix covers
 abbrev pub value_covered_by : List ℕ → HeldValue → HeldValue
-value_covered_by prefix h = record h { covered = h.covered || starts_with nat_eq h.value.key prefix }
+value_covered_by prefix h =
+    record h { covered = h.covered || starts_with nat_eq h.value.key prefix }
 
 -- a value of a part whose weight is a point or not, if earlier points no longer count or still do
 abbrev pub marked_in : ℕ → Bool → Bool → HeldValue → HeldValue
-marked_in part over anew h = if h.value.part == part then record h { evictable = over || (not anew && h.evictable) } else h
+marked_in part over anew h =
+    if h.value.part == part then record h { evictable = over || (not anew && h.evictable) } else h
 
 -- what holds for the representation
-pub record RepresentsHeld (next : ℕ) (marks weights : List ℕ) (total : ℕ) (slots : List HeldSlot) : Type 0 where
+pub record RepresentsHeld (next : ℕ) (marks weights : List ℕ) (total : ℕ) (slots : List HeldSlot) :
+    Type 0 where
   pub sound : are_sound next slots ≡ true
   pub marked : are_past_marks next marks ≡ true
   pub marks_of_all : length marks ≡ 256

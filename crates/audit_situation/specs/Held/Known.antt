@@ -31,7 +31,8 @@ agrees_with parts (Some v) = agrees parts v.key v.part
 
 -- the parts with that of a key, if it had none
 abbrev pub with_part : List KeyPart → List ℕ → ℕ → List KeyPart
-with_part parts key part = if is_some (part_of_key parts key) then parts else record { key = key; part = part } ∷ parts
+with_part parts key part =
+    if is_some (part_of_key parts key) then parts else record { key = key; part = part } ∷ parts
 
 -- the same of a value, if there is one
 abbrev pub with_value : List KeyPart → Option Value → List KeyPart

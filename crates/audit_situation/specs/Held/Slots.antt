@@ -17,7 +17,11 @@ pub record HeldSlot : Type 0 where
 -- a key with what is kept for it
 abbrev pub slot_of : List ℕ → StoredValue → HeldSlot
 slot_of key kept =
-    record { value = record { key = key; bytes = kept.bytes; part = kept.part; weight = kept.weight; accepted_at = kept.accepted_at; own_deadline = kept.own_deadline }; last_use = kept.last_use; stamp = kept.stamp }
+    record {
+      value = record { key = key; bytes = kept.bytes; part = kept.part; weight = kept.weight; accepted_at = kept.accepted_at; own_deadline = kept.own_deadline };
+      last_use = kept.last_use;
+      stamp = kept.stamp;
+    }
 
 abbrev pub Entry : Type 0
 Entry = Vec ℕ Global × StoredValue

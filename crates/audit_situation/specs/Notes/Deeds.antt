@@ -16,4 +16,10 @@ covering_by (covered.Prefixed prefix) = Prefixed prefix.now
 -- the deed with the value that the step accepts
 abbrev pub deed_with : Done → Option Value → Deed
 deed_with done value =
-    record { uses = option_map (λ k. k.now) done.uses; value = value; deletes = option_map (λ k. k.now) done.deletes; covers = covering_by done.covers; syncs = done.syncs }
+    record {
+      uses = option_map (λ k. k.now) done.uses;
+      value = value;
+      deletes = option_map (λ k. k.now) done.deletes;
+      covers = covering_by done.covers;
+      syncs = done.syncs;
+    }

@@ -40,11 +40,13 @@ rest_of left newcomer = if left then option_to_list newcomer else []
 
 -- the values that may still be reported
 abbrev pub may_be_told : Config → ℕ → List HeldValue → List HeldValue → List Candidate
-may_be_told config now held rest = map (candidate_at config now) held ++ map (new_candidate_at config now) rest
+may_be_told config now held rest =
+    map (candidate_at config now) held ++ map (new_candidate_at config now) rest
 
 -- the same in a scene
 abbrev pub candidates_in : Scene → List HeldValue → Bool → List Candidate
-candidates_in scene held left = may_be_told scene.config.now scene.moment held (rest_of left (newcomer_in scene))
+candidates_in scene held left =
+    may_be_told scene.config.now scene.moment held (rest_of left (newcomer_in scene))
 
 -- these were the values held before the step
 abbrev pub IsBefore : Scene → List Candidate → Type 0
@@ -52,22 +54,33 @@ IsBefore scene before = AreOverfilled scene.config.now before (deed_in scene) sc
 
 -- the value that the step accepts, as long as no note has reported it, as one that may be reported
 abbrev pub new_candidates_in : Scene → Bool → List Candidate
-new_candidates_in scene left = map (new_candidate_at scene.config.now scene.moment) (rest_of left (newcomer_in scene))
+new_candidates_in scene left =
+    map (new_candidate_at scene.config.now scene.moment) (rest_of left (newcomer_in scene))
 
 -- whether the note is true, if this is the value that it names, is the result
 abbrev pub IsTrueNoteOf : Scene → Note → Option Candidate → Bool → Type 0
-IsTrueNoteOf scene note told answer = (before : List Candidate) → IsBefore scene before → answer ≡ is_true_note scene.config.now before (deed_in scene) note told
+IsTrueNoteOf scene note told answer =
+    (before : List Candidate) → IsBefore scene before
+    → answer ≡ is_true_note scene.config.now before (deed_in scene) note told
 
 -- the notes of a step are true that does this and accepts this value
-abbrev pub are_told_rightly : Config → ℕ → List HeldValue → Done → Option HeldValue → List Note → Bool
+abbrev pub are_told_rightly : Config → ℕ → List HeldValue → Done → Option HeldValue → List Note
+    → Bool
 are_told_rightly config now held done newcomer notes =
-    are_true_notes config (map (candidate_at config now) held) (deed_with done (option_map (λ h. h.value) newcomer)) (may_be_told config now held (option_to_list newcomer)) notes
+    are_true_notes config (map (candidate_at config now) held)
+    (deed_with done (option_map (λ h. h.value) newcomer))
+    (may_be_told config now held (option_to_list newcomer)) notes
 
 -- the values that no note reports are left
-abbrev pub LeavesUntold : List Note → Option HeldValue → List HeldValue → List HeldValue → Bool → Type 0
-LeavesUntold notes newcomer old new left = new ++ rest_of left newcomer ≡ untold (λ h. h.value.key) notes (old ++ option_to_list newcomer)
+abbrev pub LeavesUntold : List Note → Option HeldValue → List HeldValue → List HeldValue → Bool
+    → Type 0
+LeavesUntold notes newcomer old new left =
+    new ++ rest_of left newcomer ≡ untold (λ h. h.value.key) notes (old ++ option_to_list newcomer)
 
 -- the key's first value was taken
-pub record TakesFirstValue (scene : Scene) (key : List ℕ) (held : List HeldValue) (left : Bool) (others : List HeldValue) (leaves : Bool) : Type 0 where
-  pub told : candidates_in scene others leaves ≡ without_key (λ c. c.value.key) key (candidates_in scene held left)
-  pub all : others ++ rest_of leaves (newcomer_in scene) ≡ without_key (λ h. h.value.key) key (held ++ rest_of left (newcomer_in scene))
+pub record TakesFirstValue (scene : Scene) (key : List ℕ) (held : List HeldValue) (left : Bool)
+    (others : List HeldValue) (leaves : Bool) : Type 0 where
+  pub told : candidates_in scene others leaves
+      ≡ without_key (λ c. c.value.key) key (candidates_in scene held left)
+  pub all : others ++ rest_of leaves (newcomer_in scene)
+      ≡ without_key (λ h. h.value.key) key (held ++ rest_of left (newcomer_in scene))

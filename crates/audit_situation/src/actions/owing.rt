@@ -18,14 +18,16 @@ use audit_model::Config;
 
 /// The live value of a key.
 pub fn found<'a>(config: &Config, s: &'a State, key: &'a [u8]) -> Option<Seen<'a>>
-    ensures { option_map (λ h. (held_of h).value) result ≡ live_at config.now s.now.latest s.now.held key.now }
+    ensures { option_map (λ h. (held_of h).value) result
+        ≡ live_at config.now s.now.latest s.now.held key.now }
 {
     live(config, s.latest, &s.held, key)
 }
 
 /// Whether a step may refuse its identifier.
 pub fn may_refuse(s: &State, doing: Doing<'_>) -> bool
-    ensures { (config : Config) → result ≡ may_refuse (view_in config (shown_situation s.now)) (action_of doing.entry) }
+    ensures { (config : Config)
+        → result ≡ may_refuse (view_in config (shown_situation s.now)) (action_of doing.entry) }
 {
     match doing {
         Doing::DropIf { .. } => s.dropped,
@@ -48,14 +50,16 @@ fn is_next(sent: u64, load: Option<u64>) -> bool
 
 /// Whether a `LOAD` needs no load of its own.
 fn needs_none(config: &Config, s: &State, key: &[u8]) -> bool
-    ensures { result ≡ (is_some (live_at config.now s.now.latest s.now.held key.now) || is_some (load_in (shown_situation s.now) key.now)) }
+    ensures { result ≡ (is_some (live_at config.now s.now.latest s.now.held key.now)
+        || is_some (load_in (shown_situation s.now) key.now)) }
 {
     found(config, s, key).is_some() || find_load(&s.pending, key).is_some()
 }
 
 /// Whether a `LOAD` sends the load that it should.
 fn loads_key_rightly(config: &Config, s: &State, key: &[u8], load: Option<u64>) -> bool
-    ensures { result ≡ option_eq nat_eq load (load_sent_by (view_in config.now (shown_situation s.now)) (Running (says.Load key.now))) }
+    ensures { result ≡ option_eq nat_eq load
+        (load_sent_by (view_in config.now (shown_situation s.now)) (Running (says.Load key.now))) }
 {
     if needs_none(config, s, key) {
         load.is_none()
@@ -66,7 +70,8 @@ fn loads_key_rightly(config: &Config, s: &State, key: &[u8], load: Option<u64>) 
 
 /// Whether a step sends the load that it should, with its number, or none.
 pub fn loads_rightly(config: &Config, s: &State, doing: Doing<'_>, load: Option<u64>) -> bool
-    ensures { result ≡ option_eq nat_eq load (load_sent_by (view_in config.now (shown_situation s.now)) (action_of doing.entry)) }
+    ensures { result ≡ option_eq nat_eq load
+        (load_sent_by (view_in config.now (shown_situation s.now)) (action_of doing.entry)) }
 {
     match doing {
         Doing::Load { key } => loads_key_rightly(config, s, key, load),

@@ -45,7 +45,14 @@ impl Held {
         moment: u64,
         own_deadline: Option<u64>,
     ) -> Held
-        ensures { result ≡ newly_held (record { key = key; bytes = bytes; part = part; weight = weight; accepted_at = moment; own_deadline = own_deadline }) }
+        ensures { result ≡ newly_held (record {
+          key = key;
+          bytes = bytes;
+          part = part;
+          weight = weight;
+          accepted_at = moment;
+          own_deadline = own_deadline;
+        }) }
     {
         Held {
             key,
@@ -83,7 +90,12 @@ impl Held {
 
     /// A value that a table kept.
     pub fn from_kept(key: Vec<u8>, kept: StoredValue, covered: bool, evictable: bool) -> Held
-        ensures { result ≡ record { value = (slot_of key.items kept).value; last_use = kept.last_use; covered = covered; evictable = evictable } }
+        ensures { result ≡ record {
+          value = (slot_of key.items kept).value;
+          last_use = kept.last_use;
+          covered = covered;
+          evictable = evictable;
+        } }
     {
         Held {
             key: Seq::from_vec(key),
@@ -100,7 +112,8 @@ impl Held {
 
     /// Its key, and what a table keeps of it under that number.
     pub fn into_kept(self, stamp: u64) -> (Vec<u8>, StoredValue)
-        ensures { slot_of result.0.items result.1 ≡ record { value = self.value; last_use = self.last_use; stamp = stamp } }
+        ensures { slot_of result.0.items result.1
+            ≡ record { value = self.value; last_use = self.last_use; stamp = stamp } }
     {
         let Held {
             key,

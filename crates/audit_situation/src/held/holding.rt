@@ -72,7 +72,8 @@ fn lend_all<'a>(
     keys: &BTreeSet<Vec<u8>>,
     marks: &[u64],
 ) -> Result<Vec<Seen<'a>>, AllocError>
-    ensures { IfOk result (λ all. reverse (map held_of all.items) ≡ map (held_by keys.now marks.now) table.now) }
+    ensures { IfOk result
+        (λ all. reverse (map held_of all.items) ≡ map (held_by keys.now marks.now) table.now) }
 {
     let mut all = Vec::with_capacity(alloc, table.len())?;
     for (key, kept) in table.iter() {
@@ -84,7 +85,8 @@ fn lend_all<'a>(
 /// A value as it is handed out; its key is closed.
 fn hand_out(keys: &mut BTreeSet<Vec<u8>>, marks: &[u64], key: Vec<u8>, kept: StoredValue) -> Held
     ensures value { result ≡ held_by keys.old marks.now (slot_of key.items kept) }
-    ensures closed { (q : List ℕ) → is_open_key q keys.new ≡ cond (same key.items q) false (is_open_key q keys.old) }
+    ensures closed { (q : List ℕ) → is_open_key q keys.new
+        ≡ cond (same key.items q) false (is_open_key q keys.old) }
 {
     let covered = !is_open(keys, key.as_slice());
     let evictable = kept.stamp < mark_at(marks, kept.part as usize);
@@ -112,7 +114,8 @@ impl Holding {
     pub fn len(&self) -> usize
         ensures number { result ≡ length self.now }
         ensures small { list_all (λ h. nat_lt h.value.part 256) self.now ≡ true }
-        ensures apart { (key : List ℕ) → find (λ h. same key h.value.key) (without_key (λ h. h.value.key) key self.now) ≡ None }
+        ensures apart { (key : List ℕ) → find (λ h. same key h.value.key)
+            (without_key (λ h. h.value.key) key self.now) ≡ None }
     {
         self.table.len()
     }

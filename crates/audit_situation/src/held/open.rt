@@ -17,7 +17,8 @@ pub fn is_open(keys: &BTreeSet<Vec<u8>>, key: &[u8]) -> bool
 
 /// Opens a key.
 pub fn open_key(alloc: Global, keys: &mut BTreeSet<Vec<u8>>, key: &[u8]) -> Result<(), AllocError>
-    ensures { OnOk result ((q : List ℕ) → is_open_key q keys.new ≡ cond (same key.now q) true (is_open_key q keys.old)) }
+    ensures { OnOk result ((q : List ℕ) → is_open_key q keys.new
+        ≡ cond (same key.now q) true (is_open_key q keys.old)) }
 {
     let owned = Vec::from_slice(alloc, key)?;
     keys.insert(owned)?;
@@ -26,8 +27,10 @@ pub fn open_key(alloc: Global, keys: &mut BTreeSet<Vec<u8>>, key: &[u8]) -> Resu
 
 /// Closes a key.
 pub fn close_key(keys: &mut BTreeSet<Vec<u8>>, key: &Vec<u8>)
-    ensures closed { (q : List ℕ) → is_open_key q keys.new ≡ cond (same key.now.items q) false (is_open_key q keys.old) }
-    ensures fewer { is_open_key key.now.items keys.old ≡ true → btree_set_len keys.new < btree_set_len keys.old }
+    ensures closed { (q : List ℕ) → is_open_key q keys.new
+        ≡ cond (same key.now.items q) false (is_open_key q keys.old) }
+    ensures fewer { is_open_key key.now.items keys.old ≡ true
+        → btree_set_len keys.new < btree_set_len keys.old }
 {
     let _was = keys.remove(key.as_slice());
 }
@@ -36,7 +39,8 @@ pub fn close_key(keys: &mut BTreeSet<Vec<u8>>, key: &Vec<u8>)
 fn first_with<'a>(keys: &'a BTreeSet<Vec<u8>>, prefix: &'a Vec<u8>) -> Option<&'a Vec<u8>>
     ensures begins { IfSome result (λ k. starts_with nat_eq k.now.items prefix.now.items ≡ true) }
     ensures member { IfSome result (λ k. is_open_key k.now.items keys.now ≡ true) }
-    ensures none { IfNone result ((q : List ℕ) → starts_with nat_eq q prefix.now.items ≡ true → is_open_key q keys.now ≡ false) }
+    ensures none { IfNone result ((q : List ℕ) → starts_with nat_eq q prefix.now.items ≡ true
+        → is_open_key q keys.now ≡ false) }
 {
     match keys.range(prefix..).next() {
         Some(key) if key.starts_with(prefix.as_slice()) => Some(key),
@@ -50,9 +54,12 @@ fn close_next(
     keys: &mut BTreeSet<Vec<u8>>,
     prefix: &Vec<u8>,
 ) -> Result<bool, AllocError>
-    ensures others { (q : List ℕ) → starts_with nat_eq q prefix.now.items ≡ false → is_open_key q keys.new ≡ is_open_key q keys.old }
-    ensures done { IfOk result (λ more. more ≡ false → (q : List ℕ) → starts_with nat_eq q prefix.now.items ≡ true → is_open_key q keys.new ≡ false) }
-    ensures fewer { IfOk result (λ more. more ≡ true → btree_set_len keys.new < btree_set_len keys.old) }
+    ensures others { (q : List ℕ) → starts_with nat_eq q prefix.now.items ≡ false
+        → is_open_key q keys.new ≡ is_open_key q keys.old }
+    ensures done { IfOk result (λ more. more ≡ false → (q : List ℕ)
+        → starts_with nat_eq q prefix.now.items ≡ true → is_open_key q keys.new ≡ false) }
+    ensures fewer { IfOk result
+        (λ more. more ≡ true → btree_set_len keys.new < btree_set_len keys.old) }
 {
     let key = match first_with(keys, prefix) {
         Some(key) => Vec::from_slice(alloc, key.as_slice())?,
@@ -68,7 +75,8 @@ pub fn close_all(
     keys: &mut BTreeSet<Vec<u8>>,
     prefix: &[u8],
 ) -> Result<(), AllocError>
-    ensures { OnOk result ((q : List ℕ) → is_open_key q keys.new ≡ (not (starts_with nat_eq q prefix.now) && is_open_key q keys.old)) }
+    ensures { OnOk result ((q : List ℕ) → is_open_key q keys.new
+        ≡ (not (starts_with nat_eq q prefix.now) && is_open_key q keys.old)) }
 {
     let start = Vec::from_slice(alloc, prefix)?;
     let mut more = true;

@@ -27,7 +27,8 @@ fn sized_parts(
     newcomer: Option<&Held>,
     notes: &[Note],
 ) -> Result<Vec<u64>, AllocError>
-    ensures { IfOk result (λ parts. (part : ℕ) → is_among parts.items part ≡ tells_size part (values_to_tell held.now (option_map (λ h. h.now) newcomer.entry)) notes.now) }
+    ensures { IfOk result (λ parts. (part : ℕ) → is_among parts.items part ≡ tells_size part
+        (values_to_tell held.now (option_map (λ h. h.now) newcomer.entry)) notes.now) }
 {
     let mut parts = Vec::new(alloc);
     for note in notes {
@@ -40,7 +41,8 @@ fn sized_parts(
 
 /// The part of which the note tells a value `Size`.
 fn sized_part(held: &Holding, newcomer: Option<&Held>, note: &Note) -> Option<u64>
-    ensures { result ≡ sized_part (values_to_tell held.now (option_map (λ h. h.now) newcomer.entry)) note.now }
+    ensures { result ≡ sized_part (values_to_tell held.now (option_map (λ h. h.now) newcomer.entry))
+        note.now }
 {
     if !same_cause(note.cause, RemovalCause::Size) {
         return None;
@@ -60,7 +62,8 @@ fn part_of(seen: Seen<'_>) -> u64
 
 /// The part of the newcomer, if there is one, and it is of that key.
 fn new_part(newcomer: Option<&Held>, key: &[u8]) -> Option<u64>
-    ensures { result ≡ option_map (λ h. h.value.part) (find (λ h. same key.now h.value.key) (option_to_list (option_map (λ h. h.now) newcomer.entry))) }
+    ensures { result ≡ option_map (λ h. h.value.part) (find (λ h. same key.now h.value.key)
+        (option_to_list (option_map (λ h. h.now) newcomer.entry))) }
 {
     match newcomer {
         Some(newcomer) => {
@@ -85,9 +88,12 @@ fn judge_notes(
     notes: &[Note],
 ) -> Result<(bool, bool), AllocError>
     requires { IfSome (option_map (λ h. h.now) newcomer) (λ h. h.value.part < 256) }
-    ensures right { IfOk result (λ r. r.0 ≡ are_told_rightly config.now now held.old deed.entry (option_map (λ h. h.now) newcomer.entry) notes.now) }
-    ensures all { IfOk result (λ r. r.0 ≡ true → LeavesUntold notes.now (option_map (λ h. h.now) newcomer.entry) held.old held.new r.1) }
-    ensures absent { IfOk result (λ r. r.0 ≡ true → IfSome (option_map (λ h. h.now) newcomer.entry) (λ n. find (λ h. same n.value.key h.value.key) held.new ≡ None)) }
+    ensures right { IfOk result (λ r. r.0 ≡ are_told_rightly config.now now held.old deed.entry
+        (option_map (λ h. h.now) newcomer.entry) notes.now) }
+    ensures all { IfOk result (λ r. r.0 ≡ true
+        → LeavesUntold notes.now (option_map (λ h. h.now) newcomer.entry) held.old held.new r.1) }
+    ensures absent { IfOk result (λ r. r.0 ≡ true → IfSome (option_map (λ h. h.now) newcomer.entry)
+        (λ n. find (λ h. same n.value.key h.value.key) held.new ≡ None)) }
 {
     let marks = overfilled(alloc, config, held, newcomer)?;
     let scene = Scene {
@@ -106,7 +112,8 @@ fn judge_notes(
 fn add(held: &mut Holding, newcomer: Option<Held>, left: bool) -> Result<(), AllocError>
     requires small { IfSome newcomer (λ h. h.value.part < 256) }
     requires new { IfSome newcomer (λ h. h ≡ newly_held h.value) }
-    requires absent { IfSome newcomer (λ n. find (λ h. same n.value.key h.value.key) held.old ≡ None) }
+    requires absent { IfSome newcomer
+        (λ n. find (λ h. same n.value.key h.value.key) held.old ≡ None) }
     ensures { OnOk result (held.new ≡ held.old ++ rest_of left newcomer) }
 {
     match newcomer {
@@ -127,7 +134,8 @@ fn add_left(held: &mut Holding, newcomer: Held, left: bool) -> Result<(), AllocE
 
 /// Uses the value that a step looks up, if it is live.
 fn use_live(config: &Config, now: u64, uses: Option<&[u8]>, held: &mut Holding)
-    ensures { held.new ≡ map (used_in config.now now (option_map (λ k. k.now) uses.entry)) held.old }
+    ensures { held.new ≡ map (used_in config.now now (option_map (λ k. k.now) uses.entry))
+        held.old }
 {
     let _number = held.len();
     if let Some(key) = uses {
@@ -176,7 +184,8 @@ fn pass_on(
     sized: &[u64],
     held: &mut Holding,
 ) -> Result<(), AllocError>
-    ensures { OnOk result ((value : Option Value) → held.new ≡ map (passed_on_by config.now now (deed_with deed.entry.now value) sized.now (values_of held.old)) held.old) }
+    ensures { OnOk result ((value : Option Value) → held.new ≡ map (passed_on_by config.now now
+        (deed_with deed.entry.now value) sized.now (values_of held.old)) held.old) }
 {
     use_live(config, now, deed.uses, held);
     cover(deed.covers, held)?;
@@ -197,8 +206,10 @@ pub fn do_deed(
 ) -> Result<bool, AllocError>
     requires new { IfSome newcomer (IsJustAccepted now) }
     requires small { IfSome newcomer (λ h. h.value.part < 256) }
-    ensures told { IfOk result (λ b. b ≡ has_true_notes config.now now held.old (deed_with deed.entry.now (option_map (λ h. h.value) newcomer)) notes.now) }
-    ensures left { IfOk result (λ b. b ≡ true → held.new ≡ all_held_after config.now now held.old (deed_with deed.entry.now (option_map (λ h. h.value) newcomer)) notes.now) }
+    ensures told { IfOk result (λ b. b ≡ has_true_notes config.now now held.old
+        (deed_with deed.entry.now (option_map (λ h. h.value) newcomer)) notes.now) }
+    ensures left { IfOk result (λ b. b ≡ true → held.new ≡ all_held_after config.now now held.old
+        (deed_with deed.entry.now (option_map (λ h. h.value) newcomer)) notes.now) }
 {
     let sized = sized_parts(alloc, held, newcomer.as_ref(), notes)?;
     do_sized(alloc, config, now, held, deed, newcomer, notes, &sized)
@@ -217,9 +228,12 @@ fn do_sized(
 ) -> Result<bool, AllocError>
     requires new { IfSome newcomer (IsJustAccepted now) }
     requires small { IfSome newcomer (λ h. h.value.part < 256) }
-    requires sized { AreSized config.now now held.old (deed_with deed.now (option_map (λ h. h.value) newcomer)) notes.now sized.now }
-    ensures told { IfOk result (λ b. b ≡ has_true_notes config.now now held.old (deed_with deed.entry.now (option_map (λ h. h.value) newcomer)) notes.now) }
-    ensures left { IfOk result (λ b. b ≡ true → held.new ≡ all_held_after config.now now held.old (deed_with deed.entry.now (option_map (λ h. h.value) newcomer)) notes.now) }
+    requires sized { AreSized config.now now held.old
+        (deed_with deed.now (option_map (λ h. h.value) newcomer)) notes.now sized.now }
+    ensures told { IfOk result (λ b. b ≡ has_true_notes config.now now held.old
+        (deed_with deed.entry.now (option_map (λ h. h.value) newcomer)) notes.now) }
+    ensures left { IfOk result (λ b. b ≡ true → held.new ≡ all_held_after config.now now held.old
+        (deed_with deed.entry.now (option_map (λ h. h.value) newcomer)) notes.now) }
 {
     let (right, left) = judge_notes(alloc, config, now, held, *deed, newcomer.as_ref(), notes)?;
     if !right {

@@ -37,7 +37,8 @@ pub struct Candidate<'a> {
 /// Whether a part is over its share just after the step's acceptance.
 fn overfills(scene: &Scene<'_>, part: u64) -> bool
     requires { part < 256 }
-    ensures { (before : List Eligible) → IsBefore scene.now before → result ≡ overfills scene.now.config.now before (deed_in scene.now) part }
+    ensures { (before : List Eligible) → IsBefore scene.now before
+        → result ≡ overfills scene.now.config.now before (deed_in scene.now) part }
 {
     match scene.overfilled.get(part as usize) {
         Some(over) => *over,
@@ -65,7 +66,8 @@ fn is_succeeded(scene: &Scene<'_>, c: Candidate<'_>) -> bool
 /// Whether the cause is true of the value.
 fn is_true_cause(scene: &Scene<'_>, c: Candidate<'_>, cause: RemovalCause) -> bool
     requires { c.seen.part < 256 }
-    ensures { (before : List Eligible) → IsBefore scene.now before → result ≡ is_true_cause scene.now.config.now before (deed_in scene.now) (candidate_in scene.now c.entry) cause }
+    ensures { (before : List Eligible) → IsBefore scene.now before → result ≡ is_true_cause
+        scene.now.config.now before (deed_in scene.now) (candidate_in scene.now c.entry) cause }
 {
     let dead = is_dead(scene.config, scene.moment, &c.seen);
     match cause {
@@ -81,7 +83,8 @@ fn is_true_cause(scene: &Scene<'_>, c: Candidate<'_>, cause: RemovalCause) -> bo
 /// The first cause that is true of an older value which the step writes over or deletes.
 fn first_cause(scene: &Scene<'_>, c: Candidate<'_>) -> RemovalCause
     requires { c.seen.part < 256 }
-    ensures { (before : List Eligible) → IsBefore scene.now before → result ≡ first_cause scene.now.config.now before (deed_in scene.now) (candidate_in scene.now c.entry) }
+    ensures { (before : List Eligible) → IsBefore scene.now before → result ≡ first_cause
+        scene.now.config.now before (deed_in scene.now) (candidate_in scene.now c.entry) }
 {
     if is_true_cause(scene, c, RemovalCause::Expired) {
         RemovalCause::Expired
@@ -108,7 +111,9 @@ pub fn same_cause(a: RemovalCause, b: RemovalCause) -> bool
 /// Whether the note has the value's bytes, and a cause that it may have.
 fn is_true_note(scene: &Scene<'_>, note: &Note, c: Candidate<'_>) -> bool
     requires { c.seen.part < 256 }
-    ensures { (before : List Eligible) → IsBefore scene.now before → result ≡ is_true_note scene.now.config.now before (deed_in scene.now) note.now (Some (candidate_in scene.now c.entry)) }
+    ensures { (before : List Eligible) → IsBefore scene.now before
+        → result ≡ is_true_note scene.now.config.now before (deed_in scene.now) note.now
+        (Some (candidate_in scene.now c.entry)) }
 {
     if note.value.as_slice() != c.seen.bytes {
         return false;
@@ -123,8 +128,10 @@ fn is_true_note(scene: &Scene<'_>, note: &Note, c: Candidate<'_>) -> bool
 /// Whether a note of a key that has no older value left tells the newcomer, with a true cause; the newcomer is left no more then.
 fn is_true_of_new(scene: &Scene<'_>, left: &mut bool, note: &Note) -> bool
     requires { IfSome (newcomer_in scene.now) (λ h. h.value.part < 256) }
-    ensures right { IsTrueNoteOf scene.now note.now (find (λ c. same note.now.key c.value.key) (new_candidates_in scene.now left.old)) result }
-    ensures taken { result ≡ true → without_key (λ h. h.value.key) note.now.key (rest_of left.old (newcomer_in scene.now)) ≡ [] }
+    ensures right { IsTrueNoteOf scene.now note.now
+        (find (λ c. same note.now.key c.value.key) (new_candidates_in scene.now left.old)) result }
+    ensures taken { result ≡ true → without_key (λ h. h.value.key) note.now.key
+        (rest_of left.old (newcomer_in scene.now)) ≡ [] }
     ensures left { result ≡ true → left.new ≡ false }
 {
     match scene.newcomer {
@@ -146,8 +153,10 @@ fn is_true_of_new(scene: &Scene<'_>, left: &mut bool, note: &Note) -> bool
 /// Takes the key's first value that is not reported yet, and returns whether the note reports it with a true cause.
 fn is_true_of_first(scene: &Scene<'_>, held: &mut Holding, left: &mut bool, note: &Note) -> bool
     requires { IfSome (newcomer_in scene.now) (λ h. h.value.part < 256) }
-    ensures right { IsTrueNoteOf scene.now note.now (first_of note.now.key (candidates_in scene.now held.old left.old)) result }
-    ensures taken { result ≡ true → TakesFirstValue scene.now note.now.key held.old left.old held.new left.new }
+    ensures right { IsTrueNoteOf scene.now note.now
+        (first_of note.now.key (candidates_in scene.now held.old left.old)) result }
+    ensures taken { result ≡ true
+        → TakesFirstValue scene.now note.now.key held.old left.old held.new left.new }
 {
     match held.take(note.key.as_slice()) {
         Some(told) => {
@@ -163,7 +172,8 @@ fn is_true_of_first(scene: &Scene<'_>, held: &mut Holding, left: &mut bool, note
 
 /// Whether there is no such key, or it has no value.
 fn is_absent(held: &Holding, key: Option<&[u8]>) -> bool
-    ensures { result ≡ list_all (λ h. not (is_this h.value.key (option_map (λ k. k.now) key.entry))) held.now }
+    ensures { result ≡ list_all (λ h. not (is_this h.value.key (option_map (λ k. k.now) key.entry)))
+        held.now }
 {
     match key {
         Some(key) => held.get(key).is_none(),
@@ -173,7 +183,9 @@ fn is_absent(held: &Holding, key: Option<&[u8]>) -> bool
 
 /// Whether the newcomer is not left, or the step does not delete its key.
 fn spares_new(scene: &Scene<'_>, left: bool) -> bool
-    ensures { result ≡ list_all (λ h. not (is_this h.value.key (option_map (λ k. k.now) scene.now.deed.deletes))) (rest_of left (newcomer_in scene.now)) }
+    ensures { result
+        ≡ list_all (λ h. not (is_this h.value.key (option_map (λ k. k.now) scene.now.deed.deletes)))
+        (rest_of left (newcomer_in scene.now)) }
 {
     match scene.newcomer {
         Some(newcomer) => !left || !is_this(newcomer.key(), scene.deed.deletes),
@@ -183,7 +195,8 @@ fn spares_new(scene: &Scene<'_>, left: bool) -> bool
 
 /// The key of the newcomer.
 fn new_key<'a>(scene: &Scene<'a>) -> Option<&'a [u8]>
-    ensures { option_map (λ k. k.now) result ≡ option_map (λ h. h.value.key) (newcomer_in scene.now) }
+    ensures { option_map (λ k. k.now) result
+        ≡ option_map (λ h. h.value.key) (newcomer_in scene.now) }
 {
     match scene.newcomer {
         Some(newcomer) => Some(newcomer.key()),
@@ -193,8 +206,10 @@ fn new_key<'a>(scene: &Scene<'a>) -> Option<&'a [u8]>
 
 /// Whether the step writes or deletes the key of none that is left.
 fn are_none_succeeded(scene: &Scene<'_>, held: &Holding, left: bool) -> bool
-    ensures none { result ≡ list_all (λ c. not (is_succeeded (deed_in scene.now) c)) (candidates_in scene.now held.now left) }
-    ensures absent { result ≡ true → IfSome (newcomer_in scene.now) (λ n. find (λ h. same n.value.key h.value.key) held.now ≡ None) }
+    ensures none { result ≡ list_all (λ c. not (is_succeeded (deed_in scene.now) c))
+        (candidates_in scene.now held.now left) }
+    ensures absent { result ≡ true → IfSome (newcomer_in scene.now)
+        (λ n. find (λ h. same n.value.key h.value.key) held.now ≡ None) }
 {
     let written = is_absent(held, new_key(scene));
     let deleted = is_absent(held, scene.deed.deletes);
@@ -218,10 +233,15 @@ pub fn are_true_notes(
     notes: &[Note],
 ) -> bool
     requires small { IfSome (newcomer_in scene.now) (λ h. h.value.part < 256) }
-    requires before { IsBefore scene.now (map (candidate_at scene.now.config.now scene.now.moment) held.old) }
-    ensures right { result ≡ are_true_notes scene.now.config.now (map (candidate_at scene.now.config.now scene.now.moment) held.old) (deed_in scene.now) (candidates_in scene.now held.old left.old) notes.now }
-    ensures all { result ≡ true → held.new ++ rest_of left.new (newcomer_in scene.now) ≡ untold (λ h. h.value.key) notes.now (held.old ++ rest_of left.old (newcomer_in scene.now)) }
-    ensures absent { result ≡ true → IfSome (newcomer_in scene.now) (λ n. find (λ h. same n.value.key h.value.key) held.new ≡ None) }
+    requires before { IsBefore scene.now
+        (map (candidate_at scene.now.config.now scene.now.moment) held.old) }
+    ensures right { result ≡ are_true_notes scene.now.config.now
+        (map (candidate_at scene.now.config.now scene.now.moment) held.old) (deed_in scene.now)
+        (candidates_in scene.now held.old left.old) notes.now }
+    ensures all { result ≡ true → held.new ++ rest_of left.new (newcomer_in scene.now) ≡ untold
+        (λ h. h.value.key) notes.now (held.old ++ rest_of left.old (newcomer_in scene.now)) }
+    ensures absent { result ≡ true → IfSome (newcomer_in scene.now)
+        (λ n. find (λ h. same n.value.key h.value.key) held.new ≡ None) }
 {
     for note in notes {
         if !is_true_of_first(scene, held, left, note) {

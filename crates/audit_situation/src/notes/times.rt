@@ -62,7 +62,8 @@ pub fn live<'a>(config: &Config, now: u64, held: &'a Holding, key: &'a [u8]) -> 
 
 /// A value, if it is live.
 fn if_live<'a>(config: &Config, now: u64, seen: Seen<'a>) -> Option<Seen<'a>>
-    ensures { result ≡ (if is_live_at config.now now (held_of seen.entry) then Some seen.entry else None) }
+    ensures { result
+        ≡ (if is_live_at config.now now (held_of seen.entry) then Some seen.entry else None) }
 {
     if is_live(config, now, &seen) {
         Some(seen)

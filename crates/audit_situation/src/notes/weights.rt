@@ -96,8 +96,10 @@ fn weight_with(
     newcomer: &Held,
     part: usize,
 ) -> Result<u128, AllocError>
-    requires { option_map held_of older ≡ find (λ h. same newcomer.now.value.key h.value.key) held.now }
-    ensures { IfOk result (λ weight. weight ≡ weight_of_part part (just_accepted (values_of held.now) (Some newcomer.now.value))) }
+    requires { option_map held_of older
+        ≡ find (λ h. same newcomer.now.value.key h.value.key) held.now }
+    ensures { IfOk result (λ weight. weight
+        ≡ weight_of_part part (just_accepted (values_of held.now) (Some newcomer.now.value))) }
 {
     let own = weight_seen(Some(newcomer.see()), part);
     let left = held.weight_of(part) - u128::from(weight_seen(older, part));
@@ -114,7 +116,9 @@ fn overfilled_by(
     held: &Holding,
     newcomer: &Held,
 ) -> Result<Vec<bool>, AllocError>
-    ensures { IfOk result (λ marks. (part : ℕ) → part < 256 → get_or marks.items part false ≡ nat_lt limit (weight_of_part part (just_accepted (values_of held.now) (Some newcomer.now.value)))) }
+    ensures { IfOk result
+        (λ marks. (part : ℕ) → part < 256 → get_or marks.items part false ≡ nat_lt limit
+        (weight_of_part part (just_accepted (values_of held.now) (Some newcomer.now.value)))) }
 {
     let older = held.get(newcomer.key());
     let mut marks = Vec::with_capacity(alloc, PARTS)?;
@@ -132,7 +136,8 @@ pub fn overfilled(
     held: &Holding,
     newcomer: Option<&Held>,
 ) -> Result<Vec<bool>, AllocError>
-    ensures { IfOk result (λ marks. AreOverfilledBy config.now held.now (option_map (λ h. h.now) newcomer.entry) marks.items) }
+    ensures { IfOk result (λ marks. AreOverfilledBy config.now held.now
+        (option_map (λ h. h.now) newcomer.entry) marks.items) }
 {
     match newcomer {
         Some(newcomer) => overfilled_with(alloc, config, held, newcomer),
@@ -147,7 +152,8 @@ fn overfilled_with(
     held: &Holding,
     newcomer: &Held,
 ) -> Result<Vec<bool>, AllocError>
-    ensures { IfOk result (λ marks. (part : ℕ) → part < 256 → get_or marks.items part false ≡ is_over config.now part (just_accepted (values_of held.now) (Some newcomer.now.value))) }
+    ensures { IfOk result (λ marks. (part : ℕ) → part < 256 → get_or marks.items part false
+        ≡ is_over config.now part (just_accepted (values_of held.now) (Some newcomer.now.value))) }
 {
     match config.capacity {
         Some(_) => overfilled_by(alloc, limit_of(config), held, newcomer),

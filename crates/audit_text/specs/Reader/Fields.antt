@@ -38,7 +38,8 @@ IsRead said (Ok a) = said ≡ Some a
 IsRead said (Err f) = IsFault said f
 
 -- the same for a reading that leaves words
-abbrev pub IsReadOff : {A : Type 0} → Option (A × List (List ℕ)) → Result A LineFault → List (List ℕ) → Type 0
+abbrev pub IsReadOff : {A : Type 0} → Option (A × List (List ℕ)) → Result A LineFault
+    → List (List ℕ) → Type 0
 IsReadOff said (Ok a) left = said ≡ Some (a, left)
 IsReadOff said (Err f) left = IsFault said f
 
@@ -94,17 +95,25 @@ part_in_words word = option_map (λ part. record { part = part }) (number_in wor
 
 -- yes or no
 abbrev pub flag_in : List ℕ → Option Bool
-flag_in word = if bytes_eq word (codes "1") then Some true else (if bytes_eq word (codes "0") then Some false else None)
+flag_in word =
+    if bytes_eq word (codes "1") then Some true
+    else (if bytes_eq word (codes "0") then Some false else None)
 
 -- whether a step was held back
 abbrev pub held_in : List ℕ → Option Bool
-held_in word = if bytes_eq word (codes "held") then Some true else (if bytes_eq word (codes "run") then Some false else None)
+held_in word =
+    if bytes_eq word (codes "held") then Some true
+    else (if bytes_eq word (codes "run") then Some false else None)
 
 abbrev pub policy_in : List ℕ → Option EvictionPolicy
-policy_in word = if bytes_eq word (codes "lru") then Some policy.Lru else (if bytes_eq word (codes "tinylfu") then Some policy.TinyLfu else None)
+policy_in word =
+    if bytes_eq word (codes "lru") then Some policy.Lru
+    else (if bytes_eq word (codes "tinylfu") then Some policy.TinyLfu else None)
 
 abbrev pub weight_in_words : List ℕ → Option Weight
-weight_in_words word = if bytes_eq word (codes "one") then Some weight.One else (if bytes_eq word (codes "bytes") then Some weight.Bytes else None)
+weight_in_words word =
+    if bytes_eq word (codes "one") then Some weight.One
+    else (if bytes_eq word (codes "bytes") then Some weight.Bytes else None)
 
 abbrev pub cause_in : List ℕ → Option RemovalCause
 cause_in word =
@@ -120,7 +129,8 @@ behind (n ∷ name) [] = None
 behind (n ∷ name) (b ∷ word) = if b == n then behind name word else None
 
 -- what comes after this name in the next word was returned, and the words after it are left
-abbrev pub IsSetting : List ℕ → List (List ℕ) → Result (Bor (List ℕ)) LineFault → List (List ℕ) → Type 0
+abbrev pub IsSetting : List ℕ → List (List ℕ) → Result (Bor (List ℕ)) LineFault → List (List ℕ)
+    → Type 0
 IsSetting name old (Ok rest) left = field (behind name) old ≡ Some (rest.now, left)
 IsSetting name old (Err f) left = IsFault (field (behind name) old) f
 
@@ -130,7 +140,9 @@ setting_in name says word = behind name word >>= says
 
 -- the value of a lower-case hex digit
 abbrev pub digit_in : ℕ → Option ℕ
-digit_in d = if nat_le 48 d && nat_le d 57 then Some (d - 48) else (if nat_le 97 d && nat_le d 102 then Some (d - 87) else None)
+digit_in d =
+    if nat_le 48 d && nat_le d 57 then Some (d - 48)
+    else (if nat_le 97 d && nat_le d 102 then Some (d - 87) else None)
 
 -- the byte that two digits write
 abbrev pub byte_in : ℕ → ℕ → Option ℕ

@@ -10,6 +10,7 @@ use Rattle.audit_model.specs.declared.transcript.Note.{Note}
 use Rattle.audit_model.specs.declared.transcript.Record.{Record}
 use Rattle.audit_model.specs.declared.transcript.Step.{Step}
 use Rattle.audit_model.specs.declared.transcript.Transcript.{Transcript}
+use Rattle.audit_text.specs.Text.{transcript_text}
 
 -- P holds for each
 abbrev pub Each : {A : Type 0} → (A → Type 0) → List A → Type 0
@@ -46,8 +47,10 @@ FitsOutcome (outcome.Fault text) = FitsBytes text
 abbrev pub FitsEvent : Event → Type 0
 FitsEvent (event.Open conn) = FitsNumber conn
 FitsEvent (event.Close conn) = FitsNumber conn
-FitsEvent (event.Feed conn piece moment) = FitsNumber conn × FitsBytes piece × FitsNumber moment.nanos
-FitsEvent (event.Answer load outcome moment) = FitsNumber load × FitsOutcome outcome × FitsNumber moment.nanos
+FitsEvent (event.Feed conn piece moment) =
+    FitsNumber conn × FitsBytes piece × FitsNumber moment.nanos
+FitsEvent (event.Answer load outcome moment) =
+    FitsNumber load × FitsOutcome outcome × FitsNumber moment.nanos
 FitsEvent (event.GiveUp load moment) = FitsNumber load × FitsNumber moment.nanos
 
 pub record FitsNote (note : Note) : Type 0 where
@@ -71,3 +74,11 @@ pub record FitsRecord (r : Record) : Type 0 where
 pub record FitsTranscript (transcript : Transcript) : Type 0 where
   pub made : FitsNumber transcript.made.nanos
   pub records : Each FitsRecord transcript.records
+
+-- two transcripts with one text are one, and so are their configurations
+abbrev pub OneText : Type 0
+OneText =
+    (config : Config) → (transcript : Transcript) → FitsConfig config → FitsTranscript transcript
+    → (other_config : Config) → (other : Transcript) → FitsConfig other_config
+    → FitsTranscript other → transcript_text config transcript ≡ transcript_text other_config other
+    → (config ≡ other_config) × (transcript ≡ other)

@@ -49,10 +49,16 @@ abbrev pub with_step : Record → Step → Record
 with_step r step = record r { steps = r.steps ++ step ∷ [] }
 
 abbrev pub with_own : Record → Accepted → Option Record
-with_own r own = if is_some r.own || not (nat_eq (length r.notices) 0) || not (nat_eq (length r.steps) 0) then None else Some (record r { own = Some own })
+with_own r own =
+    if is_some r.own || not (nat_eq (length r.notices) 0) || not (nat_eq (length r.steps) 0) then None else Some (record r {
+      own = Some own;
+    })
 
 abbrev pub with_own_note : Record → Note → Option Record
-with_own_note r note = if not (nat_eq (length r.steps) 0) then None else Some (record r { notices = r.notices ++ note ∷ [] })
+with_own_note r note =
+    if not (nat_eq (length r.steps) 0) then None else Some (record r {
+      notices = r.notices ++ note ∷ [];
+    })
 
 abbrev pub with_note : Step → Note → Step
 with_note s note = record s { notices = s.notices ++ note ∷ [] }
@@ -79,31 +85,45 @@ closed_record g = record_closed g.«record» g
 -- ---- what was gathered with one more item, if it may come there
 
 unfoldable pub add_config : Gathered → Config → Option Gathered
-add_config g config = if is_some g.config || not (has_no_records g) || is_some g.made then None else Some (record g { config = Some config })
+add_config g config =
+    if is_some g.config || not (has_no_records g) || is_some g.made then None else Some (record g {
+      config = Some config;
+    })
 
 unfoldable pub add_made : Gathered → Instant → Option Gathered
-add_made g made = if is_none g.config || not (has_no_records g) || is_some g.made then None else Some (record g { made = Some made })
+add_made g made =
+    if is_none g.config || not (has_no_records g) || is_some g.made then None else Some (record g {
+      made = Some made;
+    })
 
 -- a new record
 abbrev pub begun : Event → Record
 begun event = record { event = event; own = None; notices = []; steps = [] }
 
 unfoldable pub add_event : Gathered → Event → Option Gathered
-add_event g event = if is_none g.made then None else option_map {T = Gathered} (λ closed. record (closed_record closed) { «record» = Some (begun event) }) (closed_step g)
+add_event g event =
+    if is_none g.made then None else option_map {T = Gathered} (λ closed. record (closed_record closed) {
+      «record» = Some (begun event);
+    }) (closed_step g)
 
 -- the open record was changed, if no step is open
 abbrev pub on_record : (Record → Option Record) → Option Record → Gathered → Option Gathered
 on_record change None g = None
-on_record change (Some r) g = option_map (λ changed. record g { «record» = Some changed }) (change r)
+on_record change (Some r) g =
+    option_map (λ changed. record g { «record» = Some changed }) (change r)
 
 unfoldable pub add_own : Gathered → Accepted → Option Gathered
 add_own g own = if is_some g.step then None else on_record (λ r. with_own r own) g.«record» g
 
 unfoldable pub add_own_note : Gathered → Note → Option Gathered
-add_own_note g note = if is_some g.step then None else on_record (λ r. with_own_note r note) g.«record» g
+add_own_note g note =
+    if is_some g.step then None else on_record (λ r. with_own_note r note) g.«record» g
 
 unfoldable pub add_step : Gathered → Step → Option Gathered
-add_step g step = if is_none g.«record» then None else option_map {T = Gathered} (λ closed. record closed { step = Some step }) (closed_step g)
+add_step g step =
+    if is_none g.«record» then None else option_map {T = Gathered} (λ closed. record closed {
+      step = Some step;
+    }) (closed_step g)
 
 -- the open step was changed
 abbrev pub on_step : Option Step → Note → Gathered → Option Gathered

@@ -12,9 +12,14 @@ use Rattle.audit_text.specs.declared.reader.inputs.Replay.{Replay}
 abbrev pub asked_words : Input → List (List ℕ)
 asked_words (input.Open namespace) = decimal namespace ∷ codes "open" ∷ []
 asked_words (input.Close conn) = decimal conn.namespace ∷ codes "close" ∷ decimal conn.number ∷ []
-asked_words (input.Feed conn piece moment) = decimal conn.namespace ∷ codes "feed" ∷ decimal conn.number ∷ decimal moment.nanos ∷ bytes_word piece ∷ []
-asked_words (input.Answer load outcome moment) = decimal load.namespace ∷ codes "answer" ∷ decimal load.number ∷ decimal moment.nanos ∷ outcome_words outcome
-asked_words (input.GiveUp load moment) = decimal load.namespace ∷ codes "giveup" ∷ decimal load.number ∷ decimal moment.nanos ∷ []
+asked_words (input.Feed conn piece moment) =
+    decimal conn.namespace ∷ codes "feed" ∷ decimal conn.number ∷ decimal moment.nanos
+    ∷ bytes_word piece ∷ []
+asked_words (input.Answer load outcome moment) =
+    decimal load.namespace ∷ codes "answer" ∷ decimal load.number ∷ decimal moment.nanos
+    ∷ outcome_words outcome
+asked_words (input.GiveUp load moment) =
+    decimal load.namespace ∷ codes "giveup" ∷ decimal load.number ∷ decimal moment.nanos ∷ []
 
 -- an input
 abbrev pub input_words : Input → List (List ℕ)
@@ -23,14 +28,19 @@ input_words input = codes "input" ∷ asked_words input
 -- the configurations, the moment of creation, and the inputs
 abbrev pub replay_text : Replay → List ℕ
 replay_text replay =
-    flat_map (λ config. line (config_words config)) replay.configs ++ line (made_words replay.made.nanos) ++ flat_map (λ input. line (input_words input)) replay.inputs
+    flat_map (λ config. line (config_words config)) replay.configs ++ line
+    (made_words replay.made.nanos) ++ flat_map (λ input. line (input_words input)) replay.inputs
 
 abbrev pub FitsInput : Input → Type 0
 FitsInput (input.Open namespace) = FitsNumber namespace
 FitsInput (input.Close conn) = FitsNumber conn.namespace × FitsNumber conn.number
-FitsInput (input.Feed conn piece moment) = FitsNumber conn.namespace × FitsNumber conn.number × FitsNumber moment.nanos × FitsBytes piece
-FitsInput (input.Answer load outcome moment) = FitsNumber load.namespace × FitsNumber load.number × FitsNumber moment.nanos × FitsOutcome outcome
-FitsInput (input.GiveUp load moment) = FitsNumber load.namespace × FitsNumber load.number × FitsNumber moment.nanos
+FitsInput (input.Feed conn piece moment) =
+    FitsNumber conn.namespace × FitsNumber conn.number × FitsNumber moment.nanos × FitsBytes piece
+FitsInput (input.Answer load outcome moment) =
+    FitsNumber load.namespace × FitsNumber load.number × FitsNumber moment.nanos
+    × FitsOutcome outcome
+FitsInput (input.GiveUp load moment) =
+    FitsNumber load.namespace × FitsNumber load.number × FitsNumber moment.nanos
 
 -- a replay that can be written: it has a configuration
 pub record FitsReplay (replay : Replay) : Type 0 where

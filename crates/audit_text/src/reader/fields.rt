@@ -103,7 +103,8 @@ impl<'a> Words<'a> {
 
     /// The number that the next word writes, or that there is none.
     pub fn number_or_none(&mut self) -> Result<Option<u64>, LineFault>
-        ensures { IsReadOff (field (option_in number_in) (words_left self.old)) result (words_left self.new) }
+        ensures { IsReadOff (field (option_in number_in) (words_left self.old)) result
+            (words_left self.new) }
     {
         let word = self.next()?;
         read_number_or_none(word)
@@ -111,7 +112,8 @@ impl<'a> Words<'a> {
 
     /// The part that the next word writes.
     pub fn part(&mut self) -> Result<Accepted, LineFault>
-        ensures { IsReadOff (field part_in_words (words_left self.old)) result (words_left self.new) }
+        ensures { IsReadOff (field part_in_words (words_left self.old)) result
+            (words_left self.new) }
     {
         let part = self.number()?;
         Ok(Accepted { part })
@@ -119,7 +121,8 @@ impl<'a> Words<'a> {
 
     /// The part that the next word writes, or that there is none.
     pub fn part_or_none(&mut self) -> Result<Option<Accepted>, LineFault>
-        ensures { IsReadOff (field (option_in part_in_words) (words_left self.old)) result (words_left self.new) }
+        ensures { IsReadOff (field (option_in part_in_words) (words_left self.old)) result
+            (words_left self.new) }
     {
         let word = self.next()?;
         read_part_or_none(word)
@@ -135,7 +138,8 @@ impl<'a> Words<'a> {
 
     /// The bytes that the next word writes, or that there are none.
     pub fn bytes_or_none(&mut self, alloc: Global) -> Result<Option<Bytes>, LineFault>
-        ensures { IsReadOff (field (option_in bytes_in) (words_left self.old)) result (words_left self.new) }
+        ensures { IsReadOff (field (option_in bytes_in) (words_left self.old)) result
+            (words_left self.new) }
     {
         let word = self.next()?;
         read_bytes_or_none(alloc, word)
@@ -168,7 +172,8 @@ impl<'a> Words<'a> {
     /// The number that the setting of this name has.
     #[tactic(auto, using(crate::proofs::reader::Wording::setting_field))]
     pub fn number_setting(&mut self, name: &[u8]) -> Result<u64, LineFault>
-        ensures { IsReadOff (field (setting_in name.now number_in) (words_left self.old)) result (words_left self.new) }
+        ensures { IsReadOff (field (setting_in name.now number_in) (words_left self.old)) result
+            (words_left self.new) }
     {
         let word = self.setting(name)?;
         read_number(word)
@@ -177,7 +182,9 @@ impl<'a> Words<'a> {
     /// The number that the setting of this name has, or that there is none.
     #[tactic(auto, using(crate::proofs::reader::Wording::setting_field))]
     pub fn number_or_none_setting(&mut self, name: &[u8]) -> Result<Option<u64>, LineFault>
-        ensures { IsReadOff (field (setting_in name.now (option_in number_in)) (words_left self.old)) result (words_left self.new) }
+        ensures { IsReadOff
+            (field (setting_in name.now (option_in number_in)) (words_left self.old)) result
+            (words_left self.new) }
     {
         let word = self.setting(name)?;
         read_number_or_none(word)
@@ -186,7 +193,8 @@ impl<'a> Words<'a> {
     /// The policy that the setting of this name has.
     #[tactic(auto, using(crate::proofs::reader::Wording::setting_field))]
     pub fn policy_setting(&mut self, name: &[u8]) -> Result<EvictionPolicy, LineFault>
-        ensures { IsReadOff (field (setting_in name.now policy_in) (words_left self.old)) result (words_left self.new) }
+        ensures { IsReadOff (field (setting_in name.now policy_in) (words_left self.old)) result
+            (words_left self.new) }
     {
         let word = self.setting(name)?;
         read_policy(word)
@@ -195,7 +203,8 @@ impl<'a> Words<'a> {
     /// The weight that the setting of this name has.
     #[tactic(auto, using(crate::proofs::reader::Wording::setting_field))]
     pub fn weight_setting(&mut self, name: &[u8]) -> Result<Weight, LineFault>
-        ensures { IsReadOff (field (setting_in name.now weight_in_words) (words_left self.old)) result (words_left self.new) }
+        ensures { IsReadOff (field (setting_in name.now weight_in_words) (words_left self.old))
+            result (words_left self.new) }
     {
         let word = self.setting(name)?;
         read_weight(word)
@@ -204,7 +213,8 @@ impl<'a> Words<'a> {
     /// Yes or no, as the setting of this name says.
     #[tactic(auto, using(crate::proofs::reader::Wording::setting_field))]
     pub fn flag_setting(&mut self, name: &[u8]) -> Result<bool, LineFault>
-        ensures { IsReadOff (field (setting_in name.now flag_in) (words_left self.old)) result (words_left self.new) }
+        ensures { IsReadOff (field (setting_in name.now flag_in) (words_left self.old)) result
+            (words_left self.new) }
     {
         let word = self.setting(name)?;
         read_flag(word)

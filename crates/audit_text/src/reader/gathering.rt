@@ -39,7 +39,8 @@ pub fn nothing(alloc: Global) -> Gathered
 
 /// Appends an item, if it may come there.
 pub fn add_item(alloc: Global, gathered: &mut Gathered, item: Item) -> Result<(), LineFault>
-    ensures text { OnOk result (gathered_text gathered.new ≡ gathered_text gathered.old ++ item_line item) }
+    ensures text { OnOk result
+        (gathered_text gathered.new ≡ gathered_text gathered.old ++ item_line item) }
     ensures said { IsMade (said.add_item gathered.old item) result gathered.new }
 {
     match item {
@@ -55,7 +56,8 @@ pub fn add_item(alloc: Global, gathered: &mut Gathered, item: Item) -> Result<()
 
 #[tactic(auto, unfolding(crate::specs::Reader::Gathering::add_config))]
 fn add_config(gathered: &mut Gathered, config: Config) -> Result<(), LineFault>
-    ensures text { OnOk result (gathered_text gathered.new ≡ gathered_text gathered.old ++ item_line (Item.Config config)) }
+    ensures text { OnOk result (gathered_text gathered.new ≡ gathered_text gathered.old
+        ++ item_line (Item.Config config)) }
     ensures said { IsMade (said.add_config gathered.old config) result gathered.new }
 {
     if gathered.config.is_some() || !has_no_records(gathered) || gathered.made.is_some() {
@@ -67,7 +69,8 @@ fn add_config(gathered: &mut Gathered, config: Config) -> Result<(), LineFault>
 
 #[tactic(auto, unfolding(crate::specs::Reader::Gathering::add_made))]
 fn add_made(gathered: &mut Gathered, made: Instant) -> Result<(), LineFault>
-    ensures text { OnOk result (gathered_text gathered.new ≡ gathered_text gathered.old ++ item_line (Item.Made made)) }
+    ensures text { OnOk result
+        (gathered_text gathered.new ≡ gathered_text gathered.old ++ item_line (Item.Made made)) }
     ensures said { IsMade (said.add_made gathered.old made) result gathered.new }
 {
     if gathered.config.is_none() || !has_no_records(gathered) || gathered.made.is_some() {
@@ -80,14 +83,16 @@ fn add_made(gathered: &mut Gathered, made: Instant) -> Result<(), LineFault>
 /// Whether no record has begun.
 fn has_no_records(gathered: &Gathered) -> bool
     ensures said { result ≡ said.has_no_records gathered.now }
-    ensures none { IsTrue result → ((gathered.now.records ≡ []) × (gathered.now.«record» ≡ None) × (gathered.now.step ≡ None)) }
+    ensures none { IsTrue result → ((gathered.now.records ≡ []) × (gathered.now.«record» ≡ None)
+        × (gathered.now.step ≡ None)) }
 {
     gathered.records.len() == 0 && gathered.record.is_none() && gathered.step.is_none()
 }
 
 #[tactic(auto, unfolding(crate::specs::Reader::Gathering::add_event))]
 fn add_event(alloc: Global, gathered: &mut Gathered, event: Event) -> Result<(), LineFault>
-    ensures text { OnOk result (gathered_text gathered.new ≡ gathered_text gathered.old ++ item_line (Item.Event event)) }
+    ensures text { OnOk result
+        (gathered_text gathered.new ≡ gathered_text gathered.old ++ item_line (Item.Event event)) }
     ensures said { IsMade (said.add_event gathered.old event) result gathered.new }
 {
     if gathered.made.is_none() {
@@ -124,8 +129,10 @@ fn close_step(gathered: &mut Gathered) -> Result<(), LineFault>
 
 /// Adds the last step to the record that is open, if one is.
 fn put_last_step(open: &mut Option<Record>, step: Step) -> Result<(), LineFault>
-    ensures text { OnOk result (option_map_or record_text open.new [] ≡ option_map_or record_text open.old [] ++ step_text step) }
-    ensures said { IsMade (option_map (λ r. Some (said.with_step r step)) open.old) result open.new }
+    ensures text { OnOk result (option_map_or record_text open.new []
+        ≡ option_map_or record_text open.old [] ++ step_text step) }
+    ensures said { IsMade (option_map (λ r. Some (said.with_step r step)) open.old) result
+        open.new }
 {
     match open {
         Some(record) => put_step(record, step),
@@ -136,7 +143,8 @@ fn put_last_step(open: &mut Option<Record>, step: Step) -> Result<(), LineFault>
 /// Adds a step to a record.
 #[tactic(auto, using(crate::proofs::reader::Growing::flat_map_push))]
 fn put_step(record: &mut Record, step: Step) -> Result<(), LineFault>
-    ensures text { OnOk result (record_text «record».new ≡ record_text «record».old ++ step_text step) }
+    ensures text { OnOk result
+        (record_text «record».new ≡ record_text «record».old ++ step_text step) }
     ensures said { IsMade (Some (said.with_step «record».old step)) result «record».new }
 {
     record.steps.push(step)?;
@@ -161,7 +169,8 @@ fn close_record(gathered: &mut Gathered) -> Result<(), LineFault>
 /// Adds a record to the others.
 #[tactic(auto, using(crate::proofs::reader::Growing::flat_map_push))]
 fn put_record(records: &mut Seq<Record>, record: Record) -> Result<(), LineFault>
-    ensures text { OnOk result (flat_map record_text records.new ≡ flat_map record_text records.old ++ record_text «record») }
+    ensures text { OnOk result (flat_map record_text records.new ≡ flat_map record_text records.old
+        ++ record_text «record») }
     ensures said { IsMade (Some (records.old ++ «record» ∷ [])) result records.new }
 {
     records.push(record)?;
@@ -170,7 +179,8 @@ fn put_record(records: &mut Seq<Record>, record: Record) -> Result<(), LineFault
 
 #[tactic(auto, unfolding(crate::specs::Reader::Gathering::add_own))]
 fn add_own(gathered: &mut Gathered, own: Accepted) -> Result<(), LineFault>
-    ensures text { OnOk result (gathered_text gathered.new ≡ gathered_text gathered.old ++ item_line (Item.Own own)) }
+    ensures text { OnOk result
+        (gathered_text gathered.new ≡ gathered_text gathered.old ++ item_line (Item.Own own)) }
     ensures said { IsMade (said.add_own gathered.old own) result gathered.new }
 {
     if gathered.step.is_some() {
@@ -184,7 +194,8 @@ fn add_own(gathered: &mut Gathered, own: Accepted) -> Result<(), LineFault>
 
 /// Says in a record which part took the answer's value.
 fn put_own(record: &mut Record, own: Accepted) -> Result<(), LineFault>
-    ensures text { OnOk result (record_text «record».new ≡ record_text «record».old ++ item_line (Item.Own own)) }
+    ensures text { OnOk result
+        (record_text «record».new ≡ record_text «record».old ++ item_line (Item.Own own)) }
     ensures said { IsMade (said.with_own «record».old own) result «record».new }
 {
     if record.own.is_some() || record.notices.len() != 0 || record.steps.len() != 0 {
@@ -196,7 +207,8 @@ fn put_own(record: &mut Record, own: Accepted) -> Result<(), LineFault>
 
 #[tactic(auto, unfolding(crate::specs::Reader::Gathering::add_own_note))]
 fn add_own_note(gathered: &mut Gathered, note: Note) -> Result<(), LineFault>
-    ensures text { OnOk result (gathered_text gathered.new ≡ gathered_text gathered.old ++ item_line (Item.OwnNote note)) }
+    ensures text { OnOk result
+        (gathered_text gathered.new ≡ gathered_text gathered.old ++ item_line (Item.OwnNote note)) }
     ensures said { IsMade (said.add_own_note gathered.old note) result gathered.new }
 {
     if gathered.step.is_some() {
@@ -211,7 +223,8 @@ fn add_own_note(gathered: &mut Gathered, note: Note) -> Result<(), LineFault>
 /// Adds a note of its event's own step to a record.
 #[tactic(auto, using(crate::proofs::reader::Growing::flat_map_push))]
 fn put_own_note(record: &mut Record, note: Note) -> Result<(), LineFault>
-    ensures text { OnOk result (record_text «record».new ≡ record_text «record».old ++ item_line (Item.OwnNote note)) }
+    ensures text { OnOk result
+        (record_text «record».new ≡ record_text «record».old ++ item_line (Item.OwnNote note)) }
     ensures said { IsMade (said.with_own_note «record».old note) result «record».new }
 {
     if record.steps.len() != 0 {
@@ -223,7 +236,8 @@ fn put_own_note(record: &mut Record, note: Note) -> Result<(), LineFault>
 
 #[tactic(auto, unfolding(crate::specs::Reader::Gathering::add_step))]
 fn add_step(gathered: &mut Gathered, step: Step) -> Result<(), LineFault>
-    ensures text { OnOk result (gathered_text gathered.new ≡ gathered_text gathered.old ++ item_line (Item.Step step)) }
+    ensures text { OnOk result
+        (gathered_text gathered.new ≡ gathered_text gathered.old ++ item_line (Item.Step step)) }
     ensures said { IsMade (said.add_step gathered.old step) result gathered.new }
 {
     if gathered.record.is_none() {
@@ -236,7 +250,8 @@ fn add_step(gathered: &mut Gathered, step: Step) -> Result<(), LineFault>
 
 #[tactic(auto, unfolding(crate::specs::Reader::Gathering::add_note))]
 fn add_note(gathered: &mut Gathered, note: Note) -> Result<(), LineFault>
-    ensures text { OnOk result (gathered_text gathered.new ≡ gathered_text gathered.old ++ item_line (Item.Note note)) }
+    ensures text { OnOk result
+        (gathered_text gathered.new ≡ gathered_text gathered.old ++ item_line (Item.Note note)) }
     ensures said { IsMade (said.add_note gathered.old note) result gathered.new }
 {
     match &mut gathered.step {
@@ -248,7 +263,8 @@ fn add_note(gathered: &mut Gathered, note: Note) -> Result<(), LineFault>
 /// Adds a note to a step.
 #[tactic(auto, using(crate::proofs::reader::Growing::flat_map_push))]
 fn put_note(step: &mut Step, note: Note) -> Result<(), LineFault>
-    ensures text { OnOk result (step_text step.new ≡ step_text step.old ++ item_line (Item.Note note)) }
+    ensures text { OnOk result
+        (step_text step.new ≡ step_text step.old ++ item_line (Item.Note note)) }
     ensures said { IsMade (Some (said.with_note step.old note)) result step.new }
 {
     step.notices.push(note)?;
@@ -260,7 +276,8 @@ fn close(gathered: &mut Gathered) -> Result<(), LineFault>
     ensures text { OnOk result (gathered_text gathered.new ≡ gathered_text gathered.old) }
     ensures step { OnOk result (gathered.new.step ≡ None) }
     ensures closed { OnOk result (gathered.new.«record» ≡ None) }
-    ensures said { IsMade (option_map said.closed_record (said.closed_step gathered.old)) result gathered.new }
+    ensures said { IsMade (option_map said.closed_record (said.closed_step gathered.old)) result
+        gathered.new }
 {
     close_step(gathered)?;
     close_record(gathered)
@@ -290,8 +307,11 @@ fn join(
     made: Option<Instant>,
     records: Seq<Record>,
 ) -> Result<(Config, Transcript), LineFault>
-    ensures text { IfOk result (λ r. transcript_text r.0 r.1 ≡ gathered_text (record { config = config; made = made; records = records; «record» = None; step = None })) }
-    ensures said { IsRead (said.finished (record { config = config; made = made; records = records; «record» = None; step = None })) result }
+    ensures text { IfOk result (λ r. transcript_text r.0 r.1 ≡ gathered_text (record
+        { config = config; made = made; records = records; «record» = None; step = None })) }
+    ensures said { IsRead (said.finished
+        (record { config = config; made = made; records = records; «record» = None; step = None }))
+        result }
 {
     let Some(config) = config else {
         return Err(LineFault::Form);

@@ -48,7 +48,8 @@ pub enum InputLine {
 /// What is read has this text, except for empty lines and comments. Otherwise an error says which line is malformed.
 pub fn read_inputs(alloc: Global, text: &[u8]) -> Result<Replay, TextError>
     ensures written { IfOk result (λ replay. replay_text replay ≡ kept text.now) }
-    ensures exact { (replay : Replay) → FitsReplay replay → replay_text replay ≡ kept text.now → IsReplay result replay }
+    ensures exact { (replay : Replay) → FitsReplay replay → replay_text replay ≡ kept text.now
+        → IsReplay result replay }
 {
     read_entries(alloc, text)
 }
@@ -92,7 +93,8 @@ fn read_entries(alloc: Global, text: &[u8]) -> Result<Replay, TextError>
 
 /// Takes what a line says, if it says something.
 fn take_input_line(alloc: Global, begun: &mut Begun, line: &[u8]) -> Result<(), LineFault>
-    ensures text { OnOk result (begun_text begun.new ≡ begun_text begun.old ++ telling_line line.now) }
+    ensures text { OnOk result
+        (begun_text begun.new ≡ begun_text begun.old ++ telling_line line.now) }
     ensures said { IsMade (begin_lines begun.old (said_line line.now)) result begun.new }
 {
     if is_skipped(line) {
@@ -116,7 +118,8 @@ fn add_entry(begun: &mut Begun, entry: InputLine) -> Result<(), LineFault>
 
 #[tactic(auto, using(crate::proofs::reader::Growing::flat_map_push), unfolding(crate::specs::Reader::Entries::begin_config))]
 fn begin_config(begun: &mut Begun, config: Config) -> Result<(), LineFault>
-    ensures text { OnOk result (begun_text begun.new ≡ begun_text begun.old ++ entry_line (InputLine.Config config)) }
+    ensures text { OnOk result
+        (begun_text begun.new ≡ begun_text begun.old ++ entry_line (InputLine.Config config)) }
     ensures said { IsMade (begin_config begun.old config) result begun.new }
 {
     if !has_only_configs(begun) {
@@ -136,7 +139,8 @@ fn has_only_configs(begun: &Begun) -> bool
 
 #[tactic(auto, unfolding(crate::specs::Reader::Entries::begin_made))]
 fn begin_made(begun: &mut Begun, made: Instant) -> Result<(), LineFault>
-    ensures text { OnOk result (begun_text begun.new ≡ begun_text begun.old ++ entry_line (InputLine.Made made)) }
+    ensures text { OnOk result
+        (begun_text begun.new ≡ begun_text begun.old ++ entry_line (InputLine.Made made)) }
     ensures said { IsMade (begin_made begun.old made) result begun.new }
 {
     if !has_only_configs(begun) || begun.configs.len() == 0 {
@@ -148,7 +152,8 @@ fn begin_made(begun: &mut Begun, made: Instant) -> Result<(), LineFault>
 
 #[tactic(auto, using(crate::proofs::reader::Growing::flat_map_push), unfolding(crate::specs::Reader::Entries::begin_input))]
 fn begin_input(begun: &mut Begun, input: Input) -> Result<(), LineFault>
-    ensures text { OnOk result (begun_text begun.new ≡ begun_text begun.old ++ entry_line (InputLine.Input input)) }
+    ensures text { OnOk result
+        (begun_text begun.new ≡ begun_text begun.old ++ entry_line (InputLine.Input input)) }
     ensures said { IsMade (begin_input begun.old input) result begun.new }
 {
     if begun.made.is_none() {
@@ -171,7 +176,9 @@ fn read_entry(alloc: Global, line: &[u8]) -> Result<InputLine, LineFault>
 /// That an entry would be written as this line.
 fn check_entry(alloc: Global, entry: &InputLine, line: &[u8]) -> Result<(), LineFault>
     ensures written { OnOk result (entry_line entry.now ≡ line.now ++ 10 ∷ []) }
-    ensures said { IsMade (if bytes_eq (entry_line entry.now) (line.now ++ 10 ∷ []) then Some entry.now else None) result entry.now }
+    ensures said { IsMade
+        (if bytes_eq (entry_line entry.now) (line.now ++ 10 ∷ []) then Some entry.now else None)
+        result entry.now }
 {
     let mut text = Vec::new(alloc);
     put_entry(&mut text, entry)?;
@@ -270,7 +277,9 @@ fn parse_entry_kind(
 
 /// An input, as an entry.
 fn parse_input(alloc: Global, words: &mut Words<'_>) -> Result<InputLine, LineFault>
-    ensures { IsReadOff (option_map (λ input. (InputLine.Input input.0, input.1)) (input_in (words_left words.old))) result (words_left words.new) }
+    ensures { IsReadOff
+        (option_map (λ input. (InputLine.Input input.0, input.1)) (input_in (words_left words.old)))
+        result (words_left words.new) }
 {
     let input = read_input(alloc, words)?;
     Ok(InputLine::Input(input))
@@ -278,7 +287,8 @@ fn parse_input(alloc: Global, words: &mut Words<'_>) -> Result<InputLine, LineFa
 
 /// The settings of a namespace, as an entry.
 fn parse_config(words: &mut Words<'_>) -> Result<InputLine, LineFault>
-    ensures { IsReadOff (option_map (λ config. (InputLine.Config config.0, config.1)) (config_in_words (words_left words.old))) result (words_left words.new) }
+    ensures { IsReadOff (option_map (λ config. (InputLine.Config config.0, config.1))
+        (config_in_words (words_left words.old))) result (words_left words.new) }
 {
     let config = read_config(words)?;
     Ok(InputLine::Config(config))
@@ -286,7 +296,9 @@ fn parse_config(words: &mut Words<'_>) -> Result<InputLine, LineFault>
 
 /// The moment of the making, as an entry.
 fn parse_made(words: &mut Words<'_>) -> Result<InputLine, LineFault>
-    ensures { IsReadOff (option_map (λ nanos. (InputLine.Made (record { nanos = nanos.0 }), nanos.1)) (field number_in (words_left words.old))) result (words_left words.new) }
+    ensures { IsReadOff
+        (option_map (λ nanos. (InputLine.Made (record { nanos = nanos.0 }), nanos.1))
+        (field number_in (words_left words.old))) result (words_left words.new) }
 {
     let nanos = words.number()?;
     Ok(InputLine::Made(Instant { nanos }))
@@ -310,7 +322,8 @@ fn read_asked(
     kind: &[u8],
     words: &mut Words<'_>,
 ) -> Result<Input, LineFault>
-    ensures { IsReadOff (asked_of namespace kind.now (words_left words.old)) result (words_left words.new) }
+    ensures { IsReadOff (asked_of namespace kind.now (words_left words.old)) result
+        (words_left words.new) }
 {
     if kind == b"open".as_slice() {
         return Ok(Input::Open { namespace });

@@ -44,7 +44,9 @@ pub fn read_item(alloc: Global, line: &[u8]) -> Result<Item, LineFault>
 /// That an item would be written as this line.
 fn check_item(alloc: Global, item: &Item, line: &[u8]) -> Result<(), LineFault>
     ensures written { OnOk result (item_line item.now ≡ line.now ++ 10 ∷ []) }
-    ensures said { IsMade (if bytes_eq (item_line item.now) (line.now ++ 10 ∷ []) then Some item.now else None) result item.now }
+    ensures said { IsMade
+        (if bytes_eq (item_line item.now) (line.now ++ 10 ∷ []) then Some item.now else None) result
+        item.now }
 {
     let mut text = Vec::new(alloc);
     put_item(&mut text, item)?;
@@ -124,7 +126,9 @@ fn parse_head(alloc: Global, kind: &[u8], words: &mut Words<'_>) -> Result<Item,
 
 /// A step, as an item.
 fn parse_step(alloc: Global, words: &mut Words<'_>) -> Result<Item, LineFault>
-    ensures { IsReadOff (option_map (λ step. (Item.Step step.0, step.1)) (step_in_words (words_left words.old))) result (words_left words.new) }
+    ensures { IsReadOff
+        (option_map (λ step. (Item.Step step.0, step.1)) (step_in_words (words_left words.old)))
+        result (words_left words.new) }
 {
     let step = read_step(alloc, words)?;
     Ok(Item::Step(step))
@@ -132,7 +136,9 @@ fn parse_step(alloc: Global, words: &mut Words<'_>) -> Result<Item, LineFault>
 
 /// A note of a step, as an item.
 fn parse_note(alloc: Global, words: &mut Words<'_>) -> Result<Item, LineFault>
-    ensures { IsReadOff (option_map (λ note. (Item.Note note.0, note.1)) (note_in_words (words_left words.old))) result (words_left words.new) }
+    ensures { IsReadOff
+        (option_map (λ note. (Item.Note note.0, note.1)) (note_in_words (words_left words.old)))
+        result (words_left words.new) }
 {
     let note = read_note(alloc, words)?;
     Ok(Item::Note(note))
@@ -140,7 +146,8 @@ fn parse_note(alloc: Global, words: &mut Words<'_>) -> Result<Item, LineFault>
 
 /// The part that took an answer's value, as an item.
 fn parse_own(words: &mut Words<'_>) -> Result<Item, LineFault>
-    ensures { IsReadOff (option_map (λ part. (Item.Own part.0, part.1)) (field part_in_words (words_left words.old))) result (words_left words.new) }
+    ensures { IsReadOff (option_map (λ part. (Item.Own part.0, part.1))
+        (field part_in_words (words_left words.old))) result (words_left words.new) }
 {
     let own = words.part()?;
     Ok(Item::Own(own))
@@ -148,7 +155,9 @@ fn parse_own(words: &mut Words<'_>) -> Result<Item, LineFault>
 
 /// A note of an answer's own step, as an item.
 fn parse_own_note(alloc: Global, words: &mut Words<'_>) -> Result<Item, LineFault>
-    ensures { IsReadOff (option_map (λ note. (Item.OwnNote note.0, note.1)) (note_in_words (words_left words.old))) result (words_left words.new) }
+    ensures { IsReadOff
+        (option_map (λ note. (Item.OwnNote note.0, note.1)) (note_in_words (words_left words.old)))
+        result (words_left words.new) }
 {
     let note = read_note(alloc, words)?;
     Ok(Item::OwnNote(note))
@@ -156,7 +165,8 @@ fn parse_own_note(alloc: Global, words: &mut Words<'_>) -> Result<Item, LineFaul
 
 /// The settings, as an item.
 fn parse_config(words: &mut Words<'_>) -> Result<Item, LineFault>
-    ensures { IsReadOff (option_map (λ config. (Item.Config config.0, config.1)) (config_in_words (words_left words.old))) result (words_left words.new) }
+    ensures { IsReadOff (option_map (λ config. (Item.Config config.0, config.1))
+        (config_in_words (words_left words.old))) result (words_left words.new) }
 {
     let config = read_config(words)?;
     Ok(Item::Config(config))
@@ -164,7 +174,8 @@ fn parse_config(words: &mut Words<'_>) -> Result<Item, LineFault>
 
 /// The moment of the making, as an item.
 fn parse_made(words: &mut Words<'_>) -> Result<Item, LineFault>
-    ensures { IsReadOff (option_map (λ nanos. (Item.Made (record { nanos = nanos.0 }), nanos.1)) (field number_in (words_left words.old))) result (words_left words.new) }
+    ensures { IsReadOff (option_map (λ nanos. (Item.Made (record { nanos = nanos.0 }), nanos.1))
+        (field number_in (words_left words.old))) result (words_left words.new) }
 {
     let nanos = words.number()?;
     Ok(Item::Made(Instant { nanos }))
@@ -172,7 +183,8 @@ fn parse_made(words: &mut Words<'_>) -> Result<Item, LineFault>
 
 /// The event that a word begins, as an item.
 fn parse_event(alloc: Global, kind: &[u8], words: &mut Words<'_>) -> Result<Item, LineFault>
-    ensures { IsReadOff (option_map (λ event. (Item.Event event.0, event.1)) (event_of kind.now (words_left words.old))) result (words_left words.new) }
+    ensures { IsReadOff (option_map (λ event. (Item.Event event.0, event.1))
+        (event_of kind.now (words_left words.old))) result (words_left words.new) }
 {
     let event = read_event(alloc, kind, words)?;
     Ok(Item::Event(event))
@@ -226,7 +238,9 @@ pub fn read_event(alloc: Global, kind: &[u8], words: &mut Words<'_>) -> Result<E
 
 /// That a connection opens, behind its word.
 fn read_open(words: &mut Words<'_>) -> Result<Event, LineFault>
-    ensures { IsReadOff (option_map (λ conn. (Event.Open conn.0, conn.1)) (field number_in (words_left words.old))) result (words_left words.new) }
+    ensures { IsReadOff
+        (option_map (λ conn. (Event.Open conn.0, conn.1)) (field number_in (words_left words.old)))
+        result (words_left words.new) }
 {
     let conn = words.number()?;
     Ok(Event::Open { conn })
@@ -234,7 +248,9 @@ fn read_open(words: &mut Words<'_>) -> Result<Event, LineFault>
 
 /// That a connection closes, behind its word.
 fn read_close(words: &mut Words<'_>) -> Result<Event, LineFault>
-    ensures { IsReadOff (option_map (λ conn. (Event.Close conn.0, conn.1)) (field number_in (words_left words.old))) result (words_left words.new) }
+    ensures { IsReadOff
+        (option_map (λ conn. (Event.Close conn.0, conn.1)) (field number_in (words_left words.old)))
+        result (words_left words.new) }
 {
     let conn = words.number()?;
     Ok(Event::Close { conn })

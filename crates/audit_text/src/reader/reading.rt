@@ -2,7 +2,7 @@
 ghost use Rattle.std.specs.Prelude.{◌≡◌, ◌++◌, IfOk, OnOk};
 ghost use Rattle.audit_model.specs.declared.config.Config.{Config};
 ghost use Rattle.audit_model.specs.declared.transcript.Transcript.{Transcript};
-ghost use Rattle.audit_text.specs.Reader.Fits.{FitsConfig, FitsTranscript};
+ghost use Rattle.audit_text.specs.Reader.Fits.{FitsConfig, FitsTranscript, OneText};
 ghost use Rattle.audit_text.specs.Reader.Gathered.{gathered_text};
 ghost use Rattle.audit_text.specs.Reader.Gathering.{IsMade, IsGiven, IsReadText, add_lines, transcript_in_words};
 ghost use Rattle.audit_text.specs.Reader.Lines.{kept, telling_line, said_line};
@@ -20,7 +20,8 @@ use std::alloc::Global;
 /// What is read has this text, except for empty lines and comments. Otherwise an error says which line is malformed.
 pub fn read_transcript(alloc: Global, text: &[u8]) -> Result<(Config, Transcript), TextError>
     ensures written { IfOk result (λ r. transcript_text r.0 r.1 ≡ kept text.now) }
-    ensures exact { (config : Config) → (transcript : Transcript) → FitsConfig config → FitsTranscript transcript
+    ensures exact { (config : Config) → (transcript : Transcript)
+        → FitsConfig config → FitsTranscript transcript
         → transcript_text config transcript ≡ kept text.now → IsGiven result config transcript }
 {
     read_lines(alloc, text)
@@ -28,9 +29,7 @@ pub fn read_transcript(alloc: Global, text: &[u8]) -> Result<(Config, Transcript
 
 /// A law: two transcripts with one text are one, and so are their configurations. It does nothing.
 pub fn texts_tell_transcripts_apart()
-    ensures { (config : Config) → (transcript : Transcript) → FitsConfig config → FitsTranscript transcript
-        → (other_config : Config) → (other : Transcript) → FitsConfig other_config → FitsTranscript other
-        → transcript_text config transcript ≡ transcript_text other_config other → (config ≡ other_config) × (transcript ≡ other) }
+    ensures { OneText }
 {}
 
 /// The transcript that the lines of a text write, with its configuration.
@@ -59,7 +58,8 @@ fn read_lines(alloc: Global, text: &[u8]) -> Result<(Config, Transcript), TextEr
 
 /// Gathers what a line says, if it says something.
 fn take_line(alloc: Global, gathered: &mut Gathered, line: &[u8]) -> Result<(), LineFault>
-    ensures text { OnOk result (gathered_text gathered.new ≡ gathered_text gathered.old ++ telling_line line.now) }
+    ensures text { OnOk result
+        (gathered_text gathered.new ≡ gathered_text gathered.old ++ telling_line line.now) }
     ensures said { IsMade (add_lines gathered.old (said_line line.now)) result gathered.new }
 {
     if is_skipped(line) {

@@ -13,7 +13,9 @@ pending_load load = record { number = load.number; key = load.key; waiting = loa
 -- they are the namespace's loads in order, after this many
 abbrev pub are_in_turn : ℕ → ℕ → List (LoadId × List ℕ) → Bool
 are_in_turn namespace before [] = true
-are_in_turn namespace before (out ∷ outgoing) = out.0.namespace == namespace && (out.0.number == suc before && are_in_turn namespace (suc before) outgoing)
+are_in_turn namespace before (out ∷ outgoing) =
+    out.0.namespace == namespace
+    && (out.0.number == suc before && are_in_turn namespace (suc before) outgoing)
 
 -- it is another load, or has its key
 abbrev pub agrees_on : LoadId × List ℕ → PendingLoad → Bool

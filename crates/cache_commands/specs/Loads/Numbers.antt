@@ -45,7 +45,8 @@ loads_of entries = map (λ e. pending_load e.1) entries
 
 -- each number at a key is one of a load under way
 abbrev pub AreUnderWay : Keys → List PendingLoad → Type 0
-AreUnderWay keys loads = (key : List ℕ) (n : ℕ) → number_at key keys ≡ Some n → is_some (load_numbered n loads) ≡ true
+AreUnderWay keys loads =
+    (key : List ℕ) (n : ℕ) → number_at key keys ≡ Some n → is_some (load_numbered n loads) ≡ true
 
 -- the same numbers are at the same keys
 abbrev pub SameKeys : Keys → Keys → Type 0

@@ -32,7 +32,8 @@ number_to_send key sent loads = if is_some (load_with_key key loads) then None e
 -- the loads under way after this connection waits for the key's load, or for the one that it sent
 abbrev pub when_joined : ℕ → List ℕ → Option ℕ → List PendingLoad → List PendingLoad
 when_joined conn key None loads = map (with_waiting conn key) loads
-when_joined conn key (Some number) loads = record { number = number; key = key; waiting = conn ∷ [] } ∷ loads
+when_joined conn key (Some number) loads =
+    record { number = number; key = key; waiting = conn ∷ [] } ∷ loads
 
 -- how many loads were sent then
 abbrev pub when_sent : Option ℕ → ℕ → ℕ

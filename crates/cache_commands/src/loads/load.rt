@@ -17,7 +17,8 @@ pub struct Load {
 
 /// A load for which one connection waits.
 pub fn new_load(alloc: Global, number: u64, key: &[u8], conn: u64) -> Result<Load, AllocError>
-    ensures { IfOk result (λ load. pending_load load ≡ record { number = number; key = key.now; waiting = conn ∷ [] }) }
+    ensures { IfOk result (λ load. pending_load load
+        ≡ record { number = number; key = key.now; waiting = conn ∷ [] }) }
 {
     let mut waiting = Vec::with_capacity(alloc, 1)?;
     waiting.push(conn)?;
@@ -30,7 +31,8 @@ pub fn new_load(alloc: Global, number: u64, key: &[u8], conn: u64) -> Result<Loa
 
 /// Adds a connection that waits. An `Err` changes nothing.
 pub fn join(load: &mut Load, conn: u64) -> Result<(), AllocError>
-    ensures joined { OnOk result (pending_load load.new ≡ record (pending_load load.old) { waiting = load.old.waiting.items ++ conn ∷ [] }) }
+    ensures joined { OnOk result (pending_load load.new
+        ≡ record (pending_load load.old) { waiting = load.old.waiting.items ++ conn ∷ [] }) }
     ensures same { OnErr result (pending_load load.new ≡ pending_load load.old) }
 {
     load.waiting.push(conn)?;

@@ -18,7 +18,8 @@ pub struct Loads {
     under_way: LoadTable,
     outgoing: Vec<(LoadId, Bytes)>,
     ghost fewer: { length outgoing.items ≤ under_way.sent },
-    ghost in_turn: { IsTrue (are_in_turn namespace (under_way.sent - length outgoing.items) outgoing.items) },
+    ghost in_turn: { IsTrue
+        (are_in_turn namespace (under_way.sent - length outgoing.items) outgoing.items) },
     ghost sent_before: { IsTrue (were_sent under_way.sent under_way.pending) },
     ghost keyed: { IsTrue (have_their_keys under_way.pending outgoing.items) },
 }
@@ -66,7 +67,8 @@ impl Loads {
 
     /// The load under way of that number.
     pub fn get(&self, number: u64) -> Option<&Load>
-        ensures { option_map (λ load. pending_load load.now) result ≡ load_numbered number (loads_pending self.now) }
+        ensures { option_map (λ load. pending_load load.now) result
+            ≡ load_numbered number (loads_pending self.now) }
     {
         self.under_way.get(number)
     }
@@ -74,10 +76,14 @@ impl Loads {
     /// Makes a connection wait for the key's load; if none is under way, a new one goes out, and its number is returned. A connection waits
     /// for one load: one that waits already, and a number above 2^64 - 1, are refused as for lack of memory. An `Err` changes nothing.
     pub fn wait(&mut self, alloc: Global, key: &[u8], conn: u64) -> Result<Option<u64>, AllocError>
-        ensures number { IfOk result (λ number. number ≡ number_to_send key.now (sent_of self.old) (loads_pending self.old)) }
-        ensures pending { IfOk result (λ number. loads_pending self.new ≡ when_joined conn key.now number (loads_pending self.old)) }
-        ensures sent { IfOk result (λ number. sent_of self.new ≡ when_sent number (sent_of self.old)) }
-        ensures outgoing { IfOk result (λ number. outgoing_loads self.new ≡ outgoing_loads self.old ++ sending (namespace_of_loads self.old) key.now number) }
+        ensures number { IfOk result (λ number. number
+            ≡ number_to_send key.now (sent_of self.old) (loads_pending self.old)) }
+        ensures pending { IfOk result (λ number. loads_pending self.new
+            ≡ when_joined conn key.now number (loads_pending self.old)) }
+        ensures sent { IfOk result
+            (λ number. sent_of self.new ≡ when_sent number (sent_of self.old)) }
+        ensures outgoing { IfOk result (λ number. outgoing_loads self.new
+            ≡ outgoing_loads self.old ++ sending (namespace_of_loads self.old) key.now number) }
         ensures goes { SameTaken self.old self.new }
         ensures same { OnErr result (SameLoads self.old self.new) }
     {
@@ -95,9 +101,11 @@ impl Loads {
     fn send(&mut self, alloc: Global, key: &[u8], conn: u64) -> Result<u64, AllocError>
         requires { load_with_key key.now (loads_pending self.old) ≡ None }
         ensures number { IfOk result (λ number. number ≡ suc (sent_of self.old)) }
-        ensures pending { IfOk result (λ number. loads_pending self.new ≡ when_joined conn key.now (Some number) (loads_pending self.old)) }
+        ensures pending { IfOk result (λ number. loads_pending self.new
+            ≡ when_joined conn key.now (Some number) (loads_pending self.old)) }
         ensures sent { OnOk result (sent_of self.new ≡ suc (sent_of self.old)) }
-        ensures outgoing { IfOk result (λ number. outgoing_loads self.new ≡ outgoing_loads self.old ++ sending (namespace_of_loads self.old) key.now (Some number)) }
+        ensures outgoing { IfOk result (λ number. outgoing_loads self.new ≡ outgoing_loads self.old
+            ++ sending (namespace_of_loads self.old) key.now (Some number)) }
         ensures goes { SameTaken self.old self.new }
         ensures same { OnErr result (SameLoads self.old self.new) }
     {
@@ -114,7 +122,8 @@ impl Loads {
 
     /// Takes a connection that closed out of those that wait; its load stays under way.
     pub fn leave(&mut self, conn: u64)
-        ensures pending { loads_pending self.new ≡ map (without_waiting conn) (loads_pending self.old) }
+        ensures pending { loads_pending self.new
+            ≡ map (without_waiting conn) (loads_pending self.old) }
         ensures sent { sent_of self.new ≡ sent_of self.old }
         ensures outgoing { outgoing_loads self.new ≡ outgoing_loads self.old }
         ensures goes { SameTaken self.old self.new }
@@ -124,8 +133,10 @@ impl Loads {
 
     /// Takes out the load under way of that number, which is answered or given up.
     pub fn settle(&mut self, number: u64) -> Option<Load>
-        ensures settled { option_map pending_load result ≡ load_numbered number (loads_pending self.old) }
-        ensures pending { loads_pending self.new ≡ filter (λ load. not (load.number == number)) (loads_pending self.old) }
+        ensures settled { option_map pending_load result
+            ≡ load_numbered number (loads_pending self.old) }
+        ensures pending { loads_pending self.new
+            ≡ filter (λ load. not (load.number == number)) (loads_pending self.old) }
         ensures sent { sent_of self.new ≡ sent_of self.old }
         ensures outgoing { outgoing_loads self.new ≡ outgoing_loads self.old }
         ensures goes { SameTaken self.old self.new }
@@ -141,7 +152,8 @@ impl Loads {
         ensures sent { sent_of self.new ≡ sent_of self.old }
         ensures namespace { namespace_of_loads self.new ≡ namespace_of_loads self.old }
         // each goes out once: they are the namespace's loads behind those that were taken before
-        ensures in_turn { IsTrue (are_in_turn (namespace_of_loads self.old) (loads_taken self.old) result.items) }
+        ensures in_turn { IsTrue
+            (are_in_turn (namespace_of_loads self.old) (loads_taken self.old) result.items) }
         ensures all { loads_taken self.new ≡ sent_of self.old }
         ensures keys { IsTrue (have_their_keys (loads_pending self.old) result.items) }
     {

@@ -49,7 +49,8 @@ impl Numbered {
 
     /// The load of that number.
     pub fn get(&self, number: u64) -> Option<&Load>
-        ensures { option_map (λ load. pending_load load.now) result ≡ load_numbered number self.now }
+        ensures { option_map (λ load. pending_load load.now) result
+            ≡ load_numbered number self.now }
     {
         self.loads.get(&Reverse(number))
     }
@@ -74,7 +75,8 @@ impl Numbered {
 
     /// A connection waits no more for the load of that number.
     pub fn leave(&mut self, number: u64, conn: u64)
-        ensures { self.new ≡ map (changed_at (λ load. load.number) number (without_waiting conn)) self.old }
+        ensures { self.new ≡ map (changed_at (λ load. load.number) number (without_waiting conn))
+            self.old }
     {
         if let Some(load) = self.loads.get_mut(&Reverse(number)) {
             leave(load, conn);
@@ -83,7 +85,8 @@ impl Numbered {
 
     /// A connection joins those that wait for the load of that number. An `Err` changes nothing.
     pub fn join(&mut self, number: u64, conn: u64) -> Result<(), AllocError>
-        ensures joined { OnOk result (self.new ≡ map (changed_at (λ load. load.number) number (λ load. record load { waiting = load.waiting ++ conn ∷ [] })) self.old) }
+        ensures joined { OnOk result (self.new ≡ map (changed_at (λ load. load.number) number
+            (λ load. record load { waiting = load.waiting ++ conn ∷ [] })) self.old) }
         ensures same { OnErr result (self.new ≡ self.old) }
     {
         match self.loads.get_mut(&Reverse(number)) {

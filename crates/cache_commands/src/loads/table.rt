@@ -35,7 +35,8 @@ impl Model for LoadTable {
 
 /// None of these connections waits any more.
 fn remove_all(joined: &mut BTreeMap<u64, u64>, conns: &[u64])
-    ensures { (q : ℕ) → load_of q joined.new ≡ cond (list_any (λ n. n == q) conns.now) None (load_of q joined.old) }
+    ensures { (q : ℕ) → load_of q joined.new
+        ≡ cond (list_any (λ n. n == q) conns.now) None (load_of q joined.old) }
 {
     for conn in conns {
         take_waiting(joined, *conn);
@@ -54,7 +55,8 @@ fn add_keyed(
     requires named { name.items ≡ key.now }
     requires free { number_at key.now keys.old ≡ None }
     ensures added { OnOk result (loads.new ≡ pending_load load ∷ loads.old) }
-    ensures put { OnOk result ((q : List ℕ) → number_at q keys.new ≡ cond (same key.now q) (Some load.number) (number_at q keys.old)) }
+    ensures put { OnOk result ((q : List ℕ) → number_at q keys.new
+        ≡ cond (same key.now q) (Some load.number) (number_at q keys.old)) }
     ensures same { OnErr result (loads.new ≡ loads.old) }
     ensures unchanged { OnErr result (SameKeys keys.old keys.new) }
 {
@@ -97,7 +99,8 @@ impl LoadTable {
 
     /// The load under way of that number.
     pub fn get(&self, number: u64) -> Option<&Load>
-        ensures { option_map (λ load. pending_load load.now) result ≡ load_numbered number self.now.pending }
+        ensures { option_map (λ load. pending_load load.now) result
+            ≡ load_numbered number self.now.pending }
     {
         self.loads.get(number)
     }
@@ -105,8 +108,12 @@ impl LoadTable {
     /// Makes a connection wait for the key's load, and returns whether there is one. A connection that waits already is refused, as for
     /// lack of memory. An `Err` changes nothing.
     pub fn join(&mut self, key: &[u8], conn: u64) -> Result<bool, AllocError>
-        ensures found { IfOk result (λ found. found ≡ is_some (load_with_key key.now self.old.pending)) }
-        ensures joined { IfOk result (λ found. self.new ≡ record self.old { pending = if found then map (with_waiting conn key.now) self.old.pending else self.old.pending }) }
+        ensures found { IfOk result
+            (λ found. found ≡ is_some (load_with_key key.now self.old.pending)) }
+        ensures joined { IfOk result (λ found. self.new ≡ record self.old {
+          pending = if found
+              then map (with_waiting conn key.now) self.old.pending else self.old.pending;
+        }) }
         ensures same { OnErr result (self.new ≡ self.old) }
     {
         let Some(number) = number_at(&self.keys, key) else {
@@ -130,7 +137,10 @@ impl LoadTable {
     pub fn send(&mut self, alloc: Global, key: &[u8], conn: u64) -> Result<u64, AllocError>
         requires { load_with_key key.now self.old.pending ≡ None }
         ensures number { IfOk result (λ number. number ≡ suc self.old.sent) }
-        ensures sent { OnOk result (self.new ≡ record { sent = suc self.old.sent; pending = record { number = suc self.old.sent; key = key.now; waiting = conn ∷ [] } ∷ self.old.pending }) }
+        ensures sent { OnOk result (self.new ≡ record {
+          sent = suc self.old.sent;
+          pending = record { number = suc self.old.sent; key = key.now; waiting = conn ∷ [] } ∷ self.old.pending;
+        }) }
         ensures same { OnErr result (self.new ≡ self.old) }
     {
         if self.sent == u64::MAX || load_of(&self.joined, conn).is_some() {
@@ -154,7 +164,8 @@ impl LoadTable {
 
     /// Takes a connection out of those that wait; its load stays under way.
     pub fn leave(&mut self, conn: u64)
-        ensures { self.new ≡ record self.old { pending = map (without_waiting conn) self.old.pending } }
+        ensures { self.new
+            ≡ record self.old { pending = map (without_waiting conn) self.old.pending } }
     {
         if let Some(number) = take_waiting(&mut self.joined, conn) {
             self.loads.leave(number, conn);
@@ -164,7 +175,8 @@ impl LoadTable {
     /// Takes out the load under way of that number.
     pub fn settle(&mut self, number: u64) -> Option<Load>
         ensures settled { option_map pending_load result ≡ load_numbered number self.old.pending }
-        ensures left { self.new ≡ record self.old { pending = filter (λ load. not (load.number == number)) self.old.pending } }
+        ensures left { self.new ≡ record self.old
+            { pending = filter (λ load. not (load.number == number)) self.old.pending } }
     {
         let load = self.loads.take(number)?;
         remove_key(&mut self.keys, load.key.as_slice());

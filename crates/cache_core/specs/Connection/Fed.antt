@@ -26,15 +26,21 @@ use Rattle.cache_core.specs.declared.connection.connection.Connection.{Connectio
 
 -- why a connection is closed by what it was fed: a `QUIT` ran last; or its `LOAD` waited, or waits; or a line is too long
 abbrev pub closing_by : (waited quit silent : Bool) → Closing
-closing_by waited quit silent = if quit then by.Quit else (if waited || silent then by.Behind else by.Long)
+closing_by waited quit silent =
+    if quit then by.Quit else (if waited || silent then by.Behind else by.Long)
 
 -- Steps of an open connection's feed ran, all that were due; the connection is as they left it, and may be closed.
-pub record FedRan (now number : ℕ) (old : Connection) (piece : List ℕ) (new : Connection) (is_held : Bool) (was is : Seen) : Type 0 where
+pub record FedRan (now number : ℕ) (old : Connection) (piece : List ℕ) (new : Connection)
+    (is_held : Bool) (was is : Seen) : Type 0 where
   pub quit : Bool
   pub silent : Bool
-  pub ran : (s : Situation) → Agrees was.stage.values now s → IsThere number s → loads_in s ≡ was.loads
-      → RanTasks (making_of was.stage.values.frame) (set_in s s.held (with_piece piece (shown number old))) (tasks_to_feed number (holds_line old.standing)) quit is_held silent
-      (λ left. put_in (with_under_way is.loads (with_drops is.stage.values.frame.dropped s)) left number new) was.stage is.stage
+  pub ran : (s : Situation) → Agrees was.stage.values now s → IsThere number s
+      → loads_in s ≡ was.loads
+      → RanTasks (making_of was.stage.values.frame)
+      (set_in s s.held (with_piece piece (shown number old)))
+      (tasks_to_feed number (holds_line old.standing)) quit is_held silent
+      (λ left. put_in (with_under_way is.loads (with_drops is.stage.values.frame.dropped s)) left
+      number new) was.stage is.stage
   pub closing : ClosesFor (closing_by (waits_for_load old.standing) quit silent) new.closing
   pub runs : RunsOn new.closing new.standing quit silent
   pub frame : KeepsFrame was.stage.values.frame is.stage.values.frame now
@@ -45,11 +51,13 @@ abbrev pub unread_behind : Standing → List ℕ → List ℕ
 unread_behind standing bytes = if holds_line standing then behind_lines 1 bytes else bytes
 
 -- Lines of a connection in these bytes ran; it is as they left it, and may be closed.
-pub record LinesLeft (now number : ℕ) (bytes : List ℕ) (new : Connection) (was is : Seen) : Type 0 where
+pub record LinesLeft (now number : ℕ) (bytes : List ℕ) (new : Connection) (was is : Seen) :
+    Type 0 where
   pub rest : List ℕ
   pub end : End
   pub ran : RunsReady now number bytes rest end was is
-  pub put : (base : Situation) (values : List HeldValue) (n : ℕ) → situation_behind (ends_by_quit end) base values (left_by n end 1 rest) ≡ put_in base values n new
+  pub put : (base : Situation) (values : List HeldValue) (n : ℕ) → situation_behind
+      (ends_by_quit end) base values (left_by n end 1 rest) ≡ put_in base values n new
   pub closing : ClosesFor (closing_by false (ends_by_quit end) (waits_now end)) new.closing
   pub runs : RunsOn new.closing new.standing (ends_by_quit end) (waits_now end)
   pub held : holds_line new.standing ≡ holds_back end
@@ -64,13 +72,19 @@ pub record LooksAsBefore (old new : Connection) : Type 0 where
 
 -- a piece was appended after a `LOAD` that waits, and the connection closes if too many bytes come after it
 pub record TakesWaiting (old : Connection) (piece : List ℕ) (new : Connection) : Type 0 where
-  pub put : (base : Situation) (values : List HeldValue) (number : ℕ) → set_in base values (with_piece piece (shown number old)) ≡ put_in base values number new
+  pub put : (base : Situation) (values : List HeldValue) (number : ℕ)
+      → set_in base values (with_piece piece (shown number old)) ≡ put_in base values number new
   pub closing : ClosesFor by.Behind new.closing
 
 -- what the lines of a connection run over
-abbrev pub seen_of : {S T : Type 0} → (S → Values) → (T → Option Taped) → Base S T → Connection → Seen
+abbrev pub seen_of : {S T : Type 0} → (S → Values) → (T → Option Taped) → Base S T → Connection
+    → Seen
 seen_of view tape base connection = seen view tape base connection.output
 
 -- the same over a base as it was and as it is
-abbrev pub FedOver : {S T : Type 0} → (S → Values) → (T → Option Taped) → (now number : ℕ) → (base left : Base S T) → (old : Connection) → (piece : List ℕ) → (new : Connection) → (is_held : Bool) → Type 0
-FedOver view tape now number base left old piece new is_held = FedRan now number old piece new is_held (seen_of view tape base old) (seen_of view tape left new)
+abbrev pub FedOver : {S T : Type 0} → (S → Values) → (T → Option Taped) → (now number : ℕ)
+    → (base left : Base S T) → (old : Connection) → (piece : List ℕ) → (new : Connection)
+    → (is_held : Bool) → Type 0
+FedOver view tape now number base left old piece new is_held =
+    FedRan now number old piece new is_held (seen_of view tape base old)
+    (seen_of view tape left new)

@@ -11,7 +11,8 @@ use Rattle.cache_commands.specs.declared.loads.standing.Standing.TheVariants as 
 
 -- The line that is held back or waits is there; an open connection has no longer line, and not too many bytes after a `LOAD` that waits;
 -- and that began to wait at most 200 times.
-pub record Fits (standing : Standing) (times : ℕ) (closing : Option Closing) (bytes : List ℕ) : Type 0 where
+pub record Fits (standing : Standing) (times : ℕ) (closing : Option Closing) (bytes : List ℕ) :
+    Type 0 where
   pub whole : IsTrue (not (keeps_line standing) || has_line bytes)
   pub short : IsTrue (is_some closing || keeps_line standing || not (is_long_line bytes))
   pub near : IsTrue (is_some closing || not (waits_for_load standing) || is_near bytes)
@@ -47,4 +48,5 @@ ended_closing at.Quit bytes = Some by.Quit
 
 -- if it is open and runs lines, it neither ran a `QUIT` nor waits
 abbrev pub RunsOn : Option Closing → Standing → (quit silent : Bool) → Type 0
-RunsOn closing standing quit silent = closing ≡ None → standing ≡ now.Ready → (quit ≡ false) × (silent ≡ false)
+RunsOn closing standing quit silent =
+    closing ≡ None → standing ≡ now.Ready → (quit ≡ false) × (silent ≡ false)

@@ -20,10 +20,16 @@ stands_before now.Waiting line = model.Waiting line
 -- the connection in this state, which began to wait this often
 abbrev pub standing_as : ℕ → Standing → ℕ → List ℕ → model.Connection
 standing_as number standing times bytes =
-    record { number = number; unread = if keeps_line standing then behind_lines 1 bytes else bytes; standing = stands_before standing (held_line bytes); waited = if keeps_line standing then times else 0 }
+    record {
+      number = number;
+      unread = if keeps_line standing then behind_lines 1 bytes else bytes;
+      standing = stands_before standing (held_line bytes);
+      waited = if keeps_line standing then times else 0;
+    }
 
 -- the situation, with these values held and a connection as its parts describe it
-abbrev pub put_parts : Situation → List HeldValue → ℕ → Option Closing → Standing → ℕ → List ℕ → Situation
+abbrev pub put_parts : Situation → List HeldValue → ℕ → Option Closing → Standing → ℕ → List ℕ
+    → Situation
 put_parts base values number closing standing times bytes =
     if is_none closing then set_in base values (standing_as number standing times bytes) else without_connection number (record base { held = values })
 

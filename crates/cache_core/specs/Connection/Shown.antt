@@ -11,7 +11,8 @@ shown number c = standing_as number c.standing c.waited c.unread.bytes
 
 -- the situation, with these values held and this connection as it is now
 abbrev pub put_in : Situation → List HeldValue → ℕ → Connection → Situation
-put_in base values number c = put_parts base values number c.closing c.standing c.waited c.unread.bytes
+put_in base values number c =
+    put_parts base values number c.closing c.standing c.waited c.unread.bytes
 
 -- the connection with one more piece
 abbrev pub with_piece : List ℕ → model.Connection → model.Connection

@@ -63,6 +63,7 @@ retired_at (p ∷ ps) (suc index) = p ∷ retired_at ps index
 -- the open connections, numbered from n
 abbrev pub open_from : ℕ → List Presence → List model.Connection
 open_from n [] = []
-open_from n (Here c ∷ ps) = if is_none c.closing then shown n c ∷ open_from (suc n) ps else open_from (suc n) ps
+open_from n (Here c ∷ ps) =
+    if is_none c.closing then shown n c ∷ open_from (suc n) ps else open_from (suc n) ps
 open_from n (Out ∷ ps) = open_from (suc n) ps
 open_from n (Gone why ∷ ps) = open_from (suc n) ps

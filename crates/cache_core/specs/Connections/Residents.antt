@@ -37,7 +37,9 @@ presence_held None = Out
 
 -- what a word says
 abbrev pub presence_by : List Resident → ℕ → Presence
-presence_by residents word = if nat_lt word first_reason then presence_held (slice_get residents word) else Gone (reason_numbered (word - first_reason))
+presence_by residents word =
+    if nat_lt word first_reason then presence_held (slice_get residents word)
+    else Gone (reason_numbered (word - first_reason))
 
 -- what the words say
 abbrev pub presences_of : List Resident → List ℕ → List Presence
@@ -50,8 +52,10 @@ places_of residents = map (λ r. r.place) residents
 -- each index that a place has as its word is that of the resident of this place, and the place of each resident has its index as its word
 pub record AreMatched (places words : List ℕ) : Type 0 where
   pub few : length places ≤ first_reason
-  pub owned : (place word : ℕ) → slice_get words place ≡ Some word → word < first_reason → slice_get places word ≡ Some place
-  pub placed : (index place : ℕ) → slice_get places index ≡ Some place → slice_get words place ≡ Some index
+  pub owned : (place word : ℕ) → slice_get words place ≡ Some word → word < first_reason
+      → slice_get places word ≡ Some place
+  pub placed : (index place : ℕ) → slice_get places index ≡ Some place
+      → slice_get words place ≡ Some index
 
 -- the residents and the words match
 abbrev pub AreSettled : List Resident → List ℕ → Type 0

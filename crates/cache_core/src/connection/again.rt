@@ -53,7 +53,8 @@ fn abandon_load<T: Tape>(tape: &mut T, number: u64, connection: &mut Connection)
     requires spare { HasSpare (T.view tape.old) }
     requires waits { connection.old.standing ≡ stands.Waiting }
     requires open { connection.old.closing ≡ None }
-    ensures { IsReplied (codes "ERR abandoned\n") number (T.view tape.old) (T.view tape.new) connection.old connection.new }
+    ensures { IsReplied (codes "ERR abandoned\n") number (T.view tape.old) (T.view tape.new)
+        connection.old connection.new }
 {
     write_abandoned(&mut connection.output.text);
     tape.say(
@@ -76,9 +77,13 @@ fn load_again<S: Store, T: Tape>(
     requires can_run { CanRun now (seen_of S.view T.view base.old connection.old) }
     requires waits { connection.old.standing ≡ stands.Waiting }
     requires open { connection.old.closing ≡ None }
-    requires load { is_load (reading (S.view base.old.store).frame.config (held_line connection.old.unread.bytes)) ≡ true }
+    requires load { is_load
+        (reading (S.view base.old.store).frame.config (held_line connection.old.unread.bytes))
+        ≡ true }
     requires few { connection.old.waited < 200 }
-    ensures ran { StepRan now number (RunAgain number) connection.old connection.new (seen_of S.view T.view base.old connection.old) (seen_of S.view T.view base.new connection.new) }
+    ensures ran { StepRan now number (RunAgain number) connection.old
+        connection.new (seen_of S.view T.view base.old connection.old)
+        (seen_of S.view T.view base.new connection.new) }
     ensures spare { spare_of (T.view base.old.tape) ≤ spare_of (T.view base.new.tape) + 1 }
     ensures goes { SameTaken base.old.loads base.new.loads }
 {
@@ -116,8 +121,12 @@ pub fn run_again<S: Store, T: Tape>(
     requires can_run { CanRun now (seen_of S.view T.view base.old connection.old) }
     requires waits { connection.old.standing ≡ stands.Waiting }
     requires open { connection.old.closing ≡ None }
-    requires load { is_load (reading (S.view base.old.store).frame.config (held_line connection.old.unread.bytes)) ≡ true }
-    ensures ran { StepRan now number (RunAgain number) connection.old connection.new (seen_of S.view T.view base.old connection.old) (seen_of S.view T.view base.new connection.new) }
+    requires load { is_load
+        (reading (S.view base.old.store).frame.config (held_line connection.old.unread.bytes))
+        ≡ true }
+    ensures ran { StepRan now number (RunAgain number) connection.old
+        connection.new (seen_of S.view T.view base.old connection.old)
+        (seen_of S.view T.view base.new connection.new) }
     ensures spare { spare_of (T.view base.old.tape) ≤ spare_of (T.view base.new.tape) + 1 }
     ensures goes { SameTaken base.old.loads base.new.loads }
 {

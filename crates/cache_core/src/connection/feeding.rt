@@ -96,7 +96,8 @@ pub fn feed_ready<S: Store, T: Tape>(
     requires fits { length piece.now ≤ connection.old.unread.room }
     requires open { connection.old.closing ≡ None }
     requires ready { connection.old.standing ≡ now_is.Ready }
-    ensures ran { FedOver S.view T.view now number base.old base.new connection.old piece.now connection.new result }
+    ensures ran { FedOver S.view T.view now number base.old base.new connection.old piece.now
+        connection.new result }
     ensures spare { spare_of (T.view base.old.tape) ≤ spare_of (T.view base.new.tape) + 1 }
     ensures goes { SameTaken base.old.loads base.new.loads }
 {
@@ -117,8 +118,10 @@ fn feed_held<S: Store, T: Tape>(
     requires fits { length piece.now ≤ connection.old.unread.room }
     requires open { connection.old.closing ≡ None }
     requires held { connection.old.standing ≡ now_is.Held }
-    ensures ran { IfOk result (λ is_held. FedOver S.view T.view now number base.old base.new connection.old piece.now connection.new is_held) }
-    ensures refused { OnErr result (LooksSame S.view T.view base.old base.new connection.old.output connection.new.output × LooksAsBefore connection.old connection.new) }
+    ensures ran { IfOk result (λ is_held. FedOver S.view T.view now number base.old base.new
+        connection.old piece.now connection.new is_held) }
+    ensures refused { OnErr result (LooksSame S.view T.view base.old base.new connection.old.output
+        connection.new.output × LooksAsBefore connection.old connection.new) }
     ensures goes { SameTaken base.old.loads base.new.loads }
 {
     base.store.sound();
@@ -164,8 +167,10 @@ pub fn feed_connection<S: Store, T: Tape>(
     requires can_run { CanRun now (seen S.view T.view base.old connection.old.output) }
     requires fits { length piece.now ≤ connection.old.unread.room }
     requires open { connection.old.closing ≡ None }
-    ensures ran { IfOk result (λ is_held. FedOver S.view T.view now number base.old base.new connection.old piece.now connection.new is_held) }
-    ensures refused { OnErr result (LooksSame S.view T.view base.old base.new connection.old.output connection.new.output × LooksAsBefore connection.old connection.new) }
+    ensures ran { IfOk result (λ is_held. FedOver S.view T.view now number base.old base.new
+        connection.old piece.now connection.new is_held) }
+    ensures refused { OnErr result (LooksSame S.view T.view base.old base.new connection.old.output
+        connection.new.output × LooksAsBefore connection.old connection.new) }
     ensures held { OnErr result (holds_line connection.old.standing ≡ true) }
     ensures goes { SameTaken base.old.loads base.new.loads }
 {

@@ -24,8 +24,10 @@ fn reply_with<T: Tape>(tape: &mut T, number: u64, connection: &mut Connection, o
     requires spare { HasSpare (T.view tape.old) }
     requires waits { connection.old.standing ≡ stands.Waiting }
     requires open { connection.old.closing ≡ None }
-    requires room { vec_len connection.old.output.text + length (outcome_text outcome.now) ≤ vec_capacity connection.old.output.text }
-    ensures { IsReplied (outcome_text outcome.now) number (T.view tape.old) (T.view tape.new) connection.old connection.new }
+    requires room { vec_len connection.old.output.text + length (outcome_text outcome.now)
+        ≤ vec_capacity connection.old.output.text }
+    ensures { IsReplied (outcome_text outcome.now) number (T.view tape.old) (T.view tape.new)
+        connection.old connection.new }
 {
     write_outcome(outcome, &mut connection.output.text);
     tape.say(
@@ -49,9 +51,14 @@ pub fn deliver<S: Store, T: Tape>(
     requires can_run { CanRun now (seen_of S.view T.view base.old connection.old) }
     requires waits { connection.old.standing ≡ stands.Waiting }
     requires open { connection.old.closing ≡ None }
-    requires load { is_load (reading (S.view base.old.store).frame.config (held_line connection.old.unread.bytes)) ≡ true }
-    requires room { vec_len connection.old.output.text + length (outcome_text outcome.now) ≤ vec_capacity connection.old.output.text }
-    ensures ran { StepRan now number (Deliver number outcome.now) connection.old connection.new (seen_of S.view T.view base.old connection.old) (seen_of S.view T.view base.new connection.new) }
+    requires load { is_load
+        (reading (S.view base.old.store).frame.config (held_line connection.old.unread.bytes))
+        ≡ true }
+    requires room { vec_len connection.old.output.text + length (outcome_text outcome.now)
+        ≤ vec_capacity connection.old.output.text }
+    ensures ran { StepRan now number (Deliver number outcome.now) connection.old
+        connection.new (seen_of S.view T.view base.old connection.old)
+        (seen_of S.view T.view base.new connection.new) }
     ensures spare { spare_of (T.view base.old.tape) ≤ spare_of (T.view base.new.tape) + 1 }
     ensures rest { base.new ≡ record base.old { tape = base.new.tape } }
 {

@@ -60,7 +60,8 @@ impl Connections {
     /// The connection at a place, to be looked at, if it is here.
     pub fn get(&self, index: usize) -> Option<&Connection>
         requires { index < length self.now }
-        ensures { MatchOption result (is_here (slice_get self.now index) ≡ false) (λ c. slice_get self.now index ≡ Some (Here c.now)) }
+        ensures { MatchOption result (is_here (slice_get self.now index) ≡ false)
+            (λ c. slice_get self.now index ≡ Some (Here c.now)) }
     {
         look_up(&self.residents, &self.words, index)
     }

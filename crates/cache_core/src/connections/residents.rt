@@ -52,8 +52,10 @@ pub fn add(
 ) -> Result<(), AllocError>
     requires { AreSettled residents.old.items words.old.items }
     ensures settled { AreSettled residents.new.items words.new.items }
-    ensures added { OnOk result (presences_of residents.new.items words.new.items ≡ presences_of residents.old.items words.old.items ++ Here connection ∷ []) }
-    ensures unchanged { OnErr result (presences_of residents.new.items words.new.items ≡ presences_of residents.old.items words.old.items) }
+    ensures added { OnOk result (presences_of residents.new.items words.new.items
+        ≡ presences_of residents.old.items words.old.items ++ Here connection ∷ []) }
+    ensures unchanged { OnErr result (presences_of residents.new.items words.new.items
+        ≡ presences_of residents.old.items words.old.items) }
 {
     let index = residents.len();
     if index >= FIRST_REASON as usize {
@@ -88,7 +90,9 @@ fn push_within<T: Drop>(items: &mut Vec<T>, item: T)
 pub fn look_up<'a>(residents: &'a [Resident], words: &[u32], index: usize) -> Option<&'a Connection>
     requires settled { AreSettled residents.now words.now }
     requires within { index < length words.now }
-    ensures { MatchOption result (is_here (slice_get (presences_of residents.now words.now) index) ≡ false) (λ c. slice_get (presences_of residents.now words.now) index ≡ Some (Here c.now)) }
+    ensures { MatchOption result
+        (is_here (slice_get (presences_of residents.now words.now) index) ≡ false)
+        (λ c. slice_get (presences_of residents.now words.now) index ≡ Some (Here c.now)) }
 {
     let word = words[index];
     if word >= FIRST_REASON {
@@ -118,8 +122,10 @@ pub fn take_out(residents: &mut Vec<Resident>, words: &[u32], index: usize) -> C
     requires settled { AreSettled residents.old.items words.now }
     requires here { is_here (slice_get (presences_of residents.old.items words.now) index) ≡ true }
     ensures settled { AreSettled residents.new.items words.now }
-    ensures taken { slice_get (presences_of residents.old.items words.now) index ≡ Some (Here result) }
-    ensures rest { presences_of residents.new.items words.now ≡ slice_set (presences_of residents.old.items words.now) index Out }
+    ensures taken { slice_get (presences_of residents.old.items words.now) index
+        ≡ Some (Here result) }
+    ensures rest { presences_of residents.new.items words.now
+        ≡ slice_set (presences_of residents.old.items words.now) index Out }
 {
     let word = words[index];
     let resident = &mut residents[word as usize];
@@ -134,7 +140,8 @@ pub fn put_back(residents: &mut Vec<Resident>, words: &[u32], index: usize, conn
     requires settled { AreSettled residents.old.items words.now }
     requires out { slice_get (presences_of residents.old.items words.now) index ≡ Some Out }
     ensures settled { AreSettled residents.new.items words.now }
-    ensures put { presences_of residents.new.items words.now ≡ slice_set (presences_of residents.old.items words.now) index (Here connection) }
+    ensures put { presences_of residents.new.items words.now
+        ≡ slice_set (presences_of residents.old.items words.now) index (Here connection) }
 {
     let word = words[index];
     let resident = &mut residents[word as usize];
@@ -143,7 +150,9 @@ pub fn put_back(residents: &mut Vec<Resident>, words: &[u32], index: usize, conn
 
 /// Why a resident may go: its connection has closed, and its replies were taken.
 fn gone_for(resident: &Resident) -> Option<Closing>
-    ensures { MatchOption result (retired (held_or_out resident.now.connection) ≡ held_or_out resident.now.connection) (λ why. retired (held_or_out resident.now.connection) ≡ Gone why) }
+    ensures { MatchOption result
+        (retired (held_or_out resident.now.connection) ≡ held_or_out resident.now.connection)
+        (λ why. retired (held_or_out resident.now.connection) ≡ Gone why) }
 {
     match &resident.connection {
         Some(connection) => {
@@ -163,7 +172,8 @@ fn remove_at(residents: &mut Vec<Resident>, words: &mut Vec<u32>, index: usize, 
     requires within { index < length words.old.items }
     requires here { IfSome (slice_get words.old.items index) (λ word. word < first_reason) }
     ensures settled { AreSettled residents.new.items words.new.items }
-    ensures gone { presences_of residents.new.items words.new.items ≡ slice_set (presences_of residents.old.items words.old.items) index (Gone why) }
+    ensures gone { presences_of residents.new.items words.new.items
+        ≡ slice_set (presences_of residents.old.items words.old.items) index (Gone why) }
 {
     let gap = words[index] as usize;
     words[index] = word_of(why);
@@ -181,7 +191,8 @@ pub fn retire_at(residents: &mut Vec<Resident>, words: &mut Vec<u32>, index: usi
     requires settled { AreSettled residents.old.items words.old.items }
     requires within { index < length words.old.items }
     ensures settled { AreSettled residents.new.items words.new.items }
-    ensures retired { presences_of residents.new.items words.new.items ≡ retired_at (presences_of residents.old.items words.old.items) index }
+    ensures retired { presences_of residents.new.items words.new.items
+        ≡ retired_at (presences_of residents.old.items words.old.items) index }
 {
     let word = words[index];
     if word >= FIRST_REASON {

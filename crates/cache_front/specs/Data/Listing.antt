@@ -16,7 +16,11 @@ held_by_all (s ∷ parts) = held_keys s.records ++ held_by_all parts
 module _ {S : Type 0} (hash : S → List ℕ → ℕ) (now : ℕ) (f : Front (List ℕ) Stored (List ℕ) S Weight) where
   -- a key has a visible value, if keys are hashed like this
   abbrev pub is_seen : List ℕ → Bool
-  is_seen q = is_some (visible_of (record { answers = service_answers; eq = same; hash = hash }) (part_by_hash f (hash f.common.hasher q)) now q)
+  is_seen q = is_some (visible_of (record {
+    answers = service_answers;
+    eq = same;
+    hash = hash;
+  }) (part_by_hash f (hash f.common.hasher q)) now q)
 
   -- those that have one
   abbrev pub seen_by_all : List (List ℕ)

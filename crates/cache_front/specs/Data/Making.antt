@@ -13,10 +13,17 @@ abbrev pub whole_settings : Config → (made : ℕ) → Settings
 whole_settings config made = record (settings_of config made) { capacity = config.capacity }
 
 -- it holds nothing and has reported nothing, and no identifier is registered; a key's part is the upper bits of its hash
-pub record IsJustMade (config : Config) (hash : List ℕ → ℕ) (made : ℕ) (stream : Stream) (v : Values) : Type 0 where
+pub record IsJustMade (config : Config) (hash : List ℕ → ℕ) (made : ℕ) (stream : Stream)
+    (v : Values) : Type 0 where
   pub bits : ℕ
   pub counts : 2 ^ bits ≡ part_count config
-  pub frame : v.frame ≡ record { config = config; part_of = λ key. part_of bits (hash key); made = made; dropped = false; latest = made }
+  pub frame : v.frame ≡ record {
+    config = config;
+    part_of = λ key. part_of bits (hash key);
+    made = made;
+    dropped = false;
+    latest = made;
+  }
   pub empty : v.Stands []
   pub untaken : v.untaken ≡ []
   pub used : v.Used true []

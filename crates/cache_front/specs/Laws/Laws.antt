@@ -34,70 +34,101 @@ module _ (S : Type 0) where
   -- a call that covers nothing reports each note of another value: that many fewer values are held, not counting the one that it accepts
   abbrev pub TellsEachOnce : Type 0
   TellsEachOnce =
-      (a b : StoreOfParts S) (now : ℕ) (deed : Deed) → IsWhole a → deed.covers ≡ Nothing → Does now deed (view a) (view b)
-      → length (items_of 0 b.parts) + length b.queue ≡ length (items_of 0 a.parts) + length a.queue + length (option_to_list (option_map newly_held deed.value))
+      (a b : StoreOfParts S) (now : ℕ) (deed : Deed) → IsWhole a → deed.covers ≡ Nothing
+      → Does now deed (view a) (view b)
+      → length (items_of 0 b.parts) + length b.queue ≡ length (items_of 0 a.parts) + length a.queue
+      + length (option_to_list (option_map newly_held deed.value))
 
   -- the store over a front whose notices were just taken, after those of a queue
-  abbrev pub settled : (hash : S → List ℕ → ℕ) → Config → (made : ℕ) → (dropped : Bool) → List (Notice (List ℕ) Stored) → Stream → Lent → StoreOfParts S
+  abbrev pub settled : (hash : S → List ℕ → ℕ) → Config → (made : ℕ) → (dropped : Bool)
+      → List (Notice (List ℕ) Stored) → Stream → Lent → StoreOfParts S
   settled hash config made dropped queue stream g = over_front config made dropped (hash g.common.hasher) (map note_from queue ++ waiting g.parts) stream (record g { parts = all_drained g.parts })
 
   abbrev pub PeeksOver : Type 0
   PeeksOver =
-      (hash : S → List ℕ → ℕ) (config : Config) (made : ℕ) (dropped : Bool) (queue : List (Notice (List ℕ) Stored)) (stream : Stream) (f : Lent) (now : ℕ) (key : List ℕ)
+      (hash : S → List ℕ → ℕ) (config : Config) (made : ℕ) (dropped : Bool)
+      (queue : List (Notice (List ℕ) Stored)) (stream : Stream) (f : Lent) (now : ℕ)
+      (key : List ℕ)
       → let a = store_of hash config made dropped queue stream f in
-      IsWhole a → IsLive (view a) now key (option_map (λ (v : Stored). v.bytes) (seen_in (part_by_hash f (hash f.common.hasher key)) now key))
+      IsWhole a → IsLive (view a) now key (option_map (λ (v : Stored). v.bytes)
+      (seen_in (part_by_hash f (hash f.common.hasher key)) now key))
 
   -- the step may stay as it was, so that a use of a key need never be refused
   abbrev pub LooksUpOver : Type 0
   LooksUpOver =
-      (hash : S → List ℕ → ℕ) (config : Config) (made : ℕ) (dropped : Bool) (queue : List (Notice (List ℕ) Stored)) (stream : Stream) (f g : Lent) (now : ℕ) (key : List ℕ)
+      (hash : S → List ℕ → ℕ) (config : Config) (made : ℕ) (dropped : Bool)
+      (queue : List (Notice (List ℕ) Stored)) (stream : Stream) (f g : Lent) (now : ℕ)
+      (key : List ℕ)
       → let a = store_of hash config made dropped queue stream f in let b = settled hash config made dropped queue stream g in
-      IsWhole a → IsMoment (view a) now → CallsPart (hash f.common.hasher key) now f.step (NotesLookUp service_answers same key (hash f.common.hasher key) now false) f g
-      → Does now (using key) (view a) (view b) × IsWhole b × (length (items_of 0 b.parts) + length (waiting g.parts) ≡ length (items_of 0 a.parts))
+      IsWhole a → IsMoment (view a) now → CallsPart (hash f.common.hasher key) now f.step
+      (NotesLookUp service_answers same key (hash f.common.hasher key) now false) f g
+      → Does now (using key) (view a) (view b) × IsWhole b
+      × (length (items_of 0 b.parts) + length (waiting g.parts) ≡ length (items_of 0 a.parts))
 
   abbrev pub TakesNotices : Type 0
   TakesNotices =
-      (hash : S → List ℕ → ℕ) (config : Config) (made : ℕ) (dropped : Bool) (queue queue_then : List (Notice (List ℕ) Stored)) (stream : Stream) (g h : Lent)
-      → h ≡ record g { parts = all_drained g.parts } → map note_from queue_then ≡ map note_from queue ++ waiting g.parts
-      → store_of hash config made dropped queue_then stream h ≡ settled hash config made dropped queue stream g
+      (hash : S → List ℕ → ℕ) (config : Config) (made : ℕ) (dropped : Bool)
+      (queue queue_then : List (Notice (List ℕ) Stored)) (stream : Stream) (g h : Lent)
+      → h ≡ record g {
+        parts = all_drained g.parts;
+      } → map note_from queue_then ≡ map note_from queue ++ waiting g.parts
+      → store_of hash config made dropped queue_then stream h
+      ≡ settled hash config made dropped queue stream g
 
   -- a value that the front inserts, if there is room for one more
   abbrev pub AcceptsOver : Type 0
   AcceptsOver =
-      (hash : S → List ℕ → ℕ) (config : Config) (made : ℕ) (dropped : Bool) (queue : List (Notice (List ℕ) Stored)) (stream : Stream) (f g : Lent) (now next : ℕ) (key bytes : List ℕ) (milliseconds : Option ℕ) (looked_up : Bool)
+      (hash : S → List ℕ → ℕ) (config : Config) (made : ℕ) (dropped : Bool)
+      (queue : List (Notice (List ℕ) Stored)) (stream : Stream) (f g : Lent) (now next : ℕ)
+      (key bytes : List ℕ) (milliseconds : Option ℕ) (looked_up : Bool)
       → let a = store_of hash config made dropped queue stream f in let b = settled hash config made dropped queue stream g in
-      IsWhole a → ComesTo a now next → IsAcceptable config bytes milliseconds → length (items_of 0 a.parts) < 2 ^ 50
-      → CallsPart (hash f.common.hasher key) now next (Inserts service_answers same key (hash f.common.hasher key) (stored bytes milliseconds) now next) f g
-      → AcceptsValue now key bytes milliseconds looked_up (part_of f.bits (hash f.common.hasher key)) (view a) (view b) × IsWhole b × (length (items_of 0 b.parts) + length (waiting g.parts) ≡ suc (length (items_of 0 a.parts)))
+      IsWhole a → ComesTo a now next → IsAcceptable config bytes milliseconds
+      → length (items_of 0 a.parts) < 2 ^ 50
+      → CallsPart (hash f.common.hasher key) now next (Inserts service_answers same key
+      (hash f.common.hasher key) (stored bytes milliseconds) now next) f g
+      → AcceptsValue now key bytes milliseconds looked_up
+      (part_of f.bits (hash f.common.hasher key)) (view a) (view b) × IsWhole b × (length
+      (items_of 0 b.parts) + length (waiting g.parts) ≡ suc (length (items_of 0 a.parts)))
 
   -- a key that the front removes, or does not have
   abbrev pub RemovesOver : Type 0
   RemovesOver =
-      (hash : S → List ℕ → ℕ) (config : Config) (made : ℕ) (dropped : Bool) (queue : List (Notice (List ℕ) Stored)) (stream : Stream) (f g : Lent) (now next : ℕ) (key : List ℕ)
+      (hash : S → List ℕ → ℕ) (config : Config) (made : ℕ) (dropped : Bool)
+      (queue : List (Notice (List ℕ) Stored)) (stream : Stream) (f g : Lent) (now next : ℕ)
+      (key : List ℕ)
       → let a = store_of hash config made dropped queue stream f in let b = settled hash config made dropped queue stream g in
-      IsWhole a → ComesTo a now next → CallsPart (hash f.common.hasher key) now next (TakesOut service_answers same key now) f g
-      → Does now (deleting key) (view a) (view b) × IsWhole b × (length (items_of 0 b.parts) + length (waiting g.parts) ≡ length (items_of 0 a.parts))
+      IsWhole a → ComesTo a now next → CallsPart (hash f.common.hasher key) now next
+      (TakesOut service_answers same key now) f g
+      → Does now (deleting key) (view a) (view b) × IsWhole b
+      × (length (items_of 0 b.parts) + length (waiting g.parts) ≡ length (items_of 0 a.parts))
 
   -- a run of all parts of the front, whose counts are read before its notices are taken
   abbrev pub RunsOver : Type 0
   RunsOver =
-      (hash : S → List ℕ → ℕ) (config : Config) (made : ℕ) (dropped : Bool) (queue : List (Notice (List ℕ) Stored)) (stream : Stream) (f g : Lent) (now next : ℕ)
+      (hash : S → List ℕ → ℕ) (config : Config) (made : ℕ) (dropped : Bool)
+      (queue : List (Notice (List ℕ) Stored)) (stream : Stream) (f g : Lent) (now next : ℕ)
       → let a = store_of hash config made dropped queue stream f in let b = settled hash config made dropped queue stream g in
       IsWhole a → ComesTo a now next → CallsAll now next (RunsPart service_answers now) f g
-      → Does now syncing (view a) (view b) × IsWhole b × IsSettled (view b) (total_number S g.parts) (total_weight S g.parts) × (length (items_of 0 b.parts) + length (waiting g.parts) ≡ length (items_of 0 a.parts))
+      → Does now syncing (view a) (view b) × IsWhole b
+      × IsSettled (view b) (total_number S g.parts) (total_weight S g.parts)
+      × (length (items_of 0 b.parts) + length (waiting g.parts) ≡ length (items_of 0 a.parts))
 
   -- a clear of all parts of the front, at the next step
   abbrev pub ClearsOver : Type 0
   ClearsOver =
-      (hash : S → List ℕ → ℕ) (config : Config) (made : ℕ) (dropped : Bool) (queue : List (Notice (List ℕ) Stored)) (stream : Stream) (f g : Lent) (now next : ℕ)
+      (hash : S → List ℕ → ℕ) (config : Config) (made : ℕ) (dropped : Bool)
+      (queue : List (Notice (List ℕ) Stored)) (stream : Stream) (f g : Lent) (now next : ℕ)
       → let a = store_of hash config made dropped queue stream f in let b = store_of hash config made dropped queue stream g in
-      IsWhole a → ComesTo a now next → f.step < next → CallsAll now next (λ s t. t ≡ cleared_by next s) f g
+      IsWhole a → ComesTo a now next → f.step < next
+      → CallsAll now next (λ s t. t ≡ cleared_by next s) f g
       → Does now (covering Everything) (view a) (view b) × IsWhole b
 
   -- a predicate that is registered in all parts of the front at the next step, after each drew an identifier
   abbrev pub DropsOver : Type 0
   DropsOver =
-      (hash : S → List ℕ → ℕ) (config : Config) (made : ℕ) (dropped : Bool) (queue : List (Notice (List ℕ) Stored)) (stream left : Stream) (f g : Lent) (now next : ℕ) (prefix : List ℕ) (ids : List ℕ)
+      (hash : S → List ℕ → ℕ) (config : Config) (made : ℕ) (dropped : Bool)
+      (queue : List (Notice (List ℕ) Stored)) (stream left : Stream) (f g : Lent) (now next : ℕ)
+      (prefix : List ℕ) (ids : List ℕ)
       → let a = store_of hash config made dropped queue stream f in let b = store_of hash config made true queue left g in
       IsWhole a → ComesTo a now next → f.step < next → DrawAll f.parts stream left ids → g ≡ passed now next (record f { parts = registered_in prefix next ids f.parts })
       → Does now (covering (Prefixed prefix)) (view a) (view b) × IsWhole b
@@ -105,13 +136,17 @@ module _ (S : Type 0) where
   -- or a part of the front lacked identifiers, and the front is as it was
   abbrev pub LacksOver : Type 0
   LacksOver =
-      (hash : S → List ℕ → ℕ) (config : Config) (made : ℕ) (dropped : Bool) (queue : List (Notice (List ℕ) Stored)) (stream left : Stream) (f : Lent)
+      (hash : S → List ℕ → ℕ) (config : Config) (made : ℕ) (dropped : Bool)
+      (queue : List (Notice (List ℕ) Stored)) (stream left : Stream) (f : Lent)
       → let a = store_of hash config made dropped queue stream f in let b = store_of hash config made dropped queue left f in
       IsWhole a → DrawsInVain f.parts stream left → LacksIdentifiers (view a) (view b) × IsWhole b
 
   -- the first notice of the queue is taken
   abbrev pub GivesOver : Type 0
   GivesOver =
-      (hash : S → List ℕ → ℕ) (config : Config) (made : ℕ) (dropped : Bool) (notice : Notice (List ℕ) Stored) (queue : List (Notice (List ℕ) Stored)) (stream : Stream) (f : Lent)
+      (hash : S → List ℕ → ℕ) (config : Config) (made : ℕ) (dropped : Bool)
+      (notice : Notice (List ℕ) Stored) (queue : List (Notice (List ℕ) Stored)) (stream : Stream)
+      (f : Lent)
       → let a = store_of hash config made dropped (notice ∷ queue) stream f in let b = store_of hash config made dropped queue stream f in
-      IsWhole a → TakesFirstNote (view a).untaken (view b).untaken (Some (note_from notice)) × GivesNote (view a) (view b) × IsWhole b
+      IsWhole a → TakesFirstNote (view a).untaken (view b).untaken (Some (note_from notice))
+      × GivesNote (view a) (view b) × IsWhole b

@@ -11,12 +11,15 @@ use Rattle.cache_parts_store.specs.View.{IsWhole, StoreOfParts, over_front}
 
 -- the hash of the bytes of a key
 abbrev pub hash_by : {H S : Type 0} → (H → ℕ) → (H → List ℕ → H) → (S → H) → S → List ℕ → ℕ
-hash_by finish write build_hasher hasher key = hash_of_key finish write build_hasher (λ (k : List ℕ). k ∷ []) hasher key
+hash_by finish write build_hasher hasher key =
+    hash_of_key finish write build_hasher (λ (k : List ℕ). k ∷ []) hasher key
 
 module _ {S : Type 0} where
   -- the store of a front's parts, with keys hashed like this
-  abbrev pub store_of : (hash : S → List ℕ → ℕ) → Config → (made : ℕ) → (dropped : Bool) → List (Notice (List ℕ) Stored) → Stream → Front (List ℕ) Stored (List ℕ) S Weight → StoreOfParts S
-  store_of hash config made dropped queue stream f = over_front config made dropped (hash f.common.hasher) (map note_from queue) stream f
+  abbrev pub store_of : (hash : S → List ℕ → ℕ) → Config → (made : ℕ) → (dropped : Bool) → List
+      (Notice (List ℕ) Stored) → Stream → Front (List ℕ) Stored (List ℕ) S Weight → StoreOfParts S
+  store_of hash config made dropped queue stream f =
+      over_front config made dropped (hash f.common.hasher) (map note_from queue) stream f
 
   -- it is whole, its values are counted, and the queue has room for a notice of each value
   pub record IsFit (a : StoreOfParts S) (count capacity : ℕ) : Type 0 where

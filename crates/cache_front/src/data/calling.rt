@@ -47,7 +47,8 @@ pub fn prepare(
 
 /// The bytes of a value, if there is one.
 pub fn bytes_found(found: Option<&StoredValue>) -> Option<&[u8]>
-    ensures { option_map (λ bytes. bytes.now) result ≡ option_map (λ value. value.bytes) (option_map (λ value. value.now) found.entry) }
+    ensures { option_map (λ bytes. bytes.now) result
+        ≡ option_map (λ value. value.bytes) (option_map (λ value. value.now) found.entry) }
 {
     match found {
         Some(value) => Some(value.as_bytes()),
@@ -62,7 +63,9 @@ pub fn read_bytes<T, E, F: FnOnce(Option<&[u8]>, &mut Vec<u8>) -> Result<T, E> +
     read: F,
 ) -> Result<T, E>
     requires { F.IsAlwaysCallable read }
-    ensures { IsShown F.FnOnce read (option_map (λ value. value.bytes) (option_map (λ value. value.now) found.entry)) output.old result output.new }
+    ensures { IsShown F.FnOnce read
+        (option_map (λ value. value.bytes) (option_map (λ value. value.now) found.entry)) output.old
+        result output.new }
 {
     read(bytes_found(found), output)
 }
@@ -103,8 +106,10 @@ pub fn insert<S: BuildHasher>(
 ) -> Result<usize, StoreError>
     requires later { front.old.moment ≤ now }
     requires moment { now < 2 ^ 63 }
-    ensures inserts { OnOk result (InsertsBy (hash_with S.BuildHasher S.Hasher.Hasher) key.now value now front.old front.new) }
-    ensures part { IfOk result (λ part. part ≡ part_of front.old.bits (hash_with S.BuildHasher S.Hasher.Hasher front.old.common.hasher key.now)) }
+    ensures inserts { OnOk result (InsertsBy (hash_with S.BuildHasher S.Hasher.Hasher) key.now value
+        now front.old front.new) }
+    ensures part { IfOk result (λ part. part ≡ part_of front.old.bits
+        (hash_with S.BuildHasher S.Hasher.Hasher front.old.common.hasher key.now)) }
     ensures used_up { IsErrOf result StoreError.UsedUp → LackTickets front.old.parts }
     ensures err { OnErr result (front.new ≡ front.old) }
 {
@@ -130,8 +135,10 @@ pub fn invalidate<S: BuildHasher>(
 ) -> Result<usize, StoreError>
     requires later { front.old.moment ≤ now }
     requires moment { now < 2 ^ 63 }
-    ensures takes_out { OnOk result (TakesOutBy (hash_with S.BuildHasher S.Hasher.Hasher) key.now now front.old front.new) }
-    ensures part { IfOk result (λ part. part ≡ part_of front.old.bits (hash_with S.BuildHasher S.Hasher.Hasher front.old.common.hasher key.now)) }
+    ensures takes_out { OnOk result
+        (TakesOutBy (hash_with S.BuildHasher S.Hasher.Hasher) key.now now front.old front.new) }
+    ensures part { IfOk result (λ part. part ≡ part_of front.old.bits
+        (hash_with S.BuildHasher S.Hasher.Hasher front.old.common.hasher key.now)) }
     ensures used_up { IsErrOf result StoreError.UsedUp → LackTickets front.old.parts }
     ensures err { OnErr result (front.new ≡ front.old) }
 {
@@ -164,8 +171,10 @@ fn next_step(step: u64) -> Result<u64, StoreError>
 pub fn clear<S: BuildHasher>(front: &mut Front<S>, now: u64) -> Result<(), StoreError>
     requires later { front.old.moment ≤ now }
     requires moment { now < 2 ^ 63 }
-    ensures clears { OnOk result (CallsAll now (suc front.old.step) (λ s t. t ≡ cleared_by (suc front.old.step) s) front.old front.new) }
-    ensures used_up { OnErr result (IsErrOf result StoreError.UsedUp × (2 ^ 64 ≤ suc front.old.step)) }
+    ensures clears { OnOk result (CallsAll now (suc front.old.step)
+        (λ s t. t ≡ cleared_by (suc front.old.step) s) front.old front.new) }
+    ensures used_up { OnErr result
+        (IsErrOf result StoreError.UsedUp × (2 ^ 64 ≤ suc front.old.step)) }
     ensures err { OnErr result (front.new ≡ front.old) }
 {
     let At { step, .. } = front.last_call();
@@ -187,9 +196,12 @@ pub fn cover<S: BuildHasher, R: Rng>(
 ) -> Result<bool, StoreError>
     requires later { front.old.moment ≤ now }
     requires moment { now < 2 ^ 63 }
-    ensures covers { IfOk result (λ covers. covers ≡ true → CoversBy prefix.now now (R.stream generator.old) (R.stream generator.new) front.old front.new) }
-    ensures lacks { IfOk result (λ covers. covers ≡ false → DrawsInVain front.old.parts (R.stream generator.old) (R.stream generator.new) × (front.new ≡ front.old)) }
-    ensures used_up { IsErrOf result StoreError.UsedUp → LackTickets front.old.parts ⊎ (2 ^ 64 ≤ suc front.old.step) }
+    ensures covers { IfOk result (λ covers. covers ≡ true → CoversBy prefix.now now
+        (R.stream generator.old) (R.stream generator.new) front.old front.new) }
+    ensures lacks { IfOk result (λ covers. covers ≡ false → DrawsInVain front.old.parts
+        (R.stream generator.old) (R.stream generator.new) × (front.new ≡ front.old)) }
+    ensures used_up { IsErrOf result StoreError.UsedUp → LackTickets front.old.parts
+        ⊎ (2 ^ 64 ≤ suc front.old.step) }
     ensures err { OnErr result ((front.new ≡ front.old) × (generator.new ≡ generator.old)) }
 {
     let At { step, .. } = front.last_call();

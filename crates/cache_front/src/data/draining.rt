@@ -15,9 +15,11 @@ use std::hash::BuildHasher;
 
 /// Takes what the parts of a front told, and puts it behind the notices that wait, for which there is room. Answers how many it were.
 pub fn drain<S: BuildHasher>(front: &mut Front<S>, notices: &mut Notices) -> usize
-    requires { length notices.old.items + length (waiting front.old.parts) ≤ deque_capacity notices.old }
+    requires { length notices.old.items + length (waiting front.old.parts)
+        ≤ deque_capacity notices.old }
     ensures drained { front.new ≡ record front.old { parts = all_drained front.old.parts } }
-    ensures queued { map note_from notices.new.items ≡ map note_from notices.old.items ++ waiting front.old.parts }
+    ensures queued { map note_from notices.new.items ≡ map note_from notices.old.items
+        ++ waiting front.old.parts }
     ensures room { deque_capacity notices.new ≡ deque_capacity notices.old }
     ensures number { result ≡ length (waiting front.old.parts) }
 {
@@ -30,9 +32,11 @@ pub fn drain<S: BuildHasher>(front: &mut Front<S>, notices: &mut Notices) -> usi
 
 /// Takes what the part at a place told, and puts it there too. Answers how many it were.
 pub fn drain_at<S: BuildHasher>(front: &mut Front<S>, place: usize, notices: &mut Notices) -> usize
-    requires { length notices.old.items + length (waiting_at place front.old.parts) ≤ deque_capacity notices.old }
+    requires { length notices.old.items + length (waiting_at place front.old.parts)
+        ≤ deque_capacity notices.old }
     ensures drained { front.new ≡ record front.old { parts = drained_at place front.old.parts } }
-    ensures queued { map note_from notices.new.items ≡ map note_from notices.old.items ++ waiting_at place front.old.parts }
+    ensures queued { map note_from notices.new.items ≡ map note_from notices.old.items
+        ++ waiting_at place front.old.parts }
     ensures room { deque_capacity notices.new ≡ deque_capacity notices.old }
     ensures number { result ≡ length (waiting_at place front.old.parts) }
 {

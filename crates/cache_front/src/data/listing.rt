@@ -26,7 +26,8 @@ pub fn write_keys<S: BuildHasher>(
 ) -> Result<(), AllocError>
     requires moment { now < 2 ^ 63 }
     requires distinct { are_distinct (held_by_all front.now.parts) ≡ true }
-    ensures written { OnOk result (output.new.items ≡ output.old.items ++ concat (map text_line (sorted (seen_by_all (hash_with S.BuildHasher S.Hasher.Hasher) now front.now)))) }
+    ensures written { OnOk result (output.new.items ≡ output.old.items ++ concat (map text_line
+        (sorted (seen_by_all (hash_with S.BuildHasher S.Hasher.Hasher) now front.now)))) }
     ensures unwritten { OnErr result (output.new.items ≡ output.old.items) }
 {
     let held = held_keys(alloc, front)?;
@@ -56,7 +57,8 @@ fn add_held<S: BuildHasher>(
     place: usize,
     keys: &mut Vec<Shared<Key>>,
 ) -> Result<(), AllocError>
-    ensures { OnOk result (keys.new.items ≡ keys.old.items ++ keys_of (slice_get front.now.parts place)) }
+    ensures { OnOk result
+        (keys.new.items ≡ keys.old.items ++ keys_of (slice_get front.now.parts place)) }
 {
     let Some(mut held) = front.keys(place)? else {
         return Ok(());
@@ -73,7 +75,8 @@ fn sorted_keys<'a, S: BuildHasher>(
     now: Instant,
 ) -> Result<BTreeMap<&'a [u8], ()>, AllocError>
     requires { are_distinct keys.now ≡ true }
-    ensures { IfOk result (λ found. map (λ e. e.0.now) found.entries ≡ sorted (filter (is_seen (hash_with S.BuildHasher S.Hasher.Hasher) now front.now) keys.now)) }
+    ensures { IfOk result (λ found. map (λ e. e.0.now) found.entries ≡ sorted
+        (filter (is_seen (hash_with S.BuildHasher S.Hasher.Hasher) now front.now) keys.now)) }
 {
     let mut found = BTreeMap::new(alloc);
     for key in keys {
@@ -87,7 +90,8 @@ fn sorted_keys<'a, S: BuildHasher>(
 
 /// The keys, each with a line feed.
 fn lines_of(alloc: Global, keys: &BTreeMap<&[u8], ()>) -> Result<Vec<u8>, AllocError>
-    ensures { IfOk result (λ lines. lines.items ≡ concat (map text_line (map (λ e. e.0.now) keys.now.entries))) }
+    ensures { IfOk result
+        (λ lines. lines.items ≡ concat (map text_line (map (λ e. e.0.now) keys.now.entries))) }
 {
     let mut lines = Vec::new(alloc);
     for (key, _unit) in keys {

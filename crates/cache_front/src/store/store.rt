@@ -46,9 +46,18 @@ impl<R: Rng + Drop, S: BuildHasher + Drop> Model for FrontStore<R, S> {
 
     ghost Value = { StoreData R (WordBuilder S) };
 
-    ghost view = { λ s. record { config = s.config; made = s.made; dropped = s.dropped; queue = s.notices.items; generator = s.generator; front = s.front } };
+    ghost view = { λ s. record {
+      config = s.config;
+      made = s.made;
+      dropped = s.dropped;
+      queue = s.notices.items;
+      generator = s.generator;
+      front = s.front;
+    } };
 
-    ghost invariant = { λ s. IsFit (store_of (word_of S.BuildHasher S.Hasher.Hasher) s.config s.made s.dropped s.notices.items (R.stream s.generator) s.front) s.count (deque_capacity s.notices) };
+    ghost invariant = { λ s. IsFit (store_of (word_of S.BuildHasher S.Hasher.Hasher)
+        s.config s.made s.dropped s.notices.items (R.stream s.generator) s.front) s.count
+        (deque_capacity s.notices) };
 }
 
 impl<R: Rng + Drop, S: BuildHasher + Drop> FrontStore<R, S> {
@@ -63,7 +72,9 @@ impl<R: Rng + Drop, S: BuildHasher + Drop> FrontStore<R, S> {
     ) -> Result<FrontStore<R, S>, AllocError>
         requires brief { IsBrief config }
         requires moment { made < 2 ^ 63 }
-        ensures made { IfOk result (λ s. IsJustMade config (word_of S.BuildHasher S.Hasher.Hasher (record { inner = hasher })) made (R.stream generator) (shown_by S.BuildHasher S.Hasher.Hasher R.stream s)) }
+        ensures made { IfOk result (λ s.
+            IsJustMade config (word_of S.BuildHasher S.Hasher.Hasher (record { inner = hasher }))
+            made (R.stream generator) (shown_by S.BuildHasher S.Hasher.Hasher R.stream s)) }
         ensures generator { IfOk result (λ s. s.generator ≡ generator) }
     {
         let bits = bits_of(&config);

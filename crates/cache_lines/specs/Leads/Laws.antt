@@ -30,114 +30,173 @@ use Rattle.cache_lines.specs.Leads.Leads.{BeginsUnknown, TasksLead, SettlingLead
 
 -- no step leads nowhere else
 abbrev pub NothingLeads : Type 0
-NothingLeads = (config : Config) (making : Making) (s : Situation) (tasks : List Task) (drawn : Identifiers) → TasksLead config making s tasks [] s tasks drawn drawn
+NothingLeads =
+    (config : Config) (making : Making) (s : Situation) (tasks : List Task) (drawn : Identifiers)
+    → TasksLead config making s tasks [] s tasks drawn drawn
 
 -- steps lead on from where others led
 abbrev pub StepsLeadOn : Type 0
 StepsLeadOn =
-    (config : Config) (making : Making) (s t u : Situation) (tasks left last : List Task) (steps more : List Step) (a b c : Identifiers)
-    → TasksLead config making s tasks steps t left a b → TasksLead config making t left more u last b c → TasksLead config making s tasks (steps ++ more) u last a c
+    (config : Config) (making : Making) (s t u : Situation) (tasks left last : List Task)
+    (steps more : List Step) (a b c : Identifiers)
+    → TasksLead config making s tasks steps t left a b → TasksLead config making t left more u last
+    b c → TasksLead config making s tasks (steps ++ more) u last a c
 
 -- a connection whose turn it is to be told waits, and no other one is told in its place
 abbrev pub ToldWaits : Type 0
 ToldWaits =
-    (n : ℕ) (told : List ℕ) (s : Situation) → Tidy (n ∷ told) s → (c : Connection) × (connection_in n s ≡ Some c) × (c.number ≡ n) × (is_waiting_now c.standing ≡ true)
+    (n : ℕ) (told : List ℕ) (s : Situation) → Tidy (n ∷ told) s → (c : Connection)
+    × (connection_in n s ≡ Some c) × (c.number ≡ n) × (is_waiting_now c.standing ≡ true)
 
 -- when a load is settled, each connection that waited for it still has to be told, once, if it is answered
 abbrev pub AnswerTidy : Type 0
 AnswerTidy =
-    (load moment : ℕ) (outcome : Outcome) (s : Situation) → Tidy [] s → Tidy (still_told (tasks_to_answer (key_in load s) outcome (waiting_in load s))) (without_load load moment s)
+    (load moment : ℕ) (outcome : Outcome) (s : Situation) → Tidy [] s
+    → Tidy (still_told (tasks_to_answer (key_in load s) outcome (waiting_in load s)))
+    (without_load load moment s)
 
 -- or given up
 abbrev pub GiveUpTidy : Type 0
-GiveUpTidy = (load moment : ℕ) (s : Situation) → Tidy [] s → Tidy (still_told (tasks_to_give_up (waiting_in load s))) (without_load load moment s)
+GiveUpTidy =
+    (load moment : ℕ) (s : Situation) → Tidy [] s
+    → Tidy (still_told (tasks_to_give_up (waiting_in load s))) (without_load load moment s)
 
 -- a waiting `LOAD` receives the outcome: its connection runs lines again
 abbrev pub DeliveredLeads : Type 0
 DeliveredLeads =
-    (config : Config) (making : Making) (s : Situation) (n : ℕ) (line bytes : List ℕ) (times : ℕ) (outcome : Outcome) (tasks : List Task) (drawn : Identifiers)
-    → connection_in n s ≡ Some (waiting n line bytes times) → DoesRight config s (Delivering outcome) (step_saying 0 [] (outcome_text outcome) None [])
-    → TasksLead config making s (Deliver n outcome ∷ tasks) (step_saying n line (outcome_text outcome) None [] ∷ [])
-    (set_in s (held_when_run config s (Delivering outcome) (step_saying 0 [] (outcome_text outcome) None [])) (ready n bytes)) tasks drawn drawn
+    (config : Config) (making : Making) (s : Situation) (n : ℕ) (line bytes : List ℕ) (times : ℕ)
+    (outcome : Outcome) (tasks : List Task) (drawn : Identifiers)
+    → connection_in n s ≡ Some (waiting n line bytes times)
+    → DoesRight config s (Delivering outcome) (step_saying 0 [] (outcome_text outcome) None [])
+    → TasksLead config making s (Deliver n outcome ∷ tasks)
+    (step_saying n line (outcome_text outcome) None [] ∷ [])
+    (set_in s (held_when_run config s (Delivering outcome)
+    (step_saying 0 [] (outcome_text outcome) None [])) (ready n bytes)) tasks drawn drawn
 
 -- a `LOAD` that is given up for the 200th time is abandoned
 abbrev pub AbandonedLeads : Type 0
 AbandonedLeads =
-    (config : Config) (making : Making) (s : Situation) (n : ℕ) (line bytes : List ℕ) (times : ℕ) (tasks : List Task) (drawn : Identifiers)
-    → connection_in n s ≡ Some (waiting n line bytes times) → nat_le 200 times ≡ true → DoesRight config s Abandoning (step_saying 0 [] (codes "ERR abandoned\n") None [])
-    → TasksLead config making s (RunAgain n ∷ tasks) (step_saying n line (codes "ERR abandoned\n") None [] ∷ [])
-    (set_in s (held_when_run config s Abandoning (step_saying 0 [] (codes "ERR abandoned\n") None [])) (ready n bytes)) tasks drawn drawn
+    (config : Config) (making : Making) (s : Situation) (n : ℕ) (line bytes : List ℕ) (times : ℕ)
+    (tasks : List Task) (drawn : Identifiers)
+    → connection_in n s ≡ Some (waiting n line bytes times) → nat_le 200 times ≡ true
+    → DoesRight config s Abandoning (step_saying 0 [] (codes "ERR abandoned\n") None [])
+    → TasksLead config making s (RunAgain n ∷ tasks)
+    (step_saying n line (codes "ERR abandoned\n") None [] ∷ [])
+    (set_in s (held_when_run config s Abandoning
+    (step_saying 0 [] (codes "ERR abandoned\n") None [])) (ready n bytes)) tasks drawn drawn
 
 -- a `LOAD` that is given up and finds a live value is answered
 abbrev pub AnsweredLeads : Type 0
 AnsweredLeads =
-    (config : Config) (making : Making) (s : Situation) (n : ℕ) (line bytes key reply : List ℕ) (times : ℕ) (told : List Note) (tasks : List Task) (drawn : Identifiers)
-    → connection_in n s ≡ Some (waiting n line bytes times) → nat_le 200 times ≡ false → reading config line ≡ Ok (says.Load key)
+    (config : Config) (making : Making) (s : Situation) (n : ℕ) (line bytes key reply : List ℕ)
+    (times : ℕ) (told : List Note) (tasks : List Task) (drawn : Identifiers)
+    → connection_in n s ≡ Some (waiting n line bytes times) → nat_le 200 times ≡ false
+    → reading config line ≡ Ok (says.Load key)
     → DoesRight config s (Running (says.Load key)) (step_saying 0 [] reply None told)
     → TasksLead config making s (RunAgain n ∷ tasks) (step_saying n line reply None told ∷ [])
-    (set_in s (held_when_run config s (Running (says.Load key)) (step_saying 0 [] reply None told)) (ready n bytes)) tasks drawn drawn
+    (set_in s (held_when_run config s (Running (says.Load key)) (step_saying 0 [] reply None told))
+    (ready n bytes)) tasks drawn drawn
 
 -- a `LOAD` that is given up and finds none waits once more: it joins the load of its key, or sends the next one
 abbrev pub WaitsAgainLeads : Type 0
 WaitsAgainLeads =
-    (config : Config) (making : Making) (s : Situation) (n : ℕ) (line bytes key : List ℕ) (times : ℕ) (tasks : List Task) (drawn : Identifiers)
-    → connection_in n s ≡ Some (waiting n line bytes times) → nat_le 200 times ≡ false → reading config line ≡ Ok (says.Load key) → live_at config s.latest s.held key ≡ None
+    (config : Config) (making : Making) (s : Situation) (n : ℕ) (line bytes key : List ℕ)
+    (times : ℕ) (tasks : List Task) (drawn : Identifiers)
+    → connection_in n s ≡ Some (waiting n line bytes times) → nat_le 200 times ≡ false
+    → reading config line ≡ Ok (says.Load key) → live_at config s.latest s.held key ≡ None
     → DoesRight config s (Running (says.Load key)) (step_waiting config s key 0 [])
     → (let number = number_to_send key s.sent s.pending in
     TasksLead config making s (RunAgain n ∷ tasks) (step_silent n line number None [] ∷ [])
-    (set_in (with_loads (when_sent number s.sent) (when_joined n key number s.pending) s) (held_when_run config s (Running (says.Load key)) (step_waiting config s key 0 [])) (waiting n line bytes (suc times))) tasks drawn drawn)
+    (set_in (with_loads (when_sent number s.sent) (when_joined n key number s.pending) s)
+    (held_when_run config s (Running (says.Load key)) (step_waiting config s key 0 []))
+    (waiting n line bytes (suc times))) tasks drawn drawn)
 
 -- a `LOAD` that is given up, and for which memory is lacking, is held back; how often it waited stays
 abbrev pub HeldBackLeads : Type 0
 HeldBackLeads =
-    (config : Config) (making : Making) (s : Situation) (n : ℕ) (line bytes : List ℕ) (times : ℕ) (tasks : List Task) (drawn : Identifiers)
+    (config : Config) (making : Making) (s : Situation) (n : ℕ) (line bytes : List ℕ) (times : ℕ)
+    (tasks : List Task) (drawn : Identifiers)
     → connection_in n s ≡ Some (waiting n line bytes times) → nat_le 200 times ≡ false
     → TasksLead config making s (RunAgain n ∷ tasks) (step_held n line ∷ [])
-    (set_in s (held_when_run config s Holding (step_held n line)) (holding_load n line bytes times)) tasks drawn drawn
+    (set_in s (held_when_run config s Holding (step_held n line)) (holding_load n line bytes times))
+    tasks drawn drawn
 
 -- a connection's lines run, as they do alone
 abbrev pub LinesLead : Type 0
 LinesLead =
-    (config : Config) (making : Making) (s t : Situation) (n : ℕ) (steps : List Step) (tasks : List Task) (drawn drawing : Identifiers)
-    → after_steps config s (RunLines n ∷ []) steps ≡ Some t → ArePartedIn config making.part_of s (RunLines n ∷ []) steps → IsTrue (are_timely config making.made s (RunLines n ∷ []) steps) → StepsDraw config steps drawn drawing
+    (config : Config) (making : Making) (s t : Situation) (n : ℕ) (steps : List Step)
+    (tasks : List Task) (drawn drawing : Identifiers)
+    → after_steps config s (RunLines n ∷ []) steps ≡ Some t → ArePartedIn config making.part_of s
+    (RunLines n ∷ []) steps → IsTrue (are_timely config making.made s (RunLines n ∷ []) steps)
+    → StepsDraw config steps drawn drawing
     → TasksLead config making s (RunLines n ∷ tasks) steps t tasks drawn drawing
 
 -- a connection of which no line may run has no step
 abbrev pub NoLinesLead : Type 0
 NoLinesLead =
-    (config : Config) (making : Making) (s : Situation) (n : ℕ) (tasks : List Task) (drawn : Identifiers) → may_run_in s n ≡ false → TasksLead config making s (RunLines n ∷ tasks) [] s tasks drawn drawn
+    (config : Config) (making : Making) (s : Situation) (n : ℕ)
+    (tasks : List Task) (drawn : Identifiers) → may_run_in s n ≡ false
+    → TasksLead config making s (RunLines n ∷ tasks) [] s tasks drawn drawn
 
 -- the record of an answer, whose value was accepted or not, with what this reported
 abbrev pub record_answered : ℕ → Outcome → ℕ → Option Accepted → List Note → List Step → Record
 record_answered load outcome moment accepted told steps =
-    record { event = event.Answer load outcome (record { nanos = moment }); own = accepted; notices = told; steps = steps }
+    record {
+      event = event.Answer load outcome (record { nanos = moment });
+      own = accepted;
+      notices = told;
+      steps = steps;
+    }
 
 -- the record of a give-up
 abbrev pub record_given_up : ℕ → ℕ → List Step → Record
-record_given_up load moment steps = record { event = event.GiveUp load (record { nanos = moment }); own = None; notices = []; steps = steps }
+record_given_up load moment steps =
+    record {
+      event = event.GiveUp load (record { nanos = moment });
+      own = None;
+      notices = [];
+      steps = steps;
+    }
 
 -- the situation in which an answer's value was stored
-abbrev pub when_stored : Config → Situation → List ℕ → Outcome → Option Accepted → List Note → Situation
-when_stored config s key outcome accepted told = record s { held = held_when_run config s (Storing (Some key) outcome) (step_silent 0 [] None accepted told) }
+abbrev pub when_stored : Config → Situation → List ℕ → Outcome → Option Accepted → List Note
+    → Situation
+when_stored config s key outcome accepted told =
+    record s {
+      held = held_when_run config s (Storing (Some key) outcome) (step_silent 0 [] None accepted told);
+    }
 
 -- An answer that is not refused: its value is stored, then each waiting `LOAD` receives the outcome in order, then the lines of each
 -- connection run in the same order. From these pieces its record follows.
 abbrev pub AnswerSettles : Type 0
 AnswerSettles =
-    (config : Config) (making : Making) (s t : Situation) (load moment : ℕ) (key : List ℕ) (outcome : Outcome) (accepted : Option Accepted) (told : List Note) (steps : List Step) (drawn drawing : Identifiers)
-    → refusal_of config (known_in s) (event.Answer load outcome (record { nanos = moment })) ≡ None → key_in load s ≡ Some key
+    (config : Config) (making : Making) (s t : Situation) (load moment : ℕ) (key : List ℕ)
+    (outcome : Outcome) (accepted : Option Accepted) (told : List Note) (steps : List Step)
+    (drawn drawing : Identifiers)
+    → refusal_of config (known_in s) (event.Answer load outcome (record {
+      nanos = moment;
+    })) ≡ None → key_in load s ≡ Some key
     → has_right_own_value (record_answered load outcome moment accepted told steps) ≡ true
-    → DoesRight config (without_load load moment s) (Storing (Some key) outcome) (step_silent 0 [] None accepted told)
-    → IsTrue (has_its_part making.part_of (effect_in config (view_in config (without_load load moment s)) (Storing (Some key) outcome) (step_silent 0 [] None accepted told)))
-    → TasksLead config making (when_stored config (without_load load moment s) key outcome accepted told) (map (λ conn. Deliver conn outcome) (waiting_in load s) ++ map RunLines (waiting_in load s)) steps t [] drawn drawing
-    → SettlingLeads config making s (record_answered load outcome moment accepted told steps) t drawn drawing
+    → DoesRight config (without_load load moment s) (Storing (Some key) outcome)
+    (step_silent 0 [] None accepted told)
+    → IsTrue
+    (has_its_part making.part_of (effect_in config (view_in config (without_load load moment s))
+    (Storing (Some key) outcome) (step_silent 0 [] None accepted told)))
+    → TasksLead config making
+    (when_stored config (without_load load moment s) key outcome accepted told)
+    (map (λ conn. Deliver conn outcome) (waiting_in load s) ++ map RunLines (waiting_in load s))
+    steps t [] drawn drawing
+    → SettlingLeads config making s (record_answered load outcome moment accepted told steps) t
+    drawn drawing
 
 -- A give-up that is not refused: each waiting `LOAD` runs again in order, each followed by its connection's lines. From these pieces its
 -- record follows.
 abbrev pub GiveUpSettles : Type 0
 GiveUpSettles =
-    (config : Config) (making : Making) (s t : Situation) (load moment : ℕ) (steps : List Step) (drawn drawing : Identifiers)
+    (config : Config) (making : Making) (s t : Situation) (load moment : ℕ) (steps : List Step)
+    (drawn drawing : Identifiers)
     → refusal_of config (known_in s) (event.GiveUp load (record { nanos = moment })) ≡ None
-    → TasksLead config making (without_load load moment s) (tasks_to_give_up (waiting_in load s)) steps t [] drawn drawing
+    → TasksLead config making (without_load load moment s) (tasks_to_give_up (waiting_in load s))
+    steps t [] drawn drawing
     → BeginsUnknown config steps
     → SettlingLeads config making s (record_given_up load moment steps) t drawn drawing

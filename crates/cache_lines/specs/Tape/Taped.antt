@@ -29,19 +29,41 @@ pub record Rests (t : Taped) : Type 0 where
 
 -- a record is under way, with room for this many lines
 abbrev pub started : ℕ → Taped → Taped
-started spare t = record { journal = t.journal; begun = true; steps = []; spare = spare; drafted = None }
+started spare t =
+    record { journal = t.journal; begun = true; steps = []; spare = spare; drafted = None }
 
 -- there is room for a step of the line
 abbrev pub drafts : List ℕ → Taped → Taped
-drafts line t = record { journal = t.journal; begun = t.begun; steps = t.steps; spare = t.spare; drafted = Some line }
+drafts line t =
+    record {
+      journal = t.journal;
+      begun = t.begun;
+      steps = t.steps;
+      spare = t.spare;
+      drafted = Some line;
+    }
 
 -- the step of the drafted line is added
 abbrev pub ends : (List ℕ → Step) → Taped → Taped
-ends step t = record { journal = t.journal; begun = t.begun; steps = t.steps ++ step (unwrap_or t.drafted []) ∷ []; spare = t.spare; drafted = None }
+ends step t =
+    record {
+      journal = t.journal;
+      begun = t.begun;
+      steps = t.steps ++ step (unwrap_or t.drafted []) ∷ [];
+      spare = t.spare;
+      drafted = None;
+    }
 
 -- a step is added in the room for one line
 abbrev pub spends : Step → Taped → Taped
-spends step t = record { journal = t.journal; begun = t.begun; steps = t.steps ++ step ∷ []; spare = t.spare - 1; drafted = None }
+spends step t =
+    record {
+      journal = t.journal;
+      begun = t.begun;
+      steps = t.steps ++ step ∷ [];
+      spare = t.spare - 1;
+      drafted = None;
+    }
 
 -- no record is under way any more
 abbrev pub forgets : Taped → Taped
@@ -50,11 +72,26 @@ forgets t = record { journal = t.journal; begun = false; steps = []; spare = 0; 
 -- the record is added after the others
 abbrev pub finishes : Event → Option Accepted → List Note → Taped → Taped
 finishes event own notices t =
-    record { journal = with_entry (record { event = event; own = own; notices = notices; steps = t.steps }) t.journal; begun = false; steps = []; spare = 0; drafted = None }
+    record {
+      journal = with_entry (record { event = event; own = own; notices = notices; steps = t.steps }) t.journal;
+      begun = false;
+      steps = [];
+      spare = 0;
+      drafted = None;
+    }
 
 -- a step that holds the line back
 abbrev pub step_held : ℕ → List ℕ → Step
-step_held conn line = record { conn = conn; line = line; held = true; reply = None; load = None; accepted = None; notices = [] }
+step_held conn line =
+    record {
+      conn = conn;
+      line = line;
+      held = true;
+      reply = None;
+      load = None;
+      accepted = None;
+      notices = [];
+    }
 
 -- what is left of a text that was written as a reply: it goes into the record, if one is kept
 abbrev pub text_left : Option Taped → List ℕ → List ℕ

@@ -33,15 +33,28 @@ impl Model for Kept {
 
     ghost Value = { Taped };
 
-    ghost view = { λ k. record { journal = journal_in k.journal k.apart; begun = is_some k.apart; steps = k.steps.items; spare = vec_len k.spares; drafted = option_map (λ line. line.items) k.draft } };
+    ghost view = { λ k. record {
+      journal = journal_in k.journal k.apart;
+      begun = is_some k.apart;
+      steps = k.steps.items;
+      spare = vec_len k.spares;
+      drafted = option_map (λ line. line.items) k.draft;
+    } };
 
-    ghost invariant = { λ k. IsReady k.apart (is_some k.draft) (vec_len k.steps) (vec_len k.spares) (vec_capacity k.steps) };
+    ghost invariant = { λ k. IsReady k.apart (is_some k.draft) (vec_len k.steps) (vec_len k.spares)
+        (vec_capacity k.steps) };
 }
 
 impl Kept {
     /// A tape without records, whose journal begins at this moment. This allocates nothing.
     pub fn new(alloc: Global, made: Instant) -> Kept
-        ensures { result ≡ record { journal = record { made = made; records = [] }; begun = false; steps = []; spare = 0; drafted = None } }
+        ensures { result ≡ record {
+          journal = record { made = made; records = [] };
+          begun = false;
+          steps = [];
+          spare = 0;
+          drafted = None;
+        } }
     {
         Kept {
             alloc,

@@ -29,21 +29,26 @@ pub trait Tape: Drop {
 
     /// Makes room for a step of this line, and returns room for its notes, as many as `most` if records are kept.
     fn begin(&mut self, line: &[u8], most: usize) -> Result<Vec<Note>, AllocError>
-        ensures drafted { OnOk result (view self.new ≡ option_map (drafts line.now) (view self.old)) }
+        ensures drafted { OnOk result
+            (view self.new ≡ option_map (drafts line.now) (view self.old)) }
         ensures empty { IfOk result (λ notes. notes.items ≡ []) }
-        ensures room { IfOk result (λ notes. is_some (view self.old) ≡ true → most ≤ vec_capacity notes) }
+        ensures room { IfOk result
+            (λ notes. is_some (view self.old) ≡ true → most ≤ vec_capacity notes) }
         ensures unchanged { OnErr result (self.new ≡ self.old) };
 
     /// Adds the step for which there is room, with what was written as its reply, and its notes.
     fn end(&mut self, conn: u64, accepted: Option<Accepted>, text: &mut Vec<u8>, notes: Vec<Note>)
         requires { IsDrafted (view self.old) }
-        ensures step { view self.new ≡ option_map (ends (λ line. step_saying conn line text.old.items accepted notes.items)) (view self.old) }
+        ensures step { view self.new
+            ≡ option_map (ends (λ line. step_saying conn line text.old.items accepted notes.items))
+            (view self.old) }
         ensures text { text.new.items ≡ text_left (view self.old) text.old.items };
 
     /// Adds the step for which there is room, of a `LOAD` that begins to wait, with the number of the load that it sent, if any.
     fn wait(&mut self, conn: u64, load: Option<u64>)
         requires { IsDrafted (view self.old) }
-        ensures { view self.new ≡ option_map (ends (λ line. step_silent conn line load None [])) (view self.old) };
+        ensures { view self.new
+            ≡ option_map (ends (λ line. step_silent conn line load None [])) (view self.old) };
 
     /// Adds a step that holds a line back, in the room for one line.
     fn hold(&mut self, conn: u64, line: &[u8])
@@ -55,12 +60,14 @@ pub trait Tape: Drop {
     fn say(&mut self, conn: u64, line: &[u8], text: &mut Vec<u8>)
         requires spare { HasSpare (view self.old) }
         requires short { length line.now ≤ MAX_LINE }
-        ensures step { view self.new ≡ option_map (spends (step_saying conn line.now text.old.items None [])) (view self.old) }
+        ensures step { view self.new ≡ option_map
+            (spends (step_saying conn line.now text.old.items None [])) (view self.old) }
         ensures text { text.new.items ≡ text_left (view self.old) text.old.items };
 
     /// Forgets the record under way: the tape is as any that keeps the same records beside.
     fn abandon(&mut self)
-        ensures { (before : Self) → view before ≡ option_map forgets (view self.old) → self.new ≡ before };
+        ensures { (before : Self) → view before ≡ option_map forgets (view self.old)
+            → self.new ≡ before };
 
     /// Puts the record under way behind the others.
     fn finish(&mut self, event: Event, own: Option<Accepted>, notices: Seq<Note>)

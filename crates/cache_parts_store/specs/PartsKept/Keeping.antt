@@ -36,7 +36,11 @@ module _ {S : Type 0} where
 
   -- the settings with which each part was created
   abbrev pub common_by : Frame → S → Common S Weight
-  common_by frame hasher = record { settings = settings_of frame.config frame.made; hasher = hasher; rules = frame.config.weight }
+  common_by frame hasher = record {
+    settings = settings_of frame.config frame.made;
+    hasher = hasher;
+    rules = frame.config.weight;
+  }
 
   pub record IsKeptPart (frame : Frame) (part step : ℕ) (s : Part S) : Type 0 where
     -- what the front keeps: in order, sent, fewer than 64 writes, created alike, keys apart and of this part, empty at capacity 0, close,
@@ -53,7 +57,8 @@ module _ {S : Type 0} where
     pub placed : (key : List ℕ) → frame.part_of key < part_count frame.config
     pub brief : IsBrief frame.config
     pub range : frame.latest < 2 ^ 63
-    pub each : (part : ℕ) (s : Part S) → slice_get parts part ≡ Some s → IsKeptPart frame part step s
+    pub each : (part : ℕ) (s : Part S) → slice_get parts part ≡ Some s
+        → IsKeptPart frame part step s
 
 -- a value that may be accepted in this part
 pub record IsStorable (frame : Frame) (part : ℕ) (key : List ℕ) (value : Stored) : Type 0 where

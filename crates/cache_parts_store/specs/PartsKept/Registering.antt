@@ -23,30 +23,47 @@ is_registered_in ps id = is_identifier id && is_registered ps (from_be_bytes w12
 
 -- which identifiers are registered in each part of a store of these parts
 abbrev pub register_of : {S : Type 0} → List (Part S) → Register
-register_of parts part id = option_map_or (λ s. is_registered_in s.predicates id) (slice_get parts part) false
+register_of parts part id =
+    option_map_or (λ s. is_registered_in s.predicates id) (slice_get parts part) false
 
 -- ---- the clauses of a store on identifiers
 
 module _ (S : Type 0) where
   -- none is registered that was not before
   abbrev pub HasNoMore : Part S → Part S → Type 0
-  HasNoMore s new = (n : ℕ) → is_registered new.predicates n ≡ true → is_registered s.predicates n ≡ true
+  HasNoMore s new =
+      (n : ℕ) → is_registered new.predicates n ≡ true → is_registered s.predicates n ≡ true
 
   pub record IdentifierClauses : Type 0 where
     -- a `DROPIF` is registered in all parts, each under an identifier that was drawn
-    pub registers : (prefix : List ℕ) (step : ℕ) (parts : List (Part S)) (old new : Stream) (ids : List ℕ) (first : Part S) → slice_get parts 0 ≡ Some first → DrawAll parts old new ids
+    pub registers : (prefix : List ℕ) (step : ℕ) (parts : List (Part S)) (old new : Stream)
+        (ids : List ℕ) (first : Part S) → slice_get parts 0 ≡ Some first
+        → DrawAll parts old new ids
         → Registers old new (register_of parts) (register_of (registered_in prefix step ids parts))
     -- or in none: if a part was refused for lack of memory after others drew, and if one drew in vain
-    pub draws : (parts : List (Part S)) (old new : Stream) (ids : List ℕ) → DrawAll parts old new ids → (registered : Register) → DrawsAlone old new registered registered
-    pub in_use : (parts : List (Part S)) (old new : Stream) → DrawsInVain parts old new → AreUsedUp (length parts) old new (register_of parts)
-    pub vain : (parts : List (Part S)) (old new : Stream) → DrawsInVain parts old new → (registered : Register) → DrawsAlone old new registered registered
+    pub draws : (parts : List (Part S)) (old new : Stream) (ids : List ℕ) → DrawAll parts old new
+        ids → (registered : Register) → DrawsAlone old new registered registered
+    pub in_use : (parts : List (Part S)) (old new : Stream) → DrawsInVain parts old new
+        → AreUsedUp (length parts) old new (register_of parts)
+    pub vain : (parts : List (Part S)) (old new : Stream) → DrawsInVain parts old new
+        → (registered : Register) → DrawsAlone old new registered registered
     -- a first `DROPIF` is never refused for its identifier
-    pub dropped : (parts : List (Part S)) (old new : Stream) → ((part : ℕ) (s : Part S) → slice_get parts part ≡ Some s → s.predicates ≡ []) → DrawsInVain parts old new → ⊥
+    pub dropped : (parts : List (Part S)) (old new : Stream)
+        → ((part : ℕ) (s : Part S) → slice_get parts part ≡ Some s → s.predicates ≡ [])
+        → DrawsInVain parts old new → ⊥
     -- runs and calls register none, and if no part has more, neither has the store
     pub run : (now : ℕ) (s new : Part S) → Runs service_answers now s new → HasNoMore s new
-    pub look_up : (key : List ℕ) (hash now : ℕ) (s new : Part S) → NotesLookUp service_answers same key hash now false s new → HasNoMore s new
-    pub accept : (key : List ℕ) (hash now step : ℕ) (value : Stored) (s new : Part S) → Inserts service_answers same key hash value now step s new → HasNoMore s new
-    pub remove : (key : List ℕ) (now : ℕ) (s new : Part S) → TakesOut service_answers same key now s new → HasNoMore s new
-    pub keeps : (stream : Stream) (parts news : List (Part S)) → ((part : ℕ) (t : Part S) → slice_get news part ≡ Some t → (s : Part S) × (slice_get parts part ≡ Some s) × HasNoMore s t) → KeepsIdentifiers stream stream (register_of parts) (register_of news)
+    pub look_up : (key : List ℕ) (hash now : ℕ) (s new : Part S)
+        → NotesLookUp service_answers same key hash now false s new → HasNoMore s new
+    pub accept : (key : List ℕ) (hash now step : ℕ) (value : Stored) (s new : Part S)
+        → Inserts service_answers same key hash value now step s new → HasNoMore s new
+    pub remove : (key : List ℕ) (now : ℕ) (s new : Part S)
+        → TakesOut service_answers same key now s new → HasNoMore s new
+    pub keeps : (stream : Stream) (parts news : List (Part S))
+        → ((part : ℕ) (t : Part S) → slice_get news part ≡ Some t
+        → (s : Part S) × (slice_get parts part ≡ Some s) × HasNoMore s t)
+        → KeepsIdentifiers stream stream (register_of parts) (register_of news)
     -- after a run of all parts that ended its predicates none is registered
-    pub released : (news : List (Part S)) → ((part : ℕ) (t : Part S) → slice_get news part ≡ Some t → t.predicates ≡ []) → (part : ℕ) (id : List ℕ) → register_of news part id ≡ false
+    pub released : (news : List (Part S))
+        → ((part : ℕ) (t : Part S) → slice_get news part ≡ Some t → t.predicates ≡ [])
+        → (part : ℕ) (id : List ℕ) → register_of news part id ≡ false

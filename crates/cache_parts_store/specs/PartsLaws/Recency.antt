@@ -20,45 +20,64 @@ module _ (S : Type 0) where
   -- `look_up`: a run, if one is due, then the read
   abbrev pub LookUpMoves : Type 0
   LookUpMoves =
-      (frame : Frame) (step : ℕ) (parts : List (Part S)) (part : ℕ) (s mid : Part S) (key : List ℕ) (hash now : ℕ) → ArePartsOf frame step parts → slice_get parts part ≡ Some s → Maintained now s mid
-      → MovesRecency frame.config parts (with_part part (drained (with_read service_answers (visible_record service_answers same s now key) hash now mid)) parts) (used_first key)
+      (frame : Frame) (step : ℕ) (parts : List (Part S)) (part : ℕ) (s mid : Part S) (key : List ℕ)
+      (hash now : ℕ) → ArePartsOf frame step parts → slice_get parts part ≡ Some s
+      → Maintained now s mid
+      → MovesRecency frame.config parts (with_part part (drained (with_read service_answers
+      (visible_record service_answers same s now key) hash now mid)) parts) (used_first key)
 
   -- `accept`: the write, then a run, if one is due
   abbrev pub AcceptMoves : Type 0
   AcceptMoves =
-      (frame : Frame) (step next : ℕ) (parts : List (Part S)) (part : ℕ) (s new : Part S) (key : List ℕ) (value : Stored) (hash now : ℕ) → ArePartsOf frame step parts → slice_get parts part ≡ Some s → step ≤ next
-      → (IsSome value.milliseconds → IsTrue frame.config.own_deadlines) → Maintained now (put key hash value now next s) new → MovesRecency frame.config parts (with_part part (drained new) parts) (put_first key)
+      (frame : Frame) (step next : ℕ) (parts : List (Part S)) (part : ℕ) (s new : Part S)
+      (key : List ℕ) (value : Stored) (hash now : ℕ) → ArePartsOf frame step parts
+      → slice_get parts part ≡ Some s → step ≤ next
+      → (IsSome value.milliseconds → IsTrue frame.config.own_deadlines)
+      → Maintained now (put key hash value now next s) new
+      → MovesRecency frame.config parts (with_part part (drained new) parts) (put_first key)
 
   -- `ADD`: a run, if one is due, then the read and the write, then a run, if one is due
   abbrev pub AddMoves : Type 0
   AddMoves =
-      (frame : Frame) (step next : ℕ) (parts : List (Part S)) (part : ℕ) (s mid new : Part S) (key : List ℕ) (value : Stored) (hash now : ℕ) → ArePartsOf frame step parts → slice_get parts part ≡ Some s → step ≤ next
-      → (IsSome value.milliseconds → IsTrue frame.config.own_deadlines) → Maintained now s mid → IsPartOf frame part step (drained mid)
-      → Maintained now (put key hash value now next (with_read service_answers (visible_record service_answers same (drained mid) now key) hash now (drained mid))) new
+      (frame : Frame) (step next : ℕ) (parts : List (Part S)) (part : ℕ) (s mid new : Part S)
+      (key : List ℕ) (value : Stored) (hash now : ℕ) → ArePartsOf frame step parts
+      → slice_get parts part ≡ Some s → step ≤ next
+      → (IsSome value.milliseconds → IsTrue frame.config.own_deadlines) → Maintained now s mid
+      → IsPartOf frame part step (drained mid)
+      → Maintained now (put key hash value now next (with_read service_answers
+      (visible_record service_answers same (drained mid) now key) hash now (drained mid))) new
       → MovesRecency frame.config parts (with_part part (drained new) parts) (put_first key)
 
   -- `remove`: the removal, whether the key is there or not, then a run, if one is due
   abbrev pub RemoveMoves : Type 0
   RemoveMoves =
-      (frame : Frame) (step : ℕ) (parts : List (Part S)) (part : ℕ) (s new : Part S) (key : List ℕ) (now : ℕ) → ArePartsOf frame step parts → slice_get parts part ≡ Some s
-      → Maintained now (taken_out key now s) new → MovesRecency frame.config parts (with_part part (drained new) parts) (keys_without key)
+      (frame : Frame) (step : ℕ) (parts : List (Part S)) (part : ℕ) (s new : Part S) (key : List ℕ)
+      (now : ℕ) → ArePartsOf frame step parts → slice_get parts part ≡ Some s
+      → Maintained now (taken_out key now s) new
+      → MovesRecency frame.config parts (with_part part (drained new) parts) (keys_without key)
 
   -- `run_all`
   abbrev pub RunAllKeeps : Type 0
   RunAllKeeps =
-      (frame : Frame) (step now : ℕ) (parts news : List (Part S)) (notes : List Note) → ArePartsOf frame step parts → AllRan now parts news notes
-      → (n : ℕ) (settled : Bool) (keys : List (List ℕ)) → IsPlainLru frame.config n → IsRecentOver frame.config parts settled keys → IsRecentOver frame.config news true (take (suc n) keys)
+      (frame : Frame) (step now : ℕ) (parts news : List (Part S)) (notes : List Note)
+      → ArePartsOf frame step parts → AllRan now parts news notes
+      → (n : ℕ) (settled : Bool) (keys : List (List ℕ)) → IsPlainLru frame.config n → IsRecentOver
+      frame.config parts settled keys → IsRecentOver frame.config news true (take (suc n) keys)
 
   -- `ordered`
   abbrev pub KeysAreHeld : Type 0
   KeysAreHeld =
-      (frame : Frame) (step : ℕ) (parts : List (Part S)) (held : List HeldValue) (keys : List (List ℕ)) → ArePartsOf frame step parts → Stands parts held → IsRecentOver frame.config parts true keys
+      (frame : Frame) (step : ℕ) (parts : List (Part S)) (held : List HeldValue)
+      (keys : List (List ℕ)) → ArePartsOf frame step parts → Stands parts held
+      → IsRecentOver frame.config parts true keys
       → AreKeysOf held keys
 
   -- a store that was just created, whatever its configuration
   abbrev pub NewMoves : Type 0
   NewMoves =
-      (config : Config) (name : Option (List ℕ)) (settings : Settings) (hasher : S) (rules : Weight) (parts : List (Part S)) → ((part : ℕ) (s : Part S) → slice_get parts part ≡ Some s → IsNew name settings hasher rules s) → IsRecentOver config parts true []
+      (config : Config) (name : Option (List ℕ)) (settings : Settings) (hasher : S) (rules : Weight)
+      (parts : List (Part S)) → ((part : ℕ) (s : Part S) → slice_get parts part ≡ Some s
+      → IsNew name settings hasher rules s) → IsRecentOver config parts true []
 
   -- all clauses
   pub record RecencyClauses : Type 0 where

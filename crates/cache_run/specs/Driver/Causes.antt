@@ -23,17 +23,24 @@ Fails was is = HasFailed (failures was) (failures is)
 
 -- the loader was asked at least this often
 abbrev pub HasAsked : {L : Type 0} → (L → List ℕ → Option Outcome → L → Type 0) → L → ℕ → L → Type 0
-HasAsked loads before count after = (askings : List Asking) × Askings loads before askings after × (count ≤ length askings)
+HasAsked loads before count after =
+    (askings : List Asking) × Askings loads before askings after × (count ≤ length askings)
 
 -- bytes that were read, loads that were requested, and calls of the reader that failed (of which at most 2 ^ 64 - 1 are counted) are at
 -- least this many in total
-abbrev pub RunsFor : {R L : Type 0} → ℕ → (R → Option (List ℕ)) → (L → List ℕ → Option Outcome → L → Type 0) → Watched R → Watched R → L → L → Type 0
+abbrev pub RunsFor : {R L : Type 0} → ℕ → (R → Option (List ℕ))
+    → (L → List ℕ → Option Outcome → L → Type 0) → Watched R → Watched R → L → L → Type 0
 RunsFor turns remaining loads reader reader' loader loader' =
-    (bytes : List ℕ) × (askings : List Asking) × (failed : ℕ) × Consumes (remaining (device reader)) (remaining (device reader')) bytes × Askings loads loader askings loader'
-    × (min (failures reader + failed) (2 ^ 64 - 1) ≤ failures reader') × (turns ≤ length bytes + length askings + failed)
+    (bytes : List ℕ) × (askings : List Asking) × (failed : ℕ) × Consumes (remaining (device reader))
+    (remaining (device reader')) bytes × Askings loads loader askings loader'
+    × (min (failures reader + failed) (2 ^ 64 - 1) ≤ failures reader')
+    × (turns ≤ length bytes + length askings + failed)
 
 -- the bytes that were read, the loads that were requested, and the reader's failures, as its count says at the end, together reach 2 ^ 64 -
 -- 1
-abbrev pub RunsOut : {R L : Type 0} → (R → Option (List ℕ)) → (L → List ℕ → Option Outcome → L → Type 0) → Watched R → Watched R → L → L → Type 0
+abbrev pub RunsOut : {R L : Type 0} → (R → Option (List ℕ))
+    → (L → List ℕ → Option Outcome → L → Type 0) → Watched R → Watched R → L → L → Type 0
 RunsOut remaining loads reader reader' loader loader' =
-    (bytes : List ℕ) × (askings : List Asking) × Consumes (remaining (device reader)) (remaining (device reader')) bytes × Askings loads loader askings loader' × (2 ^ 64 - 1 ≤ length bytes + length askings + failures reader')
+    (bytes : List ℕ) × (askings : List Asking) × Consumes (remaining (device reader))
+    (remaining (device reader')) bytes × Askings loads loader askings loader'
+    × (2 ^ 64 - 1 ≤ length bytes + length askings + failures reader')

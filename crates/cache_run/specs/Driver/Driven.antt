@@ -25,19 +25,23 @@ pub record Spot (H K D : Type 0) : Type 0 where
   pub loader : D
 
 abbrev pub spot : {H W K D : Type 0} → (W → Option (List ℕ)) → H → Watched W → K → D → Spot H K D
-spot contents place writer clock loader = record { place = place; contents = contents (device writer); clock = clock; loader = loader }
+spot contents place writer clock loader =
+    record { place = place; contents = contents (device writer); clock = clock; loader = loader }
 
 -- and what is left to read
 abbrev pub beside : {H K D : Type 0} → Option (List ℕ) → Spot H K D → Outside K D
-beside remaining p = record { remaining = remaining; contents = p.contents; clock = p.clock; loader = p.loader }
+beside remaining p =
+    record { remaining = remaining; contents = p.contents; clock = p.clock; loader = p.loader }
 
 -- the connection of a session is known; if the host is lent, no `LOAD` of it waits for others
-pub record Holds {H : Type 0} (lent : Bool) (Knows : Conn → H → Type 0) (session : Session) (h : H) : Type 0 where
+pub record Holds {H : Type 0} (lent : Bool) (Knows : Conn → H → Type 0) (session : Session) (h : H)
+    : Type 0 where
   pub known : Knows session.conn h
   pub ready : lent ≡ true → session.footing ≢ Waiting
 
 -- A session is as the last exchange left it. If the host is lent and no load is in hand, none is left.
-pub record Stands (lent : Bool) (Settled : Footing → Type 0) (session : Session) (exchanges : List Exchange) : Type 0 where
+pub record Stands (lent : Bool) (Settled : Footing → Type 0) (session : Session)
+    (exchanges : List Exchange) : Type 0 where
   pub closed : session.footing ≡ Closed → HaveClosed exchanges
   pub done : lent ≡ true → session.taken.items ≡ [] → Settled session.footing → AreDone exchanges
 
@@ -49,42 +53,53 @@ abbrev pub IsClosed : Footing → Type 0
 IsClosed footing = footing ≡ Closed
 
 -- it goes on, and after whatever came before, the session is as the last exchange left it
-abbrev pub EndsOn : {H : Type 0} → Bool → (Footing → Type 0) → Session → H → H → List Exchange → Rest → Type 0
-EndsOn lent Settled t k place exchanges rest = (place ≡ k) × (rest ≡ no_rest) × ((before : List Exchange) → Stands lent Settled t (before ++ exchanges))
+abbrev pub EndsOn : {H : Type 0} → Bool → (Footing → Type 0) → Session → H → H → List Exchange
+    → Rest → Type 0
+EndsOn lent Settled t k place exchanges rest =
+    (place ≡ k) × (rest ≡ no_rest)
+    × ((before : List Exchange) → Stands lent Settled t (before ++ exchanges))
 
 -- others had closed the connection, so that a piece was refused
 abbrev pub EndsLeft : {H : Type 0} → Bool → Session → H → List Exchange → Rest → Type 0
-EndsLeft lent t place exchanges rest = (lent ≡ false) × (t.taken.items ≡ []) × (rest.refused ≢ None) × (rest.unsent ≡ []) × (rest.untaken ≡ 0)
+EndsLeft lent t place exchanges rest =
+    (lent ≡ false) × (t.taken.items ≡ []) × (rest.refused ≢ None) × (rest.unsent ≡ [])
+    × (rest.untaken ≡ 0)
 
 -- there was an error
 abbrev pub EndsBroke : {H : Type 0} → RunError → H → List Exchange → Rest → Type 0
 EndsBroke e place exchanges rest = (rest.untaken ≤ 1) × (e ≡ Moment → IsLate rest)
 
 -- it goes on, unless others had closed the connection, or there was an error
-abbrev pub Ends : {H : Type 0} → Bool → Session → H → Result Progress RunError → H → List Exchange → Rest → Type 0
+abbrev pub Ends : {H : Type 0} → Bool → Session → H → Result Progress RunError → H → List Exchange
+    → Rest → Type 0
 Ends lent t k (Ok More) = EndsOn lent IsSettled t k
 Ends lent t k (Ok Over) = EndsLeft lent t
 Ends lent t k (Err e) = EndsBroke e
 
 -- it goes on, settled only if it has closed, unless there was an error
-abbrev pub EndsSettled : {H : Type 0} → Bool → Session → H → Result (Unit {0}) RunError → H → List Exchange → Rest → Type 0
+abbrev pub EndsSettled : {H : Type 0} → Bool → Session → H → Result (Unit {0}) RunError → H
+    → List Exchange → Rest → Type 0
 EndsSettled lent t k (Ok done) = EndsOn lent IsClosed t k
 EndsSettled lent t k (Err e) = EndsBroke e
 
 module _ {H K D : Type 0} (Came : Conn → H → Exchange → H → Type 0) (Closes : Conn → H → H → Type 0) (reads : K → ℕ → K → Type 0) (loads : D → List ℕ → Option Outcome → D → Type 0) where
   -- Exchanges took place, and fed what left the inbox; then something may have been refused or left undone: a closing comes after the last
   -- of them.
-  pub record Moves (End : H → List Exchange → Rest → Type 0) (s t : Session) (p q : Spot H K D) : Type 0 where
+  pub record Moves (End : H → List Exchange → Rest → Type 0) (s t : Session) (p q : Spot H K D) :
+      Type 0 where
     pub place : H
     pub behind : (r : H) → Closes s.conn q.place r → Closes s.conn place r
     pub rest : Rest
-    pub talks : Talks (Came s.conn) reads loads p.place place (beside (Some s.inbox) p) (beside (Some t.inbox) q) s.taken.items t.taken.items rest
+    pub talks : Talks (Came s.conn) reads loads p.place place (beside (Some s.inbox) p)
+        (beside (Some t.inbox) q) s.taken.items t.taken.items rest
     pub ends : End place talks.exchanges rest
 
-  abbrev pub Goes : Bool → Result Progress RunError → Session → Session → Spot H K D → Spot H K D → Type 0
+  abbrev pub Goes : Bool → Result Progress RunError → Session → Session → Spot H K D → Spot H K D
+      → Type 0
   Goes lent result s t p q = Moves (Ends lent t q.place result) s t p q
 
-  abbrev pub Settles : Bool → Result (Unit {0}) RunError → Session → Session → Spot H K D → Spot H K D → Type 0
+  abbrev pub Settles : Bool → Result (Unit {0}) RunError → Session → Session → Spot H K D
+      → Spot H K D → Type 0
   Settles lent result s t p q = Moves (EndsSettled lent t q.place result) s t p q
 
 -- no loader is asked
@@ -96,15 +111,23 @@ abbrev pub unfed : Session → Rest
 unfed session = record { refused = None; unfed = session.inbox; unsent = []; untaken = 0 }
 
 -- a reader, a writer, a clock and a loader
-abbrev pub around : {R W K D : Type 0} → (R → Option (List ℕ)) → (W → Option (List ℕ)) → Watched R → Watched W → K → D → Outside K D
-around remaining contents reader writer clock loader = record { remaining = remaining (device reader); contents = contents (device writer); clock = clock; loader = loader }
+abbrev pub around : {R W K D : Type 0} → (R → Option (List ℕ)) → (W → Option (List ℕ)) → Watched R
+    → Watched W → K → D → Outside K D
+around remaining contents reader writer clock loader =
+    record {
+      remaining = remaining (device reader);
+      contents = contents (device writer);
+      clock = clock;
+      loader = loader;
+    }
 
 -- since a connection was opened
 module _ {H K D : Type 0} (lent : Bool) (Came : Conn → H → Exchange → H → Type 0) (Closes : Conn → H → H → Type 0) (reads : K → ℕ → K → Type 0) (loads : D → List ℕ → Option Outcome → D → Type 0) (start : H) (a : Outside K D) where
   -- Exchanges took place, and what was read and not fed is in the inbox.
-  pub record Since (Settled : Footing → Type 0) (s : Session) (h : H) (b : Outside K D) : Type 0 where
-    pub talks : Talks (Came s.conn) reads loads start h a b [] s.taken.items (unfed s)
-    pub stands : Stands lent Settled s talks.exchanges
+  pub record Since (Settled : Footing → Type 0) (s : Session) (h : H) (b : Outside K D) : Type 0
+    where
+      pub talks : Talks (Came s.conn) reads loads start h a b [] s.taken.items (unfed s)
+      pub stands : Stands lent Settled s talks.exchanges
 
   -- Exchanges took place, and what was read and not fed is in the inbox: if the host is lent, nothing.
   pub record Underway (s : Session) (h : H) (b : Outside K D) : Type 0 where
@@ -138,15 +161,46 @@ module _ {H K D : Type 0} (lent : Bool) (Came : Conn → H → Exchange → H �
   ComesTo (Err e) s h b = Stopped s h b e
 
 -- a connection that is under way goes on, and nothing more is read
-abbrev pub Turns : {X H K D : Type 0} → Ways X H → (K → ℕ → K → Type 0) → (D → List ℕ → Option Outcome → D → Type 0) → Result Progress RunError → Session → Session → Spot H K D → Spot H K D → Type 0
+abbrev pub Turns : {X H K D : Type 0} → Ways X H → (K → ℕ → K → Type 0)
+    → (D → List ℕ → Option Outcome → D → Type 0) → Result Progress RunError → Session → Session
+    → Spot H K D → Spot H K D → Type 0
 Turns {H = H} {K = K} {D = D} ways reads loads result s t p q =
-    (start : H) (a : Outside K D) (remaining : Option (List ℕ)) → Underway ways.LENT ways.came ways.closes reads loads start a s p.place (beside remaining p) → ComesTo ways.LENT ways.came ways.closes reads loads start a result t q.place (beside remaining q)
+    (start : H) (a : Outside K D) (remaining : Option (List ℕ)) → Underway ways.LENT ways.came
+    ways.closes reads loads start a s p.place (beside remaining p) → ComesTo ways.LENT ways.came
+    ways.closes reads loads start a result t q.place (beside remaining q)
 
 -- a connection that is under way goes on: its turns are used up, it is over, or there was an error
-abbrev pub Converses : {X H R W K D : Type 0} → Ways X H → (R → Option (List ℕ)) → (W → Option (List ℕ)) → (K → ℕ → K → Type 0) → (D → List ℕ → Option Outcome → D → Type 0)
-    → Result Progress RunError → Session → Session → H → H → Watched R → Watched R → Watched W → Watched W → K → K → D → D → Type 0
-Converses {H = H} {K = K} {D = D} ways remaining contents reads loads result s t h k reader reader' writer writer' clock clock' loader loader' =
-    (start : H) (a : Outside K D) → Underway ways.LENT ways.came ways.closes reads loads start a s h (around remaining contents reader writer clock loader) → ComesTo ways.LENT ways.came ways.closes reads loads start a result t k (around remaining contents reader' writer' clock' loader')
+abbrev pub Converses : {X H R W K D : Type 0} → Ways X H → (R → Option (List ℕ))
+    → (W → Option (List ℕ)) → (K → ℕ → K → Type 0) → (D → List ℕ → Option Outcome → D → Type 0)
+    → Result Progress RunError → Session → Session → H → H → Watched R → Watched R → Watched W
+    → Watched W → K → K → D → D → Type 0
+Converses {H =
+    H}
+    {K = K}
+    {D = D}
+    ways
+    remaining
+    contents
+    reads
+    loads
+    result
+    s
+    t
+    h
+    k
+    reader
+    reader'
+    writer
+    writer'
+    clock
+    clock'
+    loader
+    loader'
+    =
+    (start : H) (a : Outside K D) → Underway ways.LENT ways.came ways.closes reads
+    loads start a s h (around remaining contents reader writer clock loader)
+    → ComesTo ways.LENT ways.came ways.closes reads loads start a result t k
+    (around remaining contents reader' writer' clock' loader')
 
 -- nothing was read, and no load is in hand
 pub record IsFresh (session : Session) : Type 0 where
@@ -155,6 +209,10 @@ pub record IsFresh (session : Session) : Type 0 where
   pub footing : session.footing ≡ Ready
 
 -- a connection was closed, and after an error the loads were dropped
-abbrev pub ClosesAfter : {H D E : Type 0} → (Conn → H → H → Type 0) → (Conn → Outs → H → List Asking → H → Type 0) → (D → List ℕ → Option Outcome → D → Type 0) → Result (Unit {0}) E → Session → H → H → D → D → Type 0
+abbrev pub ClosesAfter : {H D E : Type 0} → (Conn → H → H → Type 0)
+    → (Conn → Outs → H → List Asking → H → Type 0) → (D → List ℕ → Option Outcome → D → Type 0)
+    → Result (Unit {0}) E → Session → H → H → D → D → Type 0
 ClosesAfter {H} Closes Drops loads outcome s h k loader loader' =
-    MatchResult outcome (λ done. Closes s.conn h k × (loader' ≡ loader)) (λ e. (m : H) × (askings : List Asking) × Closes s.conn h m × Drops s.conn s.taken.items m askings k × Askings loads loader askings loader')
+    MatchResult outcome (λ done. Closes s.conn h k × (loader' ≡ loader))
+    (λ e. (m : H) × (askings : List Asking) × Closes s.conn h m
+    × Drops s.conn s.taken.items m askings k × Askings loads loader askings loader')

@@ -71,7 +71,8 @@ module _ {H C L : Type 0} (Came : H → Exchange → H → Type 0) (reads : C �
 -- in hand if it is closed because of an error, for which a loader may be asked. If it is `lent`, nobody else has it: then each piece is fed
 -- whole, and only what the connection is fed closes it.
 module _ {H C L : Type 0} (lent : Bool) (Opens : ℕ → Conn → H → H → Type 0) (Came : Conn → H → Exchange → H → Type 0) (Closes : Conn → H → H → Type 0) (Drops : Conn → Outs → H → List Asking → H → Type 0)
-    (reads : C → ℕ → C → Type 0) (loads : L → List ℕ → Option Outcome → L → Type 0) (namespace : ℕ) (h k : H) (a b : Outside C L) where
+    (reads : C → ℕ → C → Type 0) (loads : L → List ℕ → Option Outcome → L → Type 0) (namespace : ℕ)
+    (h k : H) (a b : Outside C L) where
   -- A connection was opened, exchanges took place to the end of the input, or until it had closed or others had closed it; and it was
   -- closed, if it was open. No load is in hand, and all replies were written. If the host is lent, all that was read was fed, none of the
   -- loads that went out is left, and nothing is held back.
@@ -99,7 +100,12 @@ module _ {H C L : Type 0} (lent : Bool) (Opens : ℕ → Conn → H → H → Ty
     pub hand : Outs
     pub rest : Rest
     pub asked : L
-    pub talks : Talks (Came conn) reads loads opened stopped a (record { remaining = b.remaining; contents = b.contents; clock = b.clock; loader = asked }) [] hand rest
+    pub talks : Talks (Came conn) reads loads opened stopped a (record {
+      remaining = b.remaining;
+      contents = b.contents;
+      clock = b.clock;
+      loader = asked;
+    }) [] hand rest
     pub few : rest.untaken ≤ 1
     pub late : e ≡ Moment → IsLate rest
     pub closes : Closes conn stopped closed

@@ -97,10 +97,12 @@ pub record Hands (exchange : Exchange) (before after : Outs) : Type 0 where
 -- ---- one after another
 
 -- these exchanges took place one after another, from that host and hand to this host and hand
-abbrev pub Chain : {H : Type 0} → (H → Exchange → H → Type 0) → H → Outs → List Exchange → H → Outs → Type 0
+abbrev pub Chain : {H : Type 0} → (H → Exchange → H → Type 0) → H → Outs → List Exchange → H → Outs
+    → Type 0
 Chain Came h hand [] k after = (k ≡ h) × (after ≡ hand)
 Chain {H} Came h hand (exchange ∷ exchanges) k after =
-    (m : H) × (between : Outs) × Came h exchange m × Hands exchange hand between × Chain Came m between exchanges k after
+    (m : H) × (between : Outs) × Came h exchange m × Hands exchange hand between
+    × Chain Came m between exchanges k after
 
 -- ---- where they may end
 

@@ -20,7 +20,9 @@ exchange_of doing given = record {
 -- a load was answered with what the loader returned, or given up, or was not under way
 abbrev pub SettlesBy : ℕ → ℕ → Asking → Doing → Type 0
 SettlesBy load moment asking doing =
-    ((outcome : Outcome) × (asking.answer ≡ Some outcome) × (doing ≡ Answered load asking.key outcome moment)) ⊎ (doing ≡ GivenUp load asking moment) ⊎ (doing ≡ Dropped load asking moment)
+    ((outcome : Outcome) × (asking.answer ≡ Some outcome)
+    × (doing ≡ Answered load asking.key outcome moment)) ⊎ (doing ≡ GivenUp load asking moment)
+    ⊎ (doing ≡ Dropped load asking moment)
 
 -- Loads are given only if they were requested; and if nobody else has the service, they are given then, and no `LOAD` waits for others.
 pub record Suits (lent wants_loads : Bool) (given : Given) : Type 0 where

@@ -11,11 +11,14 @@ use std::io::{ErrorKind, Write};
 
 /// Sends all of the output. An interrupted write is repeated. The only error is `Write`, and only if the writer failed.
 pub fn send<W: Write>(output: &[u8], writer: &mut Watched<W>) -> Result<(), RunError>
-    ensures ok { OnOk result (Appends (W.contents (device writer.old)) (W.contents (device writer.new)) output.now) }
+    ensures ok { OnOk result
+        (Appends (W.contents (device writer.old)) (W.contents (device writer.new)) output.now) }
 
     // After an error a prefix of the output was sent.
-    ensures err { OnErr result ((rest : List ℕ) × SentBut rest output.now (W.contents (device writer.old)) (W.contents (device writer.new))) }
-    ensures cause { IfErr result (λ e. (e ≡ RunError.Write) × HasFailed (failures writer.old) (failures writer.new)) }
+    ensures err { OnErr result ((rest : List ℕ) × SentBut rest output.now
+        (W.contents (device writer.old)) (W.contents (device writer.new))) }
+    ensures cause { IfErr result
+        (λ e. (e ≡ RunError.Write) × HasFailed (failures writer.old) (failures writer.new)) }
     ensures count { failures writer.old ≤ failures writer.new }
 {
     let mut rest = output;

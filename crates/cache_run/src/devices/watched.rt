@@ -45,7 +45,8 @@ impl<R: Read> Watched<R> {
     /// Reads what there is, at most as much as fits, and returns how many bytes. An error is counted and passed on.
     pub fn read(&mut self, buf: &mut [u8]) -> io::Result<usize>
         ensures bound { ReadsAtMost result buf.new }
-        ensures bytes { ReadConsumes (R.remaining (device self.old)) (R.remaining (device self.new)) result buf.new }
+        ensures bytes { ReadConsumes (R.remaining (device self.old)) (R.remaining (device self.new))
+            result buf.new }
         ensures counts { failures self.new ≡ counted (is_err result) (failures self.old) }
         ensures later { failures self.old ≤ failures self.new }
         ensures failed { OnErr result (HasFailed (failures self.old) (failures self.new)) }
@@ -62,10 +63,14 @@ impl<W: Write> Watched<W> {
     /// Writes a prefix of the bytes, and returns how many it took. An error, or taking none of some, is counted; an error is passed on.
     pub fn write(&mut self, buf: &[u8]) -> io::Result<usize>
         ensures bound { WritesAtMost result buf.now }
-        ensures bytes { WriteAppends (W.contents (device self.old)) (W.contents (device self.new)) result buf.now }
-        ensures counts { failures self.new ≡ counted (took_none buf.now result) (failures self.old) }
+        ensures bytes { WriteAppends (W.contents (device self.old)) (W.contents (device self.new))
+            result buf.now }
+        ensures counts { failures self.new
+            ≡ counted (took_none buf.now result) (failures self.old) }
         ensures later { failures self.old ≤ failures self.new }
-        ensures failed { MatchResult result (λ n. n ≡ 0 → 0 < length buf.now → HasFailed (failures self.old) (failures self.new)) (λ _. HasFailed (failures self.old) (failures self.new)) }
+        ensures failed { MatchResult result
+            (λ n. n ≡ 0 → 0 < length buf.now → HasFailed (failures self.old) (failures self.new))
+            (λ _. HasFailed (failures self.old) (failures self.new)) }
     {
         let result = self.inner.write(buf);
         let took_none = match &result {

@@ -42,10 +42,12 @@ pub fn open<H: Host>(
     alloc: Global,
     namespace: u64,
 ) -> Result<Session, RunError>
-    ensures opens { IfOk result (λ session. H.opens namespace session.conn place.old place.new × IsFresh session) }
+    ensures opens { IfOk result
+        (λ session. H.opens namespace session.conn place.old place.new × IsFresh session) }
     ensures known { IfOk result (λ session. Holds H.LENT H.knows session place.new) }
     ensures rests { OnErr result ((place.new ≡ place.old) ⊎ H.rests place.old place.new) }
-    ensures why { IfErr result (Because ⊥ ⊥ (H.exhausts (H.counted place.old) (H.counted place.new)) ⊥) }
+    ensures why { IfErr result
+        (Because ⊥ ⊥ (H.exhausts (H.counted place.old) (H.counted place.new)) ⊥) }
     ensures counts { H.counted place.old ≤ H.counted place.new }
 {
     let inbox = match Inbox::new(alloc) {
@@ -70,11 +72,19 @@ fn take_turn<H: Host, I: Read, O: Write, K: Clock, D: Loader>(
     loader: &mut D,
 ) -> Result<Progress, RunError>
     requires known { Holds H.LENT H.knows session.old place.old }
-    ensures known { Holds H.LENT H.knows session.new place.new × (session.new.conn ≡ session.old.conn) }
-    ensures goes { Converses H.Host I.remaining O.contents K.reads D.loads result session.old session.new place.old place.new reader.old reader.new writer.old writer.new clock.old clock.new loader.old loader.new }
-    ensures why { IfErr result (Because (Fails reader.old reader.new) (Fails writer.old writer.new) (H.exhausts (H.counted place.old) (H.counted place.new)) (HasToldLate K.reads clock.new)) }
-    ensures more { IfOk result (λ progress. progress ≡ Progress.More → H.LENT ≡ true → session.old.inbox ≡ [] → (session.new.inbox ≡ []) × RunsFor 1 I.remaining D.loads reader.old reader.new loader.old loader.new) }
-    ensures forward { (failures reader.old ≤ failures reader.new) × (failures writer.old ≤ failures writer.new) × (H.counted place.old ≤ H.counted place.new) }
+    ensures known { Holds H.LENT H.knows session.new place.new
+        × (session.new.conn ≡ session.old.conn) }
+    ensures goes { Converses H.Host I.remaining O.contents K.reads D.loads result session.old
+        session.new place.old place.new reader.old reader.new writer.old writer.new clock.old
+        clock.new loader.old loader.new }
+    ensures why { IfErr result (Because (Fails reader.old reader.new) (Fails writer.old writer.new)
+        (H.exhausts (H.counted place.old) (H.counted place.new)) (HasToldLate K.reads clock.new)) }
+    ensures more { IfOk result (λ progress. progress ≡ Progress.More
+        → H.LENT ≡ true → session.old.inbox ≡ [] → (session.new.inbox ≡ [])
+        × RunsFor 1 I.remaining D.loads reader.old reader.new loader.old loader.new) }
+    ensures forward { (failures reader.old ≤ failures reader.new)
+        × (failures writer.old ≤ failures writer.new)
+        × (H.counted place.old ≤ H.counted place.new) }
 {
     if !session.has_no_load() || session.footing == Footing::Waiting {
         return settle_next(host, place, session, writer, clock, loader);
@@ -106,11 +116,19 @@ pub fn converse<H: Host, I: Read, O: Write, K: Clock, D: Loader>(
     loader: &mut D,
 ) -> Result<Progress, RunError>
     requires known { Holds H.LENT H.knows session.old place.old }
-    ensures known { Holds H.LENT H.knows session.new place.new × (session.new.conn ≡ session.old.conn) }
-    ensures goes { Converses H.Host I.remaining O.contents K.reads D.loads result session.old session.new place.old place.new reader.old reader.new writer.old writer.new clock.old clock.new loader.old loader.new }
-    ensures why { IfErr result (Because (Fails reader.old reader.new) (Fails writer.old writer.new) (H.exhausts (H.counted place.old) (H.counted place.new)) (HasToldLate K.reads clock.new)) }
-    ensures more { IfOk result (λ progress. progress ≡ Progress.More → H.LENT ≡ true → session.old.inbox ≡ [] → RunsOut I.remaining D.loads reader.old reader.new loader.old loader.new) }
-    ensures forward { (failures reader.old ≤ failures reader.new) × (failures writer.old ≤ failures writer.new) × (H.counted place.old ≤ H.counted place.new) }
+    ensures known { Holds H.LENT H.knows session.new place.new
+        × (session.new.conn ≡ session.old.conn) }
+    ensures goes { Converses H.Host I.remaining O.contents K.reads D.loads result session.old
+        session.new place.old place.new reader.old reader.new writer.old writer.new clock.old
+        clock.new loader.old loader.new }
+    ensures why { IfErr result (Because (Fails reader.old reader.new) (Fails writer.old writer.new)
+        (H.exhausts (H.counted place.old) (H.counted place.new)) (HasToldLate K.reads clock.new)) }
+    ensures more { IfOk result
+        (λ progress. progress ≡ Progress.More → H.LENT ≡ true → session.old.inbox ≡ []
+        → RunsOut I.remaining D.loads reader.old reader.new loader.old loader.new) }
+    ensures forward { (failures reader.old ≤ failures reader.new)
+        × (failures writer.old ≤ failures writer.new)
+        × (H.counted place.old ≤ H.counted place.new) }
 {
     for _turn in 0..u128::MAX {
         match take_turn(host, place, session, reader, writer, clock, loader) {
@@ -132,7 +150,8 @@ pub fn close<H: Host, D: Loader>(
 ) -> Result<(), RunError>
     requires known { Holds H.LENT H.knows session.now place.old }
     ensures same { result ≡ outcome }
-    ensures closes { ClosesAfter H.closes H.drops D.loads outcome session.now place.old place.new loader.old loader.new }
+    ensures closes { ClosesAfter H.closes H.drops D.loads outcome session.now place.old place.new
+        loader.old loader.new }
     ensures counts { H.counted place.old ≤ H.counted place.new }
 {
     host.close(place, session.conn);

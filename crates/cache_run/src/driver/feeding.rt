@@ -24,11 +24,16 @@ pub fn feed_piece<H: Host, O: Write, K: Clock>(
 ) -> Result<Progress, RunError>
     requires known { Holds H.LENT H.knows session.old place.old × (session.old.taken.items ≡ []) }
     requires fits { (count ≤ length session.old.inbox) × H.fits (take count session.old.inbox) }
-    ensures same { (session.new.conn ≡ session.old.conn) × (session.new.inbox ≡ drop count session.old.inbox) }
+    ensures same { (session.new.conn ≡ session.old.conn)
+        × (session.new.inbox ≡ drop count session.old.inbox) }
     ensures known { Holds H.LENT H.knows session.new place.new }
-    ensures goes { Goes H.came H.closes K.reads asks_nobody H.LENT result session.old session.new (spot O.contents place.old writer.old clock.old tt) (spot O.contents place.new writer.new clock.new tt) }
-    ensures why { IfErr result (Because ⊥ (Fails writer.old writer.new) (H.exhausts (H.counted place.old) (H.counted place.new)) (HasToldLate K.reads clock.new)) }
-    ensures forward { (failures writer.old ≤ failures writer.new) × (H.counted place.old ≤ H.counted place.new) }
+    ensures goes { Goes H.came H.closes K.reads asks_nobody H.LENT result
+        session.old session.new (spot O.contents place.old writer.old clock.old tt)
+        (spot O.contents place.new writer.new clock.new tt) }
+    ensures why { IfErr result (Because ⊥ (Fails writer.old writer.new)
+        (H.exhausts (H.counted place.old) (H.counted place.new)) (HasToldLate K.reads clock.new)) }
+    ensures forward { (failures writer.old ≤ failures writer.new)
+        × (H.counted place.old ≤ H.counted place.new) }
 {
     let moment = clock.now();
     let fed = host.feed(

@@ -15,8 +15,10 @@ use std::io::Write;
 
 /// Sends all of a text, and flushes the writer.
 fn send_whole<W: Write>(text: &[u8], writer: &mut Watched<W>) -> Result<(), RunError>
-    ensures ok { OnOk result (SentBut [] text.now (W.contents (device writer.old)) (W.contents (device writer.new))) }
-    ensures err { OnErr result ((rest : List ℕ) × SentBut rest text.now (W.contents (device writer.old)) (W.contents (device writer.new))) }
+    ensures ok { OnOk result
+        (SentBut [] text.now (W.contents (device writer.old)) (W.contents (device writer.new))) }
+    ensures err { OnErr result ((rest : List ℕ)
+        × SentBut rest text.now (W.contents (device writer.old)) (W.contents (device writer.new))) }
     ensures why { IfErr result (Because ⊥ (Fails writer.old writer.new) ⊥ ⊥) }
     ensures count { failures writer.old ≤ failures writer.new }
 {
@@ -40,10 +42,12 @@ pub fn hand_out<W: Write>(
     writer: &mut Watched<W>,
 ) -> Result<(), RunError>
     requires empty { given.loads ≢ None → session.old.taken.items ≡ [] }
-    ensures keeps { Keeps (option_map (λ loads. loads.items) given.loads) session.old.taken.items session.new.taken.items }
+    ensures keeps { Keeps (option_map (λ loads. loads.items) given.loads) session.old.taken.items
+        session.new.taken.items }
     ensures same { (session.new.conn ≡ session.old.conn) × (session.new.inbox ≡ session.old.inbox) }
     ensures footing { session.new.footing ≡ footing_by given.closing given.waits }
-    ensures sent { HandsOut result (text_of given) (W.contents (device writer.old)) (W.contents (device writer.new)) }
+    ensures sent { HandsOut result (text_of given) (W.contents (device writer.old))
+        (W.contents (device writer.new)) }
     ensures why { IfErr result (Because ⊥ (Fails writer.old writer.new) ⊥ ⊥) }
     ensures count { failures writer.old ≤ failures writer.new }
 {

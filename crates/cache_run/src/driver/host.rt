@@ -60,7 +60,8 @@ pub trait Host {
 
     /// Opens a connection.
     fn open(&mut self, place: &mut Self::Place, namespace: u64) -> Result<Conn, RunError>
-        ensures opens { IfOk result (λ conn. opens namespace conn place.old place.new × knows conn place.new) }
+        ensures opens { IfOk result
+            (λ conn. opens namespace conn place.old place.new × knows conn place.new) }
         ensures rests { OnErr result (rests place.old place.new) }
         ensures count { counted place.old ≤ counted place.new }
         ensures why { IfErr result (Stops (exhausts (counted place.old) (counted place.new)) ⊥) };
@@ -83,12 +84,15 @@ pub trait Host {
     ) -> Result<Option<Given>, RunError>
         requires known { knows conn place.old }
         requires fits { fits piece.now }
-        ensures came { IfOk result (λ given. IfSome given (λ one. came conn place.old (exchange_of (Fed piece.now moment one.held) one) place.new × Suits LENT wants_loads one)) }
-        ensures closed { IfOk result (λ given. IsNone given → (LENT ≡ false) × rests place.old place.new) }
+        ensures came { IfOk result (λ given. IfSome given (λ one. came conn place.old (exchange_of
+            (Fed piece.now moment one.held) one) place.new × Suits LENT wants_loads one)) }
+        ensures closed { IfOk result
+            (λ given. IsNone given → (LENT ≡ false) × rests place.old place.new) }
         ensures rests { OnErr result (rests place.old place.new) }
         ensures known { knows conn place.new }
         ensures count { counted place.old ≤ counted place.new }
-        ensures why { IfErr result (Stops (exhausts (counted place.old) (counted place.new)) (2 ^ 63 ≤ moment)) };
+        ensures why { IfErr result
+            (Stops (exhausts (counted place.old) (counted place.new)) (2 ^ 63 ≤ moment)) };
 
     /// Settles a load by what the loader returned: it is answered, or given up if there is no outcome or one that is refused for its bytes
     /// or its time.
@@ -102,12 +106,15 @@ pub trait Host {
         wants_loads: bool,
     ) -> Result<Given, RunError>
         requires known { knows conn place.old }
-        ensures came { IfOk result (λ given. (key : List ℕ) → (doing : Doing) × SettlesBy load moment (record { key = key; answer = said }) doing × came conn place.old (exchange_of doing given) place.new) }
+        ensures came { IfOk result (λ given. (key : List ℕ)
+            → (doing : Doing) × SettlesBy load moment (record { key = key; answer = said }) doing
+            × came conn place.old (exchange_of doing given) place.new) }
         ensures suits { IfOk result (Suits LENT wants_loads) }
         ensures rests { OnErr result (rests place.old place.new) }
         ensures known { knows conn place.new }
         ensures count { counted place.old ≤ counted place.new }
-        ensures why { IfErr result (Stops (exhausts (counted place.old) (counted place.new)) (2 ^ 63 ≤ moment)) };
+        ensures why { IfErr result
+            (Stops (exhausts (counted place.old) (counted place.new)) (2 ^ 63 ≤ moment)) };
 
     /// Returns what the connection is owed now.
     fn look(&mut self, place: &mut Self::Place, conn: Conn, wants_loads: bool) -> Given
@@ -136,7 +143,8 @@ pub trait Host {
         loader: &mut L,
     )
         requires known { knows conn place.old }
-        ensures dropped { (askings : List Asking) × drops conn hand.now place.old askings place.new × Askings L.loads loader.old askings loader.new }
+        ensures dropped { (askings : List Asking) × drops conn hand.now place.old askings place.new
+            × Askings L.loads loader.old askings loader.new }
         ensures count { counted place.old ≤ counted place.new };
 
     /// An empty piece fits.
@@ -146,5 +154,6 @@ pub trait Host {
     ghost exhausts_within: { (i j k l : ℕ) → i ≤ j → k ≤ l → exhausts j k → exhausts i l };
 
     /// A closing after a rest.
-    ghost closes_behind: { (conn : Conn) (p q r : Self.Place) → rests p q → closes conn q r → closes conn p r };
+    ghost closes_behind: { (conn : Conn) (p q r : Self.Place) → rests p q → closes conn q r
+        → closes conn p r };
 }

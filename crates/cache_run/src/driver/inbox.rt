@@ -25,7 +25,8 @@ impl Model for Inbox {
 
     ghost view = { λ i. drop i.from (take i.to i.buffer.items) };
 
-    ghost invariant = { λ i. (i.from ≤ i.to) × (i.to ≤ length i.buffer.items) × (0 < length i.buffer.items) };
+    ghost invariant = { λ i. (i.from ≤ i.to) × (i.to ≤ length i.buffer.items)
+        × (0 < length i.buffer.items) };
 }
 
 impl Inbox {

@@ -26,9 +26,13 @@ fn settle_last<H: Host, O: Write, K: Clock, D: Loader>(
     requires known { Holds H.LENT H.knows session.old place.old × (session.old.taken.items ≢ []) }
     ensures same { (session.new.conn ≡ session.old.conn) × (session.new.inbox ≡ session.old.inbox) }
     ensures known { Holds H.LENT H.knows session.new place.new }
-    ensures goes { Settles H.came H.closes K.reads D.loads H.LENT result session.old session.new (spot O.contents place.old writer.old clock.old loader.old) (spot O.contents place.new writer.new clock.new loader.new) }
-    ensures why { IfErr result (Because ⊥ (Fails writer.old writer.new) (H.exhausts (H.counted place.old) (H.counted place.new)) (HasToldLate K.reads clock.new)) }
-    ensures forward { (failures writer.old ≤ failures writer.new) × (H.counted place.old ≤ H.counted place.new) }
+    ensures goes { Settles H.came H.closes K.reads D.loads H.LENT result session.old
+        session.new (spot O.contents place.old writer.old clock.old loader.old)
+        (spot O.contents place.new writer.new clock.new loader.new) }
+    ensures why { IfErr result (Because ⊥ (Fails writer.old writer.new)
+        (H.exhausts (H.counted place.old) (H.counted place.new)) (HasToldLate K.reads clock.new)) }
+    ensures forward { (failures writer.old ≤ failures writer.new)
+        × (H.counted place.old ≤ H.counted place.new) }
     ensures asked { HasAsked D.loads loader.old 1 loader.new }
 {
     let (number, said) = match session.taken.last() {
@@ -55,12 +59,17 @@ fn settle_one<H: Host, O: Write, K: Clock, D: Loader>(
     clock: &mut K,
     loader: &mut D,
 ) -> Result<(), RunError>
-    requires known { Holds H.LENT H.knows session.old place.old × (session.old.taken.items ≡ [] → session.old.footing ≡ Footing.Waiting) }
+    requires known { Holds H.LENT H.knows session.old place.old
+        × (session.old.taken.items ≡ [] → session.old.footing ≡ Footing.Waiting) }
     ensures same { (session.new.conn ≡ session.old.conn) × (session.new.inbox ≡ session.old.inbox) }
     ensures known { Holds H.LENT H.knows session.new place.new }
-    ensures goes { Settles H.came H.closes K.reads D.loads H.LENT result session.old session.new (spot O.contents place.old writer.old clock.old loader.old) (spot O.contents place.new writer.new clock.new loader.new) }
-    ensures why { IfErr result (Because ⊥ (Fails writer.old writer.new) (H.exhausts (H.counted place.old) (H.counted place.new)) (HasToldLate K.reads clock.new)) }
-    ensures forward { (failures writer.old ≤ failures writer.new) × (H.counted place.old ≤ H.counted place.new) }
+    ensures goes { Settles H.came H.closes K.reads D.loads H.LENT result session.old
+        session.new (spot O.contents place.old writer.old clock.old loader.old)
+        (spot O.contents place.new writer.new clock.new loader.new) }
+    ensures why { IfErr result (Because ⊥ (Fails writer.old writer.new)
+        (H.exhausts (H.counted place.old) (H.counted place.new)) (HasToldLate K.reads clock.new)) }
+    ensures forward { (failures writer.old ≤ failures writer.new)
+        × (H.counted place.old ≤ H.counted place.new) }
     ensures asked { H.LENT ≡ true → HasAsked D.loads loader.old 1 loader.new }
 {
     if session.has_no_load() {
@@ -81,12 +90,17 @@ pub fn settle_next<H: Host, O: Write, K: Clock, D: Loader>(
     clock: &mut K,
     loader: &mut D,
 ) -> Result<Progress, RunError>
-    requires known { Holds H.LENT H.knows session.old place.old × (session.old.taken.items ≡ [] → session.old.footing ≡ Footing.Waiting) }
+    requires known { Holds H.LENT H.knows session.old place.old
+        × (session.old.taken.items ≡ [] → session.old.footing ≡ Footing.Waiting) }
     ensures same { (session.new.conn ≡ session.old.conn) × (session.new.inbox ≡ session.old.inbox) }
     ensures known { Holds H.LENT H.knows session.new place.new }
-    ensures goes { Turns H.Host K.reads D.loads result session.old session.new (spot O.contents place.old writer.old clock.old loader.old) (spot O.contents place.new writer.new clock.new loader.new) }
-    ensures why { IfErr result (Because ⊥ (Fails writer.old writer.new) (H.exhausts (H.counted place.old) (H.counted place.new)) (HasToldLate K.reads clock.new)) }
-    ensures forward { (failures writer.old ≤ failures writer.new) × (H.counted place.old ≤ H.counted place.new) }
+    ensures goes { Turns H.Host K.reads D.loads result session.old session.new
+        (spot O.contents place.old writer.old clock.old loader.old)
+        (spot O.contents place.new writer.new clock.new loader.new) }
+    ensures why { IfErr result (Because ⊥ (Fails writer.old writer.new)
+        (H.exhausts (H.counted place.old) (H.counted place.new)) (HasToldLate K.reads clock.new)) }
+    ensures forward { (failures writer.old ≤ failures writer.new)
+        × (H.counted place.old ≤ H.counted place.new) }
     ensures asked { H.LENT ≡ true → HasAsked D.loads loader.old 1 loader.new }
 {
     match settle_one(host, place, session, writer, clock, loader) {

@@ -27,5 +27,8 @@ pub record Tells (text : List ℕ) (before after : Option (List ℕ)) (failed la
   pub cut : rest ≢ [] → HasFailed failed later
 
 -- the program ends with this status, and this text was written
-abbrev pub EndsTelling : {E : Type 0} → (E → Option (List ℕ)) → (status wanted : ℕ) → List ℕ → Watched E → Watched E → Type 0
-EndsTelling contents status wanted text errors errors' = (status ≡ wanted) × Tells text (contents (device errors)) (contents (device errors')) (failures errors) (failures errors')
+abbrev pub EndsTelling : {E : Type 0} → (E → Option (List ℕ)) → (status wanted : ℕ) → List ℕ
+    → Watched E → Watched E → Type 0
+EndsTelling contents status wanted text errors errors' =
+    (status ≡ wanted) × Tells text (contents (device errors)) (contents (device errors'))
+    (failures errors) (failures errors')

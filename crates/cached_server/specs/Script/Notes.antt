@@ -20,4 +20,6 @@ notices_at spaces namespace = option_map_or notices_of (slice_get spaces namespa
 
 -- why reporting notes stops: the writer failed, or there were as many notes as are counted
 abbrev pub StopsTelling : (before after : ℕ) → List Note → RunError → Type 0
-StopsTelling before after notes e = ((e ≡ error.Write) × HasFailed before after) ⊎ ((e ≡ error.UsedUp) × (2 ^ 64 - 1 ≤ length notes))
+StopsTelling before after notes e =
+    ((e ≡ error.Write) × HasFailed before after)
+    ⊎ ((e ≡ error.UsedUp) × (2 ^ 64 - 1 ≤ length notes))

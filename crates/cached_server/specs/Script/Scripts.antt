@@ -18,15 +18,27 @@ use Rattle.cached_server.specs.Script.Notes.{notes_text}
 
 -- the namespace of a script: without limits
 abbrev pub script_config : Config
-script_config = record { capacity = None; policy = Lru; parts = 1; weight = One; live_ms = None; idle_ms = None; own_deadlines = false }
+script_config =
+    record {
+      capacity = None;
+      policy = Lru;
+      parts = 1;
+      weight = One;
+      live_ms = None;
+      idle_ms = None;
+      own_deadlines = false;
+    }
 
 -- one connection that opens, has these turns, and closes or not, at moment 0
 abbrev pub script_transcript : List Turn → Bool → Transcript
-script_transcript turns closes = record { made = record { nanos = 0 }; records = records_of 1 true turns closes [] }
+script_transcript turns closes =
+    record { made = record { nanos = 0 }; records = records_of 1 true turns closes [] }
 
 -- after these turns the connection is no longer open: what it was fed closed it
 abbrev pub HasClosedBehind : List Turn → Type 0
-HasClosedBehind turns = (s : Situation) → after_records script_config (empty_situation 0) (script_transcript turns false).records ≡ Some s → connection_in 1 s ≡ None
+HasClosedBehind turns =
+    (s : Situation) → after_records script_config (empty_situation 0)
+    (script_transcript turns false).records ≡ Some s → connection_in 1 s ≡ None
 
 -- it closes at the end of the input, unless it closed before
 abbrev pub EndsScript : Bool → List Turn → Option (List ℕ) → Type 0
@@ -47,6 +59,9 @@ pub record ServesScript (input rest output written errors told : Option (List �
   pub notes : Appends errors told (notes_text (flat_map (turn_notes 1) turns))
 
 -- this happened to a reader, a writer, and a stream of notes
-abbrev pub ServesStreams : {R W E : Type 0} → (R → Option (List ℕ)) → (W → Option (List ℕ)) → (E → Option (List ℕ)) → Watched R → Watched R → Watched W → Watched W → Watched E → Watched E → Type 0
+abbrev pub ServesStreams : {R W E : Type 0} → (R → Option (List ℕ)) → (W → Option (List ℕ))
+    → (E → Option (List ℕ)) → Watched R → Watched R → Watched W → Watched W → Watched E → Watched E
+    → Type 0
 ServesStreams remaining contents told reader reader' writer writer' errors errors' =
-    ServesScript (remaining (device reader)) (remaining (device reader')) (contents (device writer)) (contents (device writer')) (told (device errors)) (told (device errors'))
+    ServesScript (remaining (device reader)) (remaining (device reader')) (contents (device writer))
+    (contents (device writer')) (told (device errors)) (told (device errors'))

@@ -43,7 +43,8 @@ fn text_of(fault: Fault) -> &'static [u8]
 /// Writes the text of a fault, and returns the status after it. What cannot be written is lost.
 pub fn fail<E: Write>(errors: &mut Watched<E>, fault: Fault) -> u8
     ensures status { result ≡ 1 }
-    ensures told { Tells (fault_message fault) (E.contents (device errors.old)) (E.contents (device errors.new)) (failures errors.old) (failures errors.new) }
+    ensures told { Tells (fault_message fault) (E.contents (device errors.old))
+        (E.contents (device errors.new)) (failures errors.old) (failures errors.new) }
 {
     let _ = send(text_of(fault), errors);
     1
@@ -52,7 +53,8 @@ pub fn fail<E: Write>(errors: &mut Watched<E>, fault: Fault) -> u8
 /// Writes how the program is called, and returns the status for wrong arguments.
 fn show_usage<E: Write>(errors: &mut Watched<E>) -> u8
     ensures status { result ≡ 2 }
-    ensures told { Tells usage_text (E.contents (device errors.old)) (E.contents (device errors.new)) (failures errors.old) (failures errors.new) }
+    ensures told { Tells usage_text (E.contents (device errors.old))
+        (E.contents (device errors.new)) (failures errors.old) (failures errors.new) }
 {
     let _ = send(USAGE, errors);
     2
@@ -60,8 +62,10 @@ fn show_usage<E: Write>(errors: &mut Watched<E>) -> u8
 
 /// The program with wrong arguments: writes the text, and returns the status. If memory ran out, that is 1.
 pub fn fail_words<E: Write>(error: WordsError, errors: &mut Watched<E>) -> u8
-    ensures memory { error ≡ WordsError.OutOfMemory → EndsTelling E.contents result 1 (fault_message Fault.OutOfMemory) errors.old errors.new }
-    ensures usage { error ≡ WordsError.Usage → EndsTelling E.contents result 2 usage_text errors.old errors.new }
+    ensures memory { error ≡ WordsError.OutOfMemory
+        → EndsTelling E.contents result 1 (fault_message Fault.OutOfMemory) errors.old errors.new }
+    ensures usage { error ≡ WordsError.Usage
+        → EndsTelling E.contents result 2 usage_text errors.old errors.new }
 {
     match error {
         WordsError::Usage => show_usage(errors),
@@ -71,8 +75,10 @@ pub fn fail_words<E: Write>(error: WordsError, errors: &mut Watched<E>) -> u8
 
 /// The program if its arguments cannot be read. If memory ran out, its status is 1; arguments that are not text are wrong.
 pub fn without_words<E: Write>(cause: ErrorKind, errors: &mut Watched<E>) -> u8
-    ensures memory { cause ≡ ErrorKind.OutOfMemory → EndsTelling E.contents result 1 (fault_message Fault.OutOfMemory) errors.old errors.new }
-    ensures other { cause ≢ ErrorKind.OutOfMemory → EndsTelling E.contents result 2 usage_text errors.old errors.new }
+    ensures memory { cause ≡ ErrorKind.OutOfMemory
+        → EndsTelling E.contents result 1 (fault_message Fault.OutOfMemory) errors.old errors.new }
+    ensures other { cause ≢ ErrorKind.OutOfMemory
+        → EndsTelling E.contents result 2 usage_text errors.old errors.new }
 {
     if cause == ErrorKind::OutOfMemory {
         return fail(errors, Fault::OutOfMemory);

@@ -13,8 +13,10 @@ pub fn put<W: Write>(
     text: &[u8],
     writer: &mut Watched<W>,
 ) -> Result<(), RunError>
-    ensures ok { OnOk result (Gathers (W.contents (device writer.old)) gathered.old.items text.now (W.contents (device writer.new)) gathered.new.items) }
-    ensures cause { IfErr result (λ e. (e ≡ RunError.Write) × HasFailed (failures writer.old) (failures writer.new)) }
+    ensures ok { OnOk result (Gathers (W.contents (device writer.old)) gathered.old.items text.now
+        (W.contents (device writer.new)) gathered.new.items) }
+    ensures cause { IfErr result
+        (λ e. (e ≡ RunError.Write) × HasFailed (failures writer.old) (failures writer.new)) }
     ensures count { failures writer.old ≤ failures writer.new }
 {
     if text.len() <= gathered.capacity() - gathered.len() {
@@ -27,9 +29,11 @@ pub fn put<W: Write>(
 
 /// Writes what was gathered.
 pub fn write_out<W: Write>(gathered: &mut Vec<u8>, writer: &mut Watched<W>) -> Result<(), RunError>
-    ensures ok { OnOk result (Gathers (W.contents (device writer.old)) gathered.old.items [] (W.contents (device writer.new)) gathered.new.items) }
+    ensures ok { OnOk result (Gathers (W.contents (device writer.old)) gathered.old.items []
+        (W.contents (device writer.new)) gathered.new.items) }
     ensures none { OnOk result (gathered.new.items ≡ []) }
-    ensures cause { IfErr result (λ e. (e ≡ RunError.Write) × HasFailed (failures writer.old) (failures writer.new)) }
+    ensures cause { IfErr result
+        (λ e. (e ≡ RunError.Write) × HasFailed (failures writer.old) (failures writer.new)) }
     ensures count { failures writer.old ≤ failures writer.new }
 {
     send(gathered, writer)?;

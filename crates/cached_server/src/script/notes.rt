@@ -19,8 +19,10 @@ pub fn write_note<W: Write>(
     gathered: &mut Vec<u8>,
     writer: &mut Watched<W>,
 ) -> Result<(), RunError>
-    ensures ok { OnOk result (Gathers (W.contents (device writer.old)) gathered.old.items (note_text note.now) (W.contents (device writer.new)) gathered.new.items) }
-    ensures cause { IfErr result (λ e. (e ≡ RunError.Write) × HasFailed (failures writer.old) (failures writer.new)) }
+    ensures ok { OnOk result (Gathers (W.contents (device writer.old)) gathered.old.items
+        (note_text note.now) (W.contents (device writer.new)) gathered.new.items) }
+    ensures cause { IfErr result
+        (λ e. (e ≡ RunError.Write) × HasFailed (failures writer.old) (failures writer.new)) }
     ensures count { failures writer.old ≤ failures writer.new }
 {
     put(gathered, b"NOTE ", writer)?;
@@ -35,8 +37,10 @@ pub fn write_note<W: Write>(
 /// Takes the oldest note of a namespace, if there is one.
 fn next_note(service: &mut Service, namespace: u64) -> Option<Note>
     requires known { namespace < length service.old }
-    ensures none { IfNone result ((notices_at service.old namespace ≡ []) × (notices_at service.new namespace ≡ [])) }
-    ensures first { IfSome result (λ note. notices_at service.old namespace ≡ note ∷ notices_at service.new namespace) }
+    ensures none { IfNone result
+        ((notices_at service.old namespace ≡ []) × (notices_at service.new namespace ≡ [])) }
+    ensures first { IfSome result
+        (λ note. notices_at service.old namespace ≡ note ∷ notices_at service.new namespace) }
     ensures count { length service.new ≡ length service.old }
 {
     match service.next_notice(namespace) {
@@ -55,9 +59,11 @@ pub fn tell_notes<W: Write>(
 ) -> Result<(), RunError>
     requires known { namespace < length service.old }
     requires none { gathered.old.items ≡ [] }
-    ensures told { OnOk result (Appends (W.contents (device writer.old)) (W.contents (device writer.new)) (notes_text (notices_at service.old namespace))) }
+    ensures told { OnOk result (Appends (W.contents (device writer.old))
+        (W.contents (device writer.new)) (notes_text (notices_at service.old namespace))) }
     ensures all { OnOk result (notices_at service.new namespace ≡ []) }
-    ensures cause { IfErr result (StopsTelling (failures writer.old) (failures writer.new) (notices_at service.old namespace)) }
+    ensures cause { IfErr result (StopsTelling (failures writer.old) (failures writer.new)
+        (notices_at service.old namespace)) }
     ensures count { failures writer.old ≤ failures writer.new }
 {
     for _note in 0..u64::MAX {

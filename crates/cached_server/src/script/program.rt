@@ -43,7 +43,8 @@ pub fn run_script<R: Read, W: Write, E: Write>(
     errors: &mut Watched<E>,
 ) -> u8
     ensures status { result ≤ 1 }
-    ensures served { result ≡ 0 → ServesStreams R.remaining W.contents E.contents reader.old reader.new writer.old writer.new errors.old errors.new }
+    ensures served { result ≡ 0 → ServesStreams R.remaining W.contents E.contents reader.old
+        reader.new writer.old writer.new errors.old errors.new }
 {
     let Ok(mut gathered) = Vec::with_capacity(alloc, NOTES_BYTES) else {
         return fail(errors, Fault::OutOfMemory);

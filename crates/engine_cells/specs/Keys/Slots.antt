@@ -25,7 +25,8 @@ taken_in slots = count_by (λ s. nat_lt s.place nowhere) slots
 -- the tags with their places
 abbrev pub entries_in : List Slot → List (ℕ × ℕ)
 entries_in [] = []
-entries_in (s ∷ rest) = if nat_lt s.place nowhere then (s.tag, s.place) ∷ entries_in rest else entries_in rest
+entries_in (s ∷ rest) =
+    if nat_lt s.place nowhere then (s.tag, s.place) ∷ entries_in rest else entries_in rest
 
 -- how many places this many slots hold at most
 abbrev pub most_in : ℕ → ℕ
@@ -37,7 +38,8 @@ home_of tag many = tag % 2 ^ 32 * many / 2 ^ 32
 
 -- the slot to which this many steps lead
 abbrev pub steps_on : ℕ → ℕ → ℕ → ℕ
-steps_on many from steps = if nat_lt steps (many - from) then from + steps else steps - (many - from)
+steps_on many from steps =
+    if nat_lt steps (many - from) then from + steps else steps - (many - from)
 
 -- how many steps lead from one slot to another
 abbrev pub steps_to : ℕ → ℕ → ℕ → ℕ
@@ -49,7 +51,8 @@ IsOnWay many tag to at = steps_to many (home_of tag many) at ≤ steps_to many (
 
 -- a place is under a tag
 abbrev pub Has : List Slot → ℕ → ℕ → Type 0
-Has slots tag place = (k : ℕ) × (slot_at slots k ≡ record { tag = tag; place = place }) × (place < nowhere)
+Has slots tag place =
+    (k : ℕ) × (slot_at slots k ≡ record { tag = tag; place = place }) × (place < nowhere)
 
 -- the same places are under the same tags
 pub record HasAll (old new : List Slot) : Type 0 where
@@ -58,7 +61,8 @@ pub record HasAll (old new : List Slot) : Type 0 where
 
 -- of this many slots, each that is on a place's way is taken, and no place is in two
 pub record AreFoundIn (many : ℕ) (slots : List Slot) : Type 0 where
-  pub reached : (k at : ℕ) → IsTaken slots k → at < many → IsOnWay many (slot_at slots k).tag k at → IsTaken slots at
+  pub reached : (k at : ℕ) → IsTaken slots k → at < many → IsOnWay many (slot_at slots k).tag k at
+      → IsTaken slots at
   pub once : (k at : ℕ) → IsTaken slots k → slot_at slots at ≡ slot_at slots k → at ≡ k
 
 -- each place is found from its tag's home on
@@ -69,7 +73,8 @@ AreFound slots = AreFoundIn (length slots) slots
 pub record IsFirstVacant (slots : List Slot) (tag result : ℕ) : Type 0 where
   pub within : result < length slots
   pub vacant : nowhere ≤ (slot_at slots result).place
-  pub before : (at : ℕ) → at < length slots → steps_to (length slots) (home_of tag (length slots)) at < steps_to (length slots) (home_of tag (length slots)) result → IsTaken slots at
+  pub before : (at : ℕ) → at < length slots → steps_to (length slots) (home_of tag (length slots))
+      at < steps_to (length slots) (home_of tag (length slots)) result → IsTaken slots at
 
 -- a place was put into a slot that was vacant
 pub record Adds (old new : List Slot) (tag place : ℕ) : Type 0 where
@@ -84,14 +89,18 @@ pub record IsHoled (old new : List Slot) (from hole : ℕ) : Type 0 where
   pub within : hole < length old
   pub full : IsTaken new hole
   pub count : taken_in new ≡ taken_in old
-  pub others : (k : ℕ) → IsTaken old k → k ≢ from → (j : ℕ) × (j ≢ hole) × (slot_at new j ≡ slot_at old k)
-  pub only : (j : ℕ) → j ≢ hole → IsTaken new j → (k : ℕ) × (k ≢ from) × (slot_at old k ≡ slot_at new j)
+  pub others : (k : ℕ) → IsTaken old k → k ≢ from → (j : ℕ) × (j ≢ hole)
+      × (slot_at new j ≡ slot_at old k)
+  pub only : (j : ℕ) → j ≢ hole → IsTaken new j → (k : ℕ) × (k ≢ from)
+      × (slot_at old k ≡ slot_at new j)
   pub once : (k j : ℕ) → k ≢ hole → j ≢ hole → IsTaken new k → slot_at new j ≡ slot_at new k → j ≡ k
-  pub reached : (k at : ℕ) → k ≢ hole → IsTaken new k → at < length old → IsOnWay (length old) (slot_at new k).tag k at → IsTaken new at
+  pub reached : (k at : ℕ) → k ≢ hole → IsTaken new k → at < length old
+      → IsOnWay (length old) (slot_at new k).tag k at → IsTaken new at
 
 -- a slot is on no other place's way
 abbrev pub LeavesOut : List Slot → ℕ → Type 0
-LeavesOut slots hole = (k : ℕ) → k ≢ hole → IsTaken slots k → IsOnWay (length slots) (slot_at slots k).tag k hole → ⊥
+LeavesOut slots hole =
+    (k : ℕ) → k ≢ hole → IsTaken slots k → IsOnWay (length slots) (slot_at slots k).tag k hole → ⊥
 
 -- the place of a slot was removed, and the others may be in other slots
 pub record Loses (old new : List Slot) (from : ℕ) : Type 0 where

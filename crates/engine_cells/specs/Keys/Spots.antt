@@ -29,12 +29,14 @@ pub record OnlyGainsSpace (old new : Spots) : Type 0 where
 pub record ComesUnder (old new : Spots) (hash place : ℕ) : Type 0 where
   pub there : IsUnder new hash place
   pub others : (h p : ℕ) → IsUnder old h p → IsUnder new h p
-  pub only : (h p : ℕ) → IsUnder new h p → IsUnder old h p ⊎ ((tag_of h ≡ tag_of hash) × (p ≡ place))
+  pub only : (h p : ℕ) → IsUnder new h p → IsUnder old h p
+      ⊎ ((tag_of h ≡ tag_of hash) × (p ≡ place))
   pub space : old.space ≤ new.space + 1
 
 -- a place was removed from under a hash, and all others are where they were
 pub record LeavesFrom (old new : Spots) (hash place : ℕ) : Type 0 where
   pub gone : IsUnder new hash place → ⊥
-  pub others : (h p : ℕ) → IsUnder old h p → (tag_of h ≡ tag_of hash → p ≡ place → ⊥) → IsUnder new h p
+  pub others : (h p : ℕ) → IsUnder old h p → (tag_of h ≡ tag_of hash → p ≡ place → ⊥)
+      → IsUnder new h p
   pub only : (h p : ℕ) → IsUnder new h p → IsUnder old h p
   pub space : old.space ≤ new.space

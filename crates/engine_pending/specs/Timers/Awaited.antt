@@ -26,7 +26,8 @@ IsSet a place (Some time) = a.is_whole ≡ true → IsAwaited a place time
 
 -- what other places await is still awaited
 pub record KeepsOthers (place : ℕ) (old new : List Timer) : Type 0 where
-  pub others : (other time : ℕ) → (other ≡ place → ⊥) → IsTimed old other time → IsTimed new other time
+  pub others : (other time : ℕ) → (other ≡ place → ⊥) → IsTimed old other time
+      → IsTimed new other time
 
 -- ---- the names of timers, by place
 
@@ -41,5 +42,6 @@ LacksPlace place timers = (t : Timer) → Contains timers t → t.node.entry_inf
 pub record IsOwned (wheel : Timers) (names : List (Option NodeId)) : Type 0 where
   pub enabled : wheel.is_enabled ≡ true
   pub owned : (t : Timer) → Contains wheel.timers t → name_at names t.node.entry_info ≡ Some t.id
-  pub single : (i j : ℕ) (id : NodeId) → name_at names i ≡ Some id → name_at names j ≡ Some id → i ≡ j
+  pub single : (i j : ℕ) (id : NodeId) → name_at names i ≡ Some id → name_at names j ≡ Some id
+      → i ≡ j
   pub below : (i : ℕ) (id : NodeId) → name_at names i ≡ Some id → id.serial < wheel.next_serial

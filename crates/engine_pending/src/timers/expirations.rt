@@ -67,7 +67,8 @@ impl Expirations {
     /// The place that expires first, if its timer has come.
     pub fn first_due(&self, now: Instant) -> Option<usize>
         ensures found { IfSome result (λ place. IsAwaited self.now place now) }
-        ensures none { IfNone result ((place time : ℕ) → IsAwaited self.now place time → now < time) }
+        ensures none { IfNone result
+            ((place time : ℕ) → IsAwaited self.now place time → now < time) }
     {
         match self.wheel.first_due(now) {
             Some(timer) => Some(timer.node.entry_info),

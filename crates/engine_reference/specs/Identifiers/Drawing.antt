@@ -26,7 +26,8 @@ pub record AreSixteenBytes (bytes : List ℕ) : Type 0 where
 
 -- this many identifiers are 16 bytes each
 abbrev pub AreIdentifiers : ℕ → Stream → Type 0
-AreIdentifiers number stream = (n : ℕ) → n < number → AreSixteenBytes (drawn (stream_after n stream)).0
+AreIdentifiers number stream =
+    (n : ℕ) → n < number → AreSixteenBytes (drawn (stream_after n stream)).0
 
 -- a predicate is registered under the identifier
 abbrev pub is_registered : {P : Type 0} → List (Registered P) → ℕ → Bool

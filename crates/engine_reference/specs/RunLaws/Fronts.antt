@@ -28,14 +28,17 @@ module _ {K V : Type 0} where
 module _ {K V P S R : Type 0} (answers : Answers K V P R) where
   -- nothing that is held is past its deadline or covered
   pub record NothingIsDue (now : ℕ) (s : State K V P S R) : Type 0 where
-    pub alive : (r : Record K V) → record_at s.records r.number ≡ Some r → r.is_held ≡ true → has_come s.settings now r.entry ≡ false
-    pub uncovered : (r : Record K V) → record_at s.records r.number ≡ Some r → r.is_held ≡ true → is_covered answers s r.entry ≡ false
+    pub alive : (r : Record K V) → record_at s.records r.number ≡ Some r → r.is_held ≡ true
+        → has_come s.settings now r.entry ≡ false
+    pub uncovered : (r : Record K V) → record_at s.records r.number ≡ Some r → r.is_held ≡ true
+        → is_covered answers s r.entry ≡ false
 
 module _ {K V P S R : Type 0} where
   -- the shortest front of the settled records that reaches the excess was evicted and reported; everything else stays
   pub record EvictsFront (capacity : ℕ) (old new : State K V P S R) : Type 0 where
     pub victims : List (Record K V)
-    pub front : shortest_front (admitted_weight old.records - capacity) (settled_in old.records old.access) ≡ Some victims
+    pub front : shortest_front (admitted_weight old.records - capacity)
+        (settled_in old.records old.access) ≡ Some victims
     pub records : new.records ≡ without_records victims old.records
     pub access : new.access ≡ without_numbers victims old.access
     pub notices : new.notices ≡ old.notices ++ notices_of old.settings.tells (for_size victims)
@@ -44,7 +47,8 @@ module _ (K V P S R : Type 0) where
   -- `before` are the first steps of the run, which lead to `mid`
   abbrev pub RunsEvictShortestFront : Type 0
   RunsEvictShortestFront =
-      (answers : Answers K V P R) (now : ℕ) (old mid new : State K V P S R) (run : Runs answers now old new) (before after : List (State K V P S R)) (capacity : ℕ)
+      (answers : Answers K V P R) (now : ℕ) (old mid new : State K V P S R)
+      (run : Runs answers now old new) (before after : List (State K V P S R)) (capacity : ℕ)
       → IsSound old → run.stages ≡ before ++ after → Steps answers now old before mid
       → IsApplied mid → NothingIsDue answers now mid
       → mid.settings.capacity ≡ Some capacity → admitted_weight new.records ≤ capacity

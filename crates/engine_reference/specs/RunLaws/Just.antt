@@ -37,7 +37,8 @@ module _ {K V P S R : Type 0} (answers : Answers K V P R) (now : ℕ) (old : Sta
   IsJust cause.Size e = IsPointed old e
 
 -- what a run reports is just, and what stays was there before it
-pub record RunTells {K V P S R : Type 0} (answers : Answers K V P R) (now : ℕ) (old new : State K V P S R) : Type 0 where
+pub record RunTells {K V P S R : Type 0} (answers : Answers K V P R) (now : ℕ)
+    (old new : State K V P S R) : Type 0 where
   pub removals : List (Removal K V)
   pub tells : Tells old removals new
   pub just : EachRemoval (IsJust answers now old) removals
@@ -45,4 +46,6 @@ pub record RunTells {K V P S R : Type 0} (answers : Answers K V P R) (now : ℕ)
 
 module _ (K V P S R : Type 0) where
   abbrev pub RunTellsJustly : Type 0
-  RunTellsJustly = (answers : Answers K V P R) (now : ℕ) (old new : State K V P S R) → IsInOrder old → Runs answers now old new → RunTells answers now old new
+  RunTellsJustly =
+      (answers : Answers K V P R) (now : ℕ) (old new : State K V P S R) → IsInOrder old
+      → Runs answers now old new → RunTells answers now old new

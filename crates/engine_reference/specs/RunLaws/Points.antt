@@ -21,7 +21,9 @@ use Rattle.engine_reference.specs.Telling.{Removal, Tells}
 -- the writes of a record rise from the last one that was applied
 abbrev pub AreRising : (number applied : ℕ) → List Write → Type 0
 AreRising number applied [] = Unit {0}
-AreRising number applied (Put u ∷ ws) = (u.number ≡ number → applied < u.write) × AreRising number (if u.number == number then u.write else applied) ws
+AreRising number applied (Put u ∷ ws) =
+    (u.number ≡ number → applied < u.write)
+    × AreRising number (if u.number == number then u.write else applied) ws
 AreRising number applied (Removed n ∷ ws) = AreRising number applied ws
 
 -- no write or removal of this record
@@ -37,13 +39,17 @@ IsKeptBy (Removed number) weight = Unit {0}
 module _ {K V : Type 0} where
   -- the records after a write, if nothing were refused and nothing evicted for it
   abbrev pub with_write : Write → List (Record K V) → List (Record K V)
-  with_write (Put u) rs = changed_at u.number (λ r. record r { applied = u.write; counts = Some u.weight }) rs
+  with_write (Put u) rs = changed_at u.number (λ r. record r {
+    applied = u.write;
+    counts = Some u.weight;
+  }) rs
   with_write (Removed number) rs = without_record number rs
 
   -- whichever of the writes was applied last, what counts then is at most what was held when it was made
   abbrev pub AreKept : List Write → List (Record K V) → Type 0
   AreKept [] rs = Unit {0}
-  AreKept (w ∷ ws) rs = IsKeptBy w (admitted_weight (with_write w rs)) × AreKept ws (with_write w rs)
+  AreKept (w ∷ ws) rs =
+      IsKeptBy w (admitted_weight (with_write w rs)) × AreKept ws (with_write w rs)
 
 module _ {K V P S R : Type 0} where
   -- what waits to be applied, if tickets are sent in the order in which they were made
@@ -73,7 +79,8 @@ module _ {K V : Type 0} where
   -- about what is removed for weight
   abbrev pub EachForSize : (Entry K V → Type 0) → List (Removal K V) → Type 0
   EachForSize Q [] = Unit {0}
-  EachForSize Q (gone ∷ removals) = (gone.cause ≡ cause.Size → Q gone.entry) × EachForSize Q removals
+  EachForSize Q (gone ∷ removals) =
+      (gone.cause ≡ cause.Size → Q gone.entry) × EachForSize Q removals
 
 module _ {K V P S R : Type 0} where
   -- the entry was held as the run began, and its point is a write that was in the queue then, made not before the entry's last one
@@ -82,7 +89,8 @@ module _ {K V P S R : Type 0} where
     pub there : record_at old.records owner.number ≡ Some owner
     pub held : owner.is_held ≡ true
     pub entry : owner.entry ≡ e
-    pub point : HasPoint old.settings.capacity old.writes (map (λ u. u.write) old.unsent) owner.number
+    pub point : HasPoint old.settings.capacity old.writes (map (λ u. u.write) old.unsent)
+        owner.number
 
   pub record RunPoints (old new : State K V P S R) : Type 0 where
     pub removals : List (Removal K V)
@@ -92,24 +100,37 @@ module _ {K V P S R : Type 0} where
 module _ (K V P S R : Type 0) where
   -- each removal for weight has a capacity and a point
   abbrev pub SizeHasPoint : Type 0
-  SizeHasPoint = (answers : Answers K V P R) (now : ℕ) (old new : State K V P S R) → IsInOrder old → Runs answers now old new → RunPoints old new
+  SizeHasPoint =
+      (answers : Answers K V P R) (now : ℕ) (old new : State K V P S R) → IsInOrder old
+      → Runs answers now old new → RunPoints old new
 
   -- an empty cache is in order, calls keep it so if the oldest ticket is sent first, and so does an uncut run that began with all tickets
   -- sent
   pub record CallsStayInOrder : Type 0 where
-    pub empty : (s : State K V P S R) → s.records ≡ [] → s.access ≡ [] → s.unsent ≡ [] → s.writes ≡ [] → IsInOrder s
-    pub written : (eq : K → K → Bool) (answers : Answers K V P R) (s : State K V P S R) (key : K) (hash : ℕ) (value : V) (now step : ℕ) → IsInOrder s → IsInOrder (written answers eq s key hash value now step)
-    pub sent : (oldest : Unsent) (rest : List Unsent) (s : State K V P S R) → s.unsent ≡ oldest ∷ rest → IsInOrder s → IsInOrder (sent oldest.ticket s)
-    pub removed : (eq : K → K → Bool) (key : K) (s : State K V P S R) → IsInOrder s → IsInOrder (removed_by eq key s)
-    pub removal_told : (answers : Answers K V P R) (e : Entry K V) (now : ℕ) (s : State K V P S R) → IsInOrder s → IsInOrder (removal_told answers e now s)
-    pub looks_up : (answers : Answers K V P R) (eq : K → K → Bool) (key : K) (hash now : ℕ) (old new : State K V P S R) (look : LooksUp answers eq key hash now old new) → IsInOrder look.mid → IsInOrder new
+    pub empty : (s : State K V P S R) → s.records ≡ [] → s.access ≡ [] → s.unsent ≡ []
+        → s.writes ≡ [] → IsInOrder s
+    pub written : (eq : K → K → Bool) (answers : Answers K V P R) (s : State K V P S R)
+        (key : K) (hash : ℕ) (value : V) (now step : ℕ) → IsInOrder s
+        → IsInOrder (written answers eq s key hash value now step)
+    pub sent : (oldest : Unsent) (rest : List Unsent) (s : State K V P S R)
+        → s.unsent ≡ oldest ∷ rest → IsInOrder s → IsInOrder (sent oldest.ticket s)
+    pub removed : (eq : K → K → Bool) (key : K) (s : State K V P S R) → IsInOrder s
+        → IsInOrder (removed_by eq key s)
+    pub removal_told : (answers : Answers K V P R) (e : Entry K V) (now : ℕ) (s : State K V P S R)
+        → IsInOrder s → IsInOrder (removal_told answers e now s)
+    pub looks_up : (answers : Answers K V P R) (eq : K → K → Bool) (key : K) (hash now : ℕ)
+        (old new : State K V P S R) (look : LooksUp answers eq key hash now old new)
+        → IsInOrder look.mid → IsInOrder new
     pub cleared : (step : ℕ) (s : State K V P S R) → IsInOrder s → IsInOrder (cleared_by step s)
-    pub covered : (p : Registered P) (s : State K V P S R) → IsInOrder s → IsInOrder (with_predicate p s)
+    pub covered : (p : Registered P) (s : State K V P S R) → IsInOrder s
+        → IsInOrder (with_predicate p s)
     pub room : (s : State K V P S R) → IsInOrder s → IsInOrder (with_room s)
     pub released : (s : State K V P S R) → IsInOrder s → IsInOrder (without_room s)
     pub taken : (s : State K V P S R) → IsInOrder s → IsInOrder (without_notice s)
 
   abbrev pub RunsStayInOrder : Type 0
   RunsStayInOrder =
-      (answers : Answers K V P R) (now : ℕ) (old new : State K V P S R) → IsSound old → old.unsent ≡ []
-      → (old.settings.capacity ≡ Some 0 → old.records ≡ []) → RunsToEnd answers now old new → IsInOrder new
+      (answers : Answers K V P R) (now : ℕ) (old new : State K V P S R) → IsSound old
+      → old.unsent ≡ []
+      → (old.settings.capacity ≡ Some 0 → old.records ≡ []) → RunsToEnd answers now old new
+      → IsInOrder new

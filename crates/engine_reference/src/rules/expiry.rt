@@ -33,7 +33,8 @@ pub trait Expiry<K, V> {
         remaining: Option<Duration>,
         last_modified_at: Instant,
     ) -> Option<Duration>
-        ensures { option_map as_nanos result ≡ read self.now key.now value.now read_at (option_map as_nanos remaining) last_modified_at };
+        ensures { option_map as_nanos result ≡ read self.now key.now value.now read_at
+            (option_map as_nanos remaining) last_modified_at };
 
     /// Returns the expiration of a value that replaced another.
     fn expire_after_update(
@@ -43,7 +44,8 @@ pub trait Expiry<K, V> {
         updated_at: Instant,
         remaining: Option<Duration>,
     ) -> Option<Duration>
-        ensures { option_map as_nanos result ≡ updated self.now key.now value.now updated_at (option_map as_nanos remaining) };
+        ensures { option_map as_nanos result
+            ≡ updated self.now key.now value.now updated_at (option_map as_nanos remaining) };
 }
 
 /// Values do not expire by themselves, and reads and updates do not change the remaining time.
@@ -95,7 +97,8 @@ pub enum Expiration {
 impl Expiration {
     /// Returns what a result of an `Expiry` means, given the time left until the value expires: if the two are equal, nothing changes.
     pub fn from_answer(answer: Option<Duration>, remaining: Option<Duration>) -> Self
-        ensures { change_of result ≡ change_from (option_map as_nanos remaining) (option_map as_nanos answer) }
+        ensures { change_of result
+            ≡ change_from (option_map as_nanos remaining) (option_map as_nanos answer) }
     {
         match (remaining, answer) {
             (None, None) => Expiration::Keep,

@@ -46,7 +46,8 @@ pub trait Rules<K, V> {
         remaining: Option<Duration>,
         last_modified_at: Instant,
     ) -> Expiration
-        ensures { change_of result ≡ read self.now key.now value.now read_at (option_map as_nanos remaining) last_modified_at };
+        ensures { change_of result ≡ read self.now key.now value.now read_at
+            (option_map as_nanos remaining) last_modified_at };
 
     /// Returns how the expiration of a value that replaced another changes.
     fn updated_expiration(
@@ -56,7 +57,8 @@ pub trait Rules<K, V> {
         updated_at: Instant,
         remaining: Option<Duration>,
     ) -> Expiration
-        ensures { change_of result ≡ updated self.now key.now value.now updated_at (option_map as_nanos remaining) };
+        ensures { change_of result
+            ≡ updated self.now key.now value.now updated_at (option_map as_nanos remaining) };
 
     /// Returns whether a predicate covers a value.
     fn is_covered(&self, predicate: &Self::Predicate, key: &K, value: &V) -> bool
@@ -137,9 +139,11 @@ impl<K, V, X: Expiry<K, V>, W: Weigher<K, V>, P: Predicate<K, V>, F: Drop> Rules
 
     ghost created = { λ b. X.created b.expiry };
 
-    ghost read = { λ b key value at left written. change_from left (X.read b.expiry key value at left written) };
+    ghost read = { λ b key value at left written.
+        change_from left (X.read b.expiry key value at left written) };
 
-    ghost updated = { λ b key value at left. change_from left (X.updated b.expiry key value at left) };
+    ghost updated = { λ b key value at left.
+        change_from left (X.updated b.expiry key value at left) };
 
     ghost covers = { λ _ predicate. P.covers predicate };
 

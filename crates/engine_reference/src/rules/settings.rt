@@ -105,7 +105,12 @@ impl Policy {
         time_to_live: Option<Duration>,
         time_to_idle: Option<Duration>,
     ) -> Self
-        ensures { result ≡ record { max_capacity = max_capacity; num_segments = num_segments; time_to_live = time_to_live; time_to_idle = time_to_idle } }
+        ensures { result ≡ record {
+          max_capacity = max_capacity;
+          num_segments = num_segments;
+          time_to_live = time_to_live;
+          time_to_idle = time_to_idle;
+        } }
     {
         Policy {
             max_capacity,

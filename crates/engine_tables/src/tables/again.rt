@@ -16,8 +16,10 @@ use std::hash::{BuildHasher, Hash};
 impl<K: Eq + Hash, V, S: BuildHasher, R: Rules<K, V>> Tables<K, V, S, R> {
     /// The place of the record of a number, by the hash of its key. If it is there it is held.
     pub fn place_of_number(&self, number: u64, hash: u64) -> Option<usize>
-        requires held { (r : Record K V) → record_at self.now.state.records number ≡ Some r → (r.is_held ≡ true) × (r.hash ≡ hash) }
-        ensures found { IfSome result (λ i. (r : Record K V) × (kept_at self.now i ≡ Some r) × (record_at self.now.state.records number ≡ Some r)) }
+        requires held { (r : Record K V) → record_at self.now.state.records number ≡ Some r
+            → (r.is_held ≡ true) × (r.hash ≡ hash) }
+        ensures found { IfSome result (λ i. (r : Record K V) × (kept_at self.now i ≡ Some r)
+            × (record_at self.now.state.records number ≡ Some r)) }
         ensures none { IfNone result (record_at self.now.state.records number ≡ None) }
     {
         find_number(&self.cells, &self.keys, number, hash)
@@ -28,7 +30,10 @@ impl<K: Eq + Hash, V, S: BuildHasher, R: Rules<K, V>> Tables<K, V, S, R> {
         requires room { length self.old.state.reads < 64 }
         requires gone { record_at self.old.state.records number ≡ None }
         requires made { number < self.old.state.next_number }
-        ensures { self.new ≡ record self.old { state = record self.old.state { reads = self.old.state.reads ++ Read.Hit number hash ∷ [] } } }
+        ensures { self.new ≡ record self.old {
+          state = record self.old.state
+              { reads = self.old.state.reads ++ Read.Hit number hash ∷ [] };
+        } }
     {
         self.backlog.push_read(Noted::Hit {
             hash,
@@ -66,7 +71,8 @@ impl<K: Eq + Hash, V, S: BuildHasher, R: Rules<K, V>> Tables<K, V, S, R> {
 
     /// How many keys have a visible value, by a look at every record.
     pub fn count_visible(&self, now: u64) -> usize
-        ensures { (answers : Answers K V R.Predicate R) → answers.covers ≡ R.covers → result ≡ length (visible_keys answers K.eq self.now.state now) }
+        ensures { (answers : Answers K V R.Predicate R) → answers.covers ≡ R.covers
+            → result ≡ length (visible_keys answers K.eq self.now.state now) }
     {
         count_shown(&self.cells, &self.backlog, now)
     }

@@ -52,7 +52,15 @@ new_small policy capacity live idle rules = record {
   next_ticket = 0;
   reserved = 1000;
   name = None;
-  settings = record { capacity = capacity; live = live; idle = idle; policy = policy; tells = true; takes_predicates = true; made = 0 };
+  settings = record {
+    capacity = capacity;
+    live = live;
+    idle = idle;
+    policy = policy;
+    tells = true;
+    takes_predicates = true;
+    made = 0;
+  };
   hasher = 0;
   rules = rules;
 }
@@ -95,13 +103,18 @@ write_all (w ∷ rest) s = write_all rest (after_write w (record s { writes = re
 
 -- small capacities have a table of 128 words
 abbrev with_table : Small → Small
-with_table s = if wants_table s.settings.capacity s.sketch (admitted_weight s.records) then record s { sketch = fresh 128 128 } else s
+with_table s =
+    if wants_table s.settings.capacity s.sketch (admitted_weight s.records) then record s {
+      sketch = fresh 128 128;
+    } else s
 
 abbrev sweep : ℕ → List (Record ℕ ℕ) → Small → Small
 sweep now [] s = s
 sweep now (r ∷ rs) s = sweep now rs
-    (if r.is_held && is_due_for small_answers s now r cause.Expired then left cause.Expired r.number s
-    else if r.is_held && is_due_for small_answers s now r cause.Explicit then left cause.Explicit r.number s else s)
+    (if r.is_held && is_due_for small_answers s now r cause.Expired
+    then left cause.Expired r.number s
+    else if r.is_held && is_due_for small_answers s now r cause.Explicit
+    then left cause.Explicit r.number s else s)
 
 abbrev evict_one : Option (Record ℕ ℕ) → Small → Small
 evict_one None s = s
@@ -109,13 +122,19 @@ evict_one (Some r) s = left cause.Size r.number s
 
 abbrev evict : ℕ → Small → Small
 evict zero s = s
-evict (suc turns) s = evict turns (if is_above s.settings.capacity (admitted_weight s.records) then evict_one (next_to_evict s) s else s)
+evict (suc turns) s =
+    evict turns (if is_above s.settings.capacity (admitted_weight s.records)
+    then evict_one (next_to_evict s) s else s)
 
 abbrev end_predicates : Small → Small
-end_predicates s = record s { predicates = filter (λ p. not (covers_none small_answers s.rules p s.records)) s.predicates }
+end_predicates s =
+    record s {
+      predicates = filter (λ p. not (covers_none small_answers s.rules p s.records)) s.predicates;
+    }
 
 abbrev counted : ℕ → Small → Small
-counted now s = record s { number = admitted_number s.records; weight = admitted_weight s.records; ran = now }
+counted now s =
+    record s { number = admitted_number s.records; weight = admitted_weight s.records; ran = now }
 
 abbrev applied : Small → Small
 applied s = let t = read_all s.reads s in write_all t.writes t

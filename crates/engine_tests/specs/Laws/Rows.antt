@@ -29,8 +29,10 @@ pub record RowsOfTimes : Type 0 where
   pub own_before : seen 1 999997439 (put 1 5 0 1 (new_small Lru None None None 1000000000)) ≡ 6
   pub own_at : seen 1 999997440 (put 1 5 0 1 (new_small Lru None None None 1000000000)) ≡ 0
   pub own_held : (run 1 (put 1 5 0 1 (new_small Lru None None None 1000000000))).number ≡ 1
-  pub own_gone : (run 2000000000 (run 1 (put 1 5 0 1 (new_small Lru None None None 1000000000)))).number ≡ 0
-  pub own_told : told_by (run 2000000000 (put 1 5 0 1 (new_small Lru None None None 1000000000))) ≡ 11
+  pub own_gone : (run 2000000000
+      (run 1 (put 1 5 0 1 (new_small Lru None None None 1000000000)))).number ≡ 0
+  pub own_told : told_by (run 2000000000 (put 1 5 0 1 (new_small Lru None None None 1000000000)))
+      ≡ 11
 
 -- ---- clears and predicates
 
@@ -43,7 +45,12 @@ written_twice = put 1 6 9 3 (cleared_by 2 (put 1 5 9 1 endless))
 
 -- values 5, 6 and 7, a predicate on the value 5, and then 5 again under another key
 abbrev with_rule : Small
-with_rule = put 4 5 9 5 (with_predicate (record { id = 0; predicate = 5; step = 4 }) (put 3 7 9 3 (put 2 6 9 2 (put 1 5 9 1 endless))))
+with_rule =
+    put 4 5 9 5 (with_predicate (record {
+      id = 0;
+      predicate = 5;
+      step = 4;
+    }) (put 3 7 9 3 (put 2 6 9 2 (put 1 5 9 1 endless))))
 
 pub record RowsOfCoverage : Type 0 where
   pub cleared : seen 1 9 (cleared_by 2 (put 1 5 9 1 endless)) ≡ 0
@@ -65,11 +72,14 @@ pub record RowsOfCoverage : Type 0 where
 
 -- capacity 2: keys 1 and 2, a run, 1 is used, key 3 is written
 abbrev of_two : Small
-of_two = put 3 5 0 3 (look 1 0 (run 0 (put 2 5 0 2 (put 1 5 0 1 (new_small Lru (Some 2) None None 0)))))
+of_two =
+    put 3 5 0 3 (look 1 0 (run 0 (put 2 5 0 2 (put 1 5 0 1 (new_small Lru (Some 2) None None 0)))))
 
 -- capacity 4: key 0 is written again after a run, and its ticket (number 1) held; keys 1 to 4 are written
 abbrev of_four : Small
-of_four = put 4 5 0 6 (put 3 5 0 5 (put 2 5 0 4 (put 1 5 0 3 (put_unsent 0 6 0 2 (run 0 (put 0 5 0 1 (new_small Lru (Some 4) None None 0)))))))
+of_four =
+    put 4 5 0 6 (put 3 5 0 5 (put 2 5 0 4 (put 1 5 0 3
+    (put_unsent 0 6 0 2 (run 0 (put 0 5 0 1 (new_small Lru (Some 4) None None 0)))))))
 
 pub record RowsOfLeastRecentlyUsed : Type 0 where
   pub told_two : told_by (run 0 of_two) ≡ 42
@@ -91,7 +101,9 @@ pub record RowsOfLeastRecentlyUsed : Type 0 where
 
 -- capacity 3: 0, 1 written and used, a run; 2 written and used, a run; 0, 1 used, a run
 abbrev warm : Small
-warm = run 0 (look 1 0 (look 0 0 (run 0 (look 2 0 (put 2 5 0 3 (run 0 (look 1 0 (look 0 0 (put 1 5 0 2 (put 0 5 0 1 (new_small TinyLfu (Some 3) None None 0)))))))))))
+warm =
+    run 0 (look 1 0 (look 0 0 (run 0 (look 2 0 (put 2 5 0 3 (run 0 (look 1 0
+    (look 0 0 (put 1 5 0 2 (put 0 5 0 1 (new_small TinyLfu (Some 3) None None 0)))))))))))
 
 -- key 3 is written, a run comes, and 3 is looked up
 abbrev asked_for : ℕ → Small → Small
@@ -99,15 +111,19 @@ asked_for step s = look 3 0 (run 0 (put 3 5 0 step s))
 
 -- capacity 12 by weight: key 1 of weight 10, a run, key 2 of weight 5 and then 1
 abbrev shrinking : Small
-shrinking = put 2 1 0 3 (put 2 5 0 2 (run 0 (put 1 10 0 1 (new_small TinyLfu (Some 12) None None 1))))
+shrinking =
+    put 2 1 0 3 (put 2 5 0 2 (run 0 (put 1 10 0 1 (new_small TinyLfu (Some 12) None None 1))))
 
 -- the same with the other key: 1 of weight 10, a run, 2 of weight 5, and 1 shrinks to 1
 abbrev shrinking_other : Small
-shrinking_other = put 1 1 0 3 (put 2 5 0 2 (run 0 (put 1 10 0 1 (new_small TinyLfu (Some 12) None None 1))))
+shrinking_other =
+    put 1 1 0 3 (put 2 5 0 2 (run 0 (put 1 10 0 1 (new_small TinyLfu (Some 12) None None 1))))
 
 -- capacity 31 by weight: 0 of 10 and 1 of 15 written and used, a run; 2 of 5 written and used, a run; 0, 1 used, a run
 abbrev heavy : Small
-heavy = run 0 (look 1 0 (look 0 0 (run 0 (look 2 0 (put 2 5 0 3 (run 0 (look 1 0 (look 0 0 (put 1 15 0 2 (put 0 10 0 1 (new_small TinyLfu (Some 31) None None 1)))))))))))
+heavy =
+    run 0 (look 1 0 (look 0 0 (run 0 (look 2 0 (put 2 5 0 3 (run 0 (look 1 0
+    (look 0 0 (put 1 15 0 2 (put 0 10 0 1 (new_small TinyLfu (Some 31) None None 1)))))))))))
 
 -- key 3 of 15 is written, a run comes, and 3 is looked up
 abbrev heavy_asked_for : ℕ → Small → Small
@@ -136,7 +152,9 @@ pub record RowsOfFrequencies : Type 0 where
   pub in_order : told_by (run 0 shrinking_other) ≡ 3142
   pub in_order_weight : (run 0 shrinking_other).weight ≡ 1
   -- counts are kept over a clear: 0, 1, 2 are reported, come again, and then 3 is admitted for 0
-  pub kept_counts : told_by (run 0 (put 3 5 0 10 (run 0 (put 2 5 0 9 (put 1 5 0 8 (put 0 5 0 7 (run 0 (cleared_by 6 (asked_for 5 (asked_for 4 warm)))))))))) ≡ 434320212240
+  pub kept_counts : told_by (run 0 (put 3 5 0 10 (run 0 (put 2 5 0 9
+      (put 1 5 0 8 (put 0 5 0 7 (run 0 (cleared_by 6 (asked_for 5 (asked_for 4 warm))))))))))
+      ≡ 434320212240
 
 -- ---- sending
 

@@ -23,7 +23,13 @@ applied_one s = go s.writes
 
 -- the end of a run, which found no memory for the sketch's table if it lacks one
 abbrev pub ended : ℕ → Small → Small
-ended now s = record s { number = admitted_number s.records; weight = min (admitted_weight s.records) 18446744073709551615; ran = now; table_refused = lacks_table s }
+ended now s =
+    record s {
+      number = admitted_number s.records;
+      weight = min (admitted_weight s.records) 18446744073709551615;
+      ran = now;
+      table_refused = lacks_table s;
+    }
 
 abbrev kept_weights : List Write → List ℕ
 kept_weights [] = []
@@ -52,11 +58,15 @@ pub record RowsOfPoints : Type 0 where
 -- ---- tickets that are sent in another order: key 1 with weight 10 and then 1, and key 2 with weight 5, in a cache for 10
 
 abbrev sent_unsorted : Small
-sent_unsorted = sent 1 (sent 2 (sent 0 (put_unsent 2 5 0 3 (put_unsent 1 1 0 2 (put_unsent 1 10 0 1 (new_small TinyLfu (Some 10) None None 1))))))
+sent_unsorted =
+    sent 1 (sent 2 (sent 0 (put_unsent 2 5 0 3
+    (put_unsent 1 1 0 2 (put_unsent 1 10 0 1 (new_small TinyLfu (Some 10) None None 1))))))
 
 -- in the order in which they were made
 abbrev sent_sorted : Small
-sent_sorted = sent 2 (sent 1 (sent 0 (put_unsent 2 5 0 3 (put_unsent 1 1 0 2 (put_unsent 1 10 0 1 (new_small TinyLfu (Some 10) None None 1))))))
+sent_sorted =
+    sent 2 (sent 1 (sent 0 (put_unsent 2 5 0 3
+    (put_unsent 1 1 0 2 (put_unsent 1 10 0 1 (new_small TinyLfu (Some 10) None None 1))))))
 
 pub record RowsOfOrder : Type 0 where
   -- the second key is refused, although never more than 10 was held
@@ -71,7 +81,9 @@ pub record RowsOfFronts : Type 0 where
   pub applied : IsApplied written_all
   pub quiet : NothingIsDue small_answers 9 written_all
   pub weight : admitted_weight written_all.records ≡ 3
-  pub victims : option_map (λ vs. length vs) (shortest_front (admitted_weight written_all.records - 2) (settled_in written_all.records written_all.access)) ≡ Some 1
+  pub victims : option_map (λ vs. length vs) (shortest_front
+      (admitted_weight written_all.records - 2) (settled_in written_all.records written_all.access))
+      ≡ Some 1
 
 -- ---- live 16 s: one value of moment 0 and one of 10 s, and a run at 17 s
 

@@ -47,7 +47,9 @@ module _ {V F : Type 0} where
   IsResultOf Makes (Fault f) = Makes (Err f)
 
   -- a coalesced call: the test is called on what is seen, a fresh result is one that was made, and the cache did what it does with them
-  pub record Gives (Sees : Option V → Type 0) (Does : Bool → Made V F → Bool → Type 0) (Ignores : V → Bool → Type 0) (Makes : Made V F → Type 0) (answer : Made V F) (is_fresh : Bool) : Type 0 where
+  pub record Gives (Sees : Option V → Type 0) (Does : Bool → Made V F → Bool → Type 0)
+      (Ignores : V → Bool → Type 0) (Makes : Made V F → Type 0) (answer : Made V F) (is_fresh : Bool)
+      : Type 0 where
     pub seen : Option V
     pub sees : Sees seen
     pub ignored : Bool
@@ -56,10 +58,14 @@ module _ {V F : Type 0} where
     pub does : Does ignored answer is_fresh
 
 -- a coalesced call of a cache, by the definitions of what the cache sees and does
-abbrev pub IsCoalesced : {C W K V F : Type 0} → (C → W → K → Option V → Type 0) → (C → W → Option TurnKind → K → Bool → Made V F → Bool → C → Type 0)
-    → Option TurnKind → W → K → (old new : C) → (Ignores : V → Bool → Type 0) → (Makes : Made V F → Type 0) → Made V F → Bool → Type 0
+abbrev pub IsCoalesced : {C W K V F : Type 0} → (C → W → K → Option V → Type 0)
+    → (C → W → Option TurnKind → K → Bool → Made V F → Bool → C → Type 0)
+    → Option TurnKind → W → K → (old new : C) → (Ignores : V → Bool → Type 0)
+    → (Makes : Made V F → Type 0) → Made V F → Bool → Type 0
 IsCoalesced sees coalesced kind when key old new Ignores Makes answer is_fresh =
-    Gives (sees old when key) (λ ignored made fresh. coalesced old when kind key ignored made fresh new) Ignores Makes answer is_fresh
+    Gives (sees old when key)
+    (λ ignored made fresh. coalesced old when kind key ignored made fresh new) Ignores Makes
+    answer is_fresh
 
 -- no value is passed over
 abbrev pub passes_none : {V : Type 0} → V → Bool → Type 0
@@ -82,7 +88,8 @@ module _ {V : Type 0} where
   done_as (Err e) done = Err e
 
   -- a compute call: a closure decides by what is seen, and the cache does that
-  pub record Decides {E : Type 0} (Sees : Option V → Type 0) (Does : Op V → Computed V → Type 0) (Says : Option V → Result (Op V) E → Type 0) (answer : Result (Computed V) E) : Type 0 where
+  pub record Decides {
+      E : Type 0} (Sees : Option V → Type 0) (Does : Op V → Computed V → Type 0) (Says : Option V → Result (Op V) E → Type 0) (answer : Result (Computed V) E) : Type 0 where
     pub seen : Option V
     pub sees : Sees seen
     pub decided : Result (Op V) E
@@ -93,6 +100,9 @@ module _ {V : Type 0} where
     pub answers : answer ≡ done_as decided done
 
 -- a compute call of a cache, by its definitions
-abbrev pub IsComputed : {C W K V E : Type 0} → (C → W → K → Option V → Type 0) → (C → W → K → Op V → Computed V → C → Type 0)
-    → W → K → (old new : C) → (Says : Option V → Result (Op V) E → Type 0) → Result (Computed V) E → Type 0
-IsComputed sees computed when key old new Says answer = Decides (sees old when key) (λ does done. computed old when key does done new) Says answer
+abbrev pub IsComputed : {C W K V E : Type 0} → (C → W → K → Option V → Type 0)
+    → (C → W → K → Op V → Computed V → C → Type 0)
+    → W → K → (old new : C) → (Says : Option V → Result (Op V) E → Type 0) → Result (Computed V) E
+    → Type 0
+IsComputed sees computed when key old new Says answer =
+    Decides (sees old when key) (λ does done. computed old when key does done new) Says answer

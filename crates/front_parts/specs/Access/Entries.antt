@@ -9,7 +9,12 @@ use Rattle.front_parts.specs.declared.access.entry.CompResult.TheVariants.{Still
 module _ {K V : Type 0} where
   -- a key with a value: whether the value was made or put, and whether it replaced a visible one
   abbrev pub entry_with : K → V → Bool → Bool → Entry K V
-  entry_with key value is_fresh is_replaced = record { key = key; value = value; is_fresh = is_fresh; is_old_value_replaced = is_replaced }
+  entry_with key value is_fresh is_replaced = record {
+    key = key;
+    value = value;
+    is_fresh = is_fresh;
+    is_old_value_replaced = is_replaced;
+  }
 
   -- a value that was there
   abbrev pub found_entry : K → V → Entry K V

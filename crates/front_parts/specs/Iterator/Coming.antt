@@ -15,8 +15,10 @@ pub record Source (K V : Type 0) : Type 0 where
   pub value_of : K → Option V
 
 -- at a moment
-abbrev pub source_at : {C K V : Type 0} → (C → ℕ) → (C → ℕ → List K) → (C → ℕ → K → Option V) → C → (now : ℕ) → Source K V
-source_at segments keys_in value_of c now = record { segments = segments c; keys_in = keys_in c; value_of = value_of c now }
+abbrev pub source_at : {C K V : Type 0} → (C → ℕ) → (C → ℕ → List K) → (C → ℕ → K → Option V) → C
+    → (now : ℕ) → Source K V
+source_at segments keys_in value_of c now =
+    record { segments = segments c; keys_in = keys_in c; value_of = value_of c now }
 
 module _ {K V : Type 0} where
   -- a key with its value, if it has one, before others
@@ -35,7 +37,9 @@ module _ {K V : Type 0} where
 
   -- the pairs of such keys, and then those of the segments from a place on
   abbrev pub coming_of : Source K V → List K → (place : ℕ) → List (K × V)
-  coming_of source keys place = pairs source.value_of (reverse keys ++ keys_from source.keys_in (source.segments - place) place)
+  coming_of source keys place =
+      pairs source.value_of
+      (reverse keys ++ keys_from source.keys_in (source.segments - place) place)
 
   -- all pairs
   abbrev pub all_pairs : Source K V → List (K × V)
@@ -63,12 +67,16 @@ module _ {K V : Type 0} where
   LeavesPairs source old new = pairs_back source new ≡ pairs_back source old
 
   -- the same for all pairs that are still to come of such keys and of the segments from a place on
-  abbrev pub TakesComing : Source K V → Option (K × V) → (old : List K) → (old_place : ℕ) → (new : List K) → (new_place : ℕ) → Type 0
-  TakesComing source found old old_place new new_place = TakesFirst found (coming_of source old old_place) (coming_of source new new_place)
+  abbrev pub TakesComing : Source K V → Option (K × V) → (old : List K) → (old_place : ℕ)
+      → (new : List K) → (new_place : ℕ) → Type 0
+  TakesComing source found old old_place new new_place =
+      TakesFirst found (coming_of source old old_place) (coming_of source new new_place)
 
   -- none of those that are still to come is returned
-  abbrev pub LeavesComing : Source K V → (old : List K) → (old_place : ℕ) → (new : List K) → (new_place : ℕ) → Type 0
-  LeavesComing source old old_place new new_place = coming_of source new new_place ≡ coming_of source old old_place
+  abbrev pub LeavesComing : Source K V → (old : List K) → (old_place : ℕ) → (new : List K)
+      → (new_place : ℕ) → Type 0
+  LeavesComing source old old_place new new_place =
+      coming_of source new new_place ≡ coming_of source old old_place
 
   -- the keys that are left if there is no pair: none
   abbrev pub LeavesKeys : Option (K × V) → List K → Type 0
@@ -88,7 +96,9 @@ module _ {K V : Type 0} where
   GivesItem (Err e) old new = (e ≡ errors.OutOfMemory) × (new ≡ old)
 
   -- the first of what is to come is returned, and nothing if nothing is to come
-  pub record GivesNext {C : Type 0} (old : Walk C K V) (given : Option (Result (K × V) CacheError)) (new : Walk C K V) : Type 0 where
+  pub record GivesNext {
+      C : Type 0} (old : Walk C K V) (given : Option (Result (K × V) CacheError)) (new : Walk C K V) : Type 0 where
     pub source : new.source ≡ old.source
     pub now : new.now ≡ old.now
-    pub gives : MatchOption given ((old.coming ≡ []) × (new.coming ≡ [])) (λ item. GivesItem item old.coming new.coming)
+    pub gives : MatchOption given ((old.coming ≡ []) × (new.coming ≡ []))
+        (λ item. GivesItem item old.coming new.coming)

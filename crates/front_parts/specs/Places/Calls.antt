@@ -27,7 +27,8 @@ pub record Ways (K V P S R : Type 0) : Type 0 where
   pub hash : S → K → ℕ
 
 -- the same, from the traits of rules, hashers and their builders
-abbrev pub ways_by : {K V P F S R H : Type 0} → rules.Ghosts R K V P F → (K → K → Bool) → (K → List (List ℕ)) → builders.Ghosts S H → hashers.Ghosts H → Ways K V P S R
+abbrev pub ways_by : {K V P F S R H : Type 0} → rules.Ghosts R K V P F → (K → K → Bool)
+    → (K → List (List ℕ)) → builders.Ghosts S H → hashers.Ghosts H → Ways K V P S R
 ways_by r eq hash_input b h = record {
   answers = answers_of r.weight_of r.created r.read r.updated r.covers;
   eq = eq;
@@ -62,11 +63,14 @@ module _ {K V P S R : Type 0} (ways : Ways K V P S R) where
   visible_in f now key = visible_of (part_with f key) now key
 
   -- the test is called on what is visible of a key in a part
-  abbrev pub AsksOf : Option (State K V P S R) → (now : ℕ) → K → (Ignores : V → Bool → Type 0) → (ignored : Bool) → Type 0
-  AsksOf o now key Ignores ignored = (value : V) → visible_of o now key ≡ Some value → Ignores value ignored
+  abbrev pub AsksOf : Option (State K V P S R) → (now : ℕ) → K → (Ignores : V → Bool → Type 0)
+      → (ignored : Bool) → Type 0
+  AsksOf o now key Ignores ignored =
+      (value : V) → visible_of o now key ≡ Some value → Ignores value ignored
 
   -- the same for the first of two results
-  abbrev pub IsAskedFirst : Option (State K V P S R) → (now : ℕ) → K → (Ignores : V → Bool → Type 0) → Bool × Option V → Type 0
+  abbrev pub IsAskedFirst : Option (State K V P S R) → (now : ℕ) → K → (Ignores : V → Bool → Type 0)
+      → Bool × Option V → Type 0
   IsAskedFirst o now key Ignores answer = AsksOf o now key Ignores answer.0
 
   -- what is visible of it and not passed over
@@ -96,42 +100,68 @@ module _ {K V P S R : Type 0} (ways : Ways K V P S R) where
   IsCauseIn rooms f key e = IsCauseOf rooms (part_with f key) e
 
   -- a call on a key may come to the part at a place, which is as parts are between calls
-  pub record IsOpenAt (place : ℕ) (key : K) (hash : ℕ) (parts : List (State K V P S R)) : Type 0 where
-    pub within : place < length parts
-    pub ready : (s : State K V P S R) → slice_get parts place ≡ Some s → IsReady s
-    pub hashed : (s : State K V P S R) → slice_get parts place ≡ Some s → hash ≡ ways.hash s.hasher key
-    pub apart : (s : State K V P S R) → slice_get parts place ≡ Some s → AreApart ways.eq (held_entries s.records)
+  pub record IsOpenAt (place : ℕ) (key : K) (hash : ℕ) (parts : List (State K V P S R)) : Type 0
+    where
+      pub within : place < length parts
+      pub ready : (s : State K V P S R) → slice_get parts place ≡ Some s → IsReady s
+      pub hashed : (s : State K V P S R) → slice_get parts place ≡ Some s
+          → hash ≡ ways.hash s.hasher key
+      pub apart : (s : State K V P S R) → slice_get parts place ≡ Some s
+          → AreApart ways.eq (held_entries s.records)
 
   -- a call comes to the part of a key, under its hash
-  abbrev pub CallsKey : K → At → (ℕ → State K V P S R → State K V P S R → Type 0) → Front K V P S R → Front K V P S R → Type 0
-  CallsKey key at does old new = CallsPart (hash_in old key) at.now at.step (does (hash_in old key)) old new
+  abbrev pub CallsKey : K → At → (ℕ → State K V P S R → State K V P S R → Type 0) → Front K V P S R
+      → Front K V P S R → Type 0
+  CallsKey key at does old new =
+      CallsPart (hash_in old key) at.now at.step (does (hash_in old key)) old new
 
   -- a look-up, which is a use of what is visible
   abbrev pub LooksUpIn : K → At → Front K V P S R → Front K V P S R → Type 0
-  LooksUpIn key at = CallsKey key at (λ hash. NotesLookUp ways.answers ways.eq key hash at.now false)
+  LooksUpIn key at =
+      CallsKey key at (λ hash. NotesLookUp ways.answers ways.eq key hash at.now false)
 
   -- a value is inserted
   abbrev pub InsertsIn : K → V → At → Front K V P S R → Front K V P S R → Type 0
-  InsertsIn key value at = CallsKey key at (λ hash. Inserts ways.answers ways.eq key hash value at.now at.step)
+  InsertsIn key value at =
+      CallsKey key at (λ hash. Inserts ways.answers ways.eq key hash value at.now at.step)
 
   -- a key is removed
   abbrev pub TakesOutIn : K → At → Front K V P S R → Front K V P S R → Type 0
   TakesOutIn key at = CallsKey key at (λ hash. TakesOut ways.answers ways.eq key at.now)
 
   -- a coalesced call, by what its closures may return: its result, and whether that was made now
-  abbrev pub CoalescesIn : {F : Type 0} → K → At → (Ignores : V → Bool → Type 0) → (Makes : Made V F → Type 0) → Front K V P S R → Front K V P S R → Made V F → (is_fresh : Bool) → Type 0
-  CoalescesIn key at Ignores Makes old new answer is_fresh = CallsKey key at (λ hash s t. Coalesces ways.answers ways.eq key hash at.now at.step Ignores Makes s t answer is_fresh) old new
+  abbrev pub CoalescesIn : {F : Type 0} → K → At → (Ignores : V → Bool → Type 0)
+      → (Makes : Made V F → Type 0) → Front K V P S R → Front K V P S R → Made V F
+      → (is_fresh : Bool) → Type 0
+  CoalescesIn key at Ignores Makes old new answer is_fresh =
+      CallsKey key at (λ hash s t. Coalesces ways.answers ways.eq key hash at.now at.step Ignores
+      Makes s t answer is_fresh) old new
 
   -- a compute call, by what its closure may decide
-  abbrev pub ComputesIn : {E : Type 0} → K → At → (Decides : Option V → Result (Op V) E → Type 0) → Front K V P S R → Front K V P S R → Result (Computed V) E → Type 0
-  ComputesIn key at Decides old new answer = CallsKey key at (λ hash s t. Computes ways.answers ways.eq key hash at.now at.step Decides s t answer) old new
+  abbrev pub ComputesIn : {E : Type 0} → K → At → (Decides : Option V → Result (Op V) E → Type 0)
+      → Front K V P S R → Front K V P S R → Result (Computed V) E → Type 0
+  ComputesIn key at Decides old new answer =
+      CallsKey key at
+      (λ hash s t. Computes ways.answers ways.eq key hash at.now at.step Decides s t answer) old
+      new
 
   -- the same for a part at a place, by what the closure that makes a value returns
-  abbrev pub CoalescesAt : {F E G : Type 0} → (place : ℕ) → K → (hash : ℕ) → At → (Ignores : V → Bool → Type 0) → (Makes : Result (Made V F) E → Type 0) → Vec (State K V P S R) G → Vec (State K V P S R) G → Made V F × Bool → Type 0
-  CoalescesAt place key hash at Ignores Makes old new answer = CallsAt place (λ s t. Coalesces ways.answers ways.eq key hash at.now at.step Ignores (λ made. Makes (Ok made)) s t answer.0 answer.1) old.items new.items
+  abbrev pub CoalescesAt : {F E G : Type 0} → (place : ℕ) → K → (hash : ℕ) → At
+      → (Ignores : V → Bool → Type 0) → (Makes : Result (Made V F) E → Type 0)
+      → Vec (State K V P S R) G → Vec (State K V P S R) G → Made V F × Bool → Type 0
+  CoalescesAt place key hash at Ignores Makes old new answer =
+      CallsAt place (λ s t. Coalesces ways.answers ways.eq key hash at.now at.step Ignores
+      (λ made. Makes (Ok made)) s t answer.0 answer.1) old.items new.items
 
-  abbrev pub CoalescesBy : {F E : Type 0} → K → At → (Ignores : V → Bool → Type 0) → (Makes : Result (Made V F) E → Type 0) → Front K V P S R → Front K V P S R → Made V F × Bool → Type 0
-  CoalescesBy key at Ignores Makes old new answer = CoalescesIn key at Ignores (λ made. Makes (Ok made)) old new answer.0 answer.1
+  abbrev pub CoalescesBy : {F E : Type 0} → K → At → (Ignores : V → Bool → Type 0)
+      → (Makes : Result (Made V F) E → Type 0) → Front K V P S R → Front K V P S R → Made V F × Bool
+      → Type 0
+  CoalescesBy key at Ignores Makes old new answer =
+      CoalescesIn key at Ignores (λ made. Makes (Ok made)) old new answer.0 answer.1
 
-  abbrev pub ComputesAt : {E : Type 0} → (place : ℕ) → K → (hash : ℕ) → At → (Decides : Option V → Result (Op V) E → Type 0) → List (State K V P S R) → List (State K V P S R) → Result (Computed V) E → Type 0
-  ComputesAt place key hash at Decides old new answer = CallsAt place (λ s t. Computes ways.answers ways.eq key hash at.now at.step Decides s t answer) old new
+  abbrev pub ComputesAt : {E : Type 0} → (place : ℕ) → K → (hash : ℕ) → At
+      → (Decides : Option V → Result (Op V) E → Type 0) → List (State K V P S R)
+      → List (State K V P S R) → Result (Computed V) E → Type 0
+  ComputesAt place key hash at Decides old new answer =
+      CallsAt place
+      (λ s t. Computes ways.answers ways.eq key hash at.now at.step Decides s t answer) old new

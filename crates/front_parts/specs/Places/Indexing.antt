@@ -32,4 +32,5 @@ module _ {K : Type 0} where
   pub record AreIndexed (es : List (ℕ × OpenTurn K)) (hashes : BTreeSet (ℕ × ℕ)) : Type 0 where
     pub ordered : IsStrictlySortedBy nat_cmp (keys_of es)
     pub own : AllByRecursion (λ (e : ℕ × OpenTurn K). e.0 ≡ e.1.number) es
-    pub hashed : (hash number : ℕ) → contains pair_cmp hashes (hash, number) ≡ has_hash hash (turn_at (turns_of es) number)
+    pub hashed : (hash number : ℕ) → contains pair_cmp hashes (hash, number)
+        ≡ has_hash hash (turn_at (turns_of es) number)

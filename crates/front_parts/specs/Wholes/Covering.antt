@@ -21,19 +21,28 @@ id_text id = hyphenated_text lower (to_be_bytes w128 id)
 module _ {K V P S R : Type 0} where
   -- each part takes predicates
   abbrev pub TakeAll : List (State K V P S R) → Type 0
-  TakeAll parts = (place : ℕ) (s : State K V P S R) → slice_get parts place ≡ Some s → s.settings.takes_predicates ≡ true
+  TakeAll parts =
+      (place : ℕ) (s : State K V P S R) → slice_get parts place ≡ Some s
+      → s.settings.takes_predicates ≡ true
 
   -- each part has room
   abbrev pub HaveRoom : List (State K V P S R) → Type 0
-  HaveRoom parts = (place : ℕ) (s : State K V P S R) → slice_get parts place ≡ Some s → 0 < s.reserved
+  HaveRoom parts =
+      (place : ℕ) (s : State K V P S R) → slice_get parts place ≡ Some s → 0 < s.reserved
 
   -- one part has no room for one more, as the 64-bit tickets do not suffice
   abbrev pub SomeLacksTickets : List (State K V P S R) → Type 0
-  SomeLacksTickets parts = (place : ℕ) × (s : State K V P S R) × (slice_get parts place ≡ Some s) × (2 ^ 64 ≤ s.next_ticket + s.reserved + 1)
+  SomeLacksTickets parts =
+      (place : ℕ) × (s : State K V P S R) × (slice_get parts place ≡ Some s)
+      × (2 ^ 64 ≤ s.next_ticket + s.reserved + 1)
 
   -- the predicate of the part at a place, under the identifier at its place, takes the room that was made for it
   abbrev pub commits : P → (step : ℕ) → List ℕ → ℕ → State K V P S R → State K V P S R
-  commits predicate step ids place s = registered (record { id = slice_index_or ids place 0; predicate = predicate; step = step }) s
+  commits predicate step ids place s = registered (record {
+    id = slice_index_or ids place 0;
+    predicate = predicate;
+    step = step;
+  }) s
 
   -- why no room is made for a predicate: there was no memory, or the tickets of a part do not suffice
   abbrev pub IsRoomCause : List (State K V P S R) → CacheError → Type 0
@@ -49,7 +58,8 @@ module _ {K V P S R : Type 0} where
   IsCoverCause parts old new other = ⊥
 
   -- all parts draw an identifier each, and register the predicate under it; the first identifier is returned
-  pub record CoversEach (predicate : P) (step : ℕ) (drawn left : Stream) (first : ℕ) (old new : List (State K V P S R)) : Type 0 where
+  pub record CoversEach (predicate : P) (step : ℕ) (drawn left : Stream) (first : ℕ)
+      (old new : List (State K V P S R)) : Type 0 where
     pub ids : List ℕ
     pub draws : DrawAll old drawn left ids
     pub registers : new ≡ registered_in predicate step ids old

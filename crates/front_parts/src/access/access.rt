@@ -29,7 +29,8 @@ pub trait Access<K, V: Clone> {
     ghost sees: { Self → Self.When → K → Option V → Type 0 };
 
     // what a coalesced call does, whether a visible value is passed over or not: its result, whether it is fresh, and the cache after it
-    ghost coalesced: { Self → Self.When → Option TurnKind → K → Bool → Made V Self.Fault → Bool → Self → Type 0 };
+    ghost coalesced: { Self → Self.When → Option TurnKind → K → Bool → Made V Self.Fault → Bool
+        → Self → Type 0 };
 
     // what an operation does to a key: what it is said to have done, and the cache after it
     ghost computed: { Self → Self.When → K → Op V → Computed V → Self → Type 0 };
@@ -58,7 +59,8 @@ pub trait Access<K, V: Clone> {
         requires free { may_call self.old when kind key }
         requires callable { P.IsAlwaysCallable replace_if × M.IsAlwaysCallable make }
         requires suitable { (made : Made V Self.Fault) → M.post make (Ok made) → Suits kind made }
-        ensures gives { IfOk result (λ a. IsCoalesced sees coalesced kind when key self.old self.new (FnOnceReturnsAt P.FnOnce replace_if) (λ made. M.post make (Ok made)) a.0 a.1) }
+        ensures gives { IfOk result (λ a. IsCoalesced sees coalesced kind when key self.old self.new
+            (FnOnceReturnsAt P.FnOnce replace_if) (λ made. M.post make (Ok made)) a.0 a.1) }
         ensures suits { IfOk result (λ a. Suits kind a.0) }
         ensures err { OnErr result (self.new ≡ self.old) }
         ensures cause { IfErr result (refuses_coalesced self.old kind key) };
@@ -74,7 +76,8 @@ pub trait Access<K, V: Clone> {
         requires exact { (x y : V) → V.is_clone x y → y ≡ x }
         requires free { may_call self.old when (Some turns.Compute) key }
         requires callable { D.IsAlwaysCallable decide }
-        ensures decides { IfOk result (λ answer. IsComputed sees computed when key self.old self.new (λ seen decided. D.post decide seen decided) answer) }
+        ensures decides { IfOk result (λ answer. IsComputed sees computed when key self.old self.new
+            (λ seen decided. D.post decide seen decided) answer) }
         ensures err { OnErr result (self.new ≡ self.old) }
         ensures cause { IfErr result (refuses_computed self.old key) };
 }

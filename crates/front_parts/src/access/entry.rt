@@ -17,7 +17,12 @@ pub struct Entry<K, V> {
 impl<K, V> Entry<K, V> {
     /// A key with its value.
     pub(crate) fn new(key: Shared<K>, value: V, is_fresh: bool, is_old_value_replaced: bool) -> Self
-        ensures { result ≡ record { key = key; value = value; is_fresh = is_fresh; is_old_value_replaced = is_old_value_replaced } }
+        ensures { result ≡ record {
+          key = key;
+          value = value;
+          is_fresh = is_fresh;
+          is_old_value_replaced = is_old_value_replaced;
+        } }
     {
         Entry {
             key,

@@ -70,10 +70,12 @@ impl<'a, K, A, W: Copy> EntrySelector<'a, K, A, W> {
         requires free { A.may_call self.owner.now self.when kind self.key }
         requires callable { P.IsAlwaysCallable replace_if × M.IsAlwaysCallable make }
         requires suitable { (made : Made V F) → M.post make (Ok made) → Suits kind made }
-        ensures gives { IfOk result (λ a. Selects A.sees A.coalesced kind self.entry self.exit.0.now (FnOnceReturnsAt P.FnOnce replace_if) (λ made. M.post make (Ok made)) a.1 a.2) }
+        ensures gives { IfOk result (λ a. Selects A.sees A.coalesced kind self.entry self.exit.0.now
+            (FnOnceReturnsAt P.FnOnce replace_if) (λ made. M.post make (Ok made)) a.1 a.2) }
         ensures suits { IfOk result (λ a. (a.0 ≡ self.entry.key) × Suits kind a.1) }
         ensures err { OnErr result (self.exit.0.now ≡ self.entry.owner.now) }
-        ensures cause { IfErr result (IsRefusedBy (A.refuses_coalesced self.entry.owner.now kind self.entry.key)) }
+        ensures cause { IfErr result
+            (IsRefusedBy (A.refuses_coalesced self.entry.owner.now kind self.entry.key)) }
     {
         let EntrySelector {
             owner,
@@ -103,10 +105,12 @@ impl<'a, K, A, W: Copy> EntrySelector<'a, K, A, W> {
         requires exact { (x y : V) → V.is_clone x y → y ≡ x }
         requires free { A.may_call self.owner.now self.when (Some turns.With) self.key }
         requires callable { M.IsAlwaysCallable make }
-        ensures entry { IfOk result (SelectsValue A.sees A.coalesced self.entry self.exit.0.now passes_none (M.post make)) }
+        ensures entry { IfOk result
+            (SelectsValue A.sees A.coalesced self.entry self.exit.0.now passes_none (M.post make)) }
         ensures shown { IfOk result (λ e. e ≡ entry_with self.entry.key e.value e.is_fresh false) }
         ensures err { OnErr result (self.exit.0.now ≡ self.entry.owner.now) }
-        ensures cause { IfErr result (IsRefusedBy (A.refuses_coalesced self.entry.owner.now (Some turns.With) self.entry.key)) }
+        ensures cause { IfErr result (IsRefusedBy
+            (A.refuses_coalesced self.entry.owner.now (Some turns.With) self.entry.key)) }
     {
         let (key, made, is_fresh) = self.coalesce(
             Some(TurnKind::With),
@@ -133,10 +137,12 @@ impl<'a, K, A, W: Copy> EntrySelector<'a, K, A, W> {
         requires exact { (x y : V) → V.is_clone x y → y ≡ x }
         requires free { A.may_call self.owner.now self.when (Some turns.With) self.key }
         requires callable { P.IsAlwaysCallable replace_if × M.IsAlwaysCallable make }
-        ensures entry { IfOk result (SelectsValue A.sees A.coalesced self.entry self.exit.0.now (FnOnceReturnsAt P.FnOnce replace_if) (M.post make)) }
+        ensures entry { IfOk result (SelectsValue A.sees A.coalesced self.entry self.exit.0.now
+            (FnOnceReturnsAt P.FnOnce replace_if) (M.post make)) }
         ensures shown { IfOk result (λ e. e ≡ entry_with self.entry.key e.value e.is_fresh false) }
         ensures err { OnErr result (self.exit.0.now ≡ self.entry.owner.now) }
-        ensures cause { IfErr result (IsRefusedBy (A.refuses_coalesced self.entry.owner.now (Some turns.With) self.entry.key)) }
+        ensures cause { IfErr result (IsRefusedBy
+            (A.refuses_coalesced self.entry.owner.now (Some turns.With) self.entry.key)) }
     {
         let (key, made, is_fresh) = self.coalesce(
             Some(TurnKind::With),
@@ -156,10 +162,12 @@ impl<'a, K, A, W: Copy> EntrySelector<'a, K, A, W> {
         A: Access<K, V, When = W, Fault = F>,
         requires exact { (x y : V) → V.is_clone x y → y ≡ x }
         requires free { A.may_call self.owner.now self.when None self.key }
-        ensures entry { IfOk result (λ e. Selects A.sees A.coalesced None self.entry self.exit.0.now passes_none (IsValueOf (λ v. v ≡ value)) (outcome.Value e.value) e.is_fresh) }
+        ensures entry { IfOk result (λ e. Selects A.sees A.coalesced None self.entry self.exit.0.now
+            passes_none (IsValueOf (λ v. v ≡ value)) (outcome.Value e.value) e.is_fresh) }
         ensures shown { IfOk result (λ e. e ≡ entry_with self.entry.key e.value e.is_fresh false) }
         ensures err { OnErr result (self.exit.0.now ≡ self.entry.owner.now) }
-        ensures cause { IfErr result (IsRefusedBy (A.refuses_coalesced self.entry.owner.now None self.entry.key)) }
+        ensures cause { IfErr result
+            (IsRefusedBy (A.refuses_coalesced self.entry.owner.now None self.entry.key)) }
     {
         let (key, made, is_fresh) = self.coalesce(
             None,
@@ -180,10 +188,12 @@ impl<'a, K, A, W: Copy> EntrySelector<'a, K, A, W> {
         A: Access<K, V, When = W, Fault = F>,
         requires exact { (x y : V) → V.is_clone x y → y ≡ x }
         requires free { A.may_call self.owner.now self.when None self.key }
-        ensures entry { IfOk result (λ e. Selects A.sees A.coalesced None self.entry self.exit.0.now passes_none (IsValueOf V.is_default) (outcome.Value e.value) e.is_fresh) }
+        ensures entry { IfOk result (λ e. Selects A.sees A.coalesced None self.entry self.exit.0.now
+            passes_none (IsValueOf V.is_default) (outcome.Value e.value) e.is_fresh) }
         ensures shown { IfOk result (λ e. e ≡ entry_with self.entry.key e.value e.is_fresh false) }
         ensures err { OnErr result (self.exit.0.now ≡ self.entry.owner.now) }
-        ensures cause { IfErr result (IsRefusedBy (A.refuses_coalesced self.entry.owner.now None self.entry.key)) }
+        ensures cause { IfErr result
+            (IsRefusedBy (A.refuses_coalesced self.entry.owner.now None self.entry.key)) }
     {
         let (key, made, is_fresh) = self.coalesce(
             None,
@@ -211,9 +221,12 @@ impl<'a, K, A, W: Copy> EntrySelector<'a, K, A, W> {
         requires exact { (x y : V) → V.is_clone x y → y ≡ x }
         requires free { A.may_call self.owner.now self.when (Some turns.Optionally) self.key }
         requires callable { M.IsAlwaysCallable make }
-        ensures entry { IfOk result (GivesOption self.entry.key (Selects A.sees A.coalesced (Some turns.Optionally) self.entry self.exit.0.now passes_none (IsOptionOf (M.post make)))) }
+        ensures entry { IfOk result
+            (GivesOption self.entry.key (Selects A.sees A.coalesced (Some turns.Optionally)
+            self.entry self.exit.0.now passes_none (IsOptionOf (M.post make)))) }
         ensures err { OnErr result (self.exit.0.now ≡ self.entry.owner.now) }
-        ensures cause { IfErr result (IsRefusedBy (A.refuses_coalesced self.entry.owner.now (Some turns.Optionally) self.entry.key)) }
+        ensures cause { IfErr result (IsRefusedBy
+            (A.refuses_coalesced self.entry.owner.now (Some turns.Optionally) self.entry.key)) }
     {
         let (key, made, is_fresh) = self.coalesce(
             Some(TurnKind::Optionally),
@@ -249,9 +262,12 @@ impl<'a, K, A, W: Copy> EntrySelector<'a, K, A, W> {
         requires exact { (x y : V) → V.is_clone x y → y ≡ x }
         requires free { A.may_call self.owner.now self.when (Some turns.Try) self.key }
         requires callable { M.IsAlwaysCallable make }
-        ensures entry { IfOk result (λ r. GivesResult self.entry.key (Selects A.sees A.coalesced (Some turns.Try) self.entry self.exit.0.now passes_none (IsResultOf (M.post make))) (with_fault arc_value r)) }
+        ensures entry { IfOk result
+            (λ r. GivesResult self.entry.key (Selects A.sees A.coalesced (Some turns.Try) self.entry
+            self.exit.0.now passes_none (IsResultOf (M.post make))) (with_fault arc_value r)) }
         ensures err { OnErr result (self.exit.0.now ≡ self.entry.owner.now) }
-        ensures cause { IfErr result (IsRefusedBy (A.refuses_coalesced self.entry.owner.now (Some turns.Try) self.entry.key)) }
+        ensures cause { IfErr result (IsRefusedBy
+            (A.refuses_coalesced self.entry.owner.now (Some turns.Try) self.entry.key)) }
     {
         let EntrySelector {
             owner,
@@ -298,9 +314,11 @@ impl<'a, K, A, W: Copy> EntrySelector<'a, K, A, W> {
         requires exact { (x y : V) → V.is_clone x y → y ≡ x }
         requires free { A.may_call self.owner.now self.when (Some turns.Compute) self.key }
         requires callable { D.IsAlwaysCallable decide }
-        ensures does { IfOk result (ComputesEntry A.sees A.computed self.entry self.exit.0.now (λ seen decided. D.post decide (seen_entry self.entry.key seen) decided)) }
+        ensures does { IfOk result (ComputesEntry A.sees A.computed self.entry self.exit.0.now
+            (λ seen decided. D.post decide (seen_entry self.entry.key seen) decided)) }
         ensures err { OnErr result (self.exit.0.now ≡ self.entry.owner.now) }
-        ensures cause { IfErr result (IsRefusedBy (A.refuses_computed self.entry.owner.now self.entry.key)) }
+        ensures cause { IfErr result
+            (IsRefusedBy (A.refuses_computed self.entry.owner.now self.entry.key)) }
     {
         let EntrySelector {
             owner,
@@ -339,9 +357,12 @@ impl<'a, K, A, W: Copy> EntrySelector<'a, K, A, W> {
         requires exact { (x y : V) → V.is_clone x y → y ≡ x }
         requires free { A.may_call self.owner.now self.when (Some turns.Compute) self.key }
         requires callable { D.IsAlwaysCallable decide }
-        ensures does { IfOk result (λ r. ComputesEntry {E = ⊤} A.sees A.computed self.entry self.exit.0.now (DecidesAlways (λ seen does. D.post decide (seen_entry self.entry.key seen) does)) (Ok r)) }
+        ensures does { IfOk result
+            (λ r. ComputesEntry {E = ⊤} A.sees A.computed self.entry self.exit.0.now (DecidesAlways
+            (λ seen does. D.post decide (seen_entry self.entry.key seen) does)) (Ok r)) }
         ensures err { OnErr result (self.exit.0.now ≡ self.entry.owner.now) }
-        ensures cause { IfErr result (IsRefusedBy (A.refuses_computed self.entry.owner.now self.entry.key)) }
+        ensures cause { IfErr result
+            (IsRefusedBy (A.refuses_computed self.entry.owner.now self.entry.key)) }
     {
         let answer = self.and_try_compute_with(
             |seen: Option<Entry<K, V>>| -> Result<Op<V>, ()>
@@ -373,9 +394,11 @@ impl<'a, K, A, W: Copy> EntrySelector<'a, K, A, W> {
         requires exact { (x y : V) → V.is_clone x y → y ≡ x }
         requires free { A.may_call self.owner.now self.when (Some turns.Compute) self.key }
         requires callable { M.IsAlwaysCallable make }
-        ensures puts { IfOk result (PutsEntry A.sees A.computed self.entry self.exit.0.now (λ seen value. M.post make (seen_entry self.entry.key seen) value)) }
+        ensures puts { IfOk result (PutsEntry A.sees A.computed self.entry self.exit.0.now
+            (λ seen value. M.post make (seen_entry self.entry.key seen) value)) }
         ensures err { OnErr result (self.exit.0.now ≡ self.entry.owner.now) }
-        ensures cause { IfErr result (IsRefusedBy (A.refuses_computed self.entry.owner.now self.entry.key)) }
+        ensures cause { IfErr result
+            (IsRefusedBy (A.refuses_computed self.entry.owner.now self.entry.key)) }
     {
         let done = self.and_compute_with(
             |seen: Option<Entry<K, V>>| -> Op<V>

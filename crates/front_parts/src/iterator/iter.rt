@@ -42,7 +42,8 @@ impl<'a, K: Drop, V, C: ScanningGet<K, V>> Iter<'a, K, V, C> {
     pub fn new(alloc: Global, source: &'a C, now: Instant) -> Self
         ensures source { result.source ≡ source.now }
         ensures now { result.now ≡ now }
-        ensures coming { result.coming ≡ all_pairs (source_at C.segments C.keys_in C.value_of source.now now) }
+        ensures coming { result.coming
+            ≡ all_pairs (source_at C.segments C.keys_in C.value_of source.now now) }
     {
         Iter {
             source,

@@ -14,7 +14,9 @@ fn try_last<K: Drop, V, C: ScanningGet<K, V>>(
 ) -> Result<Option<(K, V)>, AllocError>
     requires can_scan { C.can_scan source.now }
     requires some { 0 < length keys.old.items }
-    ensures found { IfOk result (λ found. TriesLast (source_at C.segments C.keys_in C.value_of source.now now) found keys.old.items keys.new.items) }
+    ensures found { IfOk result
+        (λ found. TriesLast (source_at C.segments C.keys_in C.value_of source.now now) found
+        keys.old.items keys.new.items) }
     ensures shorter { OnOk result (length keys.new.items + 1 ≡ length keys.old.items) }
     ensures err { OnErr result (keys.new.items ≡ keys.old.items) }
 {
@@ -38,9 +40,12 @@ fn take_last<K: Drop, V, C: ScanningGet<K, V>>(
     keys: &mut Vec<K>,
 ) -> Result<Option<(K, V)>, AllocError>
     requires { C.can_scan source.now }
-    ensures found { IfOk result (λ found. TakesLast (source_at C.segments C.keys_in C.value_of source.now now) found keys.old.items keys.new.items) }
+    ensures found { IfOk result
+        (λ found. TakesLast (source_at C.segments C.keys_in C.value_of source.now now) found
+        keys.old.items keys.new.items) }
     ensures left { IfOk result (λ found. LeavesKeys found keys.new.items) }
-    ensures err { OnErr result (LeavesPairs (source_at C.segments C.keys_in C.value_of source.now now) keys.old.items keys.new.items) }
+    ensures err { OnErr result (LeavesPairs
+        (source_at C.segments C.keys_in C.value_of source.now now) keys.old.items keys.new.items) }
 {
     while !keys.is_empty() {
         match try_last(source, now, keys)? {
@@ -74,8 +79,12 @@ pub(crate) fn advance<K: Drop, V, C: ScanningGet<K, V>>(
     place: &mut usize,
 ) -> Result<Option<(K, V)>, AllocError>
     requires { C.can_scan source.now }
-    ensures found { IfOk result (λ found. TakesComing (source_at C.segments C.keys_in C.value_of source.now now) found keys.old.items place.old keys.new.items place.new) }
-    ensures err { OnErr result (LeavesComing (source_at C.segments C.keys_in C.value_of source.now now) keys.old.items place.old keys.new.items place.new) }
+    ensures found { IfOk result
+        (λ found. TakesComing (source_at C.segments C.keys_in C.value_of source.now now) found
+        keys.old.items place.old keys.new.items place.new) }
+    ensures err { OnErr result
+        (LeavesComing (source_at C.segments C.keys_in C.value_of source.now now) keys.old.items
+        place.old keys.new.items place.new) }
 {
     let count = source.num_cht_segments();
     while *place < count {

@@ -30,5 +30,6 @@ pub trait ScanningGet<K, V> {
     /// Returns clones of the keys of a segment, or `None` if there is no such segment.
     fn keys(&self, segment: usize) -> Result<Option<Vec<K>>, AllocError>
         requires { can_scan self.now }
-        ensures { IfOk result (λ keys. MatchOption keys (segments self.now ≤ segment) (λ found. found.items ≡ keys_in self.now segment)) };
+        ensures { IfOk result (λ keys. MatchOption keys (segments self.now ≤ segment)
+            (λ found. found.items ≡ keys_in self.now segment)) };
 }

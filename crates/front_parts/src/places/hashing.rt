@@ -7,7 +7,8 @@ use std::hash::{BuildHasher, Hash, Hasher};
 
 /// The hash of a key.
 pub fn hash_key<K: Hash, S: BuildHasher>(hasher: &S, key: &K) -> u64
-    ensures { result ≡ hash_of_key S.Hasher.finish S.Hasher.write S.build_hasher K.hash_input hasher.now key.now }
+    ensures { result ≡ hash_of_key S.Hasher.finish S.Hasher.write S.build_hasher K.hash_input
+        hasher.now key.now }
 {
     let mut state = hasher.build_hasher();
     key.hash(&mut state);

@@ -29,9 +29,14 @@ pub fn get_at<K: Eq + Hash + Drop, V: Clone + Drop, S: BuildHasher, R: Rules<K, 
     now: Instant,
 ) -> Result<Option<V>, AllocError>
     requires exact { (x y : V) → V.is_clone x y → y ≡ x }
-    requires there { IsOpenAt (ways_by R.Rules K.eq K.hash_input S.BuildHasher S.Hasher.Hasher) place (Q.named_key key.now) hash parts.old.items }
-    ensures found { IfOk result (λ found. found ≡ visible_of (ways_by R.Rules K.eq K.hash_input S.BuildHasher S.Hasher.Hasher) (slice_get parts.old.items place) now (Q.named_key key.now)) }
-    ensures used { OnOk result (CallsAt place (NotesLookUp (answers_of R.weight_of R.created R.read R.updated R.covers) K.eq (Q.named_key key.now) hash now false) parts.old.items parts.new.items) }
+    requires there { IsOpenAt (ways_by R.Rules K.eq K.hash_input S.BuildHasher S.Hasher.Hasher)
+        place (Q.named_key key.now) hash parts.old.items }
+    ensures found { IfOk result (λ found. found
+        ≡ visible_of (ways_by R.Rules K.eq K.hash_input S.BuildHasher S.Hasher.Hasher)
+        (slice_get parts.old.items place) now (Q.named_key key.now)) }
+    ensures used { OnOk result
+        (CallsAt place (NotesLookUp (answers_of R.weight_of R.created R.read R.updated R.covers)
+        K.eq (Q.named_key key.now) hash now false) parts.old.items parts.new.items) }
     ensures err { OnErr result (parts.new.items ≡ parts.old.items) }
 {
     let part = &mut parts[place];
@@ -47,8 +52,11 @@ pub fn contains_key_at<K: Eq + Hash, V, S: BuildHasher, R: Rules<K, V>, Q: Names
     hash: u64,
     now: Instant,
 ) -> bool
-    requires there { IsOpenAt (ways_by R.Rules K.eq K.hash_input S.BuildHasher S.Hasher.Hasher) place (Q.named_key key.now) hash parts.now }
-    ensures { result ≡ is_some (visible_of (ways_by R.Rules K.eq K.hash_input S.BuildHasher S.Hasher.Hasher) (slice_get parts.now place) now (Q.named_key key.now)) }
+    requires there { IsOpenAt (ways_by R.Rules K.eq K.hash_input S.BuildHasher S.Hasher.Hasher)
+        place (Q.named_key key.now) hash parts.now }
+    ensures { result
+        ≡ is_some (visible_of (ways_by R.Rules K.eq K.hash_input S.BuildHasher S.Hasher.Hasher)
+        (slice_get parts.now place) now (Q.named_key key.now)) }
 {
     contains_key(&parts[place], key, hash, now)
 }
@@ -62,10 +70,15 @@ pub fn insert_at<K: Eq + Hash + Drop, V: Drop, S: BuildHasher, R: Rules<K, V>>(
     value: V,
     at: At,
 ) -> Result<(), CacheError>
-    requires there { IsOpenAt (ways_by R.Rules K.eq K.hash_input S.BuildHasher S.Hasher.Hasher) place key hash parts.old.items }
-    ensures inserts { OnOk result (CallsAt place (Inserts (answers_of R.weight_of R.created R.read R.updated R.covers) K.eq key hash value at.now at.step) parts.old.items parts.new.items) }
+    requires there { IsOpenAt (ways_by R.Rules K.eq K.hash_input S.BuildHasher S.Hasher.Hasher)
+        place key hash parts.old.items }
+    ensures inserts { OnOk result
+        (CallsAt place (Inserts (answers_of R.weight_of R.created R.read R.updated R.covers) K.eq
+        key hash value at.now at.step) parts.old.items parts.new.items) }
     ensures err { OnErr result (parts.new.items ≡ parts.old.items) }
-    ensures cause { IfErr result (IsCauseOf (ways_by R.Rules K.eq K.hash_input S.BuildHasher S.Hasher.Hasher) (λ _. 1) (slice_get parts.old.items place)) }
+    ensures cause { IfErr result
+        (IsCauseOf (ways_by R.Rules K.eq K.hash_input S.BuildHasher S.Hasher.Hasher) (λ _. 1)
+        (slice_get parts.old.items place)) }
 {
     let part = &mut parts[place];
     match insert(part, key, hash, value, at) {
@@ -90,11 +103,18 @@ pub fn remove_at<
 ) -> Result<Option<V>, CacheError>
     requires exact_key { (x y : K) → K.is_clone x y → y ≡ x }
     requires exact { (x y : V) → V.is_clone x y → y ≡ x }
-    requires there { IsOpenAt (ways_by R.Rules K.eq K.hash_input S.BuildHasher S.Hasher.Hasher) place (Q.named_key key.now) hash parts.old.items }
-    ensures value { IfOk result (λ value. value ≡ held_of (ways_by R.Rules K.eq K.hash_input S.BuildHasher S.Hasher.Hasher) (slice_get parts.old.items place) (Q.named_key key.now)) }
-    ensures takes_out { OnOk result (CallsAt place (TakesOut (answers_of R.weight_of R.created R.read R.updated R.covers) K.eq (Q.named_key key.now) now) parts.old.items parts.new.items) }
+    requires there { IsOpenAt (ways_by R.Rules K.eq K.hash_input S.BuildHasher S.Hasher.Hasher)
+        place (Q.named_key key.now) hash parts.old.items }
+    ensures value { IfOk result
+        (λ value. value ≡ held_of (ways_by R.Rules K.eq K.hash_input S.BuildHasher S.Hasher.Hasher)
+        (slice_get parts.old.items place) (Q.named_key key.now)) }
+    ensures takes_out { OnOk result
+        (CallsAt place (TakesOut (answers_of R.weight_of R.created R.read R.updated R.covers) K.eq
+        (Q.named_key key.now) now) parts.old.items parts.new.items) }
     ensures err { OnErr result (parts.new.items ≡ parts.old.items) }
-    ensures cause { IfErr result (IsCauseOf (ways_by R.Rules K.eq K.hash_input S.BuildHasher S.Hasher.Hasher) removal_rooms (slice_get parts.old.items place)) }
+    ensures cause { IfErr result
+        (IsCauseOf (ways_by R.Rules K.eq K.hash_input S.BuildHasher S.Hasher.Hasher) removal_rooms
+        (slice_get parts.old.items place)) }
 {
     let part = &mut parts[place];
     match remove(part, key, hash, now) {
@@ -119,10 +139,15 @@ pub fn invalidate_at<
 ) -> Result<(), CacheError>
     requires exact_key { (x y : K) → K.is_clone x y → y ≡ x }
     requires exact { (x y : V) → V.is_clone x y → y ≡ x }
-    requires there { IsOpenAt (ways_by R.Rules K.eq K.hash_input S.BuildHasher S.Hasher.Hasher) place (Q.named_key key.now) hash parts.old.items }
-    ensures takes_out { OnOk result (CallsAt place (TakesOut (answers_of R.weight_of R.created R.read R.updated R.covers) K.eq (Q.named_key key.now) now) parts.old.items parts.new.items) }
+    requires there { IsOpenAt (ways_by R.Rules K.eq K.hash_input S.BuildHasher S.Hasher.Hasher)
+        place (Q.named_key key.now) hash parts.old.items }
+    ensures takes_out { OnOk result
+        (CallsAt place (TakesOut (answers_of R.weight_of R.created R.read R.updated R.covers) K.eq
+        (Q.named_key key.now) now) parts.old.items parts.new.items) }
     ensures err { OnErr result (parts.new.items ≡ parts.old.items) }
-    ensures cause { IfErr result (IsCauseOf (ways_by R.Rules K.eq K.hash_input S.BuildHasher S.Hasher.Hasher) removal_rooms (slice_get parts.old.items place)) }
+    ensures cause { IfErr result
+        (IsCauseOf (ways_by R.Rules K.eq K.hash_input S.BuildHasher S.Hasher.Hasher) removal_rooms
+        (slice_get parts.old.items place)) }
 {
     let part = &mut parts[place];
     match invalidate(part, key, hash, now) {
@@ -150,13 +175,18 @@ pub fn coalesce_at<
     replace_if: P,
     make: M,
 ) -> Result<(Made<V, F>, bool), CacheError>
-    requires there { IsOpenAt (ways_by R.Rules K.eq K.hash_input S.BuildHasher S.Hasher.Hasher) place (Q.named_key name) hash parts.old.items }
+    requires there { IsOpenAt (ways_by R.Rules K.eq K.hash_input S.BuildHasher S.Hasher.Hasher)
+        place (Q.named_key name) hash parts.old.items }
     requires becomes { Q.can_become name }
     requires exact { (x y : V) → V.is_clone x y → y ≡ x }
     requires callable { P.IsAlwaysCallable replace_if × M.IsAlwaysCallable make }
-    ensures answer { IfOk result (CoalescesAt (ways_by R.Rules K.eq K.hash_input S.BuildHasher S.Hasher.Hasher) place (Q.named_key name) hash at (FnOnceReturnsAt P.FnOnce replace_if) (M.post make) parts.old parts.new) }
+    ensures answer { IfOk result (CoalescesAt
+        (ways_by R.Rules K.eq K.hash_input S.BuildHasher S.Hasher.Hasher) place (Q.named_key name)
+        hash at (FnOnceReturnsAt P.FnOnce replace_if) (M.post make) parts.old parts.new) }
     ensures err { OnErr result (parts.new.items ≡ parts.old.items) }
-    ensures cause { IfErr result (IsCauseOf (ways_by R.Rules K.eq K.hash_input S.BuildHasher S.Hasher.Hasher) (λ _. 1) (slice_get parts.old.items place)) }
+    ensures cause { IfErr result
+        (IsCauseOf (ways_by R.Rules K.eq K.hash_input S.BuildHasher S.Hasher.Hasher) (λ _. 1)
+        (slice_get parts.old.items place)) }
 {
     let part = &mut parts[place];
     match coalesce(part, name, hash, at, replace_if, make) {
@@ -182,14 +212,19 @@ pub fn compute_at<
     at: At,
     decide: D,
 ) -> Result<Result<Computed<V>, E>, CacheError>
-    requires there { IsOpenAt (ways_by R.Rules K.eq K.hash_input S.BuildHasher S.Hasher.Hasher) place (Q.named_key name) hash parts.old.items }
+    requires there { IsOpenAt (ways_by R.Rules K.eq K.hash_input S.BuildHasher S.Hasher.Hasher)
+        place (Q.named_key name) hash parts.old.items }
     requires becomes { Q.can_become name }
     requires exact_key { (x y : K) → K.is_clone x y → y ≡ x }
     requires exact { (x y : V) → V.is_clone x y → y ≡ x }
     requires decides { D.IsAlwaysCallable decide }
-    ensures computes { IfOk result (ComputesAt (ways_by R.Rules K.eq K.hash_input S.BuildHasher S.Hasher.Hasher) place (Q.named_key name) hash at (D.post decide) parts.old.items parts.new.items) }
+    ensures computes { IfOk result
+        (ComputesAt (ways_by R.Rules K.eq K.hash_input S.BuildHasher S.Hasher.Hasher) place
+        (Q.named_key name) hash at (D.post decide) parts.old.items parts.new.items) }
     ensures err { OnErr result (parts.new.items ≡ parts.old.items) }
-    ensures cause { IfErr result (IsCauseOf (ways_by R.Rules K.eq K.hash_input S.BuildHasher S.Hasher.Hasher) removal_rooms (slice_get parts.old.items place)) }
+    ensures cause { IfErr result
+        (IsCauseOf (ways_by R.Rules K.eq K.hash_input S.BuildHasher S.Hasher.Hasher) removal_rooms
+        (slice_get parts.old.items place)) }
 {
     let part = &mut parts[place];
     match compute(part, name, hash, at, decide) {
@@ -214,11 +249,16 @@ pub fn look_at<
     now: Instant,
     replace_if: P,
 ) -> Result<(bool, Option<V>), AllocError>
-    requires there { IsOpenAt (ways_by R.Rules K.eq K.hash_input S.BuildHasher S.Hasher.Hasher) place (Q.named_key key.now) hash parts.now }
+    requires there { IsOpenAt (ways_by R.Rules K.eq K.hash_input S.BuildHasher S.Hasher.Hasher)
+        place (Q.named_key key.now) hash parts.now }
     requires exact { (x y : V) → V.is_clone x y → y ≡ x }
     requires callable { P.IsAlwaysCallable replace_if }
-    ensures asked { IfOk result (IsAskedFirst (ways_by R.Rules K.eq K.hash_input S.BuildHasher S.Hasher.Hasher) (slice_get parts.now place) now (Q.named_key key.now) (FnOnceReturnsAt P.FnOnce replace_if)) }
-    ensures found { IfOk result (λ a. a.1 ≡ seen_of (ways_by R.Rules K.eq K.hash_input S.BuildHasher S.Hasher.Hasher) (slice_get parts.now place) now (Q.named_key key.now) a.0) }
+    ensures asked { IfOk result
+        (IsAskedFirst (ways_by R.Rules K.eq K.hash_input S.BuildHasher S.Hasher.Hasher) (slice_get
+        parts.now place) now (Q.named_key key.now) (FnOnceReturnsAt P.FnOnce replace_if)) }
+    ensures found { IfOk result
+        (λ a. a.1 ≡ seen_of (ways_by R.Rules K.eq K.hash_input S.BuildHasher S.Hasher.Hasher)
+        (slice_get parts.now place) now (Q.named_key key.now) a.0) }
 {
     let looked = look(&parts[place], key, hash, now, replace_if)?;
     Ok(looked)
@@ -233,8 +273,11 @@ pub fn note_at<K: Eq + Hash + Drop, V: Drop, S: BuildHasher, R: Rules<K, V>, Q: 
     now: Instant,
     ignored: bool,
 )
-    requires there { IsOpenAt (ways_by R.Rules K.eq K.hash_input S.BuildHasher S.Hasher.Hasher) place (Q.named_key key.now) hash parts.old.items }
-    ensures { CallsAt place (NotesLookUp (answers_of R.weight_of R.created R.read R.updated R.covers) K.eq (Q.named_key key.now) hash now ignored) parts.old.items parts.new.items }
+    requires there { IsOpenAt (ways_by R.Rules K.eq K.hash_input S.BuildHasher S.Hasher.Hasher)
+        place (Q.named_key key.now) hash parts.old.items }
+    ensures { CallsAt place
+        (NotesLookUp (answers_of R.weight_of R.created R.read R.updated R.covers) K.eq
+        (Q.named_key key.now) hash now ignored) parts.old.items parts.new.items }
 {
     let part = &mut parts[place];
     part.note_look_up(key, hash, now, ignored);
@@ -260,10 +303,15 @@ pub fn look_up_at<
     output: &mut O,
     see: F,
 ) -> Result<T, E>
-    requires there { IsOpenAt (ways_by R.Rules K.eq K.hash_input S.BuildHasher S.Hasher.Hasher) place (Q.named_key key.now) hash parts.old.items }
+    requires there { IsOpenAt (ways_by R.Rules K.eq K.hash_input S.BuildHasher S.Hasher.Hasher)
+        place (Q.named_key key.now) hash parts.old.items }
     requires callable { F.IsAlwaysCallable see }
-    ensures shown { IsShown F.FnOnce see (visible_of (ways_by R.Rules K.eq K.hash_input S.BuildHasher S.Hasher.Hasher) (slice_get parts.old.items place) now (Q.named_key key.now)) output.old result output.new }
-    ensures used { OnOk result (CallsAt place (NotesLookUp (answers_of R.weight_of R.created R.read R.updated R.covers) K.eq (Q.named_key key.now) hash now false) parts.old.items parts.new.items) }
+    ensures shown { IsShown F.FnOnce see
+        (visible_of (ways_by R.Rules K.eq K.hash_input S.BuildHasher S.Hasher.Hasher)
+        (slice_get parts.old.items place) now (Q.named_key key.now)) output.old result output.new }
+    ensures used { OnOk result
+        (CallsAt place (NotesLookUp (answers_of R.weight_of R.created R.read R.updated R.covers)
+        K.eq (Q.named_key key.now) hash now false) parts.old.items parts.new.items) }
     ensures err { OnErr result (parts.new.items ≡ parts.old.items) }
 {
     let part = &mut parts[place];
@@ -282,11 +330,16 @@ pub fn insert_or_back_at<K: Eq + Hash + Drop, V: Drop, S: BuildHasher, R: Rules<
     value: V,
     at: At,
 ) -> Result<(), (CacheError, V)>
-    requires there { IsOpenAt (ways_by R.Rules K.eq K.hash_input S.BuildHasher S.Hasher.Hasher) place key hash parts.old.items }
-    ensures inserts { OnOk result (CallsAt place (Inserts (answers_of R.weight_of R.created R.read R.updated R.covers) K.eq key hash value at.now at.step) parts.old.items parts.new.items) }
+    requires there { IsOpenAt (ways_by R.Rules K.eq K.hash_input S.BuildHasher S.Hasher.Hasher)
+        place key hash parts.old.items }
+    ensures inserts { OnOk result
+        (CallsAt place (Inserts (answers_of R.weight_of R.created R.read R.updated R.covers) K.eq
+        key hash value at.now at.step) parts.old.items parts.new.items) }
     ensures err { OnErr result (parts.new.items ≡ parts.old.items) }
     ensures back { IfErr result (λ refused. refused.1 ≡ value) }
-    ensures cause { IfErr result (λ refused. IsCauseOf (ways_by R.Rules K.eq K.hash_input S.BuildHasher S.Hasher.Hasher) (λ _. 1) (slice_get parts.old.items place) refused.0) }
+    ensures cause { IfErr result
+        (λ refused. IsCauseOf (ways_by R.Rules K.eq K.hash_input S.BuildHasher S.Hasher.Hasher)
+        (λ _. 1) (slice_get parts.old.items place) refused.0) }
 {
     let part = &mut parts[place];
     match insert_or_back(part, key, hash, value, at) {

@@ -16,8 +16,11 @@ pub fn peek_at<'a, K: Eq + Hash, V, S: BuildHasher, R: Rules<K, V>, Q: Names<K>>
     hash: u64,
     now: Instant,
 ) -> Option<&'a V>
-    requires there { IsOpenAt (ways_by R.Rules K.eq K.hash_input S.BuildHasher S.Hasher.Hasher) place (Q.named_key key.now) hash parts.now }
-    ensures { option_map (λ value. value.now) result ≡ visible_of (ways_by R.Rules K.eq K.hash_input S.BuildHasher S.Hasher.Hasher) (slice_get parts.now place) now (Q.named_key key.now) }
+    requires there { IsOpenAt (ways_by R.Rules K.eq K.hash_input S.BuildHasher S.Hasher.Hasher)
+        place (Q.named_key key.now) hash parts.now }
+    ensures { option_map (λ value. value.now) result
+        ≡ visible_of (ways_by R.Rules K.eq K.hash_input S.BuildHasher S.Hasher.Hasher)
+        (slice_get parts.now place) now (Q.named_key key.now) }
 {
     parts[place].peek(key, hash, now)
 }
@@ -31,8 +34,10 @@ pub fn scan_at<K: Eq + Hash, V: Clone, S: BuildHasher, R: Rules<K, V>, Q: Names<
     now: Instant,
 ) -> Result<Option<V>, AllocError>
     requires exact { (x y : V) → V.is_clone x y → y ≡ x }
-    requires there { IsOpenAt (ways_by R.Rules K.eq K.hash_input S.BuildHasher S.Hasher.Hasher) place (Q.named_key key.now) hash parts.now }
-    ensures { IfOk result (λ found. found ≡ visible_of (ways_by R.Rules K.eq K.hash_input S.BuildHasher S.Hasher.Hasher) (slice_get parts.now place) now (Q.named_key key.now)) }
+    requires there { IsOpenAt (ways_by R.Rules K.eq K.hash_input S.BuildHasher S.Hasher.Hasher)
+        place (Q.named_key key.now) hash parts.now }
+    ensures { IfOk result (λ found. found ≡ visible_of (ways_by R.Rules K.eq K.hash_input
+        S.BuildHasher S.Hasher.Hasher) (slice_get parts.now place) now (Q.named_key key.now)) }
 {
     parts[place].get_with_hash_without_recording(key, hash, now)
 }
@@ -45,7 +50,8 @@ pub fn held_key_at<K: Eq + Hash + Clone + Drop, V, S: BuildHasher, R: Rules<K, V
     hash: u64,
 ) -> Result<Option<K>, AllocError>
     requires exact_key { (x y : K) → K.is_clone x y → y ≡ x }
-    requires there { IsOpenAt (ways_by R.Rules K.eq K.hash_input S.BuildHasher S.Hasher.Hasher) place (Q.named_key key.now) hash parts.now }
+    requires there { IsOpenAt (ways_by R.Rules K.eq K.hash_input S.BuildHasher S.Hasher.Hasher)
+        place (Q.named_key key.now) hash parts.now }
     ensures { IfOk result (λ found. IfSome found (λ held. K.eq (Q.named_key key.now) held ≡ true)) }
 {
     parts[place].get_key_with_hash(key, hash)
@@ -57,7 +63,8 @@ pub fn keys_at<K: Eq + Hash + Clone + Drop, V, S: BuildHasher, R: Rules<K, V>>(
     place: usize,
 ) -> Result<Option<Vec<K>>, AllocError>
     requires exact_key { (x y : K) → K.is_clone x y → y ≡ x }
-    ensures { IfOk result (λ keys. MatchOption keys (length parts.now ≤ place) (λ found. found.items ≡ keys_of (slice_get parts.now place))) }
+    ensures { IfOk result (λ keys. MatchOption keys (length parts.now ≤ place)
+        (λ found. found.items ≡ keys_of (slice_get parts.now place))) }
 {
     if place >= parts.len() {
         return Ok(None);

@@ -66,7 +66,8 @@ impl<K> Turns<K> {
     where
         K: PartialEq,
         requires { All (λ t. K.eq (Q.named_key key.now) t.key ≡ true → t.hash ≡ hash) self.now }
-        ensures { result ≡ option_map (λ t. t.number) (turn_of K.eq self.now kind (Q.named_key key.now)) }
+        ensures { result
+            ≡ option_map (λ t. t.number) (turn_of K.eq self.now kind (Q.named_key key.now)) }
     {
         for pair in self.hashes.range((hash, 0)..) {
             let (other, number) = *pair;
@@ -126,7 +127,8 @@ pub fn make_turn<K: PartialEq, Q: IntoKey<K>>(
     hash: u64,
 ) -> Result<OpenTurn<K>, CacheError>
     requires { Q.can_become name }
-    ensures made { IfOk result (λ t. t ≡ record { number = next_turn; kind = kind; key = Q.named_key name; hash = hash }) }
+    ensures made { IfOk result
+        (λ t. t ≡ record { number = next_turn; kind = kind; key = Q.named_key name; hash = hash }) }
     ensures fits { OnOk result (next_turn + 1 < 2 ^ 64) }
     ensures cause { IfErr result (IsTurnCause next_turn) }
 {

@@ -17,8 +17,10 @@ pub fn run_all<K: Eq + Hash + Drop, V: Drop, S: BuildHasher, R: Rules<K, V>>(
     parts: &mut Vec<BaseCache<K, V, S, R>>,
     now: Instant,
 )
-    requires { (place : ℕ) (s : State K V R.Predicate S R) → slice_get parts.old.items place ≡ Some s → s.unsent ≡ [] }
-    ensures { CallsEach (RunsPart (answers_of R.weight_of R.created R.read R.updated R.covers) now) parts.old.items parts.new.items }
+    requires { (place : ℕ) (s : State K V R.Predicate S R)
+        → slice_get parts.old.items place ≡ Some s → s.unsent ≡ [] }
+    ensures { CallsEach (RunsPart (answers_of R.weight_of R.created R.read R.updated R.covers) now)
+        parts.old.items parts.new.items }
 {
     let count = parts.len();
     for place in 0..count {
@@ -92,7 +94,8 @@ pub fn count_visible<K: Eq + Hash, V, S: BuildHasher, R: Rules<K, V>>(
     parts: &[BaseCache<K, V, S, R>],
     now: Instant,
 ) -> usize
-    ensures { result ≡ visible_number (answers_of R.weight_of R.created R.read R.updated R.covers) K.eq now parts.now }
+    ensures { result ≡ visible_number (answers_of R.weight_of R.created R.read R.updated R.covers)
+        K.eq now parts.now }
 {
     let mut total = 0usize;
     let mut rest = parts;

@@ -22,9 +22,11 @@ fn draw_all<K: Eq + Hash, V, S: BuildHasher, R: Rules<K, V>, G: Rng>(
 ) -> Result<(), CacheError>
     requires empty { ids.old.items ≡ [] }
     requires room { vec_len ids.old + length parts.now ≤ vec_capacity ids.old }
-    ensures draws { OnOk result (DrawAll parts.now (G.stream generator.old) (G.stream generator.new) ids.new.items) }
+    ensures draws { OnOk result
+        (DrawAll parts.now (G.stream generator.old) (G.stream generator.new) ids.new.items) }
     ensures err { IfErr result (λ e. e ≡ errors.IdsInUse) }
-    ensures in_use { OnErr result (DrawsInVain parts.now (G.stream generator.old) (G.stream generator.new)) }
+    ensures in_use { OnErr result
+        (DrawsInVain parts.now (G.stream generator.old) (G.stream generator.new)) }
 {
     let mut rest = parts;
     while let Some((part, others)) = rest.split_first() {
@@ -47,7 +49,8 @@ fn commit_all<K: Eq + Hash, V, S: BuildHasher, R: Rules<K, V>>(
     requires ids { length parts.old.items ≤ length ids.now }
     requires predicates { length predicates.items ≡ length parts.old.items }
     requires room { HaveRoom parts.old.items }
-    ensures { (p : R.Predicate) → AreAll p predicates.items → parts.new.items ≡ changed_first (commits p step ids.now) (length parts.old.items) parts.old.items }
+    ensures { (p : R.Predicate) → AreAll p predicates.items → parts.new.items
+        ≡ changed_first (commits p step ids.now) (length parts.old.items) parts.old.items }
 {
     let count = parts.len();
     for place in 0..count {
@@ -73,9 +76,12 @@ pub fn cover_all<K: Eq + Hash, V, S: BuildHasher, R: Rules<K, V>, G: Rng>(
     requires takes { TakeAll parts.old.items }
     requires some { 0 < length parts.old.items }
     requires predicates { length predicates.items ≡ length parts.old.items }
-    ensures covers { IfOk result (λ first. (p : R.Predicate) → AreAll p predicates.items → CoversEach p step (G.stream generator.old) (G.stream generator.new) first parts.old.items parts.new.items) }
+    ensures covers { IfOk result
+        (λ first. (p : R.Predicate) → AreAll p predicates.items → CoversEach p step
+        (G.stream generator.old) (G.stream generator.new) first parts.old.items parts.new.items) }
     ensures err { OnErr result (parts.new.items ≡ parts.old.items) }
-    ensures cause { IfErr result (IsCoverCause parts.old.items (G.stream generator.old) (G.stream generator.new)) }
+    ensures cause { IfErr result
+        (IsCoverCause parts.old.items (G.stream generator.old) (G.stream generator.new)) }
     ensures undrawn { IfErr result (λ e. e ≢ errors.IdsInUse → generator.new ≡ generator.old) }
 {
     let count = parts.len();

@@ -17,7 +17,8 @@ pub(crate) fn release_first<K: Eq + Hash, V, S: BuildHasher, R: Rules<K, V>>(
     count: usize,
 )
     requires within { count ≤ length parts.old.items }
-    requires room { (place : ℕ) (s : State K V R.Predicate S R) → place < count → slice_get parts.old.items place ≡ Some s → 0 < s.reserved }
+    requires room { (place : ℕ) (s : State K V R.Predicate S R) → place < count
+        → slice_get parts.old.items place ≡ Some s → 0 < s.reserved }
     ensures { parts.new.items ≡ changed_first (λ _. without_room) count parts.old.items }
 {
     for place in 0..count {
@@ -47,7 +48,8 @@ pub(crate) fn reserve_all<K: Eq + Hash, V, S: BuildHasher, R: Rules<K, V>>(
     parts: &mut Vec<BaseCache<K, V, S, R>>,
 ) -> Result<(), CacheError>
     requires { TakeAll parts.old.items }
-    ensures ok { OnOk result (parts.new.items ≡ changed_first (λ _. with_room) (length parts.old.items) parts.old.items) }
+    ensures ok { OnOk result (parts.new.items
+        ≡ changed_first (λ _. with_room) (length parts.old.items) parts.old.items) }
     ensures err { OnErr result (parts.new.items ≡ parts.old.items) }
     ensures cause { IfErr result (IsRoomCause parts.old.items) }
 {

@@ -30,13 +30,17 @@ impl<K: Eq + Hash + Drop, V: Clone + Drop, S: BuildHasher, R: Rules<K, V>, C> Ac
 
     ghost sees = { SeesIn (ways_by R.Rules K.eq K.hash_input S.BuildHasher S.Hasher.Hasher) };
 
-    ghost coalesced = { CoalescedIn (ways_by R.Rules K.eq K.hash_input S.BuildHasher S.Hasher.Hasher) };
+    ghost coalesced = { CoalescedIn
+        (ways_by R.Rules K.eq K.hash_input S.BuildHasher S.Hasher.Hasher) };
 
-    ghost computed = { ComputedIn (ways_by R.Rules K.eq K.hash_input S.BuildHasher S.Hasher.Hasher) };
+    ghost computed = { ComputedIn
+        (ways_by R.Rules K.eq K.hash_input S.BuildHasher S.Hasher.Hasher) };
 
-    ghost refuses_coalesced = { λ cache _. IsCauseIn (ways_by R.Rules K.eq K.hash_input S.BuildHasher S.Hasher.Hasher) (λ _. 1) cache };
+    ghost refuses_coalesced = { λ cache _. IsCauseIn
+        (ways_by R.Rules K.eq K.hash_input S.BuildHasher S.Hasher.Hasher) (λ _. 1) cache };
 
-    ghost refuses_computed = { IsCauseIn (ways_by R.Rules K.eq K.hash_input S.BuildHasher S.Hasher.Hasher) removal_rooms };
+    ghost refuses_computed = { IsCauseIn
+        (ways_by R.Rules K.eq K.hash_input S.BuildHasher S.Hasher.Hasher) removal_rooms };
 
     fn coalesce<
         P: FnOnce(&V) -> bool + Drop,
@@ -53,10 +57,14 @@ impl<K: Eq + Hash + Drop, V: Clone + Drop, S: BuildHasher, R: Rules<K, V>, C> Ac
         requires free { MayCall K.eq self.old when kind key }
         requires callable { P.IsAlwaysCallable replace_if × M.IsAlwaysCallable make }
         requires suitable { (made : Made V R.Fault) → M.post make (Ok made) → Suits kind made }
-        ensures gives { IfOk result (GivesIn (ways_by R.Rules K.eq K.hash_input S.BuildHasher S.Hasher.Hasher) kind when key (FnOnceReturnsAt P.FnOnce replace_if) (M.post make) self.old self.new) }
+        ensures gives { IfOk result
+            (GivesIn (ways_by R.Rules K.eq K.hash_input S.BuildHasher S.Hasher.Hasher) kind when key
+            (FnOnceReturnsAt P.FnOnce replace_if) (M.post make) self.old self.new) }
         ensures suits { IfOk result (λ a. Suits kind a.0) }
         ensures err { OnErr result (self.new ≡ self.old) }
-        ensures cause { IfErr result (IsCauseIn (ways_by R.Rules K.eq K.hash_input S.BuildHasher S.Hasher.Hasher) (λ _. 1) self.old key) }
+        ensures cause { IfErr result
+            (IsCauseIn (ways_by R.Rules K.eq K.hash_input S.BuildHasher S.Hasher.Hasher) (λ _. 1)
+            self.old key) }
     {
         let hash = self.hash(&*key);
         LentState::coalesce(self, key, hash, when, replace_if, make)
@@ -71,9 +79,13 @@ impl<K: Eq + Hash + Drop, V: Clone + Drop, S: BuildHasher, R: Rules<K, V>, C> Ac
         requires exact { (x y : V) → V.is_clone x y → y ≡ x }
         requires free { MayCall K.eq self.old when (Some turns.Compute) key }
         requires callable { D.IsAlwaysCallable decide }
-        ensures decides { IfOk result (DecidesIn (ways_by R.Rules K.eq K.hash_input S.BuildHasher S.Hasher.Hasher) when key (D.post decide) self.old self.new) }
+        ensures decides { IfOk result
+            (DecidesIn (ways_by R.Rules K.eq K.hash_input S.BuildHasher S.Hasher.Hasher) when key
+            (D.post decide) self.old self.new) }
         ensures err { OnErr result (self.new ≡ self.old) }
-        ensures cause { IfErr result (IsCauseIn (ways_by R.Rules K.eq K.hash_input S.BuildHasher S.Hasher.Hasher) removal_rooms self.old key) }
+        ensures cause { IfErr result
+            (IsCauseIn (ways_by R.Rules K.eq K.hash_input S.BuildHasher S.Hasher.Hasher)
+            removal_rooms self.old key) }
     {
         let hash = self.hash(&*key);
         LentState::compute(self, key, hash, when, decide)

@@ -35,14 +35,20 @@ impl<K: Eq + Hash + Drop, V: Clone + Drop, S: BuildHasher, R: Rules<K, V>, C> Le
         make: M,
         at: At,
     ) -> Result<V, CacheError>
-        requires hashed { hash ≡ hash_in (ways_by R.Rules K.eq K.hash_input S.BuildHasher S.Hasher.Hasher) self.old (Q.named_key name) }
+        requires hashed { hash
+            ≡ hash_in (ways_by R.Rules K.eq K.hash_input S.BuildHasher S.Hasher.Hasher) self.old
+            (Q.named_key name) }
         requires becomes { Q.can_become name }
         requires exact { (x y : V) → V.is_clone x y → y ≡ x }
         requires callable { P.IsAlwaysCallable replace_if × M.IsAlwaysCallable make }
         requires follows { ComesAfter at.now at.step self.old }
-        ensures value { IfOk result (GetsIn (ways_by R.Rules K.eq K.hash_input S.BuildHasher S.Hasher.Hasher) (Q.named_key name) at (FnOnceReturnsAt P.FnOnce replace_if) (M.post make) self.old self.new) }
+        ensures value { IfOk result (GetsIn
+            (ways_by R.Rules K.eq K.hash_input S.BuildHasher S.Hasher.Hasher) (Q.named_key name) at
+            (FnOnceReturnsAt P.FnOnce replace_if) (M.post make) self.old self.new) }
         ensures err { OnErr result (self.new ≡ self.old) }
-        ensures cause { IfErr result (IsCauseIn (ways_by R.Rules K.eq K.hash_input S.BuildHasher S.Hasher.Hasher) (λ _. 1) self.old (Q.named_key name)) }
+        ensures cause { IfErr result
+            (IsCauseIn (ways_by R.Rules K.eq K.hash_input S.BuildHasher S.Hasher.Hasher) (λ _. 1)
+            self.old (Q.named_key name)) }
     {
         let (made, _is_fresh) = self.coalesce(
             name,
@@ -62,14 +68,20 @@ impl<K: Eq + Hash + Drop, V: Clone + Drop, S: BuildHasher, R: Rules<K, V>, C> Le
         make: M,
         at: At,
     ) -> Result<Option<V>, CacheError>
-        requires hashed { hash ≡ hash_in (ways_by R.Rules K.eq K.hash_input S.BuildHasher S.Hasher.Hasher) self.old (Q.named_key name) }
+        requires hashed { hash
+            ≡ hash_in (ways_by R.Rules K.eq K.hash_input S.BuildHasher S.Hasher.Hasher) self.old
+            (Q.named_key name) }
         requires becomes { Q.can_become name }
         requires exact { (x y : V) → V.is_clone x y → y ≡ x }
         requires callable { M.IsAlwaysCallable make }
         requires follows { ComesAfter at.now at.step self.old }
-        ensures value { IfOk result (GetsOptionIn (ways_by R.Rules K.eq K.hash_input S.BuildHasher S.Hasher.Hasher) (Q.named_key name) at (M.post make) self.old self.new) }
+        ensures value { IfOk result
+            (GetsOptionIn (ways_by R.Rules K.eq K.hash_input S.BuildHasher S.Hasher.Hasher)
+            (Q.named_key name) at (M.post make) self.old self.new) }
         ensures err { OnErr result (self.new ≡ self.old) }
-        ensures cause { IfErr result (IsCauseIn (ways_by R.Rules K.eq K.hash_input S.BuildHasher S.Hasher.Hasher) (λ _. 1) self.old (Q.named_key name)) }
+        ensures cause { IfErr result
+            (IsCauseIn (ways_by R.Rules K.eq K.hash_input S.BuildHasher S.Hasher.Hasher) (λ _. 1)
+            self.old (Q.named_key name)) }
     {
         let (made, _is_fresh) = self.coalesce(
             name,
@@ -89,14 +101,20 @@ impl<K: Eq + Hash + Drop, V: Clone + Drop, S: BuildHasher, R: Rules<K, V>, C> Le
         make: M,
         at: At,
     ) -> Result<Result<V, Arc<F>>, CacheError>
-        requires hashed { hash ≡ hash_in (ways_by R.Rules K.eq K.hash_input S.BuildHasher S.Hasher.Hasher) self.old (Q.named_key name) }
+        requires hashed { hash
+            ≡ hash_in (ways_by R.Rules K.eq K.hash_input S.BuildHasher S.Hasher.Hasher) self.old
+            (Q.named_key name) }
         requires becomes { Q.can_become name }
         requires exact { (x y : V) → V.is_clone x y → y ≡ x }
         requires callable { M.IsAlwaysCallable make }
         requires follows { ComesAfter at.now at.step self.old }
-        ensures value { IfOk result (λ r. GetsResultIn (ways_by R.Rules K.eq K.hash_input S.BuildHasher S.Hasher.Hasher) (Q.named_key name) at (M.post make) self.old self.new (with_fault arc_value r)) }
+        ensures value { IfOk result
+            (λ r. GetsResultIn (ways_by R.Rules K.eq K.hash_input S.BuildHasher S.Hasher.Hasher)
+            (Q.named_key name) at (M.post make) self.old self.new (with_fault arc_value r)) }
         ensures err { OnErr result (self.new ≡ self.old) }
-        ensures cause { IfErr result (IsCauseIn (ways_by R.Rules K.eq K.hash_input S.BuildHasher S.Hasher.Hasher) (λ _. 1) self.old (Q.named_key name)) }
+        ensures cause { IfErr result
+            (IsCauseIn (ways_by R.Rules K.eq K.hash_input S.BuildHasher S.Hasher.Hasher) (λ _. 1)
+            self.old (Q.named_key name)) }
     {
         let alloc = self.alloc;
         let (made, _is_fresh) = self.coalesce(
@@ -124,9 +142,13 @@ impl<K: Eq + Hash + Drop, V: Clone + Drop, S: BuildHasher, R: Rules<K, V>, C> Le
         requires exact { (x y : V) → V.is_clone x y → y ≡ x }
         requires callable { M.IsAlwaysCallable make }
         requires free { MayCall K.eq self.old at (Some turns.With) key }
-        ensures value { IfOk result (GetsIn (ways_by R.Rules K.eq K.hash_input S.BuildHasher S.Hasher.Hasher) key at passes_none (M.post make) self.old self.new) }
+        ensures value { IfOk result
+            (GetsIn (ways_by R.Rules K.eq K.hash_input S.BuildHasher S.Hasher.Hasher) key at
+            passes_none (M.post make) self.old self.new) }
         ensures err { OnErr result (self.new ≡ self.old) }
-        ensures cause { IfErr result (IsCauseIn (ways_by R.Rules K.eq K.hash_input S.BuildHasher S.Hasher.Hasher) (λ _. 1) self.old key) }
+        ensures cause { IfErr result
+            (IsCauseIn (ways_by R.Rules K.eq K.hash_input S.BuildHasher S.Hasher.Hasher) (λ _. 1)
+            self.old key) }
     {
         let hash = self.hash(&key);
         let name = OwnedKey {
@@ -160,9 +182,13 @@ impl<K: Eq + Hash + Drop, V: Clone + Drop, S: BuildHasher, R: Rules<K, V>, C> Le
         requires exact { (x y : V) → V.is_clone x y → y ≡ x }
         requires callable { M.IsAlwaysCallable make }
         requires free { MayCall K.eq self.old at (Some turns.With) key.now }
-        ensures value { IfOk result (GetsIn (ways_by R.Rules K.eq K.hash_input S.BuildHasher S.Hasher.Hasher) key.now at passes_none (M.post make) self.old self.new) }
+        ensures value { IfOk result
+            (GetsIn (ways_by R.Rules K.eq K.hash_input S.BuildHasher S.Hasher.Hasher) key.now at
+            passes_none (M.post make) self.old self.new) }
         ensures err { OnErr result (self.new ≡ self.old) }
-        ensures cause { IfErr result (IsCauseIn (ways_by R.Rules K.eq K.hash_input S.BuildHasher S.Hasher.Hasher) (λ _. 1) self.old key.now) }
+        ensures cause { IfErr result
+            (IsCauseIn (ways_by R.Rules K.eq K.hash_input S.BuildHasher S.Hasher.Hasher) (λ _. 1)
+            self.old key.now) }
     {
         let hash = self.hash(key);
         let name = ClonedKey {
@@ -195,9 +221,13 @@ impl<K: Eq + Hash + Drop, V: Clone + Drop, S: BuildHasher, R: Rules<K, V>, C> Le
         requires exact { (x y : V) → V.is_clone x y → y ≡ x }
         requires callable { P.IsAlwaysCallable replace_if × M.IsAlwaysCallable make }
         requires free { MayCall K.eq self.old at (Some turns.With) key }
-        ensures value { IfOk result (GetsIn (ways_by R.Rules K.eq K.hash_input S.BuildHasher S.Hasher.Hasher) key at (FnOnceReturnsAt P.FnOnce replace_if) (M.post make) self.old self.new) }
+        ensures value { IfOk result
+            (GetsIn (ways_by R.Rules K.eq K.hash_input S.BuildHasher S.Hasher.Hasher) key at
+            (FnOnceReturnsAt P.FnOnce replace_if) (M.post make) self.old self.new) }
         ensures err { OnErr result (self.new ≡ self.old) }
-        ensures cause { IfErr result (IsCauseIn (ways_by R.Rules K.eq K.hash_input S.BuildHasher S.Hasher.Hasher) (λ _. 1) self.old key) }
+        ensures cause { IfErr result
+            (IsCauseIn (ways_by R.Rules K.eq K.hash_input S.BuildHasher S.Hasher.Hasher) (λ _. 1)
+            self.old key) }
     {
         let hash = self.hash(&key);
         let name = OwnedKey {
@@ -222,9 +252,13 @@ impl<K: Eq + Hash + Drop, V: Clone + Drop, S: BuildHasher, R: Rules<K, V>, C> Le
         requires exact { (x y : V) → V.is_clone x y → y ≡ x }
         requires callable { M.IsAlwaysCallable make }
         requires free { MayCall K.eq self.old at (Some turns.Optionally) key }
-        ensures value { IfOk result (GetsOptionIn (ways_by R.Rules K.eq K.hash_input S.BuildHasher S.Hasher.Hasher) key at (M.post make) self.old self.new) }
+        ensures value { IfOk result
+            (GetsOptionIn (ways_by R.Rules K.eq K.hash_input S.BuildHasher S.Hasher.Hasher) key at
+            (M.post make) self.old self.new) }
         ensures err { OnErr result (self.new ≡ self.old) }
-        ensures cause { IfErr result (IsCauseIn (ways_by R.Rules K.eq K.hash_input S.BuildHasher S.Hasher.Hasher) (λ _. 1) self.old key) }
+        ensures cause { IfErr result
+            (IsCauseIn (ways_by R.Rules K.eq K.hash_input S.BuildHasher S.Hasher.Hasher) (λ _. 1)
+            self.old key) }
     {
         let hash = self.hash(&key);
         let name = OwnedKey {
@@ -250,9 +284,13 @@ impl<K: Eq + Hash + Drop, V: Clone + Drop, S: BuildHasher, R: Rules<K, V>, C> Le
         requires exact { (x y : V) → V.is_clone x y → y ≡ x }
         requires callable { M.IsAlwaysCallable make }
         requires free { MayCall K.eq self.old at (Some turns.Optionally) key.now }
-        ensures value { IfOk result (GetsOptionIn (ways_by R.Rules K.eq K.hash_input S.BuildHasher S.Hasher.Hasher) key.now at (M.post make) self.old self.new) }
+        ensures value { IfOk result
+            (GetsOptionIn (ways_by R.Rules K.eq K.hash_input S.BuildHasher S.Hasher.Hasher) key.now
+            at (M.post make) self.old self.new) }
         ensures err { OnErr result (self.new ≡ self.old) }
-        ensures cause { IfErr result (IsCauseIn (ways_by R.Rules K.eq K.hash_input S.BuildHasher S.Hasher.Hasher) (λ _. 1) self.old key.now) }
+        ensures cause { IfErr result
+            (IsCauseIn (ways_by R.Rules K.eq K.hash_input S.BuildHasher S.Hasher.Hasher) (λ _. 1)
+            self.old key.now) }
     {
         let hash = self.hash(key);
         let name = ClonedKey {
@@ -280,9 +318,13 @@ impl<K: Eq + Hash + Drop, V: Clone + Drop, S: BuildHasher, R: Rules<K, V>, C> Le
         requires exact { (x y : V) → V.is_clone x y → y ≡ x }
         requires callable { M.IsAlwaysCallable make }
         requires free { MayCall K.eq self.old at (Some turns.Try) key }
-        ensures value { IfOk result (λ r. GetsResultIn (ways_by R.Rules K.eq K.hash_input S.BuildHasher S.Hasher.Hasher) key at (M.post make) self.old self.new (with_fault arc_value r)) }
+        ensures value { IfOk result
+            (λ r. GetsResultIn (ways_by R.Rules K.eq K.hash_input S.BuildHasher S.Hasher.Hasher) key
+            at (M.post make) self.old self.new (with_fault arc_value r)) }
         ensures err { OnErr result (self.new ≡ self.old) }
-        ensures cause { IfErr result (IsCauseIn (ways_by R.Rules K.eq K.hash_input S.BuildHasher S.Hasher.Hasher) (λ _. 1) self.old key) }
+        ensures cause { IfErr result
+            (IsCauseIn (ways_by R.Rules K.eq K.hash_input S.BuildHasher S.Hasher.Hasher) (λ _. 1)
+            self.old key) }
     {
         let hash = self.hash(&key);
         let name = OwnedKey {
@@ -308,9 +350,13 @@ impl<K: Eq + Hash + Drop, V: Clone + Drop, S: BuildHasher, R: Rules<K, V>, C> Le
         requires exact { (x y : V) → V.is_clone x y → y ≡ x }
         requires callable { M.IsAlwaysCallable make }
         requires free { MayCall K.eq self.old at (Some turns.Try) key.now }
-        ensures value { IfOk result (λ r. GetsResultIn (ways_by R.Rules K.eq K.hash_input S.BuildHasher S.Hasher.Hasher) key.now at (M.post make) self.old self.new (with_fault arc_value r)) }
+        ensures value { IfOk result
+            (λ r. GetsResultIn (ways_by R.Rules K.eq K.hash_input S.BuildHasher S.Hasher.Hasher)
+            key.now at (M.post make) self.old self.new (with_fault arc_value r)) }
         ensures err { OnErr result (self.new ≡ self.old) }
-        ensures cause { IfErr result (IsCauseIn (ways_by R.Rules K.eq K.hash_input S.BuildHasher S.Hasher.Hasher) (λ _. 1) self.old key.now) }
+        ensures cause { IfErr result
+            (IsCauseIn (ways_by R.Rules K.eq K.hash_input S.BuildHasher S.Hasher.Hasher) (λ _. 1)
+            self.old key.now) }
     {
         let hash = self.hash(key);
         let name = ClonedKey {
@@ -341,9 +387,13 @@ impl<K: Eq + Hash + Drop, V: Clone + Drop, S: BuildHasher, R: Rules<K, V>> LentS
         requires exact { (x y : V) → V.is_clone x y → y ≡ x }
         requires callable { M.IsAlwaysCallable make }
         requires free { MayCall K.eq self.old at (Some turns.With) key }
-        ensures value { IfOk result (GetsIn (ways_by R.Rules K.eq K.hash_input S.BuildHasher S.Hasher.Hasher) key at passes_none (M.post make) self.old self.new) }
+        ensures value { IfOk result
+            (GetsIn (ways_by R.Rules K.eq K.hash_input S.BuildHasher S.Hasher.Hasher) key at
+            passes_none (M.post make) self.old self.new) }
         ensures err { OnErr result (self.new ≡ self.old) }
-        ensures cause { IfErr result (IsCauseIn (ways_by R.Rules K.eq K.hash_input S.BuildHasher S.Hasher.Hasher) (λ _. 1) self.old key) }
+        ensures cause { IfErr result
+            (IsCauseIn (ways_by R.Rules K.eq K.hash_input S.BuildHasher S.Hasher.Hasher) (λ _. 1)
+            self.old key) }
     {
         self.get_with(key, make, at)
     }
@@ -361,9 +411,13 @@ impl<K: Eq + Hash + Drop, V: Clone + Drop, S: BuildHasher, R: Rules<K, V>> LentS
         requires exact { (x y : V) → V.is_clone x y → y ≡ x }
         requires callable { M.IsAlwaysCallable make }
         requires free { MayCall K.eq self.old at (Some turns.Try) key }
-        ensures value { IfOk result (λ r. GetsResultIn (ways_by R.Rules K.eq K.hash_input S.BuildHasher S.Hasher.Hasher) key at (M.post make) self.old self.new (with_fault arc_value r)) }
+        ensures value { IfOk result
+            (λ r. GetsResultIn (ways_by R.Rules K.eq K.hash_input S.BuildHasher S.Hasher.Hasher) key
+            at (M.post make) self.old self.new (with_fault arc_value r)) }
         ensures err { OnErr result (self.new ≡ self.old) }
-        ensures cause { IfErr result (IsCauseIn (ways_by R.Rules K.eq K.hash_input S.BuildHasher S.Hasher.Hasher) (λ _. 1) self.old key) }
+        ensures cause { IfErr result
+            (IsCauseIn (ways_by R.Rules K.eq K.hash_input S.BuildHasher S.Hasher.Hasher) (λ _. 1)
+            self.old key) }
     {
         self.try_get_with(key, make, at)
     }

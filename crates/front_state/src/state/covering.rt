@@ -28,7 +28,8 @@ impl<K: Eq + Hash, V, S: BuildHasher, R: Rules<K, V>, C> LentState<K, V, S, R, C
     /// let segment = cache.part(&7);
     /// ```
     pub fn part(&self, key: &K) -> usize
-        ensures part { result ≡ part_of self.now.bits (hash_in (ways_by R.Rules K.eq K.hash_input S.BuildHasher S.Hasher.Hasher) self.now key.now) }
+        ensures part { result ≡ part_of self.now.bits (hash_in
+            (ways_by R.Rules K.eq K.hash_input S.BuildHasher S.Hasher.Hasher) self.now key.now) }
         ensures within { result < length self.now.parts }
     {
         let hash = hash_key(&self.hasher, key);
@@ -52,7 +53,8 @@ impl<K: Eq + Hash, V, S: BuildHasher, R: Rules<K, V>, C> LentState<K, V, S, R, C
     /// cache.keeps();
     /// ```
     pub fn keeps(&self)
-        ensures { ∥ IsSteadyBy (ways_by R.Rules K.eq K.hash_input S.BuildHasher S.Hasher.Hasher) self.now ∥₁ }
+        ensures { ∥ IsSteadyBy (ways_by R.Rules K.eq K.hash_input S.BuildHasher S.Hasher.Hasher)
+            self.now ∥₁ }
     {
         let _step = self.step;
     }
@@ -97,9 +99,11 @@ impl<K: Eq + Hash, V, S: BuildHasher, R: Rules<K, V>, C> LentState<K, V, S, R, C
         requires follows { ComesAfter at.now at.step self.old }
         requires rises { self.old.step < at.step }
         requires takes { self.old.common.settings.takes_predicates ≡ true }
-        ensures covers { IfOk result (λ id. CoversAll predicate at (G.stream generator.old) (G.stream generator.new) id self.old self.new) }
+        ensures covers { IfOk result (λ id. CoversAll predicate at (G.stream generator.old)
+            (G.stream generator.new) id self.old self.new) }
         ensures err { OnErr result (self.new ≡ self.old) }
-        ensures cause { IfErr result (IsCauseToCover self.old (G.stream generator.old) (G.stream generator.new)) }
+        ensures cause { IfErr result
+            (IsCauseToCover self.old (G.stream generator.old) (G.stream generator.new)) }
         ensures undrawn { IfErr result (λ e. e ≢ errors.IdsInUse → generator.new ≡ generator.old) }
     {
         let At { now, step } = at;
@@ -134,11 +138,15 @@ impl<K: Eq + Hash, V, S: BuildHasher, R: Rules<K, V>> LentState<K, V, S, R, Sing
     ) -> Result<PredicateId, CacheError>
         requires follows { ComesAfter at.now at.step self.old }
         requires rises { self.old.step < at.step }
-        ensures covers { IfOk result (λ text. (id : ℕ) × (string_bytes text ≡ id_text id) × CoversAll predicate at (G.stream generator.old) (G.stream generator.new) id self.old self.new) }
+        ensures covers { IfOk result
+            (λ text. (id : ℕ) × (string_bytes text ≡ id_text id) × CoversAll predicate at
+            (G.stream generator.old) (G.stream generator.new) id self.old self.new) }
         ensures takes { OnOk result (self.old.common.settings.takes_predicates ≡ true) }
-        ensures first { self.old.common.settings.takes_predicates ≡ false → IsErrOf result errors.InvalidationClosuresDisabled }
+        ensures first { self.old.common.settings.takes_predicates ≡ false
+            → IsErrOf result errors.InvalidationClosuresDisabled }
         ensures err { OnErr result (self.new ≡ self.old) }
-        ensures cause { IfErr result (IsCauseToCover self.old (G.stream generator.old) (G.stream generator.new)) }
+        ensures cause { IfErr result
+            (IsCauseToCover self.old (G.stream generator.old) (G.stream generator.new)) }
         ensures undrawn { IfErr result (λ e. e ≢ errors.IdsInUse → generator.new ≡ generator.old) }
     {
         if !self.settings.takes_predicates {
@@ -167,11 +175,14 @@ impl<K: Eq + Hash, V, S: BuildHasher, R: Rules<K, V>> LentState<K, V, S, R, Segm
     ) -> Result<(), CacheError>
         requires follows { ComesAfter at.now at.step self.old }
         requires rises { self.old.step < at.step }
-        ensures covers { OnOk result ((id : ℕ) × CoversAll predicate at (G.stream generator.old) (G.stream generator.new) id self.old self.new) }
+        ensures covers { OnOk result ((id : ℕ) × CoversAll predicate at (G.stream generator.old)
+            (G.stream generator.new) id self.old self.new) }
         ensures takes { OnOk result (self.old.common.settings.takes_predicates ≡ true) }
-        ensures first { self.old.common.settings.takes_predicates ≡ false → IsErrOf result errors.InvalidationClosuresDisabled }
+        ensures first { self.old.common.settings.takes_predicates ≡ false
+            → IsErrOf result errors.InvalidationClosuresDisabled }
         ensures err { OnErr result (self.new ≡ self.old) }
-        ensures cause { IfErr result (IsCauseToCover self.old (G.stream generator.old) (G.stream generator.new)) }
+        ensures cause { IfErr result
+            (IsCauseToCover self.old (G.stream generator.old) (G.stream generator.new)) }
         ensures undrawn { IfErr result (λ e. e ≢ errors.IdsInUse → generator.new ≡ generator.old) }
     {
         if !self.settings.takes_predicates {
@@ -188,7 +199,8 @@ impl<K: Eq + Hash + Drop, V: Clone, S: BuildHasher, R: Rules<K, V>, C> ScanningG
 
     ghost keys_in = { keys_in };
 
-    ghost value_of = { λ f now key. visible_in (ways_by R.Rules K.eq K.hash_input S.BuildHasher S.Hasher.Hasher) f now key };
+    ghost value_of = { λ f now key.
+        visible_in (ways_by R.Rules K.eq K.hash_input S.BuildHasher S.Hasher.Hasher) f now key };
 
     ghost can_scan = { λ _. (x y : V) → V.is_clone x y → y ≡ x };
 
@@ -221,7 +233,9 @@ impl<K: Eq + Hash + Drop, V: Clone, S: BuildHasher, R: Rules<K, V>, C> LentState
     pub fn iter(&self, now: Instant) -> Iter<'_, Shared<K>, V, LentState<K, V, S, R, C>>
         ensures source { result.source ≡ self.now }
         ensures now { result.now ≡ now }
-        ensures coming { GivesVisible (ways_by R.Rules K.eq K.hash_input S.BuildHasher S.Hasher.Hasher) now self.now result.coming }
+        ensures coming { GivesVisible
+            (ways_by R.Rules K.eq K.hash_input S.BuildHasher S.Hasher.Hasher) now self.now
+            result.coming }
     {
         Iter::new(self.alloc, self, now)
     }

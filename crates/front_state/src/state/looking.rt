@@ -19,7 +19,8 @@ impl<K: Eq + Hash, V, S: BuildHasher, R: Rules<K, V>, C> LentState<K, V, S, R, C
     /// let length = cache.peek(&7, now).map(|text| text.len());
     /// ```
     pub fn peek(&self, key: &K, now: Instant) -> Option<&V>
-        ensures { option_map (λ value. value.now) result ≡ visible_in (ways_by R.Rules K.eq K.hash_input S.BuildHasher S.Hasher.Hasher) self.now now key.now }
+        ensures { option_map (λ value. value.now) result ≡ visible_in
+            (ways_by R.Rules K.eq K.hash_input S.BuildHasher S.Hasher.Hasher) self.now now key.now }
     {
         let hash = hash_key(&self.hasher, key);
         let place = place_of(self.bits, hash);
@@ -34,7 +35,8 @@ impl<K: Eq + Hash, V, S: BuildHasher, R: Rules<K, V>, C> LentState<K, V, S, R, C
     pub fn held_key(&self, key: &K, hash: u64) -> Result<Option<Shared<K>>, AllocError>
     where
         K: Drop,
-        requires hashed { hash ≡ hash_in (ways_by R.Rules K.eq K.hash_input S.BuildHasher S.Hasher.Hasher) self.now key.now }
+        requires hashed { hash ≡ hash_in
+            (ways_by R.Rules K.eq K.hash_input S.BuildHasher S.Hasher.Hasher) self.now key.now }
         ensures { IfOk result (λ found. IfSome found (λ held. K.eq key.now held ≡ true)) }
     {
         let place = place_of(self.bits, hash);
@@ -46,7 +48,8 @@ impl<K: Eq + Hash, V, S: BuildHasher, R: Rules<K, V>, C> LentState<K, V, S, R, C
     /// let number = cache.count_visible(now);
     /// ```
     pub fn count_visible(&self, now: Instant) -> usize
-        ensures { result ≡ visible_number (answers_of R.weight_of R.created R.read R.updated R.covers) K.eq now self.now.parts }
+        ensures { result ≡ visible_number
+            (answers_of R.weight_of R.created R.read R.updated R.covers) K.eq now self.now.parts }
     {
         count_visible(self.parts.as_slice(), now)
     }
@@ -72,8 +75,12 @@ impl<K: Eq + Hash, V, S: BuildHasher, R: Rules<K, V>, C> LentState<K, V, S, R, C
         V: Drop,
         requires later { self.old.moment ≤ now }
         requires callable { F.IsAlwaysCallable see }
-        ensures shown { IsShown F.FnOnce see (visible_in (ways_by R.Rules K.eq K.hash_input S.BuildHasher S.Hasher.Hasher) self.old now key.now) output.old result output.new }
-        ensures used { OnOk result (LooksUpIn (ways_by R.Rules K.eq K.hash_input S.BuildHasher S.Hasher.Hasher) key.now (record { now = now; step = self.old.step }) self.old self.new) }
+        ensures shown { IsShown F.FnOnce see (visible_in
+            (ways_by R.Rules K.eq K.hash_input S.BuildHasher S.Hasher.Hasher) self.old now key.now)
+            output.old result output.new }
+        ensures used { OnOk result
+            (LooksUpIn (ways_by R.Rules K.eq K.hash_input S.BuildHasher S.Hasher.Hasher) key.now
+            (record { now = now; step = self.old.step }) self.old self.new) }
         ensures err { OnErr result (self.new ≡ self.old) }
     {
         let hash = hash_key(&self.hasher, key);
@@ -99,11 +106,16 @@ impl<K: Eq + Hash, V, S: BuildHasher, R: Rules<K, V>, C> LentState<K, V, S, R, C
     where
         K: Drop,
         V: Drop,
-        requires hashed { hash ≡ hash_in (ways_by R.Rules K.eq K.hash_input S.BuildHasher S.Hasher.Hasher) self.old key.now }
+        requires hashed { hash ≡ hash_in
+            (ways_by R.Rules K.eq K.hash_input S.BuildHasher S.Hasher.Hasher) self.old key.now }
         requires later { self.old.moment ≤ now }
         requires callable { F.IsAlwaysCallable see }
-        ensures shown { IsShown F.FnOnce see (visible_in (ways_by R.Rules K.eq K.hash_input S.BuildHasher S.Hasher.Hasher) self.old now key.now) output.old result output.new }
-        ensures used { OnOk result (LooksUpIn (ways_by R.Rules K.eq K.hash_input S.BuildHasher S.Hasher.Hasher) key.now (record { now = now; step = self.old.step }) self.old self.new) }
+        ensures shown { IsShown F.FnOnce see (visible_in
+            (ways_by R.Rules K.eq K.hash_input S.BuildHasher S.Hasher.Hasher) self.old now key.now)
+            output.old result output.new }
+        ensures used { OnOk result
+            (LooksUpIn (ways_by R.Rules K.eq K.hash_input S.BuildHasher S.Hasher.Hasher) key.now
+            (record { now = now; step = self.old.step }) self.old self.new) }
         ensures err { OnErr result (self.new ≡ self.old) }
     {
         let place = place_of(self.bits, hash);

@@ -36,7 +36,8 @@ impl<K: Eq + Hash + Drop, V: Drop, S: BuildHasher + Drop, R: Rules<K, V> + Drop,
     ) -> Result<Self, AllocError>
         requires few { bits ≤ 16 }
         requires in_range { settings.made ≤ 18446744073709551614 }
-        ensures { IfOk result (IsMadeWith (option_map string_bytes name) bits settings hasher rules) }
+        ensures { IfOk result
+            (IsMadeWith (option_map string_bytes name) bits settings hasher rules) }
     {
         let count = 2_usize.pow(bits);
         let capacity = settings.capacity;

@@ -36,8 +36,10 @@ impl<K: Eq + Hash, V, S: BuildHasher, R: Rules<K, V>, C> LentState<K, V, S, R, C
 
     /// The number of the turn of a kind and a key.
     fn turn_number<Q: Names<Shared<K>>>(&self, kind: TurnKind, key: &Q, hash: u64) -> Option<u64>
-        requires { hash ≡ hash_in (ways_by R.Rules K.eq K.hash_input S.BuildHasher S.Hasher.Hasher) self.now (Q.named_key key.now) }
-        ensures { result ≡ option_map (λ t. t.number) (turn_of K.eq self.now.turns kind (Q.named_key key.now)) }
+        requires { hash ≡ hash_in (ways_by R.Rules K.eq K.hash_input S.BuildHasher S.Hasher.Hasher)
+            self.now (Q.named_key key.now) }
+        ensures { result
+            ≡ option_map (λ t. t.number) (turn_of K.eq self.now.turns kind (Q.named_key key.now)) }
     {
         self.turns.find(kind, key, hash)
     }
@@ -52,11 +54,18 @@ impl<K: Eq + Hash, V, S: BuildHasher, R: Rules<K, V>, C> LentState<K, V, S, R, C
     ) -> Result<(bool, Option<V>), AllocError>
     where
         V: Clone,
-        requires hashed { hash ≡ hash_in (ways_by R.Rules K.eq K.hash_input S.BuildHasher S.Hasher.Hasher) self.now (Q.named_key key.now) }
+        requires hashed { hash
+            ≡ hash_in (ways_by R.Rules K.eq K.hash_input S.BuildHasher S.Hasher.Hasher) self.now
+            (Q.named_key key.now) }
         requires exact { (x y : V) → V.is_clone x y → y ≡ x }
         requires callable { P.IsAlwaysCallable replace_if }
-        ensures asked { IfOk result (IsAskedFirst (ways_by R.Rules K.eq K.hash_input S.BuildHasher S.Hasher.Hasher) (part_by_hash self.now hash) now (Q.named_key key.now) (FnOnceReturnsAt P.FnOnce replace_if)) }
-        ensures found { IfOk result (λ a. a.1 ≡ seen_of (ways_by R.Rules K.eq K.hash_input S.BuildHasher S.Hasher.Hasher) (part_by_hash self.now hash) now (Q.named_key key.now) a.0) }
+        ensures asked { IfOk result
+            (IsAskedFirst (ways_by R.Rules K.eq K.hash_input S.BuildHasher S.Hasher.Hasher)
+            (part_by_hash self.now hash) now (Q.named_key key.now)
+            (FnOnceReturnsAt P.FnOnce replace_if)) }
+        ensures found { IfOk result
+            (λ a. a.1 ≡ seen_of (ways_by R.Rules K.eq K.hash_input S.BuildHasher S.Hasher.Hasher)
+            (part_by_hash self.now hash) now (Q.named_key key.now) a.0) }
     {
         let place = place_of(self.bits, hash);
         let looked = look_at(self.parts.as_slice(), place, key, hash, now, replace_if)?;
@@ -68,9 +77,13 @@ impl<K: Eq + Hash, V, S: BuildHasher, R: Rules<K, V>, C> LentState<K, V, S, R, C
     where
         K: Drop,
         V: Drop,
-        requires hashed { hash ≡ hash_in (ways_by R.Rules K.eq K.hash_input S.BuildHasher S.Hasher.Hasher) self.old (Q.named_key key.now) }
+        requires hashed { hash
+            ≡ hash_in (ways_by R.Rules K.eq K.hash_input S.BuildHasher S.Hasher.Hasher) self.old
+            (Q.named_key key.now) }
         requires follows { ComesAfter at.now at.step self.old }
-        ensures { CallsPart hash at.now at.step (NotesLookUp (answers_of R.weight_of R.created R.read R.updated R.covers) K.eq (Q.named_key key.now) hash at.now ignored) self.old self.new }
+        ensures { CallsPart hash at.now at.step
+            (NotesLookUp (answers_of R.weight_of R.created R.read R.updated R.covers) K.eq
+            (Q.named_key key.now) hash at.now ignored) self.old self.new }
     {
         let At { now, step } = at;
         let place = place_of(self.bits, hash);
@@ -91,11 +104,15 @@ impl<K: Eq + Hash, V, S: BuildHasher, R: Rules<K, V>, C> LentState<K, V, S, R, C
     where
         K: Drop,
         V: Drop,
-        requires hashed { hash ≡ hash_in (ways_by R.Rules K.eq K.hash_input S.BuildHasher S.Hasher.Hasher) self.old (Q.named_key name) }
+        requires hashed { hash
+            ≡ hash_in (ways_by R.Rules K.eq K.hash_input S.BuildHasher S.Hasher.Hasher) self.old
+            (Q.named_key name) }
         requires becomes { Q.can_become name }
         requires follows { ComesAfter at.now at.step self.old }
         requires free { turn_of K.eq self.old.turns kind (Q.named_key name) ≡ None }
-        ensures leads { IfOk result (Leads (ways_by R.Rules K.eq K.hash_input S.BuildHasher S.Hasher.Hasher) kind (Q.named_key name) hash at ignored self.old self.new) }
+        ensures leads { IfOk result
+            (Leads (ways_by R.Rules K.eq K.hash_input S.BuildHasher S.Hasher.Hasher) kind
+            (Q.named_key name) hash at ignored self.old self.new) }
         ensures err { OnErr result (self.new ≡ self.old) }
         ensures cause { IfErr result (IsTurnCause self.old.next_turn) }
     {
@@ -124,10 +141,14 @@ impl<K: Eq + Hash, V, S: BuildHasher, R: Rules<K, V>, C> LentState<K, V, S, R, C
     where
         K: Drop,
         V: Drop,
-        requires hashed { hash ≡ hash_in (ways_by R.Rules K.eq K.hash_input S.BuildHasher S.Hasher.Hasher) self.old (Q.named_key name) }
+        requires hashed { hash
+            ≡ hash_in (ways_by R.Rules K.eq K.hash_input S.BuildHasher S.Hasher.Hasher) self.old
+            (Q.named_key name) }
         requires becomes { Q.can_become name }
         requires follows { ComesAfter at.now at.step self.old }
-        ensures starts { IfOk result (WaitsOrLeads (ways_by R.Rules K.eq K.hash_input S.BuildHasher S.Hasher.Hasher) kind (Q.named_key name) hash at ignored self.old self.new) }
+        ensures starts { IfOk result
+            (WaitsOrLeads (ways_by R.Rules K.eq K.hash_input S.BuildHasher S.Hasher.Hasher) kind
+            (Q.named_key name) hash at ignored self.old self.new) }
         ensures err { OnErr result (self.new ≡ self.old) }
         ensures cause { IfErr result (IsTurnCause self.old.next_turn) }
     {
@@ -155,12 +176,16 @@ impl<K: Eq + Hash, V, S: BuildHasher, R: Rules<K, V>, C> LentState<K, V, S, R, C
     where
         K: Drop,
         V: Clone + Drop,
-        requires hashed { hash ≡ hash_in (ways_by R.Rules K.eq K.hash_input S.BuildHasher S.Hasher.Hasher) self.old (Q.named_key name) }
+        requires hashed { hash
+            ≡ hash_in (ways_by R.Rules K.eq K.hash_input S.BuildHasher S.Hasher.Hasher) self.old
+            (Q.named_key name) }
         requires becomes { Q.can_become name }
         requires exact { (x y : V) → V.is_clone x y → y ≡ x }
         requires callable { P.IsAlwaysCallable replace_if }
         requires follows { ComesAfter at.now at.step self.old }
-        ensures begins { IfOk result (BeginsIn (ways_by R.Rules K.eq K.hash_input S.BuildHasher S.Hasher.Hasher) kind (Q.named_key name) hash at (FnOnceReturnsAt P.FnOnce replace_if) self.old self.new) }
+        ensures begins { IfOk result
+            (BeginsIn (ways_by R.Rules K.eq K.hash_input S.BuildHasher S.Hasher.Hasher) kind
+            (Q.named_key name) hash at (FnOnceReturnsAt P.FnOnce replace_if) self.old self.new) }
         ensures err { OnErr result (self.new ≡ self.old) }
         ensures cause { IfErr result (IsTurnCause self.old.next_turn) }
     {
@@ -193,12 +218,15 @@ impl<K: Eq + Hash, V, S: BuildHasher, R: Rules<K, V>, C> LentState<K, V, S, R, C
     ) -> Result<u64, CacheError>
     where
         K: Drop,
-        requires hashed { hash ≡ hash_in (ways_by R.Rules K.eq K.hash_input S.BuildHasher S.Hasher.Hasher) self.old (Q.named_key name) }
+        requires hashed { hash
+            ≡ hash_in (ways_by R.Rules K.eq K.hash_input S.BuildHasher S.Hasher.Hasher) self.old
+            (Q.named_key name) }
         requires becomes { Q.can_become name }
         requires follows { ComesAfter at.now at.step self.old }
         requires free { turn_of K.eq self.old.turns turns.Compute (Q.named_key name) ≡ None }
         ensures number { IfOk result (λ number. number ≡ self.old.next_turn) }
-        ensures leads { OnOk result (self.new ≡ with_turn turns.Compute (Q.named_key name) hash (passed at.now at.step self.old)) }
+        ensures leads { OnOk result (self.new
+            ≡ with_turn turns.Compute (Q.named_key name) hash (passed at.now at.step self.old)) }
         ensures err { OnErr result (self.new ≡ self.old) }
         ensures cause { IfErr result (IsTurnCause self.old.next_turn) }
     {
@@ -221,10 +249,13 @@ impl<K: Eq + Hash, V, S: BuildHasher, R: Rules<K, V>, C> LentState<K, V, S, R, C
     ) -> Result<TurnStart<V>, CacheError>
     where
         K: Drop,
-        requires hashed { hash ≡ hash_in (ways_by R.Rules K.eq K.hash_input S.BuildHasher S.Hasher.Hasher) self.old (Q.named_key name) }
+        requires hashed { hash
+            ≡ hash_in (ways_by R.Rules K.eq K.hash_input S.BuildHasher S.Hasher.Hasher) self.old
+            (Q.named_key name) }
         requires becomes { Q.can_become name }
         requires follows { ComesAfter at.now at.step self.old }
-        ensures begins { IfOk result (λ start. (start, self.new) ≡ begun_compute K.eq (Q.named_key name) hash at.now at.step self.old) }
+        ensures begins { IfOk result (λ start. (start, self.new)
+            ≡ begun_compute K.eq (Q.named_key name) hash at.now at.step self.old) }
         ensures err { OnErr result (self.new ≡ self.old) }
         ensures cause { IfErr result (IsTurnCause self.old.next_turn) }
     {
@@ -260,12 +291,16 @@ impl<K: Eq + Hash, V, S: BuildHasher, R: Rules<K, V>, C> LentState<K, V, S, R, C
     where
         K: Drop,
         V: Clone + Drop,
-        requires hashed { hash ≡ hash_in (ways_by R.Rules K.eq K.hash_input S.BuildHasher S.Hasher.Hasher) self.old (Q.named_key name) }
+        requires hashed { hash
+            ≡ hash_in (ways_by R.Rules K.eq K.hash_input S.BuildHasher S.Hasher.Hasher) self.old
+            (Q.named_key name) }
         requires becomes { Q.can_become name }
         requires exact { (x y : V) → V.is_clone x y → y ≡ x }
         requires callable { P.IsAlwaysCallable replace_if }
         requires follows { ComesAfter at.now at.step self.old }
-        ensures begins { IfOk result (BeginsBy (ways_by R.Rules K.eq K.hash_input S.BuildHasher S.Hasher.Hasher) kind (Q.named_key name) hash at (FnOnceReturnsAt P.FnOnce replace_if) self.old self.new) }
+        ensures begins { IfOk result
+            (BeginsBy (ways_by R.Rules K.eq K.hash_input S.BuildHasher S.Hasher.Hasher) kind
+            (Q.named_key name) hash at (FnOnceReturnsAt P.FnOnce replace_if) self.old self.new) }
         ensures err { OnErr result (self.new ≡ self.old) }
         ensures cause { IfErr result (IsTurnCause self.old.next_turn) }
     {
@@ -286,7 +321,8 @@ impl<K: Eq + Hash, V, S: BuildHasher, R: Rules<K, V>, C> LentState<K, V, S, R, C
         ensures ends { OnOk result (self.new ≡ abandoned number at.now at.step self.old) }
         ensures known { OnOk result (is_some (turn_at self.old.turns number) ≡ true) }
         ensures err { OnErr result (self.new ≡ self.old) }
-        ensures cause { IfErr result (λ e. (e ≡ UnknownTurn) × (turn_at self.old.turns number ≡ None)) }
+        ensures cause { IfErr result
+            (λ e. (e ≡ UnknownTurn) × (turn_at self.old.turns number ≡ None)) }
     {
         let At { now, step } = at;
         if !self.turns.end(number) {
@@ -303,11 +339,14 @@ impl<K: Eq + Hash, V, S: BuildHasher, R: Rules<K, V>, C> LentState<K, V, S, R, C
         K: Drop,
         V: Drop,
         requires { ComesAfter at.now at.step self.old }
-        ensures ends { OnOk result (EndsTurnOf (ways_by R.Rules K.eq K.hash_input S.BuildHasher S.Hasher.Hasher) number (op.Put value) at self.old self.new) }
+        ensures ends { OnOk result
+            (EndsTurnOf (ways_by R.Rules K.eq K.hash_input S.BuildHasher S.Hasher.Hasher) number
+            (op.Put value) at self.old self.new) }
         ensures known { OnOk result (is_some (turn_at self.old.turns number) ≡ true) }
         ensures err { OnErr result (self.new ≡ self.old) }
         ensures back { IfErr result (λ refused. refused.1 ≡ value) }
-        ensures cause { IfErr result (λ refused. IsFinishCause (ways_by R.Rules K.eq K.hash_input S.BuildHasher S.Hasher.Hasher) number self.old refused.0) }
+        ensures cause { IfErr result (λ refused. IsFinishCause (ways_by R.Rules K.eq K.hash_input
+            S.BuildHasher S.Hasher.Hasher) number self.old refused.0) }
     {
         let At { now, step } = at;
         let Some(turn) = self.turns.get(number) else {
@@ -348,11 +387,14 @@ impl<K: Eq + Hash, V, S: BuildHasher, R: Rules<K, V>, C> LentState<K, V, S, R, C
         K: Drop,
         V: Drop,
         requires { ComesAfter at.now at.step self.old }
-        ensures ends { OnOk result (FinishesBy (ways_by R.Rules K.eq K.hash_input S.BuildHasher S.Hasher.Hasher) number end at self.old self.new) }
+        ensures ends { OnOk result
+            (FinishesBy (ways_by R.Rules K.eq K.hash_input S.BuildHasher S.Hasher.Hasher) number end
+            at self.old self.new) }
         ensures known { OnOk result (is_some (turn_at self.old.turns number) ≡ true) }
         ensures err { OnErr result (self.new ≡ self.old) }
         ensures back { IfErr result (λ refused. refused.1 ≡ end) }
-        ensures cause { IfErr result (λ refused. IsFinishCause (ways_by R.Rules K.eq K.hash_input S.BuildHasher S.Hasher.Hasher) number self.old refused.0) }
+        ensures cause { IfErr result (λ refused. IsFinishCause (ways_by R.Rules K.eq K.hash_input
+            S.BuildHasher S.Hasher.Hasher) number self.old refused.0) }
     {
         match end {
             Made::Value(value) => match self.finish_with_value(number, value, at) {

@@ -26,8 +26,11 @@ pub fn read_through<
     requires readable { M.IsAlwaysCallable read }
     requires follows { ComesAfter at.now at.step cache.old }
     requires alone { cache.old.turns ≡ [] }
-    ensures shown { IfOk result (λ r. (value : V) → visible_in (ways_by R.Rules K.eq K.hash_input S.BuildHasher S.Hasher.Hasher) cache.old at.now key ≡ Some value → r ≡ Ok value) }
-    ensures read { IfOk result (λ r. (value : V) → visible_in (ways_by R.Rules K.eq K.hash_input S.BuildHasher S.Hasher.Hasher) cache.old at.now key ≡ None → r ≡ Ok value → M.post read (Ok value)) }
+    ensures shown { IfOk result (λ r. (value : V) → visible_in (ways_by R.Rules K.eq K.hash_input
+        S.BuildHasher S.Hasher.Hasher) cache.old at.now key ≡ Some value → r ≡ Ok value) }
+    ensures read { IfOk result (λ r. (value : V)
+        → visible_in (ways_by R.Rules K.eq K.hash_input S.BuildHasher S.Hasher.Hasher) cache.old
+        at.now key ≡ None → r ≡ Ok value → M.post read (Ok value)) }
     ensures alone { cache.new.turns ≡ [] }
     ensures refused { OnErr result (cache.new ≡ cache.old) }
 {

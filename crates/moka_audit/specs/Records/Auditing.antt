@@ -24,8 +24,13 @@ pub record Reached : Type 0 where
   pub parts : List KeyPart
 
 -- what these steps lead to, if they are right and each key keeps to one part
-abbrev pub audited_steps : Config → List KeyPart → Situation → List Task → List Step → Option Reached
-audited_steps config parts s tasks [] = if is_empty (due (may_run_in s) tasks) then Some (record { situation = s; parts = parts }) else None
+abbrev pub audited_steps : Config → List KeyPart → Situation → List Task → List Step
+    → Option Reached
+audited_steps config parts s tasks [] =
+    if is_empty (due (may_run_in s) tasks) then Some (record {
+      situation = s;
+      parts = parts;
+    }) else None
 audited_steps config parts s tasks (step ∷ steps) =
     let now_due = due (may_run_in s) tasks in
     let placed = placed_step_in config s (first_due now_due) step in
@@ -34,11 +39,14 @@ audited_steps config parts s tasks (step ∷ steps) =
 
 -- the same of a record's steps
 abbrev pub audited_event : Config → List KeyPart → Situation → Record → Option Reached
-audited_event config parts s entry = audited_steps config parts (after_event entry.event s) (tasks_in s entry.event) (steps_of entry)
+audited_event config parts s entry =
+    audited_steps config parts (after_event entry.event s) (tasks_in s entry.event) (steps_of entry)
 
 -- the record's event is accepted: it is not refused, has the next number, and only an answer has a value of its own
 abbrev pub is_taken : Config → Situation → Record → Bool
-is_taken config s entry = is_none (refusal_of config (known_in s) entry.event) && is_numbered s.opened entry.event && has_right_own_value entry
+is_taken config s entry =
+    is_none (refusal_of config (known_in s) entry.event) && is_numbered s.opened entry.event
+    && has_right_own_value entry
 
 -- what a record leads to
 abbrev pub audited_record : Config → List KeyPart → Situation → Record → Option Reached
@@ -48,7 +56,8 @@ audited_record config parts s entry = let rest = audited_event config parts s en
 abbrev pub audited_from : Config → List KeyPart → Situation → ℕ → List Record → Option ℕ
 audited_from config parts s n [] = None
 audited_from config parts s n (entry ∷ entries) =
-    option_map_or (λ r. audited_from config r.parts r.situation (suc n) entries) (audited_record config parts s entry) (Some (suc n))
+    option_map_or (λ r. audited_from config r.parts r.situation (suc n) entries)
+    (audited_record config parts s entry) (Some (suc n))
 
 -- what was reached, if the answer is true; if it is false, nothing was
 abbrev pub Reaches : Bool → Situation → List KeyPart → Option Reached → Type 0
@@ -63,21 +72,38 @@ with_values parts (v ∷ vs) = with_values (with_value parts (Some v)) vs
 -- what is reached if steps lead there and accept these values
 abbrev pub reached_by : List KeyPart → List Value → List Value → Option Situation → Option Reached
 reached_by parts values more None = None
-reached_by parts values more (Some t) = if agree_on_parts (values ++ more) then Some (record { situation = t; parts = with_values parts more }) else None
+reached_by parts values more (Some t) =
+    if agree_on_parts (values ++ more) then Some (record {
+      situation = t;
+      parts = with_values parts more;
+    }) else None
 
 -- an answer's own step
 abbrev pub step_of_answer : Record → Step
-step_of_answer entry = record { conn = 0; line = []; held = false; reply = None; load = None; accepted = entry.own; notices = entry.notices }
+step_of_answer entry =
+    record {
+      conn = 0;
+      line = [];
+      held = false;
+      reply = None;
+      load = None;
+      accepted = entry.own;
+      notices = entry.notices;
+    }
 
 -- a record's steps, an answer's own first
 abbrev pub steps_with_own : Record → List Step
 steps_with_own entry = step_of_answer entry ∷ entry.steps
 
 -- the steps lead there from the judge's situation, if the answer is true; if it is false, nowhere
-abbrev pub Audits : Config → State → List KeyPart → List Task → List Step → Bool → State → List KeyPart → Type 0
-Audits config s parts tasks steps b t more = Reaches b (shown_situation t) more (audited_steps config parts (shown_situation s) tasks steps)
+abbrev pub Audits : Config → State → List KeyPart → List Task → List Step → Bool → State
+    → List KeyPart → Type 0
+Audits config s parts tasks steps b t more =
+    Reaches b (shown_situation t) more (audited_steps config parts (shown_situation s) tasks steps)
 
 -- the same of the steps of an event
-abbrev pub AuditsEvent : Config → State → List KeyPart → Event → List Step → Bool → State → List KeyPart → Type 0
+abbrev pub AuditsEvent : Config → State → List KeyPart → Event → List Step → Bool → State
+    → List KeyPart → Type 0
 AuditsEvent config s parts happened steps b t more =
-    Reaches b (shown_situation t) more (audited_steps config parts (after_event happened (shown_situation s)) (tasks_in (shown_situation s) happened) steps)
+    Reaches b (shown_situation t) more (audited_steps config parts
+    (after_event happened (shown_situation s)) (tasks_in (shown_situation s) happened) steps)

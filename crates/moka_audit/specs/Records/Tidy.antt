@@ -6,4 +6,5 @@ use Rattle.audit_situation.specs.States.{have_numbers_apart}
 
 -- no two open connections have the same number, and each number was given out
 abbrev pub is_tidy : Situation → Bool
-is_tidy s = have_numbers_apart s.connections && list_all (λ c. nat_le c.number s.opened) s.connections
+is_tidy s =
+    have_numbers_apart s.connections && list_all (λ c. nat_le c.number s.opened) s.connections

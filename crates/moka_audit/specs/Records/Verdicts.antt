@@ -10,5 +10,6 @@ use Rattle.moka_audit.specs.declared.records.auditing.Verdict.TheVariants.{Yes, 
 -- which it is not so; out of memory says nothing
 abbrev pub IsJust : Config → Transcript → Verdict → Type 0
 IsJust config transcript Yes = IsFaultless config transcript
-IsJust config transcript (Breaks n) = (¬ IsFaultless config transcript) × BreaksFirstAt config transcript n
+IsJust config transcript (Breaks n) =
+    (¬ IsFaultless config transcript) × BreaksFirstAt config transcript n
 IsJust config transcript OutOfMemory = Unit {0}

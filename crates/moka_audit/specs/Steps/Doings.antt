@@ -8,8 +8,10 @@ use Rattle.audit_model.specs.declared.transcript.Step.{Step}
 
 -- a step that does this, with this reply and load; nothing else about it matters
 abbrev pub acting : Action → Option (List ℕ) → Option ℕ → Effect
-acting action reply load = record { at = 0; action = action; reply = reply; load = load; value = None; notes = [] }
+acting action reply load =
+    record { at = 0; action = action; reply = reply; load = load; value = None; notes = [] }
 
 -- the situation after a step that does this has moved its connection on
 abbrev pub passed_on : Option Task → Action → Step → Situation → Situation
-passed_on task action step s = with_connection_after task step (acting action step.reply step.load) s
+passed_on task action step s =
+    with_connection_after task step (acting action step.reply step.load) s

@@ -24,20 +24,44 @@ use Rattle.moka_audit.specs.declared.steps.shown.Shown.{Shown}
 use Rattle.audit_situation.specs.Held.Known.{KeyPart, agrees_with, with_value}
 
 -- the step in its place, doing this and accepting this value
-abbrev pub placed_with : Config → Situation → Option Task → Action → Step → Option Value → PlacedStep
+abbrev pub placed_with : Config → Situation → Option Task → Action → Step → Option Value
+    → PlacedStep
 placed_with config s task action step value =
-    let effect : Effect = record { at = s.latest; action = action; reply = step.reply; load = step.load; value = value; notes = step.notices } in
-    record { task = task; line = line_in task (connection_in step.conn s); seen = view_in config s; step = step; effect = effect; held = map (λ h. h.value) (left_held s.held (deed_of effect) step.notices) }
+    let effect : Effect = record {
+      at = s.latest;
+      action = action;
+      reply = step.reply;
+      load = step.load;
+      value = value;
+      notes = step.notices;
+    } in
+    record {
+      task = task;
+      line = line_in task (connection_in step.conn s);
+      seen = view_in config s;
+      step = step;
+      effect = effect;
+      held = map (λ h. h.value) (left_held s.held (deed_of effect) step.notices);
+    }
 
 -- the step in its place, doing this
 abbrev pub placed_by : Config → Situation → Option Task → Action → Step → PlacedStep
 placed_by config s task action step =
     let effect = effect_in config (view_in config s) action step in
-    record { task = task; line = line_in task (connection_in step.conn s); seen = view_in config s; step = step; effect = effect; held = map (λ h. h.value) (left_held s.held (deed_of effect) effect.notes) }
+    record {
+      task = task;
+      line = line_in task (connection_in step.conn s);
+      seen = view_in config s;
+      step = step;
+      effect = effect;
+      held = map (λ h. h.value) (left_held s.held (deed_of effect) effect.notes);
+    }
 
 -- the step in its place, as the code has it
 abbrev pub placed_in : Config → State → Option Task → Doing → Shown → Option HeldValue → PlacedStep
-placed_in config s task doing shown newcomer = placed_with config (shown_situation s) task (action_of doing) (shown_step shown) (option_map (λ h. h.value) newcomer)
+placed_in config s task doing shown newcomer =
+    placed_with config (shown_situation s) task (action_of doing) (shown_step shown)
+    (option_map (λ h. h.value) newcomer)
 
 -- the reply that a step owes that does this
 abbrev pub reply_owed : Config → Situation → Action → List Value → Option (List ℕ)
@@ -45,19 +69,24 @@ reply_owed config s action values = reply_of config (view_in config s) values ac
 
 -- the reply is this one, or a refusal if one may be given
 abbrev pub is_owed_or_refusal : Option (List ℕ) → Option (List ℕ) → Bool → Bool
-is_owed_or_refusal reply owed refuses = option_eq same reply owed || (refuses && option_eq same reply (Some (text_line (codes "ERR id"))))
+is_owed_or_refusal reply owed refuses =
+    option_eq same reply owed
+    || (refuses && option_eq same reply (Some (text_line (codes "ERR id"))))
 
 -- the reply is the one that is owed, or the refusal that may be given
 abbrev pub reply_fits : Config → View → Action → Option (List ℕ) → List Value → Bool
-reply_fits config seen action reply values = is_owed_or_refusal reply (reply_of config seen values action) (may_refuse seen action)
+reply_fits config seen action reply values =
+    is_owed_or_refusal reply (reply_of config seen values action) (may_refuse seen action)
 
 -- that of a step that is not a `SYNC`
 abbrev pub replies_so : Config → Situation → Action → Option (List ℕ) → List Value → Bool
-replies_so config s action reply values = is_sync action || reply_fits config (view_in config s) action reply values
+replies_so config s action reply values =
+    is_sync action || reply_fits config (view_in config s) action reply values
 
 -- that of a `SYNC` that leaves these values
 abbrev pub syncs_so : Config → View → Action → Option (List ℕ) → List Value → Bool
-syncs_so config seen action reply values = not (is_sync action) || (reply_fits config seen action reply values && is_within config values)
+syncs_so config seen action reply values =
+    not (is_sync action) || (reply_fits config seen action reply values && is_within config values)
 
 -- a value is accepted exactly if one is offered, into one of the parts
 abbrev pub takes_rightly : Config → Option ℕ → Bool → Bool
@@ -67,11 +96,14 @@ takes_rightly config (Some part) offers = offers && nat_lt part (part_count conf
 -- what is judged before values change
 abbrev pub is_fit : Config → PlacedStep → Bool
 is_fit config placed =
-    is_in_turn placed && is_held_rightly placed && has_right_line placed && (syncs placed.effect || has_right_reply config placed) && has_right_load placed && is_quiet_where_silent placed
+    is_in_turn placed && is_held_rightly placed && has_right_line placed
+    && (syncs placed.effect || has_right_reply config placed) && has_right_load placed
+    && is_quiet_where_silent placed
 
 -- what is judged of a `SYNC` after values have changed
 abbrev pub is_synced : Config → PlacedStep → Bool
-is_synced config placed = not (syncs placed.effect) || (has_right_reply config placed && is_within config placed.held)
+is_synced config placed =
+    not (syncs placed.effect) || (has_right_reply config placed && is_within config placed.held)
 
 -- what is judged after values have changed
 abbrev pub ends_rightly : Config → PlacedStep → Bool
@@ -79,11 +111,16 @@ ends_rightly config placed = has_right_notes config placed && is_synced config p
 
 -- the same, and that its value is in the part of its key
 abbrev pub agrees_and_ends : Config → List KeyPart → PlacedStep → Bool
-agrees_and_ends config parts placed = agrees_with parts placed.effect.value && ends_rightly config placed
+agrees_and_ends config parts placed =
+    agrees_with parts placed.effect.value && ends_rightly config placed
 
 -- the situation after values have changed
 abbrev pub with_values_after : Config → Situation → Effect → Situation
-with_values_after config s effect = record s { held = all_held_after config s.latest s.held (deed_of effect) effect.notes; dropped = s.dropped || drops effect }
+with_values_after config s effect =
+    record s {
+      held = all_held_after config s.latest s.held (deed_of effect) effect.notes;
+      dropped = s.dropped || drops effect;
+    }
 
 -- the situation after the step
 abbrev pub after_placed : Config → Situation → PlacedStep → Situation
@@ -97,22 +134,32 @@ offer_from o = record { key = o.key; bytes = o.bytes; ms = o.ms }
 abbrev pub AcceptsOffer : Config → ℕ → Option ℕ → Option Offer → Option (Option HeldValue) → Type 0
 AcceptsOffer config now part offer None = takes_rightly config part (is_some offer) ≡ false
 AcceptsOffer config now part offer (Some newcomer) =
-    (takes_rightly config part (is_some offer) ≡ true) × (option_map (λ h. h.value) newcomer ≡ value_from config now offer part) × IfSome newcomer (IsJustAccepted now)
+    (takes_rightly config part (is_some offer) ≡ true)
+    × (option_map (λ h. h.value) newcomer ≡ value_from config now offer part)
+    × IfSome newcomer (IsJustAccepted now)
 
 -- the same for a step that does this
 abbrev pub Accepts : Config → Situation → Action → Option ℕ → Option (Option HeldValue) → Type 0
-Accepts config s action part newcomer = AcceptsOffer config s.latest part (offer_of config (view_in config s) action) newcomer
+Accepts config s action part newcomer =
+    AcceptsOffer config s.latest part (offer_of config (view_in config s) action) newcomer
 
 -- the step is right and its value is in the part of its key exactly if the answer is true; and then this situation and these parts are left
-pub record IsJudged (config : Config) (s : Situation) (parts : List KeyPart) (task : Option Task) (step : Step) (placed : PlacedStep) (b : Bool) (t : Situation) (more : List KeyPart) : Type 0 where
+pub record IsJudged (config : Config) (s : Situation) (parts : List KeyPart) (task : Option Task)
+    (step : Step) (placed : PlacedStep) (b : Bool) (t : Situation) (more : List KeyPart) :
+    Type 0 where
   pub right : b ≡ (is_right config placed && agrees_with parts placed.effect.value)
   pub left : b ≡ true → t ≡ after_step config s task step placed.effect
   pub kept : b ≡ true → more ≡ with_value parts placed.effect.value
 
 -- the same for a step in its place, and for situations as the judge keeps them
-abbrev pub Judges : Config → State → List KeyPart → PlacedStep → Bool → State → List KeyPart → Type 0
-Judges config s parts placed b t more = IsJudged config (shown_situation s) parts placed.task placed.step placed b (shown_situation t) more
+abbrev pub Judges : Config → State → List KeyPart → PlacedStep → Bool → State → List KeyPart
+    → Type 0
+Judges config s parts placed b t more =
+    IsJudged config (shown_situation s) parts placed.task placed.step placed b (shown_situation t)
+    more
 
 -- the same for a step for which this is due
-abbrev pub JudgesStep : Config → State → List KeyPart → Option Task → Step → Bool → State → List KeyPart → Type 0
-JudgesStep config s parts task step b t more = Judges config s parts (placed_step_in config (shown_situation s) task step) b t more
+abbrev pub JudgesStep : Config → State → List KeyPart → Option Task → Step → Bool → State
+    → List KeyPart → Type 0
+JudgesStep config s parts task step b t more =
+    Judges config s parts (placed_step_in config (shown_situation s) task step) b t more

@@ -10,7 +10,15 @@ use Rattle.moka_audit.specs.declared.steps.shown.Duty.TheVariants as duty
 -- the step
 abbrev pub shown_step : Shown → Step
 shown_step shown =
-    record { conn = shown.conn; line = shown.line.now; held = shown.held; reply = option_map (λ r. r.now) shown.reply; load = shown.load; accepted = shown.accepted; notices = shown.notices.now }
+    record {
+      conn = shown.conn;
+      line = shown.line.now;
+      held = shown.held;
+      reply = option_map (λ r. r.now) shown.reply;
+      load = shown.load;
+      accepted = shown.accepted;
+      notices = shown.notices.now;
+    }
 
 -- the task
 abbrev pub task_of : Duty → Task

@@ -85,7 +85,8 @@ fn admits_outcome(config: &Config, outcome: &Outcome) -> bool
 
 /// Whether an event is not refused.
 fn admits(config: &Config, s: &State, event: &Event) -> bool
-    ensures { result ≡ is_none (refusal_of config.now (known_in (shown_situation s.now)) event.now) }
+    ensures { result
+        ≡ is_none (refusal_of config.now (known_in (shown_situation s.now)) event.now) }
 {
     match event {
         Event::Open { .. } => true,

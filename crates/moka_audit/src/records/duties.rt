@@ -30,7 +30,8 @@ pub fn duties_to_deliver<'a>(
     conns: &[u64],
     outcome: &'a Outcome,
 ) -> Result<Vec<Duty<'a>>, AllocError>
-    ensures { IfOk result (λ ds. map task_of ds.items ≡ map (λ conn. Deliver conn outcome.now) conns.now ++ map RunLines conns.now) }
+    ensures { IfOk result (λ ds. map task_of ds.items
+        ≡ map (λ conn. Deliver conn outcome.now) conns.now ++ map RunLines conns.now) }
 {
     let mut duties = Vec::new(alloc);
     push_deliveries(&mut duties, conns, outcome)?;
@@ -44,7 +45,8 @@ fn push_deliveries<'a>(
     conns: &[u64],
     outcome: &'a Outcome,
 ) -> Result<(), AllocError>
-    ensures { OnOk result (map task_of duties.new.items ≡ map task_of duties.old.items ++ map (λ conn. Deliver conn outcome.now) conns.now) }
+    ensures { OnOk result (map task_of duties.new.items ≡ map task_of duties.old.items
+        ++ map (λ conn. Deliver conn outcome.now) conns.now) }
 {
     for conn in conns {
         duties.push(Duty::Deliver(*conn, outcome))?;
@@ -54,7 +56,8 @@ fn push_deliveries<'a>(
 
 /// Makes it due to run the lines of each of these.
 fn push_lines<'a>(duties: &mut Vec<Duty<'a>>, conns: &[u64]) -> Result<(), AllocError>
-    ensures { OnOk result (map task_of duties.new.items ≡ map task_of duties.old.items ++ map RunLines conns.now) }
+    ensures { OnOk result
+        (map task_of duties.new.items ≡ map task_of duties.old.items ++ map RunLines conns.now) }
 {
     for conn in conns {
         duties.push(Duty::RunLines(*conn))?;
@@ -75,7 +78,8 @@ pub fn duties_to_give_up<'a>(alloc: Global, conns: &[u64]) -> Result<Vec<Duty<'a
 
 /// Makes it due to run a `LOAD` again, and then its connection's lines.
 fn push_again<'a>(duties: &mut Vec<Duty<'a>>, conn: u64) -> Result<(), AllocError>
-    ensures { OnOk result (map task_of duties.new.items ≡ map task_of duties.old.items ++ (RunAgain conn ∷ RunLines conn ∷ [])) }
+    ensures { OnOk result (map task_of duties.new.items ≡ map task_of duties.old.items
+        ++ (RunAgain conn ∷ RunLines conn ∷ [])) }
 {
     duties.extend_from_slice(&[Duty::RunAgain(conn), Duty::RunLines(conn)])
 }
@@ -96,7 +100,8 @@ fn is_due(s: &State, duty: Duty<'_>) -> bool
 /// The place of the first of these that is due now, from a place on.
 pub fn due_from(s: &State, duties: &[Duty<'_>], from: usize) -> usize
     requires { from ≤ length duties.now }
-    ensures due { map task_of (drop result duties.entry.now) ≡ due (may_run_in (shown_situation s.now)) (map task_of (drop from duties.entry.now)) }
+    ensures due { map task_of (drop result duties.entry.now)
+        ≡ due (may_run_in (shown_situation s.now)) (map task_of (drop from duties.entry.now)) }
     ensures within { result ≤ length duties.entry.now }
 {
     for at in from..duties.len() {
@@ -121,7 +126,8 @@ pub fn duty_at<'a>(duties: &[Duty<'a>], at: usize) -> Option<Duty<'a>>
 /// Where the rest begins after a step for the duty at a place has run; lines stay due.
 pub fn left_from(duties: &[Duty<'_>], at: usize) -> usize
     requires { at ≤ length duties.now }
-    ensures left { map task_of (drop result duties.entry.now) ≡ left_after (map task_of (drop at duties.entry.now)) }
+    ensures left { map task_of (drop result duties.entry.now)
+        ≡ left_after (map task_of (drop at duties.entry.now)) }
     ensures within { result ≤ length duties.entry.now }
 {
     if at >= duties.len() {

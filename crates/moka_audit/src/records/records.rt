@@ -33,7 +33,8 @@ fn judge_steps(
     steps: &[Step],
 ) -> Result<bool, AllocError>
     requires { IsTrue (is_tidy (shown_situation s.old)) }
-    ensures reaches { IfOk result (λ b. Reaches b (shown_situation s.new) parts.new (audited_steps config.now parts.old (shown_situation s.old) (map task_of duties.entry.now) steps.now)) }
+    ensures reaches { IfOk result (λ b. Reaches b (shown_situation s.new) parts.new (audited_steps
+        config.now parts.old (shown_situation s.old) (map task_of duties.entry.now) steps.now)) }
     ensures tidy { IfOk result (λ b. b ≡ true → is_tidy (shown_situation s.new) ≡ true) }
 {
     let mut at = 0;
@@ -59,7 +60,9 @@ fn judge_open(
 ) -> Result<bool, AllocError>
     requires tidy { IsTrue (is_tidy (shown_situation s.old)) }
     requires numbered { is_numbered s.old.opened (event.Open conn) ≡ true }
-    ensures reaches { IfOk result (λ b. Reaches b (shown_situation s.new) parts.new (audited_steps config.now parts.old (after_event (event.Open conn) (shown_situation s.old)) [] steps.now)) }
+    ensures reaches { IfOk result
+        (λ b. Reaches b (shown_situation s.new) parts.new (audited_steps config.now parts.old
+        (after_event (event.Open conn) (shown_situation s.old)) [] steps.now)) }
     ensures tidy { IfOk result (λ b. b ≡ true → is_tidy (shown_situation s.new) ≡ true) }
 {
     open(alloc, s, conn)?;
@@ -76,7 +79,9 @@ fn judge_close(
     steps: &[Step],
 ) -> Result<bool, AllocError>
     requires tidy { IsTrue (is_tidy (shown_situation s.old)) }
-    ensures reaches { IfOk result (λ b. Reaches b (shown_situation s.new) parts.new (audited_steps config.now parts.old (after_event (event.Close conn) (shown_situation s.old)) [] steps.now)) }
+    ensures reaches { IfOk result
+        (λ b. Reaches b (shown_situation s.new) parts.new (audited_steps config.now parts.old
+        (after_event (event.Close conn) (shown_situation s.old)) [] steps.now)) }
     ensures tidy { IfOk result (λ b. b ≡ true → is_tidy (shown_situation s.new) ≡ true) }
 {
     close(s, conn);
@@ -95,7 +100,8 @@ fn judge_feed(
     steps: &[Step],
 ) -> Result<bool, AllocError>
     requires tidy { IsTrue (is_tidy (shown_situation s.old)) }
-    ensures reaches { IfOk result (λ b. AuditsEvent config.now s.old parts.old (event.Feed conn piece.now moment) steps.now b s.new parts.new) }
+    ensures reaches { IfOk result (λ b. AuditsEvent config.now s.old parts.old
+        (event.Feed conn piece.now moment) steps.now b s.new parts.new) }
     ensures tidy { IfOk result (λ b. b ≡ true → is_tidy (shown_situation s.new) ≡ true) }
 {
     let duties = duties_to_feed(alloc, conn, is_holding(s, conn))?;
@@ -116,7 +122,8 @@ fn waiting_of(alloc: Global, s: &State, load: u64) -> Result<Vec<u64>, AllocErro
 
 /// The key of a load.
 fn key_of(alloc: Global, s: &State, load: u64) -> Result<Option<Vec<u8>>, AllocError>
-    ensures { IfOk result (λ key. option_map (λ k. k.items) key ≡ key_in load (shown_situation s.now)) }
+    ensures { IfOk result
+        (λ key. option_map (λ k. k.items) key ≡ key_in load (shown_situation s.now)) }
 {
     match find_pending(&s.pending, load) {
         Some(pending) => Ok(Some(Vec::from_slice(alloc, pending.key())?)),
@@ -135,7 +142,8 @@ fn judge_give_up(
     steps: &[Step],
 ) -> Result<bool, AllocError>
     requires tidy { IsTrue (is_tidy (shown_situation s.old)) }
-    ensures reaches { IfOk result (λ b. AuditsEvent config.now s.old parts.old (event.GiveUp load moment) steps.now b s.new parts.new) }
+    ensures reaches { IfOk result (λ b. AuditsEvent config.now s.old parts.old
+        (event.GiveUp load moment) steps.now b s.new parts.new) }
     ensures tidy { IfOk result (λ b. b ≡ true → is_tidy (shown_situation s.new) ≡ true) }
 {
     let conns = waiting_of(alloc, s, load)?;
@@ -171,7 +179,8 @@ fn judge_answer(
     entry: &Record,
 ) -> Result<bool, AllocError>
     requires tidy { IsTrue (is_tidy (shown_situation s.old)) }
-    ensures reaches { IfOk result (λ b. AuditsEvent config.now s.old parts.old (event.Answer load outcome.now moment) (steps_with_own entry.now) b s.new parts.new) }
+    ensures reaches { IfOk result (λ b. AuditsEvent config.now s.old parts.old
+        (event.Answer load outcome.now moment) (steps_with_own entry.now) b s.new parts.new) }
     ensures tidy { IfOk result (λ b. b ≡ true → is_tidy (shown_situation s.new) ≡ true) }
 {
     let conns = waiting_of(alloc, s, load)?;
@@ -202,7 +211,9 @@ fn judge_stored(
     entry: &Record,
 ) -> Result<bool, AllocError>
     requires tidy { IsTrue (is_tidy (shown_situation s.old)) }
-    ensures reaches { IfOk result (λ b. Audits config.now s.old parts.old (Store (option_map (λ k. k.now.items) key.entry) outcome.now ∷ map task_of duties.entry.now) (steps_with_own entry.now) b s.new parts.new) }
+    ensures reaches { IfOk result (λ b. Audits config.now s.old parts.old
+        (Store (option_map (λ k. k.now.items) key.entry) outcome.now ∷ map task_of duties.entry.now)
+        (steps_with_own entry.now) b s.new parts.new) }
     ensures tidy { IfOk result (λ b. b ≡ true → is_tidy (shown_situation s.new) ≡ true) }
 {
     if !store(alloc, config, s, parts, key, outcome, entry)? {
@@ -222,7 +233,9 @@ fn store(
     entry: &Record,
 ) -> Result<bool, AllocError>
     requires { IsTrue (is_tidy (shown_situation s.old)) }
-    ensures judged { IfOk result (λ b. JudgesStep config.now s.old parts.old (Some (Store (option_map (λ k. k.now.items) key.entry) outcome.now)) (step_of_answer entry.now) b s.new parts.new) }
+    ensures judged { IfOk result (λ b. JudgesStep config.now s.old parts.old
+        (Some (Store (option_map (λ k. k.now.items) key.entry) outcome.now))
+        (step_of_answer entry.now) b s.new parts.new) }
     ensures tidy { IfOk result (λ b. b ≡ true → is_tidy (shown_situation s.new) ≡ true) }
 {
     let shown = show_own(entry);
@@ -252,7 +265,8 @@ fn judge_event(
 ) -> Result<bool, AllocError>
     requires tidy { IsTrue (is_tidy (shown_situation s.old)) }
     requires numbered { is_numbered s.old.opened entry.now.event ≡ true }
-    ensures reaches { IfOk result (λ b. Reaches b (shown_situation s.new) parts.new (audited_event config.now parts.old (shown_situation s.old) entry.now)) }
+    ensures reaches { IfOk result (λ b. Reaches b (shown_situation s.new) parts.new
+        (audited_event config.now parts.old (shown_situation s.old) entry.now)) }
     ensures tidy { IfOk result (λ b. b ≡ true → is_tidy (shown_situation s.new) ≡ true) }
 {
     let steps = entry.steps.as_slice();
@@ -284,7 +298,8 @@ fn judge_record(
     entry: &Record,
 ) -> Result<bool, AllocError>
     requires { IsTrue (is_tidy (shown_situation s.old)) }
-    ensures reaches { IfOk result (λ b. Reaches b (shown_situation s.new) parts.new (audited_record config.now parts.old (shown_situation s.old) entry.now)) }
+    ensures reaches { IfOk result (λ b. Reaches b (shown_situation s.new) parts.new
+        (audited_record config.now parts.old (shown_situation s.old) entry.now)) }
     ensures tidy { IfOk result (λ b. b ≡ true → is_tidy (shown_situation s.new) ≡ true) }
 {
     if !is_taken(config, s, entry) {
@@ -300,7 +315,8 @@ fn audited(
     made: u64,
     records: &[Record],
 ) -> Result<Option<u64>, AllocError>
-    ensures { IfOk result (λ n. n ≡ audited_from config.now [] (empty_situation made) 0 records.now) }
+    ensures { IfOk result
+        (λ n. n ≡ audited_from config.now [] (empty_situation made) 0 records.now) }
 {
     let mut s = begin(alloc, made)?;
     audited_from(alloc, config, &mut s, records)
@@ -314,7 +330,8 @@ fn audited_from(
     records: &[Record],
 ) -> Result<Option<u64>, AllocError>
     requires { IsTrue (is_tidy (shown_situation s.old)) }
-    ensures { IfOk result (λ n. n ≡ audited_from config.now [] (shown_situation s.old) 0 records.now) }
+    ensures { IfOk result
+        (λ n. n ≡ audited_from config.now [] (shown_situation s.old) 0 records.now) }
 {
     let mut parts = Parts::new(alloc)?;
     audited_on(alloc, config, s, &mut parts, records)
@@ -329,7 +346,8 @@ fn audited_on(
     records: &[Record],
 ) -> Result<Option<u64>, AllocError>
     requires { IsTrue (is_tidy (shown_situation s.old)) }
-    ensures { IfOk result (λ n. n ≡ audited_from config.now parts.old (shown_situation s.old) 0 records.now) }
+    ensures { IfOk result
+        (λ n. n ≡ audited_from config.now parts.old (shown_situation s.old) 0 records.now) }
 {
     for (i, entry) in records.iter().enumerate() {
         if !judge_record(alloc, config, s, parts, entry)? {

@@ -33,7 +33,8 @@ fn offered(
     s: &State,
     doing: Doing<'_>,
 ) -> Result<Option<Proposal>, AllocError>
-    ensures { IfOk result (λ o. option_map offer_from o ≡ offered (view_in config.now (shown_situation s.now)) (action_of doing.entry)) }
+    ensures { IfOk result (λ o. option_map offer_from o
+        ≡ offered (view_in config.now (shown_situation s.now)) (action_of doing.entry)) }
 {
     match doing {
         Doing::Set { key, ms, value } => offer_some(alloc, key, value, ms),
@@ -67,7 +68,8 @@ fn offer_some(
     bytes: &[u8],
     ms: Option<u64>,
 ) -> Result<Option<Proposal>, AllocError>
-    ensures { IfOk result (λ o. option_map offer_from o ≡ Some (record { key = key.now; bytes = bytes.now; ms = ms })) }
+    ensures { IfOk result (λ o. option_map offer_from o
+        ≡ Some (record { key = key.now; bytes = bytes.now; ms = ms })) }
 {
     Ok(Some(offer(alloc, key, bytes, ms)?))
 }
@@ -81,7 +83,8 @@ fn offered_sum(
     ms: Option<u64>,
     number: u64,
 ) -> Result<Option<Proposal>, AllocError>
-    ensures { IfOk result (λ o. option_map offer_from o ≡ offered (view_in config.now (shown_situation s.now)) (Running (says.Add key.now ms number))) }
+    ensures { IfOk result (λ o. option_map offer_from o ≡ offered
+        (view_in config.now (shown_situation s.now)) (Running (says.Add key.now ms number))) }
 {
     match sum_with(found(config, s, key), number) {
         Some(sum) => {
@@ -99,7 +102,8 @@ fn offer_of(
     s: &State,
     doing: Doing<'_>,
 ) -> Result<Option<Proposal>, AllocError>
-    ensures { IfOk result (λ o. option_map offer_from o ≡ offer_of config.now (view_in config.now (shown_situation s.now)) (action_of doing.entry)) }
+    ensures { IfOk result (λ o. option_map offer_from o ≡ offer_of config.now
+        (view_in config.now (shown_situation s.now)) (action_of doing.entry)) }
 {
     if accepts(config) {
         offered(alloc, config, s, doing)
@@ -141,7 +145,8 @@ fn deadline_after(now: u64, ms: u64) -> Option<u64>
 
 /// The value that an offer becomes in a part.
 fn held_from(config: &Config, now: u64, part: u64, offer: Proposal) -> Result<Held, AllocError>
-    ensures { IfOk result (λ h. h ≡ newly_held (value_with config.now now part (offer_from offer))) }
+    ensures { IfOk result
+        (λ h. h ≡ newly_held (value_with config.now now part (offer_from offer))) }
 {
     let own = own_deadline(now, offer.ms)?;
     let weight = weight_of(config.weight, offer.bytes.as_slice());
@@ -156,8 +161,10 @@ pub fn accept(
     doing: Doing<'_>,
     accepted: Option<Accepted>,
 ) -> Result<Option<Option<Held>>, AllocError>
-    ensures accepts { IfOk result (Accepts config.now (shown_situation s.now) (action_of doing.entry) (option_map (λ a. a.part) accepted)) }
-    ensures small { IfOk result (λ taken. IfSome taken (λ newcomer. IfSome newcomer (λ h. h.value.part < 256))) }
+    ensures accepts { IfOk result (Accepts config.now (shown_situation s.now)
+        (action_of doing.entry) (option_map (λ a. a.part) accepted)) }
+    ensures small { IfOk result
+        (λ taken. IfSome taken (λ newcomer. IfSome newcomer (λ h. h.value.part < 256))) }
 {
     let offer = offer_of(alloc, config, s, doing)?;
     match accepted {
@@ -168,7 +175,8 @@ pub fn accept(
 
 /// What a step accepts that names no part.
 fn none_for(offer: Option<Proposal>) -> Option<Option<Held>>
-    ensures takes { (config : Config) (now : ℕ) → AcceptsOffer config now None (option_map offer_from offer) result }
+    ensures takes { (config : Config) (now : ℕ)
+        → AcceptsOffer config now None (option_map offer_from offer) result }
     ensures none { IfSome result (λ newcomer. newcomer ≡ None) }
 {
     match offer {
@@ -184,8 +192,10 @@ fn take(
     part: u64,
     offer: Option<Proposal>,
 ) -> Result<Option<Option<Held>>, AllocError>
-    ensures takes { IfOk result (AcceptsOffer config.now now (Some part) (option_map offer_from offer)) }
-    ensures small { IfOk result (λ taken. IfSome taken (λ newcomer. IfSome newcomer (λ h. h.value.part < 256))) }
+    ensures takes { IfOk result
+        (AcceptsOffer config.now now (Some part) (option_map offer_from offer)) }
+    ensures small { IfOk result
+        (λ taken. IfSome taken (λ newcomer. IfSome newcomer (λ h. h.value.part < 256))) }
 {
     match offer {
         Some(offer) => {
@@ -201,8 +211,10 @@ fn take(
 
 /// Keeps the part of a value that is accepted, and returns whether its key has no other.
 pub fn admit(parts: &mut Parts, newcomer: Option<&Held>) -> Result<bool, AllocError>
-    ensures agrees { IfOk result (λ b. b ≡ agrees_with parts.old (option_map (λ h. h.now.value) newcomer.entry)) }
-    ensures kept { IfOk result (λ b. b ≡ true → parts.new ≡ with_value parts.old (option_map (λ h. h.now.value) newcomer.entry)) }
+    ensures agrees { IfOk result
+        (λ b. b ≡ agrees_with parts.old (option_map (λ h. h.now.value) newcomer.entry)) }
+    ensures kept { IfOk result (λ b. b ≡ true
+        → parts.new ≡ with_value parts.old (option_map (λ h. h.now.value) newcomer.entry)) }
 {
     match newcomer {
         Some(held) => admit_value(parts, held),
@@ -212,8 +224,10 @@ pub fn admit(parts: &mut Parts, newcomer: Option<&Held>) -> Result<bool, AllocEr
 
 /// The same for one value.
 fn admit_value(parts: &mut Parts, held: &Held) -> Result<bool, AllocError>
-    ensures agrees { IfOk result (λ b. b ≡ agrees parts.old held.now.value.key held.now.value.part) }
-    ensures kept { IfOk result (λ b. b ≡ true → parts.new ≡ with_part parts.old held.now.value.key held.now.value.part) }
+    ensures agrees { IfOk result
+        (λ b. b ≡ agrees parts.old held.now.value.key held.now.value.part) }
+    ensures kept { IfOk result
+        (λ b. b ≡ true → parts.new ≡ with_part parts.old held.now.value.key held.now.value.part) }
 {
     if !parts.agrees(held.key(), held.part()) {
         return Ok(false);

@@ -97,7 +97,8 @@ pub fn key_loaded<'a>(doing: Doing<'a>) -> Option<&'a [u8]>
 
 /// Whether a reply is `OK`.
 fn is_ok(reply: Option<&[u8]>) -> bool
-    ensures { result ≡ option_map_or (λ r. same r (text_line (codes "OK"))) (option_map (λ r. r.now) reply.entry) false }
+    ensures { result ≡ option_map_or (λ r. same r (text_line (codes "OK")))
+        (option_map (λ r. r.now) reply.entry) false }
 {
     match reply {
         Some(reply) => reply == b"OK\n".as_slice(),
@@ -107,7 +108,8 @@ fn is_ok(reply: Option<&[u8]>) -> bool
 
 /// The keys that a step with this reply covers.
 fn covering<'a>(doing: Doing<'a>, reply: Option<&[u8]>) -> Covering<'a>
-    ensures { (load : Option ℕ) → covering_by result ≡ covers_by (acting (action_of doing.entry) (option_map (λ r. r.now) reply.entry) load) }
+    ensures { (load : Option ℕ) → covering_by result
+        ≡ covers_by (acting (action_of doing.entry) (option_map (λ r. r.now) reply.entry) load) }
 {
     match doing {
         Doing::Clear => Covering::Everything,
@@ -147,7 +149,8 @@ pub fn is_sync(doing: Doing<'_>) -> bool
 
 /// Whether a step is a `QUIT`.
 pub fn quits(doing: Doing<'_>) -> bool
-    ensures { (reply : Option (List ℕ)) (load : Option ℕ) → result ≡ quits (acting (action_of doing.entry) reply load) }
+    ensures { (reply : Option (List ℕ)) (load : Option ℕ)
+        → result ≡ quits (acting (action_of doing.entry) reply load) }
 {
     match doing {
         Doing::Quit => true,
@@ -160,7 +163,8 @@ pub fn quits(doing: Doing<'_>) -> bool
 
 /// Whether a step is held back.
 pub fn is_hold(doing: Doing<'_>) -> bool
-    ensures held { (reply : Option (List ℕ)) (load : Option ℕ) → result ≡ is_held (acting (action_of doing.entry) reply load) }
+    ensures held { (reply : Option (List ℕ)) (load : Option ℕ)
+        → result ≡ is_held (acting (action_of doing.entry) reply load) }
     ensures again { (conn : ℕ) → result ≡ may_hold (Some (RunAgain conn)) (action_of doing.entry) }
     ensures lines { (conn : ℕ) → result ≡ may_hold (Some (RunLines conn)) (action_of doing.entry) }
 {
@@ -188,7 +192,8 @@ pub fn is_silent(doing: Doing<'_>) -> bool
 
 /// Whether a step with this reply is a `DROPIF` that was accepted.
 pub fn is_drop(doing: Doing<'_>, reply: Option<&[u8]>) -> bool
-    ensures { (load : Option ℕ) → result ≡ drops (acting (action_of doing.entry) (option_map (λ r. r.now) reply.entry) load) }
+    ensures { (load : Option ℕ) → result
+        ≡ drops (acting (action_of doing.entry) (option_map (λ r. r.now) reply.entry) load) }
 {
     match doing {
         Doing::DropIf { .. } => is_ok(reply),
@@ -201,7 +206,9 @@ pub fn is_drop(doing: Doing<'_>, reply: Option<&[u8]>) -> bool
 
 /// Returns what a step with this reply does to values.
 pub fn deed_of<'a>(doing: Doing<'a>, reply: Option<&[u8]>) -> Deed<'a>
-    ensures { (load : Option ℕ) (value : Option Value) → deed_with result value ≡ record (deed_of (acting (action_of doing.entry) (option_map (λ r. r.now) reply.entry) load)) { value = value } }
+    ensures { (load : Option ℕ) (value : Option Value) → deed_with result value ≡ record
+        (deed_of (acting (action_of doing.entry) (option_map (λ r. r.now) reply.entry) load))
+        { value = value } }
 {
     Deed {
         uses: key_used(doing),

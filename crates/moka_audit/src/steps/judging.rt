@@ -44,7 +44,8 @@ fn due_line(link: &Link) -> Option<&[u8]>
 
 /// Whether a line is the one of a connection that is due.
 fn is_due_of(s: &State, conn: u64, line: &[u8]) -> bool
-    ensures { result ≡ option_eq same (line_in (Some (RunHeld 0)) (connection_in conn (shown_situation s.now))) (Some line.now) }
+    ensures { result ≡ option_eq same
+        (line_in (Some (RunHeld 0)) (connection_in conn (shown_situation s.now))) (Some line.now) }
 {
     match find_link(&s.connections, conn) {
         Some(link) => is_said(due_line(link), Some(line)),
@@ -54,7 +55,9 @@ fn is_due_of(s: &State, conn: u64, line: &[u8]) -> bool
 
 /// Whether a step has the line that is due.
 fn has_right_line(s: &State, duty: Option<Duty<'_>>, conn: u64, line: &[u8]) -> bool
-    ensures { result ≡ option_eq same (line_in (option_map task_of duty.entry) (connection_in conn (shown_situation s.now))) (Some line.now) }
+    ensures { result ≡ option_eq same
+        (line_in (option_map task_of duty.entry) (connection_in conn (shown_situation s.now)))
+        (Some line.now) }
 {
     match duty {
         Some(Duty::Store(_, _)) => line == b"".as_slice(),
@@ -82,7 +85,8 @@ fn is_fit(
     shown: Shown<'_>,
     doing: Doing<'_>,
 ) -> Result<bool, AllocError>
-    ensures { IfOk result (λ b. b ≡ is_fit config.now (placed_by config.now (shown_situation s.now) (option_map task_of duty.entry) (action_of doing.entry) (shown_step shown.entry))) }
+    ensures { IfOk result (λ b. b ≡ is_fit config.now (placed_by config.now (shown_situation s.now)
+        (option_map task_of duty.entry) (action_of doing.entry) (shown_step shown.entry))) }
 {
     let turn = is_duty_of(shown.conn, duty);
     let held = is_held_rightly(duty, shown.held, doing);
@@ -122,7 +126,8 @@ fn is_synced(
     doing: Doing<'_>,
     reply: Option<&[u8]>,
 ) -> Result<bool, AllocError>
-    ensures { IfOk result (λ b. (seen : View) → b ≡ syncs_so config.now seen (action_of doing.entry) (option_map (λ r. r.now) reply.entry) (values_of held.now)) }
+    ensures { IfOk result (λ b. (seen : View) → b ≡ syncs_so config.now seen (action_of doing.entry)
+        (option_map (λ r. r.now) reply.entry) (values_of held.now)) }
 {
     match doing {
         Doing::Sync => {
@@ -148,8 +153,11 @@ fn do_values(
 ) -> Result<bool, AllocError>
     requires new { IfSome newcomer (IsJustAccepted s.old.latest) }
     requires small { IfSome newcomer (λ h. h.value.part < 256) }
-    ensures right { IfOk result (λ b. (task : Option Task) → b ≡ ends_rightly config.now (placed_in config.now s.old task doing.entry shown.entry newcomer)) }
-    ensures left { IfOk result (λ b. b ≡ true → shown_situation s.new ≡ with_values_after config.now (shown_situation s.old) (placed_in config.now s.old None doing.entry shown.entry newcomer).effect) }
+    ensures right { IfOk result (λ b. (task : Option Task) → b ≡ ends_rightly config.now
+        (placed_in config.now s.old task doing.entry shown.entry newcomer)) }
+    ensures left { IfOk result (λ b. b ≡ true
+        → shown_situation s.new ≡ with_values_after config.now (shown_situation s.old)
+        (placed_in config.now s.old None doing.entry shown.entry newcomer).effect) }
 {
     let deed = deed_of(doing, shown.reply);
     if !do_deed(
@@ -180,7 +188,8 @@ fn pass_step(
     doing: Doing<'_>,
 ) -> Result<(), AllocError>
     requires { IsTrue (have_numbers_apart s.old.connections) }
-    ensures { OnOk result (shown_situation s.new ≡ passed_on (option_map task_of duty.entry) (action_of doing.entry) (shown_step shown.entry) (shown_situation s.old)) }
+    ensures { OnOk result (shown_situation s.new ≡ passed_on (option_map task_of duty.entry)
+        (action_of doing.entry) (shown_step shown.entry) (shown_situation s.old)) }
 {
     if is_store(duty) {
         return Ok(());
@@ -214,8 +223,11 @@ fn finish(
     requires apart { IsTrue (have_numbers_apart s.old.connections) }
     requires new { IfSome newcomer (IsJustAccepted s.old.latest) }
     requires small { IfSome newcomer (λ h. h.value.part < 256) }
-    ensures right { IfOk result (λ b. b ≡ ends_rightly config.now (placed_in config.now s.old (option_map task_of duty.entry) doing.entry shown.entry newcomer)) }
-    ensures left { IfOk result (λ b. b ≡ true → shown_situation s.new ≡ after_placed config.now (shown_situation s.old) (placed_in config.now s.old (option_map task_of duty.entry) doing.entry shown.entry newcomer)) }
+    ensures right { IfOk result (λ b. b ≡ ends_rightly config.now (placed_in config.now s.old
+        (option_map task_of duty.entry) doing.entry shown.entry newcomer)) }
+    ensures left { IfOk result (λ b. b ≡ true
+        → shown_situation s.new ≡ after_placed config.now (shown_situation s.old) (placed_in
+        config.now s.old (option_map task_of duty.entry) doing.entry shown.entry newcomer)) }
 {
     if !do_values(alloc, config, s, shown, doing, newcomer)? {
         return Ok(false);
@@ -238,9 +250,13 @@ fn judge_accepted(
     requires apart { IsTrue (have_numbers_apart s.old.connections) }
     requires new { IfSome newcomer (IsJustAccepted s.old.latest) }
     requires small { IfSome newcomer (λ h. h.value.part < 256) }
-    ensures right { IfOk result (λ b. b ≡ agrees_and_ends config.now parts.old (placed_in config.now s.old (option_map task_of duty.entry) doing.entry shown.entry newcomer)) }
-    ensures left { IfOk result (λ b. b ≡ true → shown_situation s.new ≡ after_placed config.now (shown_situation s.old) (placed_in config.now s.old (option_map task_of duty.entry) doing.entry shown.entry newcomer)) }
-    ensures kept { IfOk result (λ b. b ≡ true → parts.new ≡ with_value parts.old (option_map (λ h. h.value) newcomer)) }
+    ensures right { IfOk result (λ b. b ≡ agrees_and_ends config.now parts.old (placed_in config.now
+        s.old (option_map task_of duty.entry) doing.entry shown.entry newcomer)) }
+    ensures left { IfOk result (λ b. b ≡ true
+        → shown_situation s.new ≡ after_placed config.now (shown_situation s.old) (placed_in
+        config.now s.old (option_map task_of duty.entry) doing.entry shown.entry newcomer)) }
+    ensures kept { IfOk result
+        (λ b. b ≡ true → parts.new ≡ with_value parts.old (option_map (λ h. h.value) newcomer)) }
 {
     if !admit(parts, newcomer.as_ref())? {
         return Ok(false);
@@ -259,7 +275,9 @@ fn judge_doing(
     doing: Doing<'_>,
 ) -> Result<bool, AllocError>
     requires { IsTrue (have_numbers_apart s.old.connections) }
-    ensures { IfOk result (λ b. Judges config.now s.old parts.old (placed_by config.now (shown_situation s.old) (option_map task_of duty.entry) (action_of doing.entry) (shown_step shown.entry)) b s.new parts.new) }
+    ensures { IfOk result (λ b. Judges config.now s.old parts.old
+        (placed_by config.now (shown_situation s.old) (option_map task_of duty.entry)
+        (action_of doing.entry) (shown_step shown.entry)) b s.new parts.new) }
 {
     if !is_fit(alloc, config, s, duty, shown, doing)? {
         return Ok(false);
@@ -281,7 +299,8 @@ pub fn judge(
     shown: Shown<'_>,
 ) -> Result<bool, AllocError>
     requires { IsTrue (have_numbers_apart s.old.connections) }
-    ensures { IfOk result (λ b. JudgesStep config.now s.old parts.old (option_map task_of duty.entry) (shown_step shown.entry) b s.new parts.new) }
+    ensures { IfOk result (λ b. JudgesStep config.now s.old parts.old
+        (option_map task_of duty.entry) (shown_step shown.entry) b s.new parts.new) }
 {
     let waited = waited(s, shown.conn);
     let doing = do_due(config, waited, duty, shown);

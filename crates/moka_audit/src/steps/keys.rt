@@ -20,8 +20,10 @@ fn live_keys<'a>(
     now: u64,
     held: &[Seen<'a>],
 ) -> Result<BTreeMap<&'a [u8], ()>, AllocError>
-    requires { (key : List ℕ) → find (λ h. same key h.value.key) (without_key (λ h. h.value.key) key (reverse (map held_of held.now))) ≡ None }
-    ensures { IfOk result (λ keys. map (λ e. e.0.now) keys.entries ≡ live_keys_at config.now now (reverse (map held_of held.entry.now))) }
+    requires { (key : List ℕ) → find (λ h. same key h.value.key)
+        (without_key (λ h. h.value.key) key (reverse (map held_of held.now))) ≡ None }
+    ensures { IfOk result (λ keys. map (λ e. e.0.now) keys.entries
+        ≡ live_keys_at config.now now (reverse (map held_of held.entry.now))) }
 {
     let mut keys = BTreeMap::new(alloc);
     for at in 0..held.len() {
@@ -43,7 +45,8 @@ fn seen_at<'a>(held: &[Seen<'a>], at: usize) -> Seen<'a>
 
 /// Writes each key on a line of its own.
 fn write_keys(output: &mut Vec<u8>, keys: &BTreeMap<&[u8], ()>) -> Result<(), AllocError>
-    ensures { OnOk result (output.new.items ≡ output.old.items ++ concat (map text_line (map (λ e. e.0.now) keys.entry.now.entries))) }
+    ensures { OnOk result (output.new.items ≡ output.old.items
+        ++ concat (map text_line (map (λ e. e.0.now) keys.entry.now.entries))) }
 {
     for (key, _unit) in keys {
         write_key(output, key)?;
@@ -67,7 +70,8 @@ pub fn keys_listed(
     now: u64,
     held: &Holding,
 ) -> Result<Vec<u8>, AllocError>
-    ensures { IfOk result (λ text. text.items ≡ keys_listed (live_keys_at config.now now held.now)) }
+    ensures { IfOk result
+        (λ text. text.items ≡ keys_listed (live_keys_at config.now now held.now)) }
 {
     let _number = held.len();
     let all = held.lent()?;
@@ -77,7 +81,8 @@ pub fn keys_listed(
 
 /// The number of these, and then each on a line of its own.
 fn text_of(alloc: Global, keys: &BTreeMap<&[u8], ()>) -> Result<Vec<u8>, AllocError>
-    ensures { IfOk result (λ text. text.items ≡ keys_listed (map (λ e. e.0.now) keys.entry.now.entries)) }
+    ensures { IfOk result
+        (λ text. text.items ≡ keys_listed (map (λ e. e.0.now) keys.entry.now.entries)) }
 {
     let mut number = Buffer::new();
     let mut text = Vec::from_slice(alloc, b"KEYS ")?;

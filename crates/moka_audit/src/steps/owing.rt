@@ -27,7 +27,9 @@ fn add_reply(
     key: &[u8],
     number: u64,
 ) -> Result<Vec<u8>, AllocError>
-    ensures { IfOk result (λ r. (ms : Option ℕ) (values : List Value) → Some r.items ≡ reply_of config.now (view_in config.now (shown_situation s.now)) values (Running (says.Add key.now ms number))) }
+    ensures { IfOk result (λ r. (ms : Option ℕ) (values : List Value)
+        → Some r.items ≡ reply_of config.now (view_in config.now (shown_situation s.now)) values
+        (Running (says.Add key.now ms number))) }
 {
     if accepts(config) {
         sum_or_error(alloc, sum_with(found(config, s, key), number))
@@ -43,7 +45,9 @@ fn load_reply(
     s: &State,
     key: &[u8],
 ) -> Result<Option<Vec<u8>>, AllocError>
-    ensures { IfOk result (λ r. (values : List Value) → option_map (λ t. t.items) r ≡ reply_of config.now (view_in config.now (shown_situation s.now)) values (Running (says.Load key.now))) }
+    ensures { IfOk result
+        (λ r. (values : List Value) → option_map (λ t. t.items) r ≡ reply_of config.now
+        (view_in config.now (shown_situation s.now)) values (Running (says.Load key.now))) }
 {
     match found(config, s, key) {
         Some(held) => Ok(Some(value_reply(alloc, held.bytes)?)),
@@ -65,7 +69,9 @@ fn owed(
     s: &State,
     doing: Doing<'_>,
 ) -> Result<Option<Vec<u8>>, AllocError>
-    ensures { IfOk result (λ r. (values : List Value) → is_sync (action_of doing.entry) ≡ false → option_map (λ t. t.items) r ≡ reply_owed config.now (shown_situation s.now) (action_of doing.entry) values) }
+    ensures { IfOk result (λ r. (values : List Value)
+        → is_sync (action_of doing.entry) ≡ false → option_map (λ t. t.items) r
+        ≡ reply_owed config.now (shown_situation s.now) (action_of doing.entry) values) }
 {
     match doing {
         Doing::Set { .. } => text(alloc, ok_or_off(config)),
@@ -89,7 +95,8 @@ fn owed(
 
 /// Whether a reply is the one that is owed, or the refusal that may be given.
 fn is_reply(reply: Option<&[u8]>, owed: Option<&[u8]>, refuses: bool) -> bool
-    ensures { result ≡ is_owed_or_refusal (option_map (λ r. r.now) reply.entry) (option_map (λ r. r.now) owed.entry) refuses }
+    ensures { result ≡ is_owed_or_refusal (option_map (λ r. r.now) reply.entry)
+        (option_map (λ r. r.now) owed.entry) refuses }
 {
     is_said(reply, owed) || (refuses && is_said(reply, Some(b"ERR id\n")))
 }
@@ -102,7 +109,9 @@ pub fn replies_rightly(
     doing: Doing<'_>,
     reply: Option<&[u8]>,
 ) -> Result<bool, AllocError>
-    ensures { IfOk result (λ b. (values : List Value) → b ≡ replies_so config.now (shown_situation s.now) (action_of doing.entry) (option_map (λ r. r.now) reply.entry) values) }
+    ensures { IfOk result
+        (λ b. (values : List Value) → b ≡ replies_so config.now (shown_situation s.now)
+        (action_of doing.entry) (option_map (λ r. r.now) reply.entry) values) }
 {
     if is_sync(doing) {
         return Ok(true);

@@ -32,7 +32,8 @@ pub fn value_reply(alloc: Global, bytes: &[u8]) -> Result<Vec<u8>, AllocError>
 
 /// The value, or `NONE`.
 pub fn value_or_none(alloc: Global, found: Option<Seen<'_>>) -> Result<Vec<u8>, AllocError>
-    ensures { IfOk result (λ line. line.items ≡ value_or_none (option_map (λ h. (held_of h).value) found.entry)) }
+    ensures { IfOk result
+        (λ line. line.items ≡ value_or_none (option_map (λ h. (held_of h).value) found.entry)) }
 {
     match found {
         Some(held) => value_reply(alloc, held.bytes),
@@ -140,7 +141,8 @@ pub fn counts_of(alloc: Global, held: &Holding) -> Result<Vec<u8>, AllocError>
 
 /// Whether the two are the same bytes, or neither exists.
 pub fn is_said(reply: Option<&[u8]>, owed: Option<&[u8]>) -> bool
-    ensures { result ≡ option_eq same (option_map (λ r. r.now) reply.entry) (option_map (λ r. r.now) owed.entry) }
+    ensures { result ≡ option_eq same (option_map (λ r. r.now) reply.entry)
+        (option_map (λ r. r.now) owed.entry) }
 {
     match reply {
         Some(reply) => match owed {

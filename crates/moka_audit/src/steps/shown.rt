@@ -69,7 +69,8 @@ pub fn do_due<'a>(
     duty: Option<Duty<'a>>,
     shown: Shown<'a>,
 ) -> Doing<'a>
-    ensures { action_of result ≡ action_in config.now waited (option_map task_of duty.entry) (shown_step shown.entry) }
+    ensures { action_of result
+        ≡ action_in config.now waited (option_map task_of duty.entry) (shown_step shown.entry) }
 {
     match duty {
         Some(Duty::Store(key, outcome)) => Doing::Store(key, outcome),
@@ -83,7 +84,8 @@ pub fn do_due<'a>(
 
 /// What a given-up `LOAD` does that began to wait this many times.
 fn do_again<'a>(config: &Config, waited: u64, shown: Shown<'a>) -> Doing<'a>
-    ensures { action_of result ≡ (if nat_le 200 waited then Abandoning else action_of_line config.now (shown_step shown.entry)) }
+    ensures { action_of result ≡ (if nat_le 200 waited then Abandoning
+        else action_of_line config.now (shown_step shown.entry)) }
 {
     if 200 <= waited {
         Doing::Abandon
@@ -122,7 +124,8 @@ fn may_hold(duty: Option<Duty<'_>>, doing: Doing<'_>) -> bool
 
 /// Whether a step is held back only if it may be.
 pub fn is_held_rightly(duty: Option<Duty<'_>>, held: bool, doing: Doing<'_>) -> bool
-    ensures { result ≡ (not held || may_hold (option_map task_of duty.entry) (action_of doing.entry)) }
+    ensures { result
+        ≡ (not held || may_hold (option_map task_of duty.entry) (action_of doing.entry)) }
 {
     !held || may_hold(duty, doing)
 }

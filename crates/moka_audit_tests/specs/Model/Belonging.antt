@@ -23,20 +23,30 @@ first_records = opened 1 ∷ made_feed 1 5 (text "GET a") (says 1 "GET a" (text 
 
 abbrev pub first_last : Situation
 first_last =
-    record (empty_situation 0) { latest = 5; opened = 1; connections = record { number = 1; unread = []; standing = Ready; waited = 0 } ∷ [] }
+    record (empty_situation 0) {
+      latest = 5;
+      opened = 1;
+      connections = record { number = 1; unread = []; standing = Ready; waited = 0 } ∷ [];
+    }
 
 pub record GoodBelonging : Type 0 where
-  pub first_belongs : BelongsIn plain_config 1 (empty_situation 0) inputs_of_both first_records first_last
-  pub other_left_out : BelongsIn plain_config 2 (empty_situation 0) inputs_of_both [] (empty_situation 0)
+  pub first_belongs : BelongsIn plain_config 1 (empty_situation 0) inputs_of_both first_records
+      first_last
+  pub other_left_out : BelongsIn plain_config 2 (empty_situation 0) inputs_of_both []
+      (empty_situation 0)
 
 -- ---- broken
 
 -- records that belong to no such inputs, wherever they would lead
 abbrev pub NeverBelong : ℕ → List Input → List Record → Type 0
-NeverBelong namespace inputs records = (last : Situation) → ¬ BelongsIn plain_config namespace (empty_situation 0) inputs records last
+NeverBelong namespace inputs records =
+    (last : Situation) → ¬ BelongsIn plain_config namespace (empty_situation 0) inputs records last
 
 pub record BrokenBelonging : Type 0 where
   pub record_of_nothing : NeverBelong 1 [] (opened 1 ∷ [])
   pub record_of_other : NeverBelong 1 (input.Open 2 ∷ []) (opened 1 ∷ [])
-  pub record_of_refused : NeverBelong 1 (input.Close (record { namespace = 1; number = 1 }) ∷ []) (closed 1 ∷ [])
+  pub record_of_refused : NeverBelong 1 (input.Close (record {
+    namespace = 1;
+    number = 1;
+  }) ∷ []) (closed 1 ∷ [])
   pub record_that_follows_not : NeverBelong 1 (input.Open 1 ∷ []) (opened 2 ∷ [])

@@ -20,19 +20,24 @@ has_is_no_use = history (opened 1
 abbrev pub sums : Transcript
 sums = history (opened 1
     ∷ made_feed 1 0 (text "ADD n - 2") (takes 1 "ADD n - 2" (text "VAL 2") [] ∷ [])
-    ∷ made_feed 1 0 (text "ADD n - 003") (takes 1 "ADD n - 003" (text "VAL 5") (note Replaced "n" "2" ∷ []) ∷ [])
-    ∷ made_feed 1 0 (text "SET n - x") (takes 1 "SET n - x" (text "OK") (note Replaced "n" "5" ∷ []) ∷ [])
+    ∷ made_feed 1 0 (text "ADD n - 003")
+    (takes 1 "ADD n - 003" (text "VAL 5") (note Replaced "n" "2" ∷ []) ∷ [])
+    ∷ made_feed 1 0 (text "SET n - x")
+    (takes 1 "SET n - x" (text "OK") (note Replaced "n" "5" ∷ []) ∷ [])
     ∷ made_feed 1 0 (text "ADD n - 1") (says 1 "ADD n - 1" (text "ERR number") ∷ [])
     ∷ made_feed 1 0 (text "GET n") (says 1 "GET n" (text "VAL x") ∷ [])
-    ∷ made_feed 1 0 (text "SET n - 18446744073709551615") (takes 1 "SET n - 18446744073709551615" (text "OK") (note Replaced "n" "x" ∷ []) ∷ [])
+    ∷ made_feed 1 0 (text "SET n - 18446744073709551615")
+    (takes 1 "SET n - 18446744073709551615" (text "OK") (note Replaced "n" "x" ∷ []) ∷ [])
     ∷ made_feed 1 0 (text "ADD n - 1") (says 1 "ADD n - 1" (text "ERR number") ∷ [])
-    ∷ made_feed 1 0 (text "ADD n - 0") (takes 1 "ADD n - 0" (text "VAL 18446744073709551615") (note Replaced "n" "18446744073709551615" ∷ []) ∷ []) ∷ [])
+    ∷ made_feed 1 0 (text "ADD n - 0") (takes 1 "ADD n - 0" (text "VAL 18446744073709551615")
+    (note Replaced "n" "18446744073709551615" ∷ []) ∷ []) ∷ [])
 
 -- a sum has the deadline of its own line; what has died counts as 0
 abbrev pub sum_with_deadline : Transcript
 sum_with_deadline = history (opened 1
     ∷ made_feed 1 0 (text "ADD n 1 2") (takes 1 "ADD n 1 2" (text "VAL 2") [] ∷ [])
-    ∷ made_feed 1 999424 (text "ADD n - 3") (takes 1 "ADD n - 3" (text "VAL 3") (note Expired "n" "2" ∷ []) ∷ [])
+    ∷ made_feed 1 999424 (text "ADD n - 3")
+    (takes 1 "ADD n - 3" (text "VAL 3") (note Expired "n" "2" ∷ []) ∷ [])
     ∷ made_feed 1 1000000000 (text "GET n") (says 1 "GET n" (text "VAL 3") ∷ []) ∷ [])
 
 -- an `ADD` that ends in `ERR number` after its look-up is a use
@@ -45,8 +50,10 @@ failed_sum_uses = history (opened 1
 -- faults of an `ADD`, in their order
 abbrev pub numbers : Transcript
 numbers = history (opened 1
-    ∷ made_feed 1 0 (text "ADD n - 18446744073709551616") (says 1 "ADD n - 18446744073709551616" (text "ERR number") ∷ [])
-    ∷ made_feed 1 0 (text "ADD n - 000000000000000000001") (says 1 "ADD n - 000000000000000000001" (text "ERR number") ∷ [])
+    ∷ made_feed 1 0 (text "ADD n - 18446744073709551616")
+    (says 1 "ADD n - 18446744073709551616" (text "ERR number") ∷ [])
+    ∷ made_feed 1 0 (text "ADD n - 000000000000000000001")
+    (says 1 "ADD n - 000000000000000000001" (text "ERR number") ∷ [])
     ∷ made_feed 1 0 (text "ADD n - ") (says 1 "ADD n - " (text "ERR number") ∷ [])
     ∷ made_feed 1 0 (text "ADD n - 1x") (says 1 "ADD n - 1x" (text "ERR number") ∷ [])
     ∷ made_feed 1 0 (text "ADD n 5 1x") (says 1 "ADD n 5 1x" (text "ERR deadline") ∷ [])
@@ -54,7 +61,8 @@ numbers = history (opened 1
     ∷ made_feed 1 0 (text "ADD n 5 1 2") (says 1 "ADD n 5 1 2" (text "ERR syntax") ∷ [])
     ∷ made_feed 1 0 (text "ADD n -") (says 1 "ADD n -" (text "ERR syntax") ∷ [])
     ∷ made_feed 1 0 (text "ADD  - 1") (says 1 "ADD  - 1" (text "ERR syntax") ∷ [])
-    ∷ made_feed 1 0 (text "ADD n - 18446744073709551615") (takes 1 "ADD n - 18446744073709551615" (text "VAL 18446744073709551615") [] ∷ []) ∷ [])
+    ∷ made_feed 1 0 (text "ADD n - 18446744073709551615")
+    (takes 1 "ADD n - 18446744073709551615" (text "VAL 18446744073709551615") [] ∷ []) ∷ [])
 
 -- the line is judged before the capacity
 abbrev pub no_room_for_sums : Transcript
@@ -68,14 +76,16 @@ add_tells_size = history (opened 1
     ∷ made_feed 1 0 (text "ADD a - 1") (takes 1 "ADD a - 1" (text "VAL 1") [] ∷ [])
     ∷ made_feed 1 0 (text "SET b - 1") (takes 1 "SET b - 1" (text "OK") [] ∷ [])
     ∷ made_feed 1 0 (text "SET c - 1") (takes 1 "SET c - 1" (text "OK") [] ∷ [])
-    ∷ made_feed 1 0 (text "ADD a - 1") (takes 1 "ADD a - 1" (text "VAL 2") (note Size "a" "1" ∷ []) ∷ []) ∷ [])
+    ∷ made_feed 1 0 (text "ADD a - 1")
+    (takes 1 "ADD a - 1" (text "VAL 2") (note Size "a" "1" ∷ []) ∷ []) ∷ [])
 
 abbrev pub cleared : Transcript
 cleared = history (opened 1
     ∷ made_feed 1 0 (text "SET a - 1") (takes 1 "SET a - 1" (text "OK") [] ∷ [])
     ∷ made_feed 1 0 (text "CLEAR") (says 1 "CLEAR" (text "OK") ∷ [])
     ∷ made_feed 1 0 (text "GET a") (says 1 "GET a" (text "NONE") ∷ [])
-    ∷ made_feed 1 0 (text "SET a - 2") (takes 1 "SET a - 2" (text "OK") (note Explicit "a" "1" ∷ []) ∷ [])
+    ∷ made_feed 1 0 (text "SET a - 2")
+    (takes 1 "SET a - 2" (text "OK") (note Explicit "a" "1" ∷ []) ∷ [])
     ∷ made_feed 1 0 (text "GET a") (says 1 "GET a" (text "VAL 2") ∷ []) ∷ [])
 
 -- what is covered is held until it is reported
@@ -84,7 +94,8 @@ cleared_and_held = history (opened 1
     ∷ made_feed 1 0 (text "SET a - 1") (takes 1 "SET a - 1" (text "OK") [] ∷ [])
     ∷ made_feed 1 0 (text "CLEAR") (says 1 "CLEAR" (text "OK") ∷ [])
     ∷ made_feed 1 0 (text "SYNC") (says 1 "SYNC" (text "SYNC 1 1") ∷ [])
-    ∷ made_feed 1 0 (text "SYNC") (tells 1 "SYNC" (text "SYNC 0 0") (note Explicit "a" "1" ∷ []) ∷ []) ∷ [])
+    ∷ made_feed 1 0 (text "SYNC")
+    (tells 1 "SYNC" (text "SYNC 0 0") (note Explicit "a" "1" ∷ []) ∷ []) ∷ [])
 
 -- a `DROPIF` covers the keys of its prefix that are held, and none that come later
 abbrev pub prefix_dropped : Transcript
@@ -94,7 +105,8 @@ prefix_dropped = history (opened 1
     ∷ made_feed 1 0 (text "DROPIF a") (says 1 "DROPIF a" (text "OK") ∷ [])
     ∷ made_feed 1 0 (text "GET ab") (says 1 "GET ab" (text "NONE") ∷ [])
     ∷ made_feed 1 0 (text "SET ac - 3") (takes 1 "SET ac - 3" (text "OK") [] ∷ [])
-    ∷ made_feed 1 0 (text "KEYS") (says 1 "KEYS" (text "KEYS 2" ++ text "ac" ++ text "b") ∷ []) ∷ [])
+    ∷ made_feed 1 0 (text "KEYS") (says 1 "KEYS" (text "KEYS 2" ++ text "ac" ++ text "b") ∷ [])
+    ∷ [])
 
 -- a later `DROPIF` may be refused, and covers nothing then
 abbrev pub second_id : Transcript
@@ -113,7 +125,8 @@ keys_in_order = history (opened 1
     ∷ made_feed 1 0 (text "SET B - 1") (takes 1 "SET B - 1" (text "OK") [] ∷ [])
     ∷ made_feed 1 0 (text "DEL B") (tells 1 "DEL B" (text "OK") (note Explicit "B" "1" ∷ []) ∷ [])
     ∷ made_feed 1 0 (text "SET Z - 1") (takes 1 "SET Z - 1" (text "OK") [] ∷ [])
-    ∷ made_feed 1 0 (text "KEYS") (says 1 "KEYS" (text "KEYS 4" ++ text "Z" ++ text "a" ++ text "ab" ++ text "b") ∷ []) ∷ [])
+    ∷ made_feed 1 0 (text "KEYS")
+    (says 1 "KEYS" (text "KEYS 4" ++ text "Z" ++ text "a" ++ text "ab" ++ text "b") ∷ []) ∷ [])
 
 -- what stands behind a `QUIT` is not run, and another connection goes on
 abbrev pub quit : Transcript
@@ -157,7 +170,8 @@ pub record GoodCommands : Type 0 where
 abbrev pub has_tells : Transcript
 has_tells = history (opened 1
     ∷ made_feed 1 0 (text "SET a - 1") (takes 1 "SET a - 1" (text "OK") [] ∷ [])
-    ∷ made_feed 1 7000000 (text "HAS a") (tells 1 "HAS a" (text "NO") (note Expired "a" "1" ∷ []) ∷ []) ∷ [])
+    ∷ made_feed 1 7000000 (text "HAS a")
+    (tells 1 "HAS a" (text "NO") (note Expired "a" "1" ∷ []) ∷ []) ∷ [])
 
 abbrev pub has_uses : Transcript
 has_uses = history (opened 1
@@ -174,7 +188,8 @@ silent_add = history (opened 1
 abbrev pub sum_without_held : Transcript
 sum_without_held = history (opened 1
     ∷ made_feed 1 0 (text "SET n - 1") (takes 1 "SET n - 1" (text "OK") [] ∷ [])
-    ∷ made_feed 1 0 (text "ADD n - 1") (takes 1 "ADD n - 1" (text "VAL 1") (note Replaced "n" "1" ∷ []) ∷ []) ∷ [])
+    ∷ made_feed 1 0 (text "ADD n - 1")
+    (takes 1 "ADD n - 1" (text "VAL 1") (note Replaced "n" "1" ∷ []) ∷ []) ∷ [])
 
 abbrev pub sum_not_stored : Transcript
 sum_not_stored = history (opened 1
@@ -189,7 +204,8 @@ cleared_shown = history (opened 1
 abbrev pub clear_tells : Transcript
 clear_tells = history (opened 1
     ∷ made_feed 1 0 (text "SET a - 1") (takes 1 "SET a - 1" (text "OK") [] ∷ [])
-    ∷ made_feed 1 0 (text "CLEAR") (tells 1 "CLEAR" (text "OK") (note Explicit "a" "1" ∷ []) ∷ []) ∷ [])
+    ∷ made_feed 1 0 (text "CLEAR") (tells 1 "CLEAR" (text "OK") (note Explicit "a" "1" ∷ []) ∷ [])
+    ∷ [])
 
 abbrev pub dropped_shown : Transcript
 dropped_shown = history (opened 1
@@ -228,7 +244,8 @@ keys_out_of_order = history (opened 1
 
 abbrev pub quit_goes_on : Transcript
 quit_goes_on = history (opened 1
-    ∷ made_feed 1 0 (text "QUIT" ++ text "GET a") (says 1 "QUIT" (text "OK") ∷ says 1 "GET a" (text "NONE") ∷ []) ∷ [])
+    ∷ made_feed 1 0 (text "QUIT" ++ text "GET a")
+    (says 1 "QUIT" (text "OK") ∷ says 1 "GET a" (text "NONE") ∷ []) ∷ [])
 
 abbrev pub fed_after_quit : Transcript
 fed_after_quit = history (opened 1

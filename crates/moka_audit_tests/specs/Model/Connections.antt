@@ -32,7 +32,8 @@ held_delete = history (opened 1
 abbrev pub lines_behind_held : Transcript
 lines_behind_held = history (opened 1
     ∷ made_feed 1 0 (text "GET a" ++ text "GET b") (made_held_step 1 "GET a" ∷ [])
-    ∷ made_feed 1 0 (text "GET c") (says 1 "GET a" (text "NONE") ∷ says 1 "GET b" (text "NONE") ∷ says 1 "GET c" (text "NONE") ∷ []) ∷ [])
+    ∷ made_feed 1 0 (text "GET c") (says 1 "GET a" (text "NONE") ∷ says 1 "GET b" (text "NONE")
+    ∷ says 1 "GET c" (text "NONE") ∷ []) ∷ [])
 
 pub record GoodConnections : Type 0 where
   pub two_connections_good : IsGood plain_config two_connections
@@ -77,7 +78,8 @@ held_again = history (opened 1
 
 abbrev pub line_passes_held : Transcript
 line_passes_held = history (opened 1
-    ∷ made_feed 1 0 (text "GET a" ++ text "GET b") (made_held_step 1 "GET a" ∷ says 1 "GET b" (text "NONE") ∷ []) ∷ [])
+    ∷ made_feed 1 0 (text "GET a" ++ text "GET b")
+    (made_held_step 1 "GET a" ∷ says 1 "GET b" (text "NONE") ∷ []) ∷ [])
 
 pub record BrokenConnections : Type 0 where
   pub feed_first_breaks : BreaksAfter 0 plain_config feed_first

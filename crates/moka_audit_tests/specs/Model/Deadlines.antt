@@ -13,7 +13,8 @@ own_deadline = history (opened 1
     ∷ made_feed 1 999423 (text "GET a") (says 1 "GET a" (text "VAL x") ∷ [])
     ∷ made_feed 1 999424 (text "GET a") (says 1 "GET a" (text "NONE") ∷ [])
     ∷ made_feed 1 999424 (text "SYNC") (says 1 "SYNC" (text "SYNC 1 1") ∷ [])
-    ∷ made_feed 1 1073741824 (text "SYNC") (tells 1 "SYNC" (text "SYNC 0 0") (note Expired "a" "x" ∷ []) ∷ []) ∷ [])
+    ∷ made_feed 1 1073741824 (text "SYNC")
+    (tells 1 "SYNC" (text "SYNC 0 0") (note Expired "a" "x" ∷ []) ∷ []) ∷ [])
 
 abbrev pub idle_time : Transcript
 idle_time = history (opened 1
@@ -28,7 +29,8 @@ live_time = history (opened 1
     ∷ made_feed 1 0 (text "SET a - 1") (takes 1 "SET a - 1" (text "OK") [] ∷ [])
     ∷ made_feed 1 6999999 (text "GET a") (says 1 "GET a" (text "VAL 1") ∷ [])
     ∷ made_feed 1 7000000 (text "GET a") (says 1 "GET a" (text "NONE") ∷ [])
-    ∷ made_feed 1 7000000 (text "SET a - 2") (takes 1 "SET a - 2" (text "OK") (note Expired "a" "1" ∷ []) ∷ []) ∷ [])
+    ∷ made_feed 1 7000000 (text "SET a - 2")
+    (takes 1 "SET a - 2" (text "OK") (note Expired "a" "1" ∷ []) ∷ []) ∷ [])
 
 -- an earlier moment counts as the latest one
 abbrev pub fallen_moment : Transcript
@@ -40,7 +42,8 @@ fallen_moment = history (opened 1
 abbrev pub own_end_first : Transcript
 own_end_first = history (opened 1
     ∷ made_feed 1 0 (text "SET a 100 x") (takes 1 "SET a 100 x" (text "OK") [] ∷ [])
-    ∷ made_feed 1 0 (text "SET a 5 y") (takes 1 "SET a 5 y" (text "OK") (note Replaced "a" "x" ∷ []) ∷ [])
+    ∷ made_feed 1 0 (text "SET a 5 y")
+    (takes 1 "SET a 5 y" (text "OK") (note Replaced "a" "x" ∷ []) ∷ [])
     ∷ made_feed 1 4000000 (text "GET a") (says 1 "GET a" (text "VAL y") ∷ [])
     ∷ made_feed 1 4997119 (text "GET a") (says 1 "GET a" (text "VAL y") ∷ [])
     ∷ made_feed 1 4997120 (text "GET a") (says 1 "GET a" (text "NONE") ∷ []) ∷ [])
@@ -77,7 +80,8 @@ shown_until_timer = history (opened 1
 abbrev pub own_end_missed : Transcript
 own_end_missed = history (opened 1
     ∷ made_feed 1 0 (text "SET a 100 x") (takes 1 "SET a 100 x" (text "OK") [] ∷ [])
-    ∷ made_feed 1 0 (text "SET a 5 y") (takes 1 "SET a 5 y" (text "OK") (note Replaced "a" "x" ∷ []) ∷ [])
+    ∷ made_feed 1 0 (text "SET a 5 y")
+    (takes 1 "SET a 5 y" (text "OK") (note Replaced "a" "x" ∷ []) ∷ [])
     ∷ made_feed 1 4000000 (text "GET a") (says 1 "GET a" (text "VAL y") ∷ [])
     ∷ made_feed 1 4997119 (text "GET a") (says 1 "GET a" (text "VAL y") ∷ [])
     ∷ made_feed 1 4997120 (text "GET a") (says 1 "GET a" (text "VAL y") ∷ []) ∷ [])
@@ -86,7 +90,8 @@ own_end_missed = history (opened 1
 abbrev pub dead_told_replaced : Transcript
 dead_told_replaced = history (opened 1
     ∷ made_feed 1 0 (text "SET a - 1") (takes 1 "SET a - 1" (text "OK") [] ∷ [])
-    ∷ made_feed 1 7000000 (text "SET a - 2") (takes 1 "SET a - 2" (text "OK") (note Replaced "a" "1" ∷ []) ∷ []) ∷ [])
+    ∷ made_feed 1 7000000 (text "SET a - 2")
+    (takes 1 "SET a - 2" (text "OK") (note Replaced "a" "1" ∷ []) ∷ []) ∷ [])
 
 pub record BrokenDeadlines : Type 0 where
   pub shown_until_timer_breaks : BreaksAfter 2 (with_deadlines plain_config) shown_until_timer

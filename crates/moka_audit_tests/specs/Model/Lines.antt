@@ -11,7 +11,8 @@ long n = replicate n 120
 
 -- a step that accepts nothing, of a line of bytes
 abbrev pub says_to : List ℕ → List ℕ → Transcript
-says_to line reply = history (opened 1 ∷ made_feed 1 0 (line ++ 10 ∷ []) (made_step 1 line reply None [] ∷ []) ∷ [])
+says_to line reply =
+    history (opened 1 ∷ made_feed 1 0 (line ++ 10 ∷ []) (made_step 1 line reply None [] ∷ []) ∷ [])
 
 -- ---- good
 
@@ -43,22 +44,26 @@ bad_lines = history (opened 1
     ∷ made_feed 1 0 (text "SET a 5 x") (says 1 "SET a 5 x" (text "ERR deadline") ∷ [])
     ∷ made_feed 1 0 (text "SET a - ") (takes 1 "SET a - " (text "OK") [] ∷ [])
     ∷ made_feed 1 0 (text "GET a") (says 1 "GET a" (text "VAL ") ∷ [])
-    ∷ made_feed 1 0 (text "SET a - x  y ") (takes 1 "SET a - x  y " (text "OK") (note Replaced "a" "" ∷ []) ∷ [])
+    ∷ made_feed 1 0 (text "SET a - x  y ")
+    (takes 1 "SET a - x  y " (text "OK") (note Replaced "a" "" ∷ []) ∷ [])
     ∷ made_feed 1 0 (text "GET a") (says 1 "GET a" (text "VAL x  y ") ∷ []) ∷ [])
 
 -- one carriage return before the line feed is dropped; another one is a byte that a value may not have
 abbrev pub returns : Transcript
 returns = history (opened 1
     ∷ made_feed 1 0 (codes "SET a - x" ++ 13 ∷ 10 ∷ []) (takes 1 "SET a - x" (text "OK") [] ∷ [])
-    ∷ made_feed 1 0 (codes "SET a - x" ++ 13 ∷ 13 ∷ 10 ∷ []) (made_step 1 (codes "SET a - x" ++ 13 ∷ []) (text "ERR syntax") None [] ∷ []) ∷ [])
+    ∷ made_feed 1 0 (codes "SET a - x" ++ 13 ∷ 13 ∷ 10 ∷ [])
+    (made_step 1 (codes "SET a - x" ++ 13 ∷ []) (text "ERR syntax") None [] ∷ []) ∷ [])
 
 abbrev pub deadline_digits : Transcript
 deadline_digits = history (opened 1
-    ∷ made_feed 1 0 (text "SET a 1000000000000 x") (says 1 "SET a 1000000000000 x" (text "ERR deadline") ∷ [])
+    ∷ made_feed 1 0 (text "SET a 1000000000000 x")
+    (says 1 "SET a 1000000000000 x" (text "ERR deadline") ∷ [])
     ∷ made_feed 1 0 (text "SET a 1x x") (says 1 "SET a 1x x" (text "ERR deadline") ∷ [])
     ∷ made_feed 1 0 (text "SET a 00 x") (takes 1 "SET a 00 x" (text "OK") [] ∷ [])
     ∷ made_feed 1 0 (text "GET a") (says 1 "GET a" (text "NONE") ∷ [])
-    ∷ made_feed 1 0 (text "SET b 999999999999 x") (takes 1 "SET b 999999999999 x" (text "OK") [] ∷ [])
+    ∷ made_feed 1 0 (text "SET b 999999999999 x")
+    (takes 1 "SET b 999999999999 x" (text "OK") [] ∷ [])
     ∷ made_feed 1 0 (text "GET b") (says 1 "GET b" (text "VAL x") ∷ []) ∷ [])
 
 abbrev pub longest_key : Transcript
@@ -113,7 +118,8 @@ other_fault = says_to (codes "GET") (text "ERR command")
 
 abbrev pub line_with_return : Transcript
 line_with_return = history (opened 1
-    ∷ made_feed 1 0 (codes "GET a" ++ 13 ∷ 10 ∷ []) (made_step 1 (codes "GET a" ++ 13 ∷ []) (text "NONE") None [] ∷ []) ∷ [])
+    ∷ made_feed 1 0 (codes "GET a" ++ 13 ∷ 10 ∷ [])
+    (made_step 1 (codes "GET a" ++ 13 ∷ []) (text "NONE") None [] ∷ []) ∷ [])
 
 abbrev pub line_left_over : Transcript
 line_left_over = history (opened 1
@@ -125,7 +131,8 @@ line_without_end = history (opened 1
 
 abbrev pub lines_swapped : Transcript
 lines_swapped = history (opened 1
-    ∷ made_feed 1 0 (text "GET a" ++ text "GET b") (says 1 "GET b" (text "NONE") ∷ says 1 "GET a" (text "NONE") ∷ []) ∷ [])
+    ∷ made_feed 1 0 (text "GET a" ++ text "GET b")
+    (says 1 "GET b" (text "NONE") ∷ says 1 "GET a" (text "NONE") ∷ []) ∷ [])
 
 abbrev pub key_too_long_read : Transcript
 key_too_long_read = says_to (codes "GET " ++ long 251) (text "NONE")

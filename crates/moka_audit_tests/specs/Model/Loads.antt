@@ -24,7 +24,8 @@ second_joins = made_feed 2 0 (text "LOAD k") (joins 2 "LOAD k" ∷ [])
 abbrev pub one_load_for_two : Transcript
 one_load_for_two = over_two_connections (first_asks
     ∷ second_joins
-    ∷ stored 1 0 (came "v") [] (says 1 "LOAD k" (text "VAL v") ∷ says 2 "LOAD k" (text "VAL v") ∷ [])
+    ∷ stored 1 0 (came "v") []
+    (says 1 "LOAD k" (text "VAL v") ∷ says 2 "LOAD k" (text "VAL v") ∷ [])
     ∷ made_feed 1 0 (text "GET k") (says 1 "GET k" (text "VAL v") ∷ []) ∷ [])
 
 -- a give-up runs both again: the first sends another load, the second joins it
@@ -32,7 +33,8 @@ abbrev pub both_run_again : Transcript
 both_run_again = over_two_connections (first_asks
     ∷ second_joins
     ∷ given_up 1 0 (sends 1 "LOAD k" 2 ∷ joins 2 "LOAD k" ∷ [])
-    ∷ stored 2 0 (came "v") [] (says 1 "LOAD k" (text "VAL v") ∷ says 2 "LOAD k" (text "VAL v") ∷ []) ∷ [])
+    ∷ stored 2 0 (came "v") []
+    (says 1 "LOAD k" (text "VAL v") ∷ says 2 "LOAD k" (text "VAL v") ∷ []) ∷ [])
 
 -- what came to be there in the meantime is found by each that runs again, and lines behind it run at once
 abbrev pub found_when_run_again : Transcript
@@ -42,7 +44,8 @@ found_when_run_again = history (opened 1
     ∷ made_feed 1 0 (text "LOAD k" ++ text "GET k") (sends 1 "LOAD k" 1 ∷ [])
     ∷ second_joins
     ∷ made_feed 3 0 (text "SET k - 1") (takes 3 "SET k - 1" (text "OK") [] ∷ [])
-    ∷ given_up 1 0 (says 1 "LOAD k" (text "VAL 1") ∷ says 1 "GET k" (text "VAL 1") ∷ says 2 "LOAD k" (text "VAL 1") ∷ []) ∷ [])
+    ∷ given_up 1 0 (says 1 "LOAD k" (text "VAL 1") ∷ says 1 "GET k" (text "VAL 1")
+    ∷ says 2 "LOAD k" (text "VAL 1") ∷ []) ∷ [])
 
 -- a `DEL` that comes in the meantime does not stop the value
 abbrev pub deleted_meanwhile : Transcript
@@ -90,7 +93,8 @@ nobody_waits = over_two_connections (first_asks
 
 -- all that wait are answered first, and then the lines of each run
 abbrev pub lines_behind : Transcript
-lines_behind = over_two_connections (made_feed 1 0 (text "LOAD k" ++ text "GET k") (sends 1 "LOAD k" 1 ∷ [])
+lines_behind =
+    over_two_connections (made_feed 1 0 (text "LOAD k" ++ text "GET k") (sends 1 "LOAD k" 1 ∷ [])
     ∷ made_feed 2 0 (text "LOAD k" ++ text "DEL k") (joins 2 "LOAD k" ∷ [])
     ∷ made_feed 1 0 (text "GET k") []
     ∷ stored 1 0 (came "v") [] (says 1 "LOAD k" (text "VAL v")
@@ -138,7 +142,9 @@ as_much_as_may_be_behind = history (opened 1
     ∷ closed 1 ∷ [])
 
 abbrev pub too_much_behind : Transcript
-too_much_behind = over_two_connections (made_feed 1 0 (text "LOAD k" ++ bytes_behind 8193) (sends 1 "LOAD k" 1 ∷ [])
+too_much_behind =
+    over_two_connections
+    (made_feed 1 0 (text "LOAD k" ++ bytes_behind 8193) (sends 1 "LOAD k" 1 ∷ [])
     ∷ answered 1 0 outcome.None [] []
     ∷ made_feed 2 0 (text "GET a") (says 2 "GET a" (text "NONE") ∷ []) ∷ [])
 
@@ -180,7 +186,9 @@ answered_by_give_up = over_two_connections (first_asks
 
 -- after a give-up nothing runs again
 abbrev pub not_run_again : Transcript
-not_run_again = history (opened 1 ∷ made_feed 1 0 (text "LOAD k") (sends 1 "LOAD k" 1 ∷ []) ∷ given_up 1 0 [] ∷ [])
+not_run_again =
+    history
+    (opened 1 ∷ made_feed 1 0 (text "LOAD k") (sends 1 "LOAD k" 1 ∷ []) ∷ given_up 1 0 [] ∷ [])
 
 -- a line behind a `LOAD` that waits runs early, in its own piece or in another one
 abbrev pub runs_early : Transcript
@@ -189,7 +197,8 @@ runs_early = over_two_connections (first_asks
 
 abbrev pub runs_early_in_its_piece : Transcript
 runs_early_in_its_piece = history (opened 1
-    ∷ made_feed 1 0 (text "LOAD k" ++ text "GET a") (sends 1 "LOAD k" 1 ∷ says 1 "GET a" (text "NONE") ∷ []) ∷ [])
+    ∷ made_feed 1 0 (text "LOAD k" ++ text "GET a")
+    (sends 1 "LOAD k" 1 ∷ says 1 "GET a" (text "NONE") ∷ []) ∷ [])
 
 -- an answer skips its value as a `DEL` came in the meantime
 abbrev pub value_skipped : Transcript
@@ -207,7 +216,8 @@ kept_at_capacity_0 = history (opened 1
 abbrev pub told_without_value : Transcript
 told_without_value = over_two_connections (first_asks
     ∷ made_feed 2 0 (text "SET k - 1") (takes 2 "SET k - 1" (text "OK") [] ∷ [])
-    ∷ answered 1 0 outcome.None (note Replaced "k" "1" ∷ []) (says 1 "LOAD k" (text "NONE") ∷ []) ∷ [])
+    ∷ answered 1 0 outcome.None (note Replaced "k" "1" ∷ []) (says 1 "LOAD k" (text "NONE") ∷ [])
+    ∷ [])
 
 -- a waiting connection is forgotten
 abbrev pub one_forgotten : Transcript
@@ -217,16 +227,19 @@ one_forgotten = over_two_connections (first_asks
 
 -- a line runs before all that wait are answered
 abbrev pub line_before_the_second : Transcript
-line_before_the_second = over_two_connections (made_feed 1 0 (text "LOAD k" ++ text "GET k") (sends 1 "LOAD k" 1 ∷ [])
+line_before_the_second =
+    over_two_connections (made_feed 1 0 (text "LOAD k" ++ text "GET k") (sends 1 "LOAD k" 1 ∷ [])
     ∷ second_joins
-    ∷ stored 1 0 (came "v") [] (says 1 "LOAD k" (text "VAL v") ∷ says 1 "GET k" (text "VAL v") ∷ says 2 "LOAD k" (text "VAL v") ∷ []) ∷ [])
+    ∷ stored 1 0 (came "v") [] (says 1 "LOAD k" (text "VAL v") ∷ says 1 "GET k" (text "VAL v")
+    ∷ says 2 "LOAD k" (text "VAL v") ∷ []) ∷ [])
 
 -- a closed connection is answered
 abbrev pub closed_is_answered : Transcript
 closed_is_answered = over_two_connections (first_asks
     ∷ second_joins
     ∷ closed 1
-    ∷ stored 1 0 (came "v") [] (says 1 "LOAD k" (text "VAL v") ∷ says 2 "LOAD k" (text "VAL v") ∷ []) ∷ [])
+    ∷ stored 1 0 (came "v") []
+    (says 1 "LOAD k" (text "VAL v") ∷ says 2 "LOAD k" (text "VAL v") ∷ []) ∷ [])
 
 -- a load is answered twice
 abbrev pub answered_twice : Transcript
@@ -239,7 +252,8 @@ answered_twice = history (opened 1
 abbrev pub value_of_two_lines : Transcript
 value_of_two_lines = history (opened 1
     ∷ made_feed 1 0 (text "LOAD k") (sends 1 "LOAD k" 1 ∷ [])
-    ∷ stored 1 0 (outcome.Value (text "x" ++ codes "y") None) [] (says 1 "LOAD k" (text "VAL x" ++ codes "y") ∷ []) ∷ [])
+    ∷ stored 1 0 (outcome.Value (text "x" ++ codes "y") None) []
+    (says 1 "LOAD k" (text "VAL x" ++ codes "y") ∷ []) ∷ [])
 
 abbrev pub value_with_a_time : Transcript
 value_with_a_time = history (opened 1

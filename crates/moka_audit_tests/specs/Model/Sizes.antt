@@ -35,7 +35,8 @@ abbrev pub too_heavy : Transcript
 too_heavy = history (opened 1
     ∷ made_feed 1 0 (text "SET a - four") (takes 1 "SET a - four" (text "OK") [] ∷ [])
     ∷ made_feed 1 0 (text "GET a") (says 1 "GET a" (text "VAL four") ∷ [])
-    ∷ made_feed 1 0 (text "SYNC") (tells 1 "SYNC" (text "SYNC 0 0") (note Size "a" "four" ∷ []) ∷ [])
+    ∷ made_feed 1 0 (text "SYNC")
+    (tells 1 "SYNC" (text "SYNC 0 0") (note Size "a" "four" ∷ []) ∷ [])
     ∷ made_feed 1 0 (text "GET a") (says 1 "GET a" (text "NONE") ∷ []) ∷ [])
 
 abbrev pub no_room : Transcript
@@ -50,8 +51,10 @@ judged_before_it_shrinks = history (opened 1
     ∷ made_feed 1 0 (text "SET a - aaaaaaaaaa") (takes 1 "SET a - aaaaaaaaaa" (text "OK") [] ∷ [])
     ∷ made_feed 1 0 (text "SYNC") (says 1 "SYNC" (text "SYNC 1 10") ∷ [])
     ∷ made_feed 1 0 (text "SET b - bbbbb") (takes 1 "SET b - bbbbb" (text "OK") [] ∷ [])
-    ∷ made_feed 1 0 (text "SET a - c") (takes 1 "SET a - c" (text "OK") (note Replaced "a" "aaaaaaaaaa" ∷ []) ∷ [])
-    ∷ made_feed 1 0 (text "SYNC") (tells 1 "SYNC" (text "SYNC 1 1") (note Size "b" "bbbbb" ∷ []) ∷ []) ∷ [])
+    ∷ made_feed 1 0 (text "SET a - c")
+    (takes 1 "SET a - c" (text "OK") (note Replaced "a" "aaaaaaaaaa" ∷ []) ∷ [])
+    ∷ made_feed 1 0 (text "SYNC")
+    (tells 1 "SYNC" (text "SYNC 1 1") (note Size "b" "bbbbb" ∷ []) ∷ []) ∷ [])
 
 abbrev pub size_after_delete : Transcript
 size_after_delete = history (opened 1
@@ -59,21 +62,24 @@ size_after_delete = history (opened 1
     ∷ made_feed 1 0 (text "SET b - 2") (takes 1 "SET b - 2" (text "OK") [] ∷ [])
     ∷ made_feed 1 0 (text "SET c - 3") (takes 1 "SET c - 3" (text "OK") [] ∷ [])
     ∷ made_feed 1 0 (text "DEL c") (tells 1 "DEL c" (text "OK") (note Explicit "c" "3" ∷ []) ∷ [])
-    ∷ made_feed 1 0 (text "GET a") (tells 1 "GET a" (text "VAL 1") (note Size "a" "1" ∷ []) ∷ []) ∷ [])
+    ∷ made_feed 1 0 (text "GET a") (tells 1 "GET a" (text "VAL 1") (note Size "a" "1" ∷ []) ∷ [])
+    ∷ [])
 
 -- a step may report the very value that it accepts
 abbrev pub size_in_its_step : Transcript
 size_in_its_step = history (opened 1
     ∷ made_feed 1 0 (text "SET a - 1") (takes 1 "SET a - 1" (text "OK") [] ∷ [])
     ∷ made_feed 1 0 (text "SET b - 2") (takes 1 "SET b - 2" (text "OK") [] ∷ [])
-    ∷ made_feed 1 0 (text "SET c - 3") (takes 1 "SET c - 3" (text "OK") (note Size "c" "3" ∷ []) ∷ [])
+    ∷ made_feed 1 0 (text "SET c - 3")
+    (takes 1 "SET c - 3" (text "OK") (note Size "c" "3" ∷ []) ∷ [])
     ∷ made_feed 1 0 (text "SYNC") (says 1 "SYNC" (text "SYNC 2 2") ∷ []) ∷ [])
 
 abbrev pub size_twice : Transcript
 size_twice = history (opened 1
     ∷ made_feed 1 0 (text "SET a - 1") (takes 1 "SET a - 1" (text "OK") [] ∷ [])
     ∷ made_feed 1 0 (text "SET b - 2") (takes 1 "SET b - 2" (text "OK") [] ∷ [])
-    ∷ made_feed 1 0 (text "SET c - 3") (takes 1 "SET c - 3" (text "OK") (note Size "c" "3" ∷ note Size "a" "1" ∷ []) ∷ [])
+    ∷ made_feed 1 0 (text "SET c - 3")
+    (takes 1 "SET c - 3" (text "OK") (note Size "c" "3" ∷ note Size "a" "1" ∷ []) ∷ [])
     ∷ made_feed 1 0 (text "SYNC") (says 1 "SYNC" (text "SYNC 1 1") ∷ []) ∷ [])
 
 pub record GoodSizes : Type 0 where
@@ -90,7 +96,8 @@ pub record GoodSizes : Type 0 where
 
 abbrev pub keeps_nothing : Transcript
 keeps_nothing = history (opened 1
-    ∷ made_feed 1 0 (text "SET a - 1") (takes 1 "SET a - 1" (text "OK") (note Size "a" "1" ∷ []) ∷ [])
+    ∷ made_feed 1 0 (text "SET a - 1")
+    (takes 1 "SET a - 1" (text "OK") (note Size "a" "1" ∷ []) ∷ [])
     ∷ made_feed 1 0 (text "GET a") (says 1 "GET a" (text "NONE") ∷ []) ∷ [])
 
 abbrev pub too_much_after_sync : Transcript
@@ -106,7 +113,8 @@ set_tells_size = history (opened 1
     ∷ made_feed 1 0 (text "SET a - 1") (takes 1 "SET a - 1" (text "OK") [] ∷ [])
     ∷ made_feed 1 0 (text "SET b - 1") (takes 1 "SET b - 1" (text "OK") [] ∷ [])
     ∷ made_feed 1 0 (text "SET c - 1") (takes 1 "SET c - 1" (text "OK") [] ∷ [])
-    ∷ made_feed 1 0 (text "SET a - 2") (takes 1 "SET a - 2" (text "OK") (note Size "a" "1" ∷ []) ∷ []) ∷ [])
+    ∷ made_feed 1 0 (text "SET a - 2")
+    (takes 1 "SET a - 2" (text "OK") (note Size "a" "1" ∷ []) ∷ []) ∷ [])
 
 -- a `SYNC` ends what counts
 abbrev pub size_after_sync : Transcript
@@ -115,7 +123,8 @@ size_after_sync = history (opened 1
     ∷ made_feed 1 0 (text "SET b - 2") (takes 1 "SET b - 2" (text "OK") [] ∷ [])
     ∷ made_feed 1 0 (text "SET c - 3") (takes 1 "SET c - 3" (text "OK") [] ∷ [])
     ∷ made_feed 1 0 (text "SYNC") (tells 1 "SYNC" (text "SYNC 2 2") (note Size "a" "1" ∷ []) ∷ [])
-    ∷ made_feed 1 0 (text "GET b") (tells 1 "GET b" (text "VAL 2") (note Size "b" "2" ∷ []) ∷ []) ∷ [])
+    ∷ made_feed 1 0 (text "GET b") (tells 1 "GET b" (text "VAL 2") (note Size "b" "2" ∷ []) ∷ [])
+    ∷ [])
 
 abbrev pub size_after_delete_and_sync : Transcript
 size_after_delete_and_sync = history (opened 1
@@ -124,7 +133,8 @@ size_after_delete_and_sync = history (opened 1
     ∷ made_feed 1 0 (text "SET c - 3") (takes 1 "SET c - 3" (text "OK") [] ∷ [])
     ∷ made_feed 1 0 (text "DEL c") (tells 1 "DEL c" (text "OK") (note Explicit "c" "3" ∷ []) ∷ [])
     ∷ made_feed 1 0 (text "SYNC") (says 1 "SYNC" (text "SYNC 2 2") ∷ [])
-    ∷ made_feed 1 0 (text "GET a") (tells 1 "GET a" (text "VAL 1") (note Size "a" "1" ∷ []) ∷ []) ∷ [])
+    ∷ made_feed 1 0 (text "GET a") (tells 1 "GET a" (text "VAL 1") (note Size "a" "1" ∷ []) ∷ [])
+    ∷ [])
 
 -- the part was too full only before this value came
 abbrev pub size_of_later : Transcript
@@ -135,15 +145,18 @@ size_of_later = history (opened 1
     ∷ made_feed 1 0 (text "DEL c") (tells 1 "DEL c" (text "OK") (note Explicit "c" "3" ∷ []) ∷ [])
     ∷ made_feed 1 0 (text "DEL b") (tells 1 "DEL b" (text "OK") (note Explicit "b" "2" ∷ []) ∷ [])
     ∷ made_feed 1 0 (text "SET d - 4") (takes 1 "SET d - 4" (text "OK") [] ∷ [])
-    ∷ made_feed 1 0 (text "GET d") (tells 1 "GET d" (text "VAL 4") (note Size "d" "4" ∷ []) ∷ []) ∷ [])
+    ∷ made_feed 1 0 (text "GET d") (tells 1 "GET d" (text "VAL 4") (note Size "d" "4" ∷ []) ∷ [])
+    ∷ [])
 
 -- a step that tells `Size` ends what counts
 abbrev pub size_twice_apart : Transcript
 size_twice_apart = history (opened 1
     ∷ made_feed 1 0 (text "SET a - 1") (takes 1 "SET a - 1" (text "OK") [] ∷ [])
     ∷ made_feed 1 0 (text "SET b - 2") (takes 1 "SET b - 2" (text "OK") [] ∷ [])
-    ∷ made_feed 1 0 (text "SET c - 3") (takes 1 "SET c - 3" (text "OK") (note Size "c" "3" ∷ []) ∷ [])
-    ∷ made_feed 1 0 (text "GET a") (tells 1 "GET a" (text "VAL 1") (note Size "a" "1" ∷ []) ∷ []) ∷ [])
+    ∷ made_feed 1 0 (text "SET c - 3")
+    (takes 1 "SET c - 3" (text "OK") (note Size "c" "3" ∷ []) ∷ [])
+    ∷ made_feed 1 0 (text "GET a") (tells 1 "GET a" (text "VAL 1") (note Size "a" "1" ∷ []) ∷ [])
+    ∷ [])
 
 pub record BrokenSizes : Type 0 where
   pub keeps_nothing_breaks : BreaksAfter 1 plain_config keeps_nothing

@@ -18,12 +18,14 @@ set_get_delete = history (opened 1
 abbrev pub set_twice : Transcript
 set_twice = history (opened 1
     ∷ made_feed 1 0 (text "SET a - 1") (takes 1 "SET a - 1" (text "OK") [] ∷ [])
-    ∷ made_feed 1 0 (text "SET a - 2") (takes 1 "SET a - 2" (text "OK") (note Replaced "a" "1" ∷ []) ∷ [])
+    ∷ made_feed 1 0 (text "SET a - 2")
+    (takes 1 "SET a - 2" (text "OK") (note Replaced "a" "1" ∷ []) ∷ [])
     ∷ made_feed 1 0 (text "SYNC") (says 1 "SYNC" (text "SYNC 1 1") ∷ [])
     ∷ made_feed 1 0 (text "GET a") (says 1 "GET a" (text "VAL 2") ∷ []) ∷ [])
 
 abbrev pub delete_nothing : Transcript
-delete_nothing = history (opened 1 ∷ made_feed 1 0 (text "DEL a") (says 1 "DEL a" (text "OK") ∷ []) ∷ [])
+delete_nothing =
+    history (opened 1 ∷ made_feed 1 0 (text "DEL a") (says 1 "DEL a" (text "OK") ∷ []) ∷ [])
 
 pub record GoodValues : Type 0 where
   pub set_get_delete_good : IsGood plain_config set_get_delete
@@ -44,14 +46,18 @@ live_value_hidden = history (opened 1
     ∷ made_feed 1 0 (text "GET a") (says 1 "GET a" (text "NONE") ∷ []) ∷ [])
 
 abbrev pub accepts_nothing : Transcript
-accepts_nothing = history (opened 1 ∷ made_feed 1 0 (text "SET a - 1") (says 1 "SET a - 1" (text "OK") ∷ []) ∷ [])
+accepts_nothing =
+    history (opened 1 ∷ made_feed 1 0 (text "SET a - 1") (says 1 "SET a - 1" (text "OK") ∷ []) ∷ [])
 
 abbrev pub get_accepts : Transcript
-get_accepts = history (opened 1 ∷ made_feed 1 0 (text "GET a") (takes 1 "GET a" (text "NONE") [] ∷ []) ∷ [])
+get_accepts =
+    history (opened 1 ∷ made_feed 1 0 (text "GET a") (takes 1 "GET a" (text "NONE") [] ∷ []) ∷ [])
 
 abbrev pub part_too_high : Transcript
 part_too_high = history (opened 1
-    ∷ made_feed 1 0 (text "SET a - 1") (made_step 1 (codes "SET a - 1") (text "OK") (Some (record { part = 1 })) [] ∷ []) ∷ [])
+    ∷ made_feed 1 0 (text "SET a - 1") (made_step 1 (codes "SET a - 1") (text "OK") (Some (record {
+      part = 1;
+    })) [] ∷ []) ∷ [])
 
 abbrev pub silent_set : Transcript
 silent_set = history (opened 1
@@ -66,23 +72,28 @@ silent_delete = history (opened 1
 abbrev pub told_twice : Transcript
 told_twice = history (opened 1
     ∷ made_feed 1 0 (text "SET a - 1") (takes 1 "SET a - 1" (text "OK") [] ∷ [])
-    ∷ made_feed 1 0 (text "SET a - 2") (takes 1 "SET a - 2" (text "OK") (note Replaced "a" "1" ∷ []) ∷ [])
-    ∷ made_feed 1 0 (text "SYNC") (tells 1 "SYNC" (text "SYNC 1 1") (note Replaced "a" "1" ∷ []) ∷ []) ∷ [])
+    ∷ made_feed 1 0 (text "SET a - 2")
+    (takes 1 "SET a - 2" (text "OK") (note Replaced "a" "1" ∷ []) ∷ [])
+    ∷ made_feed 1 0 (text "SYNC")
+    (tells 1 "SYNC" (text "SYNC 1 1") (note Replaced "a" "1" ∷ []) ∷ []) ∷ [])
 
 abbrev pub other_value_told : Transcript
 other_value_told = history (opened 1
     ∷ made_feed 1 0 (text "SET a - 1") (takes 1 "SET a - 1" (text "OK") [] ∷ [])
-    ∷ made_feed 1 0 (text "SET a - 2") (takes 1 "SET a - 2" (text "OK") (note Replaced "a" "2" ∷ []) ∷ []) ∷ [])
+    ∷ made_feed 1 0 (text "SET a - 2")
+    (takes 1 "SET a - 2" (text "OK") (note Replaced "a" "2" ∷ []) ∷ []) ∷ [])
 
 abbrev pub always_explicit : Transcript
 always_explicit = history (opened 1
     ∷ made_feed 1 0 (text "SET a - 1") (takes 1 "SET a - 1" (text "OK") [] ∷ [])
-    ∷ made_feed 1 0 (text "SET a - 2") (takes 1 "SET a - 2" (text "OK") (note Explicit "a" "1" ∷ []) ∷ []) ∷ [])
+    ∷ made_feed 1 0 (text "SET a - 2")
+    (takes 1 "SET a - 2" (text "OK") (note Explicit "a" "1" ∷ []) ∷ []) ∷ [])
 
 abbrev pub expired_without_deadline : Transcript
 expired_without_deadline = history (opened 1
     ∷ made_feed 1 0 (text "SET a - 1") (takes 1 "SET a - 1" (text "OK") [] ∷ [])
-    ∷ made_feed 1 0 (text "SYNC") (tells 1 "SYNC" (text "SYNC 0 0") (note Expired "a" "1" ∷ []) ∷ []) ∷ [])
+    ∷ made_feed 1 0 (text "SYNC")
+    (tells 1 "SYNC" (text "SYNC 0 0") (note Expired "a" "1" ∷ []) ∷ []) ∷ [])
 
 abbrev pub counts_drift : Transcript
 counts_drift = history (opened 1
@@ -93,7 +104,9 @@ counts_drift = history (opened 1
 abbrev pub two_parts : Transcript
 two_parts = history (opened 1
     ∷ made_feed 1 0 (text "SET a - 1") (takes 1 "SET a - 1" (text "OK") [] ∷ [])
-    ∷ made_feed 1 0 (text "SET a - 2") (made_step 1 (codes "SET a - 2") (text "OK") (Some (record { part = 1 })) (note Replaced "a" "1" ∷ []) ∷ []) ∷ [])
+    ∷ made_feed 1 0 (text "SET a - 2") (made_step 1 (codes "SET a - 2") (text "OK") (Some (record {
+      part = 1;
+    })) (note Replaced "a" "1" ∷ []) ∷ []) ∷ [])
 
 abbrev pub of_two_parts : Config
 of_two_parts = record plain_config { parts = 2 }

@@ -9,7 +9,8 @@ use std::hash::{BuildHasher, Hash};
 
 impl<K: Eq + Hash + Drop, V: Drop, S: BuildHasher, R: Rules<K, V>> InnerSync
     for BaseCache<K, V, S, R> {
-    ghost housekept = { λ now old new. RunsToEnd (answers_of R.weight_of R.created R.read R.updated R.covers) now old new };
+    ghost housekept = { λ now old new.
+        RunsToEnd (answers_of R.weight_of R.created R.read R.updated R.covers) now old new };
 
     fn run_pending_tasks(&mut self, now: Instant) {
         self.run_pending_tasks(now);

@@ -23,8 +23,10 @@ impl<K: Eq + Hash, V, S: BuildHasher, R: Rules<K, V>> BaseCache<K, V, S, R> {
     where
         K: Drop,
         V: Drop,
-        requires hashed { hash ≡ hash_of_key S.Hasher.finish S.Hasher.write S.build_hasher K.hash_input self.old.hasher (Q.named_key key.now) }
-        ensures { NotesLookUp (answers_of R.weight_of R.created R.read R.updated R.covers) K.eq (Q.named_key key.now) hash now ignored self.old self.new }
+        requires hashed { hash ≡ hash_of_key S.Hasher.finish S.Hasher.write S.build_hasher
+            K.hash_input self.old.hasher (Q.named_key key.now) }
+        ensures { NotesLookUp (answers_of R.weight_of R.created R.read R.updated R.covers) K.eq
+            (Q.named_key key.now) hash now ignored self.old self.new }
     {
         let found = find_unless(&self.tables, key, hash, now.as_nanos(), ignored);
         note_read(&mut self.tables, found, hash, now);
@@ -41,10 +43,14 @@ impl<K: Eq + Hash, V, S: BuildHasher, R: Rules<K, V>> BaseCache<K, V, S, R> {
     where
         K: Drop,
         V: Clone + Drop,
-        requires hashed { hash ≡ hash_of_key S.Hasher.finish S.Hasher.write S.build_hasher K.hash_input self.old.hasher (Q.named_key key.now) }
+        requires hashed { hash ≡ hash_of_key S.Hasher.finish S.Hasher.write S.build_hasher
+            K.hash_input self.old.hasher (Q.named_key key.now) }
         requires exact { (x y : V) → V.is_clone x y → y ≡ x }
-        ensures found { IfOk result (λ found. found ≡ visible_value (answers_of R.weight_of R.created R.read R.updated R.covers) K.eq self.old now (Q.named_key key.now)) }
-        ensures used { OnOk result (LooksUp (answers_of R.weight_of R.created R.read R.updated R.covers) K.eq (Q.named_key key.now) hash now self.old self.new) }
+        ensures found { IfOk result (λ found. found ≡ visible_value (answers_of R.weight_of
+            R.created R.read R.updated R.covers) K.eq self.old now (Q.named_key key.now)) }
+        ensures used { OnOk result
+            (LooksUp (answers_of R.weight_of R.created R.read R.updated R.covers) K.eq
+            (Q.named_key key.now) hash now self.old self.new) }
         ensures err { OnErr result (self.new ≡ self.old) }
     {
         let found = find(&self.tables, key, hash, now.as_nanos());
@@ -64,10 +70,15 @@ impl<K: Eq + Hash, V, S: BuildHasher, R: Rules<K, V>> BaseCache<K, V, S, R> {
     where
         K: Drop,
         V: Drop,
-        requires hashed { hash ≡ hash_of_key S.Hasher.finish S.Hasher.write S.build_hasher K.hash_input self.old.hasher (Q.named_key key.now) }
+        requires hashed { hash ≡ hash_of_key S.Hasher.finish S.Hasher.write S.build_hasher
+            K.hash_input self.old.hasher (Q.named_key key.now) }
         requires callable { F.IsAlwaysCallable see }
-        ensures shown { IsShown F.FnOnce see (visible_value (answers_of R.weight_of R.created R.read R.updated R.covers) K.eq self.old now (Q.named_key key.now)) output.old result output.new }
-        ensures used { OnOk result (NotesLookUp (answers_of R.weight_of R.created R.read R.updated R.covers) K.eq (Q.named_key key.now) hash now false self.old self.new) }
+        ensures shown { IsShown F.FnOnce see
+            (visible_value (answers_of R.weight_of R.created R.read R.updated R.covers) K.eq
+            self.old now (Q.named_key key.now)) output.old result output.new }
+        ensures used { OnOk result
+            (NotesLookUp (answers_of R.weight_of R.created R.read R.updated R.covers) K.eq
+            (Q.named_key key.now) hash now false self.old self.new) }
         ensures err { OnErr result (self.new ≡ self.old) }
     {
         let found = find(&self.tables, key, hash, now.as_nanos());

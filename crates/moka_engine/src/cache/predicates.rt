@@ -19,12 +19,16 @@ impl<K: Eq + Hash, V, S: BuildHasher, R: Rules<K, V>> BaseCache<K, V, S, R> {
         step: u64,
         generator: &mut G,
     ) -> Result<u128, Refusal>
-        ensures ok { IfOk result (λ id. self.new ≡ with_predicate (record { id = id; predicate = predicate; step = step }) self.old) }
-        ensures drawn { IfOk result (λ id. Draws (G.stream generator.old) (G.stream generator.new) (is_registered self.old.predicates) id) }
+        ensures ok { IfOk result (λ id. self.new
+            ≡ with_predicate (record { id = id; predicate = predicate; step = step }) self.old) }
+        ensures drawn { IfOk result (λ id. Draws (G.stream generator.old) (G.stream generator.new)
+            (is_registered self.old.predicates) id) }
         ensures err { OnErr result (self.new ≡ self.old) }
         ensures takes { OnOk result (self.old.settings.takes_predicates ≡ true) }
-        ensures first { self.old.settings.takes_predicates ≡ false → IsErrOf result Refusal.InvalidationClosuresDisabled }
-        ensures refused { IfErr result (IsCauseToRegister self.old (G.stream generator.old) (G.stream generator.new)) }
+        ensures first { self.old.settings.takes_predicates ≡ false
+            → IsErrOf result Refusal.InvalidationClosuresDisabled }
+        ensures refused { IfErr result
+            (IsCauseToRegister self.old (G.stream generator.old) (G.stream generator.new)) }
     {
         invalidate(&mut self.tables, predicate, step, generator)
     }
@@ -32,11 +36,14 @@ impl<K: Eq + Hash, V, S: BuildHasher, R: Rules<K, V>> BaseCache<K, V, S, R> {
     /// The first half of `invalidate_entries_if`: draws the identifier and makes room, which `commit_predicate` uses.
     pub fn prepare_predicate<G: Rng>(&mut self, generator: &mut G) -> Result<u128, Refusal>
         ensures ok { OnOk result (self.new ≡ with_room self.old) }
-        ensures drawn { IfOk result (λ id. Draws (G.stream generator.old) (G.stream generator.new) (is_registered self.old.predicates) id) }
+        ensures drawn { IfOk result (λ id. Draws (G.stream generator.old) (G.stream generator.new)
+            (is_registered self.old.predicates) id) }
         ensures err { OnErr result (self.new ≡ self.old) }
         ensures takes { OnOk result (self.old.settings.takes_predicates ≡ true) }
-        ensures first { self.old.settings.takes_predicates ≡ false → IsErrOf result Refusal.InvalidationClosuresDisabled }
-        ensures refused { IfErr result (IsCauseToRegister self.old (G.stream generator.old) (G.stream generator.new)) }
+        ensures first { self.old.settings.takes_predicates ≡ false
+            → IsErrOf result Refusal.InvalidationClosuresDisabled }
+        ensures refused { IfErr result
+            (IsCauseToRegister self.old (G.stream generator.old) (G.stream generator.new)) }
     {
         prepare(&mut self.tables, generator)
     }
@@ -46,18 +53,24 @@ impl<K: Eq + Hash, V, S: BuildHasher, R: Rules<K, V>> BaseCache<K, V, S, R> {
         ensures ok { OnOk result (self.new ≡ with_room self.old) }
         ensures err { OnErr result (self.new ≡ self.old) }
         ensures takes { OnOk result (self.old.settings.takes_predicates ≡ true) }
-        ensures first { self.old.settings.takes_predicates ≡ false → IsErrOf result Refusal.InvalidationClosuresDisabled }
-        ensures disabled { IsErrOf result Refusal.InvalidationClosuresDisabled → self.old.settings.takes_predicates ≡ false }
-        ensures used_up { IsErrOf result Refusal.UsedUp → 2 ^ 64 ≤ self.old.next_ticket + self.old.reserved + 1 }
-        ensures kinds { OnErr result ((IsErrOf result Refusal.OutOfMemory) ⊎ ((IsErrOf result Refusal.InvalidationClosuresDisabled) ⊎ (IsErrOf result Refusal.UsedUp))) }
+        ensures first { self.old.settings.takes_predicates ≡ false
+            → IsErrOf result Refusal.InvalidationClosuresDisabled }
+        ensures disabled { IsErrOf result Refusal.InvalidationClosuresDisabled
+            → self.old.settings.takes_predicates ≡ false }
+        ensures used_up { IsErrOf result Refusal.UsedUp
+            → 2 ^ 64 ≤ self.old.next_ticket + self.old.reserved + 1 }
+        ensures kinds { OnErr result ((IsErrOf result Refusal.OutOfMemory) ⊎ ((IsErrOf result
+            Refusal.InvalidationClosuresDisabled) ⊎ (IsErrOf result Refusal.UsedUp))) }
     {
         reserve(&mut self.tables)
     }
 
     /// Draws an identifier under which no predicate is registered.
     pub fn draw_predicate_id<G: Rng>(&self, generator: &mut G) -> Result<u128, Refusal>
-        ensures drawn { IfOk result (λ id. Draws (G.stream generator.old) (G.stream generator.new) (is_registered self.now.predicates) id) }
-        ensures in_use { OnErr result (AreInUse (G.stream generator.old) (G.stream generator.new) (is_registered self.now.predicates)) }
+        ensures drawn { IfOk result (λ id. Draws (G.stream generator.old) (G.stream generator.new)
+            (is_registered self.now.predicates) id) }
+        ensures in_use { OnErr result (AreInUse (G.stream generator.old) (G.stream generator.new)
+            (is_registered self.now.predicates)) }
         ensures kinds { OnErr result (IsErrOf result Refusal.IdsInUse) }
     {
         draw_id(&self.tables, generator)
@@ -66,7 +79,8 @@ impl<K: Eq + Hash, V, S: BuildHasher, R: Rules<K, V>> BaseCache<K, V, S, R> {
     /// The second half, which is never refused: registers a predicate under its identifier, in the room that was made for it.
     pub fn commit_predicate(&mut self, id: u128, predicate: R::Predicate, step: u64)
         requires { 0 < self.old.reserved }
-        ensures { self.new ≡ registered (record { id = id; predicate = predicate; step = step }) self.old }
+        ensures { self.new ≡ registered (record { id = id; predicate = predicate; step = step })
+            self.old }
     {
         commit(&mut self.tables, id, predicate, step);
     }

@@ -23,14 +23,19 @@ impl<K: Eq + Hash, V, S: BuildHasher, R: Rules<K, V>> BaseCache<K, V, S, R> {
     where
         K: Clone + Drop,
         V: Clone + Drop,
-        requires hashed { hash ≡ hash_of_key S.Hasher.finish S.Hasher.write S.build_hasher K.hash_input self.old.hasher (Q.named_key key.now) }
+        requires hashed { hash ≡ hash_of_key S.Hasher.finish S.Hasher.write S.build_hasher
+            K.hash_input self.old.hasher (Q.named_key key.now) }
         requires exact_key { (x y : K) → K.is_clone x y → y ≡ x }
         requires exact { (x y : V) → V.is_clone x y → y ≡ x }
         ensures removed { OnOk result (self.new ≡ removed_by K.eq (Q.named_key key.now) self.old) }
-        ensures entry { IfOk result (λ gone. gone ≡ option_map (λ r. (r.entry, self.old.next_ticket)) (held_at K.eq self.old.records (Q.named_key key.now))) }
+        ensures entry { IfOk result
+            (λ gone. gone ≡ option_map (λ r. (r.entry, self.old.next_ticket))
+            (held_at K.eq self.old.records (Q.named_key key.now))) }
         ensures err { OnErr result (self.new ≡ self.old) }
-        ensures used_up { IsErrOf result Refusal.UsedUp → 2 ^ 64 ≤ self.old.next_ticket + self.old.reserved + removal_rooms self.old.settings }
-        ensures only { OnErr result ((IsErrOf result Refusal.OutOfMemory) ⊎ (IsErrOf result Refusal.UsedUp)) }
+        ensures used_up { IsErrOf result Refusal.UsedUp
+            → 2 ^ 64 ≤ self.old.next_ticket + self.old.reserved + removal_rooms self.old.settings }
+        ensures only { OnErr result
+            ((IsErrOf result Refusal.OutOfMemory) ⊎ (IsErrOf result Refusal.UsedUp)) }
     {
         match self.prepare_removal(key, hash)? {
             Some(parts) => Ok(self.remove_reserved(key, hash, parts)),
@@ -48,14 +53,19 @@ impl<K: Eq + Hash, V, S: BuildHasher, R: Rules<K, V>> BaseCache<K, V, S, R> {
     where
         K: Clone + Drop,
         V: Clone + Drop,
-        requires hashed { hash ≡ hash_of_key S.Hasher.finish S.Hasher.write S.build_hasher K.hash_input self.old.hasher (Q.named_key key.now) }
+        requires hashed { hash ≡ hash_of_key S.Hasher.finish S.Hasher.write S.build_hasher
+            K.hash_input self.old.hasher (Q.named_key key.now) }
         requires exact_key { (x y : K) → K.is_clone x y → y ≡ x }
         requires exact { (x y : V) → V.is_clone x y → y ≡ x }
-        ensures ok { OnOk result (self.new ≡ with_removal_room (held_at K.eq self.old.records (Q.named_key key.now)) self.old) }
-        ensures parts { IfOk result (λ parts. parts ≡ option_map (λ r. (r.entry.key, r.entry.value)) (held_at K.eq self.old.records (Q.named_key key.now))) }
+        ensures ok { OnOk result (self.new
+            ≡ with_removal_room (held_at K.eq self.old.records (Q.named_key key.now)) self.old) }
+        ensures parts { IfOk result (λ parts. parts ≡ option_map (λ r. (r.entry.key, r.entry.value))
+            (held_at K.eq self.old.records (Q.named_key key.now))) }
         ensures err { OnErr result (self.new ≡ self.old) }
-        ensures used_up { IsErrOf result Refusal.UsedUp → 2 ^ 64 ≤ self.old.next_ticket + self.old.reserved + removal_rooms self.old.settings }
-        ensures only { OnErr result ((IsErrOf result Refusal.OutOfMemory) ⊎ (IsErrOf result Refusal.UsedUp)) }
+        ensures used_up { IsErrOf result Refusal.UsedUp
+            → 2 ^ 64 ≤ self.old.next_ticket + self.old.reserved + removal_rooms self.old.settings }
+        ensures only { OnErr result
+            ((IsErrOf result Refusal.OutOfMemory) ⊎ (IsErrOf result Refusal.UsedUp)) }
     {
         prepare_removal(&mut self.tables, key, hash)
     }
@@ -73,11 +83,15 @@ impl<K: Eq + Hash, V, S: BuildHasher, R: Rules<K, V>> BaseCache<K, V, S, R> {
     where
         K: Drop,
         V: Drop,
-        requires hashed { hash ≡ hash_of_key S.Hasher.finish S.Hasher.write S.build_hasher K.hash_input self.old.hasher (Q.named_key key.now) }
+        requires hashed { hash ≡ hash_of_key S.Hasher.finish S.Hasher.write S.build_hasher
+            K.hash_input self.old.hasher (Q.named_key key.now) }
         requires room { removal_rooms self.old.settings ≤ self.old.reserved }
-        requires parts { (r : Record K V) → held_at K.eq self.old.records (Q.named_key key.now) ≡ Some r → (parts.0 ≡ r.entry.key) × (parts.1 ≡ r.entry.value) }
-        ensures removed { self.new ≡ with_reserved_removal (held_at K.eq self.old.records (Q.named_key key.now)) self.old }
-        ensures entry { result ≡ option_map (λ r. (r.entry, self.old.next_ticket)) (held_at K.eq self.old.records (Q.named_key key.now)) }
+        requires parts { (r : Record K V) → held_at K.eq self.old.records (Q.named_key key.now)
+            ≡ Some r → (parts.0 ≡ r.entry.key) × (parts.1 ≡ r.entry.value) }
+        ensures removed { self.new
+            ≡ with_reserved_removal (held_at K.eq self.old.records (Q.named_key key.now)) self.old }
+        ensures entry { result ≡ option_map (λ r. (r.entry, self.old.next_ticket))
+            (held_at K.eq self.old.records (Q.named_key key.now)) }
     {
         remove_reserved(&mut self.tables, key, hash, parts)
     }

@@ -29,7 +29,8 @@ impl<K: Eq + Hash, V, S: BuildHasher, R: Rules<K, V>> BaseCache<K, V, S, R> {
     where
         K: Clone + Drop,
         requires exact_key { (x y : K) → K.is_clone x y → y ≡ x }
-        ensures { IfOk result (λ keys. MatchOption keys (0 < segment) (λ found. (segment ≡ 0) × (found.items ≡ held_keys self.now.records))) }
+        ensures { IfOk result (λ keys. MatchOption keys (0 < segment)
+            (λ found. (segment ≡ 0) × (found.items ≡ held_keys self.now.records))) }
     {
         if segment > 0 {
             return Ok(None);
@@ -40,7 +41,8 @@ impl<K: Eq + Hash, V, S: BuildHasher, R: Rules<K, V>> BaseCache<K, V, S, R> {
 
     /// Returns how many keys have a visible value. This does not count as a use of any; it allocates nothing, and looks at every record.
     pub fn count_visible(&self, now: Instant) -> usize
-        ensures { result ≡ length (visible_keys (answers_of R.weight_of R.created R.read R.updated R.covers) K.eq self.now now) }
+        ensures { result ≡ length (visible_keys
+            (answers_of R.weight_of R.created R.read R.updated R.covers) K.eq self.now now) }
     {
         self.tables.count_visible(now.as_nanos())
     }
@@ -50,7 +52,8 @@ impl<K: Eq + Hash, V, S: BuildHasher, R: Rules<K, V>> BaseCache<K, V, S, R> {
     where
         V: Clone,
         requires exact { (x y : V) → V.is_clone x y → y ≡ x }
-        ensures { IfOk result (λ found. found ≡ visible_value (answers_of R.weight_of R.created R.read R.updated R.covers) K.eq self.now now key.now) }
+        ensures { IfOk result (λ found. found ≡ visible_value (answers_of R.weight_of R.created
+            R.read R.updated R.covers) K.eq self.now now key.now) }
     {
         let hash = self.hash(key);
         self.get_with_hash_without_recording(key, hash, now)
@@ -58,8 +61,11 @@ impl<K: Eq + Hash, V, S: BuildHasher, R: Rules<K, V>> BaseCache<K, V, S, R> {
 
     /// Returns the visible value of a key, without a clone. This does not count as a use of it.
     pub fn peek<Q: Names<K>>(&self, key: &Q, hash: u64, now: Instant) -> Option<&V>
-        requires hashed { hash ≡ hash_of_key S.Hasher.finish S.Hasher.write S.build_hasher K.hash_input self.now.hasher (Q.named_key key.now) }
-        ensures { option_map (λ value. value.now) result ≡ visible_value (answers_of R.weight_of R.created R.read R.updated R.covers) K.eq self.now now (Q.named_key key.now) }
+        requires hashed { hash ≡ hash_of_key S.Hasher.finish S.Hasher.write S.build_hasher
+            K.hash_input self.now.hasher (Q.named_key key.now) }
+        ensures { option_map (λ value. value.now) result
+            ≡ visible_value (answers_of R.weight_of R.created R.read R.updated R.covers) K.eq
+            self.now now (Q.named_key key.now) }
     {
         match look_up(&self.tables, key, hash, now.as_nanos()) {
             Some(found) => Some(&found.entry.value),
@@ -75,9 +81,11 @@ impl<K: Eq + Hash, V, S: BuildHasher, R: Rules<K, V>> BaseCache<K, V, S, R> {
     ) -> Result<Option<V>, AllocError>
     where
         V: Clone,
-        requires hashed { hash ≡ hash_of_key S.Hasher.finish S.Hasher.write S.build_hasher K.hash_input self.now.hasher (Q.named_key key.now) }
+        requires hashed { hash ≡ hash_of_key S.Hasher.finish S.Hasher.write S.build_hasher
+            K.hash_input self.now.hasher (Q.named_key key.now) }
         requires exact { (x y : V) → V.is_clone x y → y ≡ x }
-        ensures { IfOk result (λ found. found ≡ option_map (λ r. r.entry.value) (held_at K.eq self.now.records (Q.named_key key.now))) }
+        ensures { IfOk result (λ found. found ≡ option_map (λ r. r.entry.value)
+            (held_at K.eq self.now.records (Q.named_key key.now))) }
     {
         clone_value(held(&self.tables, key, hash))
     }
@@ -90,9 +98,11 @@ impl<K: Eq + Hash, V, S: BuildHasher, R: Rules<K, V>> BaseCache<K, V, S, R> {
     ) -> Result<Option<K>, AllocError>
     where
         K: Clone + Drop,
-        requires hashed { hash ≡ hash_of_key S.Hasher.finish S.Hasher.write S.build_hasher K.hash_input self.now.hasher (Q.named_key key.now) }
+        requires hashed { hash ≡ hash_of_key S.Hasher.finish S.Hasher.write S.build_hasher
+            K.hash_input self.now.hasher (Q.named_key key.now) }
         requires exact_key { (x y : K) → K.is_clone x y → y ≡ x }
-        ensures { IfOk result (λ found. found ≡ option_map (λ r. r.entry.key) (held_at K.eq self.now.records (Q.named_key key.now))) }
+        ensures { IfOk result (λ found. found
+            ≡ option_map (λ r. r.entry.key) (held_at K.eq self.now.records (Q.named_key key.now))) }
     {
         clone_key(held(&self.tables, key, hash))
     }
@@ -109,10 +119,13 @@ impl<K: Eq + Hash, V, S: BuildHasher, R: Rules<K, V>> BaseCache<K, V, S, R> {
     where
         K: Drop,
         V: Clone + Drop,
-        requires hashed { hash ≡ hash_of_key S.Hasher.finish S.Hasher.write S.build_hasher K.hash_input self.old.hasher (Q.named_key key.now) }
+        requires hashed { hash ≡ hash_of_key S.Hasher.finish S.Hasher.write S.build_hasher
+            K.hash_input self.old.hasher (Q.named_key key.now) }
         requires exact { (x y : V) → V.is_clone x y → y ≡ x }
         requires callable { F.IsAlwaysCallable ignore_if }
-        ensures found { IfOk result (LooksUpPast (answers_of R.weight_of R.created R.read R.updated R.covers) K.eq (Q.named_key key.now) hash now (FnOnceReturnsAt F.FnOnce ignore_if) self.old self.new) }
+        ensures found { IfOk result
+            (LooksUpPast (answers_of R.weight_of R.created R.read R.updated R.covers) K.eq
+            (Q.named_key key.now) hash now (FnOnceReturnsAt F.FnOnce ignore_if) self.old self.new) }
         ensures err { OnErr result (self.new ≡ self.old) }
     {
         let seen = find(&self.tables, key, hash, now.as_nanos());

@@ -23,7 +23,8 @@ impl<K: Eq + Hash, V, S: BuildHasher, R: Rules<K, V>> BaseCache<K, V, S, R> {
 
     /// Returns the hash of a key by the cache's hasher.
     pub fn hash(&self, key: &K) -> u64
-        ensures { result ≡ hash_of_key S.Hasher.finish S.Hasher.write S.build_hasher K.hash_input self.now.hasher key.now }
+        ensures { result ≡ hash_of_key S.Hasher.finish S.Hasher.write S.build_hasher K.hash_input
+            self.now.hasher key.now }
     {
         let mut state = self.tables.hasher().build_hasher();
         key.hash(&mut state);

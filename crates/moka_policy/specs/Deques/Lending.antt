@@ -8,4 +8,5 @@ use Rattle.moka_policy.specs.Deques.Queues.{Queues, Entries, with_queue}
 
 -- the queues end with the last value of the one that was borrowed
 abbrev pub lends_queue : (K : RattleType) → CacheRegion → MutBor Queues → MutBor Entries → Fml
-lends_queue K region s r = Lends (deques.the_row K) (deque.the_row date.the_row) s r (with_queue region s.now)
+lends_queue K region s r =
+    Lends (deques.the_row K) (deque.the_row date.the_row) s r (with_queue region s.now)

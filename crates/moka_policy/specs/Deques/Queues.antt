@@ -48,7 +48,8 @@ pub record IsNewQueue (region : CacheRegion) (queue : Entries) : Type 0 where
   pub next_serial : queue.next_serial ≡ 0
 
 -- one queue is changed like this, and the others are as they were
-pub record Changes (region : CacheRegion) (P : Entries → Entries → Type 0) (old new : Queues) : Type 0 where
+pub record Changes (region : CacheRegion) (P : Entries → Entries → Type 0) (old new : Queues) :
+    Type 0 where
   pub others : new ≡ with_queue region old (queue_of region new)
   pub changed : P (queue_of region old) (queue_of region new)
 
@@ -98,4 +99,5 @@ pub record HaveRoom (n : ℕ) (queues : Queues) : Type 0 where
 
 -- one of the queues does not have this many serials left
 abbrev pub LackSerials : ℕ → Queues → Type 0
-LackSerials n queues = (region : CacheRegion) × (2 ^ 64 - 1 < (queue_of region queues).next_serial + n)
+LackSerials n queues =
+    (region : CacheRegion) × (2 ^ 64 - 1 < (queue_of region queues).next_serial + n)

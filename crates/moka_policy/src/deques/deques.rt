@@ -29,7 +29,12 @@ impl<K> Model for Deques<K> {
 
     ghost Value = { Queues };
 
-    ghost view = { λ d. record { window = d.window; probation = d.probation; protected = d.protected; write_order = d.write_order } };
+    ghost view = { λ d. record {
+      window = d.window;
+      probation = d.probation;
+      protected = d.protected;
+      write_order = d.write_order;
+    } };
 }
 
 impl<K> Deques<K> {
@@ -82,22 +87,26 @@ impl<K> Deques<K> {
 
     /// Returns the first entry of a region.
     pub fn peek_front(&self, region: CacheRegion) -> Option<&KeyHashDate>
-        ensures { option_copied result ≡ option_map (λ n. n.element) (head (queue_of region self.now).nodes) }
+        ensures { option_copied result
+            ≡ option_map (λ n. n.element) (head (queue_of region self.now).nodes) }
     {
         self.select(region).peek_front()
     }
 
     /// Returns the last entry of a region.
     pub fn peek_back(&self, region: CacheRegion) -> Option<&KeyHashDate>
-        ensures { option_copied result ≡ option_map (λ n. n.element) (final (queue_of region self.now).nodes) }
+        ensures { option_copied result
+            ≡ option_map (λ n. n.element) (final (queue_of region self.now).nodes) }
     {
         self.select(region).peek_back()
     }
 
     /// Removes the first entry of a region from its queue. What the entry knows of its node is stale from then on.
     pub fn pop_front(&mut self, region: CacheRegion) -> Option<KeyHashDate>
-        ensures value { result ≡ option_map (λ n. n.element) (head (queue_of region self.old).nodes) }
-        ensures leaves { MatchOption (head (queue_of region self.old).nodes) (self.new ≡ self.old) (λ n. Changes region (λ before after. Leaves before after n.id) self.old self.new) }
+        ensures value { result
+            ≡ option_map (λ n. n.element) (head (queue_of region self.old).nodes) }
+        ensures leaves { MatchOption (head (queue_of region self.old).nodes) (self.new ≡ self.old)
+            (λ n. Changes region (λ before after. Leaves before after n.id) self.old self.new) }
     {
         self.select_mut(region).pop_front()
     }
@@ -105,15 +114,19 @@ impl<K> Deques<K> {
     /// Returns the next entry of the walk through a region, from the front on; after the last one `None`, and then the
     /// first one again.
     pub fn next(&mut self, region: CacheRegion) -> Option<KeyHashDate>
-        ensures value { result ≡ option_map (λ n. n.element) (head (to_give (queue_of region self.old).cursor (queue_of region self.old).nodes)) }
-        ensures cursor { Changes region (λ before after. after ≡ record before { cursor = cursor_past (to_give before.cursor before.nodes) }) self.old self.new }
+        ensures value { result ≡ option_map (λ n. n.element)
+            (head (to_give (queue_of region self.old).cursor (queue_of region self.old).nodes)) }
+        ensures cursor { Changes region (λ before after. after ≡ record before
+            { cursor = cursor_past (to_give before.cursor before.nodes) }) self.old self.new }
     {
         self.select_mut(region).next().copied()
     }
 
     /// Restarts the walk through a region.
     pub fn reset_cursor(&mut self, region: CacheRegion)
-        ensures { Changes region (λ before after. after ≡ record before { cursor = Cursor.Unstarted }) self.old self.new }
+        ensures { Changes region
+            (λ before after. after ≡ record before { cursor = Cursor.Unstarted }) self.old
+            self.new }
     {
         self.select_mut(region).reset_cursor();
     }
@@ -140,7 +153,8 @@ impl<K> Deques<K> {
         entries: &mut Slab<Slot<K>>,
     ) -> Result<(), PushError<KeyHashDate>>
         requires { region ≢ CacheRegion.Other }
-        ensures pushes { OnOk result (PushesEntry with_access_node region node self.old self.new entries.old entries.new) }
+        ensures pushes { OnOk result
+            (PushesEntry with_access_node region node self.old self.new entries.old entries.new) }
         ensures had_room { 0 < (queue_of region self.old).room → IsOk result }
         ensures stays { OnErr result (Changes region Stays self.old self.new) }
         ensures entries { OnErr result (entries.new ≡ entries.old) }
@@ -162,7 +176,8 @@ impl<K> Deques<K> {
         node: KeyHashDate,
         entries: &mut Slab<Slot<K>>,
     ) -> Result<(), PushError<KeyHashDate>>
-        ensures pushes { OnOk result (PushesEntry with_write_node CacheRegion.Other node self.old self.new entries.old entries.new) }
+        ensures pushes { OnOk result (PushesEntry with_write_node CacheRegion.Other node self.old
+            self.new entries.old entries.new) }
         ensures had_room { 0 < self.old.write_order.room → IsOk result }
         ensures stays { OnErr result (Changes CacheRegion.Other Stays self.old self.new) }
         ensures entries { OnErr result (entries.new ≡ entries.old) }
@@ -181,7 +196,8 @@ impl<K> Deques<K> {
     /// Moves an entry to the back of its region. An entry without a node stays as it is.
     pub fn move_to_back_ao(&mut self, entry: usize, entries: &Slab<Slot<K>>) -> Result<(), Stale>
         ensures found { IsOk result ↔ HasAccessNode (access_node entries.now entry) self.old }
-        ensures moves { OnOk result (MovesAccessNode (access_node entries.now entry) self.old self.new) }
+        ensures moves { OnOk result
+            (MovesAccessNode (access_node entries.now entry) self.old self.new) }
         ensures stale { OnErr result (self.new ≡ self.old) }
     {
         match access_node(entries, entry) {
@@ -193,7 +209,8 @@ impl<K> Deques<K> {
     /// Moves a node to the back of its region.
     fn move_node_ao(&mut self, id: NodeId) -> Result<(), Stale>
         ensures found { IsOk result ↔ IsSome (find id (access_nodes id.queue self.old)) }
-        ensures moves { OnOk result (Changes id.queue (λ before after. MovesToBack before after id) self.old self.new) }
+        ensures moves { OnOk result
+            (Changes id.queue (λ before after. MovesToBack before after id) self.old self.new) }
         ensures stale { OnErr result (self.new ≡ self.old) }
     {
         match id.queue {
@@ -207,7 +224,8 @@ impl<K> Deques<K> {
     /// Moves an entry to the back in order of writes. An entry without a node there stays as it is.
     pub fn move_to_back_wo(&mut self, entry: usize, entries: &Slab<Slot<K>>) -> Result<(), Stale>
         ensures found { IsOk result ↔ HasNode (write_node entries.now entry) self.old.write_order }
-        ensures moves { OnOk result (Changes CacheRegion.Other (MovesNode (write_node entries.now entry)) self.old self.new) }
+        ensures moves { OnOk result (Changes CacheRegion.Other
+            (MovesNode (write_node entries.now entry)) self.old self.new) }
         ensures stale { OnErr result (self.new ≡ self.old) }
     {
         move_node(&mut self.write_order, write_node(entries, entry))
@@ -220,7 +238,8 @@ impl<K> Deques<K> {
         entries: &Slab<Slot<K>>,
     ) -> Result<(), Stale>
         ensures found { IsOk result ↔ HasNode (access_node entries.now entry) queue.old }
-        ensures moves { OnOk result (MovesNode (access_node entries.now entry) queue.old queue.new) }
+        ensures moves { OnOk result
+            (MovesNode (access_node entries.now entry) queue.old queue.new) }
         ensures stale { OnErr result (queue.new ≡ queue.old) }
     {
         move_node(queue, access_node(entries, entry))
@@ -242,8 +261,10 @@ impl<K> Deques<K> {
     /// Removes an entry from its region, and the name of the node from the entry. An entry without a node stays as it is.
     pub fn unlink_ao(&mut self, entry: usize, entries: &mut Slab<Slot<K>>) -> Result<(), Stale>
         ensures found { IsOk result ↔ HasAccessNode (access_node entries.old entry) self.old }
-        ensures leaves { OnOk result (LosesAccessNode (access_node entries.old entry) self.old self.new) }
-        ensures forgets { OnOk result (entries.new ≡ forgets with_access_node entry (access_node entries.old entry) entries.old) }
+        ensures leaves { OnOk result
+            (LosesAccessNode (access_node entries.old entry) self.old self.new) }
+        ensures forgets { OnOk result (entries.new
+            ≡ forgets with_access_node entry (access_node entries.old entry) entries.old) }
         ensures stale { OnErr result ((self.new ≡ self.old) × (entries.new ≡ entries.old)) }
     {
         match access_node(entries, entry) {
@@ -266,8 +287,10 @@ impl<K> Deques<K> {
         entries: &mut Slab<Slot<K>>,
     ) -> Result<(), Stale>
         ensures found { IsOk result ↔ HasNode (write_node entries.old entry) queue.old }
-        ensures leaves { OnOk result (LosesNode (write_node entries.old entry) queue.old queue.new) }
-        ensures forgets { OnOk result (entries.new ≡ forgets with_write_node entry (write_node entries.old entry) entries.old) }
+        ensures leaves { OnOk result
+            (LosesNode (write_node entries.old entry) queue.old queue.new) }
+        ensures forgets { OnOk result (entries.new
+            ≡ forgets with_write_node entry (write_node entries.old entry) entries.old) }
         ensures stale { OnErr result ((queue.new ≡ queue.old) × (entries.new ≡ entries.old)) }
     {
         match write_node(entries, entry) {
@@ -290,8 +313,10 @@ impl<K> Deques<K> {
         entries: &mut Slab<Slot<K>>,
     ) -> Result<(), Stale>
         ensures found { IsOk result ↔ HasNode (access_node entries.old entry) queue.old }
-        ensures leaves { OnOk result (LosesNode (access_node entries.old entry) queue.old queue.new) }
-        ensures forgets { OnOk result (entries.new ≡ forgets with_access_node entry (access_node entries.old entry) entries.old) }
+        ensures leaves { OnOk result
+            (LosesNode (access_node entries.old entry) queue.old queue.new) }
+        ensures forgets { OnOk result (entries.new
+            ≡ forgets with_access_node entry (access_node entries.old entry) entries.old) }
         ensures stale { OnErr result ((queue.new ≡ queue.old) × (entries.new ≡ entries.old)) }
     {
         match access_node(entries, entry) {
@@ -309,7 +334,8 @@ impl<K> Deques<K> {
     /// Removes a node from its region. What its entry knows of it is stale from then on.
     pub fn unlink_node_ao(&mut self, id: NodeId) -> Result<(), Stale>
         ensures found { IsOk result ↔ IsSome (find id (access_nodes id.queue self.old)) }
-        ensures leaves { OnOk result (Changes id.queue (λ before after. Leaves before after id) self.old self.new) }
+        ensures leaves { OnOk result
+            (Changes id.queue (λ before after. Leaves before after id) self.old self.new) }
         ensures stale { OnErr result (self.new ≡ self.old) }
     {
         match id.queue {
@@ -348,7 +374,8 @@ fn both(
     second: Result<(), ReserveError>,
 ) -> Result<(), ReserveError>
     ensures ok { IsOk result ↔ (IsOk first × IsOk second) }
-    ensures used_up { (result ≡ Err ReserveError.UsedUp) ↔ ((first ≡ Err ReserveError.UsedUp) ⊎ (second ≡ Err ReserveError.UsedUp)) }
+    ensures used_up { (result ≡ Err ReserveError.UsedUp)
+        ↔ ((first ≡ Err ReserveError.UsedUp) ⊎ (second ≡ Err ReserveError.UsedUp)) }
 {
     match (first, second) {
         (Err(ReserveError::UsedUp), _) => first,

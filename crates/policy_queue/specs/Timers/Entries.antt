@@ -8,7 +8,11 @@ use Rattle.policy_queue.specs.declared.timers.array.Timer.{Timer}
 
 -- when it is due, if it is there and has a time
 abbrev pub due_at : {K : Type 0} → Option (Slot K) → Option Due
-due_at slot = option_and_then (λ s. option_map (λ t. record { time = t; expiry_gen = s.info.expiry_gen }) s.info.expiration_time) slot
+due_at slot =
+    option_and_then (λ s. option_map (λ t. record {
+      time = t;
+      expiry_gen = s.info.expiry_gen;
+    }) s.info.expiration_time) slot
 
 -- when an entry is due: its own expiration with its generation, if it is there and has one
 abbrev pub due_of : {K : Type 0} → Slab (Slot K) → ℕ → Option Due

@@ -21,7 +21,8 @@ abbrev pub HaveNoTime : {K : Type 0} → Slab (Slot K) → List Timer → Type 0
 HaveNoTime entries ts = All (λ t. due_of entries t.node.entry_info ≡ None) ts
 
 -- a timer leaves, because its entry's time has come
-pub record Expires {K : Type 0} (entries : Slab (Slot K)) (now : ℕ) (before after : List Timer) (node : TimerNode) : Type 0 where
+pub record Expires {K : Type 0} (entries : Slab (Slot K)) (now : ℕ) (before after : List Timer)
+    (node : TimerNode) : Type 0 where
   pub timer : Timer
   pub recorded : timer.node ≡ node
   pub timers : IsPermutation before (timer ∷ after)
@@ -31,7 +32,8 @@ pub record Expires {K : Type 0} (entries : Slab (Slot K)) (now : ℕ) (before af
   pub placed : timer.placed ≤ now
 
 -- a timer stays, because its entry's time is yet to come, and has that time from now on
-pub record Postpones {K : Type 0} (entries : Slab (Slot K)) (now : ℕ) (before after : List Timer) : Type 0 where
+pub record Postpones {K : Type 0} (entries : Slab (Slot K)) (now : ℕ) (before after : List Timer) :
+    Type 0 where
   pub timer : Timer
   pub others : List Timer
   pub timers : IsPermutation before (timer ∷ others)
@@ -42,7 +44,8 @@ pub record Postpones {K : Type 0} (entries : Slab (Slot K)) (now : ℕ) (before 
   pub moves : IsPermutation (moved timer due.time due.expiry_gen ∷ others) after
 
 -- what an event says of the timers before and after it; at the end no timer is left at or before now
-abbrev pub EventIs : {K : Type 0} → Slab (Slot K) → ℕ → List Timer → List Timer → Option TimerEvent → Type 0
+abbrev pub EventIs : {K : Type 0} → Slab (Slot K) → ℕ → List Timer → List Timer → Option TimerEvent
+    → Type 0
 EventIs entries now before after None = IsPermutation before after × All (λ t. now < t.placed) after
 EventIs entries now before after (Some (Expired node)) = Expires entries now before after node
 EventIs entries now before after (Some (Rescheduled u)) = Postpones entries now before after
@@ -56,7 +59,8 @@ entries_after (Some (Rescheduled u)) entries = entries
 entries_after (Some Descheduled) entries = entries
 
 -- one step of an advance: timers without a time leave unannounced, and then comes the event, or the end
-pub record Step {K : Type 0} (old new : Slab (Slot K)) (now : ℕ) (before after : List Timer) (event : Option TimerEvent) : Type 0 where
+pub record Step {K : Type 0} (old new : Slab (Slot K)) (now : ℕ) (before after : List Timer)
+    (event : Option TimerEvent) : Type 0 where
   pub gone : List Timer
   pub left : List Timer
   pub parts : IsPermutation before (gone ++ left)

@@ -12,7 +12,12 @@ ThePlace = Place
 
 -- the timer in a place
 abbrev pub timer_at : Place → Timer
-timer_at p = record { placed = p.placed; id = record { queue = Other; serial = p.serial; slot = p.slot }; node = record { entry_info = p.entry; expiry_gen = p.expiry_gen } }
+timer_at p =
+    record {
+      placed = p.placed;
+      id = record { queue = Other; serial = p.serial; slot = p.slot };
+      node = record { entry_info = p.entry; expiry_gen = p.expiry_gen };
+    }
 
 -- a place's key
 abbrev pub key_in : Place → ℕ
@@ -75,7 +80,9 @@ IsTaken ps k = (k < length ps) × ((d : Place) → (slice_index_or ps k d).is_ta
 
 -- there is a timer with this name in the place with this number
 abbrev pub IsNamed : List Place → NodeId → ℕ → Type 0
-IsNamed ps id k = (k < length ps) × ((d : Place) → ((slice_index_or ps k d).is_taken ≡ true) × ((timer_at (slice_index_or ps k d)).id ≡ id))
+IsNamed ps id k =
+    (k < length ps) × ((d : Place) → ((slice_index_or ps k d).is_taken ≡ true)
+    × ((timer_at (slice_index_or ps k d)).id ≡ id))
 
 -- a timer was added
 pub record Comes (old new : List Timer) (t : Timer) : Type 0 where

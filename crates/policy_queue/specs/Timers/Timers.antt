@@ -30,7 +30,8 @@ TheTimer = Timer
 
 -- the timer at another time
 abbrev pub moved : Timer → ℕ → ℕ → Timer
-moved t time generation = record t { placed = time; node = record t.node { expiry_gen = generation } }
+moved t time generation =
+    record t { placed = time; node = record t.node { expiry_gen = generation } }
 
 -- the number of a moment's tick, counted from the creation
 abbrev pub tick : ℕ → ℕ → ℕ
@@ -51,7 +52,11 @@ pub record OnlyGainsRoom (old new : Timers) : Type 0 where
 
 -- a timer was added, under a new name
 pub record Schedules (old new : Timers) (entry : ℕ) (id : NodeId) (due : Due) : Type 0 where
-  pub timers : IsPermutation ((record { placed = due.time; id = id; node = record { entry_info = entry; expiry_gen = due.expiry_gen } }) ∷ old.timers) new.timers
+  pub timers : IsPermutation ((record {
+    placed = due.time;
+    id = id;
+    node = record { entry_info = entry; expiry_gen = due.expiry_gen };
+  }) ∷ old.timers) new.timers
   pub serial : id.serial ≡ old.next_serial
   pub fresh : All (λ t. t.id ≢ id) old.timers
   pub is_enabled : new.is_enabled ≡ old.is_enabled
@@ -61,9 +66,11 @@ pub record Schedules (old new : Timers) (entry : ℕ) (id : NodeId) (due : Due) 
   pub room : old.room ≤ new.room + 1
 
 -- what a call of `schedule` did: nothing for an entry without a time
-abbrev pub ScheduledWell : {K : Type 0} → Slab (Slot K) → Timers → Timers → ℕ → Option NodeId → Type 0
+abbrev pub ScheduledWell : {K : Type 0} → Slab (Slot K) → Timers → Timers → ℕ → Option NodeId
+    → Type 0
 ScheduledWell entries old new entry None = (due_of entries entry ≡ None) × (new ≡ old)
-ScheduledWell entries old new entry (Some id) = (d : Due) × (due_of entries entry ≡ Some d) × Schedules old new entry id d
+ScheduledWell entries old new entry (Some id) =
+    (d : Due) × (due_of entries entry ≡ Some d) × Schedules old new entry id d
 
 -- why a timer was refused: no memory and no room, or no serial
 abbrev pub TimerRefusedWell : Timers → ScheduleError → Type 0
@@ -78,7 +85,8 @@ pub record TimerLeaves (old new : List Timer) (id : NodeId) (node : TimerNode) :
   pub timers : IsPermutation old (timer ∷ new)
 
 -- a timer was moved to its entry's time, and keeps its name
-pub record Moves {K : Type 0} (entries : Slab (Slot K)) (old new : List Timer) (id : NodeId) : Type 0 where
+pub record Moves {K : Type 0} (entries : Slab (Slot K)) (old new : List Timer) (id : NodeId) :
+    Type 0 where
   pub timer : Timer
   pub named : timer.id ≡ id
   pub others : List Timer
@@ -96,6 +104,8 @@ pub record Replaces (old new : List Timer) (id : NodeId) (due : Due) : Type 0 wh
   pub after : IsPermutation (moved timer due.time due.expiry_gen ∷ others) new
 
 -- what a call of `reschedule` did
-abbrev pub RescheduledWell : {K : Type 0} → Slab (Slot K) → List Timer → List Timer → NodeId → ReschedulingResult → Type 0
+abbrev pub RescheduledWell : {K : Type 0} → Slab (Slot K) → List Timer → List Timer → NodeId
+    → ReschedulingResult → Type 0
 RescheduledWell entries old new id Rescheduled = Moves entries old new id
-RescheduledWell entries old new id (Removed node) = (due_of entries node.entry_info ≡ None) × TimerLeaves old new id node
+RescheduledWell entries old new id (Removed node) =
+    (due_of entries node.entry_info ≡ None) × TimerLeaves old new id node

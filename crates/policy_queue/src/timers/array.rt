@@ -35,7 +35,8 @@ pub struct Due {
 /// The place of the timer of this name.
 pub(crate) fn find(row: &Row, slots: &Cells<Instant, u64>, id: NodeId) -> Option<usize>
     requires { IsArranged (taken row.now.places) slots.now }
-    ensures { MatchOption result (All (λ t. t.id ≢ id) (taken row.now.places)) (IsNamed row.now.places id) }
+    ensures { MatchOption result (All (λ t. t.id ≢ id) (taken row.now.places))
+        (IsNamed row.now.places id) }
 {
     match slots.get(id.slot) {
         Some((placed, serial)) => row.seek(key(*placed, *serial), id),
@@ -66,8 +67,10 @@ pub(crate) fn take(row: &mut Row, slots: &mut Cells<Instant, u64>, k: usize) -> 
     ensures goes { Goes k (taken row.old.places) (taken row.new.places) result }
     ensures arranged { IsArranged (taken row.new.places) slots.new }
     ensures alone { LacksSerial result.id.serial (taken row.new.places) }
-    ensures capacity { (row.new.capacity ≡ row.old.capacity) × (length (taken row.new.places) < row.new.capacity) }
-    ensures slots { (slots.new.capacity ≡ slots.old.capacity) × (slots.new.vacant_key ≡ result.id.slot) × HasRoomFor slots.new 1 }
+    ensures capacity { (row.new.capacity ≡ row.old.capacity)
+        × (length (taken row.new.places) < row.new.capacity) }
+    ensures slots { (slots.new.capacity ≡ slots.old.capacity)
+        × (slots.new.vacant_key ≡ result.id.slot) × HasRoomFor slots.new 1 }
 {
     let timer = row.take(k);
     slots.remove(timer.id.slot);
@@ -78,7 +81,9 @@ pub(crate) fn take(row: &mut Row, slots: &mut Cells<Instant, u64>, k: usize) -> 
 pub(crate) fn move_timer(row: &mut Row, slots: &mut Cells<Instant, u64>, k: usize, due: Due)
     requires arranged { IsArranged (taken row.old.places) slots.old }
     requires taken { IsTaken row.old.places k }
-    ensures moves { (t : TheTimer) × ((d : ThePlace) → t ≡ timer_at (slice_index_or row.old.places k d)) × MovesTo k (taken row.old.places) (taken row.new.places) t due.time due.expiry_gen }
+    ensures moves { (t : TheTimer)
+        × ((d : ThePlace) → t ≡ timer_at (slice_index_or row.old.places k d))
+        × MovesTo k (taken row.old.places) (taken row.new.places) t due.time due.expiry_gen }
     ensures arranged { IsArranged (taken row.new.places) slots.new }
     ensures capacity { row.old.capacity ≤ row.new.capacity }
     ensures slots { slots.new.capacity ≡ slots.old.capacity }

@@ -42,7 +42,8 @@ impl<K> TimerWheel<K> {
         ensures same_entries { result.entries.ghost_name ≡ entries.entry.ghost_name }
         ensures entries { result.entries.now ≡ entries.old }
         ensures now { result.now ≡ now }
-        ensures late { result.is_late ≡ nat_lt (tick self.old.origin self.old.moment) (tick self.old.origin now) }
+        ensures late { result.is_late
+            ≡ nat_lt (tick self.old.origin self.old.moment) (tick self.old.origin now) }
     {
         let is_late = tick_of(self.origin(), self.moment()) < tick_of(self.origin(), now);
         TimerEventsIter {
@@ -70,12 +71,18 @@ impl<'a, K> TimerEventsIter<'a, K> {
         ensures same_entries { self.new.entries.ghost_name ≡ self.old.entries.ghost_name }
         ensures moment { (self.new.now ≡ self.old.now) × (self.new.is_late ≡ self.old.is_late) }
         ensures times { SameTimes self.old.entries.now self.new.entries.now }
-        ensures early { OnFalse self.old.is_late ((result ≡ None) × (self.new.wheel.now ≡ self.old.wheel.now) × (self.new.entries.now ≡ self.old.entries.now)) }
+        ensures early { OnFalse self.old.is_late
+            ((result ≡ None) × (self.new.wheel.now ≡ self.old.wheel.now)
+            × (self.new.entries.now ≡ self.old.entries.now)) }
 
         // In a later tick: what left and what came, the moment, and that fewer timers are pending.
-        ensures steps { OnTrue self.old.is_late (Step self.old.entries.now self.new.entries.now self.old.now self.old.wheel.now.timers self.new.wheel.now.timers result) }
-        ensures keeps { OnTrue self.old.is_late (Keeps (record self.old.wheel.now { moment = (if is_some result then self.old.wheel.now.moment else self.old.now) }) self.new.wheel.now) }
-        ensures fewer { OnTrue self.old.is_late (OnSome result (pending self.old.now self.new.wheel.now.timers < pending self.old.now self.old.wheel.now.timers)) }
+        ensures steps { OnTrue self.old.is_late (Step self.old.entries.now self.new.entries.now
+            self.old.now self.old.wheel.now.timers self.new.wheel.now.timers result) }
+        ensures keeps { OnTrue self.old.is_late (Keeps (record self.old.wheel.now
+            { moment = (if is_some result then self.old.wheel.now.moment else self.old.now) })
+            self.new.wheel.now) }
+        ensures fewer { OnTrue self.old.is_late (OnSome result (pending self.old.now
+            self.new.wheel.now.timers < pending self.old.now self.old.wheel.now.timers)) }
     {
         if !self.is_late {
             return None;

@@ -20,10 +20,19 @@ pub fn next_event<K>(
 ) -> Option<TimerEvent>
     requires { wheel.old.is_enabled ≡ true }
     ensures times { SameTimes entries.old entries.new }
-    ensures early { OnFalse (nat_lt (tick wheel.old.origin wheel.old.moment) (tick wheel.old.origin now)) ((result ≡ None) × (wheel.new ≡ wheel.old) × (entries.new ≡ entries.old)) }
-    ensures steps { OnTrue (nat_lt (tick wheel.old.origin wheel.old.moment) (tick wheel.old.origin now)) (Step entries.old entries.new now wheel.old.timers wheel.new.timers result) }
-    ensures keeps { OnTrue (nat_lt (tick wheel.old.origin wheel.old.moment) (tick wheel.old.origin now)) (Keeps (record wheel.old { moment = (if is_some result then wheel.old.moment else now) }) wheel.new) }
-    ensures fewer { OnTrue (nat_lt (tick wheel.old.origin wheel.old.moment) (tick wheel.old.origin now)) (OnSome result (pending now wheel.new.timers < pending now wheel.old.timers)) }
+    ensures early { OnFalse
+        (nat_lt (tick wheel.old.origin wheel.old.moment) (tick wheel.old.origin now))
+        ((result ≡ None) × (wheel.new ≡ wheel.old) × (entries.new ≡ entries.old)) }
+    ensures steps { OnTrue
+        (nat_lt (tick wheel.old.origin wheel.old.moment) (tick wheel.old.origin now))
+        (Step entries.old entries.new now wheel.old.timers wheel.new.timers result) }
+    ensures keeps { OnTrue
+        (nat_lt (tick wheel.old.origin wheel.old.moment) (tick wheel.old.origin now))
+        (Keeps (record wheel.old { moment = (if is_some result then wheel.old.moment else now) })
+        wheel.new) }
+    ensures fewer { OnTrue
+        (nat_lt (tick wheel.old.origin wheel.old.moment) (tick wheel.old.origin now))
+        (OnSome result (pending now wheel.new.timers < pending now wheel.old.timers)) }
 {
     let mut events = wheel.advance(now, entries);
     events.next()
@@ -32,7 +41,8 @@ pub fn next_event<K>(
 /// An advance that runs to its end returns as expired exactly the timers that are due, each once, if each was placed
 /// at its entry's time; whatever the premises, it returns none early.
 pub fn advances_give_the_due<K>(entries: &Slab<Slot<K>>)
-    ensures { (now : ℕ) (before after : List TheTimer) (events : List TheEvent) → Advances events entries.now now before after → Drains entries.now now before after (nodes_of events) }
+    ensures { (now : ℕ) (before after : List TheTimer) (events : List TheEvent) → Advances events
+        entries.now now before after → Drains entries.now now before after (nodes_of events) }
 {
     let _ = entries;
 }

@@ -100,7 +100,8 @@ pub(crate) fn first_taken(places: &[Place], from: usize) -> usize
 pub(crate) fn shift_up(places: &mut [Place], at: usize, spare: usize, place: Place)
     requires below { at ≤ spare }
     requires within { spare < length places.old }
-    ensures { (a b d : List ThePlace) (x : ThePlace) → places.old ≡ a ++ (b ++ x ∷ d) → length a ≡ at → at + length b ≡ spare → places.new ≡ a ++ (place ∷ (b ++ d)) }
+    ensures { (a b d : List ThePlace) (x : ThePlace) → places.old ≡ a ++ (b ++ x ∷ d)
+        → length a ≡ at → at + length b ≡ spare → places.new ≡ a ++ (place ∷ (b ++ d)) }
 {
     let part = &mut places[at..spare + 1];
     part.rotate_right(1);
@@ -111,7 +112,8 @@ pub(crate) fn shift_up(places: &mut [Place], at: usize, spare: usize, place: Pla
 pub(crate) fn shift_down(places: &mut [Place], at: usize, spare: usize, place: Place)
     requires above { spare < at }
     requires within { at ≤ length places.old }
-    ensures { (a b d : List ThePlace) (x : ThePlace) → places.old ≡ a ++ (x ∷ (b ++ d)) → length a ≡ spare → spare + 1 + length b ≡ at → places.new ≡ a ++ (b ++ place ∷ d) }
+    ensures { (a b d : List ThePlace) (x : ThePlace) → places.old ≡ a ++ (x ∷ (b ++ d))
+        → length a ≡ spare → spare + 1 + length b ≡ at → places.new ≡ a ++ (b ++ place ∷ d) }
 {
     let part = &mut places[spare..at];
     part.rotate_left(1);

@@ -28,7 +28,11 @@ impl Model for Row {
 
     ghost Value = { Spread };
 
-    ghost view = { λ r. record { places = drop r.front r.places.items; capacity = vec_capacity r.places; behind = vec_capacity r.places - vec_len r.places } };
+    ghost view = { λ r. record {
+      places = drop r.front r.places.items;
+      capacity = vec_capacity r.places;
+      behind = vec_capacity r.places - vec_len r.places;
+    } };
 
     ghost invariant = { λ r. IsRow r.front r.places.items };
 }
@@ -53,7 +57,8 @@ fn is_named(place: Place, id: NodeId) -> bool
 fn fit(places: &mut [Place], at: usize, spare: usize, place: Place)
     requires spread { IsSpread places.old }
     requires spare { IsSpare places.old spare }
-    requires fits { (at ≤ length places.old) × AreUnder (key_in place) (take at places.old) × AreFrom (key_in place) (drop at places.old) }
+    requires fits { (at ≤ length places.old) × AreUnder (key_in place) (take at places.old)
+        × AreFrom (key_in place) (drop at places.old) }
     requires new { LacksKey (key_in place) (taken places.old) }
     requires taken { place.is_taken ≡ true }
     ensures spread { IsSpread places.new }
@@ -95,7 +100,8 @@ impl Row {
 
     /// The first timer.
     pub(crate) fn first(&self) -> Option<Timer>
-        ensures { MatchOption result (self.now.places ≡ []) (λ t. IsFirst self.now.places t × All (λ u. key_of t ≤ key_of u) (taken self.now.places)) }
+        ensures { MatchOption result (self.now.places ≡ []) (λ t. IsFirst self.now.places t
+            × All (λ u. key_of t ≤ key_of u) (taken self.now.places)) }
     {
         if self.front < self.places.len() {
             Some(timer_in(self.places[self.front]))
@@ -114,7 +120,9 @@ impl Row {
 
     /// The place of the timer with this name, which has this key.
     pub(crate) fn seek(&self, bound: u128, id: NodeId) -> Option<usize>
-        ensures { MatchOption result (All (λ t. key_of t ≡ bound → t.id ≢ id) (taken self.now.places)) (IsNamed self.now.places id) }
+        ensures { MatchOption result
+            (All (λ t. key_of t ≡ bound → t.id ≢ id) (taken self.now.places))
+            (IsNamed self.now.places id) }
     {
         let places = self.places.as_slice();
         let live = &places[self.front..];
@@ -146,7 +154,8 @@ impl Row {
     fn put_near(&mut self, place: &Place) -> bool
         requires taken { place.now.is_taken ≡ true }
         requires new { LacksKey (key_in place.now) (taken self.old.places) }
-        ensures comes { OnTrue result (Comes (taken self.old.places) (taken self.new.places) (timer_at place.now)) }
+        ensures comes { OnTrue result
+            (Comes (taken self.old.places) (taken self.new.places) (timer_at place.now)) }
         ensures same { OnFalse result (self.new ≡ self.old) }
         ensures capacity { self.old.capacity ≤ self.new.capacity }
     {

@@ -133,7 +133,8 @@ impl<K> TimerWheel<K> {
         ensures room { OnOk result (n ≤ self.new.room) }
         ensures had_room { n ≤ self.old.room → IsOk result }
         ensures stays { OnlyGainsRoom self.old self.new }
-        ensures used_up { (result ≡ Err ScheduleError.UsedUp) ↔ (2 ^ 64 - 1 < self.old.next_serial + n) }
+        ensures used_up { (result ≡ Err ScheduleError.UsedUp)
+            ↔ (2 ^ 64 - 1 < self.old.next_serial + n) }
     {
         if u64::MAX - self.next_serial < n as u64 {
             return Err(ScheduleError::UsedUp);
@@ -203,7 +204,8 @@ impl<K> TimerWheel<K> {
         entries: &Slab<Slot<K>>,
     ) -> Result<ReschedulingResult, StaleTimer>
         requires { self.old.is_enabled ≡ true }
-        ensures rescheduled { IfOk result (RescheduledWell entries.now self.old.timers self.new.timers id) }
+        ensures rescheduled { IfOk result
+            (RescheduledWell entries.now self.old.timers self.new.timers id) }
         ensures keeps { OnOk result (Keeps self.old self.new) }
         ensures stale { OnErr result (All (λ t. t.id ≢ id) self.old.timers) }
         ensures unchanged { OnErr result (self.new ≡ self.old) }
@@ -259,7 +261,9 @@ impl<K> TimerWheel<K> {
     /// Returns the first timer, if it was placed at or before `now`. It stays.
     pub fn first_due(&self, now: Instant) -> Option<Timer>
         ensures earliest { IfSome result (λ t. All (λ u. t.placed ≤ u.placed) self.now.timers) }
-        ensures first { MatchOption result (All (λ t. now < t.placed) self.now.timers) (λ t. (0 < length self.now.timers) × (t ≡ slice_index_or self.now.timers 0 t) × (t.placed ≤ now)) }
+        ensures first { MatchOption result (All (λ t. now < t.placed) self.now.timers)
+            (λ t. (0 < length self.now.timers) × (t ≡ slice_index_or self.now.timers 0 t)
+            × (t.placed ≤ now)) }
     {
         match self.row.first() {
             Some(first) => {
@@ -290,7 +294,8 @@ impl<K> TimerWheel<K> {
     /// Moves the first timer to another time.
     pub(crate) fn move_first(&mut self, due: Due)
         requires { 0 < length self.old.timers }
-        ensures first { (t : TheTimer) × (rest : List TheTimer) × (self.old.timers ≡ t ∷ rest) × IsPermutation (moved t due.time due.expiry_gen ∷ rest) self.new.timers }
+        ensures first { (t : TheTimer) × (rest : List TheTimer) × (self.old.timers ≡ t ∷ rest)
+            × IsPermutation (moved t due.time due.expiry_gen ∷ rest) self.new.timers }
         ensures keeps { Keeps self.old self.new }
     {
         match self.row.first() {

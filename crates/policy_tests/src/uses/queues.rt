@@ -8,7 +8,8 @@ use std::alloc::Global;
 
 /// Puts two elements to the back, both or none: once there is room for two, no push is refused.
 fn push_both(queue: &mut Deque<u64>, first: u64, second: u64) -> Result<(), ReserveError>
-    ensures pushed { OnOk result (map (λ n. n.element) queue.new.nodes ≡ map (λ n. n.element) queue.old.nodes ++ first ∷ second ∷ []) }
+    ensures pushed { OnOk result (map (λ n. n.element) queue.new.nodes
+        ≡ map (λ n. n.element) queue.old.nodes ++ first ∷ second ∷ []) }
     ensures refused { OnErr result (Stays queue.old queue.new) }
 {
     queue.reserve(2)?;
@@ -20,7 +21,8 @@ fn push_both(queue: &mut Deque<u64>, first: u64, second: u64) -> Result<(), Rese
 /// Puts an element to the back of a queue with room.
 fn push_reserved(queue: &mut Deque<u64>, element: u64)
     requires { 0 < queue.old.room }
-    ensures pushed { map (λ n. n.element) queue.new.nodes ≡ map (λ n. n.element) queue.old.nodes ++ element ∷ [] }
+    ensures pushed { map (λ n. n.element) queue.new.nodes ≡ map (λ n. n.element) queue.old.nodes
+        ++ element ∷ [] }
     ensures room { queue.old.room ≤ queue.new.room + 1 }
 {
     match queue.push_back(element) {

@@ -19,7 +19,9 @@ module _ {V F : Type 0} where
 
   -- a slot for which one more caller waits, if it is of a kind
   abbrev pub slot_joined : TurnKind → TurnSlot V F → TurnSlot V F
-  slot_joined kind slot = if same_kind slot.kind kind then record slot { waiting = slot.waiting + 1 } else slot
+  slot_joined kind slot = if same_kind slot.kind kind then record slot {
+    waiting = slot.waiting + 1;
+  } else slot
 
   -- a turn that is under way, and for which nobody waits, is at its number
   pub record OpensAt (kind : TurnKind) (number : ℕ) (old new : SlotsByNumber V F) : Type 0 where
@@ -31,4 +33,6 @@ module _ {V F : Type 0} where
 
   -- one more caller waits for the turn of a kind with a number, if there is one
   abbrev pub JoinsAt : TurnKind → (number : ℕ) → (old new : SlotsByNumber V F) → Type 0
-  JoinsAt kind number old new = (n : ℕ) → slot_at n new ≡ option_map (λ slot. if number == n then slot_joined kind slot else slot) (slot_at n old)
+  JoinsAt kind number old new =
+      (n : ℕ) → slot_at n new
+      ≡ option_map (λ slot. if number == n then slot_joined kind slot else slot) (slot_at n old)

@@ -139,7 +139,8 @@ impl<V: Drop, F: Drop> Slots<V, F> {
 
     /// Whether some wait for a turn.
     pub fn is_waited_for(&self, kind: TurnKind, number: u64) -> bool
-        ensures { result ≡ option_map_or (λ slot. same_kind slot.kind kind && nat_lt 0 slot.waiting) (slot_at number self.now.slots) false }
+        ensures { result ≡ option_map_or (λ slot. same_kind slot.kind kind && nat_lt 0 slot.waiting)
+            (slot_at number self.now.slots) false }
     {
         match self.slots.get(&number) {
             Some(slot) => slot.is(kind) && 0 < slot.waiting,
