@@ -1,4 +1,5 @@
 //! What the errors of a service say.
+use crate::rows::no_row_wrong;
 use audit_model::{Input, LineError, Outcome, ServiceError};
 use cache_run::RunError;
 use cache_spaces::{AnswerError, Refusal};
@@ -44,22 +45,21 @@ fn says<E: Display>(alloc: Global, error: &E, text: &str) -> bool {
     has_text(alloc, error, text) == Ok(true) || has_text(alloc, error, text) == Ok(true)
 }
 
-fn all_say<E: Display>(alloc: Global, rows: &[(E, &str)]) -> bool {
-    for (error, text) in rows {
+/// The place of the first row that does not say so.
+fn first_unsaid<E: Display>(alloc: Global, rows: &[(E, &str)]) -> Option<usize> {
+    for (place, (error, text)) in rows.iter().enumerate() {
         if !says(alloc, error, text) {
-            return false;
+            return Some(place);
         }
     }
-    true
+    None
 }
 
 #[test]
 fn errors_have_texts(rt: HostRuntime) {
-    assert!(rt;
-        all_say(rt.alloc(), SERVICE_ERRORS.as_slice())
-            && all_say(rt.alloc(), RUN_ERRORS.as_slice())
-            && all_say(rt.alloc(), LINE_ERRORS.as_slice())
-    );
+    no_row_wrong(&rt, first_unsaid(rt.alloc(), SERVICE_ERRORS.as_slice()));
+    no_row_wrong(&rt, first_unsaid(rt.alloc(), RUN_ERRORS.as_slice()));
+    no_row_wrong(&rt, first_unsaid(rt.alloc(), LINE_ERRORS.as_slice()));
 }
 
 /// Whether an input that is handed back says why.

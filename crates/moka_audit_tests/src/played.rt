@@ -1,14 +1,12 @@
 //! The rows played from a service, whole and byte by byte, and judged.
 use crate::rows::{Came, NOTHING, Row, rows_of_limits, rows_of_lines, rows_of_loads};
-use audit_model::{
-    Bytes, Config, Conn, Input, Instant, LoadId, Outcome, Seq, ServiceError, Transcript,
-};
+use audit_model::{Bytes, Config, Conn, Input, Instant, LoadId, Outcome, Seq, Transcript};
 use cache_spaces::play;
 use moka_audit::{Verdict, audit};
 use rand_core::SeedableRng;
 use rand_xoshiro::Xoshiro256PlusPlus;
 use std::alloc::{AllocError, Global};
-use std::test::Fail;
+use std::process::Abort;
 
 const START: Instant = Instant { nanos: 0 };
 
@@ -172,23 +170,19 @@ fn inputs_of(alloc: Global, cut: Cut, came: &[Came<'_>]) -> Result<Vec<Input>, A
     Ok(inputs)
 }
 
-/// The transcripts of the namespaces, of which there is one, to which these come.
-fn play_row(
-    alloc: Global,
-    row: &Row<'_>,
-    inputs: &[Input],
-) -> Result<Vec<Transcript>, ServiceError> {
+/// The transcript of the last namespace, of which there is one, to which these come.
+fn play_row(alloc: Global, row: &Row<'_>, inputs: &[Input]) -> Option<Transcript> {
     let generator = Xoshiro256PlusPlus::seed_from_u64(1);
-    play(alloc, &[*row.config], generator, START, inputs)
+    match play(alloc, &[*row.config], generator, START, inputs) {
+        Ok(transcripts) => last_of(transcripts),
+        Err(_) => None,
+    }
 }
 
 /// The last transcript.
-fn last_of(transcripts: Vec<Transcript>) -> Result<Transcript, Fail> {
+fn last_of(transcripts: Vec<Transcript>) -> Option<Transcript> {
     let mut transcripts = transcripts;
-    match transcripts.pop() {
-        Some(transcript) => Ok(transcript),
-        None => Err(Fail::new("no transcript")),
-    }
+    transcripts.pop()
 }
 
 /// The replies to a connection.
@@ -219,41 +213,55 @@ fn loads_of(transcript: &Transcript) -> u64 {
     loads
 }
 
+/// Whether a connection is replied so.
+fn is_replied(alloc: Global, transcript: &Transcript, conn: u64, wanted: &[u8]) -> bool {
+    match replies_to(alloc, transcript, conn) {
+        Ok(replies) => replies.as_slice() == wanted,
+        Err(_) => false,
+    }
+}
+
 /// Whether each connection is replied what the row says.
-fn has_replies(alloc: Global, transcript: &Transcript, row: &Row<'_>) -> Result<bool, AllocError> {
+fn has_replies(alloc: Global, transcript: &Transcript, row: &Row<'_>) -> bool {
     for (place, wanted) in row.replies.iter().enumerate() {
-        let replies = replies_to(alloc, transcript, place as u64 + 1)?;
-        if replies.as_slice() != *wanted {
-            return Ok(false);
+        if !is_replied(alloc, transcript, place as u64 + 1, wanted) {
+            return false;
         }
     }
-    Ok(true)
+    true
 }
 
 /// The transcript that is played of a row.
-fn played(alloc: Global, cut: Cut, row: &Row<'_>) -> Result<Transcript, Fail> {
-    let inputs = inputs_of(alloc, cut, row.came)?;
-    last_of(play_row(alloc, row, &inputs)?)
+fn played(alloc: Global, cut: Cut, row: &Row<'_>) -> Option<Transcript> {
+    match inputs_of(alloc, cut, row.came) {
+        Ok(inputs) => play_row(alloc, row, &inputs),
+        Err(_) => None,
+    }
 }
 
 /// Whether a transcript is judged to be right, and comes out as its row says.
-fn is_right(alloc: Global, transcript: &Transcript, row: &Row<'_>) -> Result<bool, AllocError> {
-    Ok(
-        audit(alloc, row.config, transcript) == Verdict::Yes
-            && loads_of(transcript) == row.loads
-            && has_replies(alloc, transcript, row)?,
-    )
+fn is_right(alloc: Global, transcript: &Transcript, row: &Row<'_>) -> bool {
+    audit(alloc, row.config, transcript) == Verdict::Yes
+        && loads_of(transcript) == row.loads
+        && has_replies(alloc, transcript, row)
 }
 
-/// Fails with the place of the first row that does not come out as it says, or is not judged to be right.
-fn expect_right(alloc: Global, cut: Cut, rows: &[Row<'_>]) -> Result<(), Fail> {
+/// Whether the transcript of a row is.
+fn comes_so(alloc: Global, cut: Cut, row: &Row<'_>) -> bool {
+    match played(alloc, cut, row) {
+        Some(transcript) => is_right(alloc, &transcript, row),
+        None => false,
+    }
+}
+
+/// The place of the first row of which it is not, on the second attempt if memory is refused.
+fn first_wrong(alloc: Global, cut: Cut, rows: &[Row<'_>]) -> Option<usize> {
     for (place, row) in rows.iter().enumerate() {
-        let transcript = played(alloc, cut, row)?;
-        if !is_right(alloc, &transcript, row)? {
-            return Err(Fail::new(format_args!("row {place}")));
+        if !comes_so(alloc, cut, row) && !comes_so(alloc, cut, row) {
+            return Some(place);
         }
     }
-    Ok(())
+    None
 }
 
 /// All that comes, whole, on the second attempt if memory is refused.
@@ -264,12 +272,19 @@ fn inputs_again(alloc: Global, came: &[Came<'_>]) -> Result<Vec<Input>, AllocErr
     }
 }
 
-/// The transcript, on the second attempt if memory is refused.
-fn played_again(alloc: Global, row: &Row<'_>) -> Result<Transcript, Fail> {
-    let inputs = inputs_again(alloc, row.came)?;
-    match play_row(alloc, row, &inputs) {
-        Ok(transcripts) => last_of(transcripts),
-        Err(_) => last_of(play_row(alloc, row, &inputs)?),
+/// The transcript to which these come, on the second attempt if memory is refused.
+fn play_again(alloc: Global, row: &Row<'_>, inputs: &[Input]) -> Option<Transcript> {
+    match play_row(alloc, row, inputs) {
+        Some(transcript) => Some(transcript),
+        None => play_row(alloc, row, inputs),
+    }
+}
+
+/// The transcript of a row, on the second attempt if memory is refused.
+fn played_again(alloc: Global, row: &Row<'_>) -> Option<Transcript> {
+    match inputs_again(alloc, row.came) {
+        Ok(inputs) => play_again(alloc, row, &inputs),
+        Err(_) => None,
     }
 }
 
@@ -281,60 +296,81 @@ fn verdict_again(alloc: Global, config: &Config, transcript: &Transcript) -> Ver
     }
 }
 
-/// Whether the transcript obeys, and has one verdict by a configuration that it may break.
-fn is_steady(alloc: Global, row: &Row<'_>, other: &Config) -> Result<bool, Fail> {
-    let transcript = played_again(alloc, row)?;
-    let first = verdict_again(alloc, other, &transcript);
-    let second = verdict_again(alloc, other, &transcript);
-    Ok(verdict_again(alloc, row.config, &transcript) == Verdict::Yes && first == second)
+/// Whether a transcript obeys, and has one verdict by a configuration that it may break.
+fn has_one_verdict(alloc: Global, transcript: &Transcript, row: &Row<'_>, other: &Config) -> bool {
+    let first = verdict_again(alloc, other, transcript);
+    let second = verdict_again(alloc, other, transcript);
+    first == second && verdict_again(alloc, row.config, transcript) == Verdict::Yes
 }
 
-/// Fails with the place of the first row with another verdict where memory was refused once.
-fn expect_steady(alloc: Global, rows: &[Row<'_>]) -> Result<(), Fail> {
+/// Whether the transcript of a row does.
+fn is_steady(alloc: Global, row: &Row<'_>) -> bool {
+    match played_again(alloc, row) {
+        Some(transcript) => has_one_verdict(alloc, &transcript, row, &NOTHING),
+        None => false,
+    }
+}
+
+/// The place of the first row with another verdict where memory was refused once.
+fn first_unsteady(alloc: Global, rows: &[Row<'_>]) -> Option<usize> {
     for (place, row) in rows.iter().enumerate() {
-        if !is_steady(alloc, row, &NOTHING)? {
-            return Err(Fail::new(format_args!("row {place}")));
+        if !is_steady(alloc, row) {
+            return Some(place);
         }
     }
-    Ok(())
+    None
+}
+
+/// Stops a test where there is a place of what is wrong in its table, and says it.
+fn none_wrong(rt: &impl Abort, wrong: Option<usize>) {
+    assert_eq!(rt; wrong, None);
 }
 
 #[test]
-fn lines_with_memory_refused_once(rt: HostRuntime) -> Result<(), Fail> {
-    expect_steady(rt.alloc(), rows_of_lines())
+fn lines_with_memory_refused_once(rt: HostRuntime) {
+    none_wrong(&rt, first_unsteady(rt.alloc(), rows_of_lines()));
 }
 
 #[test]
-fn loads_with_memory_refused_once(rt: HostRuntime) -> Result<(), Fail> {
-    expect_steady(rt.alloc(), rows_of_loads())
+fn loads_with_memory_refused_once(rt: HostRuntime) {
+    none_wrong(&rt, first_unsteady(rt.alloc(), rows_of_loads()));
 }
 
 #[test]
-fn lines_whole(rt: HostRuntime) -> Result<(), Fail> {
-    expect_right(rt.alloc(), Cut::Whole, rows_of_lines())
+fn lines_whole(rt: HostRuntime) {
+    none_wrong(&rt, first_wrong(rt.alloc(), Cut::Whole, rows_of_lines()));
 }
 
 #[test]
-fn lines_byte_by_byte(rt: HostRuntime) -> Result<(), Fail> {
-    expect_right(rt.alloc(), Cut::ByteByByte, rows_of_lines())
+fn lines_byte_by_byte(rt: HostRuntime) {
+    none_wrong(
+        &rt,
+        first_wrong(rt.alloc(), Cut::ByteByByte, rows_of_lines()),
+    );
 }
 
 #[test]
-fn loads_whole(rt: HostRuntime) -> Result<(), Fail> {
-    expect_right(rt.alloc(), Cut::Whole, rows_of_loads())
+fn loads_whole(rt: HostRuntime) {
+    none_wrong(&rt, first_wrong(rt.alloc(), Cut::Whole, rows_of_loads()));
 }
 
 #[test]
-fn loads_byte_by_byte(rt: HostRuntime) -> Result<(), Fail> {
-    expect_right(rt.alloc(), Cut::ByteByByte, rows_of_loads())
+fn loads_byte_by_byte(rt: HostRuntime) {
+    none_wrong(
+        &rt,
+        first_wrong(rt.alloc(), Cut::ByteByByte, rows_of_loads()),
+    );
 }
 
 #[test]
-fn limits_whole(rt: HostRuntime) -> Result<(), Fail> {
-    expect_right(rt.alloc(), Cut::Whole, rows_of_limits())
+fn limits_whole(rt: HostRuntime) {
+    none_wrong(&rt, first_wrong(rt.alloc(), Cut::Whole, rows_of_limits()));
 }
 
 #[test]
-fn limits_byte_by_byte(rt: HostRuntime) -> Result<(), Fail> {
-    expect_right(rt.alloc(), Cut::ByteByByte, rows_of_limits())
+fn limits_byte_by_byte(rt: HostRuntime) {
+    none_wrong(
+        &rt,
+        first_wrong(rt.alloc(), Cut::ByteByByte, rows_of_limits()),
+    );
 }
