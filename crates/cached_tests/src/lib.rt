@@ -11,6 +11,8 @@ mod configs;
 #[cfg(test)]
 mod devices;
 #[cfg(test)]
+mod meetings;
+#[cfg(test)]
 mod outboxes;
 #[cfg(test)]
 mod scripts;

@@ -1,5 +1,6 @@
 //! Servers, each with its clients, to its end.
 use crate::clients::{connect, send_only, talks, use_up};
+use crate::meetings::Meeting;
 use crate::sinks::{Sink, Written, is_written, make_sink, make_written};
 use cached_server::{Fault, serve_text};
 use std::alloc::{AllocError, Global};
@@ -146,6 +147,17 @@ fn clients_talk_and_end<R: Net<Listener = TcpListener, Stream = TcpStream> + Clo
     is_read
 }
 
+/// The clients' part, unless the server has given them up.
+fn clients_come<R: Net<Listener = TcpListener, Stream = TcpStream> + Clock>(
+    rt: &R,
+    alloc: Global,
+    ports: (u16, u16),
+    row: &Row<'_>,
+    meeting: &Meeting,
+) -> bool {
+    meeting.come() && clients_talk_and_end(rt, alloc, ports, row)
+}
+
 /// Serves what a text configures, each namespace as often as the clients need.
 fn serve_cast<R>(
     rt: R,
@@ -172,6 +184,33 @@ where
     }
 }
 
+/// The same, once the clients are there; `None` if they do not come. Without them the server would wait for them for ever.
+fn serve_them<R>(
+    rt: R,
+    alloc: Global,
+    config: &str,
+    cast: Cast,
+    sinks: (Sink<R>, Sink<R>),
+    meeting: &Meeting,
+) -> Option<Result<(), Fault>>
+where
+    R: Net<Listener = TcpListener, Stream = TcpStream>
+        + Clock
+        + RandomSource
+        + Threads
+        + Wait
+        + Copy
+        + Send
+        + Sync
+        + 'static,
+{
+    if meeting.meets(&rt) {
+        Some(serve_cast(rt, alloc, config, cast, sinks))
+    } else {
+        None
+    }
+}
+
 /// Whether a server that writes to these ends as its row says, and its clients read what it says.
 fn is_served<R>(
     rt: R,
@@ -192,12 +231,13 @@ where
         + 'static,
 {
     let lent = &rt;
+    let meeting = &Meeting::new();
     let (is_read, ended) = thread::join(
         lent,
-        move || clients_talk_and_end(lent, alloc, stage.ports, row),
-        move || serve_cast(rt, alloc, stage.config, row.cast, sinks),
+        move || clients_come(lent, alloc, stage.ports, row, meeting),
+        move || serve_them(rt, alloc, stage.config, row.cast, sinks, meeting),
     );
-    is_read && ended == row.ended
+    is_read && ended == Some(row.ended)
 }
 
 /// The server's two writers. The first one takes just what it shows where the row says so.
