@@ -10,6 +10,9 @@ Figures go into figures.json. CORE in the environment is the number of a core on
 these sizes in place of 1,000, 100,000 and 1,000,000. The status is 1 if at 100,000 a look-up takes more than 4 times as long as that of
 `LruCache`, an insert more than 3 times as long as its `put`, or a value more than 260 bytes in addition to key and value, with the space
 allocated in advance.
+
+`engine.py longest` prints instead how long the longest of five million calls takes, after the cache is full: of each call the least
+processor time of three rounds that make the same calls. The status is 1 if one takes longer than the goals.
 """
 import os
 import pathlib
@@ -35,6 +38,11 @@ GET_BOUND = 4.0
 INSERT_BOUND = 3.0
 BYTES_BOUND = 260
 LEAST_WEIGHED = 100_000
+# How long the longest call may take, in milliseconds, by the number of values.
+LONGEST = {10_000: 0.3, 900_000: 2.0}
+LONGEST_KINDS = [("tiny_lfu", "gets", "zipf"), ("tiny_lfu", "writes", "uniform"), ("lru", "inserts", "uniform"), ("tiny_lfu", "inserts", "uniform")]
+LONGEST_CALLS = 5_000_000
+LONGEST_ROUNDS = 3
 
 
 def words_of(cache, work, draws, size, drawn, passes):
@@ -137,10 +145,29 @@ def print_bytes(size):
     return taken["tiny_lfu"]
 
 
+def longest_of(kind, size):
+    """The milliseconds of the longest call of a kind at a size."""
+    words = [str(PROGRAM), "longest", *kind, str(size), str(LONGEST_CALLS), str(LONGEST_ROUNDS)]
+    return int(subprocess.run(words, capture_output=True, text=True, check=True).stdout) / 1e6
+
+
+def print_longest():
+    """Prints the longest calls, and answers whether none takes longer than the goals."""
+    are_met = True
+    for size, goal in LONGEST.items():
+        for kind in LONGEST_KINDS:
+            longest = longest_of(kind, size)
+            are_met = are_met and longest <= goal
+            print(f"{size:,}: {' '.join(kind)}: {longest:.3f} ms (goal {goal})", flush=True)
+    return are_met
+
+
 def main():
     are_met = True
     if "CORE" in os.environ:
         os.sched_setaffinity(0, {int(os.environ["CORE"])})
+    if sys.argv[1:] == ["longest"]:
+        sys.exit(not print_longest())
     for size in [int(word) for word in sys.argv[1:]] or SIZES:
         factors = print_times(size)
         print_caffeine(size)

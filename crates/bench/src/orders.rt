@@ -5,6 +5,7 @@ use crate::{engine, policy, sync};
 use std::alloc::{Allocator, Global};
 use std::sync::Wait;
 use std::thread::Threads;
+use std::time::CpuClock;
 
 /// What is to be done, with what.
 #[derive(Clone, Copy)]
@@ -13,6 +14,8 @@ pub enum Order {
     Policy(policy::Order),
     /// With a cache of one part.
     Engine(engine::Order),
+    /// The same, and the longest call is looked for.
+    Longest(engine::Order),
     /// With a cache that threads share.
     Sync(sync::Order),
     /// With all calls of such a cache, mixed.
@@ -22,7 +25,7 @@ pub enum Order {
 /// What an order came to.
 #[derive(Drop)]
 pub enum Outcome {
-    /// A number that depends on all that was done.
+    /// A number that depends on all that was done, or the nanoseconds of the longest call.
     Sum(u64),
     /// How the values of a soak were told.
     Soak(Tally),
@@ -35,6 +38,7 @@ impl Order {
         match first.as_str() {
             "policy" => Some(Order::Policy(policy::Order::from_words(behind)?)),
             "engine" => Some(Order::Engine(engine::Order::from_words(behind)?)),
+            "longest" => Some(Order::Longest(engine::Order::from_words(behind)?)),
             "sync" => match soak::Order::from_words(behind) {
                 Some(order) => Some(Order::Soak(order)),
                 None => Some(Order::Sync(sync::Order::from_words(behind)?)),
@@ -44,10 +48,15 @@ impl Order {
     }
 
     /// Does it, and answers what it came to; or nothing, where memory was refused.
-    pub fn run<R: Threads + Wait + Sync + Copy>(self, rt: &R, alloc: Global) -> Option<Outcome> {
+    pub fn run<R: CpuClock + Threads + Wait + Sync + Copy>(
+        self,
+        rt: &R,
+        alloc: Global,
+    ) -> Option<Outcome> {
         match self {
             Order::Policy(order) => policy::run(alloc, order).map(Outcome::Sum),
             Order::Engine(order) => engine::run(alloc, order).map(Outcome::Sum),
+            Order::Longest(order) => engine::longest::run(rt, alloc, order).map(Outcome::Sum),
             Order::Sync(order) => sync::run(rt, alloc, order).map(Outcome::Sum),
             Order::Soak(order) => soak::run(rt, alloc, order).map(Outcome::Soak),
         }

@@ -1,5 +1,5 @@
 -- The inputs that a seat passes to a shared service for one connection, and the requests to its loader.
-use Rattle.std.specs.Prelude.{◌≡◌, ◌≢◌, ℕ, ◌≤◌, ◌==◌, Bool, true, List, [], ◌∷◌, ◌++◌, count_by, length, map, Option, Some, Vec, ◌⊎◌, IfSome, if◌then◌else◌}
+use Rattle.std.specs.Prelude.{◌≡◌, ◌≢◌, ℕ, ◌≤◌, Bool, true, List, [], ◌∷◌, ◌++◌, length, map, Option, Some, Vec, ◌⊎◌, IfSome, if◌then◌else◌}
 use Rattle.std.specs.Io.KnownBytes.{Consumes}
 use Rattle.std.specs.List.{All, flat_map}
 use Rattle.std.specs.declared.alloc.Global.{Global}
@@ -11,6 +11,7 @@ use Rattle.audit_model.specs.declared.input.LoadId.{LoadId}
 use Rattle.audit_laws.specs.declared.receipts.output.Output.TheVariants.{Opened}
 use Rattle.audit_laws.specs.declared.receipts.receipt.Receipt.{Receipt}
 use Rattle.cache_run.specs.Devices.Sources.{Asking, Askings, Readings}
+use Rattle.cache_serve.specs.Cutting.{IsShortPiece}
 use Rattle.cache_shared.specs.Seats.{SameReceipts, receipts_at}
 
 -- a piece of a connection's bytes, and the moment at which it was read
@@ -81,9 +82,9 @@ abbrev pub piece_bytes : ServedInput → List ℕ
 piece_bytes (Fed piece) = piece.bytes
 piece_bytes (Settled settling moment) = []
 
--- at most 16 lines end in what was fed
+-- a piece that was fed has at most 64 lines, of which only the last may take long
 abbrev pub IsShort : ServedInput → Type 0
-IsShort (Fed piece) = count_by (λ byte. byte == 10) piece.bytes ≤ 16
+IsShort (Fed piece) = IsShortPiece piece.bytes
 IsShort (Settled settling moment) = Unit {0}
 
 -- the clock's reading

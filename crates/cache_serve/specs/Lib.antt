@@ -1,6 +1,7 @@
 pub mod Out
 pub mod Served
 pub mod Unfit
+pub mod Cutting
 pub mod Asked
 pub mod Seated
 pub mod Sitting

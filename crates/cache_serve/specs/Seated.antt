@@ -38,7 +38,7 @@ module _ (keeps : Bool) (WentOut : ℕ → ℕ → List ℕ → Type 0) (Unfit :
     pub asks : keeps ≡ true → Opens namespace h.receipts k.receipts conn
     pub one : k.count ≡ h.count + 1
 
-  -- This was asked of the service, and the seat counts it. A piece has at most 16 lines; a load is given up only if it may be. The text was
+  -- This was asked of the service, and the seat counts it. A piece has at most 64 lines, of which only the last may take long; a load is given up only if it may be. The text was
   -- the connection's replies, and the loads had been sent.
   pub record SeatComes (conn : Conn) (h : Tally) (exchange : Exchange) (k : Tally) : Type 0 where
     pub asks : keeps ≡ true → Asks conn.namespace h.receipts k.receipts

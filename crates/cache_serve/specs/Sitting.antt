@@ -1,6 +1,6 @@
 -- What the host of a connection of a shared service guarantees, by its seat.
 use Rattle.std.proofs.Common.{◌∙◌, ap, arith, inl, inr}
-use Rattle.std.specs.Prelude.{◌≡◌, ℕ, ◌+◌, ◌≤◌, ◌==◌, Bool, true, false, List, [], ◌∷◌, ◌++◌, count_by, Option, Some, None, IfSome, Result, Ok, Err, Vec}
+use Rattle.std.specs.Prelude.{◌≡◌, ℕ, ◌+◌, ◌≤◌, Bool, true, false, List, [], ◌∷◌, ◌++◌, Option, Some, None, IfSome, Result, Ok, Err, Vec}
 use Rattle.std.specs.Option.{option_map}
 use Rattle.std.specs.declared.alloc.Global.{Global}
 use Rattle.audit_model.specs.declared.event.Outcome.{Outcome}
@@ -13,6 +13,7 @@ use Rattle.cache_run.specs.Driver.Exchanges.{Exchange, Outs}
 use Rattle.cache_run.specs.Driver.Hosting.{Suits}
 use Rattle.cache_run.specs.declared.driver.host.Given.{Given}
 use Rattle.cache_serve.specs.Asked.{Asks, AsksOrNot}
+use Rattle.cache_serve.specs.Cutting.{IsShortPiece}
 use Rattle.cache_serve.specs.Out.{AreOut, HadGoneOut}
 use Rattle.cache_serve.specs.Seated.{SeatCloses, SeatComes, SeatDrops, SeatOpens, SeatSettles, Tally}
 use Rattle.cache_serve.specs.Unfit.{IsUnfit}
@@ -26,10 +27,6 @@ use Rattle.cache_spaces.specs.Spaces.{Shown}
 -- its count and its receipts
 abbrev pub tally : {L : Type 0} → {G : Ledgers L} → Seat L G → Tally
 tally seat = record { count = seat.count; receipts = seat.receipts.items }
-
--- at most 16 lines end in the piece
-abbrev pub IsShortPiece : List ℕ → Type 0
-IsShortPiece piece = count_by (λ byte. byte == 10) piece ≤ 16
 
 -- nothing was taken
 pub record SeatRests (h k : Tally) : Type 0 where
@@ -138,4 +135,7 @@ closes-behind conn h m k rests closes =
     }
 
 pub none-short : IsShortPiece []
-none-short = omega arith
+none-short = record {
+  few = omega arith;
+  quick = λ start end line long. absurd (omega (arith, line.within.1));
+}

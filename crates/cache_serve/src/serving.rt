@@ -34,8 +34,8 @@ fn is_more(ended: &Result<Progress, RunError>) -> bool
 /// Serves one connection of an existing namespace, from its opening to the end of its input, when it is closed, or until it has
 /// closed. Each of its events is one hold of the lock, in which everything that the connection is owed afterwards is taken, and is counted
 /// by the seat.
-/// What was read at once is passed on in pieces of at most 16 lines, or of one line if more than 64 KiB of replies came before, so that
-/// others get the lock in between. While replies wait to be written, or a `LOAD` of the connection waits, nothing is passed on or read.
+/// What was read at once is passed on in pieces of at most 64 lines, each of which ends after the first line that may take long (`KEYS`,
+/// `SYNC`, `CLEAR`, `DROPIF`), or of one line if more than 64 KiB of replies came before, so that others get the lock in between. While replies wait to be written, or a `LOAD` of the connection waits, nothing is passed on or read.
 ///
 /// With its events it takes the loads of the namespace that have gone out, its own or those of other connections, and asks the loader for
 /// each by its key, without the lock. A load is answered with what the loader returns, and given up if the loader returns nothing or if the

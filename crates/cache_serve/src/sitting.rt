@@ -5,7 +5,8 @@ ghost use Rattle.audit_model.specs.declared.input.Conn.{Conn};
 ghost use Rattle.cache_run.specs.Driver.Hosting.{Stops};
 ghost use Rattle.cache_serve.specs.Asked.{feed_input, give_up_input};
 ghost use Rattle.cache_serve.specs.Out.{AreOut};
-ghost use Rattle.cache_serve.specs.Sitting.{Closes, Comes, Drops, DropsBy, DropsOne, Gives, IsReply, IsShortPiece, Opens, SeatRests, SeatTakes, Settles, SettlesLate, TakesIfGiven, closes-behind, none-short, tally};
+ghost use Rattle.cache_serve.specs.Cutting.{IsShortPiece};
+ghost use Rattle.cache_serve.specs.Sitting.{Closes, Comes, Drops, DropsBy, DropsOne, Gives, IsReply, Opens, SeatRests, SeatTakes, Settles, SettlesLate, TakesIfGiven, closes-behind, none-short, tally};
 ghost use Rattle.cache_shared.specs.Events.{IsLate, IsUnfitAnswer, is_of_outcome};
 
 use crate::cutting::{Pace, length_of_cut};

@@ -10,7 +10,7 @@ use std::num::NonZeroUsize;
 
 /// Which cache it is.
 #[derive(Clone, Copy, Debug, PartialEq, Eq)]
-enum Which {
+pub enum Which {
     /// The cache of one part, by its eviction policy.
     Engine(EvictionPolicy),
     /// The kit's.
@@ -61,7 +61,7 @@ impl Work {
     }
 
     /// Makes the call of one round, and answers a number that depends on it.
-    fn call<C: NumberCache>(self, cache: &mut C, key: u64, fresh: u64) -> u64 {
+    pub fn call<C: NumberCache>(self, cache: &mut C, key: u64, fresh: u64) -> u64 {
         match self {
             Work::Grows | Work::Loops => key,
             Work::Gets => cache.get(key).unwrap_or(0),
@@ -75,12 +75,12 @@ impl Work {
 /// What is to be done, with which cache.
 #[derive(Clone, Copy)]
 pub struct Order {
-    which: Which,
-    work: Work,
-    draws: Draws,
-    size: NonZeroUsize,
-    drawn: usize,
-    passes: u64,
+    pub which: Which,
+    pub work: Work,
+    pub draws: Draws,
+    pub size: NonZeroUsize,
+    pub drawn: usize,
+    pub passes: u64,
 }
 
 impl Order {
@@ -113,7 +113,7 @@ fn fetch<C: NumberCache>(cache: &mut C, key: u64) -> u64 {
 }
 
 /// Writes each key below a number; false where one was refused.
-fn fill<C: NumberCache>(cache: &mut C, size: usize) -> bool {
+pub fn fill<C: NumberCache>(cache: &mut C, size: usize) -> bool {
     for key in 0..size {
         if !cache.put(key as u64, key as u64) {
             return false;
@@ -145,7 +145,7 @@ fn make_passes<C: NumberCache>(cache: &mut C, keys: &[u64], order: &Order) -> u6
 }
 
 /// From how many keys the work draws.
-fn places_of(order: &Order) -> usize
+pub fn places_of(order: &Order) -> usize
     ensures { 0 < result }
 {
     match order.work {
