@@ -1,20 +1,19 @@
 -- The words of a line, and what the grammar reads in them.
-use Rattle.std.proofs.Common.{◌≡◌, ℕ, ◌≤◌, length, arith, true, false, eqb, List, [], ◌∷◌, Option, Some, None, refl, sym, ap, ◌∙◌, inl, inr, ⊎_elim, ◌⊎◌}
+use Rattle.std.proofs.Common.{◌≡◌, ◌≢◌, ℕ, ◌≤◌, length, arith, true, false, eqb, List, [], ◌∷◌, Option, Some, None, refl, sym, ap, ◌∙◌, inl, inr, ⊎_elim, ◌⊎◌}
 use Rattle.std.specs.Prelude.{Err, is_some, if◌then◌else◌}
 use Rattle.std.specs.List.{list_all}
 use Rattle.std.proofs.lemmas.Bool.{eq-eqb, and_left, and_right, cond-true, cond-false}
 use Rattle.std.proofs.lemmas.Bool.Decides.{eqb_tells}
 use Rattle.audit_model.specs.Bytewise.{cut_at, words, onto_first}
-use Rattle.audit_model.specs.Grammar.{is_key, is_key_byte, read_words, read_add, deadline_in, number_in, with_key, get, has, load, del, add, clear, dropif, keys, sync, quit}
+use Rattle.audit_model.specs.Grammar.{Verb, is_key, is_key_byte, read_words, words_behind, read_add, deadline_in, number_in, get, has, load, del, add, clear, dropif, keys, sync, quit}
 use Rattle.audit_model.specs.declared.config.Config.{Config}
-use Rattle.audit_model.specs.declared.command.Command.{Command}
-use Rattle.audit_model.specs.declared.command.Command.TheVariants as says
 use Rattle.audit_model.specs.declared.command.LineError.TheVariants as fault
-use Rattle.audit_lines.specs.Request.{IsFit, LacksKey}
+use Rattle.audit_lines.specs.Request.{IsFit, LacksKey, verb_of}
 use Rattle.audit_lines.specs.declared.request.Request.{Request}
 use Rattle.audit_lines.specs.declared.request.Request.TheVariants.{Set, Get, Has, Load, Del, Add, Clear, DropIf, Keys, Sync, Quit, Fault}
 use Rattle.audit_lines.proofs.Cuts.{Cut, onto, cut_at-here, cut_at-other}
-use Rattle.audit_lines.proofs.Keys.{is_key-other_byte}
+use Rattle.audit_lines.specs.declared.request.Word.{Word}
+use Rattle.audit_lines.specs.declared.request.Word.TheVariants as command
 
 -- two words at least, which together are no key
 pub record HasMore (bytes : List ℕ) : Type 0 where
@@ -57,60 +56,53 @@ one_or_more (b ∷ bs) = ⊎_elim (λ space. inr (behind space.1 (one_or_more bs
 
 -- ---- one key
 
--- bytes that are no key are a fault
-with_key-fault : (bytes : List ℕ) (command : Command) → list_all is_key_byte bytes ≡ false → with_key bytes command ≡ Err fault.Syntax
-with_key-fault bytes command other = cond-false (is_key bytes) _ _ (is_key-other_byte bytes other)
+-- by a byte that no key has, bytes are no key
+is_key-other_byte : (word : List ℕ) → list_all is_key_byte word ≡ false → is_key word ≡ false
+is_key-other_byte word other = and_right _ _ other
 
--- behind a `GET` all bytes are the key
-pub read_words-get : (config : Config) (bytes : List ℕ) → read_words config get (words bytes) ≡ with_key bytes (says.Get bytes)
-read_words-get config bytes = ⊎_elim
-    (λ one. ap (read_words config get) one)
-    (λ more. ap (read_words config get) more.are ∙ sym (with_key-fault bytes _ more.no_key))
-    (one_or_more bytes)
+-- a key is one word
+words-key : (key : List ℕ) → is_key key ≡ true → words key ≡ key ∷ []
+words-key key fits = ⊎_elim (λ one. one) (λ more. let other = is_key-other_byte key more.no_key in cc) (one_or_more key)
 
--- behind a `HAS` too
-pub read_words-has : (config : Config) (bytes : List ℕ) → read_words config has (words bytes) ≡ with_key bytes (says.Has bytes)
-read_words-has config bytes = ⊎_elim
-    (λ one. ap (read_words config has) one)
-    (λ more. ap (read_words config has) more.are ∙ sym (with_key-fault bytes _ more.no_key))
-    (one_or_more bytes)
+-- behind a command's word but `SET` a key is one word
+pub words_behind-key : (word : Word) (key : List ℕ) → word ≢ command.Set → is_key key ≡ true → words_behind (verb_of word) (Some key) ≡ key ∷ []
+words_behind-key command.Set key no_set fits = absurd (no_set refl)
+words_behind-key command.Get key no_set fits = words-key key fits
+words_behind-key command.Has key no_set fits = words-key key fits
+words_behind-key command.Load key no_set fits = words-key key fits
+words_behind-key command.Del key no_set fits = words-key key fits
+words_behind-key command.Add key no_set fits = words-key key fits
+words_behind-key command.Clear key no_set fits = words-key key fits
+words_behind-key command.DropIf key no_set fits = words-key key fits
+words_behind-key command.Keys key no_set fits = words-key key fits
+words_behind-key command.Sync key no_set fits = words-key key fits
+words_behind-key command.Quit key no_set fits = words-key key fits
 
--- behind a `LOAD` too
-pub read_words-load : (config : Config) (bytes : List ℕ) → read_words config load (words bytes) ≡ with_key bytes (says.Load bytes)
-read_words-load config bytes = ⊎_elim
-    (λ one. ap (read_words config load) one)
-    (λ more. ap (read_words config load) more.are ∙ sym (with_key-fault bytes _ more.no_key))
-    (one_or_more bytes)
+-- a command's word with bytes that are no key, and for `SET` and `ADD` with one word, is a fault
+pub read_words-unkeyed : (config : Config) (word : Word) (bytes : List ℕ) → word ≢ command.Set → word ≢ command.Add → is_key bytes ≡ false
+    → read_words config (verb_of word) (words_behind (verb_of word) (Some bytes)) ≡ Err fault.Syntax
+read_words-unkeyed config word bytes no_set no_add other = go word no_set no_add
+  where
+    one : (verb : Verb) → (read_words config verb (bytes ∷ []) ≡ Err fault.Syntax)
+        → ((first second : List ℕ) (others : List (List ℕ)) → read_words config verb (first ∷ second ∷ others) ≡ Err fault.Syntax)
+        → read_words config verb (words bytes) ≡ Err fault.Syntax
+    one verb alone many = ⊎_elim
+        (λ single. ap (read_words config verb) single ∙ alone)
+        (λ more. ap (read_words config verb) more.are ∙ many more.first more.second more.others)
+        (one_or_more bytes)
 
--- behind a `DEL` too
-pub read_words-del : (config : Config) (bytes : List ℕ) → read_words config del (words bytes) ≡ with_key bytes (says.Del bytes)
-read_words-del config bytes = ⊎_elim
-    (λ one. ap (read_words config del) one)
-    (λ more. ap (read_words config del) more.are ∙ sym (with_key-fault bytes _ more.no_key))
-    (one_or_more bytes)
-
--- behind a `DROPIF` they are the prefix
-pub read_words-dropif : (config : Config) (bytes : List ℕ) → read_words config dropif (words bytes) ≡ with_key bytes (says.DropIf bytes)
-read_words-dropif config bytes = ⊎_elim
-    (λ one. ap (read_words config dropif) one)
-    (λ more. ap (read_words config dropif) more.are ∙ sym (with_key-fault bytes _ more.no_key))
-    (one_or_more bytes)
-
--- behind a `CLEAR` and a space there is a word, if an empty one
-pub read_words-clear : (config : Config) (bytes : List ℕ) → read_words config clear (words bytes) ≡ Err fault.Syntax
-read_words-clear config bytes = ⊎_elim (λ one. ap (read_words config clear) one) (λ more. ap (read_words config clear) more.are) (one_or_more bytes)
-
--- behind a `KEYS` and a space there is a word, if an empty one
-pub read_words-keys : (config : Config) (bytes : List ℕ) → read_words config keys (words bytes) ≡ Err fault.Syntax
-read_words-keys config bytes = ⊎_elim (λ one. ap (read_words config keys) one) (λ more. ap (read_words config keys) more.are) (one_or_more bytes)
-
--- behind a `SYNC` and a space there is a word, if an empty one
-pub read_words-sync : (config : Config) (bytes : List ℕ) → read_words config sync (words bytes) ≡ Err fault.Syntax
-read_words-sync config bytes = ⊎_elim (λ one. ap (read_words config sync) one) (λ more. ap (read_words config sync) more.are) (one_or_more bytes)
-
--- behind a `QUIT` and a space there is a word, if an empty one
-pub read_words-quit : (config : Config) (bytes : List ℕ) → read_words config quit (words bytes) ≡ Err fault.Syntax
-read_words-quit config bytes = ⊎_elim (λ one. ap (read_words config quit) one) (λ more. ap (read_words config quit) more.are) (one_or_more bytes)
+    go : (w : Word) → w ≢ command.Set → w ≢ command.Add → read_words config (verb_of w) (words_behind (verb_of w) (Some bytes)) ≡ Err fault.Syntax
+    go command.Set no_set no_add = absurd (no_set refl)
+    go command.Add no_set no_add = absurd (no_add refl)
+    go command.Get no_set no_add = one get (cond-false _ _ _ other) (λ first second others. refl)
+    go command.Has no_set no_add = one has (cond-false _ _ _ other) (λ first second others. refl)
+    go command.Load no_set no_add = one load (cond-false _ _ _ other) (λ first second others. refl)
+    go command.Del no_set no_add = one del (cond-false _ _ _ other) (λ first second others. refl)
+    go command.DropIf no_set no_add = one dropif (cond-false _ _ _ other) (λ first second others. refl)
+    go command.Clear no_set no_add = one clear refl (λ first second others. refl)
+    go command.Keys no_set no_add = one keys refl (λ first second others. refl)
+    go command.Sync no_set no_add = one sync refl (λ first second others. refl)
+    go command.Quit no_set no_add = one quit refl (λ first second others. refl)
 
 -- ---- words by their cuts
 

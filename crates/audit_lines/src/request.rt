@@ -1,12 +1,14 @@
 //! What a line says, with its words as they are in it.
-ghost use Rattle.std.specs.Prelude.{◌≡◌, ◌≤◌, ℕ, List, [], IsTrue, IfSome, MatchOption, option_map, position, not};
+ghost use Rattle.std.specs.Prelude.{◌≡◌, ◌≤◌, ℕ, List, [], ◌∷◌, Some, IsTrue, IfSome, MatchOption, option_map};
+ghost use Rattle.std.specs.List.{list_all};
 ghost use Rattle.audit_model.specs.Bytewise.{cut_at, words, words_up_to};
-ghost use Rattle.audit_model.specs.Grammar.{is_key, is_key_byte, is_value, deadline_in, read_words, read_verb, words_behind, set, get, has, load, del, add, dropif, verb_in, reading};
+ghost use Rattle.audit_model.specs.Grammar.{is_key, is_key_byte, is_value, deadline_in, read_words, words_behind, set, add, verb_in, reading};
 ghost use Rattle.audit_model.specs.declared.config.Config.{Config};
+ghost use Rattle.memchr.specs.Find.{IsFirstByte, is_byte};
 ghost use Rattle.audit_lines.specs.Request.{said, verb_of, IsFit, IsOwn, LacksKey};
 
 use crate::numbers::{milliseconds, number};
-use audit_model::{Config, LineError, key_fits};
+use audit_model::{Config, LineError};
 use memchr::{memchr, memchr2};
 
 /// A key has at most this many bytes.
@@ -68,7 +70,7 @@ pub fn read_line<'a>(config: &Config, line: &'a [u8]) -> Request<'a>
     ensures said { said result ≡ reading config.now line.now }
     ensures fit { IsFit config.now line.now result }
 {
-    let (word, rest) = cut(line);
+    let (word, rest) = cut(line, near_space(line));
     match word_of(word) {
         Some(word) => match rest {
             Some(rest) => read_behind(config, word, rest),
@@ -132,16 +134,31 @@ fn read_behind<'a>(config: &Config, word: Word, rest: &'a [u8]) -> Request<'a>
 {
     match word {
         Word::Set => read_set(config, rest),
-        Word::Get => read_get(rest),
-        Word::Has => read_has(rest),
-        Word::Load => read_load(rest),
-        Word::Del => read_del(rest),
         Word::Add => read_add(config, rest),
-        Word::DropIf => read_dropif(rest),
-        Word::Clear => Request::Fault(LineError::Syntax),
-        Word::Keys => Request::Fault(LineError::Syntax),
-        Word::Sync => Request::Fault(LineError::Syntax),
-        Word::Quit => Request::Fault(LineError::Syntax),
+        _ => {
+            if key_fits(rest) {
+                with_key(word, rest)
+            } else {
+                Request::Fault(LineError::Syntax)
+            }
+        }
+    }
+}
+
+/// Reads a line that is a command's word and a key.
+fn with_key<'a>(word: Word, key: &'a [u8]) -> Request<'a>
+    requires { IsTrue (is_key key.now) }
+    ensures said { (config : Config)
+        → said result ≡ read_words config (verb_of word) (key.now ∷ []) }
+    ensures fit { (config : Config) (line : List ℕ) → IsFit config line result }
+{
+    match word {
+        Word::Get => Request::Get { key },
+        Word::Has => Request::Has { key },
+        Word::Load => Request::Load { key },
+        Word::Del => Request::Del { key },
+        Word::DropIf => Request::DropIf { prefix: key },
+        _ => Request::Fault(LineError::Syntax),
     }
 }
 
@@ -153,7 +170,7 @@ fn read_set<'a>(config: &Config, rest: &'a [u8]) -> Request<'a>
     let Some((key, rest)) = cut_key(rest) else {
         return Request::Fault(LineError::Syntax);
     };
-    let (deadline, value) = cut(rest);
+    let (deadline, value) = cut(rest, near_space(rest));
     let Some(value) = value else {
         return Request::Fault(LineError::Syntax);
     };
@@ -178,11 +195,11 @@ fn read_add<'a>(config: &Config, rest: &'a [u8]) -> Request<'a>
     let Some((key, rest)) = cut_key(rest) else {
         return Request::Fault(LineError::Syntax);
     };
-    let (deadline, rest) = cut(rest);
+    let (deadline, rest) = cut(rest, near_space(rest));
     let Some(rest) = rest else {
         return Request::Fault(LineError::Syntax);
     };
-    let (digits, more) = cut(rest);
+    let (digits, more) = cut(rest, near_space(rest));
     if more.is_some() {
         return Request::Fault(LineError::Syntax);
     }
@@ -199,71 +216,19 @@ fn read_add<'a>(config: &Config, rest: &'a [u8]) -> Request<'a>
     }
 }
 
-/// Reads the key behind the word `GET`.
-fn read_get(rest: &[u8]) -> Request<'_>
-    ensures said { (config : Config) → said result ≡ read_words config get (words rest.now) }
-    ensures fit { (config : Config) (line : List ℕ) → IsFit config line result }
+/// Where the first space is, byte after byte: it is likely to be near.
+fn near_space(line: &[u8]) -> Option<usize>
+    ensures { IsFirstByte (is_byte 32) line.now result }
 {
-    if key_fits(rest) {
-        Request::Get { key: rest }
-    } else {
-        Request::Fault(LineError::Syntax)
-    }
-}
-
-/// Reads the key behind the word `HAS`.
-fn read_has(rest: &[u8]) -> Request<'_>
-    ensures said { (config : Config) → said result ≡ read_words config has (words rest.now) }
-    ensures fit { (config : Config) (line : List ℕ) → IsFit config line result }
-{
-    if key_fits(rest) {
-        Request::Has { key: rest }
-    } else {
-        Request::Fault(LineError::Syntax)
-    }
-}
-
-/// Reads the key behind the word `LOAD`.
-fn read_load(rest: &[u8]) -> Request<'_>
-    ensures said { (config : Config) → said result ≡ read_words config load (words rest.now) }
-    ensures fit { (config : Config) (line : List ℕ) → IsFit config line result }
-{
-    if key_fits(rest) {
-        Request::Load { key: rest }
-    } else {
-        Request::Fault(LineError::Syntax)
-    }
-}
-
-/// Reads the key behind the word `DEL`.
-fn read_del(rest: &[u8]) -> Request<'_>
-    ensures said { (config : Config) → said result ≡ read_words config del (words rest.now) }
-    ensures fit { (config : Config) (line : List ℕ) → IsFit config line result }
-{
-    if key_fits(rest) {
-        Request::Del { key: rest }
-    } else {
-        Request::Fault(LineError::Syntax)
-    }
-}
-
-/// Reads the prefix behind the word `DROPIF`.
-fn read_dropif(rest: &[u8]) -> Request<'_>
-    ensures said { (config : Config) → said result ≡ read_words config dropif (words rest.now) }
-    ensures fit { (config : Config) (line : List ℕ) → IsFit config line result }
-{
-    if key_fits(rest) {
-        Request::DropIf { prefix: rest }
-    } else {
-        Request::Fault(LineError::Syntax)
-    }
+    line.iter().position(|b| *b == b' ')
 }
 
 /// What stands before the first space and behind it, if there is one.
-fn cut(line: &[u8]) -> (&[u8], Option<&[u8]>)
+fn cut(line: &[u8], space: Option<usize>) -> (&[u8], Option<&[u8]>)
+    requires { IsFirstByte (is_byte 32) line.now space }
     ensures { (result.0.now, option_map (λ r. r.now) result.1) ≡ cut_at 32 line.now }
 {
-    match memchr(b' ', line) {
+    match space {
         Some(at) => (&line[..at], Some(&line[at + 1..])),
         None => (line, None),
     }
@@ -274,23 +239,29 @@ fn cut_key(rest: &[u8]) -> Option<(&[u8], &[u8])>
     ensures { MatchOption result (LacksKey (cut_at 32 rest.now))
         (λ r. (cut_at 32 rest.now ≡ (r.0.now, Some r.1.now)) × IsTrue (is_key r.0.now)) }
 {
-    let Some(end) = key_end(rest) else {
-        return None;
-    };
-    if rest[end] != b' ' {
-        return None;
+    let (key, behind) = cut(rest, memchr(b' ', rest));
+    match behind {
+        Some(behind) if key_fits(key) => Some((key, behind)),
+        _ => None,
     }
-    if end == 0 || end > MAX_KEY {
-        return None;
-    }
-    Some((&rest[..end], &rest[end + 1..]))
 }
 
-/// The first byte that may not stand in a key.
-fn key_end(rest: &[u8]) -> Option<usize>
-    ensures { result ≡ position (λ b. not (is_key_byte b)) rest.now }
+/// Whether the bytes may stand as a key.
+fn key_fits(word: &[u8]) -> bool
+    ensures { result ≡ is_key word.now }
 {
-    rest.iter().position(|b| !b.is_ascii_graphic())
+    1 <= word.len() && word.len() <= MAX_KEY && are_key_bytes(word)
+}
+
+/// Whether each byte may stand in a key. It has no early exit, so that many bytes are looked at in one step.
+fn are_key_bytes(word: &[u8]) -> bool
+    ensures { result ≡ list_all is_key_byte word.now }
+{
+    let mut all = true;
+    for byte in word {
+        all = all & byte.is_ascii_graphic();
+    }
+    all
 }
 
 /// Whether the bytes may stand as a value.
