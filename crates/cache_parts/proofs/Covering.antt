@@ -1,20 +1,16 @@
 -- What a clear and a predicate do.
-use Rattle.std.proofs.Common.{◌≡◌, ℕ, zero, suc, ◌+◌, ◌<◌, max, Bool, true, false, ◌&&◌, ◌||◌, nat_lt, nat_eq, List, [], ◌∷◌, ◌++◌, map, Option, option_map, Some, None, slice_get, refl, sym, ap, ◌∙◌, subst, arith, append-nil}
-use Rattle.std.specs.List.{list_any, starts_with}
-use Rattle.std.proofs.lemmas.Bool.{lt-ltb}
+use Rattle.std.proofs.Common.{◌≡◌, ℕ, zero, suc, ◌+◌, false, ◌||◌, List, [], ◌∷◌, ◌++◌, map, Option, option_map, Some, None, slice_get, refl, sym, ap, ◌∙◌, subst, arith, append-nil}
 use Rattle.std.proofs.lemmas.Option.{none-some}
 use Rattle.audit_model.specs.Bytewise.{same}
 use Rattle.audit_model.specs.Changes.{held_after}
-use Rattle.audit_model.specs.Commands.{Covering, Everything, Prefixed, covers_key}
+use Rattle.audit_model.specs.Commands.{Covering, covers_key}
 use Rattle.audit_model.specs.Situation.{HeldValue, candidate_at}
 use Rattle.audit_model.specs.declared.config.Config.{Config}
 use Rattle.audit_model.specs.declared.transcript.Note.{Note}
-use Rattle.engine_reference.specs.declared.data.Registered.{Registered}
-use Rattle.engine_reference.specs.Calls.{cleared_by, with_predicate}
 use Rattle.engine_reference.specs.Records.{record_at, held_entries}
 use Rattle.engine_reference.specs.Telling.{entry_of, AreApart}
 use Rattle.engine_reference.specs.RunLaws.Points.{HasPoint}
-use Rattle.engine_reference.specs.Visible.{is_covered, is_covered_by}
+use Rattle.engine_reference.specs.Visible.{is_covered}
 use Rattle.cache_store.specs.Promises.{Done, covering}
 use Rattle.cache_store.specs.Handing.{TellsNone}
 use Rattle.cache_store.proofs.Steps.{right_to_tell_none}
@@ -111,52 +107,3 @@ module _ {S : Type 0} (which : Covering) where
                   both (Some y) (Some x) g h =
                       let is : plain y ≡ held_of (0 + part_of q) s.0 x = cc in
                       ap (λ z. Some z) (ap (λ (z : HeldValue). record z { covered = z.covered || covers_key z.value.key which }) is ∙ ap (λ b. record (held_of (0 + part_of q) s.0 x) { covered = b }) (sym (t.2.covers q x g)))
-
--- ---- the two covers
-
-max_above : (a b step : ℕ) → a < b → nat_lt a (max step b) ≡ true
-max_above a b step lt = lt-ltb a (max step b) (omega arith)
-
-or_all : (a b : Bool) → true ≡ (a || true)
-or_all true b = refl
-or_all false b = refl
-
-any-push : (test : Registered (List ℕ) → Bool) (ps : List (Registered (List ℕ))) (p : Registered (List ℕ)) → list_any test (ps ++ p ∷ []) ≡ (list_any test ps || test p)
-any-push test [] p = or_none (test p)
-  where
-    or_none : (b : Bool) → (b || false) ≡ b
-    or_none true = refl
-    or_none false = refl
-any-push test (x ∷ ps) p = ap (λ b. test x || b) (any-push test ps p) ∙ either (test x) (list_any test ps) (test p)
-  where
-    either : (a b c : Bool) → (a || (b || c)) ≡ ((a || b) || c)
-    either true b c = refl
-    either false b c = refl
-
-module _ {S : Type 0} where
-  -- a clear of a later step than all writes covers all
-  pub clear_covers : (s : Part S) (step : ℕ) → ((q : List ℕ) (e : Kept) → entry_of same (held_entries s.records) q ≡ Some e → e.step < step) → CoversToo Everything s (cleared_by step s)
-  clear_covers s step earlier = record {
-    records = refl;
-    writes = refl;
-    unsent = refl;
-    settings = refl;
-    covers = λ q e h. ap (λ b. b || list_any (λ p. is_covered_by service_answers s.rules p e) s.predicates) (max_above e.step step s.cleared (earlier q e h)) ∙ or_all (is_covered service_answers s e) true;
-  }
-
-  -- a predicate of a later step covers the keys of its prefix
-  pub predicate_covers : (s : Part S) (p : Registered (List ℕ)) → ((q : List ℕ) (e : Kept) → entry_of same (held_entries s.records) q ≡ Some e → e.step < p.step) → CoversToo (Prefixed p.predicate) s (with_predicate p s)
-  predicate_covers s p earlier = record {
-    records = refl;
-    writes = refl;
-    unsent = refl;
-    settings = refl;
-    covers = λ q e h.
-        ap (λ b. nat_lt e.step s.cleared || b) (any-push (λ x. is_covered_by service_answers s.rules x e) s.predicates p)
-        ∙ either (nat_lt e.step s.cleared) (list_any (λ x. is_covered_by service_answers s.rules x e) s.predicates) (is_covered_by service_answers s.rules p e)
-        ∙ ap (λ b. is_covered service_answers s e || (b && starts_with nat_eq e.key p.predicate)) (lt-ltb e.step p.step (earlier q e h));
-  }
-    where
-      either : (a b c : Bool) → (a || (b || c)) ≡ ((a || b) || c)
-      either true b c = refl
-      either false b c = refl

@@ -1,17 +1,15 @@
 -- A step that does nothing to values leaves those that are held, and what is told of one part is no more than its entries.
-use Rattle.std.proofs.Common.{◌≡◌, ℕ, zero, suc, ◌+◌, List, [], ◌∷◌, ◌++◌, map, length, Some, slice_get, remove, refl, sym, ap, subst, arith, append-nil}
+use Rattle.std.proofs.Common.{◌≡◌, ℕ, suc, List, [], ◌++◌, map, Some, slice_get, refl, sym, subst, arith, append-nil}
 use Rattle.std.proofs.lemmas.Option.{none-some}
 use Rattle.audit_model.specs.Changes.{all_held_after, held_after}
 use Rattle.audit_model.specs.Situation.{HeldValue, candidate_at}
 use Rattle.audit_model.specs.declared.config.Config.{Config}
-use Rattle.engine_reference.specs.Telling.{Removal, TakesAway, removed_entries}
 use Rattle.cache_store.specs.Promises.{no_deed}
 use Rattle.cache_store.proofs.Steps.{after_plain, corresponds-as}
 use Rattle.cache_store.specs.Held.{Corresponds}
-use Rattle.cache_parts.specs.Parts.{Stored, Part, items_of, AreMarked, Stands}
+use Rattle.cache_parts.specs.Parts.{Part, items_of, AreMarked, Stands}
 use Rattle.cache_parts.proofs.Items.{AreParted}
 use Rattle.cache_parts.proofs.Leaving.{find-candidates, in_part, marks_elsewhere}
-use Rattle.cache_parts.proofs.Telling.{Kept, notes_of}
 
 module _ {S : Type 0} where
   pub idle_does : (config : Config) (part_of : List ℕ → ℕ) (now : ℕ) (parts : List (Part S)) (held : List HeldValue) → AreParted part_of 0 parts → ((q : List ℕ) → (x : Part S) × (slice_get parts (part_of q) ≡ Some x)) → Stands parts held
@@ -26,13 +24,3 @@ module _ {S : Type 0} where
         (find-candidates (candidate_at config now) (λ h. refl) held [] part_of (λ q h e. in_part config part_of now parts held p stands.same count q h e) (λ q v e. absurd (none-some v e)))
         (λ q e. refl) (stands.marked k x here));
   }
-
-length-remove : (es : List Kept) (i : ℕ) (e : Kept) → slice_get es i ≡ Some e → suc (length (remove es i)) ≡ length es
-length-remove [] i e there = absurd (none-some e there)
-length-remove (x ∷ es) zero e there = refl
-length-remove (x ∷ es) (suc i) e there = ap suc (length-remove es i e there)
-
--- no more is told than was held
-pub few_notes : (removals : List (Removal (List ℕ) Stored)) (old new : List Kept) → TakesAway (removed_entries removals) old new → length (notes_of removals) + length new ≡ length old
-few_notes [] old new t = let e = ap length t in omega (arith, e)
-few_notes (gone ∷ removals) old new t = let later = few_notes removals (remove old t.0) new t.2 in let one = length-remove old t.0 gone.entry t.1 in omega (arith, later, one)

@@ -75,11 +75,6 @@ module _ {S : Type 0} where
       go true next = refl
       go false next = next
 
-  apart-in : (part : ℕ) (s : Part S) (es : List Kept) → AreApart same es → are_apart (map (held_of part s) es) ≡ true
-  apart-in part s [] a = refl
-  apart-in part s (e ∷ es) a =
-      and_from _ _ (absent_from_none e.key (map (held_of part s) es) (value_at-in part s es e.key ∙ ap (option_map (held_of part s)) a.0)) (apart-in part s es a.1)
-
   weight-in : (part : ℕ) (s : Part S) (es : List Kept) → weight_in part (map (held_of part s) es) ≡ sum_by (λ (e : Kept). e.weight) es
   weight-in part s es = weight_in-sum part (map (held_of part s) es) ∙ go es
     where

@@ -16,8 +16,6 @@ pub mod Bounding
 pub mod Covering
 pub mod Facts
 pub mod Idling
-pub mod Adding
-pub mod AddingLate
 pub mod Keys
 pub mod Pending
 pub mod Listing

@@ -1,7 +1,6 @@
 -- Exact recency of a part.
-use Rattle.std.proofs.Common.{◌≡◌, refl, ap, sym, ◌∙◌, subst, ℕ, suc, ◌+◌, arith, MatchBool, Bool, true, false, true≢false, cond, not, ◌&&◌, List, [], ◌∷◌, ◌++◌, Option, Some, None, map, reverse, take, inl, inr, ◌⊎◌}
-use Rattle.std.specs.Prelude.{IsPermutation, option_map, if◌then◌else◌}
-use Rattle.std.specs.List.{list_any}
+use Rattle.std.proofs.Common.{◌≡◌, refl, ap, sym, ◌∙◌, subst, ℕ, suc, ◌+◌, arith, Bool, true, false, true≢false, cond, not, ◌&&◌, List, [], ◌∷◌, ◌++◌, Option, Some, None, map, reverse, take, inl, inr, ◌⊎◌}
+use Rattle.std.specs.Prelude.{IsPermutation, option_map}
 use Rattle.std.proofs.lemmas.Bool.{ltb-false}
 use Rattle.std.proofs.lemmas.List.{take_all}
 use Rattle.std.proofs.lemmas.List.Sorted.{IsPermutation-trans, IsPermutation-reverse}
@@ -15,46 +14,27 @@ use Rattle.engine_reference.specs.declared.data.Unsent.{Unsent}
 use Rattle.engine_reference.specs.declared.data.Upsert.{Upsert}
 use Rattle.engine_reference.specs.declared.data.Write.TheVariants.{Put, Removed}
 use Rattle.engine_reference.specs.Admission.{is_above}
-use Rattle.engine_reference.specs.Calls.{with_read, used_entry, with_room, with_written, with_removed, removal_told, sent}
+use Rattle.engine_reference.specs.Calls.{IsNew, with_read, used_entry, with_room, with_written, with_removed, removal_told, sent}
 use Rattle.engine_reference.specs.Records.{held_at, changed_at, admitted_weight, held_entries, held_weight}
-use Rattle.engine_reference.specs.Runs.{Runs, RunsToEnd, IsApplied, is_due}
+use Rattle.engine_reference.specs.Runs.{Runs, RunsToEnd, IsApplied}
 use Rattle.engine_reference.specs.Soundness.{Each}
-use Rattle.engine_reference.specs.Telling.{AreApart}
 use Rattle.engine_reference.specs.Times.{own_expiration}
 use Rattle.engine_reference.specs.Visible.{is_covered, is_visible, visible_record, passing}
 use Rattle.engine_reference.proofs.Accounts.{each-changed}
-use Rattle.engine_reference.proofs.SoundCalls.{held_at-only, held_at-each, each-push, used-sound}
-use Rattle.engine_reference.specs.RunLaws.Points.{IsInOrder}
+use Rattle.engine_reference.proofs.SoundCalls.{held_at-only, held_at-each, each-push}
 use Rattle.engine_reference.proofs.run_laws.Fronting.{each-at}
-use Rattle.engine_reference.proofs.run_laws.Ordering.{runs_stay_in_order, read-order}
-use Rattle.engine_reference.proofs.run_laws.Shown.{RecordsApart, to-records, calls_keep_apart}
+use Rattle.engine_reference.proofs.run_laws.Ordering.{runs_stay_in_order}
+use Rattle.engine_reference.proofs.run_laws.Shown.{RecordsApart, to-records}
 use Rattle.engine_reference.proofs.run_laws.Swept.{sent-one}
-use Rattle.cache_store.proofs.Keys.{same-refl}
-use Rattle.cache_parts.specs.Parts.{Part, Stored, service_answers, put, put_entry, nanos}
-use Rattle.cache_parts.specs.Recent.{IsLasting, IsUncovered, applied, keys_in, keys_used, IsPlain, IsRecent, IsFresh, RunKeepsRecent, CutRunKeepsRecent, LookUpMovesRecent, PutMovesRecent, AddMovesRecent, RemovalMovesRecent, TakingKeepsRecent, NewIsRecent, RecentAreHeld, RecencyIsKept}
+use Rattle.cache_parts.specs.Parts.{Part, Stored, service_answers, put, put_entry, nanos, taken_out}
+use Rattle.engine_reference.specs.declared.data.Settings.{Settings}
+use Rattle.cache_parts.specs.Recent.{IsLasting, IsUncovered, applied, keys_in, keys_used, IsPlain, IsRecent, IsFresh}
 use Rattle.cache_parts.proofs.Draining.{keys-quiet}
 use Rattle.cache_parts.proofs.Facts.{fresh_is}
 use Rattle.cache_parts.proofs.Moving.{taking, read-moves, put-moves, removal-moves}
 use Rattle.cache_parts.proofs.Pending.{IsSteady, never-comes, keys-here, weight-here, run-front, run-still, applied-rest}
 use Rattle.cache_parts.proofs.Removing.{took_out}
-use Rattle.cache_parts.proofs.Writing.{Rec, same_laws, all_units, wrote}
-
--- a key that goes first after its use went first
-pub put-used : (key : List ℕ) (keys : List (List ℕ)) → put_first key (used_first key keys) ≡ put_first key keys
-put-used key keys = go (list_any (λ k. same k key) keys)
-  where
-    again : (xs : List (List ℕ)) → recent.keys_without key (recent.keys_without key xs) ≡ recent.keys_without key xs
-    again [] = refl
-    again (x ∷ xs) = by_same (same x key) refl (again xs)
-      where
-        by_same : (b : Bool) → same x key ≡ b → recent.keys_without key (recent.keys_without key xs) ≡ recent.keys_without key xs
-            → recent.keys_without key (cond (not b) (x ∷ recent.keys_without key xs) (recent.keys_without key xs)) ≡ cond (not b) (x ∷ recent.keys_without key xs) (recent.keys_without key xs)
-        by_same true e later = later
-        by_same false e later = ap (λ b. cond (not b) (x ∷ recent.keys_without key (recent.keys_without key xs)) (recent.keys_without key (recent.keys_without key xs))) e ∙ ap (λ ks. x ∷ ks) later
-
-    go : (b : Bool) → put_first key (if b then put_first key keys else keys) ≡ put_first key keys
-    go false = refl
-    go true = ap (λ b. key ∷ cond (not b) (key ∷ recent.keys_without key (recent.keys_without key keys)) (recent.keys_without key (recent.keys_without key keys))) (same-refl key) ∙ ap (λ ks. key ∷ ks) (again keys)
+use Rattle.cache_parts.proofs.Writing.{Rec, all_units, wrote}
 
 module _ {S : Type 0} where
   -- what steps of a run need
@@ -84,7 +64,7 @@ module _ {S : Type 0} where
   -- ---- runs
 
   -- A RUN TO ITS END KEEPS THE KEYS USED LAST, as many as the capacity
-  pub run_keeps : RunKeepsRecent S
+  pub run_keeps : (n now : ℕ) (s new : Part S) (settled : Bool) (keys : List (List ℕ)) → IsPlain n s → IsRecent n s settled keys → RunsToEnd service_answers now s new → IsRecent n new true (take (suc n) keys)
   run_keeps n now s new settled keys p r run =
       let k = run-front n now s new (steady n s settled keys p r) run.runs in
       let a = k.2 in
@@ -100,7 +80,7 @@ module _ {S : Type 0} where
       }
 
   -- a run that may be cut keeps them too
-  pub cut_run_keeps : CutRunKeepsRecent S
+  pub cut_run_keeps : (n now : ℕ) (s new : Part S) (settled : Bool) (keys : List (List ℕ)) → IsPlain n s → IsRecent n s settled keys → Runs service_answers now s new → IsRecent n new false keys
   cut_run_keeps n now s new settled keys p r run =
       let k = run-front n now s new (steady n s settled keys p r) run in
       record { cut = r.cut ∙ sym k.0; whole = λ e. absurd (true≢false (sym e)); uncovered = k.1.uncovered }
@@ -149,15 +129,6 @@ module _ {S : Type 0} where
       let f = run-front n now s mid h run in
       read-recent n now hash mid key keys (visible_record service_answers same s now key) f.1 (subst (λ rs. RecordsApart same rs) (sym k.records) (to-records same s.records p.apart)) f.2.writes
       (ap (λ rs. held_at same rs key) k.records ∙ sym (visible-held n now s key h)) (whole_is n mid keys (still-recent n now s mid keys p r run))
-
-  -- and so does a look-up
-  pub look_up_moves : LookUpMovesRecent S
-  look_up_moves n now hash s new key keys p r look =
-      subst (λ x. IsRecent n x false (used_first key keys)) (sym look.reads) (look-recent n now hash s look.mid key keys p r (go (is_due s now) look.maintains))
-    where
-      go : (b : Bool) → MatchBool b (RunsToEnd service_answers now s look.mid) (look.mid ≡ s) → (look.mid ≡ s) ⊎ Runs service_answers now s look.mid
-      go true run = inr run.runs
-      go false e = inl e
 
   -- ---- a write
 
@@ -237,55 +208,13 @@ module _ {S : Type 0} where
       )
 
   -- and so from a settled part
-  pub put_moves : PutMovesRecent S
+  pub put_moves : (n now hash step : ℕ) (s : Part S) (key : List ℕ) (value : Stored) (keys : List (List ℕ)) → IsPlain n s → IsFresh step s → value.milliseconds ≡ None → IsRecent n s true keys → IsPlain n (put key hash value now step s) × IsRecent n (put key hash value now step s) false (put_first key keys)
   put_moves n now hash step s key value keys p fresh brief r = put-recent n now hash step s key value keys p fresh brief (steady n s true keys p r) (rested n s keys r).writes (whole_is n s keys r)
-
-  -- ---- a write after a look-up
-
-  -- a read leaves a part of a plain LRU namespace
-  read-plain : (n now hash : ℕ) (s : Part S) (o : Option Rec) → IsPlain n s → IsPlain n (with_read service_answers o hash now s)
-  read-plain n now hash s o p = go o (read-order service_answers o hash now s (used-sound service_answers o hash now s p.in_order.sound) p.in_order) ((calls_keep_apart (List ℕ) Stored (List ℕ) S Weight).read same same_laws service_answers s o hash now p.apart)
-    where
-      go : (o : Option Rec) → IsInOrder (with_read service_answers o hash now s) → AreApart same (held_entries (with_read service_answers o hash now s).records) → IsPlain n (with_read service_answers o hash now s)
-      go None order apart = record { capacity = p.capacity; policy = p.policy; tells = p.tells; live = p.live; idle = p.idle; rules = p.rules; in_order = order; sent = p.sent; apart = apart; lasting = p.lasting }
-      go (Some r) order apart = record {
-        capacity = p.capacity;
-        policy = p.policy;
-        tells = p.tells;
-        live = p.live;
-        idle = p.idle;
-        rules = p.rules;
-        in_order = order;
-        sent = p.sent;
-        apart = apart;
-        lasting = each-changed r.number (λ x. record x { entry = used_entry service_answers s now x.entry }) IsLasting IsLasting
-            (λ x same k. k) (λ x other k. k) s.records p.in_order.sound.records.numbered p.lasting;
-      }
-
-  -- what a read leaves of the writes and of what covers
-  read-fresh : (now hash step : ℕ) (s : Part S) (o : Option Rec) → IsFresh step s → IsFresh step (with_read service_answers o hash now s) × ((with_read service_answers o hash now s).writes ≡ s.writes)
-  read-fresh now hash step s None f = (record { cleared = f.cleared; predicates = f.predicates }, refl)
-  read-fresh now hash step s (Some r) f = (record { cleared = f.cleared; predicates = f.predicates }, refl)
-
-  -- a write after a look-up puts its key first
-  pub add_moves : AddMovesRecent S
-  add_moves n now hash step s key value keys p fresh brief r =
-      let h = steady n s true keys p r in
-      let o = visible_record service_answers same s now key in
-      let seen = sym (visible-held n now s key h) in
-      let none = (rested n s keys r).writes in
-      let t = with_read service_answers o hash now s in
-      let q = read-plain n now hash s o p in
-      let one = read-recent n now hash s key keys o h (to-records same s.records p.apart) none seen (whole_is n s keys r) in
-      let f = read-fresh now hash step s o fresh in
-      let is : used_first key keys ≡ keys_used (applied t) = ap (used_first key) (whole_is n s keys r) ∙ sym (read-moves n s h (to-records same s.records p.apart) none key hash now o seen) in
-      let k = put-recent n now hash step t key value (used_first key keys) q f.0 brief (steady n t false (used_first key keys) q one) (f.1 ∙ none) is in
-      (k.0, subst (λ ks. IsRecent n (put key hash value now step t) false ks) (put-used key keys) k.1)
 
   -- ---- a removal
 
   -- a removal takes its key out
-  pub removal_moves : RemovalMovesRecent S
+  pub removal_moves : (n now : ℕ) (s : Part S) (key : List ℕ) (keys : List (List ℕ)) → IsPlain n s → IsRecent n s true keys → IsPlain n (taken_out key now s) × IsRecent n (taken_out key now s) false (recent.keys_without key keys)
   removal_moves n now s key keys p r =
       let h = steady n s true keys p r in
       let cut = ap (take (suc n)) (ap (recent.keys_without key) (whole_is n s keys r) ∙ sym (removal-moves n s h (to-records same s.records p.apart) (rested n s keys r).writes key now)) in
@@ -324,11 +253,11 @@ module _ {S : Type 0} where
   -- ---- notices, a new part, and the keys held
 
   -- notices do not matter
-  pub taking_keeps : TakingKeepsRecent S
+  pub taking_keeps : (n : ℕ) (s : Part S) (settled : Bool) (keys : List (List ℕ)) → IsRecent n s settled keys → IsRecent n (record s { notices = [] }) settled keys
   taking_keeps n s settled keys r = record { cut = r.cut ∙ ap (take (suc n)) (sym (keys-quiet s)); whole = r.whole; uncovered = r.uncovered }
 
   -- a new part has no keys
-  pub new_is : NewIsRecent S
+  pub new_is : (n : ℕ) (name : Option (List ℕ)) (settings : Settings) (hasher : S) (rules : Weight) (s : Part S) → IsNew name settings hasher rules s → IsRecent n s true []
   new_is n name settings hasher rules s new =
       let is : [] ≡ keys_used s = ap (λ ns. reverse (keys_in s.records ns)) (sym new.access) in
       record {
@@ -343,22 +272,3 @@ module _ {S : Type 0} where
       let w = r.whole refl in
       subst (λ ks. IsPermutation (map (λ (e : Entry (List ℕ) Stored). e.key) (held_entries s.records)) ks) (sym w.2)
       (IsPermutation-trans (map (λ (e : Entry (List ℕ) Stored). e.key) (held_entries s.records)) (keys_in s.records s.access) (keys_used s) (keys-here n s h w.1) (IsPermutation-reverse (keys_in s.records s.access)))
-
-  -- and so where it is one of a plain LRU namespace
-  pub are_held : RecentAreHeld S
-  are_held n s keys p r = held-steady n s keys (steady n s true keys p r) r
-
-module _ (S : Type 0) where
-  -- all of it
-  pub recency_is_kept : RecencyIsKept S
-  recency_is_kept = record {
-    run = run_keeps;
-    cut_run = cut_run_keeps;
-    look_up = look_up_moves;
-    put = put_moves;
-    add = add_moves;
-    removal = removal_moves;
-    taking = taking_keeps;
-    new = new_is;
-    held = are_held;
-  }

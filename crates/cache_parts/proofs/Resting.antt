@@ -89,10 +89,6 @@ module _ {S : Type 0} (config : Config) (part_of : List ℕ → ℕ) (made : ℕ
 
   -- ---- times
 
-  reached-as : (o : Option ℕ) (now : ℕ) → is_reached o now ≡ has_come o now
-  reached-as None now = refl
-  reached-as (Some m) now = refl
-
   record-of : (x : Part S) (q : List ℕ) (e : Kept) → AreNumbered x.records → entry_of same (held_entries x.records) q ≡ Some e → (r : Rec) × (record_at x.records r.number ≡ Some r) × (r.entry ≡ e)
   record-of x q e numbered h = go (held_at same x.records q) refl (sym (entry-held same x.records q) ∙ h)
     where

@@ -68,10 +68,6 @@ first_of-elsewhere part_of part (n ∷ notes) cs q of other = first_of-elsewhere
     go true e = absurd (other (ap part_of (equal_from_same q n.key e) ∙ of.0))
     go false e = first_of-other n.key q cs e
 
-untold-append : (xs ys : List Note) (cs : List Candidate) → untold key_of (xs ++ ys) cs ≡ untold key_of ys (untold key_of xs cs)
-untold-append [] ys cs = refl
-untold-append (n ∷ xs) ys cs = untold-append xs ys (without_key key_of n.key cs)
-
 module _ {S : Type 0} (now : ℕ) where
   -- each part ran to its end, and its notices were taken, part after part
   pub data AllRan : List (Part S) → List (Part S) → List Note → Type 0 where

@@ -1,5 +1,5 @@
 -- What is told of a part's entries is true, if each is told for a cause that is true of the candidate of its key.
-use Rattle.std.proofs.Common.{◌≡◌, ℕ, zero, suc, Bool, cond, true, false, List, [], ◌∷◌, ◌++◌, map, Option, Some, None, slice_get, remove, refl, sym, ap, ◌∙◌, subst}
+use Rattle.std.proofs.Common.{◌≡◌, ℕ, zero, suc, Bool, cond, true, false, List, [], ◌∷◌, ◌++◌, map, Some, None, slice_get, remove, refl, sym, ap, ◌∙◌}
 use Rattle.std.proofs.lemmas.Bool.{and_from}
 use Rattle.std.proofs.lemmas.Option.{none-some}
 use Rattle.audit_model.specs.Bytewise.{same}
@@ -22,15 +22,6 @@ use Rattle.cache_parts.specs.Parts.{Stored, note_of}
 abbrev pub Kept : Type 0
 Kept = Entry (List ℕ) Stored
 
-cond_none : {A : Type 0} (b : Bool) (x : A) (o : Option A) → cond b (Some x) o ≡ None → (b ≡ false) × (o ≡ None)
-cond_none true x o h = absurd (none-some x (sym h))
-cond_none false x o h = (refl, h)
-
-not_among : (es : List Kept) (i : ℕ) (e : Kept) (k : List ℕ) → slice_get es i ≡ Some e → entry_of same es k ≡ None → same k e.key ≡ false
-not_among [] i e k there none = absurd (none-some e there)
-not_among (x ∷ es) zero e k there none = let is : x ≡ e = cc in ap (λ (y : Kept). same k y.key) (sym is) ∙ (cond_none (same k x.key) x (entry_of same es k) none).0
-not_among (x ∷ es) (suc i) e k there none = not_among es i e k there (cond_none (same k x.key) x (entry_of same es k) none).1
-
 -- the entry at a place is that of its key
 pub entry_of-at : (es : List Kept) (i : ℕ) (e : Kept) → AreApart same es → slice_get es i ≡ Some e → entry_of same es e.key ≡ Some e
 entry_of-at [] i e a there = absurd (none-some e there)
@@ -46,14 +37,6 @@ pub entry_of-other : (es : List Kept) (i : ℕ) (e : Kept) (q : List ℕ) → sl
 entry_of-other [] i e q there other = absurd (none-some e there)
 entry_of-other (x ∷ es) zero e q there other = let is : x ≡ e = cc in sym (ap (λ b. cond b (Some x) (entry_of same es q)) (ap (λ (y : Kept). same q y.key) is ∙ other))
 entry_of-other (x ∷ es) (suc i) e q there other = ap (λ o. cond (same q x.key) (Some x) o) (entry_of-other es i e q there other)
-
-none-remove : (es : List Kept) (i : ℕ) (k : List ℕ) → entry_of same es k ≡ None → entry_of same (remove es i) k ≡ None
-none-remove [] zero k h = refl
-none-remove [] (suc i) k h = refl
-none-remove (x ∷ es) zero k h = (cond_none (same k x.key) x (entry_of same es k) h).1
-none-remove (x ∷ es) (suc i) k h =
-    let p = cond_none (same k x.key) x (entry_of same es k) h in
-    ap (λ b. cond b (Some x) (entry_of same (remove es i) k)) p.0 ∙ none-remove es i k p.1
 
 -- its own key has none then
 pub entry_of-gone : (es : List Kept) (i : ℕ) (e : Kept) → AreApart same es → slice_get es i ≡ Some e → entry_of same (remove es i) e.key ≡ None
@@ -99,11 +82,6 @@ module _ (J : Candidate → Kept → Type 0) where
       go false t =
           let k = f q x (sym (entry_of-other es i e q there t) ∙ here) in
           record { candidate = k.candidate; there = first_of-other e.key q cs t ∙ k.there; is = k.is }
-
-  pub fits-away : (removals : List (Removal (List ℕ) Stored)) (cs : List Candidate) (old new : List Kept) → AreApart same old → TakesAway (removed_entries removals) old new → Fits J cs old → Fits J (untold key_of (notes_of removals) cs) new
-  fits-away [] cs old new a t f = subst (λ es. Fits J cs es) (sym t) f
-  fits-away (gone ∷ removals) cs old new a t f =
-      fits-away removals (without_key key_of gone.entry.key cs) (remove old t.0) new (AreApart-remove same old t.0 a) t.2 (fits-remove cs old t.0 gone.entry a t.1 f)
 
   module _ (config : Config) (deed : Deed) (before : List Candidate) (Q : RemovalCause → Kept → Type 0)
       (ok : (why : RemovalCause) (e : Kept) (c : Candidate) → J c e → Q why e → is_true_note config before deed (note_of why e) (Some c) ≡ true) where

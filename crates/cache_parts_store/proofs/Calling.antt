@@ -1,5 +1,5 @@
 -- The calls that come to one part: what is seen, used, accepted and removed.
-use Rattle.std.proofs.Common.{◌≡◌, refl, ap, ◌∙◌, sym, subst, ℕ, ◌+◌, ◌≤◌, ◌<◌, ◌^◌, max, arith, Bool, true, false, ◌||◌, List, [], ◌++◌, map, length, Option, option_map, Some, None, is_none, slice_get, slice_set, if◌then◌else◌}
+use Rattle.std.proofs.Common.{◌≡◌, refl, ap, ◌∙◌, sym, subst, ℕ, ◌+◌, ◌≤◌, ◌<◌, ◌^◌, max, arith, Bool, true, false, ◌||◌, List, ◌++◌, map, length, Option, option_map, Some, None, is_none, slice_get, slice_set, if◌then◌else◌}
 use Rattle.std.specs.Prelude.{IfSome, IsSome, IsTrue, MatchOption}
 use Rattle.std.proofs.lemmas.Bool.{both_ways}
 use Rattle.std.proofs.lemmas.Option.{none-some}
@@ -21,24 +21,26 @@ use Rattle.engine_reference.specs.Visible.{visible, visible_record}
 use Rattle.engine_reference.proofs.SoundSteps.{runs_stay_sound}
 use Rattle.engine_reference.specs.Identifiers.Drawing.{is_registered}
 use Rattle.front_reference.specs.Parts.{Inserts, TakesOut, taken_out as taken_out_whole, takes_nothing}
-use Rattle.cache_parts.specs.Parts.{drained, Part, Stands, Stored, items_of, note_from, put, service_answers, with_part}
+use Rattle.cache_parts.specs.Parts.{drained, Part, Stands, Stored, items_of, note_from, put, put_entry, service_answers, with_part}
 use Rattle.cache_parts.proofs.Facts.{live_value_is}
+use Rattle.cache_parts.proofs.Joining.{Knows}
 use Rattle.cache_parts.proofs.Moving.{taking}
-use Rattle.cache_parts.proofs.Removing.{removed}
+use Rattle.cache_parts.proofs.Removing.{remove_does, removed, took_out}
 use Rattle.cache_parts.proofs.Running.{Maintained, idle, ran, ran_from}
 use Rattle.cache_parts.proofs.Swapping.{decides, with_part-other, with_part-there}
 use Rattle.cache_parts.proofs.Telling.{Kept}
-use Rattle.cache_parts.proofs.Writing.{Rec}
+use Rattle.cache_parts.proofs.Writing.{Rec, wrote}
 use Rattle.cache_parts.specs.Recent.{IsRecentOver}
-use Rattle.cache_parts_store.proofs.parts_laws.Lawful.{accepts, looks, misses, removes}
-use Rattle.cache_parts_store.proofs.parts_laws.Ordered.{recency_clauses}
-use Rattle.cache_parts_store.specs.PartsKept.Calling.{Comes}
+use Rattle.cache_parts.proofs.Accepting.{accept_does}
+use Rattle.cache_parts.proofs.Looking.{look_up_does}
+use Rattle.cache_parts.proofs.Missing.{miss_does}
+use Rattle.cache_parts_store.proofs.parts_laws.Ordered.{accepts, look_ups, removes}
 use Rattle.cache_parts_store.specs.PartsKept.Keeping.{IsKeptPart, at_moment, IsStorable}
 use Rattle.cache_parts_store.specs.PartsKept.Registering.{HasNoMore, register_of}
-use Rattle.cache_parts_store.proofs.parts_kept.Identifying.{identifier_clauses}
-use Rattle.cache_parts_store.proofs.parts_kept.Storing.{calls_keep_parts, kept_is_enough, takes_values}
+use Rattle.cache_parts_store.proofs.parts_kept.Identifying.{inserted-no_more, keeps_identifiers, looked-no_more, removed-no_more}
+use Rattle.cache_parts_store.proofs.parts_kept.Storing.{Comes, enough-knows, keeps-accept, keeps-look_up, keeps-remove, maintained_from, takes_values, value-new}
 use Rattle.cache_parts_store.proofs.Changing.{AreTaken, DrawsTicket, all_drained-set, greatest-with, maintained-room, maintained-ticket, put-room, put-ticket, read-room, read-ticket, removal-is, removed-room, removed-ticket, unreserved-with, waiting-set}
-use Rattle.cache_parts_store.proofs.Standing.{no_more-after, one_more-after}
+use Rattle.cache_parts_store.proofs.Standing.{no_more-after, one_more-after, parts_are}
 use Rattle.cache_parts_store.specs.Meets.{AcceptMeets, LookUpMeets, PeekMeets, RemoveMeets, stored}
 use Rattle.cache_parts_store.specs.View.{ComesTo, IsWhole, StoreOfParts, after, greatest_ticket, view, waiting}
 
@@ -53,6 +55,12 @@ maintained-sound {S} now old new (ran run) sound = runs_stay_sound _ _ _ _ _ _ n
 module _ {S : Type 0} (a : StoreOfParts S) (w : IsWhole a) where
   pub taken : AreTaken a.parts
   taken k s there = (w.kept.each k s there).taken
+
+  tells : (k : ℕ) (s : Part S) → slice_get a.parts k ≡ Some s → s.settings.tells ≡ true
+  tells k s there = ap (λ c. c.settings.tells) (w.kept.each k s there).front.made
+
+  knows : (now k : ℕ) (s : Part S) → slice_get a.parts k ≡ Some s → (held : List HeldValue) → Knows a.frame.config a.frame.part_of a.frame.made now k s a.parts held
+  knows now k s there held = enough-knows a.frame a.step now k a.parts s held w.kept there
 
   pub comes : (now next : ℕ) → ComesTo a now next → Comes a.frame a.step now next
   comes now next at = record { less = at.moment.0; rises = at.rises; range = at.moment.1 }
@@ -74,7 +82,7 @@ module _ {S : Type 0} (a : StoreOfParts S) (w : IsWhole a) where
   spent-with now next k s new at there f = let l = greatest-with k s new a.parts there f in let one = at.one in omega (arith, l, one)
 
   keeps-with : (k : ℕ) (s new : Part S) → slice_get a.parts k ≡ Some s → HasNoMore S s new → KeepsIdentifiers a.stream a.stream (register_of a.parts) (register_of (with_part k (drained new) a.parts))
-  keeps-with k s new there more = identifier_clauses.keeps a.stream a.parts (with_part k (drained new) a.parts) (λ part t at. each part t at (decides part k))
+  keeps-with k s new there more = keeps_identifiers a.stream a.parts (with_part k (drained new) a.parts) (λ part t at. each part t at (decides part k))
     where
       each : (part : ℕ) (t : Part S) → slice_get (with_part k (drained new) a.parts) part ≡ Some t → Dec (part ≡ k) → (x : Part S) × (slice_get a.parts part ≡ Some x) × HasNoMore S x t
       each part t at (yes is) =
@@ -87,7 +95,7 @@ module _ {S : Type 0} (a : StoreOfParts S) (w : IsWhole a) where
 
 pub peek : {S : Type 0} → PeekMeets S
 peek {S} a now key s w there = λ held stands.
-    sym (live_value_is a.frame.config a.frame.part_of a.frame.made now (a.frame.part_of key) s a.parts held (kept_is_enough.knows a.frame a.step now (a.frame.part_of key) a.parts s held w.kept there) stands.same key refl
+    sym (live_value_is a.frame.config a.frame.part_of a.frame.made now (a.frame.part_of key) s a.parts held (enough-knows a.frame a.step now (a.frame.part_of key) a.parts s held w.kept there) stands.same key refl
     ∙ bytes_are (visible service_answers same s now key))
   where
     bytes_are : (o : Option Kept) → option_map (λ (e : Kept). e.value.bytes) o ≡ option_map (λ (v : Stored). v.bytes) (option_map (λ (e : Kept). e.value) o)
@@ -98,7 +106,7 @@ peek {S} a now key s w there = λ held stands.
 
 look_up-with : {S : Type 0} (a : StoreOfParts S) (w : IsWhole a) (now next hash : ℕ) (key : List ℕ) (s new : Part S) → ComesTo a now next → slice_get a.parts (a.frame.part_of key) ≡ Some s
     → NotesLookUp service_answers same key hash now false s new → Does now (using key) (view a) (view (changed a w now next (a.frame.part_of key) new)) × IsWhole (changed a w now next (a.frame.part_of key) new)
-look_up-with {S} a w now next hash key s new at there look = (does, record { kept = calls_keep_parts.look_up a.frame a.step now next k a.parts s new key hash (comes a w now next at) w.kept there look; small = (let l = no_more-after a w now (using key) (changed a w now next k new) refl does in let small = w.small in omega (arith, l, small)); unreserved = unreserved-with k s new a.parts there w.unreserved room })
+look_up-with {S} a w now next hash key s new at there look = (does, record { kept = keeps-look_up a.frame a.step now next k a.parts s new key hash (comes a w now next at) w.kept there look; small = (let l = no_more-after a w now (using key) (changed a w now next k new) refl does in let small = w.small in omega (arith, l, small)); unreserved = unreserved-with k s new a.parts there w.unreserved room })
   where
     k : ℕ
     k = a.frame.part_of key
@@ -107,7 +115,7 @@ look_up-with {S} a w now next hash key s new at there look = (does, record { kep
     part = w.kept.each k s there
 
     maintained : Maintained now s look.mid
-    maintained = kept_is_enough.maintained now s look.mid look.maintains
+    maintained = maintained_from now s look.mid look.maintains
 
     read : Part S
     read = with_read service_answers (visible_record service_answers same s now key) hash now look.mid
@@ -120,8 +128,7 @@ look_up-with {S} a w now next hash key s new at there look = (does, record { kep
     done held stands =
         let order = part.front.ordered in
         let sound = maintained-sound now s look.mid maintained order.sound in
-        let touches = kept_is_enough.touches a.frame a.step now k a.parts s held w.kept there stands in
-        let d = looks S a.frame.config a.frame.part_of a.frame.made now k s look.mid a.parts held key hash touches refl maintained sound order sound part.front.apart (ran_from now s look.mid order part.front.apart touches.tells maintained) in
+        let d = look_up_does now key hash s look.mid order sound part.front.apart (ran_from now s look.mid order part.front.apart (tells a w k s there) maintained) a.frame.config a.frame.part_of a.frame.made k a.parts held (knows a w now k s there held) stands (parts_are a w) part.taken refl in
         subst (λ (x : Part S). Done a.frame.config now (using key) held (Stands (with_part k (drained x) a.parts)) (AppendsNotes a.queue (a.queue ++ map note_from x.notices))) (sym look.reads)
         (handed a w now (using key) held _ (map note_from read.notices)
         (subst (λ ns. Done a.frame.config now (using key) held (Stands (with_part k (drained read) a.parts)) (λ told. told ≡ map note_from ns)) (sym (same_notices (visible_record service_answers same s now key))) d))
@@ -139,8 +146,8 @@ look_up-with {S} a w now next hash key s new at there look = (does, record { kep
       done = done;
       frame = ap (λ b. record a.frame { dropped = b; latest = now }) (or-no a.frame.dropped);
       used = λ n keys plain recent.
-          subst (λ (x : Part S). IsRecentOver a.frame.config (with_part k (drained x) a.parts) false (used_first key keys)) (sym look.reads) ((recency_clauses S).look_up a.frame a.step a.parts k s look.mid key hash now (kept_is_enough.recent a.frame a.step a.parts w.kept) there maintained n keys plain recent);
-      drawn = keeps-with a w k s new there (identifier_clauses.look_up key hash now s new look);
+          subst (λ (x : Part S). IsRecentOver a.frame.config (with_part k (drained x) a.parts) false (used_first key keys)) (sym look.reads) (look_ups a.frame a.step a.parts k s look.mid key hash now w.kept there maintained n keys plain recent);
+      drawn = keeps-with a w k s new there (looked-no_more key hash now s new look);
       spent = spent-with a w now next k s new at there ticket;
     }
 
@@ -172,7 +179,7 @@ own-ms own (Some m) fits some = fits.1
 accept-with : {S : Type 0} (a : StoreOfParts S) (w : IsWhole a) (now next hash : ℕ) (key bytes : List ℕ) (ms : Option ℕ) (looked_up : Bool) (s new : Part S) → ComesTo a now next → IsAcceptable a.frame.config bytes ms → length (items_of 0 a.parts) < 2 ^ 50
     → slice_get a.parts (a.frame.part_of key) ≡ Some s → Inserts service_answers same key hash (stored bytes ms) now next s new
     → Does now (accepting (if looked_up then Some key else None) (value_for a.frame now key bytes ms)) (view a) (view (changed a w now next (a.frame.part_of key) new)) × IsWhole (changed a w now next (a.frame.part_of key) new)
-accept-with {S} a w now next hash key bytes ms looked_up s new at fits few there call = (does, record { kept = calls_keep_parts.accept a.frame a.step now next k a.parts s new key hash (stored bytes ms) (comes a w now next at) w.kept there fits.takes acceptable call; small = (let l = one_more-after a w now deed (changed a w now next k new) does in omega (arith, l, few)); unreserved = unreserved-with k s new a.parts there w.unreserved (maintained-room now t new maintained ∙ put-room key hash (stored bytes ms) now next s) })
+accept-with {S} a w now next hash key bytes ms looked_up s new at fits few there call = (does, record { kept = keeps-accept a.frame a.step now next k a.parts s new key hash (stored bytes ms) (comes a w now next at) w.kept there fits.takes acceptable call; small = (let l = one_more-after a w now deed (changed a w now next k new) does in omega (arith, l, few)); unreserved = unreserved-with k s new a.parts there w.unreserved (maintained-room now t new maintained ∙ put-room key hash (stored bytes ms) now next s) })
   where
     k : ℕ
     k = a.frame.part_of key
@@ -199,14 +206,16 @@ accept-with {S} a w now next hash key bytes ms looked_up s new at fits few there
     t = put key hash (stored bytes ms) now next s
 
     maintained : Maintained now t new
-    maintained = kept_is_enough.maintained now t new (call.takes on)
+    maintained = maintained_from now t new (call.takes on)
 
     done : (held : List HeldValue) → Stands a.parts held → Done a.frame.config now deed held (Stands (with_part k (drained new) a.parts)) (AppendsNotes a.queue (a.queue ++ map note_from new.notices))
     done held stands =
-        let touches = kept_is_enough.touches a.frame a.step now k a.parts s held w.kept there stands in
+        let known = knows a w now k s there held in
+        let front = part.front in
         handed a w now deed held _ (map note_from new.notices)
-        (accepts S a.frame.config a.frame.part_of a.frame.made now k s new a.parts held key hash (stored bytes ms) next value used (own_used key looked_up) touches
-        (kept_is_enough.new_value a.frame a.step now next k a.parts s held key hash (stored bytes ms) touches.knows touches.stands.same (touches.stands.marked k s touches.knows.there) (comes a w now next at) w.kept there acceptable (brief-ms a.frame.config.own_deadlines ms fits.own)) maintained)
+        (accept_does a.frame.config a.frame.part_of a.frame.made now k s a.parts held known stands (parts_are a w) (tells a w k s there) part.taken key (put_entry s key (stored bytes ms) now next) t value
+        (wrote key hash (stored bytes ms) now next s front.ordered front.apart (tells a w k s there) front.sent) used (own_used key looked_up)
+        (value-new a.frame a.step now next k a.parts s held key hash (stored bytes ms) known stands.same (stands.marked k s known.there) (comes a w now next at) part acceptable (brief-ms a.frame.config.own_deadlines ms fits.own)) new maintained)
 
     ticket : DrawsTicket s new
     ticket = let e = maintained-ticket now t new maintained ∙ put-ticket key hash (stored bytes ms) now next s in omega (arith, e)
@@ -215,8 +224,8 @@ accept-with {S} a w now next hash key bytes ms looked_up s new at fits few there
     does = record {
       done = done;
       frame = ap (λ b. record a.frame { dropped = b; latest = now }) (or-no a.frame.dropped);
-      used = (recency_clauses S).accept a.frame a.step next a.parts k s new key (stored bytes ms) hash now (kept_is_enough.recent a.frame a.step a.parts w.kept) there at.rises (own-ms a.frame.config.own_deadlines ms fits.own) maintained;
-      drawn = keeps-with a w k s new there (identifier_clauses.accept key hash now next (stored bytes ms) s new call);
+      used = accepts a.frame a.step next a.parts k s new key (stored bytes ms) hash now w.kept there at.rises (own-ms a.frame.config.own_deadlines ms fits.own) maintained;
+      drawn = keeps-with a w k s new there (inserted-no_more key hash now next (stored bytes ms) s new call);
       spent = spent-with a w now next k s new at there ticket;
     }
 
@@ -230,17 +239,20 @@ accept {S} a now next hash key bytes ms looked_up parts w at fits few call =
 
 remove-with : {S : Type 0} (a : StoreOfParts S) (w : IsWhole a) (now next : ℕ) (key : List ℕ) (s new : Part S) → ComesTo a now next → slice_get a.parts (a.frame.part_of key) ≡ Some s → TakesOut service_answers same key now s new
     → Does now (deleting key) (view a) (view (changed a w now next (a.frame.part_of key) new)) × IsWhole (changed a w now next (a.frame.part_of key) new)
-remove-with {S} a w now next key s new at there call = (does, record { kept = calls_keep_parts.remove a.frame a.step now next k a.parts s new key (comes a w now next at) w.kept there call; small = (let l = no_more-after a w now (deleting key) (changed a w now next k new) refl does in let small = w.small in omega (arith, l, small)); unreserved = unreserved-with k s new a.parts there w.unreserved (room (held_at same s.records key) call) })
+remove-with {S} a w now next key s new at there call = (does, record { kept = keeps-remove a.frame a.step now next k a.parts s new key (comes a w now next at) w.kept there call; small = (let l = no_more-after a w now (deleting key) (changed a w now next k new) refl does in let small = w.small in omega (arith, l, small)); unreserved = unreserved-with k s new a.parts there w.unreserved (room (held_at same s.records key) call) })
   where
     k : ℕ
     k = a.frame.part_of key
+
+    part : IsKeptPart a.frame k a.step s
+    part = w.kept.each k s there
 
     Ends : Option Rec → Type 0
     Ends o = MatchOption o (new ≡ s) (λ r. MaintainsIfDue service_answers now (taken_out_whole service_answers r now s) new)
 
     -- a run came where it was due, behind the removal
     maintained_some : (r : Rec) → MaintainsIfDue service_answers now (taken_out_whole service_answers r now s) new → Maintained now (removed key now s r) new
-    maintained_some r m = kept_is_enough.maintained now (removed key now s r) new (subst (λ x. MaintainsIfDue service_answers now x new) (removal-is key now s r) m)
+    maintained_some r m = maintained_from now (removed key now s r) new (subst (λ x. MaintainsIfDue service_answers now x new) (removal-is key now s r) m)
 
     maintained : (o : Option Rec) → Ends o → Maintained now (taking s now o o) new
     maintained None is = idle is
@@ -250,8 +262,8 @@ remove-with {S} a w now next key s new at there call = (does, record { kept = ca
     done held stands = handed a w now (deleting key) held _ (map note_from new.notices) (go (held_at same s.records key) refl call)
       where
         go : (o : Option Rec) → held_at same s.records key ≡ o → Ends o → Done a.frame.config now (deleting key) held (Stands (with_part k (drained new) a.parts)) (λ notes. notes ≡ map note_from new.notices)
-        go None e is = misses S a.frame.config a.frame.part_of a.frame.made now k s new a.parts held key (kept_is_enough.touches a.frame a.step now k a.parts s held w.kept there stands) refl e (idle is)
-        go (Some r) e m = removes S a.frame.config a.frame.part_of a.frame.made now k s new a.parts held key r (kept_is_enough.touches a.frame a.step now k a.parts s held w.kept there stands) e (maintained_some r m)
+        go None e is = miss_does a.frame.config a.frame.part_of a.frame.made now k s new a.parts held (knows a w now k s there held) stands (parts_are a w) (tells a w k s there) part.taken part.front.apart key refl e (idle is)
+        go (Some r) e m = remove_does a.frame.config a.frame.part_of a.frame.made now k s a.parts held (knows a w now k s there held) stands (parts_are a w) (tells a w k s there) part.taken key r e (removed key now s r) (took_out key now s r part.front.ordered part.front.apart (tells a w k s there) part.front.sent e) new (maintained_some r m)
 
     room : (o : Option Rec) → Ends o → new.reserved ≡ s.reserved
     room None is = ap (λ (x : Part S). x.reserved) is
@@ -265,8 +277,8 @@ remove-with {S} a w now next key s new at there call = (does, record { kept = ca
     does = record {
       done = done;
       frame = ap (λ b. record a.frame { dropped = b; latest = now }) (or-no a.frame.dropped);
-      used = (recency_clauses S).remove a.frame a.step a.parts k s new key now (kept_is_enough.recent a.frame a.step a.parts w.kept) there (maintained (held_at same s.records key) call);
-      drawn = keeps-with a w k s new there (identifier_clauses.remove key now s new call);
+      used = removes a.frame a.step a.parts k s new key now w.kept there (maintained (held_at same s.records key) call);
+      drawn = keeps-with a w k s new there (removed-no_more key now s new call);
       spent = spent-with a w now next k s new at there (ticket (held_at same s.records key) call);
     }
 

@@ -19,13 +19,12 @@ use Rattle.engine_reference.specs.Visible.{is_covered, is_covered_by}
 use Rattle.engine_reference.specs.Identifiers.Drawing.{is_registered}
 use Rattle.front_reference.specs.Fronts.{CallsEach}
 use Rattle.front_reference.specs.Wholes.{DrawAll, registered_in}
-use Rattle.cache_parts.proofs.Covering.{AllCover, CoversToo, none, next}
+use Rattle.cache_parts.proofs.Covering.{AllCover, CoversToo, cover_does, none, next}
 use Rattle.cache_parts.proofs.Telling.{Kept}
 use Rattle.cache_parts.specs.Parts.{IsProper, Part, Stored, service_answers}
-use Rattle.cache_parts_store.proofs.parts_laws.Lawful.{covers as covers_all}
 use Rattle.cache_parts_store.specs.PartsKept.Registering.{HasNoMore, register_of}
-use Rattle.cache_parts_store.proofs.parts_kept.Identifying.{identifier_clauses}
-use Rattle.cache_parts_store.proofs.parts_kept.Storing.{calls_keep_parts, held-each, kept_is_enough, there-too}
+use Rattle.cache_parts_store.proofs.parts_kept.Identifying.{keeps_identifiers, never_in_vain, registers_all, used_up}
+use Rattle.cache_parts_store.proofs.parts_kept.Storing.{covers-all, held-each, keeps-clear, keeps-cover, there-too}
 use Rattle.cache_parts_store.proofs.Calling.{comes, or-no}
 use Rattle.cache_parts_store.proofs.Changing.{greatest-same}
 use Rattle.cache_parts_store.proofs.Standing.{no_more-after, parted, parts_are}
@@ -64,7 +63,7 @@ steps-are a w k s there q e found = (held-each (IsProper a.frame k a.step) s.rec
 
 -- no part registers another identifier
 pub keeps-each : {S : Type 0} (a : StoreOfParts S) (Rel : Part S → Part S → Type 0) (news : List (Part S)) → CallsEach Rel a.parts news → ((s t : Part S) → Rel s t → HasNoMore S s t) → KeepsIdentifiers a.stream a.stream (register_of a.parts) (register_of news)
-keeps-each {S} a Rel news calls more = identifier_clauses.keeps a.stream a.parts news (λ part t at.
+keeps-each {S} a Rel news calls more = keeps_identifiers a.stream a.parts news (λ part t at.
     let old = there-too news a.parts calls.count part t at in
     let x = calls.each part old.0 old.1 in
     let both : Some x.0 ≡ Some t = sym x.1 ∙ at in
@@ -86,7 +85,7 @@ clear-covers step n s lt early = record {
     covered e p = nat_lt e.step p.step && service_answers.covers s.rules p.predicate e.key e.value
 
 pub clear : {S : Type 0} → ClearMeets S
-clear {S} a now n parts w at lt calls = (does, record { kept = calls_keep_parts.clear a.frame a.step now n a.parts parts (comes a w now n at) w.kept calls; small = (let l = no_more-after a w now (covering Everything) (passed now n parts a) refl does in let small = w.small in omega (arith, l, small)); unreserved = free })
+clear {S} a now n parts w at lt calls = (does, record { kept = keeps-clear a.frame a.step now n a.parts parts (comes a w now n at) w.kept calls; small = (let l = no_more-after a w now (covering Everything) (passed now n parts a) refl does in let small = w.small in omega (arith, l, small)); unreserved = free })
   where
     cover : AllCover Everything a.parts parts
     cover = all-cover Everything a.parts parts calls.count (λ k s there.
@@ -110,7 +109,7 @@ clear {S} a now n parts w at lt calls = (does, record { kept = calls_keep_parts.
 
     does : Does now (covering Everything) (view a) (view (passed now n parts a))
     does = record {
-      done = λ held stands. covers_all S Everything a.frame.config a.frame.part_of now a.parts parts held a.queue a.queue cover (parted a w) stands (parts_are a w) refl;
+      done = λ held stands. cover_does Everything a.frame.config a.frame.part_of now a.parts parts held a.queue a.queue cover (parted a w) stands (parts_are a w) refl;
       frame = ap (λ b. record a.frame { dropped = b; latest = now }) (or-no a.frame.dropped);
       used = tt;
       drawn = keeps-each a (λ s t. t ≡ cleared_by n s) parts calls (λ s t is k e. ap (λ (y : Part S). is_registered y.predicates k) (sym is) ∙ e);
@@ -162,7 +161,7 @@ first-of [] lt = absurd (omega (arith, lt))
 first-of (x ∷ parts) lt = (x, refl)
 
 pub drop : {S : Type 0} → DropMeets S
-drop {S} a now n prefix stream ids w at lt drawn = (does, record { kept = calls_keep_parts.cover a.frame a.step now n a.parts news (comes a w now n at) w.kept (kept_is_enough.covers n prefix a.parts a.stream stream ids drawn); small = (let l = no_more-after a w now (covering (Prefixed prefix)) b refl does in let small = w.small in omega (arith, l, small)); unreserved = free })
+drop {S} a now n prefix stream ids w at lt drawn = (does, record { kept = keeps-cover a.frame a.step now n a.parts news (comes a w now n at) w.kept (covers-all n prefix a.parts a.stream stream ids drawn); small = (let l = no_more-after a w now (covering (Prefixed prefix)) b refl does in let small = w.small in omega (arith, l, small)); unreserved = free })
   where
     news : List (Part S)
     news = registered_in prefix n ids a.parts
@@ -196,10 +195,10 @@ drop {S} a now n prefix stream ids w at lt drawn = (does, record { kept = calls_
 
     does : Does now (covering (Prefixed prefix)) (view a) (view b)
     does = record {
-      done = λ held stands. covers_all S (Prefixed prefix) a.frame.config a.frame.part_of now a.parts news held a.queue a.queue cover (parted a w) stands (parts_are a w) refl;
+      done = λ held stands. cover_does (Prefixed prefix) a.frame.config a.frame.part_of now a.parts news held a.queue a.queue cover (parted a w) stands (parts_are a w) refl;
       frame = ap (λ c. record a.frame { dropped = c; latest = now }) (sym (or-yes a.frame.dropped));
       used = tt;
-      drawn = let one = first-of a.parts some in identifier_clauses.registers prefix n a.parts a.stream stream ids one.0 one.1 drawn;
+      drawn = let one = first-of a.parts some in registers_all prefix n a.parts a.stream stream ids one.0 one.1 drawn;
       spent = let e = tickets in let one = at.one in omega (arith, e, one);
     }
 
@@ -208,7 +207,7 @@ drop {S} a now n prefix stream ids w at lt drawn = (does, record { kept = calls_
 pub lacks : {S : Type 0} → LacksMeets S
 lacks {S} a stream w vain = (
   record {
-    used_up = subst (λ n. AreUsedUp n a.stream stream (register_of a.parts)) w.kept.number (identifier_clauses.in_use a.parts a.stream stream vain);
+    used_up = subst (λ n. AreUsedUp n a.stream stream (register_of a.parts)) w.kept.number (used_up a.parts a.stream stream vain);
     registered = λ part id e. e;
     stands = λ held stands. stands;
     frame = refl;
@@ -221,4 +220,4 @@ lacks {S} a stream w vain = (
   where
     go : (b : Bool) → a.frame.dropped ≡ b → a.frame.dropped ≡ true
     go true e = e
-    go false e = absurd (identifier_clauses.dropped a.parts a.stream stream (kept_is_enough.undropped a.frame a.step a.parts w.kept e) vain)
+    go false e = absurd (never_in_vain a.parts a.stream stream (λ part s there. (w.kept.each part s there).own.undropped e) vain)

@@ -1,3 +1,5 @@
+pub mod parts_kept
+pub mod parts_laws
 pub mod Changing
 pub mod Standing
 pub mod Calling

@@ -15,7 +15,7 @@ use Rattle.cache_parts.proofs.Items.{apart-of, value_at-part}
 use Rattle.cache_parts.proofs.Judging.{dead_is}
 use Rattle.cache_parts.proofs.Telling.{Kept}
 use Rattle.cache_parts.specs.Parts.{Part, held_of, items_of, service_answers}
-use Rattle.cache_parts_store.proofs.parts_kept.Storing.{kept_is_enough}
+use Rattle.cache_parts_store.proofs.parts_kept.Storing.{enough-knows}
 use Rattle.cache_parts_store.proofs.Standing.{parted, parts_are}
 use Rattle.cache_parts_store.specs.Meets.{LiveKeysMeet}
 
@@ -45,7 +45,7 @@ live_keys {S} a now keys w distinct among = λ held stands.
             → option_map_or (is_live_at a.frame.config now) (option_map (held_of (0 + a.frame.part_of q) s) o) false ≡ is_some (passing (is_visible service_answers s now) o)
         by_entry None found = refl
         by_entry (Some e) found =
-            let k = kept_is_enough.knows a.frame a.step now (a.frame.part_of q) a.parts s [] w.kept there in
+            let k = enough-knows a.frame a.step now (a.frame.part_of q) a.parts s [] w.kept there in
             let early = k.early q e found in
             ap (λ b. not (is_covered service_answers s e) && not b) (sym (dead_is a.frame.config a.frame.made now (0 + a.frame.part_of q) s e k.brief k.settings early.0 early.1))
             ∙ and-swap (has_come s.settings now e) (is_covered service_answers s e)

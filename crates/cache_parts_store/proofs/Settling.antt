@@ -1,5 +1,5 @@
 -- A run of all parts, and what is so of every store of parts.
-use Rattle.std.proofs.Common.{◌≡◌, refl, ap, ◌∙◌, sym, subst, ℕ, ◌+◌, ◌≤◌, ◌^◌, arith, List, [], ◌++◌, length, Some, slice_get}
+use Rattle.std.proofs.Common.{◌≡◌, refl, ap, ◌∙◌, sym, subst, ℕ, ◌≤◌, ◌^◌, arith, List, ◌++◌, length, Some, slice_get}
 use Rattle.std.specs.List.{sum_by}
 use Rattle.audit_model.specs.Situation.{HeldValue}
 use Rattle.cache_store.specs.Handing.{AppendsNotes}
@@ -9,15 +9,15 @@ use Rattle.engine_reference.specs.Identifiers.Drawing.{is_registered}
 use Rattle.front_reference.specs.Fronts.{CallsEach}
 use Rattle.front_reference.specs.Wholes.{RunsPart}
 use Rattle.cache_parts.specs.Parts.{drained, Part, Stands, service_answers, settings_of}
-use Rattle.cache_parts.proofs.Counting.{CountsAreTold}
+use Rattle.cache_parts.proofs.Counting.{CountsAreTold, counts_are_told}
 use Rattle.cache_parts.proofs.Idling.{idle_does}
-use Rattle.cache_parts.proofs.Syncing.{AllRan}
-use Rattle.cache_parts_store.proofs.parts_laws.Lawful.{runs_all, sums, within}
-use Rattle.cache_parts_store.proofs.parts_laws.Ordered.{none-yet, recency_clauses}
-use Rattle.cache_parts_store.specs.PartsKept.Calling.{Comes, RunsDrained}
+use Rattle.cache_parts.proofs.Syncing.{AllRan, run_all_does}
+use Rattle.cache_parts.proofs.Bounding.{bounded_all}
+use Rattle.cache_parts.proofs.Resting.{timely_all, within_all}
+use Rattle.cache_parts_store.proofs.parts_laws.Ordered.{keys_held, made as made_recent, none-yet, runs_all}
 use Rattle.cache_parts_store.specs.PartsKept.Keeping.{AreKeptParts, at_moment}
-use Rattle.cache_parts_store.proofs.parts_kept.Identifying.{identifier_clauses}
-use Rattle.cache_parts_store.proofs.parts_kept.Storing.{calls_keep_parts, kept_is_enough, there-too}
+use Rattle.cache_parts_store.proofs.parts_kept.Identifying.{released, run_no_more}
+use Rattle.cache_parts_store.proofs.parts_kept.Storing.{Comes, RunsDrained, all-ready, enough-knows, fits-part, keeps-run_all, lean, left-by, news-kept, rested-part, there-too, weighs as weighs_little}
 use Rattle.cache_parts_store.proofs.Calling.{comes, handed, or-no}
 use Rattle.cache_parts_store.proofs.Changing.{all-ran, drained-at, drained-length, drained-sum, greatest-same, ran-room, ran-ticket, taken-all, taken-one, ticket_within}
 use Rattle.cache_parts_store.proofs.Covering.{keeps-each}
@@ -47,8 +47,8 @@ module _ {S : Type 0} (a : StoreOfParts S) (w : IsWhole a) (now n : ℕ) (at : C
   done : (held : List HeldValue) → Stands a.parts held → Done a.frame.config now syncing held (Stands (all_drained parts)) (AppendsNotes a.queue (a.queue ++ waiting parts))
   done held stands =
       handed a w now syncing held _ (waiting parts)
-      (runs_all S a.frame.config a.frame.part_of a.frame.made now a.parts (all_drained parts) held (waiting parts) all (kept_is_enough.ready a.frame a.step now a.parts w.kept).0 (parted a w) stands
-      (λ k s there. kept_is_enough.knows a.frame a.step now k a.parts s held w.kept there))
+      (run_all_does now a.frame.config a.frame.part_of held a.frame.made a.parts (all_drained parts) (waiting parts) all (all-ready a.frame a.step now a.parts w.kept).0 (parted a w) stands
+      (λ k s there. enough-knows a.frame a.step now k a.parts s held w.kept there))
 
   tickets : greatest_ticket (all_drained parts) ≡ greatest_ticket a.parts
   tickets = greatest-same a.parts (all_drained parts) runs.count (λ k s t there found.
@@ -61,8 +61,8 @@ module _ {S : Type 0} (a : StoreOfParts S) (w : IsWhole a) (now n : ℕ) (at : C
   ran-does = record {
     done = done;
     frame = ap (λ c. record a.frame { dropped = c; latest = now }) (or-no a.frame.dropped);
-    used = (recency_clauses S).run_all a.frame a.step now a.parts (all_drained parts) (waiting parts) (kept_is_enough.recent a.frame a.step a.parts w.kept) all;
-    drawn = keeps-each a (RunsDrained S now) (all_drained parts) runs (λ s t x k e. identifier_clauses.run now s x.new x.runs.runs k (ap (λ (y : Part S). is_registered y.predicates k) (sym x.is) ∙ e));
+    used = runs_all a.frame a.step now a.parts (all_drained parts) (waiting parts) w.kept all;
+    drawn = keeps-each a (RunsDrained S now) (all_drained parts) runs (λ s t x k e. run_no_more now s x.new x.runs.runs k (ap (λ (y : Part S). is_registered y.predicates k) (sym x.is) ∙ e));
     spent = let e = tickets in let one = at.one in omega (arith, e, one);
   }
 
@@ -75,7 +75,7 @@ module _ {S : Type 0} (a : StoreOfParts S) (w : IsWhole a) (now n : ℕ) (at : C
       sym (ap (λ (y : Part S). y.reserved) one) ∙ ap (λ (y : Part S). y.reserved) x.2.is ∙ ran-room now old.0 x.2.new x.2.runs ∙ w.unreserved k old.0 old.1
 
   ran-whole : IsWhole ran_to
-  ran-whole = record { kept = calls_keep_parts.run_all a.frame a.step now n a.parts (all_drained parts) (comes a w now n at) w.kept runs; small = (let l = no_more-after a w now syncing ran_to refl ran-does in let small = w.small in omega (arith, l, small)); unreserved = free }
+  ran-whole = record { kept = keeps-run_all a.frame a.step now n a.parts (all_drained parts) (comes a w now n at) w.kept runs; small = (let l = no_more-after a w now syncing ran_to refl ran-does in let small = w.small in omega (arith, l, small)); unreserved = free }
 
   -- the run alone, at the step of the last call
   still : Comes a.frame a.step now a.step
@@ -83,14 +83,14 @@ module _ {S : Type 0} (a : StoreOfParts S) (w : IsWhole a) (now n : ℕ) (at : C
 
   weighs : (held : List HeldValue) → Stands (all_drained parts) held → sum_by (λ (h : HeldValue). h.value.weight) held ≤ 2 ^ 63
   weighs held stands =
-      let l = kept_is_enough.weighs (at_moment a.frame now) n (all_drained parts) held ran-whole.kept stands in
+      let l = weighs_little (at_moment a.frame now) n (all_drained parts) held ran-whole.kept stands in
       let m = stands.same.number in
       let small = ran-whole.small in
       omega (arith, l, m, small)
 
   counts : (held : List HeldValue) → Stands (all_drained parts) held → CountsAreTold (all_drained parts) held
   counts held stands =
-      (sums S).after a.frame.part_of now a.parts (all_drained parts) (waiting parts) held all (kept_is_enough.ready a.frame a.step now a.parts w.kept).1 (parted ran_to ran-whole) stands (let l = weighs held stands in omega (arith, l))
+      counts_are_told a.frame.part_of now a.parts (all_drained parts) (waiting parts) held all (all-ready a.frame a.step now a.parts w.kept).1 (parted ran_to ran-whole) stands (let l = weighs held stands in omega (arith, l))
 
   counted : (held : List HeldValue) → Stands (all_drained parts) held → (total_number S parts ≡ length held) × (total_weight S parts ≡ sum_by (λ (h : HeldValue). h.value.weight) held)
   counted held stands =
@@ -105,11 +105,11 @@ module _ {S : Type 0} (a : StoreOfParts S) (w : IsWhole a) (now n : ℕ) (at : C
   ran-settled : IsSettled (view ran_to) (total_number S parts) (total_weight S parts)
   ran-settled = record {
     held = counted;
-    within = λ held stands. (within S).within a.frame.config a.frame.part_of a.frame.made (all_drained parts) held (parted ran_to ran-whole) stands (parts_are ran_to ran-whole) (settings ran_to ran-whole)
-        (kept_is_enough.fits a.frame a.step now a.parts (all_drained parts) still w.kept runs);
-    timely = λ held stands. (within S).timely a.frame.config a.frame.part_of a.frame.made now (all_drained parts) held (parted ran_to ran-whole) stands (parts_are ran_to ran-whole) (settings ran_to ran-whole) w.kept.brief
-        (kept_is_enough.rested a.frame a.step now a.parts (all_drained parts) held (parted ran_to ran-whole) stands.same (parts_are ran_to ran-whole) (settings ran_to ran-whole) still w.kept runs);
-    released = identifier_clauses.released (all_drained parts) (λ part t found.
+    within = λ held stands. within_all a.frame.config a.frame.part_of a.frame.made (all_drained parts) held (parted ran_to ran-whole) stands.same (parts_are ran_to ran-whole) (settings ran_to ran-whole)
+        (λ k x there. fits-part a.frame a.step now k x (left-by a.frame a.step now a.parts (all_drained parts) still w.kept runs k x there));
+    timely = λ held stands. timely_all a.frame.config a.frame.part_of a.frame.made (all_drained parts) held (parted ran_to ran-whole) stands.same (parts_are ran_to ran-whole) (settings ran_to ran-whole) now w.kept.brief
+        (λ k x there. rested-part a.frame a.step now k x (all_drained parts) held (parted ran_to ran-whole) stands.same (parts_are ran_to ran-whole) (settings ran_to ran-whole) still (left-by a.frame a.step now a.parts (all_drained parts) still w.kept runs k x there));
+    released = released (all_drained parts) (λ part t found.
         let old = there-too (all_drained parts) a.parts runs.count part t found in
         let x = runs.each part old.0 old.1 in
         let both : Some x.0 ≡ Some t = sym x.1 ∙ found in
@@ -130,9 +130,9 @@ sound {S} a w = record {
   small = w.small;
   parted = w.kept.placed;
   idle = λ held now stands. idle_does a.frame.config a.frame.part_of now a.parts held (parted a w) (parts_are a w) stands;
-  bounded = λ held stands. (within S).bounded a.frame.config a.frame.part_of a.frame.made a.parts held (parted a w) stands (parts_are a w) (settings a w)
-      (kept_is_enough.lean a.frame a.step a.parts held (parted a w) stands.same (parts_are a w) (settings a w) w.kept);
-  ordered = λ held keys stands used. (recency_clauses S).ordered a.frame a.step a.parts held keys (kept_is_enough.recent a.frame a.step a.parts w.kept) stands used;
+  bounded = λ held stands. bounded_all a.frame.config a.frame.part_of a.frame.made a.parts held (parted a w) stands.same (parts_are a w) (settings a w)
+      (lean a.frame a.step a.parts held (parted a w) stands.same (parts_are a w) (settings a w) w.kept);
+  ordered = λ held keys stands used. keys_held a.frame a.step a.parts held keys w.kept stands used;
 }
 
 -- ---- notices, numbers, a store just made
@@ -151,9 +151,9 @@ pub made : {S : Type 0} → NewMeets S
 made {S} a name hasher number placed brief range first step new =
     let none = none-yet 0 a.parts (λ k s there. (new k s there).records) in
     let count = ap (λ xs. length xs) none in (
-      record { kept = subst (λ m. AreKeptParts a.frame m a.parts) (sym step) (calls_keep_parts.new a.frame name hasher a.parts number placed brief range first new); small = (let c = count in omega (arith, c)); unreserved = λ k s there. (new k s there).reserved },
+      record { kept = subst (λ m. AreKeptParts a.frame m a.parts) (sym step) (news-kept a.frame name hasher a.parts number placed brief range first new); small = (let c = count in omega (arith, c)); unreserved = λ k s there. (new k s there).reserved },
       count,
-      (recency_clauses S).new a.frame.config name (settings_of a.frame.config a.frame.made) hasher a.frame.config.weight a.parts new,
+      made_recent a.frame.config name (settings_of a.frame.config a.frame.made) hasher a.frame.config.weight a.parts new,
     )
 
 pub drains : {S : Type 0} → Drains S

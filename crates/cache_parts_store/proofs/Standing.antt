@@ -19,7 +19,7 @@ use Rattle.cache_parts.specs.Parts.{Part, Stands, held_of, items_of}
 use Rattle.cache_store.proofs.Corresponding.{apart-map, left, value_at-map}
 use Rattle.cache_store.proofs.Held.{length-without_at_most}
 use Rattle.cache_store.specs.Held.{plain, are_apart, value_at, without}
-use Rattle.cache_parts_store.proofs.parts_kept.Storing.{kept_is_enough}
+use Rattle.cache_parts_store.proofs.parts_kept.Storing.{enough-parted, enough-parts}
 use Rattle.cache_parts_store.specs.View.{IsWhole, StoreOfParts, view}
 
 abbrev evictable : HeldValue → HeldValue
@@ -45,10 +45,10 @@ one-more (Some v) = omega arith
 
 module _ {S : Type 0} (a : StoreOfParts S) (w : IsWhole a) where
   pub parted : AreParted a.frame.part_of 0 a.parts
-  parted = kept_is_enough.parted a.frame a.step a.parts w.kept
+  parted = enough-parted a.frame a.step a.parts w.kept
 
   pub parts_are : (q : List ℕ) → (x : Part S) × (slice_get a.parts (a.frame.part_of q) ≡ Some x)
-  parts_are = kept_is_enough.parts_are a.frame a.step a.parts w.kept
+  parts_are = enough-parts a.frame a.step a.parts w.kept
 
   abbrev pub some_held : List HeldValue
   some_held = map evictable (items_of 0 a.parts)

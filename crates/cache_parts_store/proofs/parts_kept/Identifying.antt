@@ -10,7 +10,7 @@ use Rattle.std.proofs.lemmas.Option.{none-some}
 use Rattle.rand_core.specs.Stream.{Stream, fill_bytes}
 use Rattle.uuid.specs.Parts.{v4_of_fill}
 use Rattle.audit_model.specs.Bytewise.{same}
-use Rattle.cache_store.specs.Identifiers.{stream_after, identifier_at, drawn, KeepsIdentifiers, Registers, DrawsAlone, AreUsedUp}
+use Rattle.cache_store.specs.Identifiers.{stream_after, identifier_at, drawn, KeepsIdentifiers, Registers, AreUsedUp}
 use Rattle.engine_reference.specs.Identifiers.Drawing as engine
 use Rattle.engine_reference.specs.Identifiers.Drawing.{is_registered}
 use Rattle.engine_reference.specs.declared.data.Registered.{Registered}
@@ -25,7 +25,7 @@ use Rattle.front_reference.specs.Parts.{Inserts, TakesOut, inserted, taken_out, 
 use Rattle.front_reference.specs.Wholes.{DrawAll, DrawsInVain, registered_in}
 use Rattle.cache_store.proofs.Keys.{same-refl}
 use Rattle.cache_parts.specs.Parts.{Part, Stored, service_answers}
-use Rattle.cache_parts_store.specs.PartsKept.Registering.{is_identifier, is_registered_in, register_of, HasNoMore, IdentifierClauses}
+use Rattle.cache_parts_store.specs.PartsKept.Registering.{is_identifier, is_registered_in, register_of, HasNoMore}
 use Rattle.cache_parts_store.proofs.parts_kept.Bytes.{same_bytes}
 use Rattle.cache_parts_store.proofs.parts_kept.Predicates.{EachPredicate, run-predicates}
 
@@ -206,10 +206,6 @@ registers_all {S = S} prefix step parts old new ids first there d =
               (ap (λ (y : Part S). is_registered_in y.predicates id) (sym x.6) ∙ ap (λ o. option_map_or (λ (s : Part S). is_registered_in s.predicates id) o false) (sym at) ∙ e),
         )
 
--- what parts drew before a later one was refused
-pub draws_some : {S : Type 0} (parts : List (Part S)) (old new : Stream) (ids : List ℕ) → DrawAll parts old new ids → (registered : ℕ → List ℕ → Bool) → DrawsAlone old new registered registered
-draws_some parts old new ids d registered = let k = drawn-all [] 0 old 0 parts old new ids refl d in record { number = k.number; stream = k.stream; registered = λ part id e. e }
-
 slice-below : {S : Type 0} (parts : List (Part S)) (part : ℕ) (s : Part S) → slice_get parts part ≡ Some s → part < length parts
 slice-below [] part s there = absurd (none-some s there)
 slice-below (x ∷ parts) zero s there = omega arith
@@ -230,9 +226,6 @@ used_up {S = S} parts old new d =
           ap (λ o. option_map_or (λ (s : Part S). is_registered_in s.predicates (identifier_at n old)) o false) v.there
           ∙ (let is : n ≡ (n - v.before) + v.before = omega (arith, from) in ap (λ m. is_registered_in v.s.predicates (identifier_at m old)) is ∙ v.each (n - v.before) (omega (arith, from, below)));
     }
-
-pub vain_draws : {S : Type 0} (parts : List (Part S)) (old new : Stream) → DrawsInVain parts old new → (registered : ℕ → List ℕ → Bool) → DrawsAlone old new registered registered
-vain_draws parts old new d registered = let v = in-vain [] 0 old 0 parts old new refl d in record { number = 1000 + v.before; stream = v.stream; registered = λ part id e. e }
 
 -- a `DROPIF` is never refused for identifiers where no part has a predicate
 pub never_in_vain : {S : Type 0} (parts : List (Part S)) (old new : Stream) → ((part : ℕ) (s : Part S) → slice_get parts part ≡ Some s → s.predicates ≡ []) → DrawsInVain parts old new → ⊥
@@ -299,12 +292,12 @@ module _ {S : Type 0} where
       go true run = λ n h. from-same s t e n (run_no_more now t new run.runs n h)
       go false is = from-same s new (ap (λ (x : Part S). x.predicates) is ∙ e)
 
-  looked-no_more : (key : List ℕ) (hash now : ℕ) (s new : Part S) → NotesLookUp service_answers same key hash now false s new → HasNoMore S s new
+  pub looked-no_more : (key : List ℕ) (hash now : ℕ) (s new : Part S) → NotesLookUp service_answers same key hash now false s new → HasNoMore S s new
   looked-no_more key hash now s new look n h =
       maintained-no_more now s s look.mid refl look.maintains n
       (ap (λ ps. is_registered ps n) (sym (ap (λ (x : Part S). x.predicates) look.reads ∙ same-read (visible_record service_answers same s now key) hash now look.mid)) ∙ h)
 
-  inserted-no_more : (key : List ℕ) (hash now step : ℕ) (value : Stored) (s new : Part S) → Inserts service_answers same key hash value now step s new → HasNoMore S s new
+  pub inserted-no_more : (key : List ℕ) (hash now step : ℕ) (value : Stored) (s new : Part S) → Inserts service_answers same key hash value now step s new → HasNoMore S s new
   inserted-no_more key hash now step value s new call = go (takes_nothing s.settings.capacity) refl
     where
       go : (b : Bool) → takes_nothing s.settings.capacity ≡ b → HasNoMore S s new
@@ -313,24 +306,9 @@ module _ {S : Type 0} where
           maintained-no_more now s (inserted service_answers same key hash value now step s) new
           (same-sent s.next_ticket (written service_answers same (with_room s) key hash value now step) ∙ same-written (held_at same s.records key) (with_room s) key hash value now step) (call.takes on)
 
-  removed-no_more : (key : List ℕ) (now : ℕ) (s new : Part S) → TakesOut service_answers same key now s new → HasNoMore S s new
+  pub removed-no_more : (key : List ℕ) (now : ℕ) (s new : Part S) → TakesOut service_answers same key now s new → HasNoMore S s new
   removed-no_more key now s new call = go (held_at same s.records key) call
     where
       go : (o : Option (Record (List ℕ) Stored)) → MatchOption o (new ≡ s) (λ r. MaintainsIfDue service_answers now (taken_out service_answers r now s) new) → HasNoMore S s new
       go None is = from-same s new (ap (λ (x : Part S). x.predicates) is)
       go (Some r) maintains = maintained-no_more now s (taken_out service_answers r now s) new (same-taken_out r now s) maintains
-
-  pub identifier_clauses : IdentifierClauses S
-  identifier_clauses = record {
-    registers = registers_all;
-    draws = draws_some;
-    in_use = used_up;
-    vain = vain_draws;
-    dropped = never_in_vain;
-    run = run_no_more;
-    look_up = looked-no_more;
-    accept = inserted-no_more;
-    remove = removed-no_more;
-    keeps = keeps_identifiers;
-    released = released;
-  }

@@ -12,7 +12,10 @@ use Rattle.audit_model.specs.Situation.{HeldValue}
 use Rattle.rand_core.specs.Stream.{Stream}
 use Rattle.cache_store.specs.Promises.{Frame, value_for}
 use Rattle.engine_reference.specs.declared.data.Record.{Record}
-use Rattle.engine_reference.specs.Calls.{cleared_by, with_predicate, MaintainsIfDue}
+use Rattle.engine_reference.specs.declared.data.Registered.{Registered}
+use Rattle.engine_reference.specs.Scanning.{NotesLookUp}
+use Rattle.cache_parts.proofs.Bounding.{IsLean}
+use Rattle.engine_reference.specs.Calls.{cleared_by, with_predicate, IsNew, MaintainsIfDue}
 use Rattle.engine_reference.specs.Times.{own_expiration}
 use Rattle.audit_model.specs.declared.config.Weight.{Weight}
 use Rattle.engine_reference.specs.Admission.{is_above}
@@ -26,8 +29,8 @@ use Rattle.cache_store.specs.Held.{Corresponds}
 use Rattle.engine_reference.specs.Soundness.{Each}
 use Rattle.engine_reference.specs.Telling.{entry_of, AreApart}
 use Rattle.front_reference.specs.Fronts.{CallsEach}
-use Rattle.front_reference.specs.Parts.{takes_nothing}
-use Rattle.cache_parts.specs.Parts.{Part, Stored, IsProper, service_answers, settings_of, with_part, items_of, AreMarked, put, put_entry, nanos, drained, IsBrief}
+use Rattle.front_reference.specs.Parts.{Inserts, TakesOut, takes_nothing}
+use Rattle.cache_parts.specs.Parts.{Part, Stored, IsProper, service_answers, settings_of, with_part, items_of, AreMarked, Stands, put, put_entry, nanos, drained, IsBrief}
 use Rattle.cache_parts.proofs.Bounding.{held_at_most, weigh}
 use Rattle.cache_parts.proofs.Counting.{IsSent, number_is, weight_is}
 use Rattle.cache_parts.proofs.Resting.{IsRested}
@@ -41,9 +44,27 @@ use Rattle.front_reference.specs.Wholes.{DrawAll, registered_in}
 use Rattle.cache_parts.proofs.Swapping.{decides, with_part-there, with_part-other}
 use Rattle.cache_parts.proofs.Telling.{Kept}
 use Rattle.cache_parts_store.specs.PartsKept.Keeping.{at_moment, common_by, belongs_to, IsProperRecord, IsKeptPart, AreKeptParts, IsStorable}
-use Rattle.cache_parts_store.specs.PartsKept.Calling.{Comes, CoversIn, RunsDrained, LookUpKeeps, AcceptKeeps, RemoveKeeps, RunAllKeeps, ClearKeeps, CoverKeeps, NewIsKept, CallsKeepParts, KeptIsEnough}
 use Rattle.cache_parts_store.proofs.parts_kept.Owning.{weighs-little}
 use Rattle.cache_parts_store.proofs.parts_kept.Keeping.{kept-later, kept-looked_up, kept-accepted, kept-removed, kept-ran, kept-cleared, kept-covered, kept-new}
+
+-- a predicate of this step is registered in a part, in room that was made before
+pub record CoversIn {S : Type 0} (next : ℕ) (s t : Part S) : Type 0 where
+  pub room : ℕ
+  pub predicate : Registered (List ℕ)
+  pub at : predicate.step ≡ next
+  pub is : t ≡ with_predicate predicate (record s { reserved = room })
+
+-- a part runs to its end, and its notices are taken
+pub record RunsDrained (S : Type 0) (now : ℕ) (s t : Part S) : Type 0 where
+  pub new : Part S
+  pub runs : RunsToEnd service_answers now s new
+  pub is : t ≡ drained new
+
+-- a call comes at this moment and step
+pub record Comes (frame : Frame) (step now next : ℕ) : Type 0 where
+  pub less : frame.latest ≤ now
+  pub rises : step ≤ next
+  pub range : now < 2 ^ 63
 
 -- a share of what is more than nothing is more than nothing
 share-positive : (capacity parts : ℕ) → 0 < capacity → 0 < parts → (capacity + (parts - 1)) / parts ≡ 0 → ⊥
@@ -77,7 +98,7 @@ light-part frame part step (r ∷ rs) all = go r.is_held refl (light-part frame 
     go false held later = later
 
 -- a predicate that was drawn for in all parts stands in all
-covers-all : {S : Type 0} (next : ℕ) (prefix : List ℕ) (parts : List (Part S)) (old new : Stream) (ids : List ℕ) → DrawAll parts old new ids → CallsEach (CoversIn next) parts (registered_in prefix next ids parts)
+pub covers-all : {S : Type 0} (next : ℕ) (prefix : List ℕ) (parts : List (Part S)) (old new : Stream) (ids : List ℕ) → DrawAll parts old new ids → CallsEach (CoversIn next) parts (registered_in prefix next ids parts)
 covers-all {S = S} next prefix [] old new ids d = record { count = ap (λ xs. length (registered_in {K = List ℕ} {V = Stored} {S = S} {R = Weight} prefix next xs [])) d.0; each = λ place before there. absurd (none-some before there) }
 covers-all {S = S} next prefix (s ∷ ss) old new ids (id, rest, mid, is, draws, others) =
     let later = covers-all next prefix ss mid new rest others in
@@ -142,7 +163,7 @@ module _ {S : Type 0} where
 
   -- ---- the calls
 
-  keeps-look_up : LookUpKeeps S
+  pub keeps-look_up : (frame : Frame) (step now next part : ℕ) (parts : List (Part S)) (s new : Part S) (key : List ℕ) (hash : ℕ) → Comes frame step now next → AreKeptParts frame step parts → slice_get parts part ≡ Some s → NotesLookUp service_answers same key hash now false s new → AreKeptParts (at_moment frame now) next (with_part part (drained new) parts)
   keeps-look_up frame step now next part parts s new key hash at h there look = one-kept frame step now next part parts s (drained new) at h there (kept-looked_up frame part step now next s at.less at.rises (h.each part s there) key hash new look)
 
   -- a part takes values where the whole does
@@ -158,29 +179,29 @@ module _ {S : Type 0} where
       go (Some zero) accepts = absurd (true≢false (sym accepts))
       go (Some (suc c)) accepts = some (share frame.config (suc c)) (share-positive (suc c) (part_count frame.config) (omega arith) (let lt = h.placed [] in omega (arith, lt)))
 
-  keeps-accept : AcceptKeeps S
+  pub keeps-accept : (frame : Frame) (step now next part : ℕ) (parts : List (Part S)) (s new : Part S) (key : List ℕ) (hash : ℕ) (value : Stored) → Comes frame step now next → AreKeptParts frame step parts → slice_get parts part ≡ Some s → IsTrue (accepts_values frame.config.capacity) → IsStorable frame part key value → Inserts service_answers same key hash value now next s new → AreKeptParts (at_moment frame now) next (with_part part (drained new) parts)
   keeps-accept frame step now next part parts s new key hash value at h there accepts v call =
       one-kept frame step now next part parts s (drained new) at h there (kept-accepted frame part step now next s at.less at.rises (h.each part s there) key hash value new v (takes_values frame step parts h accepts) call)
 
-  keeps-remove : RemoveKeeps S
+  pub keeps-remove : (frame : Frame) (step now next part : ℕ) (parts : List (Part S)) (s new : Part S) (key : List ℕ) → Comes frame step now next → AreKeptParts frame step parts → slice_get parts part ≡ Some s → TakesOut service_answers same key now s new → AreKeptParts (at_moment frame now) next (with_part part (drained new) parts)
   keeps-remove frame step now next part parts s new key at h there call = one-kept frame step now next part parts s (drained new) at h there (kept-removed frame part step now next s at.less at.rises (h.each part s there) key new call)
 
-  keeps-run_all : RunAllKeeps S
+  pub keeps-run_all : (frame : Frame) (step now next : ℕ) (parts news : List (Part S)) → Comes frame step now next → AreKeptParts frame step parts → CallsEach (RunsDrained S now) parts news → AreKeptParts (at_moment frame now) next news
   keeps-run_all frame step now next parts news at h calls =
       all-kept frame (at_moment frame now) step next _ parts news refl refl at.range h calls
       (λ part s t k x. subst (λ y. IsKeptPart (at_moment frame now) part next y) (sym x.is) (kept-ran frame part step now next s at.less at.rises k x.new x.runs))
 
-  keeps-clear : ClearKeeps S
+  pub keeps-clear : (frame : Frame) (step now next : ℕ) (parts news : List (Part S)) → Comes frame step now next → AreKeptParts frame step parts → CallsEach (λ s t. t ≡ cleared_by next s) parts news → AreKeptParts (at_moment frame now) next news
   keeps-clear frame step now next parts news at h calls =
       all-kept frame (at_moment frame now) step next (λ s t. t ≡ cleared_by next s) parts news refl refl at.range h calls
       (λ part s t k x. subst (λ y. IsKeptPart (at_moment frame now) part next y) (sym x) (kept-cleared frame part step now next s at.less at.rises k))
 
-  keeps-cover : CoverKeeps S
+  pub keeps-cover : (frame : Frame) (step now next : ℕ) (parts news : List (Part S)) → Comes frame step now next → AreKeptParts frame step parts → CallsEach (CoversIn next) parts news → AreKeptParts (record frame { latest = now; dropped = true }) next news
   keeps-cover frame step now next parts news at h calls =
       all-kept frame (record frame { latest = now; dropped = true }) step next _ parts news refl refl at.range h calls
       (λ part s t k x. subst (λ y. IsKeptPart (record frame { latest = now; dropped = true }) part next y) (sym x.is) (kept-covered frame part step now next s at.less at.rises k x.room x.predicate x.at))
 
-  news-kept : NewIsKept S
+  pub news-kept : (frame : Frame) (name : Option (List ℕ)) (hasher : S) (parts : List (Part S)) → length parts ≡ part_count frame.config → ((key : List ℕ) → frame.part_of key < part_count frame.config) → IsBrief frame.config → frame.made < 2 ^ 63 → frame.latest ≡ frame.made → ((part : ℕ) (s : Part S) → slice_get parts part ≡ Some s → IsNew name (settings_of frame.config frame.made) hasher frame.config.weight s) → AreKeptParts frame 0 parts
   news-kept frame name hasher parts number placed brief range first each = record {
     number = number;
     placed = placed;
@@ -201,7 +222,7 @@ module _ {S : Type 0} where
         parted-from part_of (suc first) parts (λ k x there. let later = each (suc k) x there in let shift : first + suc k ≡ suc first + k = omega arith in (later.0, subst (λ n. ArePlaced part_of n (held_entries x.records)) shift later.1)),
       )
 
-  enough-parted : (frame : Frame) (step : ℕ) (parts : List (Part S)) → AreKeptParts frame step parts → AreParted frame.part_of 0 parts
+  pub enough-parted : (frame : Frame) (step : ℕ) (parts : List (Part S)) → AreKeptParts frame step parts → AreParted frame.part_of 0 parts
   enough-parted frame step parts h = parted-from frame.part_of 0 parts (λ k s there.
       let part = h.each k s there in
       (part.front.apart, λ q e found. (let p = held-each (IsProper frame k step) s.records q e part.own.proper found in ap frame.part_of (entry_of-key (held_entries s.records) q e found) ∙ p.placed ∙ omega arith)))
@@ -211,7 +232,7 @@ module _ {S : Type 0} where
   some-below (s ∷ parts) zero lt = (s, refl)
   some-below (s ∷ parts) (suc k) lt = some-below parts k (let less : suc k < suc (length parts) = lt in omega (arith, less))
 
-  value-new : (frame : Frame) (step now next part : ℕ) (parts : List (Part S)) (s : Part S) (held : List HeldValue) (key : List ℕ) (hash : ℕ) (value : Stored) (k : Knows frame.config frame.part_of frame.made now part s parts held) (c : Corresponds (items_of 0 parts) held) (marked : AreMarked s held)
+  pub value-new : (frame : Frame) (step now next part : ℕ) (parts : List (Part S)) (s : Part S) (held : List HeldValue) (key : List ℕ) (hash : ℕ) (value : Stored) (k : Knows frame.config frame.part_of frame.made now part s parts held) (c : Corresponds (items_of 0 parts) held) (marked : AreMarked s held)
       → Comes frame step now next → IsKeptPart frame part step s → IsStorable frame part key value → ((m : ℕ) → value.milliseconds ≡ Some m → m ≤ 999999999999)
       → IsNewValue frame.config frame.part_of frame.made now part s parts held k c marked key (put_entry s key value now next) (put key hash value now next s) (value_for frame now key value.bytes value.milliseconds)
   value-new frame step now next part parts s held key hash value k c marked at h v brief =
@@ -232,10 +253,10 @@ module _ {S : Type 0} where
         range = omega (arith, range);
       }
 
-  enough-parts : (frame : Frame) (step : ℕ) (parts : List (Part S)) → AreKeptParts frame step parts → (q : List ℕ) → (x : Part S) × (slice_get parts (frame.part_of q) ≡ Some x)
+  pub enough-parts : (frame : Frame) (step : ℕ) (parts : List (Part S)) → AreKeptParts frame step parts → (q : List ℕ) → (x : Part S) × (slice_get parts (frame.part_of q) ≡ Some x)
   enough-parts frame step parts h q = some-below parts (frame.part_of q) (let lt = h.placed q in let n = h.number in omega (arith, lt, n))
 
-  enough-knows : (frame : Frame) (step now part : ℕ) (parts : List (Part S)) (s : Part S) (held : List HeldValue) → AreKeptParts frame step parts → slice_get parts part ≡ Some s → Knows frame.config frame.part_of frame.made now part s parts held
+  pub enough-knows : (frame : Frame) (step now part : ℕ) (parts : List (Part S)) (s : Part S) (held : List HeldValue) → AreKeptParts frame step parts → slice_get parts part ≡ Some s → Knows frame.config frame.part_of frame.made now part s parts held
   enough-knows frame step now part parts s held h there =
       let k = h.each part s there in
       record {
@@ -248,24 +269,13 @@ module _ {S : Type 0} where
         sent = k.front.sent;
       }
 
-  pub calls_keep_parts : CallsKeepParts S
-  calls_keep_parts = record {
-    look_up = keeps-look_up;
-    accept = keeps-accept;
-    remove = keeps-remove;
-    run_all = keeps-run_all;
-    clear = keeps-clear;
-    cover = keeps-cover;
-    new = news-kept;
-  }
-
   -- ---- what the laws ask for of each part
 
   each-part : (now : ℕ) (Q : Part S → Type 0) (parts : List (Part S)) → ((k : ℕ) (s : Part S) → slice_get parts k ≡ Some s → Q s) → EachPart now Q parts
   each-part now Q [] each = tt
   each-part now Q (s ∷ parts) each = (each 0 s refl, each-part now Q parts (λ k x there. each (suc k) x there))
 
-  maintained_from : (now : ℕ) (s new : Part S) → MaintainsIfDue service_answers now s new → Maintained now s new
+  pub maintained_from : (now : ℕ) (s new : Part S) → MaintainsIfDue service_answers now s new → Maintained now s new
   maintained_from now s new m = go (is_due s now) m
     where
       go : (b : Bool) → MatchBool b (RunsToEnd service_answers now s new) (new ≡ s) → Maintained now s new
@@ -276,13 +286,13 @@ module _ {S : Type 0} where
   early-part frame part step s range k q e found = let p = held-each (IsProper frame part step) s.records q e k.own.proper found in let w = p.written in let u = p.used in (omega (arith, w, range), omega (arith, u, range))
 
   -- a part as a run of all left it
-  record Left (frame : Frame) (step now part : ℕ) (x : Part S) : Type 0 where
-    old : Part S
-    kept_before : IsKeptPart frame part step old
-    run : RunsDrained S now old x
-    kept : IsKeptPart (at_moment frame now) part step x
+  pub record Left (frame : Frame) (step now part : ℕ) (x : Part S) : Type 0 where
+    pub old : Part S
+    pub kept_before : IsKeptPart frame part step old
+    pub run : RunsDrained S now old x
+    pub kept : IsKeptPart (at_moment frame now) part step x
 
-  left-by : (frame : Frame) (step now : ℕ) (parts news : List (Part S)) → Comes frame step now step → AreKeptParts frame step parts → CallsEach (RunsDrained S now) parts news → (k : ℕ) (x : Part S) → slice_get news k ≡ Some x → Left frame step now k x
+  pub left-by : (frame : Frame) (step now : ℕ) (parts news : List (Part S)) → Comes frame step now step → AreKeptParts frame step parts → CallsEach (RunsDrained S now) parts news → (k : ℕ) (x : Part S) → slice_get news k ≡ Some x → Left frame step now k x
   left-by frame step now parts news at h calls k x there =
       let old = there-too news parts calls.count k x there in
       let y = calls.each k old.0 old.1 in
@@ -290,7 +300,7 @@ module _ {S : Type 0} where
       let one : y.0 ≡ x = cc in
       record { old = old.0; kept_before = h.each k old.0 old.1; run = subst (λ z. RunsDrained S now old.0 z) one y.2; kept = (keeps-run_all frame step now step parts news at h calls).each k x there }
 
-  rested-part : (frame : Frame) (step now part : ℕ) (x : Part S) (news : List (Part S)) (held : List HeldValue) (parted : AreParted frame.part_of 0 news) (c : Corresponds (items_of 0 news) held) (count : (q : List ℕ) → (x : Part S) × (slice_get news (frame.part_of q) ≡ Some x))
+  pub rested-part : (frame : Frame) (step now part : ℕ) (x : Part S) (news : List (Part S)) (held : List HeldValue) (parted : AreParted frame.part_of 0 news) (c : Corresponds (items_of 0 news) held) (count : (q : List ℕ) → (x : Part S) × (slice_get news (frame.part_of q) ≡ Some x))
       (settings : (k : ℕ) (x : Part S) → slice_get news k ≡ Some x → x.settings ≡ settings_of frame.config frame.made) → Comes frame step now step → Left frame step now part x → IsRested frame.config frame.part_of frame.made news held parted c count settings now x
   rested-part frame step now part x news held parted c count settings at l =
       let range = at.range in
@@ -305,7 +315,7 @@ module _ {S : Type 0} where
         early = early-part (at_moment frame now) part step x at.range l.kept;
       }
 
-  fits-part : (frame : Frame) (step now part : ℕ) (x : Part S) → Left frame step now part x → is_above x.settings.capacity (held_weight x.records) ≡ false
+  pub fits-part : (frame : Frame) (step now part : ℕ) (x : Part S) → Left frame step now part x → is_above x.settings.capacity (held_weight x.records) ≡ false
   fits-part frame step now part x l = go x.settings.capacity l.kept.front.ordered.within
     where
       none_pending : pending_of x ≡ []
@@ -330,41 +340,22 @@ module _ {S : Type 0} where
       let b = sum_by-cons (λ (x : Part S). length (held_entries x.records)) s parts in
       omega (arith, own, later, a, b)
 
-  pub kept_is_enough : KeptIsEnough S
-  kept_is_enough = record {
-    parted = enough-parted;
-    parts_are = enough-parts;
-    knows = enough-knows;
-    recent = λ frame step parts h. record {
-      number = h.number;
-      each = λ part s there. (let k = h.each part s there in record { settings = ap (λ c. c.settings) k.front.made; rules = k.own.rules; in_order = k.front.ordered; sent = k.front.sent; apart = k.front.apart; proper = k.own.proper; fresh = k.own.fresh });
-    };
-    maintained = maintained_from;
-    ready = λ frame step now parts h. (
-      each-part now (IsReady now) parts (λ k s there. (let x = h.each k s there in record { in_order = x.front.ordered; apart = x.front.apart; tells = ap (λ c. c.settings.tells) x.front.made; taken = x.taken })),
-      each-part now IsSent parts (λ k s there. (let x = h.each k s there in record { sound = x.front.ordered.sound; sent = x.front.sent })),
-    );
-    lean = λ frame step parts held parted c count settings h k x there.
-        let p = h.each k x there in
-        record { in_order = p.front.ordered; sent = p.front.sent; few = (let few = p.front.few in omega (arith, few)); light = p.own.light };
-    rested = λ frame step now parts news held parted c count settings at h calls k x there. rested-part frame step now k x news held parted c count settings at (left-by frame step now parts news at h calls k x there);
-    fits = λ frame step now parts news at h calls k x there. fits-part frame step now k x (left-by frame step now parts news at h calls k x there);
-    weighs = λ frame step parts held h stands.
-        let n = number_is parts held stands in
-        let w = weight_is frame.part_of parts held (enough-parted frame step parts h) stands in
-        let le = light-parts frame step 0 parts (λ k s there. subst (λ m. IsKeptPart frame m step s) (let e : k ≡ 0 + k = omega arith in e) (h.each k s there)) in
-        omega (arith, n, w, le);
-    undropped = λ frame step parts h e part s there. (h.each part s there).own.undropped e;
-    touches = λ frame step now part parts s held h there stands.
-        let k = h.each part s there in
-        record {
-          knows = enough-knows frame step now part parts s held h there;
-          stands = stands;
-          parts_are = enough-parts frame step parts h;
-          tells = ap (λ c. c.settings.tells) k.front.made;
-          taken = k.taken;
-          apart = k.front.apart;
-        };
-    new_value = λ frame step now next part parts s held key hash value k c marked at h there v brief. value-new frame step now next part parts s held key hash value k c marked at (h.each part s there) v brief;
-    covers = covers-all;
-  }
+  -- each part is ready for a run of all
+  pub all-ready : (frame : Frame) (step now : ℕ) (parts : List (Part S)) → AreKeptParts frame step parts → EachPart now (IsReady now) parts × EachPart now IsSent parts
+  all-ready frame step now parts h = (
+    each-part now (IsReady now) parts (λ k s there. (let x = h.each k s there in record { in_order = x.front.ordered; apart = x.front.apart; tells = ap (λ c. c.settings.tells) x.front.made; taken = x.taken })),
+    each-part now IsSent parts (λ k s there. (let x = h.each k s there in record { sound = x.front.ordered.sound; sent = x.front.sent })),
+  )
+
+  pub lean : (frame : Frame) (step : ℕ) (parts : List (Part S)) (held : List HeldValue) (parted : AreParted frame.part_of 0 parts) (c : Corresponds (items_of 0 parts) held) (count : (q : List ℕ) → (x : Part S) × (slice_get parts (frame.part_of q) ≡ Some x)) (settings : (k : ℕ) (x : Part S) → slice_get parts k ≡ Some x → x.settings ≡ settings_of frame.config frame.made) → AreKeptParts frame step parts → (k : ℕ) (x : Part S) → slice_get parts k ≡ Some x → IsLean frame.config frame.part_of frame.made parts held parted c count settings x
+  lean frame step parts held parted c count settings h k x there =
+      let p = h.each k x there in
+      record { in_order = p.front.ordered; sent = p.front.sent; few = (let few = p.front.few in omega (arith, few)); light = p.own.light }
+
+  -- what is held weighs at most 8192 per value, so at 2^50 values less than 2^64
+  pub weighs : (frame : Frame) (step : ℕ) (parts : List (Part S)) (held : List HeldValue) → AreKeptParts frame step parts → Stands parts held → sum_by (λ (h : HeldValue). h.value.weight) held ≤ length held * 8192
+  weighs frame step parts held h stands =
+      let n = number_is parts held stands in
+      let w = weight_is frame.part_of parts held (enough-parted frame step parts h) stands in
+      let le = light-parts frame step 0 parts (λ k s there. subst (λ m. IsKeptPart frame m step s) (let e : k ≡ 0 + k = omega arith in e) (h.each k s there)) in
+      omega (arith, n, w, le)

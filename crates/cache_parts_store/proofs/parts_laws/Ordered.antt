@@ -1,5 +1,5 @@
 -- The clauses of a store on recency, from those of its part.
-use Rattle.std.proofs.Common.{◌≡◌, refl, ap, sym, ◌∙◌, subst, ℕ, zero, suc, ◌+◌, ◌-◌, ◌/◌, ◌≤◌, arith, Bool, true, false, true≢false, cond, ◌||◌, List, [], ◌∷◌, ◌++◌, Option, option_map, Some, None, is_none, map, length, take, inl, inr, ◌⊎◌, slice_get, IsTrue, append-nil}
+use Rattle.std.proofs.Common.{◌≡◌, refl, ap, sym, ◌∙◌, subst, ℕ, zero, suc, ◌+◌, ◌-◌, ◌/◌, ◌≤◌, arith, Bool, true, false, true≢false, ◌||◌, List, [], ◌∷◌, ◌++◌, Option, option_map, Some, None, is_none, map, length, take, inl, inr, ◌⊎◌, slice_get, IsTrue, append-nil}
 use Rattle.std.specs.Prelude.{IsPermutation, IsSome}
 use Rattle.std.proofs.lemmas.Option.{none-some}
 use Rattle.std.proofs.lemmas.List.Sorted.{IsPermutation-map, IsPermutation-trans, IsPermutation-refl}
@@ -9,28 +9,28 @@ use Rattle.audit_model.specs.Recency.{keys_without}
 use Rattle.audit_model.specs.Situation.{HeldValue}
 use Rattle.audit_model.specs.declared.config.Config.{Config}
 use Rattle.cache_store.specs.Promises.{Frame}
-use Rattle.cache_store.specs.Recency.{IsPlainLru, put_first, used_first}
-use Rattle.engine_reference.specs.Calls.{with_read}
+use Rattle.cache_store.specs.Recency.{AreKeysOf, IsPlainLru, put_first, used_first}
+use Rattle.audit_model.specs.declared.config.Weight.{Weight}
+use Rattle.audit_model.specs.declared.transcript.Note.{Note}
+use Rattle.engine_reference.specs.declared.data.Settings.{Settings}
+use Rattle.engine_reference.specs.Calls.{IsNew, with_read}
 use Rattle.engine_reference.specs.Records.{held_entries}
 use Rattle.engine_reference.specs.Runs.{Runs}
-use Rattle.engine_reference.specs.Soundness.{Each}
-use Rattle.engine_reference.specs.Telling.{AreApart}
 use Rattle.engine_reference.specs.Visible.{visible_record}
 use Rattle.engine_reference.proofs.Accounts.{each-map}
-use Rattle.engine_reference.proofs.StayingVisible.{entry_of-there}
 use Rattle.cache_store.specs.Held.{plain}
 use Rattle.cache_store.proofs.Corresponding.{permutation}
-use Rattle.cache_parts.specs.Parts.{Part, IsProper, service_answers, policy_of, items_of, items_in, held_of, with_part, put, taken_out, nanos, drained}
-use Rattle.cache_parts.specs.Recent.{IsLasting, IsPlain, IsRecent, IsFresh, IsPartOf, MovesRecency}
-use Rattle.cache_parts.proofs.Items.{ArePlaced, AreParted, apart-of}
-use Rattle.cache_parts.proofs.Joining.{entry_of-key}
+use Rattle.cache_parts.specs.Parts.{Part, Stands, Stored, IsProper, service_answers, policy_of, items_of, items_in, held_of, with_part, put, taken_out, nanos, drained}
+use Rattle.cache_parts.specs.Recent.{IsLasting, IsPlain, IsRecent, IsFresh, IsRecentOver, MovesRecency}
+use Rattle.cache_parts.proofs.Items.{apart-of}
 use Rattle.cache_parts.proofs.Pending.{run-front}
-use Rattle.cache_parts.proofs.Recency.{steady, run_keeps, cut_run_keeps, look-recent, put_moves, add_moves, removal_moves, taking_keeps, new_is, still-recent, held-steady}
+use Rattle.cache_parts.proofs.Recency.{steady, run_keeps, cut_run_keeps, look-recent, put_moves, removal_moves, taking_keeps, new_is, held-steady}
 use Rattle.cache_parts.proofs.Running.{Maintained, idle, ran}
-use Rattle.cache_parts.proofs.Syncing.{none, next}
+use Rattle.cache_parts.proofs.Syncing.{AllRan, none, next}
 use Rattle.cache_parts.proofs.Telling.{Kept}
 use Rattle.cache_parts.proofs.Writing.{Rec}
-use Rattle.cache_parts_store.specs.PartsLaws.Recency.{LookUpMoves, AcceptMoves, AddMoves, RemoveMoves, RunAllKeeps, KeysAreHeld, NewMoves, RecencyClauses}
+use Rattle.cache_parts_store.specs.PartsKept.Keeping.{AreKeptParts, IsKeptPart}
+use Rattle.cache_parts_store.proofs.parts_kept.Storing.{enough-parted}
 
 -- what is none
 none_from : (o : Option ℕ) → is_none o ≡ true → o ≡ None
@@ -51,32 +51,22 @@ keys-plain : (held : List HeldValue) → map (λ (h : HeldValue). h.value.key) (
 keys-plain [] = refl
 keys-plain (h ∷ held) = ap (λ ks. h.value.key ∷ ks) (keys-plain held)
 
--- what is so of each record that is held is so of each entry
-each-entry : (Q : Kept → Type 0) (rs : List Rec) (place : ℕ) (e : Kept) → Each (λ r. r.is_held ≡ true → Q r.entry) rs → slice_get (held_entries rs) place ≡ Some e → Q e
-each-entry Q [] place e all there = absurd (none-some e there)
-each-entry Q (r ∷ rs) place e all there = go r.is_held refl place there (λ i k. each-entry Q rs i e all.1 k)
-  where
-    go : (b : Bool) → r.is_held ≡ b → (i : ℕ) → slice_get (cond b (r.entry ∷ held_entries rs) (held_entries rs)) i ≡ Some e → ((i : ℕ) → slice_get (held_entries rs) i ≡ Some e → Q e) → Q e
-    go true t zero at later = let is : r.entry ≡ e = cc in subst Q is (all.0 t)
-    go true t (suc i) at later = later i at
-    go false t i at later = later i at
-
 module _ {S : Type 0} where
   -- ---- a part
 
   -- a part under plain LRU
-  pub plain_kept : (frame : Frame) (n part step : ℕ) (s : Part S) → IsPlainLru frame.config n → IsPartOf frame part step s → IsPlain n s
+  pub plain_kept : (frame : Frame) (n part step : ℕ) (s : Part S) → IsPlainLru frame.config n → IsKeptPart frame part step s → IsPlain n s
   plain_kept frame n part step s p k = record {
-    capacity = ap (λ c. c.capacity) k.settings ∙ ap (option_map (share frame.config)) p.capacity ∙ ap Some (whole (part_count frame.config) p.parts);
-    policy = ap (λ c. c.policy) k.settings ∙ ap policy_of p.policy;
-    tells = ap (λ c. c.tells) k.settings;
-    live = ap (λ c. c.live) k.settings ∙ ap (option_map nanos) p.live;
-    idle = ap (λ c. c.idle) k.settings ∙ ap (option_map nanos) p.idle;
-    rules = k.rules ∙ p.weight;
-    in_order = k.in_order;
-    sent = k.sent;
-    apart = k.apart;
-    lasting = each-map (λ r. r.is_held ≡ true → IsProper frame part step r.entry) IsLasting lasts s.records k.proper;
+    capacity = ap (λ c. c.settings.capacity) k.front.made ∙ ap (option_map (share frame.config)) p.capacity ∙ ap Some (whole (part_count frame.config) p.parts);
+    policy = ap (λ c. c.settings.policy) k.front.made ∙ ap policy_of p.policy;
+    tells = ap (λ c. c.settings.tells) k.front.made;
+    live = ap (λ c. c.settings.live) k.front.made ∙ ap (option_map nanos) p.live;
+    idle = ap (λ c. c.settings.idle) k.front.made ∙ ap (option_map nanos) p.idle;
+    rules = k.own.rules ∙ p.weight;
+    in_order = k.front.ordered;
+    sent = k.front.sent;
+    apart = k.front.apart;
+    lasting = each-map (λ r. r.is_held ≡ true → IsProper frame part step r.entry) IsLasting lasts s.records k.own.proper;
   }
     where
       whole : (c : ℕ) → c ≡ 1 → (suc n + (c - 1)) / c ≡ suc n
@@ -88,10 +78,10 @@ module _ {S : Type 0} where
           (q.weighs ∙ ap (λ w. weight_of w r.entry.value.bytes) p.weight, none_from r.entry.expires (sym (ap (λ b. b || is_none r.entry.expires) p.own) ∙ q.timed))
 
   -- what is written at a step not before its own is not covered
-  fresh_kept : (frame : Frame) (part step next_step : ℕ) (s : Part S) → IsPartOf frame part step s → step ≤ next_step → IsFresh next_step s
+  fresh_kept : (frame : Frame) (part step next_step : ℕ) (s : Part S) → IsKeptPart frame part step s → step ≤ next_step → IsFresh next_step s
   fresh_kept frame part step next_step s k later =
-      let c = k.fresh.cleared in
-      record { cleared = omega (arith, c, later); predicates = λ place p there. (let q = k.fresh.predicates place p there in omega (arith, q, later)) }
+      let c = k.own.fresh.cleared in
+      record { cleared = omega (arith, c, later); predicates = λ place p there. (let q = k.own.fresh.predicates place p there in omega (arith, q, later)) }
 
   -- ---- there is one part
 
@@ -121,21 +111,16 @@ module _ {S : Type 0} where
   after-run n now s new keys p r (inl e) = subst (λ x. IsRecent n x false keys) (sym e) r
   after-run n now s new keys p r (inr run) = cut_run_keeps n now s new false keys p r run
 
-  -- a settled part stays so
-  before-run : (n now : ℕ) (s mid : Part S) (keys : List (List ℕ)) → IsPlain n s → IsRecent n s true keys → (mid ≡ s) ⊎ Runs service_answers now s mid → IsRecent n mid true keys
-  before-run n now s mid keys p r (inl e) = subst (λ x. IsRecent n x true keys) (sym e) r
-  before-run n now s mid keys p r (inr run) = still-recent n now s mid keys p r run
-
   -- ---- the clauses
 
   -- `look_up`
-  look_ups : LookUpMoves S
+  pub look_ups : (frame : Frame) (step : ℕ) (parts : List (Part S)) (part : ℕ) (s mid : Part S) (key : List ℕ) (hash now : ℕ) → AreKeptParts frame step parts → slice_get parts part ≡ Some s → Maintained now s mid → MovesRecency frame.config parts (with_part part (drained (with_read service_answers (visible_record service_answers same s now key) hash now mid)) parts) (used_first key)
   look_ups frame step parts part s mid key hash now kept there maintained =
       moves frame.config parts part s (with_read service_answers (visible_record service_answers same s now key) hash now mid) (used_first key) kept.number there
       (λ n keys p r. look-recent n now hash s mid key keys (plain_kept frame n part step s p (kept.each part s there)) r (may_run now s mid maintained))
 
   -- `accept`
-  accepts : AcceptMoves S
+  pub accepts : (frame : Frame) (step next : ℕ) (parts : List (Part S)) (part : ℕ) (s new : Part S) (key : List ℕ) (value : Stored) (hash now : ℕ) → AreKeptParts frame step parts → slice_get parts part ≡ Some s → step ≤ next → (IsSome value.milliseconds → IsTrue frame.config.own_deadlines) → Maintained now (put key hash value now next s) new → MovesRecency frame.config parts (with_part part (drained new) parts) (put_first key)
   accepts frame step next_step parts part s new key value hash now kept there later timed maintained =
       moves frame.config parts part s new (put_first key) kept.number there
       (λ n keys p r.
@@ -144,20 +129,8 @@ module _ {S : Type 0} where
       let m = put_moves n now hash next_step s key value keys (plain_kept frame n part step s p k) (fresh_kept frame part step next_step s k later) (brief_from value.milliseconds frame.config.own_deadlines p.own timed) r in
       after-run n now t new (put_first key keys) m.0 m.1 (may_run now t new maintained))
 
-  -- `ADD`
-  adds : AddMoves S
-  adds frame step next_step parts part s mid new key value hash now kept there later timed first kept_mid maintained =
-      moves frame.config parts part s new (put_first key) kept.number there
-      (λ n keys p r.
-      let k = kept.each part s there in
-      let md = drained mid in
-      let t = put key hash value now next_step (with_read service_answers (visible_record service_answers same md now key) hash now md) in
-      let before = taking_keeps n mid true keys (before-run n now s mid keys (plain_kept frame n part step s p k) r (may_run now s mid first)) in
-      let m = add_moves n now hash next_step md key value keys (plain_kept frame n part step md p kept_mid) (fresh_kept frame part step next_step md kept_mid later) (brief_from value.milliseconds frame.config.own_deadlines p.own timed) before in
-      after-run n now t new (put_first key keys) m.0 m.1 (may_run now t new maintained))
-
   -- `remove`
-  removes : RemoveMoves S
+  pub removes : (frame : Frame) (step : ℕ) (parts : List (Part S)) (part : ℕ) (s new : Part S) (key : List ℕ) (now : ℕ) → AreKeptParts frame step parts → slice_get parts part ≡ Some s → Maintained now (taken_out key now s) new → MovesRecency frame.config parts (with_part part (drained new) parts) (keys_without key)
   removes frame step parts part s new key now kept there maintained =
       moves frame.config parts part s new (keys_without key) kept.number there
       (λ n keys p r.
@@ -173,7 +146,7 @@ module _ {S : Type 0} where
   keys-items part s (e ∷ es) = ap (λ ks. e.key ∷ ks) (keys-items part s es)
 
   -- a run of the one part
-  runs_all : RunAllKeeps S
+  pub runs_all : (frame : Frame) (step now : ℕ) (parts news : List (Part S)) (notes : List Note) → AreKeptParts frame step parts → AllRan now parts news notes → (n : ℕ) (settled : Bool) (keys : List (List ℕ)) → IsPlainLru frame.config n → IsRecentOver frame.config parts settled keys → IsRecentOver frame.config news true (take (suc n) keys)
   runs_all frame step now [] news notes kept all n settled keys p r = absurd (let one : 0 ≡ 1 = kept.number ∙ p.parts in omega (arith, one))
   runs_all frame step now (x ∷ y ∷ parts) news notes kept all n settled keys p r = absurd (let one : suc (suc (length parts)) ≡ 1 = kept.number ∙ p.parts in omega (arith, one))
   runs_all frame step now (x ∷ []) news notes kept (next s new run none) n settled keys p r = record {
@@ -197,27 +170,11 @@ module _ {S : Type 0} where
 
   -- ---- the keys in their order of use are those held
 
-  -- a key is in its part
-  placed_kept : (frame : Frame) (part step : ℕ) (s : Part S) → IsPartOf frame part step s → ArePlaced frame.part_of part (held_entries s.records)
-  placed_kept frame part step s k q e found =
-      let at = entry_of-there same (held_entries s.records) q e found in
-      ap frame.part_of (entry_of-key (held_entries s.records) q e found) ∙ (each-entry (λ x. IsProper frame part step x) s.records at.0 e k.proper at.1).placed
-
-  -- the parts have their own keys
-  parted_kept : (part_of : List ℕ → ℕ) (first : ℕ) (parts : List (Part S)) → ((k : ℕ) (s : Part S) → slice_get parts k ≡ Some s → AreApart same (held_entries s.records) × ArePlaced part_of (first + k) (held_entries s.records)) → AreParted part_of first parts
-  parted_kept part_of first [] each = tt
-  parted_kept part_of first (s ∷ parts) each =
-      let here = each 0 s refl in (
-        here.0,
-        (λ q e f. here.1 q e f ∙ omega arith),
-        parted_kept part_of (suc first) parts (λ k x there. (let behind = each (suc k) x there in (behind.0, λ q e f. behind.1 q e f ∙ omega arith))),
-      )
-
   -- `ordered`
-  keys_held : KeysAreHeld S
+  pub keys_held : (frame : Frame) (step : ℕ) (parts : List (Part S)) (held : List HeldValue) (keys : List (List ℕ)) → AreKeptParts frame step parts → Stands parts held → IsRecentOver frame.config parts true keys → AreKeysOf held keys
   keys_held frame step parts held keys kept stands r =
       let items = items_of 0 parts in
-      let apart = apart-of frame.part_of 0 parts (parted_kept frame.part_of 0 parts (λ k s there. (let x = kept.each k s there in (x.apart, λ q e f. placed_kept frame k step s x q e f ∙ omega arith)))) in
+      let apart = apart-of frame.part_of 0 parts (enough-parted frame step parts kept) in
       IsPermutation-trans (map (λ (h : HeldValue). h.value.key) held) (map (λ (h : HeldValue). h.value.key) items) keys
       (subst (λ ks. IsPermutation ks (map (λ (h : HeldValue). h.value.key) items)) (keys-plain held) (IsPermutation-map (λ (h : HeldValue). h.value.key) (map plain held) items (permutation items held apart stands.same))) (r.held refl)
 
@@ -229,13 +186,8 @@ module _ {S : Type 0} where
   none-yet first (s ∷ parts) each = ap (λ rs. map (held_of first s) (held_entries rs) ++ items_of (suc first) parts) (each 0 s refl) ∙ none-yet (suc first) parts (λ k x there. each (suc k) x there)
 
   -- it has no keys
-  made : NewMoves S
+  pub made : (config : Config) (name : Option (List ℕ)) (settings : Settings) (hasher : S) (rules : Weight) (parts : List (Part S)) → ((part : ℕ) (s : Part S) → slice_get parts part ≡ Some s → IsNew name settings hasher rules s) → IsRecentOver config parts true []
   made config name settings hasher rules parts new = record {
     held = λ e. subst (λ xs. IsPermutation (map (λ (h : HeldValue). h.value.key) xs) []) (sym (none-yet 0 parts (λ k s there. (new k s there).records))) (IsPermutation-refl []);
     recent = λ n k s p there. new_is n name settings hasher rules s (new k s there);
   }
-
-module _ (S : Type 0) where
-  -- all clauses
-  pub recency_clauses : RecencyClauses S
-  recency_clauses = record { look_up = look_ups; accept = accepts; add = adds; remove = removes; run_all = runs_all; ordered = keys_held; new = made }

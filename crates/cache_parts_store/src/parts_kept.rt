@@ -1,2 +1,0 @@
-//! What a store keeps of each part of its cache between calls, and that each call keeps it.
-pub mod laws;
