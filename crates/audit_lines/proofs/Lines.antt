@@ -1,6 +1,6 @@
 -- What the front of a stream means for its lines, and what more bytes change.
-use Rattle.std.proofs.Common.{◌≡◌, ℕ, ◌+◌, ◌<◌, ◌≤◌, true, false, rules, tests, if◌then◌else◌, List, [], ◌∷◌, ◌++◌, length, take, drop, Option, Some, None, refl, sym, ap, ◌∙◌, arith, ⊎_elim, length-drop, length-append}
-use Rattle.std.specs.Prelude.{nat_lt, unwrap_or, is_some}
+use Rattle.std.proofs.Common.{◌≡◌, ℕ, ◌+◌, ◌<◌, true, false, rules, tests, List, [], ◌∷◌, ◌++◌, length, take, drop, Some, None, refl, sym, ap, ◌∙◌, arith, ⊎_elim}
+use Rattle.std.specs.Prelude.{nat_lt, unwrap_or}
 use Rattle.std.proofs.lemmas.Bool.Decides.{eqb_tells}
 use Rattle.std.proofs.lemmas.List.{length-take-le}
 use Rattle.audit_model.specs.Bytewise.{cut_at}
@@ -17,10 +17,6 @@ IsLine-first_line bytes n line = rw line.cut
 -- what stands behind it
 pub IsLine-behind_lines : (bytes : List ℕ) (n : ℕ) → IsLine bytes n → behind_lines 1 bytes ≡ drop (n + 1) bytes
 IsLine-behind_lines bytes n line = ap (λ cut. unwrap_or cut.1 []) line.cut
-
--- that is less than there was
-pub IsLine-shorter : (bytes : List ℕ) (n : ℕ) → IsLine bytes n → length (drop (n + 1) bytes) < length bytes
-IsLine-shorter bytes n line = let inside = line.inside in omega (arith, length-drop (n + 1) bytes)
 
 -- it is not too long
 pub IsLine-not_long : (bytes : List ℕ) (n : ℕ) → IsLine bytes n → nat_lt 8192 (length (cut_at 10 bytes).0) ≡ false
@@ -70,34 +66,3 @@ cut_at-append c (b ∷ bs) more =
     (λ other. cut_at-other c b (bs ++ more) other.1 ∙ ap (onto b) (cut_at-append c bs more) ∙ onto-cut_with c b (cut_at c bs) more
     ∙ sym (ap (λ cut. cut_with c cut more) (cut_at-other c b bs other.1)))
     (eqb_tells b c)
-
--- a line stays the first one
-pub IsLine-append : (bytes more : List ℕ) (n : ℕ) → IsLine bytes n → cut_at 10 (bytes ++ more) ≡ (take n bytes, Some (drop (n + 1) bytes ++ more))
-IsLine-append bytes more n line = cut_at-append 10 bytes more ∙ ap (λ cut. cut_with 10 cut more) line.cut
-
--- the same of any first line
-pub first_line-append : (bytes more line : List ℕ) → first_line bytes ≡ Some line → first_line (bytes ++ more) ≡ Some line
-first_line-append bytes more line first = ap of_cut (cut_at-append 10 bytes more) ∙ kept (cut_at 10 bytes) first
-  where
-    of_cut : Cut → Option (List ℕ)
-    of_cut cut = if is_some cut.1 then Some (without_return cut.0) else None
-
-    kept : (cut : Cut) → of_cut cut ≡ Some line → of_cut (cut_with 10 cut more) ≡ Some line
-    kept (word, Some rest) first = first
-    kept (word, None) first = cc
-
--- what stands behind a line grows by the same bytes
-pub behind_lines-append : (bytes more line : List ℕ) → first_line bytes ≡ Some line → behind_lines 1 (bytes ++ more) ≡ behind_lines 1 bytes ++ more
-behind_lines-append bytes more line first = ap (λ cut. unwrap_or cut.1 []) (cut_at-append 10 bytes more) ∙ kept (cut_at 10 bytes) first
-  where
-    kept : (cut : Cut) → (if is_some cut.1 then Some (without_return cut.0) else None) ≡ Some line → unwrap_or (cut_with 10 cut more).1 [] ≡ unwrap_or cut.1 [] ++ more
-    kept (word, Some rest) first = refl
-    kept (word, None) first = cc
-
--- what stands before the first line feed never gets shorter
-pub cut_at-grows : (c : ℕ) (bytes more : List ℕ) → length (cut_at c bytes).0 ≤ length (cut_at c (bytes ++ more)).0
-cut_at-grows c bytes more = rw (cut_at-append c bytes more) (grows (cut_at c bytes))
-  where
-    grows : (cut : Cut) → length cut.0 ≤ length (cut_with c cut more).0
-    grows (word, Some rest) = omega arith
-    grows (word, None) = omega (arith, length-append word (cut_at c more).0)

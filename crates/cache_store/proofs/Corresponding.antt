@@ -10,7 +10,6 @@ use Rattle.std.proofs.Common.{◌≡◌, ℕ, suc, Bool, cond, true, false, not,
 use Rattle.std.proofs.lemmas.Bool.{not-true, and_parts, and_from, not_from_false}
 use Rattle.std.proofs.lemmas.List.Folds.{list_all-append}
 use Rattle.std.proofs.lemmas.List.Sorted.{IsPermutation-refl, IsPermutation-cons, IsPermutation-trans, IsPermutation-map, IsPermutation-middle}
-use Rattle.std.proofs.lemmas.List.{length-append, length-map}
 use Rattle.std.proofs.lemmas.Option.{none-some}
 
 abbrev pub left : List Note → List HeldValue → List HeldValue
@@ -95,44 +94,7 @@ apart-map f (h ∷ items) e =
     ∙ ap (λ b. b && are_apart (map f items)) (absent-map f items h.value.key e)
     ∙ ap (λ b. is_absent h.value.key items && b) (apart-map f items e)
 
-both-maps : (f g : HeldValue → HeldValue) → ((h : HeldValue) → plain (f h) ≡ g (plain h)) → (o : Option HeldValue) → option_map plain (option_map f o) ≡ option_map g (option_map plain o)
-both-maps f g e None = refl
-both-maps f g e (Some h) = ap (λ x. Some x) (e h)
-
--- the values held change as the items do
-pub corresponds-map : (f g : HeldValue → HeldValue) (items held : List HeldValue) → ((h : HeldValue) → (f h).value.key ≡ h.value.key) → ((h : HeldValue) → (g h).value.key ≡ h.value.key)
-    → ((h : HeldValue) → plain (f h) ≡ g (plain h)) → Corresponds items held → Corresponds (map g items) (map f held)
-corresponds-map f g items held same_f same_g e c = record {
-  found = λ q.
-      ap (option_map plain) (value_at-map f held q same_f)
-      ∙ both-maps f g e (value_at held q)
-      ∙ ap (option_map g) (c.found q)
-      ∙ sym (value_at-map g items q same_g);
-  number = length-map held f ∙ c.number ∙ sym (length-map items g);
-  apart = apart-map f held same_f ∙ c.apart;
-}
-
--- the values held change, and the items do not
-pub corresponds-same : (f : HeldValue → HeldValue) (items held : List HeldValue) → ((h : HeldValue) → (f h).value.key ≡ h.value.key) → ((h : HeldValue) → plain (f h) ≡ plain h)
-    → Corresponds items held → Corresponds items (map f held)
-corresponds-same f items held same_f e c = record {
-  found = λ q. ap (option_map plain) (value_at-map f held q same_f) ∙ both-maps f (λ h. h) e (value_at held q) ∙ no-map (option_map plain (value_at held q)) ∙ c.found q;
-  number = length-map held f ∙ c.number;
-  apart = apart-map f held same_f ∙ c.apart;
-}
-  where
-    no-map : (o : Option HeldValue) → option_map (λ (h : HeldValue). h) o ≡ o
-    no-map None = refl
-    no-map (Some h) = refl
-
 -- ---- one more
-
-pub absent_from_items : (key : List ℕ) (items held : List HeldValue) → Corresponds items held → value_at items key ≡ None → is_absent key held ≡ true
-absent_from_items key items held c e = absent_from_none key held (none_of (value_at held key) (c.found key ∙ e))
-  where
-    none_of : (o : Option HeldValue) → option_map plain o ≡ None → o ≡ None
-    none_of None e = refl
-    none_of (Some h) e = absurd (none-some (plain h) (sym e))
 
 pub apart-append : (held : List HeldValue) (n : HeldValue) → are_apart held ≡ true → is_absent n.value.key held ≡ true → are_apart (held ++ n ∷ []) ≡ true
 apart-append [] n a absent = refl
@@ -162,25 +124,6 @@ value_at-append (h ∷ held) n q absent =
     in_turn true false e f g = refl
     in_turn false true e f g = refl
     in_turn false false e f g = refl
-
-pub corresponds-new : (items held : List HeldValue) (new n : HeldValue) → Corresponds items held → value_at items new.value.key ≡ None → plain n ≡ new → Corresponds (new ∷ items) (held ++ n ∷ [])
-corresponds-new items held new n c absent e =
-    let is_key : n.value.key ≡ new.value.key = ap (λ (h : HeldValue). h.value.key) e in
-    let absent_held : is_absent n.value.key held ≡ true = subst (λ k. is_absent k held ≡ true) (sym is_key) (absent_from_items new.value.key items held c absent) in
-    record {
-      found = λ q.
-          ap (option_map plain) (value_at-append held n q absent_held)
-          ∙ go (same q n.value.key) (value_at held q)
-          ∙ ap (λ x. cond (same q n.value.key) (Some x) (option_map plain (value_at held q))) e
-          ∙ ap (λ k. cond (same q k) (Some new) (option_map plain (value_at held q))) is_key
-          ∙ ap (cond (same q new.value.key) (Some new)) (c.found q);
-      number = let l = length-append held (n ∷ []) in let m : length held ≡ length items = c.number in omega arith;
-      apart = apart-append held n c.apart absent_held;
-    }
-  where
-    go : (b : Bool) (o : Option HeldValue) → option_map plain (cond b (Some n) o) ≡ cond b (Some (plain n)) (option_map plain o)
-    go true o = refl
-    go false o = refl
 
 -- ---- permutations
 

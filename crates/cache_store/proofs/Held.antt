@@ -45,17 +45,6 @@ key_from_some key (g ∷ items) h e = go (same key g.value.key) refl (λ (e : va
     go true is next e = let same_value : g ≡ h = cc in subst (λ (x : HeldValue). x.value.key ≡ key) same_value (sym (equal_from_same key g.value.key is))
     go false is next e = next e
 
--- what is true of all values is true of it
-pub all_found : (p : HeldValue → Bool) (key : List ℕ) (items : List HeldValue) (h : HeldValue) → list_all p items ≡ true → value_at items key ≡ Some h → p h ≡ true
-all_found p key [] h all e = absurd (none-some h e)
-all_found p key (g ∷ items) h all e =
-    let parts = and_parts (p g) (list_all p items) all in
-    go (same key g.value.key) (λ (e : value_at items key ≡ Some h). all_found p key items h parts.1 e) e
-  where
-    go : (b : Bool) → (value_at items key ≡ Some h → p h ≡ true) → cond b (Some g) (value_at items key) ≡ Some h → p h ≡ true
-    go true next e = let same_value : g ≡ h = cc in subst (λ (x : HeldValue). p x ≡ true) same_value (and_parts (p g) (list_all p items) all).0
-    go false next e = next e
-
 -- ---- without the key
 
 pub all-without_key : {A : Type 0} (p : A → Bool) (of : A → List ℕ) (key : List ℕ) (xs : List A) → list_all p xs ≡ true → list_all p (without_key of key xs) ≡ true

@@ -116,9 +116,6 @@ length-sorted (x ∷ xs) = length-put x (sorted xs) ∙ ap suc (length-sorted xs
 
 -- ---- live keys
 
-abbrev pub keys_of_live : Config → ℕ → List HeldValue → List (List ℕ)
-keys_of_live config now items = map (λ h. h.value.key) (filter (is_live_at config now) items)
-
 abbrev pub put_if : Bool → List ℕ → List (List ℕ) → List (List ℕ)
 put_if live key keys = if live then put_sorted key keys else keys
 

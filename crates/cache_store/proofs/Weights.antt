@@ -66,12 +66,3 @@ over_is config part items held a c =
     over-from config.capacity config part (map (λ (h : HeldValue). h.value) held) (weight_in part items) (weight-values part held ∙ same_weight part items held a c)
 
 -- ---- all parts
-
-all-plain : (held : List HeldValue) → sum_by (λ (h : HeldValue). h.value.weight) (map plain held) ≡ sum_by (λ (h : HeldValue). h.value.weight) held
-all-plain [] = refl
-all-plain (h ∷ held) =
-    sum_by-cons (λ (g : HeldValue). g.value.weight) (plain h) (map plain held) ∙ ap (λ n. h.value.weight + n) (all-plain held) ∙ sym (sum_by-cons (λ (g : HeldValue). g.value.weight) h held)
-
--- the values held weigh what the items do
-pub weight_is : (items held : List HeldValue) → are_apart items ≡ true → Corresponds items held → sum_by (λ (h : HeldValue). h.value.weight) held ≡ sum_by (λ (h : HeldValue). h.value.weight) items
-weight_is items held a c = sym (all-plain held) ∙ sym (sum_by-IsPermutation (λ (h : HeldValue). h.value.weight) (map plain held) items (permutation items held a c))

@@ -1,7 +1,7 @@
 -- Exact recency: the order of use in a store that evicts the least recently used value, over one part with a capacity of this many values,
 -- none of which a time ends.
-use Rattle.std.specs.Prelude.{◌≡◌, ℕ, suc, Bool, false, not, List, ◌∷◌, map, Option, Some, None, if◌then◌else◌, IsTrue, IsPermutation}
-use Rattle.std.specs.List.{list_any, filter}
+use Rattle.std.specs.Prelude.{◌≡◌, ℕ, suc, Bool, false, List, ◌∷◌, map, Some, None, if◌then◌else◌, IsPermutation}
+use Rattle.std.specs.List.{list_any}
 use Rattle.audit_model.specs.Bytewise.{same}
 use Rattle.audit_model.specs.History.{part_count}
 use Rattle.audit_model.specs.Recency.{keys_without}
