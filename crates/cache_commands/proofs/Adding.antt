@@ -1,6 +1,6 @@
 -- The steps of an `ADD`.
-use Rattle.std.proofs.Common.{◌≡◌, ℕ, ◌<◌, Bool, true, false, not, ◌&&◌, List, ◌++◌, map, Option, Some, None, if◌then◌else◌, refl, sym, ap, ◌∙◌, subst, arith}
-use Rattle.std.specs.Prelude.{codes, decimal, is_some, nat_lt, option_map, Result, Ok, Err, IfOk, OnOk}
+use Rattle.std.proofs.Common.{◌≡◌, ℕ, ◌<◌, Bool, true, false, not, ◌&&◌, List, ◌++◌, map, Option, Some, None, if◌then◌else◌, refl, sym, ap, ◌∙◌, subst}
+use Rattle.std.specs.Prelude.{codes, decimal, is_some, nat_lt, option_map, Result, Ok, Err, OnOk}
 use Rattle.std.proofs.lemmas.Bool.{lt-ltb}
 use Rattle.audit_model.specs.Bytewise.{text_line}
 use Rattle.audit_model.specs.Changes.{all_held_after}
@@ -13,36 +13,15 @@ use Rattle.audit_model.specs.declared.command.Command.TheVariants as says
 use Rattle.audit_model.specs.declared.config.Config.{Config}
 use Rattle.audit_model.specs.declared.transcript.Note.{Note}
 use Rattle.cache_store.specs.Promises.{Frame, Done, no_deed, using, accepting, value_for}
-use Rattle.cache_commands.specs.Right.{RepliesRightly, KeepsFrame}
+use Rattle.cache_commands.specs.Right.{RepliesRightly}
 use Rattle.cache_commands.specs.Sums.{sum_of_bytes}
 use Rattle.cache_commands.proofs.Answering.{said, undropped}
 
 -- ---- what is known of a result
 
--- of which the value is known
-pub if-is : {T E : Type 0} (r : Result T E) (v : T) (A : T → Type 0) → IfOk r (λ x. x ≡ v) → OnOk r (A v) → IfOk r A
-if-is (Ok x) v A is a = subst A (sym is) a
-if-is (Err e) v A is a = tt
-
-pub on-three : {T E : Type 0} (r : Result T E) (A B C D : Type 0) → OnOk r A → OnOk r B → OnOk r C → (A → B → C → D) → OnOk r D
-on-three (Ok x) A B C D a b c f = f a b c
-on-three (Err e) A B C D a b c f = tt
-
 pub on-both : {T E : Type 0} (r : Result T E) (A B C : Type 0) → OnOk r A → OnOk r B → (A → B → C) → OnOk r C
 on-both (Ok x) A B C a b f = f a b
 on-both (Err e) A B C a b f = tt
-
-pub on-one : {T E : Type 0} (r : Result T E) (A B : Type 0) → OnOk r A → (A → B) → OnOk r B
-on-one (Ok x) A B a f = f a
-on-one (Err e) A B a f = tt
-
-pub on-any : {T E : Type 0} (r : Result T E) (A : Type 0) → A → OnOk r A
-on-any (Ok x) A a = a
-on-any (Err e) A a = tt
-
--- the frame at a later moment
-pub keeps-frame : (old new : Frame) (now : ℕ) → new ≡ record old { latest = now } → KeepsFrame old new now
-keeps-frame old new now is = subst (λ f. KeepsFrame old f now) (sym is) (record { rest = refl; latest = omega arith })
 
 -- ---- the steps
 

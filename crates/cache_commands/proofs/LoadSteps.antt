@@ -61,11 +61,6 @@ found-load config s now key bytes old new Stands dropped Handed at found a = go 
     go None e some = let no : false ≡ true = some in cc
     go (Some v) e some = load-as-get config s key v old new Stands dropped Handed e a
 
--- no value was found, so there is none
-pub missed-live : (o : Option Value) → None ≡ option_map (λ (value : Value). value.bytes) o → o ≡ None
-missed-live None e = refl
-missed-live (Some v) e = let no : None ≡ Some v.bytes = e in cc
-
 -- ---- a `LOAD` that finds none
 
 -- where a key has no live value, to look it up does nothing

@@ -59,9 +59,6 @@ moves-fault config Old New fault = record { moves = λ n order plain agrees. tt 
 pub moves-add : (config : Config) (Old New : Recency) (key : List ℕ) (ms : Option ℕ) (added : ℕ) → MovesOrder config Old New (Ok (says.Add key ms added))
 moves-add config Old New key ms added = record { moves = λ n order plain agrees. tt }
 
-pub moves-clear : (config : Config) (Old New : Recency) → MovesOrder config Old New (Ok says.Clear)
-moves-clear config Old New = record { moves = λ n order plain agrees. tt }
-
 pub moves-drop : (config : Config) (Old New : Recency) (prefix : List ℕ) → MovesOrder config Old New (Ok (says.DropIf prefix))
 moves-drop config Old New prefix = record { moves = λ n order plain agrees. tt }
 

@@ -1,8 +1,8 @@
 -- Loads found by key and by connection: what a look-up finds, and that each number found stays one of a load under way.
-use Rattle.std.proofs.Common.{◌≡◌, ℕ, ◌<◌, ◌≤◌, Bool, true, false, not, ◌==◌, ◌&&◌, cond, List, [], ◌∷◌, map, Option, option_map, Some, None, refl, sym, ap, ◌∙◌, subst, arith, true≢false}
+use Rattle.std.proofs.Common.{◌≡◌, ℕ, ◌<◌, ◌≤◌, Bool, true, false, not, ◌==◌, cond, List, [], ◌∷◌, map, Option, option_map, Some, None, refl, sym, ap, ◌∙◌, subst, arith, true≢false}
 use Rattle.std.specs.Prelude.{nat_lt, is_some, All}
-use Rattle.std.specs.List.{AllByRecursion, filter, find}
-use Rattle.std.proofs.lemmas.Bool.{and_from, eq-eqb, eqb-true, not-true}
+use Rattle.std.specs.List.{AllByRecursion, filter}
+use Rattle.std.proofs.lemmas.Bool.{and_from, eq-eqb, eqb-true}
 use Rattle.std.proofs.lemmas.Bool.Decides.{nat_tests}
 use Rattle.std.proofs.lemmas.Option.{none-some, same_Some}
 use Rattle.audit_model.specs.Bytewise.{same}

@@ -1,11 +1,11 @@
-use Rattle.std.proofs.Common.{◌++◌, ◌∷◌, [], ℕ, refl, sym, ap, ◌∙◌, map}
+use Rattle.std.proofs.Common.{ℕ, sym, ap, ◌∙◌, map}
 use Rattle.std.specs.BTreeMap.{BTreeMap}
 use Rattle.std.specs.declared.cmp.Reverse.{Reverse}
 use Rattle.audit_model.specs.Situation.{PendingLoad}
 use Rattle.audit_loads.specs.Numbered.{changed_at}
 use Rattle.cache_commands.specs.Loads.Numbers.{loads_of}
 use Rattle.cache_commands.specs.declared.loads.load.Load.{Load}
-use Rattle.cache_commands.proofs.loads.Numbers.{changed-is, changed-kept, fails, follows, joined-kept, same-is, unchanged-is, with_one}
+use Rattle.cache_commands.proofs.loads.Numbers.{changed-is, fails, follows, joined-kept, same-is, unchanged-is, with_one}
 use Rattle.cache_commands.proofs.loads.numbered.Numbered.join.Goals as goal
 use Rattle.cache_commands.proofs.loads.numbered.Numbered.join.Goals.{in-Some, in-None}
 

@@ -1,4 +1,4 @@
-use Rattle.std.proofs.Common.{◌≡◌, ℕ, List, false, map, refl, sym, ap, ◌∙◌, subst}
+use Rattle.std.proofs.Common.{◌≡◌, List, false, map, refl, sym, ap, ◌∙◌, subst}
 use Rattle.std.specs.Prelude.{is_some}
 use Rattle.audit_model.specs.Situation.{PendingLoad, with_waiting}
 use Rattle.audit_loads.specs.Underway.{KeepsNumbers, load_of}
