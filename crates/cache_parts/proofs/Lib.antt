@@ -9,6 +9,7 @@ pub mod Running
 pub mod Leaving
 pub mod Accepting
 pub mod Syncing
+pub mod Quiet
 pub mod Looking
 pub mod Removing
 pub mod Resting

@@ -1,15 +1,11 @@
 -- What a look-up does.
-use Rattle.std.proofs.Common.{◌≡◌, ℕ, suc, ◌+◌, Bool, cond, true, false, true≢false, not, ◌&&◌, ◌||◌, List, [], ◌∷◌, ◌++◌, map, Option, option_map, Some, None, slice_get, refl, sym, ap, ◌∙◌, subst, arith, inl, inr, ◌⊎◌, append-nil}
+use Rattle.std.proofs.Common.{◌≡◌, ℕ, ◌+◌, Bool, cond, true, false, true≢false, not, ◌&&◌, ◌||◌, List, [], ◌∷◌, ◌++◌, map, Option, option_map, Some, None, slice_get, refl, sym, ap, ◌∙◌, subst, arith, inl, inr, append-nil}
 use Rattle.std.specs.Prelude.{◌==◌, if◌then◌else◌}
-use Rattle.std.specs.List.{find, list_all}
 use Rattle.std.proofs.lemmas.Option.{none-some}
 use Rattle.audit_model.specs.Bytewise.{same}
 use Rattle.audit_model.specs.Changes.{held_after, left_held, use_after}
 use Rattle.audit_model.specs.Commands.{Nothing}
-use Rattle.audit_model.specs.History.{Value}
-use Rattle.audit_model.specs.Notes.{are_true_notes, candidates_of, is_succeeded}
-use Rattle.audit_model.specs.Situation.{HeldValue, candidate_at, is_dead_at, is_live_at}
-use Rattle.audit_model.specs.View.{Candidate}
+use Rattle.audit_model.specs.Situation.{HeldValue, is_dead_at, is_live_at}
 use Rattle.audit_model.specs.declared.config.Config.{Config}
 use Rattle.audit_model.specs.declared.transcript.Note.{Note}
 use Rattle.engine_reference.specs.Calls.{with_read, used_entry}
@@ -23,7 +19,7 @@ use Rattle.engine_reference.proofs.SoundCalls.{held_at-only, held_at-each}
 use Rattle.engine_reference.specs.RunLaws.Points.{HasPoint, IsInOrder}
 use Rattle.engine_reference.proofs.HeldRecords.{record_at-number}
 use Rattle.engine_reference.proofs.run_laws.Fronting.{each-at}
-use Rattle.engine_reference.specs.RunLaws.Just.{ComesFrom, IsJust}
+use Rattle.engine_reference.specs.RunLaws.Just.{ComesFrom}
 use Rattle.engine_reference.proofs.run_laws.Shown.{entry-held, to-records, from-records, unmatched-changed, held_at-match, read-apart as kept_apart}
 use Rattle.cache_store.specs.Promises.{Done, using}
 use Rattle.cache_store.proofs.Steps.{none_succeeded, after_plain}
@@ -32,15 +28,12 @@ use Rattle.cache_store.proofs.Keys.{equal_from_same}
 use Rattle.cache_store.proofs.Held.{key_from_some}
 use Rattle.cache_store.proofs.Corresponding.{value_at-map, apart-map, left}
 use Rattle.cache_parts.specs.Parts.{Part, service_answers, note_from, held_of, value_of, items_of, with_part, AreMarked, Stands, drained}
-use Rattle.cache_parts.proofs.Accepting.{all-untold}
 use Rattle.cache_parts.proofs.Items.{AreParted, value_at-part, apart-of, corresponds_from}
-use Rattle.cache_parts.proofs.Joining.{Knows, fits_held, dead_from}
-use Rattle.cache_parts.proofs.Judging.{Judges, judged}
-use Rattle.cache_parts.proofs.Leaving.{AreOf, of-removals, left-elsewhere, find-candidates, in_part, marks_elsewhere}
-use Rattle.cache_parts.proofs.Marking.{no_point}
+use Rattle.cache_parts.proofs.Joining.{Knows, dead_from}
+use Rattle.cache_parts.proofs.Quiet.{marked_all, marked_mid, right}
 use Rattle.cache_parts.proofs.Running.{Ran}
-use Rattle.cache_parts.proofs.Swapping.{decides, away, parted-at, parted-with, with_part-there, with_part-other, value_at-elsewhere, corresponds-run}
-use Rattle.cache_parts.proofs.Telling.{Kept, notes_of, told_truly}
+use Rattle.cache_parts.proofs.Swapping.{decides, away, parted-at, parted-with, with_part-there, value_at-elsewhere, corresponds-run}
+use Rattle.cache_parts.proofs.Telling.{Kept, notes_of}
 use Rattle.cache_parts.proofs.Writing.{Rec, same_laws, found-at, unlike_other, all_units}
 
 -- ---- what a read changes
@@ -316,56 +309,15 @@ module _ {S : Type 0} (now : ℕ) (key : List ℕ) (hash : ℕ) (s mid : Part S)
                 unused true g = absurd (other (ap part_of (sym (key_from_some q xs h e) ∙ sym (equal_from_same key h.value.key g)) ∙ at_key ∙ sym zero_plus))
                 unused false g = ap (λ b. cond (b && is_live_at config now h) now h.last_use) g
 
-    abbrev before : List Candidate
-    before = map (candidate_at config now) held
-
-    pub right : are_true_notes config before (using key) (candidates_of config before (using key)) told ≡ true
-    right =
-        ap (are_true_notes config before (using key) (before ++ [])) (sym (append-nil told))
-        ∙ told_truly (Judges config (using key) before now s) config (using key) before (IsJust service_answers now s) (λ why x y j h. judged config (using key) before now s why x y j h)
-        r.removals [] (before ++ []) (held_entries s.records) (held_entries mid.records) apart_s
-        (fits_held config part_of made now part s parts held k stands.same (stands.marked part s k.there) (using key) [] (λ q e h g found. refl)) r.just r.takes
-        (all-untold (λ c. not (is_succeeded (using key) c)) told (before ++ []) (ap (list_all (λ c. not (is_succeeded (using key) c))) (append-nil before) ∙ none_succeeded config now (Some key) Nothing false held))
-
-    right_part : (q : List ℕ) (h : HeldValue) → value_at held q ≡ Some h → h.value.part ≡ part_of q
-    right_part q h found = in_part config part_of now parts held k.parted stands.same count q h found
-
-    right_found : (q : List ℕ) (v : Value) → find (λ (x : Value). same q x.key) (map (λ (x : Candidate). x.value) (candidates_of config before (using key))) ≡ Some v → v.part ≡ part_of q
-    right_found = find-candidates (candidate_at config now) (λ h. refl) held [] part_of right_part (λ q v found. absurd (none-some v found))
-
-    of : AreOf part_of part told
-    of = of-removals part_of part r.removals (held_entries s.records) (held_entries mid.records) apart_s (λ q x h. placed_s.1 q x h ∙ zero_plus) r.takes
-
-    marked_mid : AreMarked mid (map f xs)
-    marked_mid = by_run r.left
-      where
-        by_run : ((mid ≡ s) × (r.removals ≡ [])) ⊎ (mid.writes ≡ []) → AreMarked mid (map f xs)
-        by_run (inr nothing) = λ owner at held_now p h found. absurd (no_point mid.settings.capacity (map (λ u. u.write) mid.unsent) owner.number (subst (λ ws. HasPoint mid.settings.capacity ws (map (λ u. u.write) mid.unsent) owner.number) nothing p))
-        by_run (inl (is, gone)) =
-            subst (λ y. AreMarked y (map f xs)) (sym is)
-            (marks_elsewhere config part_of now parts held k.parted stands.same (using key) told (suc part) part s xs (map (λ (h : HeldValue). h.value) xs) refl (subst (λ rs. AreOf part_of (suc part) (notes_of rs)) (sym gone) tt)
-            (λ e. omega (arith, e)) k.there right_part right_found
-            (λ q at. ap (λ rs. value_at (left (notes_of rs) (held ++ [])) q) gone ∙ ap (λ ys. value_at ys q) (append-nil held))
-            (stands.marked part s k.there))
-
     -- A LOOK-UP DOES WHAT A STORE PROMISES
     pub look_up_does : Done config now (using key) held (Stands parts_new) (λ notes. notes ≡ map note_from mid.notices)
     look_up_does = record {
       told = told;
-      right = right;
-      left = record { same = corresponds_read; marked = λ j x there. go j x there (decides j part) };
+      right = right config part_of made now part s mid parts held k stands count apart_s r (Some key) None (λ q e h g found. refl) (none_succeeded config now (Some key) Nothing false held);
+      left = record {
+        same = corresponds_read;
+        marked = marked_all config part_of made now part s mid parts held k stands count apart_s r (Some key) None (drained read)
+            (read-marked (visible_record service_answers same s now key) (map f xs) (marked_mid config part_of made now part s mid parts held k stands count apart_s r (Some key) None));
+      };
       handed = sym (r.notices ∙ ap (λ ns. map note_from ns ++ told) taken);
     }
-      where
-        go : (j : ℕ) (x : Part S) → slice_get parts_new j ≡ Some x → Dec (j ≡ part) → AreMarked x (map f xs)
-        go j x there (yes is) =
-            let both : Some (drained read) ≡ Some x = sym (with_part-there part (drained read) s parts k.there) ∙ ap (slice_get parts_new) (sym is) ∙ there in
-            let one : drained read ≡ x = cc in
-            subst (λ y. AreMarked y (map f xs)) one (read-marked (visible_record service_answers same s now key) (map f xs) marked_mid)
-        go j x there (no other) =
-            marks_elsewhere config part_of now parts held k.parted stands.same (using key) told part j x xs (map (λ (h : HeldValue). h.value) xs) refl of other at_j right_part right_found
-            (λ q at. ap (λ ys. value_at (left told ys) q) (append-nil held) ∙ left-elsewhere part_of part told held q stands.same.apart of (λ e. other (sym at ∙ e)))
-            (stands.marked j x at_j)
-          where
-            at_j : slice_get parts j ≡ Some x
-            at_j = sym (with_part-other part j (drained read) parts other) ∙ there

@@ -1,36 +1,30 @@
 -- What a removal of a key does that is not there: nothing, or a run alone.
-use Rattle.std.proofs.Common.{◌≡◌, ℕ, suc, ◌+◌, Bool, cond, true, false, true≢false, not, ◌&&◌, List, [], ◌∷◌, ◌++◌, map, Option, option_map, Some, None, slice_get, refl, sym, ap, ◌∙◌, subst, arith, inl, inr, ◌⊎◌, append-nil}
-use Rattle.std.specs.List.{find, list_all}
+use Rattle.std.proofs.Common.{◌≡◌, ℕ, ◌+◌, Bool, cond, true, false, true≢false, not, ◌&&◌, List, [], ◌∷◌, ◌++◌, map, Option, option_map, Some, None, slice_get, refl, sym, ap, ◌∙◌, subst, arith, append-nil}
+use Rattle.std.specs.List.{list_all}
 use Rattle.std.proofs.lemmas.Bool.{and_from, and_parts}
 use Rattle.std.proofs.lemmas.Option.{none-some}
 use Rattle.audit_model.specs.Bytewise.{same}
 use Rattle.audit_model.specs.Changes.{held_after, left_held}
-use Rattle.audit_model.specs.History.{Value}
-use Rattle.audit_model.specs.Notes.{are_true_notes, candidates_of, is_succeeded}
+use Rattle.audit_model.specs.Notes.{is_succeeded}
 use Rattle.audit_model.specs.Situation.{HeldValue, candidate_at}
 use Rattle.audit_model.specs.View.{Candidate}
 use Rattle.audit_model.specs.declared.config.Config.{Config}
 use Rattle.audit_model.specs.declared.transcript.Note.{Note}
 use Rattle.engine_reference.specs.Records.{held_at, held_entries}
-use Rattle.engine_reference.specs.Telling.{entry_of, AreApart}
-use Rattle.engine_reference.specs.RunLaws.Points.{HasPoint}
+use Rattle.engine_reference.specs.Telling.{AreApart}
 use Rattle.engine_reference.proofs.run_laws.Shown.{entry-held}
 use Rattle.cache_store.specs.Promises.{Done, deleting}
 use Rattle.cache_store.proofs.Steps.{after_plain, corresponds-as}
 use Rattle.cache_store.specs.Held.{value_at, is_absent, plain, Corresponds}
 use Rattle.cache_store.proofs.Held.{absent_from_none}
 use Rattle.cache_store.proofs.Corresponding.{left}
-use Rattle.engine_reference.specs.RunLaws.Just.{IsJust}
-use Rattle.cache_parts.specs.Parts.{Part, service_answers, note_from, held_of, items_of, with_part, AreMarked, Stands, drained}
-use Rattle.cache_parts.proofs.Accepting.{all-untold}
+use Rattle.cache_parts.specs.Parts.{Part, note_from, held_of, items_of, with_part, Stands, drained}
 use Rattle.cache_parts.proofs.Items.{value_at-part}
-use Rattle.cache_parts.proofs.Joining.{Knows, fits_held}
-use Rattle.cache_parts.proofs.Judging.{Judges, judged}
-use Rattle.cache_parts.proofs.Leaving.{AreOf, of-removals, left-elsewhere, find-candidates, in_part, marks_elsewhere}
-use Rattle.cache_parts.proofs.Marking.{no_point}
+use Rattle.cache_parts.proofs.Joining.{Knows}
+use Rattle.cache_parts.proofs.Quiet.{marked_all, marked_mid, right}
 use Rattle.cache_parts.proofs.Running.{Maintained, Ran, ran_from}
-use Rattle.cache_parts.proofs.Swapping.{decides, parted-at, with_part-there, with_part-other, corresponds-run}
-use Rattle.cache_parts.proofs.Telling.{Kept, notes_of, told_truly}
+use Rattle.cache_parts.proofs.Swapping.{corresponds-run}
+use Rattle.cache_parts.proofs.Telling.{notes_of}
 
 -- a value that is held under another key is not deleted
 unlike-absent : (key q : List ℕ) (held : List HeldValue) (h : HeldValue) → is_absent key held ≡ true → value_at held q ≡ Some h → same key h.value.key ≡ false
@@ -66,9 +60,6 @@ module _ {S : Type 0} (config : Config) (part_of : List ℕ → ℕ) (made now :
   abbrev told : List Note
   told = notes_of r.removals
 
-  abbrev before : List Candidate
-  before = map (candidate_at config now) held
-
   abbrev xs : List HeldValue
   xs = left_held held (deleting key) told
 
@@ -80,9 +71,6 @@ module _ {S : Type 0} (config : Config) (part_of : List ℕ → ℕ) (made now :
 
   zero_plus : 0 + part ≡ part
   zero_plus = omega arith
-
-  placed : (q : List ℕ) (x : Kept) → entry_of same (held_entries s.records) q ≡ Some x → part_of q ≡ part
-  placed q x h = (parted-at part_of 0 part parts s k.parted k.there).1 q x h ∙ zero_plus
 
   absent : is_absent key held ≡ true
   absent = absent_from_none key held (go (value_at held key) refl)
@@ -96,58 +84,19 @@ module _ {S : Type 0} (config : Config) (part_of : List ℕ → ℕ) (made now :
       go None e = e
       go (Some h) e = absurd (none-some (plain h) (sym nothing ∙ ap (option_map plain) e))
 
-  right : are_true_notes config before (deleting key) (candidates_of config before (deleting key)) told ≡ true
-  right =
-      ap (are_true_notes config before (deleting key) (before ++ [])) (sym (append-nil told))
-      ∙ told_truly (Judges config (deleting key) before now s) config (deleting key) before (IsJust service_answers now s) (λ why x y j h. judged config (deleting key) before now s why x y j h)
-      r.removals [] (before ++ []) (held_entries s.records) (held_entries new.records) apart
-      (fits_held config part_of made now part s parts held k stands.same (stands.marked part s k.there) (deleting key) [] (λ q e h g found. no_and (same key g.value.key) (unlike-absent key q held g absent found))) r.just r.takes
-      (all-untold (λ c. not (is_succeeded (deleting key) c)) told (before ++ []) (ap (list_all (λ c. not (is_succeeded (deleting key) c))) (append-nil before) ∙ none_deleted config now key held absent))
-
   same_after : Corresponds (items_of 0 parts_new) (map f xs)
   same_after =
       corresponds-as f (items_of 0 parts_new) xs (λ h. refl) (λ q h found. after_plain config now held (deleting key) told (map (λ (h : HeldValue). h.value) xs) refl h refl)
       (subst (λ ys. Corresponds (items_of 0 parts_new) (left told ys)) (sym (append-nil held)) (corresponds-run part_of part s (drained new) parts held r.removals k.parted k.there r.takes r.cover stands.same))
 
-  right_part : (q : List ℕ) (h : HeldValue) → value_at held q ≡ Some h → h.value.part ≡ part_of q
-  right_part q h found = in_part config part_of now parts held k.parted stands.same count q h found
-
-  right_found : (q : List ℕ) (v : Value) → find (λ (x : Value). same q x.key) (map (λ (x : Candidate). x.value) (candidates_of config before (deleting key))) ≡ Some v → v.part ≡ part_of q
-  right_found = find-candidates (candidate_at config now) (λ h. refl) held [] part_of right_part (λ q v found. absurd (none-some v found))
-
-  of : AreOf part_of part told
-  of = of-removals part_of part r.removals (held_entries s.records) (held_entries new.records) apart placed r.takes
-
-  marked_here : AreMarked (drained new) (map f xs)
-  marked_here = by_run r.left
-    where
-      by_run : ((new ≡ s) × (r.removals ≡ [])) ⊎ (new.writes ≡ []) → AreMarked (drained new) (map f xs)
-      by_run (inr nothing) = λ owner at held_now p h found. absurd (no_point new.settings.capacity (map (λ u. u.write) new.unsent) owner.number (subst (λ ws. HasPoint new.settings.capacity ws (map (λ u. u.write) new.unsent) owner.number) nothing p))
-      by_run (inl (is, gone)) =
-          subst (λ y. AreMarked (drained y) (map f xs)) (sym is)
-          (marks_elsewhere config part_of now parts held k.parted stands.same (deleting key) told (suc part) part s xs (map (λ (h : HeldValue). h.value) xs) refl (subst (λ rs. AreOf part_of (suc part) (notes_of rs)) (sym gone) tt)
-          (λ e. omega (arith, e)) k.there right_part right_found
-          (λ q at. ap (λ rs. value_at (left (notes_of rs) (held ++ [])) q) gone ∙ ap (λ ys. value_at ys q) (append-nil held))
-          (stands.marked part s k.there))
-
   -- A REMOVAL OF A KEY THAT IS NOT THERE DOES WHAT A STORE PROMISES
   pub miss_does : Done config now (deleting key) held (Stands parts_new) (λ notes. notes ≡ map note_from new.notices)
   miss_does = record {
     told = told;
-    right = right;
-    left = record { same = same_after; marked = λ j x there. go j x there (decides j part) };
+    right = right config part_of made now part s new parts held k stands count apart r None (Some key) (λ q e h g found. no_and (same key g.value.key) (unlike-absent key q held g absent found)) (none_deleted config now key held absent);
+    left = record {
+      same = same_after;
+      marked = marked_all config part_of made now part s new parts held k stands count apart r None (Some key) (drained new) (marked_mid config part_of made now part s new parts held k stands count apart r None (Some key));
+    };
     handed = sym (r.notices ∙ ap (λ ns. map note_from ns ++ told) taken);
   }
-    where
-      go : (j : ℕ) (x : Part S) → slice_get parts_new j ≡ Some x → Dec (j ≡ part) → AreMarked x (map f xs)
-      go j x there (yes is) =
-          let both : Some (drained new) ≡ Some x = sym (with_part-there part (drained new) s parts k.there) ∙ ap (slice_get parts_new) (sym is) ∙ there in
-          let one : drained new ≡ x = cc in
-          subst (λ y. AreMarked y (map f xs)) one marked_here
-      go j x there (no other) =
-          marks_elsewhere config part_of now parts held k.parted stands.same (deleting key) told part j x xs (map (λ (h : HeldValue). h.value) xs) refl of other at_j right_part right_found
-          (λ q at. ap (λ ys. value_at (left told ys) q) (append-nil held) ∙ left-elsewhere part_of part told held q stands.same.apart of (λ e. other (sym at ∙ e)))
-          (stands.marked j x at_j)
-        where
-          at_j : slice_get parts j ≡ Some x
-          at_j = sym (with_part-other part j (drained new) parts other) ∙ there
