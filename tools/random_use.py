@@ -11,6 +11,8 @@
               and judged by `transcript audit`
     plays     random inputs with failing allocations through `transcript replay`, each transcript judged by
               `transcript audit`; allocations of the judge fail too, and it may then say only that
+    --rounds  how many rounds over a server: by default 40 of `sockets`, 10 for each kind of lie, and 4 of `turns`
+    --plays   how many plays: by default 10,000, and 200 with --lie
     --keep    a folder for transcripts that break a rule, and the inputs of such plays
     --lie     the server is `tools/lying_server.py`, and one in a thousand replies of the plays is changed: the
               run fails if no lie of a kind is detected
@@ -41,6 +43,7 @@ import time
 
 sys.path.insert(0, str(pathlib.Path(__file__).resolve().parent))
 from lying_server import HOST, KINDS, free_ports  # noqa: E402
+from refuse_allocations import Refuser  # noqa: E402
 
 ROOT = pathlib.Path(__file__).resolve().parent.parent
 CACHED = ROOT / "crates/cached/out/cached"
@@ -1271,28 +1274,6 @@ def inputs_of(draw, spaces=16, inputs=100):
     return "\n".join(heads), "\n".join(lines) + "\n"
 
 
-class Refuser:
-    """The library that refuses allocations of the program that loads it."""
-
-    def __init__(self, folder):
-        self.library, self.count = os.path.join(folder, "refuse_allocation.so"), os.path.join(folder, "count")
-        source = ROOT / "tools/refuse_allocation.c"
-        subprocess.run(["cc", "-shared", "-fPIC", "-O1", "-o", self.library, source], check=True)
-
-    def run(self, words, text, **how):
-        """Runs it so; answers what came, how many allocations it asked for, and how many were refused."""
-        if os.path.exists(self.count):
-            os.remove(self.count)
-        changed = {f"REFUSE_{word.upper()}": str(it) for word, it in how.items()}
-        changed.update(LD_PRELOAD=self.library, REFUSE_COUNT=self.count)
-        ran = subprocess.run(words, input=text, capture_output=True, env={**os.environ, **changed}, timeout=PATIENCE, check=False)
-        try:
-            asked, refused, _ = map(int, pathlib.Path(self.count).read_text().split())
-        except (OSError, ValueError):
-            asked, refused = 0, 0
-        return ran, asked, refused
-
-
 def namespaces_in(text):
     """The transcripts that a replay printed."""
     return [part.split("\n", 1)[1] for part in re.split(r"(?m)^namespace ", text)[1:]]
@@ -1324,7 +1305,8 @@ class Plays:
         self.wrong = []
 
     def replay(self, heads, made, lines, **how):
-        return self.refuser.run([self.program, "replay"], f"{heads}\nmade {made}\n{lines}".encode(), **how)
+        ran, (asked, refused, _) = self.refuser.run([self.program, "replay"], f"{heads}\nmade {made}\n{lines}".encode(), **how)
+        return ran, asked, refused
 
     def play(self, seed, lie=False):
         """Plays some namespaces with memory refused now and then, and judges each."""
@@ -1374,7 +1356,7 @@ class Plays:
 
     def judge_without_memory(self, seed, number, text, draw):
         """The judge without memory says so, or the same verdict."""
-        ran, _, _ = self.refuser.run([self.program, "audit"], text.encode(), **{"from": draw.randrange(200), "to": 1 << 40}, one_in=draw.choice([1, 30, 300]), seed=seed)
+        ran, _ = self.refuser.run([self.program, "audit"], text.encode(), **{"from": draw.randrange(200), "to": 1 << 40}, one_in=draw.choice([1, 30, 300]), seed=seed)
         if (ran.returncode, ran.stdout, ran.stderr) not in ((0, b"verdict yes\n", b""), (1, b"", b"transcript: out of memory\n")):
             self.wrong.append(f"seed {seed}, namespace {number}: without memory the judge says {ran.returncode} {ran.stdout!r} {ran.stderr!r}")
 
@@ -1445,7 +1427,8 @@ def run_plays(program, wanted, seed, lie):
 
 
 def main():
-    words = argparse.ArgumentParser(description=__doc__, formatter_class=argparse.RawDescriptionHelpFormatter)
+    words = argparse.ArgumentParser(description=__doc__, formatter_class=argparse.RawDescriptionHelpFormatter, add_help=False)
+    words.add_argument("-h", "--help", action="help", help=argparse.SUPPRESS)
     words.add_argument("parts", nargs="*", choices=("sockets", "turns", "plays", []), help=argparse.SUPPRESS)
     words.add_argument("--seed", type=int, default=1, help=argparse.SUPPRESS)
     words.add_argument("--rounds", type=int, help=argparse.SUPPRESS)

@@ -1,6 +1,6 @@
 """Tries wrong bodies: edits of a crate's code that the prover has to refuse.
 
-usage: python3 tools/wrong_bodies.py [--jobs N] [--anew] [--list] [CRATE | CRATE/NAME ..]     with `rt` on the path; without a name, all
+    python3 tools/wrong_bodies.py [--jobs N] [--anew] [--list] [CRATE | CRATE/NAME ..]     with `rt` on the path; without a name, all
 
 It tries the bodies in tools/wrong_bodies/CRATE, and those in crates/CRATE/must-fail, which the gate tries too. Both
 have the same form: a line `file: PATH`, then pairs of lines `old: TEXT` and `new: TEXT`; TEXT occurs once in the file.
@@ -13,15 +13,16 @@ body has a row as soon as it was tried, with the seconds that it took:
   goal      refused at a goal: a contract is not met
   name      refused because a proof names something that the body removed: this says little about the contract
   PASSED    the crate is proved with it: the contract is too weak
-  BAD       it cannot be applied, or the check ended without a verdict
+  BAD       it cannot be applied, or the check ended without a verdict, or not within an hour
 
 Results are kept in out/wrong_bodies, by a checksum of the body, of its crate and the crates below it, and of the kit.
 So an interrupted run continues where it stopped; a row that was kept says so in place of the seconds. `--anew` tries
 all again, `--list` tries none and lists those that would be tried. BAD is not kept.
 
-At the end there is a table by crate, and a last line with the sums. The status is 0 if each body is refused.
+At the end there is a table by crate, and a last line with the sums. The status is 0 if each body was tried, and is refused.
 """
 
+import argparse
 import collections
 import functools
 import hashlib
@@ -39,6 +40,8 @@ ROOT = os.path.dirname(os.path.dirname(os.path.abspath(__file__)))
 BODIES = os.path.join(ROOT, "tools", "wrong_bodies")
 KEPT = os.path.join(ROOT, "out", "wrong_bodies")
 WORDS = ("goal", "name", "PASSED", "BAD")
+# How long a check may take.
+SECONDS = 3600
 # What a proof says that names something which is gone.
 LOST_NAME = re.compile(r"(\./)?proofs/.*(has no field|is not in scope|has no `|was not admitted)")
 
@@ -179,6 +182,14 @@ def verdict(status, said, changed):
     return "goal", first[:160]
 
 
+def link_or_copy(source, to):
+    """Links a file, or copies it where that is on another device."""
+    try:
+        os.link(source, to)
+    except OSError:
+        shutil.copy2(source, to)
+
+
 class Lane:
     """A copy of the tree, in which bodies are tried one after another."""
 
@@ -194,7 +205,7 @@ class Lane:
                     shutil.copytree(os.path.join(source, part), os.path.join(to, part))
             # (a library is read, and not written, as long as its text is the same)
             if os.path.isdir(os.path.join(source, "out", "rlib")):
-                shutil.copytree(os.path.join(source, "out", "rlib"), os.path.join(to, "out", "rlib"), copy_function=os.link)
+                shutil.copytree(os.path.join(source, "out", "rlib"), os.path.join(to, "out", "rlib"), copy_function=link_or_copy)
 
     def kept(self, crate):
         """Copies what checks of the crate kept, once."""
@@ -236,7 +247,11 @@ class Lane:
     @staticmethod
     def check(folder, names):
         words = [word for name in sorted(names) for word in ("--only", name)]
-        ran = subprocess.run(["rt", "check", "--jobs", "1", *words], cwd=folder, stdin=subprocess.DEVNULL, stdout=subprocess.PIPE, stderr=subprocess.STDOUT, text=True, errors="replace", check=False)
+        how = {"stdin": subprocess.DEVNULL, "stdout": subprocess.PIPE, "stderr": subprocess.STDOUT, "text": True, "errors": "replace"}
+        try:
+            ran = subprocess.run(["rt", "check", "--jobs", "1", *words], cwd=folder, timeout=SECONDS, check=False, **how)
+        except subprocess.TimeoutExpired:
+            return 1, f"error: no verdict within {SECONDS} s"
         return ran.returncode, ran.stdout
 
     @staticmethod
@@ -280,19 +295,13 @@ def chosen(names):
 
 
 def read_words():
-    """The names, how many run side by side, whether what was kept counts, and whether bodies are only listed."""
-    words, jobs, anew, only_list = sys.argv[1:], os.cpu_count(), False, False
-    while words and words[0].startswith("-"):
-        if words[0] == "--jobs" and len(words) > 1 and words[1].isdigit():
-            jobs = max(1, int(words.pop(1)))
-        elif words[0] == "--anew":
-            anew = True
-        elif words[0] == "--list":
-            only_list = True
-        else:
-            sys.exit(__doc__)
-        words.pop(0)
-    return {*words}, jobs, anew, only_list
+    words = argparse.ArgumentParser(description=__doc__, formatter_class=argparse.RawDescriptionHelpFormatter, add_help=False)
+    words.add_argument("-h", "--help", action="help", help=argparse.SUPPRESS)
+    words.add_argument("--jobs", type=int, default=os.cpu_count(), help=argparse.SUPPRESS)
+    words.add_argument("--anew", action="store_true", help=argparse.SUPPRESS)
+    words.add_argument("--list", action="store_true", help=argparse.SUPPRESS)
+    words.add_argument("names", nargs="*", help=argparse.SUPPRESS)
+    return words.parse_args()
 
 
 def known_of(found, kept, told):
@@ -327,14 +336,16 @@ def summed(told):
 
 
 def main():
-    names, jobs, anew, only_list = read_words()
-    found = chosen(names)
-    if not found:
-        sys.exit("no such wrong body")
+    words = read_words()
+    found = chosen(words.names)
+    there = {name for crate, bodies in found for name in (crate, *(f"{crate}/{body}" for body, _ in bodies))}
+    if not found or not there.issuperset(words.names):
+        sys.exit(f"no such wrong body: {' '.join(it for it in words.names if it not in there)}")
     wanted, told, lock, kept = queue.Queue(), {}, threading.Lock(), Kept()
-    if not anew:
+    count = sum(len(bodies) for _, bodies in found)
+    if not words.anew:
         found = known_of(found, kept, told)
-    if only_list:
+    if words.list:
         for crate, bodies in found:
             for name, _ in bodies:
                 show(crate, name, "-", "", "to try")
@@ -343,12 +354,15 @@ def main():
     for crate, bodies in sorted(found, key=lambda it: -len(it[1])):
         for at in range(0, len(bodies), 8):
             wanted.put((crate, bodies[at:at + 8]))
-    lanes = [threading.Thread(target=work, args=(wanted, told, lock, kept)) for _ in range(min(jobs, wanted.qsize()))]
+    lanes = [threading.Thread(target=work, args=(wanted, told, lock, kept)) for _ in range(min(max(1, words.jobs), wanted.qsize()))]
     for lane in lanes:
         lane.start()
     for lane in lanes:
         lane.join()
-    return summed(told)
+    status = summed(told)
+    if len(told) < count:
+        print(f"{count - len(told)} were not tried")
+    return 1 if len(told) < count else status
 
 
 if __name__ == "__main__":
