@@ -4,8 +4,10 @@
 //   REFUSE=N REFUSE_OWN=FILE        the Nth and all that follow, until code of the tests runs again: FILE has the places of that code,
 //                                   a line `LOW HIGH` each, in hex, as they stand in the program's file
 //   REFUSE_FROM=A REFUSE_TO=B REFUSE_ONE_IN=K REFUSE_SEED=S      one of K, drawn, from the Ath to the one before the Bth
+//   REFUSE_BETWEEN=1                all between two requests for blocks of certain sizes, 20,011 and then 20,012 bytes, and these two
 //   REFUSE_MARK=FILE                is made at the first refusal
-//   REFUSE_COUNT=FILE               has, at the end, how many were asked for, how many refused, and of these how many behind the first
+//   REFUSE_COUNT=FILE               has, at the end, how many were asked for, how many refused, and of these how many behind the first;
+//                                   with REFUSE_BETWEEN, how many were refused but for those two, and how often there were these
 //
 // It steps through the program, an instruction at a time, between a refusal and the tests' own code (x86-64).
 #define _GNU_SOURCE
@@ -30,8 +32,10 @@ extern void *__libc_calloc(size_t, size_t);
 extern void *__libc_memalign(size_t, size_t);
 #define STEPS 0x100
 #define MOST_PLACES 65536
+#define FIRST_SIZE 20011
+#define LAST_SIZE 20012
 static uintptr_t base, low, high;
-static long wanted, from, to, one_in, seed;
+static long wanted, from, to, one_in, seed, between;
 static atomic_long count, refused, following;
 static atomic_int refuses_all;
 static struct { uintptr_t low, high; } places[MOST_PLACES];
@@ -111,6 +115,7 @@ static long number_of(const char *name) {
 __attribute__((constructor)) static void start(void) {
   dl_iterate_phdr(visit, 0);
   from = number_of("REFUSE_FROM"), to = number_of("REFUSE_TO"), one_in = number_of("REFUSE_ONE_IN"), seed = number_of("REFUSE_SEED");
+  between = number_of("REFUSE_BETWEEN");
   if (getenv("REFUSE_OWN")) read_places(getenv("REFUSE_OWN"));
   atomic_store(&count, 0);
   wanted = number_of("REFUSE");
@@ -146,10 +151,27 @@ static int is_drawn(uint64_t number) {
   return (it ^ (it >> 31)) % one_in == 0;
 }
 
-static int refuses(void *caller) {
+// Whether a request of this size lies between the two, or is one of them.
+static int is_between(size_t size) {
+  if (size == FIRST_SIZE) {
+    refuses_all = 1;
+    return 1;
+  }
+  if (!refuses_all) return 0;
+  atomic_fetch_add(size == LAST_SIZE ? &following : &refused, 1);
+  refuses_all = size != LAST_SIZE;
+  return 1;
+}
+
+static int refuses(void *caller, size_t size) {
   uintptr_t at = (uintptr_t)caller;
   if (at < low || at >= high) return 0;
   long number = atomic_fetch_add(&count, 1) + 1;
+  if (between) {
+    if (!is_between(size)) return 0;
+    errno = ENOMEM;
+    return 1;
+  }
   int is_first = number == wanted;
   if (!is_first && !refuses_all && !(one_in > 0 && number >= from && number < to && is_drawn(number))) return 0;
   if (atomic_fetch_add(&refused, 1) == 0) mark();
@@ -164,11 +186,11 @@ static int refuses(void *caller) {
   return 1;
 }
 
-void *malloc(size_t n) { return refuses(__builtin_return_address(0)) ? 0 : __libc_malloc(n); }
-void *realloc(void *p, size_t n) { return refuses(__builtin_return_address(0)) ? 0 : __libc_realloc(p, n); }
-void *calloc(size_t m, size_t n) { return refuses(__builtin_return_address(0)) ? 0 : __libc_calloc(m, n); }
+void *malloc(size_t n) { return refuses(__builtin_return_address(0), n) ? 0 : __libc_malloc(n); }
+void *realloc(void *p, size_t n) { return refuses(__builtin_return_address(0), n) ? 0 : __libc_realloc(p, n); }
+void *calloc(size_t m, size_t n) { return refuses(__builtin_return_address(0), m * n) ? 0 : __libc_calloc(m, n); }
 int posix_memalign(void **out, size_t a, size_t n) {
-  if (refuses(__builtin_return_address(0))) return ENOMEM;
+  if (refuses(__builtin_return_address(0), n)) return ENOMEM;
   void *p = __libc_memalign(a, n); if (!p) return ENOMEM; *out = p; return 0;
 }
-void *aligned_alloc(size_t a, size_t n) { return refuses(__builtin_return_address(0)) ? 0 : __libc_memalign(a, n); }
+void *aligned_alloc(size_t a, size_t n) { return refuses(__builtin_return_address(0), n) ? 0 : __libc_memalign(a, n); }

@@ -2,6 +2,7 @@
 """Runs tests with failing allocations, and the programs on their stored runs. Each has to end as it does with enough memory.
 
     python3 tools/refuse_allocations.py [--folder FOLDER] [--way alone | following] [--jobs N] [--most N] [CRATE [WORD]]
+    python3 tools/refuse_allocations.py --between [--folder FOLDER] [CRATE [WORD]]
 
 Without a CRATE it runs all crates of tests that `rt test` (or the gate) has built under FOLDER, by default this repository, and the
 programs that `rt run` left there; a CRATE is one of them. WORD: only tests whose names contain it.
@@ -12,7 +13,8 @@ There are two ways. In each, the first allocation of a test fails, in the next r
     following    that one fails, and all that follow until code of the tests runs again: a call that is refused gets no memory
                  while it returns, and the second try of the test gets all. In the programs, all to the end
 
-In a test with more allocations than --most (by default 2,000), this many are tried, spread evenly.
+In a test with more allocations than --most (by default 2,000), this many are tried, spread evenly. --jobs tests run side by side, by
+default as many as there are processors.
 
 A test has to pass each time: it tries again what was refused. Tests that do not, by their nature, are listed in SECOND_TRY_LACKS
 with the reason; they are reported and not run. A program has to end with status 0 and the right texts, or with status 1 and a text on
@@ -20,6 +22,11 @@ standard error, and then what it wrote is a prefix of the right replies.
 
 The table has a row for each crate: its tests, the number of failing allocations (after a `+` those that followed), and how many
 tests failed. The status is 0 if none did, and in each crate some allocation was refused.
+
+With --between it runs only the tests of modules `without_memory`, each once, in seconds. Such a test says where it needs no memory,
+by asking for two blocks of certain sizes, and all that is asked for between them is refused. It has to pass, and to ask for them. A
+row for each crate: its tests, how many requests were refused beside those, and how many tests failed. The status is 0 if there are
+tests, and none failed.
 """
 import argparse
 import collections
@@ -36,6 +43,8 @@ ROOT = pathlib.Path(__file__).resolve().parent.parent
 PROGRAMS = {"cached": "--script", "transcript": "audit"}
 WAYS = ("alone", "following")
 SECONDS = 120
+# The module of a crate in which tests say where they need no memory.
+WITHOUT = "without_memory::"
 # Tests that take no second try, by crate and the beginning of their names: why.
 SECOND_TRY_LACKS = {}
 
@@ -135,12 +144,39 @@ def lacks_second_try(crate, name):
     return next((why for (of, begin), why in SECOND_TRY_LACKS.items() if of == crate and name.startswith(begin)), None)
 
 
+def programs_of_tests(folder, crate):
+    """The programs that lie there, by their crates of tests; that of one crate, if there is one."""
+    programs = {program.parent.parent.name: program for program in sorted(folder.glob("crates/*_tests/out/*_tests"))}
+    return {of: program for of, program in programs.items() if program.name == of + "_tests" and crate in (None, of)}
+
+
+def run_between(words, scratch):
+    """Runs the tests that say where they need no memory; answers whether there are some, and none failed."""
+    refuser, ran, failed = Refuser(scratch), 0, 0
+    print(f"{'crate':20} {'tests':>5} {'refused':>8} {'failed':>6}", flush=True)
+    for crate, program in programs_of_tests(words.folder, words.crate).items():
+        below, all_refused = [], 0
+        names = [name for name in tests_of(program, words.word) if name.startswith(WITHOUT)]
+        for name in names:
+            ended, (_, refused, asked) = refuser.run([program, name], between=1)
+            all_refused += refused
+            if ended.returncode != 0:
+                below.append(f"    {name}: {cause_of(ended)}")
+            elif asked == 0:
+                below.append(f"    {name}: it does not say where it needs no memory")
+        if names:
+            print("\n".join([f"{crate:20} {len(names):>5} {all_refused:>8} {len(below):>6}", *below]), flush=True)
+        ran, failed = ran + len(names), failed + len(below)
+    if not ran:
+        print(f"under {words.folder} no such test is built", flush=True)
+    return ran > 0 and failed == 0
+
+
 class Table:
     """Rows, one a crate."""
 
     def __init__(self, words, folder):
         self.words, self.refuser, self.failed = words, Refuser(folder), 0
-        self.out = pathlib.Path(words.folder)
         self.ways = [words.way] if words.way else list(WAYS)
         head = "".join(f"{way:>20} {'failed':>6}" for way in self.ways)
         print(f"{'crate':20} {'tests':>5} {'lack':>4}{head}", flush=True)
@@ -201,18 +237,16 @@ class Table:
 
     def run(self):
         found = False
-        for program in sorted(self.out.glob("crates/*_tests/out/*_tests")):
-            crate = program.parent.parent.name
-            if program.name == crate + "_tests" and self.words.crate in (None, crate):
-                found = True
-                self.tests(crate, program)
+        for crate, program in programs_of_tests(self.words.folder, self.words.crate).items():
+            found = True
+            self.tests(crate, program)
         for crate in PROGRAMS:
-            program = self.out / "crates" / crate / "out" / crate
+            program = self.words.folder / "crates" / crate / "out" / crate
             if program.is_file() and self.words.crate in (None, crate):
                 found = True
                 self.program(crate, program)
         if not found:
-            sys.exit(f"under {self.out} nothing is built: `rt test` in a crate of tests leaves its program in the crate's out/")
+            sys.exit(f"under {self.words.folder} nothing is built: `rt test` in a crate of tests leaves its program in the crate's out/")
 
 
 def lacking_by_reason(lacking):
@@ -229,10 +263,14 @@ def main():
     words.add_argument("--way", choices=WAYS, help=argparse.SUPPRESS)
     words.add_argument("--jobs", type=int, default=os.cpu_count(), help=argparse.SUPPRESS)
     words.add_argument("--most", type=int, default=2000, help=argparse.SUPPRESS)
+    words.add_argument("--between", action="store_true", help=argparse.SUPPRESS)
     words.add_argument("crate", nargs="?", help=argparse.SUPPRESS)
     words.add_argument("word", nargs="?", default="", help=argparse.SUPPRESS)
+    words = words.parse_args()
     with tempfile.TemporaryDirectory(prefix="refusals-") as folder:
-        table = Table(words.parse_args(), folder)
+        if words.between:
+            sys.exit(0 if run_between(words, folder) else 1)
+        table = Table(words, folder)
         table.run()
     sys.exit(1 if table.failed else 0)
 
