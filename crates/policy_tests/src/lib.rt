@@ -17,3 +17,5 @@ mod texts;
 mod timers;
 #[cfg(test)]
 mod uses;
+#[cfg(test)]
+mod without_memory;

@@ -12,7 +12,7 @@ const TICK: u64 = 1073741824;
 
 /// Entries, and their timers.
 #[derive(Drop)]
-struct Timers {
+pub struct Timers {
     alloc: Global,
     entries: Slab<Slot<u8>>,
     wheel: TimerWheel<u8>,
@@ -56,7 +56,7 @@ enum Act {
     PopFirst,
 }
 
-fn new_timers(alloc: Global) -> Timers {
+pub fn new_timers(alloc: Global) -> Timers {
     let mut wheel = TimerWheel::new(alloc, Instant::from_nanos(0));
     wheel.enable();
     Timers {
@@ -138,7 +138,7 @@ fn is_expired(event: Option<TimerEvent>) -> bool {
 }
 
 /// Schedules at the thousandth tick, at the one before it, and so on to the first.
-fn schedule_thousand(timers: &mut Timers) -> bool {
+pub fn schedule_thousand(timers: &mut Timers) -> bool {
     for k in 0..1000u64 {
         if !schedule(timers, (1000 - k) * TICK) {
             return false;
@@ -179,7 +179,7 @@ fn expires_often(timers: &mut Timers, now: u64, times: u32) -> bool {
 }
 
 /// Whether at each tick of a thousand one timer expires, and no other.
-fn expires_at_each_tick(timers: &mut Timers) -> bool {
+pub fn expires_at_each_tick(timers: &mut Timers) -> bool {
     for tick in 1..1001u64 {
         if !is_expired(next_event(timers, tick * TICK))
             || next_event(timers, tick * TICK).is_some()
