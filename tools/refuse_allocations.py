@@ -176,7 +176,7 @@ class Table:
     """Rows, one a crate."""
 
     def __init__(self, words, folder):
-        self.words, self.refuser, self.failed = words, Refuser(folder), 0
+        self.words, self.refuser, self.failed, self.ran = words, Refuser(folder), 0, 0
         self.ways = [words.way] if words.way else list(WAYS)
         head = "".join(f"{way:>20} {'failed':>6}" for way in self.ways)
         print(f"{'crate':20} {'tests':>5} {'lack':>4}{head}", flush=True)
@@ -192,6 +192,7 @@ class Table:
             below += [f"    {way}: {name} {it.told()}" for name, it in failed]
             below += [f"    {way}: no allocation was refused"] if of and not refused else []
             self.failed += len(failed) + (1 if of and not refused else 0)
+        self.ran += tests
         print(f"{crate:20} {tests:>5} {len(lacking):>4}{cells}", flush=True)
         for why, names in lacking_by_reason(lacking):
             print(f"    no second try: {', '.join(names)}: {why}")
@@ -247,6 +248,8 @@ class Table:
                 self.program(crate, program)
         if not found:
             sys.exit(f"under {self.words.folder} nothing is built: `rt test` in a crate of tests leaves its program in the crate's out/")
+        if not self.ran:
+            sys.exit(f"no test has {self.words.word} in its name")
 
 
 def lacking_by_reason(lacking):
