@@ -1,14 +1,20 @@
 -- An array of places that an index leaves and that one comes to.
-use Rattle.std.proofs.Common.{◌≡◌, ◌≢◌, ℕ, ◌+◌, ◌-◌, ◌/◌, ◌^◌, ◌<◌, ◌≤◌, true, false, List, [], ◌∷◌, ◌++◌, length, get_or, set, take, drop, replicate, min, Some, None, refl, sym, ap, ◌∙◌, inl, inr, arith, subst}
+use Rattle.std.proofs.Common.{◌≡◌, ◌≢◌, ℕ, zero, suc, ◌+◌, ◌-◌, ◌/◌, ◌^◌, ◌<◌, ◌≤◌, true, false, List, [], ◌∷◌, ◌++◌, length, get_or, set, take, drop, replicate, min, Some, None, refl, sym, ap, ◌∙◌, inl, inr, arith, subst}
 use Rattle.std.proofs.lemmas.Bool.{cases_lt, cases_eq, true≢false, cond-true, cond-false, lt-ltb, le-ltb}
 use Rattle.std.proofs.lemmas.List.{get_or_past, get_or-set_same, get_or-set_other, get_or_append_left, get_or-append_right, get_or-replicate, append-nil, drop_all, length_push, length-set, length-append, length-replicate}
 use Rattle.policy_queue.specs.declared.index_queue.Cursors.{Cursors}
 use Rattle.policy_queue.specs.Queue.{head, tail, final}
 use Rattle.policy_queue.specs.Indices.{Indices, vacant, order, Lacks, has_index, without_index, from_index, index_moved_to_back, AreSeated, AreArranged, Ends, EndsBut, IsGap, IsSeatedAt, IsCutShort, Trims, indices_for}
-use Rattle.policy_queue.proofs.Order.{within, order_at, order_drop_some, order_drop_front, order_emptied, order_skip, length-emptied, Lacks-order}
+use Rattle.policy_queue.proofs.Order.{within, order_at, order_drop_some, order_drop_front, order_emptied, order_skip, order_push, Lacks-order}
 use Rattle.policy_queue.proofs.Listed.{without_at, from_at}
 use Rattle.policy_queue.proofs.Seats.{seated_alike, seated_emptied, seated_pushed, has_seat, has_seated, has_unseated, apart_front}
 use Rattle.policy_queue.proofs.Ends.{Ends-emptied, Ends-push, order_last, final-push}
+
+-- of two writes of a seat the second stays
+set_again : (ss : List ℕ) (x a b : ℕ) → set (set ss x a) x b ≡ set ss x b
+set_again [] x a b = refl
+set_again (s ∷ ss) zero a b = refl
+set_again (s ∷ ss) (suc x) a b = ap (λ r. s ∷ r) (set_again ss x a b)
 
 pub no_gap : (ps : List ℕ) → IsGap ps 0 0
 no_gap ps = record { empty = λ k low lt. absurd (omega arith); ordered = omega arith; within = λ lt. absurd (omega arith) }
@@ -76,7 +82,7 @@ module _ (ps ss : List ℕ) (cs : Cursors) (x k : ℕ) (h : AreArranged ps ss cs
   pub arranged_fronted : (g : ℕ) → Ends (set ps k vacant) g → AreArranged (set ps k vacant) (set ss x vacant) (record { front = g; carried = cs.carried; unread = cs.unread })
   arranged_fronted g ends = record { seated = left_seated; ends = ends; gap = left_gap; fits = let fits = h.fits in omega (arith, len_left); few = few_left }
 
-  pub order_left : order (set ps k vacant) ≡ order (take k ps) ++ order (drop (k + 1) ps)
+  order_left : order (set ps k vacant) ≡ order (take k ps) ++ order (drop (k + 1) ps)
   order_left = order_emptied ps k within_at
 
   order_there : order ps ≡ order (take k ps) ++ x ∷ order (drop (k + 1) ps)
@@ -85,23 +91,32 @@ module _ (ps ss : List ℕ) (cs : Cursors) (x k : ℕ) (h : AreArranged ps ss cs
   apart_there : Lacks x (order (take k ps))
   apart_there = subst (λ i. Lacks i (order (take k ps))) at.place (apart_front ps ss h.seated k taken_at)
 
-  pub without_there : without_index x (order ps) ≡ order (take k ps) ++ order (drop (k + 1) ps)
+  without_there : without_index x (order ps) ≡ order (take k ps) ++ order (drop (k + 1) ps)
   without_there = ap (without_index x) order_there ∙ without_at x _ _ apart_there
+
+  pub left_without : order (set ps k vacant) ≡ without_index x (order ps)
+  left_without = order_left ∙ sym without_there
 
   pub behind_there : tail (from_index x (order ps)) ≡ order (drop (k + 1) ps)
   behind_there = ap (λ r. tail (from_index x r)) order_there ∙ ap tail (from_at x _ _ apart_there)
 
-  pub length-left : length (order (take k ps) ++ order (drop (k + 1) ps)) + 1 ≡ length (order ps)
-  length-left = length-emptied ps k taken_at
-
-  -- the index lacks a seat then
-  pub lacks_left : (qs : List ℕ) → order qs ≡ order (take k ps) ++ order (drop (k + 1) ps) → Lacks x (order qs)
-  lacks_left qs e = subst (Lacks x) (order_left ∙ sym e) (Lacks-order (set ps k vacant) x (λ j some same. elim (cases_eq j k) [
+  -- the index is gone then
+  lacks_left : Lacks x (order (set ps k vacant))
+  lacks_left = Lacks-order (set ps k vacant) x (λ j some same. elim (cases_eq j k) [
     | inl here ↦ some (ap (λ i. get_or (set ps k vacant) i vacant) here ∙ get_or-set_same ps k vacant vacant within_at)
     | inr other ↦
         let was = get_or-set_other ps k j vacant vacant other in
         other (sym (h.seated.placed j (λ f. some (was ∙ f))) ∙ ap (λ i. get_or ss i vacant) (sym was ∙ same) ∙ at.seat)
-  ]))
+  ])
+
+  -- and comes to the back
+  pub arranged_moved : (g : ℕ) → Ends (set ps k vacant) g → x < length ss → length ps < 2 ^ 32 - 1 → AreArranged (set ps k vacant ++ x ∷ []) (set ss x (length (set ps k vacant))) (record { front = g; carried = cs.carried; unread = cs.unread })
+  arranged_moved g ends bound room =
+      let ds : Cursors = record { front = g; carried = cs.carried; unread = cs.unread } in
+      subst (λ (ts : List ℕ). AreArranged (set ps k vacant ++ x ∷ []) ts ds) (set_again ss x vacant (length (set ps k vacant))) (arranged_pushed (set ps k vacant) (set ss x vacant) ds x (arranged_fronted g ends) lacks_left (omega (arith, length-set ss x vacant)) (omega (arith, len_left)))
+
+  pub order_moved : order (set ps k vacant ++ x ∷ []) ≡ index_moved_to_back x (order ps)
+  order_moved = order_push (set ps k vacant) x at.named ∙ ap (λ r. r ++ x ∷ []) left_without
 
   -- the last index is at the back already
   pub moved_last : length ps ≤ k + 1 → index_moved_to_back x (order ps) ≡ order ps
@@ -123,8 +138,8 @@ module _ (ps ss : List ℕ) (cs : Cursors) (h : AreArranged ps ss cs) where
   pub seat_there : (x : ℕ) → has_index x (order ps) ≡ true → x < length ss
   seat_there x has = within ss x (seat_taken x has)
 
-  pub seated_there : (x : ℕ) → has_index x (order ps) ≡ true → IsSeatedAt ps ss x (get_or ss x vacant)
-  seated_there x has = has_seat ps ss h.seated x h.few (seat_taken x has)
+  pub seated_there : (x k : ℕ) → has_index x (order ps) ≡ true → k ≡ get_or ss x vacant → IsSeatedAt ps ss x k
+  seated_there x k has e = subst (λ j. IsSeatedAt ps ss x j) (sym e) (has_seat ps ss h.seated x h.few (seat_taken x has))
 
   pub head_front : 0 < length ps → head (order ps) ≡ Some (get_or ps cs.front vacant)
   head_front some = ap head (sym (order_drop_front ps cs.front h.ends.before) ∙ order_drop_some ps cs.front (h.ends.first some).1)
@@ -146,8 +161,8 @@ indices_for_small cap lt = cond-true _ _ _ (lt-ltb cap (2 ^ 32 - 1) lt)
 indices_for_large : (cap : ℕ) → 2 ^ 32 - 1 ≤ cap → indices_for cap ≡ 2 ^ 32 - 2
 indices_for_large cap le = cond-false _ _ _ (le-ltb cap (2 ^ 32 - 1) le)
 
-pub indices_for-place : (n cap : ℕ) → n < indices_for cap → n < min cap (2 ^ 32 - 1)
-indices_for-place n cap fits = elim (cases_lt cap (2 ^ 32 - 1)) [
+pub indices_for-below : (cap : ℕ) → 0 < indices_for cap → indices_for cap < min cap (2 ^ 32 - 1)
+indices_for-below cap some = elim (cases_lt cap (2 ^ 32 - 1)) [
   | inl lt ↦ omega (arith, indices_for_small cap lt)
   | inr ge ↦ omega (arith, indices_for_large cap ge)
 ]

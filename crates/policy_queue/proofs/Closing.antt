@@ -1,5 +1,5 @@
 -- Closing up: indices are carried down over empty places.
-use Rattle.std.proofs.Common.{◌≡◌, ◌≢◌, ℕ, ◌+◌, ◌-◌, ◌^◌, ◌<◌, ◌≤◌, List, length, get_or, set, take, max, sym, ap, ◌∙◌, inl, inr, arith}
+use Rattle.std.proofs.Common.{◌≡◌, ◌≢◌, ℕ, ◌+◌, ◌-◌, ◌^◌, ◌<◌, ◌≤◌, List, length, get_or, set, take, max, sym, ap, ◌∙◌, subst, inl, inr, arith}
 use Rattle.std.proofs.lemmas.Bool.{cases_lt, cases_eq}
 use Rattle.std.proofs.lemmas.List.{get_or_past, get_or-set_same, get_or-set_other, get_or-take, length-set, length-take, length-take-le}
 use Rattle.policy_queue.specs.declared.index_queue.Cursors.{Cursors}
@@ -61,6 +61,9 @@ take_alike ps n none k = elim (cases_lt k n) [
   | inl lt ↦ get_or-take n ps k vacant lt
   | inr ge ↦ get_or_past (take n ps) k vacant (omega (arith, length-take n ps)) ∙ sym (none k ge)
 ]
+
+pub arranged_same : (ps qs ss ts : List ℕ) (cs : Cursors) → ps ≡ qs → ss ≡ ts → AreArranged qs ts cs → AreArranged ps ss cs
+arranged_same ps qs ss ts cs e f h = subst (λ (xs : List ℕ). AreArranged xs ss cs) (sym e) (subst (λ (xs : List ℕ). AreArranged qs xs cs) (sym f) h)
 
 -- where reading begins
 module _ (ps ss : List ℕ) (cs : Cursors) (h : AreArranged ps ss cs) (some : 0 < length ps) (from : ℕ) (is : from ≡ max cs.unread cs.front) where

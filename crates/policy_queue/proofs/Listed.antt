@@ -1,7 +1,8 @@
 -- Lemmas on lists of indices.
-use Rattle.std.proofs.Common.{◌≡◌, ◌≢◌, ℕ, ◌||◌, true, false, List, [], ◌∷◌, ◌++◌, refl, sym, ap, ◌∙◌, inl, inr}
+use Rattle.std.proofs.Common.{◌≡◌, ◌≢◌, ℕ, ◌+◌, ◌||◌, true, false, List, [], ◌∷◌, ◌++◌, length, refl, sym, ap, ◌∙◌, inl, inr, arith}
 use Rattle.std.proofs.lemmas.Bool.{cases_eq, cond-true, cond-false, eq-eqb, ne_eqb, true≢false}
-use Rattle.policy_queue.specs.Indices.{Lacks, has_index, without_index, from_index}
+use Rattle.std.proofs.lemmas.List.{length-append, length_push}
+use Rattle.policy_queue.specs.Indices.{Lacks, has_index, without_index, from_index, index_moved_to_back}
 
 pub has_here : (x : ℕ) (i : ℕ) (rest : List ℕ) → i ≡ x → has_index x (i ∷ rest) ≡ true
 has_here x i rest e = ap (λ b. b || has_index x rest) (eq-eqb i x e)
@@ -50,3 +51,14 @@ split_at x (i ∷ xs) h = elim (cases_eq i x) [
       let s = split_at x xs (sym (has_later x i xs d) ∙ h) in
       record { front = i ∷ s.front; back = s.back; is = ap (λ r. i ∷ r) s.is; apart = (d, s.apart) }
 ]
+
+-- one index fewer, and as many
+pub length_without : (x : ℕ) (xs : List ℕ) → has_index x xs ≡ true → length (without_index x xs) + 1 ≡ length xs
+length_without x xs h =
+    let s = split_at x xs h in
+    let now = ap length (ap (without_index x) s.is ∙ without_at x s.front s.back s.apart) ∙ length-append s.front s.back in
+    let was = ap length s.is ∙ length-append s.front (x ∷ s.back) in
+    omega arith
+
+pub length_moved : (x : ℕ) (xs : List ℕ) → has_index x xs ≡ true → length (index_moved_to_back x xs) ≡ length xs
+length_moved x xs h = let one = length_without x xs h in omega (arith, length_push (without_index x xs) x)

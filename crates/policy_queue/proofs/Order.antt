@@ -1,7 +1,7 @@
 -- Lemmas on places and on the indices that stand in them.
 use Rattle.std.proofs.Common.{◌≡◌, ◌≢◌, ℕ, zero, suc, ◌+◌, ◌-◌, ◌<◌, ◌≤◌, List, [], ◌∷◌, ◌++◌, length, get_or, set, take, drop, refl, sym, ap, ◌∙◌, inl, inr, arith, subst}
 use Rattle.std.proofs.lemmas.Bool.{cases_lt, cases_eq, cond-true, cond-false, eq-eqb, ne_eqb}
-use Rattle.std.proofs.lemmas.List.{take-append-drop, drop_more, drop_all, get_or_past, get_or-set_same, get_or-set_other, set_split, append-nil, length-append, length-set, take-set-le, drop-set-lt}
+use Rattle.std.proofs.lemmas.List.{take-append-drop, drop_more, drop_all, get_or_past, get_or-set_same, get_or-set_other, set_split, append-nil, length-set, take-set-le, drop-set-lt}
 use Rattle.policy_queue.specs.Indices.{vacant, order, Lacks}
 
 pub order_empty : (p : ℕ) (ps : List ℕ) → p ≡ vacant → order (p ∷ ps) ≡ order ps
@@ -66,13 +66,6 @@ order_take_all ps m h =
 pub all_taken : (ps : List ℕ) → ((k : ℕ) → k < length ps → get_or ps k vacant ≢ vacant) → length (order ps) ≡ length ps
 all_taken [] h = refl
 all_taken (p ∷ ps) h = ap length (order_taken p ps (h 0 (omega arith))) ∙ ap suc (all_taken ps (λ k lt. h (suc k) (omega arith)))
-
--- one index fewer
-pub length-emptied : (ps : List ℕ) (k : ℕ) → get_or ps k vacant ≢ vacant → length (order (take k ps) ++ order (drop (k + 1) ps)) + 1 ≡ length (order ps)
-length-emptied ps k d =
-    let before = ap length (order_at ps k d) ∙ length-append (order (take k ps)) (get_or ps k vacant ∷ order (drop (k + 1) ps)) in
-    let after = length-append (order (take k ps)) (order (drop (k + 1) ps)) in
-    omega arith
 
 -- what no place has, the order lacks
 pub Lacks-order : (ps : List ℕ) (x : ℕ) → ((j : ℕ) → get_or ps j vacant ≢ vacant → get_or ps j vacant ≢ x) → Lacks x (order ps)

@@ -1,5 +1,5 @@
 -- A queue of indices as its callers see it, and the array of places behind it.
-use Rattle.std.specs.Prelude.{◌≡◌, ◌≢◌, ℕ, ◌+◌, ◌-◌, ◌<◌, ◌≤◌, ◌^◌, ◌/◌, ◌||◌, eqb, nat_lt, Bool, false, List, [], ◌∷◌, ◌++◌, length, slice_index_or, if◌then◌else◌}
+use Rattle.std.specs.Prelude.{◌≡◌, ◌≢◌, ℕ, ◌+◌, ◌-◌, ◌<◌, ◌≤◌, ◌^◌, ◌/◌, ◌||◌, eqb, nat_lt, Bool, false, List, [], ◌∷◌, ◌++◌, length, min, slice_index_or, if◌then◌else◌}
 use Rattle.policy_queue.specs.declared.index_queue.Cursors.{Cursors}
 
 -- the indices front to back, how many more need no allocation, and below what bound they then are
@@ -127,8 +127,9 @@ abbrev pub indices_for : ℕ → ℕ
 indices_for capacity = if nat_lt capacity (2 ^ 32 - 1) then capacity / 2 else 2 ^ 32 - 2
 
 -- the array of a queue, with places enough
-pub record IsIndexed (places : List ℕ) (capacity : ℕ) (seats : List ℕ) (len : ℕ) (cursors : Cursors)
-    : Type 0 where
+pub record IsIndexed (places : List ℕ) (capacity : ℕ) (seats : List ℕ) (len closes_at : ℕ)
+    (cursors : Cursors) : Type 0 where
   pub arranged : AreArranged places seats cursors
   pub counted : len ≡ length (order places)
   pub enough : len ≤ indices_for capacity
+  pub early : closes_at ≤ min capacity (2 ^ 32 - 1) - 1

@@ -1,8 +1,8 @@
 //! A queue of indices in one array of places, front to back. A move empties a place and takes another at the end; the
 //! empty places are compacted step by step, a few places with each push or move.
-ghost use Rattle.std.specs.Prelude.{◌≡◌, ◌≢◌, ℕ, ◌+◌, ◌-◌, ◌*◌, ◌^◌, ◌<◌, ◌≤◌, true, false, List, [], ◌∷◌, ◌++◌, length, drop, take, min, max, IsOk, OnOk, IsTrue, slice_index_or, vec_len, vec_capacity};
+ghost use Rattle.std.specs.Prelude.{◌≡◌, ◌≢◌, ℕ, ◌+◌, ◌-◌, ◌^◌, ◌<◌, ◌≤◌, false, [], ◌∷◌, ◌++◌, length, min, max, IsOk, OnOk, IsTrue, slice_index_or, vec_len, vec_capacity};
 ghost use Rattle.policy_queue.specs.Queue.{head, tail, final};
-ghost use Rattle.policy_queue.specs.Indices.{vacant, order, has_index, without_index, from_index, index_moved_to_back, OnlyGainsPlaces, Lacks, AreApart, Ends, EndsBut, IsGap, AreSeated, AreEmpty, AreArranged, IsSeatedAt, IsCutShort, Trims, Carries};
+ghost use Rattle.policy_queue.specs.Indices.{vacant, order, has_index, without_index, from_index, index_moved_to_back, OnlyGainsPlaces, Lacks, AreApart, Ends, EndsBut, AreSeated, AreEmpty, AreArranged, IsCutShort, Trims, Carries};
 
 use std::alloc::{AllocError, Global};
 use std::marker::Model;
@@ -17,7 +17,7 @@ const MOST_PLACES: usize = 0xFFFF_FFFF;
 const MOST_INDICES: usize = 0xFFFF_FFFE;
 
 /// How many places a push or a move compacts.
-const STEP: usize = 8;
+const STEP: usize = 16;
 
 /// A queue of indices, each at most once.
 #[derive(Drop)]
@@ -28,6 +28,8 @@ pub struct IndexQueue {
     seats: Vec<u32>,
     // The number of indices.
     len: usize,
+    // With more places than this, a push or a move compacts the next ones.
+    closes_at: usize,
     cursors: Cursors,
 }
 
@@ -55,7 +57,7 @@ impl Model for IndexQueue {
     } };
 
     ghost invariant = { λ q. IsIndexed q.places.items (vec_capacity q.places) q.seats.items q.len
-        q.cursors };
+        q.closes_at q.cursors };
 }
 
 impl IndexQueue {
@@ -68,6 +70,7 @@ impl IndexQueue {
             places: Vec::new(alloc),
             seats: Vec::new(alloc),
             len: 0,
+            closes_at: 0,
             cursors: Cursors {
                 front: 0,
                 carried: 0,
@@ -143,7 +146,8 @@ impl IndexQueue {
         if n > MOST_INDICES - self.len {
             return Err(AllocError);
         }
-        reserve_places(&mut self.places, (2 * (self.len + n)).min(MOST_PLACES))?;
+        let wanted = (2 * (self.len + n)).min(MOST_PLACES);
+        reserve_places(&mut self.places, &mut self.closes_at, wanted)?;
         reserve_seats(&mut self.seats, bound as usize)
     }
 
@@ -155,7 +159,14 @@ impl IndexQueue {
         ensures { self.new ≡ record self.old
             { indices = self.old.indices ++ index ∷ []; room = self.old.room - 1 } }
     {
-        attach(&mut self.places, &mut self.seats, &mut self.cursors, index);
+        make_place(
+            &mut self.places,
+            &mut self.seats,
+            &mut self.cursors,
+            self.closes_at,
+        );
+        self.seats[index as usize] = self.places.len() as u32;
+        self.places.push_reserved(index);
         self.len += 1;
     }
 
@@ -165,17 +176,13 @@ impl IndexQueue {
         ensures { self.new
             ≡ record self.old { indices = index_moved_to_back index self.old.indices } }
     {
-        let k = self.seats[index as usize] as usize;
-        if k + 1 < self.places.len() {
-            detach(
-                &mut self.places,
-                &mut self.seats,
-                &mut self.cursors,
-                index,
-                k,
-            );
-            attach(&mut self.places, &mut self.seats, &mut self.cursors, index);
-        }
+        make_place(
+            &mut self.places,
+            &mut self.seats,
+            &mut self.cursors,
+            self.closes_at,
+        );
+        put_last(&mut self.places, &mut self.seats, &mut self.cursors, index);
     }
 
     /// Removes an index that is in the queue.
@@ -184,14 +191,7 @@ impl IndexQueue {
         ensures { self.new ≡ record self.old
             { indices = without_index index self.old.indices; room = self.old.room + 1 } }
     {
-        let k = self.seats[index as usize] as usize;
-        detach(
-            &mut self.places,
-            &mut self.seats,
-            &mut self.cursors,
-            index,
-            k,
-        );
+        take_off(&mut self.places, &mut self.seats, &mut self.cursors, index);
         self.len -= 1;
     }
 }
@@ -204,16 +204,24 @@ pub fn indices_are_apart(queue: &IndexQueue)
 }
 
 /// Makes room for this many places in all.
-fn reserve_places(places: &mut Vec<u32>, wanted: usize) -> Result<(), AllocError>
+fn reserve_places(
+    places: &mut Vec<u32>,
+    closes_at: &mut usize,
+    wanted: usize,
+) -> Result<(), AllocError>
+    requires early { closes_at.old ≤ min (vec_capacity places.old) (2 ^ 32 - 1) - 1 }
     ensures same { places.new.items ≡ places.old.items }
     ensures room { OnOk result (wanted ≤ vec_capacity places.new) }
     ensures had_room { wanted ≤ vec_capacity places.old → IsOk result }
     ensures capacity { vec_capacity places.old ≤ vec_capacity places.new }
+    ensures early { closes_at.new ≤ min (vec_capacity places.new) (2 ^ 32 - 1) - 1 }
 {
     if wanted <= places.capacity() {
         return Ok(());
     }
-    places.reserve(wanted - places.len())
+    places.reserve(wanted - places.len())?;
+    *closes_at = last_uncompacted(places.capacity().min(MOST_PLACES));
+    Ok(())
 }
 
 /// Makes this many seats in all. New ones are vacant.
@@ -301,16 +309,16 @@ fn trim(places: &mut Vec<u32>, cursors: &mut Cursors)
     }
 }
 
-/// Takes an index out of its place, k.
-fn detach(places: &mut Vec<u32>, seats: &mut Vec<u32>, cursors: &mut Cursors, index: u32, k: usize)
+/// Takes an index out of its place.
+fn take_off(places: &mut Vec<u32>, seats: &mut Vec<u32>, cursors: &mut Cursors, index: u32)
     requires arranged { AreArranged places.old.items seats.old.items cursors.old }
-    requires there { IsSeatedAt places.old.items seats.old.items index k }
+    requires there { IsTrue (has_index index (order places.old.items)) }
+    ensures taken { order places.new.items ≡ without_index index (order places.old.items) }
     ensures arranged { AreArranged places.new.items seats.new.items cursors.new }
-    ensures emptied { order places.new.items ≡ order (take k places.old.items)
-        ++ order (drop (k + 1) places.old.items) }
     ensures bound { vec_len seats.new ≡ vec_len seats.old }
     ensures capacity { vec_capacity places.new ≡ vec_capacity places.old }
 {
+    let k = seats[index as usize] as usize;
     seats[index as usize] = EMPTY;
     places[k] = EMPTY;
     if k + 1 == places.len() {
@@ -320,17 +328,38 @@ fn detach(places: &mut Vec<u32>, seats: &mut Vec<u32>, cursors: &mut Cursors, in
     }
 }
 
+/// Moves an index to a new place at the end, unless it is in the last one.
+fn put_last(places: &mut Vec<u32>, seats: &mut Vec<u32>, cursors: &mut Cursors, index: u32)
+    requires arranged { AreArranged places.old.items seats.old.items cursors.old }
+    requires there { IsTrue (has_index index (order places.old.items)) }
+    requires free { vec_len places.old < min (vec_capacity places.old) (2 ^ 32 - 1) }
+    ensures moved { order places.new.items ≡ index_moved_to_back index (order places.old.items) }
+    ensures arranged { AreArranged places.new.items seats.new.items cursors.new }
+    ensures bound { vec_len seats.new ≡ vec_len seats.old }
+    ensures capacity { vec_capacity places.new ≡ vec_capacity places.old }
+{
+    let k = seats[index as usize] as usize;
+    if k + 1 == places.len() {
+        return;
+    }
+    places[k] = EMPTY;
+    if k == cursors.front {
+        cursors.front = next_taken(places.as_slice(), *cursors, k + 1);
+    }
+    seats[index as usize] = places.len() as u32;
+    places.push_reserved(index);
+}
+
 /// Moves the indices in the places from `from` up to `end` down to the empty ones from `to` on, in their order, and
 /// returns where they end.
-fn carry(places: &mut Vec<u32>, seats: &mut Vec<u32>, to: usize, from: usize, end: usize) -> usize
-    requires seated { AreSeated places.old.items seats.old.items }
-    requires gap { AreEmpty places.old.items to from }
-    requires places { (to ≤ from) × (from ≤ end) × (end ≤ vec_len places.old) }
-    requires fits { (vec_len places.old ≤ 2 ^ 32 - 1) × (vec_len seats.old ≤ 2 ^ 32 - 1) }
-    ensures carries { Carries places.old.items places.new.items seats.new.items to from end result }
-    ensures bound { vec_len seats.new ≡ vec_len seats.old }
-    ensures len { vec_len places.new ≡ vec_len places.old }
-    ensures capacity { vec_capacity places.new ≡ vec_capacity places.old }
+fn carry(places: &mut [u32], seats: &mut [u32], to: usize, from: usize, end: usize) -> usize
+    requires seated { AreSeated places.old seats.old }
+    requires gap { AreEmpty places.old to from }
+    requires places { (to ≤ from) × (from ≤ end) × (end ≤ length places.old) }
+    requires fits { (length places.old ≤ 2 ^ 32 - 1) × (length seats.old ≤ 2 ^ 32 - 1) }
+    ensures carries { Carries places.old places.new seats.new to from end result }
+    ensures bound { length seats.new ≡ length seats.old }
+    ensures len { length places.new ≡ length places.old }
 {
     let mut next = to;
     for k in from..end {
@@ -345,33 +374,57 @@ fn carry(places: &mut Vec<u32>, seats: &mut Vec<u32>, to: usize, from: usize, en
     next
 }
 
-/// Moves this many places that were not read yet. After the last one, compacting is done.
-fn close_some(places: &mut Vec<u32>, seats: &mut Vec<u32>, cursors: &mut Cursors, many: usize)
+/// Compacts all places that were not read yet.
+#[inline(never)]
+fn close_rest(places: &mut Vec<u32>, seats: &mut Vec<u32>, cursors: &mut Cursors)
     requires arranged { AreArranged places.old.items seats.old.items cursors.old }
     requires some { 0 < vec_len places.old }
-    requires many { (0 < many) × (many ≤ 2 ^ 32) }
     ensures same { order places.new.items ≡ order places.old.items }
     ensures arranged { AreArranged places.new.items seats.new.items cursors.new }
-    ensures closed { cursors.old.carried ≡ 0 → vec_len places.old ≤ many
+    ensures whole { cursors.old.carried ≡ 0
         → vec_len places.new ≡ length (order places.old.items) }
     ensures bound { vec_len seats.new ≡ vec_len seats.old }
     ensures capacity { vec_capacity places.new ≡ vec_capacity places.old }
 {
     let to = cursors.carried;
     let from = cursors.unread.max(cursors.front);
-    let end = (from + many).min(places.len());
-    let next = carry(places, seats, to, from, end);
+    let end = places.len();
+    let next = carry(places.as_mut_slice(), seats.as_mut_slice(), to, from, end);
     if cursors.front == from {
         cursors.front = to;
     }
-    if end == places.len() {
-        places.truncate(next);
-        cursors.carried = 0;
-        cursors.unread = 0;
-    } else {
-        cursors.carried = next;
-        cursors.unread = end;
+    places.truncate(next);
+    cursors.carried = 0;
+    cursors.unread = 0;
+}
+
+/// Compacts the next places, a step of them or all that are left.
+#[inline(never)]
+fn close_some(places: &mut Vec<u32>, seats: &mut Vec<u32>, cursors: &mut Cursors)
+    requires arranged { AreArranged places.old.items seats.old.items cursors.old }
+    requires some { 0 < vec_len places.old }
+    ensures same { order places.new.items ≡ order places.old.items }
+    ensures arranged { AreArranged places.new.items seats.new.items cursors.new }
+    ensures bound { vec_len seats.new ≡ vec_len seats.old }
+    ensures capacity { vec_capacity places.new ≡ vec_capacity places.old }
+{
+    let to = cursors.carried;
+    let from = cursors.unread.max(cursors.front);
+    if places.len() - from <= STEP {
+        return close_rest(places, seats, cursors);
     }
+    let next = carry(
+        places.as_mut_slice(),
+        seats.as_mut_slice(),
+        to,
+        from,
+        from + STEP,
+    );
+    if cursors.front == from {
+        cursors.front = to;
+    }
+    cursors.carried = next;
+    cursors.unread = from + STEP;
 }
 
 /// Compacts all empty places if no place is free at the end.
@@ -387,54 +440,30 @@ fn free_place(places: &mut Vec<u32>, seats: &mut Vec<u32>, cursors: &mut Cursors
     if places.len() == places.capacity().min(MOST_PLACES) {
         cursors.carried = 0;
         cursors.unread = 0;
-        let all = places.len();
-        close_some(places, seats, cursors, all);
+        close_rest(places, seats, cursors);
     }
 }
 
-/// Whether the next places are to be compacted. That begins once the free places at the end are few compared with those
-/// that are to be read, and ends before they are used up.
-fn is_closing(places: &Vec<u32>, cursors: Cursors) -> bool
-    requires ends { Ends places.now.items cursors.front }
-    requires gap { IsGap places.now.items cursors.carried cursors.unread }
-    requires fits { length places.now.items ≤ 2 ^ 32 - 1 }
-    ensures some { result ≡ true → 0 < vec_len places.now }
-    ensures free { result ≡ false → 0 < min (vec_capacity places.now) (2 ^ 32 - 1)
-        → vec_len places.now < min (vec_capacity places.now) (2 ^ 32 - 1) }
+/// After how many of so many places compacting begins. It ends before they are used up.
+fn last_uncompacted(most: usize) -> usize
+    ensures { result ≤ most - 1 }
 {
-    let unread = places.len() - cursors.unread.max(cursors.front);
-    let free = places.capacity().min(MOST_PLACES) - places.len();
-    cursors.unread > 0 || unread > (STEP - 1) * free
+    (most - most / STEP).saturating_sub(1)
 }
 
-/// Compacts the next places if that is under way, and all empty ones if no place is free at the end.
-fn make_place(places: &mut Vec<u32>, seats: &mut Vec<u32>, cursors: &mut Cursors)
+/// Compacts the next places if there are more than `closes_at`, and all empty ones if no place is free at the end.
+fn make_place(places: &mut Vec<u32>, seats: &mut Vec<u32>, cursors: &mut Cursors, closes_at: usize)
     requires arranged { AreArranged places.old.items seats.old.items cursors.old }
     requires place { length (order places.old.items) < min (vec_capacity places.old) (2 ^ 32 - 1) }
+    requires early { closes_at ≤ min (vec_capacity places.old) (2 ^ 32 - 1) - 1 }
     ensures same { order places.new.items ≡ order places.old.items }
     ensures free { vec_len places.new < min (vec_capacity places.new) (2 ^ 32 - 1) }
     ensures arranged { AreArranged places.new.items seats.new.items cursors.new }
     ensures bound { vec_len seats.new ≡ vec_len seats.old }
     ensures capacity { vec_capacity places.new ≡ vec_capacity places.old }
 {
-    if is_closing(places, *cursors) {
-        close_some(places, seats, cursors, STEP);
+    if places.len() > closes_at {
+        close_some(places, seats, cursors);
         free_place(places, seats, cursors);
     }
-}
-
-/// Appends an index that is not in the queue. There must be room.
-fn attach(places: &mut Vec<u32>, seats: &mut Vec<u32>, cursors: &mut Cursors, index: u32)
-    requires arranged { AreArranged places.old.items seats.old.items cursors.old }
-    requires place { length (order places.old.items) < min (vec_capacity places.old) (2 ^ 32 - 1) }
-    requires apart { Lacks index (order places.old.items) }
-    requires seat { index < vec_len seats.old }
-    ensures pushed { order places.new.items ≡ order places.old.items ++ index ∷ [] }
-    ensures arranged { AreArranged places.new.items seats.new.items cursors.new }
-    ensures bound { vec_len seats.new ≡ vec_len seats.old }
-    ensures capacity { vec_capacity places.new ≡ vec_capacity places.old }
-{
-    make_place(places, seats, cursors);
-    seats[index as usize] = places.len() as u32;
-    places.push_reserved(index);
 }

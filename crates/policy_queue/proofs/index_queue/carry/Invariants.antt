@@ -1,11 +1,10 @@
-use Rattle.std.proofs.Common.{◌≡◌, vec_len, vec_capacity}
+use Rattle.std.proofs.Common.{◌≡◌, length}
 use Rattle.policy_queue.specs.Indices.{Carries}
 use Rattle.policy_queue.proofs.index_queue.carry.Given as goal
 
 abbrev pub invariant-loop-k : goal.invariant-loop-k
 invariant-loop-k l = record {
-  carries : Carries l.fn.places.items l.places.items l.seats.items l.to l.fn.from l.k l.next;
-  bound : vec_len l.seats ≡ vec_len l.fn.seats;
-  len : vec_len l.places ≡ vec_len l.fn.places;
-  capacity : vec_capacity l.places ≡ vec_capacity l.fn.places;
+  carries : Carries l.fn.places l.places l.seats l.to l.fn.from l.k l.next;
+  bound : length l.seats ≡ length l.fn.seats;
+  len : length l.places ≡ length l.fn.places;
 }

@@ -1,6 +1,6 @@
-use Rattle.std.proofs.Common.{◌+◌, ◌<◌, Some, sym, ap, ◌∙◌, subst, length, arith}
+use Rattle.std.proofs.Common.{◌+◌, ◌<◌, Some, sym, ap, ◌∙◌, length, arith}
 use Rattle.std.proofs.lemmas.List.{get_or_read}
-use Rattle.policy_queue.specs.Indices.{vacant, IsSeatedAt}
+use Rattle.policy_queue.specs.Indices.{vacant}
 use Rattle.policy_queue.specs.Queue.{head}
 use Rattle.policy_queue.proofs.Arranged.{seat_there, seated_there, within_at, behind_there, head_from, none_from}
 use Rattle.policy_queue.proofs.index_queue.IndexQueue.behind.Goals as goal
@@ -17,7 +17,7 @@ next_taken-next-requires-clause-low c =
     let has = rw (← c.self.view_is) at c.requires in
     let lt = seat_there c.self.inside.places.items c.self.inside.seats.items c.self.inside.cursors c.self.invariant.arranged c.args.index has in
     let read = get_or_read _ _ _ lt c.index.ensures vacant in
-    let at = subst (λ k. IsSeatedAt c.self.inside.places.items c.self.inside.seats.items c.args.index k) (sym read) (seated_there c.self.inside.places.items c.self.inside.seats.items c.self.inside.cursors c.self.invariant.arranged c.args.index has) in
+    let at = seated_there c.self.inside.places.items c.self.inside.seats.items c.self.inside.cursors c.self.invariant.arranged c.args.index c.index.result.now has read in
     let inside = within_at c.self.inside.places.items c.self.inside.seats.items c.self.inside.cursors c.args.index c.index.result.now c.self.invariant.arranged at in
     rw c.as_slice.ensures.value (omega arith)
 
@@ -26,7 +26,7 @@ returns-then-next-len c =
     let has = rw (← c.self.view_is) at c.requires in
     let lt = seat_there c.self.inside.places.items c.self.inside.seats.items c.self.inside.cursors c.self.invariant.arranged c.args.index has in
     let read = get_or_read _ _ _ lt c.index.ensures vacant in
-    let at = subst (λ k. IsSeatedAt c.self.inside.places.items c.self.inside.seats.items c.args.index k) (sym read) (seated_there c.self.inside.places.items c.self.inside.seats.items c.self.inside.cursors c.self.invariant.arranged c.args.index has) in
+    let at = seated_there c.self.inside.places.items c.self.inside.seats.items c.self.inside.cursors c.self.invariant.arranged c.args.index c.index.result.now has read in
     let empty = rw c.as_slice.ensures.value at c.next_taken-next.ensures.empty in
     let ok = c.self.inside.places.ok.0 in
     rw (← c.self.view_is) (sym (ap head (behind_there c.self.inside.places.items c.self.inside.seats.items c.self.inside.cursors c.args.index c.index.result.now c.self.invariant.arranged at) ∙ none_from c.self.inside.places.items (c.index.result.now + 1) c.next_taken-next.result c.next_taken-next.ensures.low (omega arith) empty))
@@ -36,7 +36,7 @@ returns c =
     let has = rw (← c.self.view_is) at c.requires in
     let lt = seat_there c.self.inside.places.items c.self.inside.seats.items c.self.inside.cursors c.self.invariant.arranged c.args.index has in
     let read = get_or_read _ _ _ lt c.index.ensures vacant in
-    let at = subst (λ k. IsSeatedAt c.self.inside.places.items c.self.inside.seats.items c.args.index k) (sym read) (seated_there c.self.inside.places.items c.self.inside.seats.items c.self.inside.cursors c.self.invariant.arranged c.args.index has) in
+    let at = seated_there c.self.inside.places.items c.self.inside.seats.items c.self.inside.cursors c.self.invariant.arranged c.args.index c.index.result.now has read in
     let empty = rw c.as_slice.ensures.value at c.next_taken-next.ensures.empty in
     let first = rw c.as_slice.ensures.value at c.next_taken-next.ensures.first in
     let high = rw c.as_slice.ensures.value at c.next_taken-next.ensures.high in
