@@ -1,18 +1,21 @@
 -- What a write makes of the tables is what the reference cache says.
-use Rattle.std.proofs.Common.{◌≡◌, refl, ap, sym, ◌∙◌, ℕ, ◌+◌, ◌-◌, Bool, true, false, List, [], ◌∷◌, ◌++◌, Option, Some, None}
+use Rattle.std.proofs.Common.{◌≡◌, refl, ap, sym, ◌∙◌, ℕ, ◌+◌, ◌-◌, Bool, true, false, cond, List, [], ◌∷◌, ◌++◌, Option, Some, None}
 use Rattle.engine_reference.specs.declared.rules.causes.RemovalCause.{RemovalCause}
 use Rattle.engine_reference.specs.declared.data.Entry.{Entry}
 use Rattle.engine_reference.specs.declared.data.Notice.{Notice}
 use Rattle.engine_reference.specs.declared.data.Record.{Record}
 use Rattle.engine_reference.specs.declared.data.Write.TheVariants.{Removed}
-use Rattle.engine_reference.specs.Calls.{with_put, with_written, next_entry, used_entry, with_read}
+use Rattle.engine_reference.specs.declared.data.Unsent.{Unsent}
+use Rattle.engine_reference.specs.Calls.{with_put, with_written, with_sent, unsent_at, next_entry, used_entry, with_read}
 use Rattle.engine_reference.specs.declared.data.Read.TheVariants.{Hit}
-use Rattle.engine_reference.specs.Records.{record_at, changed_at}
+use Rattle.engine_reference.specs.Records.{record_at, changed_at, held_weight}
 use Rattle.engine_reference.specs.State.{State, Answers}
 use Rattle.engine_reference.specs.Visible.{told, cause_of_write}
-use Rattle.engine_cells.specs.Writing.{with_put_for}
+use Rattle.engine_cells.specs.Writing.{put_for, with_put_for}
+use Rattle.std.proofs.lemmas.Bool.{eq-eqb}
 use Rattle.std.proofs.lemmas.Option.{same_Some}
 use Rattle.engine_cells.specs.Kept.{Kept, kept_at}
+use Rattle.engine_calls.specs.Sending.{sent_if}
 use Rattle.engine_calls.proofs.Finding.{changed-alike, changed-none, kept-changed, kept-number}
 
 module _ {K V : Type 0} where
@@ -32,11 +35,27 @@ module _ {K V : Type 0} where
 
 module _ {K V P S R : Type 0} where
   abbrev pub added : State K V P S R → Record K V → State K V P S R
-  added s r = with_put_for r (record s { records = s.records ++ r ∷ []; next_number = s.next_number + 1 })
+  added s r = with_put_for false r (record s { records = s.records ++ r ∷ []; next_number = s.next_number + 1 })
 
   -- as the tables write over the record in a place
   abbrev pub over : State K V P S R → Entry K V → RemovalCause → Record K V → State K V P S R
-  over s e why r = with_put_for (next_record e r) (record s { records = changed_at r.number (next_record e) s.records; notices = told s.settings.tells why r.entry s.notices })
+  over s e why r = with_put_for false (next_record e r) (record s { records = changed_at r.number (next_record e) s.records; notices = told s.settings.tells why r.entry s.notices })
+
+  -- a write that goes into the queue at once is the one that was made and sent
+  single-sent : (u : Unsent) (s : State K V P S R) → with_sent u.ticket (unsent_at (u ∷ []) u.ticket) (record s { unsent = u ∷ [] }) ≡ record s { unsent = []; writes = s.writes ++ u.write ∷ [] }
+  single-sent u s =
+      let same = eq-eqb u.ticket u.ticket refl in
+      ap (λ b. with_sent u.ticket (cond b (Some u.write) None) (record s { unsent = u ∷ [] })) same
+      ∙ ap (λ b. record s { unsent = cond b [] (u ∷ []); writes = s.writes ++ u.write ∷ [] }) same
+
+  pub put-sent : (at_once : Bool) (r : Record K V) (s : State K V P S R) → (at_once ≡ true → s.unsent ≡ []) → with_put_for at_once r s ≡ sent_if at_once s.next_ticket (with_put_for false r s)
+  put-sent true r s h =
+      let u : Unsent = record { ticket = s.next_ticket; write = put_for r (held_weight s.records) } in
+      let t : State K V P S R = record s { next_ticket = s.next_ticket + 1; reserved = s.reserved - 1 } in
+      ap (λ us. record t { unsent = us; writes = s.writes ++ u.write ∷ [] }) (h refl)
+      ∙ sym (single-sent u t)
+      ∙ ap (λ us. with_sent s.next_ticket (unsent_at (us ++ u ∷ []) s.next_ticket) (record t { unsent = us ++ u ∷ [] })) (sym (h refl))
+  put-sent false r s h = refl
 
   -- as they mark it
   abbrev pub taken : State K V P S R → Record K V → State K V P S R
@@ -48,16 +67,15 @@ module _ {K V P S R : Type 0} where
   }
 
 module _ {K V P S R : Type 0} (answers : Answers K V P R) where
-  abbrev over_with : State K V P S R → Record K V → Entry K V → RemovalCause → ℕ → State K V P S R
-  over_with s r e why hash = with_put answers r.number (r.writes + 1) e.weight hash (record s { records = changed_at r.number (next_record e) s.records; notices = told s.settings.tells why r.entry s.notices })
+  abbrev over_with : State K V P S R → Record K V → Entry K V → RemovalCause → State K V P S R
+  over_with s r e why = with_put answers r.number (r.writes + 1) e.weight r.hash (record s { records = changed_at r.number (next_record e) s.records; notices = told s.settings.tells why r.entry s.notices })
 
-  pub over-written : (s : State K V P S R) (key : K) (hash : ℕ) (value : V) (now step : ℕ) (e : Entry K V) (why : RemovalCause) (r : Record K V)
-      → e ≡ next_entry answers s r.entry key value now step → (s.settings.tells ≡ true → why ≡ cause_of_write answers s now r.entry) → r.hash ≡ hash
-      → over s e why r ≡ with_written answers (Some r) s key hash value now step
-  over-written s key hash value now step e why r ee ew eh =
-      ap (λ x. over_with s r x why r.hash) ee
+  pub over-written : (s : State K V P S R) (key : K) (value : V) (now step : ℕ) (e : Entry K V) (why : RemovalCause) (r : Record K V)
+      → e ≡ next_entry answers s r.entry key value now step → (s.settings.tells ≡ true → why ≡ cause_of_write answers s now r.entry)
+      → over s e why r ≡ with_written answers (Some r) s key r.hash value now step
+  over-written s key value now step e why r ee ew =
+      ap (λ x. over_with s r x why) ee
       ∙ ap (λ ns. with_put answers r.number (r.writes + 1) (next_entry answers s r.entry key value now step).weight r.hash (record s { records = changed_at r.number (next_record (next_entry answers s r.entry key value now step)) s.records; notices = ns })) (told_alike s.settings.tells why (cause_of_write answers s now r.entry) r.entry s.notices ew)
-      ∙ ap (λ h. over_with s r (next_entry answers s r.entry key value now step) (cause_of_write answers s now r.entry) h) eh
 
   abbrev pub used : State K V P S R → ℕ → Record K V → Record K V
   used s now r = record r { entry = used_entry answers s now r.entry }

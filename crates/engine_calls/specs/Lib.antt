@@ -1,3 +1,4 @@
 pub mod Finding
 pub mod Bounds
 pub mod Refusing
+pub mod Sending

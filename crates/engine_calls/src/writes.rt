@@ -2,6 +2,7 @@
 ghost use Rattle.std.specs.Prelude.{◌≡◌, ℕ, ◌+◌, ◌<◌, ◌≤◌, ◌^◌, ◌⊎◌, true, is_some, Option, Some, None, IfOk, OnOk, OnErr, option_map, option_copied};
 ghost use Rattle.std.specs.Result.{IsErrOf};
 ghost use Rattle.engine_calls.specs.Bounds.{AreBounded};
+ghost use Rattle.engine_calls.specs.Sending.{SendsAll, sent_if};
 ghost use Rattle.engine_cells.specs.Kept.{kept_at};
 ghost use Rattle.engine_reference.specs.Asking.{answers_of};
 ghost use Rattle.engine_reference.specs.Calls.{removal_rooms, removal_told, with_removal_room, with_reserved_removal, with_written, written};
@@ -26,14 +27,16 @@ fn write_first<K: Eq + Hash, V, S: BuildHasher, R: Rules<K, V>>(
     value: V,
     now: Instant,
     step: u64,
+    at_once: bool,
 )
     requires hashed { hash ≡ hash_of_key S.Hasher.finish S.Hasher.write S.build_hasher K.hash_input
         tables.old.state.hasher key }
     requires room { 0 < tables.old.state.reserved }
+    requires queue { at_once ≡ true → SendsAll tables.old.state }
     requires absent { held_at K.eq tables.old.state.records key ≡ None }
-    ensures { tables.new.state
-        ≡ with_written (answers_of R.weight_of R.created R.read R.updated R.covers) None
-        tables.old.state key hash value now step }
+    ensures { tables.new.state ≡ sent_if at_once tables.old.state.next_ticket
+        (with_written (answers_of R.weight_of R.created R.read R.updated R.covers) None
+        tables.old.state key hash value now step) }
 {
     let entry = first_entry(tables, key, value, now, step);
     let number = tables.next_number();
@@ -46,7 +49,7 @@ fn write_first<K: Eq + Hash, V, S: BuildHasher, R: Rules<K, V>>(
         applied: 0,
         counts: None,
     };
-    let _place = tables.add(added);
+    let _place = tables.add(added, at_once);
 }
 
 /// Writes a value over the one in a place.
@@ -54,27 +57,28 @@ fn write_over<K: Eq + Hash + Drop, V: Drop, S: BuildHasher, R: Rules<K, V>>(
     tables: &mut Tables<K, V, S, R>,
     place: usize,
     key: K,
-    hash: u64,
     value: V,
     now: Instant,
     step: u64,
+    at_once: bool,
 )
     requires room { 0 < tables.old.state.reserved }
+    requires queue { at_once ≡ true → SendsAll tables.old.state }
     requires bounded { AreBounded tables.old.state }
     requires held { (r : Record K V) × (kept_at tables.old place ≡ Some r)
-        × (held_at K.eq tables.old.state.records key ≡ Some r) × (r.hash ≡ hash) }
-    ensures { tables.new.state
-        ≡ written (answers_of R.weight_of R.created R.read R.updated R.covers) K.eq tables.old.state
-        key hash value now step }
+        × (held_at K.eq tables.old.state.records key ≡ Some r) }
+    ensures { (r : Record K V) → kept_at tables.old place ≡ Some r
+        → tables.new.state ≡ sent_if at_once tables.old.state.next_ticket
+        (written (answers_of R.weight_of R.created R.read R.updated R.covers) K.eq tables.old.state
+        key r.hash value now step) }
 {
-    let _hash = hash;
     tables.tickets_last();
     let cause = cause_of_write(tables, place, now.as_nanos());
     let entry = next_entry(tables, place, key, value, now, step);
-    tables.write_over(place, entry, cause);
+    tables.write_over(place, entry, cause, at_once);
 }
 
-/// Writes a value under its key, in reserved room. What it replaces is reported.
+/// Writes a value under its key, in reserved room. What it replaces is reported. The write goes into the queue at once, or waits to be sent.
 pub fn write<K: Eq + Hash + Drop, V: Drop, S: BuildHasher, R: Rules<K, V>>(
     tables: &mut Tables<K, V, S, R>,
     key: K,
@@ -82,18 +86,20 @@ pub fn write<K: Eq + Hash + Drop, V: Drop, S: BuildHasher, R: Rules<K, V>>(
     value: V,
     now: Instant,
     step: u64,
+    at_once: bool,
 )
     requires hashed { hash ≡ hash_of_key S.Hasher.finish S.Hasher.write S.build_hasher K.hash_input
         tables.old.state.hasher key }
     requires room { 0 < tables.old.state.reserved }
+    requires queue { at_once ≡ true → SendsAll tables.old.state }
     requires bounded { AreBounded tables.old.state }
-    ensures { tables.new.state
-        ≡ written (answers_of R.weight_of R.created R.read R.updated R.covers) K.eq tables.old.state
-        key hash value now step }
+    ensures { tables.new.state ≡ sent_if at_once tables.old.state.next_ticket
+        (written (answers_of R.weight_of R.created R.read R.updated R.covers) K.eq tables.old.state
+        key hash value now step) }
 {
     match tables.place_of(&key, hash) {
-        Some(place) => write_over(tables, place, key, hash, value, now, step),
-        None => write_first(tables, key, hash, value, now, step),
+        Some(place) => write_over(tables, place, key, value, now, step, at_once),
+        None => write_first(tables, key, hash, value, now, step, at_once),
     }
 }
 

@@ -1,5 +1,5 @@
 -- Reads and writes that name records by number and place, as cells change.
-use Rattle.std.proofs.Common.{◌≡◌, refl, ap, sym, ◌∙◌, subst, ℕ, ◌+◌, ◌-◌, ◌≤◌, arith, Bool, true, false, not, cond, ◌&&◌, List, [], ◌∷◌, ◌++◌, drop, Option, Some, None, is_some, inl, inr, eqb}
+use Rattle.std.proofs.Common.{◌≡◌, refl, ap, sym, ◌∙◌, subst, ℕ, zero, suc, ◌+◌, ◌-◌, ◌≤◌, arith, Bool, true, false, not, cond, ◌&&◌, List, [], ◌∷◌, ◌++◌, Option, Some, None, is_some, inl, inr, eqb}
 use Rattle.std.specs.Prelude.{map, option_map, slice_get, IfSome, IfNone}
 use Rattle.std.proofs.lemmas.List.{map-append}
 use Rattle.std.proofs.lemmas.Bool.{and_parts, eqb-true, eq-eqb}
@@ -30,13 +30,20 @@ use Rattle.engine_cells.proofs.Changes.{Loses, Gets, was, place_of, stood}
 use Rattle.engine_cells.proofs.Listed.{record_at-none, record_at-there}
 
 -- a write that was made, as the state shows it
-pub more-unsent : (us : List (Ticketed PlacedWrite)) (t : ℕ) (w : PlacedWrite) → map (unsent_of write_of) (us ++ (record { ticket = t; write = w }) ∷ []) ≡ map (unsent_of write_of) us ++ (record { ticket = t; write = w.write }) ∷ []
-more-unsent us t w = map-append (unsent_of write_of) us ((record { ticket = t; write = w }) ∷ [])
+pub made-unsent : (at_once : Bool) (us : List (Ticketed PlacedWrite)) (t : ℕ) (w : PlacedWrite)
+    → map (unsent_of write_of) (cond at_once us (us ++ (record { ticket = t; write = w }) ∷ [])) ≡ cond at_once (map (unsent_of write_of) us) (map (unsent_of write_of) us ++ (record { ticket = t; write = w.write }) ∷ [])
+made-unsent true us t w = refl
+made-unsent false us t w = map-append (unsent_of write_of) us ((record { ticket = t; write = w }) ∷ [])
 
--- a list whose first is known
-pub first-of_map : {X Y : Type 0} (f : X → Y) (xs : List X) (x : X) → slice_get xs 0 ≡ Some x → map f xs ≡ f x ∷ map f (drop 1 xs)
-first-of_map f [] x e = absurd (cc)
-first-of_map f (y ∷ ys) x e = let same : y ≡ x = cc in ap (λ z. f z ∷ map f ys) same
+pub made-writes : (at_once : Bool) (ws : List PlacedWrite) (w : PlacedWrite) → map write_of (cond at_once (ws ++ w ∷ []) ws) ≡ cond at_once (map write_of ws ++ w.write ∷ []) (map write_of ws)
+made-writes true ws w = map-append write_of ws (w ∷ [])
+made-writes false ws w = refl
+
+-- one of a list
+pub mapped-at : {X Y : Type 0} (f : X → Y) (xs : List X) (i : ℕ) (x : X) → slice_get xs i ≡ Some x → slice_get (map f xs) i ≡ Some (f x)
+mapped-at f [] i x e = absurd (cc)
+mapped-at f (y ∷ ys) zero x e = let same : y ≡ x = cc in ap (λ z. Some (f z)) same
+mapped-at f (y ∷ ys) (suc i) x e = mapped-at f ys i x e
 
 -- what a sending leaves as it was
 sent_of-same : {K V O W P S R : Type 0} (t : ℕ) (o : Option W) (p : Pending K V O W P S R) → with_sent_of t o p ≡ record p { unsent = (with_sent_of t o p).unsent; writes = (with_sent_of t o p).writes }
@@ -110,12 +117,14 @@ module _ {K V : Type 0} where
   unsent-more cells next t w p [] h = (p, tt)
   unsent-more cells next t w p (u ∷ us) h = (h.0, unsent-more cells next t w p us h.1)
 
-  pub aims-made : (cells : List (Option (Record K V))) (next t : ℕ) (w : PlacedWrite) {rs : List Noted} {ws : List PlacedWrite} {us : List (Ticketed PlacedWrite)} → AimsAt cells next w.place (number_written w.write) → AreAllAimed cells next rs ws us → AreAllAimed cells next rs ws (us ++ (record { ticket = t; write = w }) ∷ [])
-  aims-made cells next t w {rs} {ws} {us} p h = record { reads_are = h.reads_are; writes_are = h.writes_are; unsent_are = unsent-more cells next t w p us h.unsent_are }
-
   writes-more : (cells : List (Option (Record K V))) (next : ℕ) (w : PlacedWrite) → AimsAt cells next w.place (number_written w.write) → (ws : List PlacedWrite) → AreWritesAimed cells next ws → AreWritesAimed cells next (ws ++ w ∷ [])
   writes-more cells next w p [] h = (p, tt)
   writes-more cells next w p (x ∷ xs) h = (h.0, writes-more cells next w p xs h.1)
+
+  pub aims-made : (at_once : Bool) (cells : List (Option (Record K V))) (next t : ℕ) (w : PlacedWrite) {rs : List Noted} {ws : List PlacedWrite} {us : List (Ticketed PlacedWrite)} → AimsAt cells next w.place (number_written w.write) → AreAllAimed cells next rs ws us
+      → AreAllAimed cells next rs (cond at_once (ws ++ w ∷ []) ws) (cond at_once us (us ++ (record { ticket = t; write = w }) ∷ []))
+  aims-made true cells next t w {rs} {ws} {us} p h = record { reads_are = h.reads_are; writes_are = writes-more cells next w p ws h.writes_are; unsent_are = h.unsent_are }
+  aims-made false cells next t w {rs} {ws} {us} p h = record { reads_are = h.reads_are; writes_are = h.writes_are; unsent_are = unsent-more cells next t w p us h.unsent_are }
 
   reads-more : (cells : List (Option (Record K V))) (next : ℕ) (n : Noted) → IsAimed cells next n → (ns : List Noted) → AreAimed cells next ns → AreAimed cells next (ns ++ n ∷ [])
   reads-more cells next n p [] h = (p, tt)
@@ -149,22 +158,16 @@ module _ {K V : Type 0} where
       → AreAllAimed cells next p.reads (ticket_sent t p).writes (ticket_sent t p).unsent
   aims-sent cells next t p h = aims-sent_of cells next t (ticketed_at p.unsent t) p refl h
 
-  -- the first goes
-  pub aims-read : (cells : List (Option (Record K V))) (next : ℕ) (rs : List Noted) (ws : List PlacedWrite) (us : List (Ticketed PlacedWrite)) → AreAllAimed cells next rs ws us → AreAllAimed cells next (drop 1 rs) ws us
-  aims-read cells next [] ws us h = h
-  aims-read cells next (r ∷ rs) ws us h = record { reads_are = h.reads_are.1; writes_are = h.writes_are; unsent_are = h.unsent_are }
+  -- one of those that wait
+  pub read-aimed : (cells : List (Option (Record K V))) (next : ℕ) (n : Noted) (rs : List Noted) (i : ℕ) → slice_get rs i ≡ Some n → AreAimed cells next rs → IsAimed cells next n
+  read-aimed cells next n [] i e h = absurd (cc)
+  read-aimed cells next n (r ∷ rs) zero e h = let same : r ≡ n = cc in subst (λ (x : Noted). IsAimed cells next x) same h.0
+  read-aimed cells next n (r ∷ rs) (suc i) e h = read-aimed cells next n rs i e h.1
 
-  pub aims-written : (cells : List (Option (Record K V))) (next : ℕ) (rs : List Noted) (ws : List PlacedWrite) (us : List (Ticketed PlacedWrite)) → AreAllAimed cells next rs ws us → AreAllAimed cells next rs (drop 1 ws) us
-  aims-written cells next rs [] us h = h
-  aims-written cells next rs (w ∷ ws) us h = record { reads_are = h.reads_are; writes_are = h.writes_are.1; unsent_are = h.unsent_are }
-
-  pub first-read : (cells : List (Option (Record K V))) (next : ℕ) (n : Noted) (rs : List Noted) → slice_get rs 0 ≡ Some n → AreAimed cells next rs → IsAimed cells next n
-  first-read cells next n [] e h = absurd (cc)
-  first-read cells next n (r ∷ rs) e h = let same : r ≡ n = cc in subst (λ (x : Noted). IsAimed cells next x) same h.0
-
-  pub first-write : (cells : List (Option (Record K V))) (next : ℕ) (w : PlacedWrite) (ws : List PlacedWrite) → slice_get ws 0 ≡ Some w → AreWritesAimed cells next ws → AimsAt cells next w.place (number_written w.write)
-  first-write cells next w [] e h = absurd (cc)
-  first-write cells next w (x ∷ ws) e h = let same : x ≡ w = cc in subst (λ (y : PlacedWrite). AimsAt cells next y.place (number_written y.write)) same h.0
+  pub write-aimed : (cells : List (Option (Record K V))) (next : ℕ) (w : PlacedWrite) (ws : List PlacedWrite) (i : ℕ) → slice_get ws i ≡ Some w → AreWritesAimed cells next ws → AimsAt cells next w.place (number_written w.write)
+  write-aimed cells next w [] i e h = absurd (cc)
+  write-aimed cells next w (x ∷ ws) zero e h = let same : x ≡ w = cc in subst (λ (y : PlacedWrite). AimsAt cells next y.place (number_written y.write)) same h.0
+  write-aimed cells next w (x ∷ ws) (suc i) e h = write-aimed cells next w ws i e h.1
 
   -- as the numbers in the places show it
   pub points-to : (cells : List (Option (Record K V))) (next place number : ℕ) → AimsAt cells next place number → AimsOnlyAt (numbers_of cells) place number

@@ -1,7 +1,8 @@
 -- Running totals: a sum over the records is a sum over the cells, and changes with one cell.
 use Rattle.std.proofs.Common.{◌≡◌, ◌≢◌, refl, ap, sym, subst, ◌∙◌, ℕ, zero, suc, ◌+◌, ◌-◌, ◌*◌, ◌^◌, ◌<◌, ◌≤◌, length, arith, inl, inr, is_some, Bool, true, false, cond, List, [], ◌∷◌, Option, Some, None}
-use Rattle.std.specs.Prelude.{nat_lt, sum_by, count_by, slice_set, max}
+use Rattle.std.specs.Prelude.{nat_lt, sum_by, count_by, slice_set, max, unwrap_or}
 use Rattle.std.proofs.lemmas.List.Sums.{sum_by-cons}
+use Rattle.engine_reference.specs.declared.data.Entry.{Entry}
 use Rattle.engine_reference.specs.declared.data.Record.{Record}
 use Rattle.engine_reference.specs.Records.{held_entries, held_weight, weight_at, admitted_weight, admitted_number}
 use Rattle.engine_cells.specs.declared.tally.Tally.{Tally}
@@ -18,6 +19,10 @@ pub record IsFitting (t : Tally) : Type 0 where
   pub held : t.held + 2 ^ 32 ≤ 2 ^ 64
   pub weight : t.weight + 2 ^ 32 ≤ 2 ^ 64
   pub number : t.number + 2 ^ 32 ≤ 2 ^ 64
+
+one-or-none : (b : Bool) → cond b 0 1 + cond b 1 0 ≡ 1
+one-or-none true = refl
+one-or-none false = refl
 
 module _ {K V : Type 0} where
   pub held-sum : (rs : List (Record K V)) → held_weight rs ≡ sum_by held_part rs
@@ -161,17 +166,28 @@ module _ {K V : Type 0} where
         ];
       }
 
-  pub tally-insert : (old new : List (Option (Record K V))) (i : ℕ) (d : Record K V) (t u : Tally) → cell_at old i ≡ None → Gets old new i d → IsLightly d → IsTallied old t
-      → u ≡ record { held = t.held + held_part d; weight = t.weight + weight_at d; number = t.number + admitted_part d } → IsTallied new u
-  tally-insert old new i d t u vacant gets light h is = record {
-    held = sum_over-insert held_part old new i d vacant gets.there gets.others ∙ ap (λ n. n + held_part d) h.held ∙ sym (ap (λ v. v.held) is);
-    weight = sum_over-insert weight_at old new i d vacant gets.there gets.others ∙ ap (λ n. n + weight_at d) h.weight ∙ sym (ap (λ v. v.weight) is);
-    number = sum_over-insert admitted_part old new i d vacant gets.there gets.others ∙ ap (λ n. n + admitted_part d) h.number ∙ sym (ap (λ v. v.number) is);
-    light = λ j x at. elim (place_of old new i j d x gets at) [
-      | inl p ↦ subst (λ (y : Record K V). IsLightly y) (sym p.1) light
-      | inr f ↦ h.light j x f
-    ];
-  }
+  -- a record comes that is held and not admitted
+  pub tally-came : (old new : List (Option (Record K V))) (i : ℕ) (d : Record K V) (t u : Tally) → cell_at old i ≡ None → Gets old new i d → d.is_held ≡ true → d.counts ≡ None → d.entry.weight < 2 ^ 32 → IsTallied old t
+      → u ≡ record t { held = t.held - 0 + d.entry.weight } → IsTallied new u
+  tally-came old new i d t u vacant gets held uncounted light h is =
+      let a = sum_over-insert held_part old new i d vacant gets.there gets.others in
+      let b = sum_over-insert weight_at old new i d vacant gets.there gets.others in
+      let e = sum_over-insert admitted_part old new i d vacant gets.there gets.others in
+      let mine : held_part d ≡ d.entry.weight = ap (λ b. cond b d.entry.weight 0) held in
+      let none : weight_at d ≡ 0 = ap (λ o. unwrap_or o 0) uncounted in
+      let out : admitted_part d ≡ 0 = ap (λ o. cond {A = ℕ} (is_some o) 1 0) uncounted in
+      let x = ap (λ v. v.held) is in
+      let y = ap (λ v. v.weight) is in
+      let z = ap (λ v. v.number) is in
+      record {
+        held = omega (arith, a, mine, x, h.held);
+        weight = omega (arith, b, none, y, h.weight);
+        number = omega (arith, e, out, z, h.number);
+        light = λ j r at. elim (place_of old new i j d r gets at) [
+          | inl p ↦ subst (λ (q : Record K V). IsLightly q) (sym p.1) (record { entry = light; counted = omega (arith, none) })
+          | inr f ↦ h.light j r f
+        ];
+      }
 
   pub tally-remove : (old new : List (Option (Record K V))) (i : ℕ) (c : Record K V) (t u : Tally) → cell_at old i ≡ Some c → Loses old new i → new ≡ slice_set old i None → IsTallied old t
       → u ≡ record { held = t.held - held_part c; weight = t.weight - weight_at c; number = t.number - admitted_part c } → IsTallied new u
@@ -206,39 +222,41 @@ module _ {K V : Type 0} where
   abbrev pub less_one : Tally → Record K V → Tally
   less_one t r = record { held = t.held - held_part r; weight = t.weight - weight_at r; number = t.number - admitted_part r }
 
-  abbrev pub plus_one : Tally → Record K V → Tally
-  plus_one t r = record { held = t.held + held_part r; weight = t.weight + weight_at r; number = t.number + admitted_part r }
+  -- a held record has another entry
+  pub tally-rewritten : (cells : List (Option (Record K V))) (i : ℕ) (c : Record K V) (e : Entry K V) (writes : ℕ) (t u : Tally) → cell_at cells i ≡ Some c → c.is_held ≡ true → e.weight < 2 ^ 32 → IsTallied cells t
+      → u ≡ record t { held = t.held - c.entry.weight + e.weight } → IsTallied (slice_set cells i (Some (record c { entry = e; writes = writes }))) u
+  tally-rewritten cells i c e writes t u there held light h is =
+      let d : Record K V = record c { entry = e; writes = writes } in
+      let before : held_part c ≡ c.entry.weight = ap (λ b. cond b c.entry.weight 0) held in
+      let after : held_part d ≡ e.weight = ap (λ b. cond b e.weight 0) held in
+      let within = (tally-has cells i c t there h).held in
+      let x = ap (λ v. v.held) is in
+      tally-set cells i c d t u there (record { entry = light; counted = (h.light i c there).counted }) h
+      (omega (arith, before, after, within, x)) (ap (λ v. v.weight + weight_at c) is) (ap (λ v. v.number + admitted_part c) is)
 
-  pub fits-less : (t u : Tally) (r : Record K V) → IsFitting t → u ≡ less_one t r → IsFitting u
-  fits-less t u r h is =
-      let a = ap (λ v. v.held) is in
-      let b = ap (λ v. v.weight) is in
-      let e = ap (λ v. v.number) is in
-      let held = h.held in
-      let weight = h.weight in
-      let number = h.number in
-      record { held = omega (arith, a, held); weight = omega (arith, b, weight); number = omega (arith, e, number) }
+  -- it is no longer held
+  pub tally-unheld : (cells : List (Option (Record K V))) (i : ℕ) (c : Record K V) (writes : ℕ) (t u : Tally) → cell_at cells i ≡ Some c → IsTallied cells t
+      → u ≡ record t { held = t.held - held_part c } → IsTallied (slice_set cells i (Some (record c { is_held = false; writes = writes }))) u
+  tally-unheld cells i c writes t u there h is =
+      let d : Record K V = record c { is_held = false; writes = writes } in
+      let none : held_part d ≡ 0 = refl in
+      let within = (tally-has cells i c t there h).held in
+      let x = ap (λ v. v.held) is in
+      let light = h.light i c there in
+      tally-set cells i c d t u there (record { entry = light.entry; counted = light.counted }) h
+      (omega (arith, none, within, x)) (ap (λ v. v.weight + weight_at c) is) (ap (λ v. v.number + admitted_part c) is)
 
-  -- a record in the place of another
-  pub tally-replaced : (cells : List (Option (Record K V))) (i : ℕ) (c d : Record K V) (t mid u : Tally) → cell_at cells i ≡ Some c → IsLightly d → IsTallied cells t
-      → mid ≡ less_one t c → u ≡ plus_one mid d → IsTallied (slice_set cells i (Some d)) u
-  tally-replaced cells i c d t mid u there light h less more =
-      let has = tally-has cells i c t there h in
-      let a = has.held in
-      let b = has.weight in
-      let e = has.number in
-      tally-set cells i c d t u there light h
-      (let x = ap (λ v. v.held) less in let y = ap (λ v. v.held) more in omega (arith, x, y, a))
-      (let x = ap (λ v. v.weight) less in let y = ap (λ v. v.weight) more in omega (arith, x, y, b))
-      (let x = ap (λ v. v.number) less in let y = ap (λ v. v.number) more in omega (arith, x, y, e))
+  -- it counts with a weight
+  pub number-counted : (c : Record K V) (t u : Tally) → u.number ≡ t.number + cond (is_some c.counts) 0 1 → u.number + admitted_part c ≡ t.number + 1
+  number-counted c t u is = let one = one-or-none (is_some c.counts) in omega (arith, one, is)
 
-  -- how many are admitted then
-  pub number-replaced : (t mid u : Tally) (r s : Record K V) → Has t r → mid ≡ less_one t r → u ≡ plus_one mid s → u.number + admitted_part r ≡ t.number + admitted_part s
-  number-replaced t mid u r s has less more =
-      let a = ap (λ v. v.number) less in
-      let b = ap (λ v. v.number) more in
-      let e = has.number in
-      omega (arith, a, b, e)
+  pub tally-counted : (cells : List (Option (Record K V))) (i : ℕ) (c : Record K V) (write weight : ℕ) (t u : Tally) → cell_at cells i ≡ Some c → weight < 2 ^ 32 → IsTallied cells t
+      → u ≡ record t { weight = t.weight - weight_at c + weight; number = t.number + cond (is_some c.counts) 0 1 } → IsTallied (slice_set cells i (Some (record c { applied = write; counts = Some weight }))) u
+  tally-counted cells i c write weight t u there light h is =
+      let within = (tally-has cells i c t there h).weight in
+      let x = ap (λ v. v.weight) is in
+      tally-set cells i c (record c { applied = write; counts = Some weight }) t u there (record { entry = (h.light i c there).entry; counted = light }) h
+      (ap (λ v. v.held + held_part c) is) (omega (arith, within, x)) (number-counted c t u (ap (λ v. v.number) is))
 
   pub number-left : (t u : Tally) (r : Record K V) → Has t r → u ≡ less_one t r → u.number + admitted_part r ≡ t.number
   number-left t u r has less =
@@ -354,15 +372,13 @@ module _ {K V : Type 0} where
       }
 
   -- a record comes that is not admitted, in room that was kept for it
-  pub places-inserted : (old new : Slab (Record K V)) (m n more : ℕ) (d : Record K V) (queue : Indices) → HasPlacesFor old m more queue → d.counts ≡ None → slab_len new ≡ slab_len old + 1 → length new.slots ≤ max (length old.slots) (slab_len old + 1)
-      → n ≡ m + admitted_part d → 0 < more → HasPlacesFor new n (more - 1) queue
-  places-inserted old new m n more d queue fits uncounted len long number some =
-      let none : admitted_part d ≡ 0 = ap (λ o. cond {A = ℕ} (is_some o) 1 0) uncounted in
-      record {
-        room = omega (arith, len, number, none, some, fits.room);
-        taken = omega (arith, long, len, some, fits.taken, fits.coming);
-        coming = omega (arith, len, some, fits.coming);
-      }
+  pub places-inserted : (old new : Slab (Record K V)) (m n more : ℕ) (queue : Indices) → HasPlacesFor old m more queue → slab_len new ≡ slab_len old + 1 → length new.slots ≤ max (length old.slots) (slab_len old + 1)
+      → n ≡ m → 0 < more → HasPlacesFor new n (more - 1) queue
+  places-inserted old new m n more queue fits len long number some = record {
+    room = omega (arith, len, number, some, fits.room);
+    taken = omega (arith, long, len, some, fits.taken, fits.coming);
+    coming = omega (arith, len, some, fits.coming);
+  }
 
   -- the queue gains room
   pub places-gained : (old new : Slab (Record K V)) (m more : ℕ) (before after : Indices) → HasPlacesFor old m more before → new.slots ≡ old.slots → OnlyGainsPlaces before after → HasPlacesFor new m more after

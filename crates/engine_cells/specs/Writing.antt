@@ -1,5 +1,5 @@
 -- Writes of records as they are.
-use Rattle.std.specs.Prelude.{◌≡◌, ℕ, ◌+◌, ◌-◌, Bool, true, [], ◌∷◌, ◌++◌, None}
+use Rattle.std.specs.Prelude.{◌≡◌, ℕ, ◌+◌, ◌-◌, Bool, true, if◌then◌else◌, [], ◌∷◌, ◌++◌, None}
 use Rattle.engine_reference.specs.declared.data.Record.{Record}
 use Rattle.engine_reference.specs.declared.data.Write.{Write}
 use Rattle.engine_reference.specs.declared.data.Write.TheVariants.{Put}
@@ -17,13 +17,15 @@ module _ {K V : Type 0} where
     kept = kept;
   })
 
-  -- it waits to be sent, with the weight of all that is held
-  abbrev pub with_put_for : {P S R : Type 0} → Record K V → State K V P S R → State K V P S R
-  with_put_for r s = record s {
-    unsent = s.unsent ++ (record {
+  -- it goes into the queue at once, or waits to be sent, with the weight of all that is held
+  abbrev pub with_put_for : {P S R : Type 0} → Bool → Record K V → State K V P S R
+      → State K V P S R
+  with_put_for at_once r s = record s {
+    unsent = if at_once then s.unsent else s.unsent ++ (record {
       ticket = s.next_ticket;
       write = put_for r (held_weight s.records);
     }) ∷ [];
+    writes = if at_once then s.writes ++ put_for r (held_weight s.records) ∷ [] else s.writes;
     next_ticket = s.next_ticket + 1;
     reserved = s.reserved - 1;
   }

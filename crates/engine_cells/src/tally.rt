@@ -1,7 +1,7 @@
 //! Running totals of records.
-ghost use Rattle.std.specs.Prelude.{◌≡◌, ◌+◌, ◌-◌, ◌<◌, ◌≤◌, ◌^◌};
+ghost use Rattle.std.specs.Prelude.{◌≡◌, ◌+◌, ◌-◌, ◌<◌, ◌≤◌, ◌^◌, unwrap_or, is_some, if◌then◌else◌};
 ghost use Rattle.engine_reference.specs.Records.{weight_at};
-ghost use Rattle.engine_cells.specs.Tallying.{held_part, admitted_part, IsLightly};
+ghost use Rattle.engine_cells.specs.Tallying.{held_part, admitted_part};
 
 use engine_reference::Record;
 
@@ -14,22 +14,49 @@ pub struct Tally {
 }
 
 impl Tally {
-    /// With one more record.
-    pub fn with<K, V>(self, came: &Record<K, V>) -> Tally
-        requires held { self.held + 2 ^ 32 ≤ 2 ^ 64 }
-        requires weight { self.weight + 2 ^ 32 ≤ 2 ^ 64 }
-        requires number { self.number + 2 ^ 32 ≤ 2 ^ 64 }
-        ensures light { IsLightly came.now }
-        ensures more { result ≡ record {
-          held = self.held + held_part came.now;
-          weight = self.weight + weight_at came.now;
-          number = self.number + admitted_part came.now;
-        } }
+    /// With an entry of a weight in the place of a held one.
+    pub fn rewritten(self, before: u32, after: u32) -> Tally
+        requires within { before ≤ self.held }
+        requires room { self.held + 2 ^ 32 ≤ 2 ^ 64 }
+        ensures is { result ≡ record self { held = self.held - before + after } }
+        ensures light { after < 2 ^ 32 }
     {
         Tally {
-            held: self.held + u64::from(weight_if_held(came)),
-            weight: self.weight + u64::from(came.counts.unwrap_or(0)),
-            number: self.number + one_if_admitted(came),
+            held: self.held - u64::from(before) + u64::from(after),
+            ..self
+        }
+    }
+
+    /// With a record that counts with another weight, or did not count before.
+    pub fn counted(self, before: Option<u32>, weight: u32) -> Tally
+        requires within { unwrap_or before 0 ≤ self.weight }
+        requires room { self.weight + 2 ^ 32 ≤ 2 ^ 64 }
+        requires number { self.number + 2 ^ 32 ≤ 2 ^ 64 }
+        ensures is { result ≡ record self {
+          weight = self.weight - unwrap_or before 0 + weight;
+          number = self.number + (if is_some before then 0 else 1);
+        } }
+        ensures light { weight < 2 ^ 32 }
+    {
+        let (counted, more) = match before {
+            Some(before) => (before, 0),
+            None => (0, 1),
+        };
+        Tally {
+            held: self.held,
+            weight: self.weight - u64::from(counted) + u64::from(weight),
+            number: self.number + more,
+        }
+    }
+
+    /// With one of its records that is no longer held.
+    pub fn unheld<K, V>(self, found: &Record<K, V>) -> Tally
+        requires { held_part found.now ≤ self.held }
+        ensures { result ≡ record self { held = self.held - held_part found.now } }
+    {
+        Tally {
+            held: self.held - u64::from(weight_if_held(found)),
+            ..self
         }
     }
 
@@ -47,24 +74,14 @@ impl Tally {
         Tally {
             held: self.held - u64::from(weight_if_held(went)),
             weight: self.weight - u64::from(went.counts.unwrap_or(0)),
-            number: self.number - one_if_admitted(went),
+            number: self.number - u64::from(went.counts.is_some()),
         }
     }
 }
 
 /// The weight of a held record, and 0 for another.
 fn weight_if_held<K, V>(found: &Record<K, V>) -> u32
-    ensures is { result ≡ held_part found.now }
-    ensures light { found.now.entry.weight < 2 ^ 32 }
+    ensures { result ≡ held_part found.now }
 {
-    let weight = found.entry.weight;
-    if found.is_held { weight } else { 0 }
-}
-
-/// 1 for an admitted record, and 0 for another.
-fn one_if_admitted<K, V>(found: &Record<K, V>) -> u64
-    ensures is { result ≡ admitted_part found.now }
-    ensures most { result ≤ 1 }
-{
-    if found.counts.is_some() { 1 } else { 0 }
+    if found.is_held { found.entry.weight } else { 0 }
 }

@@ -11,7 +11,7 @@ use Rattle.engine_reference.specs.Calls.{with_sent, unsent_at, without_ticket}
 use Rattle.engine_reference.specs.Times.{end_of, is_reached}
 use Rattle.engine_reference.specs.Visible.{told}
 use Rattle.engine_pending.specs.declared.tickets.Ticketed.{Ticketed}
-use Rattle.engine_pending.specs.Pending.{Pending, ticketed_at, without_ticketed, with_sent_of, told_if}
+use Rattle.engine_pending.specs.Pending.{Pending, ticketed_at, without_ticketed, with_sent_of, told_if, with_write}
 use Rattle.engine_pending.specs.Whole.{unsent_of, whole, PendingAgrees}
 
 module _ {W : Type 0} (write_of : W → Write) (t : ℕ) where
@@ -46,6 +46,17 @@ module _ {K V O W P S R : Type 0} (read_of : O → Read) (write_of : W → Write
   told-whole true why e = refl
   told-whole false why e = refl
 
+  added-whole : (at_once : Bool) (w : W) → whole read_of write_of records access order next (with_write at_once w p)
+      ≡ (let s = whole read_of write_of records access order next p in record s {
+        unsent = cond at_once s.unsent (s.unsent ++ (record { ticket = s.next_ticket; write = write_of w }) ∷ []);
+        writes = cond at_once (s.writes ++ write_of w ∷ []) s.writes;
+        next_ticket = s.next_ticket + 1;
+        reserved = s.reserved - 1;
+      })
+  added-whole true w = ap (λ ws. record (whole read_of write_of records access order next p) { writes = ws; next_ticket = p.next_ticket + 1; reserved = p.reserved - 1 }) (map-append write_of p.writes (w ∷ []))
+  added-whole false w = ap (λ us. record (whole read_of write_of records access order next p) { unsent = us; next_ticket = p.next_ticket + 1; reserved = p.reserved - 1 })
+      (map-append (unsent_of write_of) p.unsent ((record { ticket = p.next_ticket; write = w }) ∷ []))
+
 module _ (K V O W P S R : Type 0) where
   pub pending_agrees : PendingAgrees K V O W P S R
   pending_agrees read_of write_of records access order next = record {
@@ -53,8 +64,7 @@ module _ (K V O W P S R : Type 0) where
     sent = λ ticket p. sent-whole read_of write_of records access order next p ticket (ticketed_at p.unsent ticket)
         ∙ ap (λ o. with_sent ticket o (whole read_of write_of records access order next p)) (sym (ticket-at write_of ticket p.unsent));
     full = λ p. ap (λ n. nat_le 128 n) (length-map p.writes write_of);
-    added = λ w p. ap (λ us. record (whole read_of write_of records access order next p) { unsent = us; next_ticket = p.next_ticket + 1; reserved = p.reserved - 1 })
-        (map-append (unsent_of write_of) p.unsent ((record { ticket = p.next_ticket; write = w }) ∷ []));
+    added = λ at_once w p. added-whole read_of write_of records access order next p at_once w;
     read = λ o p. ap (λ rs. record (whole read_of write_of records access order next p) { reads = rs }) (map-append read_of p.reads (o ∷ []));
     counted = λ p. ap (λ rs. record (whole read_of write_of records access order next p) { reads = rs }) (sym (drop-map read_of 1 p.reads));
     applied = λ p. ap (λ ws. record (whole read_of write_of records access order next p) { writes = ws }) (sym (drop-map write_of 1 p.writes));

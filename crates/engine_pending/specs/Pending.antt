@@ -1,7 +1,7 @@
 -- Everything that a contract sees of a cache of one part apart from its records and their lists: the fields of the reference cache's state
 -- that are not about records. `O` is what is kept of a read, and `W` of a write: what the reference cache has of it, and the place of its
 -- record.
-use Rattle.std.specs.Prelude.{◌≡◌, ℕ, ◌+◌, ◌-◌, ◌≤◌, ◌==◌, nat_le, nat_lt, min, Bool, false, ◌&&◌, ◌||◌, if◌then◌else◌, List, [], ◌∷◌, ◌++◌, drop, length, Option, Some, None}
+use Rattle.std.specs.Prelude.{◌≡◌, ℕ, ◌+◌, ◌-◌, ◌≤◌, ◌==◌, nat_le, nat_lt, min, Bool, true, false, ◌&&◌, ◌||◌, if◌then◌else◌, List, [], ◌∷◌, ◌++◌, drop, length, Option, Some, None}
 use Rattle.std.specs.List.{list_any}
 use Rattle.policy_base.specs.Counts.{Sketch}
 use Rattle.engine_reference.specs.declared.rules.causes.RemovalCause.{RemovalCause}
@@ -66,10 +66,12 @@ pub record IsUntouched {K V O W P S R : Type 0} (name : Option (List ℕ)) (sett
   pub rules_are : s.rules ≡ rules
 
 module _ {K V O W P S R : Type 0} where
-  -- a write waits under the next ticket, in the room that was made for it
-  abbrev pub with_ticketed : W → Pending K V O W P S R → Pending K V O W P S R
-  with_ticketed w s = record s {
-    unsent = s.unsent ++ (record { ticket = s.next_ticket; write = w }) ∷ [];
+  -- a write, in the room that was made for it, goes into the queue at once, or waits under the next ticket
+  abbrev pub with_write : Bool → W → Pending K V O W P S R → Pending K V O W P S R
+  with_write at_once w s = record s {
+    unsent = if at_once then s.unsent
+        else s.unsent ++ (record { ticket = s.next_ticket; write = w }) ∷ [];
+    writes = if at_once then s.writes ++ w ∷ [] else s.writes;
     next_ticket = s.next_ticket + 1;
     reserved = s.reserved - 1;
   }
@@ -112,8 +114,8 @@ module _ {K V O W P S R : Type 0} where
       nat_le 64 (length s.writes) || nat_le 64 (length s.reads)
       || is_reached (end_of s.ran (Some 300000000)) now
 
-  -- there is room for this many more writes or predicates, and for a notice of each record that is or may come
+  -- there is room for this many more writes or predicates, and, where removals are told, for a notice of each record that is or may come
   pub record MakesRoom (by records : ℕ) (old new : Pending K V O W P S R) : Type 0 where
     pub room : ℕ
-    pub enough : records + old.reserved + by ≤ room
+    pub enough : old.settings.tells ≡ true → records + old.reserved + by ≤ room
     pub made : new ≡ record old { reserved = old.reserved + by; notice_room = room }

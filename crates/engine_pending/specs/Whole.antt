@@ -1,5 +1,5 @@
 -- The state of the reference cache, composed of its records with their lists and of what is kept apart from them.
-use Rattle.std.specs.Prelude.{◌≡◌, ℕ, ◌+◌, ◌-◌, nat_le, Bool, List, [], ◌∷◌, ◌++◌, map, drop, length, option_map}
+use Rattle.std.specs.Prelude.{◌≡◌, ℕ, ◌+◌, ◌-◌, nat_le, Bool, if◌then◌else◌, List, [], ◌∷◌, ◌++◌, map, drop, length, option_map}
 use Rattle.engine_reference.specs.declared.rules.causes.RemovalCause.{RemovalCause}
 use Rattle.engine_reference.specs.declared.data.Entry.{Entry}
 use Rattle.engine_reference.specs.declared.data.Read.{Read}
@@ -11,7 +11,7 @@ use Rattle.engine_reference.specs.Runs.{is_due}
 use Rattle.engine_reference.specs.State.{State, Answers}
 use Rattle.engine_reference.specs.Visible.{is_covered, told}
 use Rattle.engine_pending.specs.declared.tickets.Ticketed.{Ticketed}
-use Rattle.engine_pending.specs.Pending.{Pending, ticketed_at, with_ticketed, ticket_sent, told_if, notice_taken, stands_over, is_run_due}
+use Rattle.engine_pending.specs.Pending.{Pending, ticketed_at, with_write, ticket_sent, told_if, notice_taken, stands_over, is_run_due}
 
 -- a write under its ticket, as the state has it
 abbrev pub unsent_of : {W : Type 0} → (W → Write) → Ticketed W → Unsent
@@ -56,11 +56,13 @@ module _ (K V O W P S R : Type 0) where
         ≡ sent ticket (whole read_of write_of records access order next p)
     pub full : (p : Pending K V O W P S R) → is_full
         (whole read_of write_of records access order next p) ≡ nat_le 128 (length p.writes)
-    pub added : (w : W) (p : Pending K V O W P S R)
-        → whole read_of write_of records access order next (with_ticketed w p)
+    pub added : (at_once : Bool) (w : W) (p : Pending K V O W P S R)
+        → whole read_of write_of records access order next (with_write at_once w p)
         ≡ (let s = whole read_of write_of records access order next p in
         record s {
-          unsent = s.unsent ++ (record { ticket = s.next_ticket; write = write_of w }) ∷ [];
+          unsent = if at_once then s.unsent
+              else s.unsent ++ (record { ticket = s.next_ticket; write = write_of w }) ∷ [];
+          writes = if at_once then s.writes ++ write_of w ∷ [] else s.writes;
           next_ticket = s.next_ticket + 1;
           reserved = s.reserved - 1;
         })

@@ -4,7 +4,7 @@ ghost use Rattle.std.specs.String.{string_bytes};
 ghost use Rattle.std.specs.Result.{IsErrOf};
 ghost use Rattle.std.specs.Int.{IsNextPowerOfTwo};
 ghost use Rattle.policy_base.specs.Counts.{incremented, grown};
-ghost use Rattle.engine_pending.specs.Pending.{IsUntouched, MakesRoom, is_run_due, notice_taken, stands_over, ticket_sent, ticketed_at, told_if, with_ticketed, without_ticketed};
+ghost use Rattle.engine_pending.specs.Pending.{IsUntouched, MakesRoom, is_run_due, notice_taken, stands_over, ticket_sent, ticketed_at, told_if, with_write, without_ticketed};
 ghost use Rattle.engine_pending.specs.declared.tickets.Ticketed.{Ticketed};
 
 use crate::covering::is_any_over;
@@ -34,8 +34,8 @@ pub struct Backlog<K, V, O, W, S, R: Rules<K, V>> {
     cleared: u64,
     predicates: Vec<Registered<R::Predicate>>,
     unsent: Vec<Ticketed<W>>,
-    reads: HeapCircularBuffer<O>,
-    writes: HeapCircularBuffer<W>,
+    reads: Vec<O>,
+    writes: Vec<W>,
     notices: HeapCircularBuffer<Notice<K, V>>,
     sketch: FrequencySketch,
     number: u64,
@@ -82,8 +82,8 @@ impl<K, V, O, W, S, R: Rules<K, V>> Model for Backlog<K, V, O, W, S, R> {
     ghost invariant = { λ c. record {
       unsent : vec_len c.unsent + c.reserved ≤ vec_capacity c.unsent;
       predicates : vec_len c.predicates + c.reserved ≤ vec_capacity c.predicates;
-      reads : c.reads.capacity ≡ 64;
-      writes : c.writes.capacity ≡ 128;
+      reads : 64 ≤ vec_capacity c.reads;
+      writes : 128 ≤ vec_capacity c.writes;
       notices : length c.notices.items ≤ c.notices.capacity;
       tickets : c.next_ticket + c.reserved < 2 ^ 64;
     } };
@@ -106,8 +106,8 @@ impl<K, V, O, W, S, R: Rules<K, V>> Backlog<K, V, O, W, S, R> {
         ensures { IfOk result
             (λ made. IsUntouched (option_map string_bytes name) settings hasher rules made) }
     {
-        let reads = HeapCircularBuffer::with_capacity(alloc, MAX_READS)?;
-        let writes = HeapCircularBuffer::with_capacity(alloc, MAX_WRITES)?;
+        let reads = Vec::with_capacity(alloc, MAX_READS)?;
+        let writes = Vec::with_capacity(alloc, MAX_WRITES)?;
         let notices = HeapCircularBuffer::with_capacity(alloc, 0)?;
         Ok(Backlog {
             cleared: 0,
@@ -153,18 +153,18 @@ impl<K, V, O, W, S, R: Rules<K, V>> Backlog<K, V, O, W, S, R> {
         self.predicates.as_slice()
     }
 
-    /// How many reads wait to be counted.
-    pub fn number_of_reads(&self) -> usize
-        ensures { result ≡ length self.now.reads }
+    /// The reads that wait to be counted, the oldest first.
+    pub fn reads(&self) -> &[O]
+        ensures { result.now ≡ self.now.reads }
     {
-        self.reads.len()
+        self.reads.as_slice()
     }
 
-    /// How many writes wait to be applied.
-    pub fn number_of_writes(&self) -> usize
-        ensures { result ≡ length self.now.writes }
+    /// The writes that wait to be applied, the oldest first.
+    pub fn writes(&self) -> &[W]
+        ensures { result.now ≡ self.now.writes }
     {
-        self.writes.len()
+        self.writes.as_slice()
     }
 
     /// How often hashes were asked for.
@@ -307,7 +307,7 @@ impl<K, V, O, W, S, R: Rules<K, V>> Backlog<K, V, O, W, S, R> {
     where
         K: Drop,
         V: Drop,
-        requires { 0 < self.old.notice_room }
+        requires { self.old.settings.tells ≡ true → 0 < self.old.notice_room }
         ensures { self.new ≡ told_if (is_told && self.old.settings.tells) cause entry self.old }
     {
         if is_told && self.settings.tells {
@@ -342,7 +342,7 @@ impl<K, V, O, W, S, R: Rules<K, V>> Backlog<K, V, O, W, S, R> {
     where
         K: Drop,
         V: Drop,
-        requires room { 0 < self.old.notice_room }
+        requires room { self.old.settings.tells ≡ true → 0 < self.old.notice_room }
         requires reserved { 0 < self.old.reserved }
         ensures { self.new ≡ told_if self.old.settings.tells cause entry
             (record self.old { reserved = self.old.reserved - 1 }) }
@@ -353,7 +353,8 @@ impl<K, V, O, W, S, R: Rules<K, V>> Backlog<K, V, O, W, S, R> {
 
     // ---- room
 
-    /// Makes room for so many more writes or predicates, and for a notice of each of so many records and of those to come.
+    /// Makes room for so many more writes or predicates, and, where removals are told, for a notice of each of so many records and of
+    /// those to come.
     pub fn make_room(&mut self, by: u64, records: usize) -> Result<(), Refusal>
         ensures ok { OnOk result (MakesRoom by records self.old self.new) }
         ensures err { OnErr result (self.new ≡ self.old) }
@@ -371,7 +372,7 @@ impl<K, V, O, W, S, R: Rules<K, V>> Backlog<K, V, O, W, S, R> {
             Some(told) => {
                 self.unsent.reserve(more as usize)?;
                 self.predicates.reserve(more as usize)?;
-                grow(&mut self.notices, told)?;
+                grow_if(self.settings.tells, &mut self.notices, told)?;
                 self.reserved = more;
                 Ok(())
             }
@@ -389,17 +390,27 @@ impl<K, V, O, W, S, R: Rules<K, V>> Backlog<K, V, O, W, S, R> {
 
     // ---- writes
 
-    /// Adds a write, for which there is room, and answers the ticket under which it waits.
-    pub fn add_write(&mut self, write: W) -> u64
-        requires { 0 < self.old.reserved }
-        ensures ticket { result ≡ self.old.next_ticket }
-        ensures added { self.new ≡ with_ticketed write self.old }
+    /// Adds a write, for which there is room: it goes into the queue at once, or waits under the next ticket.
+    pub fn add_write(&mut self, write: W, at_once: bool)
+        requires room { 0 < self.old.reserved }
+        requires queue { at_once ≡ true → length self.old.writes < 128 }
+        ensures { self.new ≡ with_write at_once write self.old }
     {
         let ticket = self.next_ticket;
-        self.unsent.push_reserved(Ticketed { ticket, write });
         self.next_ticket += 1;
         self.reserved -= 1;
-        ticket
+        if at_once {
+            self.writes.push_reserved(write);
+        } else {
+            self.unsent.push_reserved(Ticketed { ticket, write });
+        }
+    }
+
+    /// Whether each ticket was sent and the queue has room, so that a write can go into it at once.
+    pub fn can_send(&self) -> bool
+        ensures { result ≡ true → (self.now.unsent ≡ []) × (length self.now.writes < 128) }
+    {
+        self.unsent.is_empty() && self.writes.len() < MAX_WRITES
     }
 
     /// Moves the write of a ticket into the queue. An unknown ticket is refused before a full queue.
@@ -437,18 +448,16 @@ impl<K, V, O, W, S, R: Rules<K, V>> Backlog<K, V, O, W, S, R> {
         ensures { self.new ≡ ticket_sent _ticket self.old }
     {
         let sent = take_ticketed(&mut self.unsent, place);
-        match self.writes.try_push_back(sent.write) {
-            Ok(()) => {}
-            Err(_) => unreachable!(),
-        }
+        self.writes.push_reserved(sent.write);
     }
 
-    /// Takes off the write that waits longest.
-    pub fn pop_write(&mut self) -> Option<W>
-        ensures first { result ≡ slice_get self.old.writes 0 }
-        ensures rest { self.new ≡ record self.old { writes = drop 1 self.old.writes } }
+    /// No write is left to apply.
+    pub fn end_writes(&mut self)
+    where
+        W: Drop,
+        ensures { self.new ≡ record self.old { writes = [] } }
     {
-        self.writes.pop_front()
+        self.writes.clear();
     }
 
     // ---- reads
@@ -458,18 +467,16 @@ impl<K, V, O, W, S, R: Rules<K, V>> Backlog<K, V, O, W, S, R> {
         requires { length self.old.reads < 64 }
         ensures { self.new ≡ record self.old { reads = self.old.reads ++ read ∷ [] } }
     {
-        match self.reads.try_push_back(read) {
-            Ok(()) => {}
-            Err(_) => unreachable!(),
-        }
+        self.reads.push_reserved(read);
     }
 
-    /// Takes off the read that waits longest.
-    pub fn pop_read(&mut self) -> Option<O>
-        ensures first { result ≡ slice_get self.old.reads 0 }
-        ensures rest { self.new ≡ record self.old { reads = drop 1 self.old.reads } }
+    /// No read is left to count.
+    pub fn end_reads(&mut self)
+    where
+        O: Drop,
+        ensures { self.new ≡ record self.old { reads = [] } }
     {
-        self.reads.pop_front()
+        self.reads.clear();
     }
 
     /// Counts a hash as asked for.
@@ -503,16 +510,24 @@ impl<K, V, O, W, S, R: Rules<K, V>> Backlog<K, V, O, W, S, R> {
     }
 }
 
-/// Makes room for so many more items. What is there at least doubles, where it grows.
-fn grow<T>(items: &mut HeapCircularBuffer<T>, more: usize) -> Result<(), AllocError>
+/// Makes room for so many more items, where it is wanted. What is there at least doubles, where it grows.
+fn grow_if<T>(
+    is_wanted: bool,
+    items: &mut HeapCircularBuffer<T>,
+    more: usize,
+) -> Result<(), AllocError>
     ensures items { items.new.items ≡ items.old.items }
     ensures within { length items.new.items ≤ items.new.capacity }
-    ensures room { OnOk result (length items.new.items + more ≤ items.new.capacity) }
+    ensures room { OnOk result
+        (is_wanted ≡ true → length items.new.items + more ≤ items.new.capacity) }
     ensures err { OnErr result (items.new ≡ items.old) }
 {
+    let there = items.capacity();
+    if !is_wanted {
+        return Ok(());
+    }
     match items.len().checked_add(more) {
         Some(needed) => {
-            let there = items.capacity();
             if needed <= there {
                 return Ok(());
             }

@@ -1,10 +1,16 @@
 -- Steps in a row, and what the count of a read leaves.
-use Rattle.std.proofs.Common.{◌≡◌, refl, subst, ℕ, Bool, true, false, cond, List, [], ◌∷◌, ◌++◌, Option, Some, None, is_some}
+use Rattle.std.proofs.Common.{◌≡◌, refl, ap, sym, ◌∙◌, subst, ℕ, zero, suc, ◌+◌, ◌≤◌, arith, Bool, true, false, cond, List, [], ◌∷◌, ◌++◌, drop, length, Option, Some, None, is_some}
+use Rattle.std.specs.Prelude.{nat_lt, slice_get}
+use Rattle.engine_reference.specs.Admission.{Verdict, admit, displace, refuse, verdict}
+use Rattle.engine_reference.specs.declared.rules.causes.RemovalCause.{RemovalCause}
+use Rattle.engine_reference.specs.declared.rules.causes.RemovalCause.TheVariants as cause
+use Rattle.engine_reference.specs.declared.data.Upsert.{Upsert}
+use Rattle.engine_reference.proofs.SoundSteps.{after_write-frame}
 use Rattle.engine_reference.specs.declared.data.Record.{Record}
 use Rattle.engine_reference.specs.declared.data.Read.{Read}
 use Rattle.engine_reference.specs.declared.data.Read.TheVariants.{Hit, Miss}
-use Rattle.engine_reference.specs.Records.{record_at, moved_to_back}
-use Rattle.engine_reference.specs.Runs.{Step, Steps, after_read, after_hit}
+use Rattle.engine_reference.specs.Records.{record_at, without_record, without, moved_to_back}
+use Rattle.engine_reference.specs.Runs.{Step, Steps, reads, writes, after_read, after_hit, after_write, after_put, after_removal, with_left, left, all_left, judged, counting, put_off, is_overtaken}
 use Rattle.engine_reference.specs.State.{State, Answers}
 use Rattle.engine_reference.specs.declared.data.Write.{Write}
 use Rattle.engine_reference.specs.declared.data.Write.TheVariants.{Put, Removed}
@@ -15,6 +21,20 @@ use Rattle.engine_cells.specs.Stretches.{Stretch}
 pub number-is : (w : Write) → number_written w ≡ number_of w
 number-is (Put u) = refl
 number-is (Removed number) = refl
+
+drop-there : {X : Type 0} (xs : List X) (i : ℕ) (x : X) → slice_get xs i ≡ Some x → drop i xs ≡ x ∷ drop (suc i) xs
+drop-there [] i x h = absurd (cc)
+drop-there (y ∷ xs) zero x h = let same : y ≡ x = cc in ap (λ z. z ∷ xs) same
+drop-there (y ∷ xs) (suc i) x h = drop-there xs i x h
+
+one_more : (i : ℕ) → suc i ≡ i + 1
+one_more i = omega arith
+
+pub drop-all : {X : Type 0} (xs : List X) (i : ℕ) → length xs ≤ i → drop i xs ≡ []
+drop-all [] zero h = refl
+drop-all [] (suc i) h = refl
+drop-all (x ∷ xs) zero h = absurd (omega arith)
+drop-all (x ∷ xs) (suc i) h = drop-all xs i (omega arith)
 
 module _ {K V P S R : Type 0} where
   reads-hit : (o : Option (Record K V)) (s : State K V P S R) → (after_hit o s).reads ≡ s.reads
@@ -29,6 +49,53 @@ module _ {K V P S R : Type 0} where
   reads-left (Hit number hash) s = reads-hit (record_at s.records number) (record s { sketch = (after_read (Miss hash) s).sketch })
   reads-left (Miss hash) s = refl
 
+  -- ---- what waits has no part in what a read or a write does
+
+  reads-apart : (r : Read) (s : State K V P S R) (rs : List Read) → after_read r (record s { reads = rs }) ≡ record (after_read r s) { reads = rs }
+  reads-apart (Miss hash) s rs = refl
+  reads-apart (Hit number hash) s rs = go (record_at s.records number)
+    where
+      t : State K V P S R
+      t = after_read (Miss hash) s
+
+      by_counts : (r : Record K V) (b : Bool) → cond b (record t { reads = rs; access = moved_to_back r.number s.access }) (record t { reads = rs }) ≡ record (cond b (record t { access = moved_to_back r.number s.access }) t) { reads = rs }
+      by_counts r true = refl
+      by_counts r false = refl
+
+      go : (o : Option (Record K V)) → after_hit o (record t { reads = rs }) ≡ record (after_hit o t) { reads = rs }
+      go None = refl
+      go (Some r) = by_counts r (is_some r.counts)
+
+  module _ (ws : List Write) where
+    left-apart : (why : RemovalCause) (s : State K V P S R) (o : Option (Record K V)) → with_left why (record s { writes = ws }) o ≡ record (with_left why s o) { writes = ws }
+    left-apart why s None = refl
+    left-apart why s (Some r) = refl
+
+    all_left-apart : (why : RemovalCause) (rs : List (Record K V)) (s : State K V P S R) → all_left why rs (record s { writes = ws }) ≡ record (all_left why rs s) { writes = ws }
+    all_left-apart why [] s = refl
+    all_left-apart why (r ∷ rs) s = ap (λ t. all_left why rs t) (left-apart why s (record_at s.records r.number)) ∙ all_left-apart why rs (left why r.number s)
+
+    either-apart : (b : Bool) (s t u v : State K V P S R) → s ≡ record u { writes = ws } → t ≡ record v { writes = ws } → cond b s t ≡ record (cond b u v) { writes = ws }
+    either-apart true s t u v h k = h
+    either-apart false s t u v h k = k
+
+    judged-apart : (u : Upsert) (r : Record K V) (s : State K V P S R) (v : Verdict K V) → judged u r (record s { writes = ws }) v ≡ record (judged u r s v) { writes = ws }
+    judged-apart u r s admit = refl
+    judged-apart u r s (displace victims) = ap (λ t. counting u t) (all_left-apart cause.Size victims s)
+    judged-apart u r s refuse = either-apart (is_overtaken u r) _ _ (put_off u s) (left cause.Size u.number s) refl (left-apart cause.Size s (record_at s.records u.number))
+
+    put-apart : (u : Upsert) (o : Option (Record K V)) (s : State K V P S R) → after_put u o (record s { writes = ws }) ≡ record (after_put u o s) { writes = ws }
+    put-apart u None s = refl
+    put-apart u (Some r) s = either-apart (nat_lt r.applied u.write) _ _ _ s (either-apart (is_some r.counts) _ _ (counting u s) (judged u r s (verdict s u)) refl (judged-apart u r s (verdict s u))) refl
+
+    removal-apart : (o : Option (Record K V)) (s : State K V P S R) → after_removal o (record s { writes = ws }) ≡ record (after_removal o s) { writes = ws }
+    removal-apart None s = refl
+    removal-apart (Some r) s = either-apart r.is_held _ _ s (record s { records = without_record r.number s.records; access = without r.number s.access; order = without r.number s.order }) refl refl
+
+    writes-apart : (w : Write) (s : State K V P S R) → after_write w (record s { writes = ws }) ≡ record (after_write w s) { writes = ws }
+    writes-apart (Put u) s = put-apart u (record_at s.records u.number) s
+    writes-apart (Removed number) s = removal-apart (record_at s.records number) s
+
 module _ {K V P S R : Type 0} (answers : Answers K V P R) (now : ℕ) where
   pub stretch-start : (s : State K V P S R) → Stretch answers now s s
   stretch-start s = record { stages = []; steps = refl }
@@ -39,3 +106,18 @@ module _ {K V P S R : Type 0} (answers : Answers K V P R) (now : ℕ) where
 
   pub stretch-more : (old mid new : State K V P S R) → Stretch answers now old mid → Step answers now mid new → Stretch answers now old new
   stretch-more old mid new h step = record { stages = h.stages ++ new ∷ []; steps = steps-more h.stages old mid new h.steps step }
+
+  -- the read at a place is counted, and the write at a place applied, as a walk over those that wait comes to it
+  pub walk-read : (old mid new : State K V P S R) (i : ℕ) (r : Read) → Stretch answers now old (record mid { reads = drop i mid.reads }) → slice_get mid.reads i ≡ Some r → new ≡ after_read r mid
+      → Stretch answers now old (record new { reads = drop (i + 1) new.reads })
+  walk-read old mid new i r h at is =
+      let rest = drop (i + 1) mid.reads in
+      stretch-more old (record mid { reads = drop i mid.reads }) _ h (reads r rest (drop-there mid.reads i r at ∙ ap (λ k. r ∷ drop k mid.reads) (one_more i))
+      (ap (λ (s : State K V P S R). record s { reads = drop (i + 1) s.reads }) is ∙ ap (λ rs. record (after_read r mid) { reads = drop (i + 1) rs }) (reads-left r mid) ∙ sym (reads-apart r mid rest)))
+
+  pub walk-write : (old mid new : State K V P S R) (i : ℕ) (w : Write) → mid.reads ≡ [] → Stretch answers now old (record mid { writes = drop i mid.writes }) → slice_get mid.writes i ≡ Some w → new ≡ after_write w mid
+      → Stretch answers now old (record new { writes = drop (i + 1) new.writes })
+  walk-write old mid new i w none h at is =
+      let rest = drop (i + 1) mid.writes in
+      stretch-more old (record mid { writes = drop i mid.writes }) _ h (writes w rest none (drop-there mid.writes i w at ∙ ap (λ k. w ∷ drop k mid.writes) (one_more i))
+      (ap (λ (s : State K V P S R). record s { writes = drop (i + 1) s.writes }) is ∙ ap (λ ws. record (after_write w mid) { writes = drop (i + 1) ws }) (after_write-frame w mid).writes ∙ sym (writes-apart rest w mid)))

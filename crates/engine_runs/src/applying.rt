@@ -1,5 +1,5 @@
 //! Pending reads and writes.
-ghost use Rattle.std.specs.Prelude.{◌≡◌, ◌<◌, [], length, Some};
+ghost use Rattle.std.specs.Prelude.{◌≡◌, ℕ, ◌<◌, [], length, slice_get, Some};
 ghost use Rattle.engine_cells.specs.Kept.{kept_at};
 ghost use Rattle.engine_cells.specs.Noting.{AimsOnlyAt};
 ghost use Rattle.engine_reference.specs.Records.{record_at};
@@ -7,7 +7,8 @@ ghost use Rattle.engine_reference.specs.Runs.{after_put, after_write, IsApplied}
 ghost use Rattle.engine_reference.specs.Soundness.{number_of};
 ghost use Rattle.engine_reference.specs.State.{Answers};
 ghost use Rattle.engine_reference.specs.declared.data.Record.{Record};
-ghost use Rattle.engine_cells.specs.Stretches.{Stretch, StepsFor};
+ghost use Rattle.engine_reference.specs.declared.data.Write.{Write};
+ghost use Rattle.engine_cells.specs.Stretches.{Stretch};
 
 use crate::deciding::{Decision, decide};
 use crate::displacing::displace_for;
@@ -65,62 +66,42 @@ pub fn apply_write<K: Eq + Hash + Drop, V: Drop, S: BuildHasher, R: Rules<K, V>>
     }
 }
 
-/// Counts the oldest read.
-fn apply_read<K: Eq + Hash, V, S: BuildHasher, R: Rules<K, V>>(
-    tables: &mut Tables<K, V, S, R>,
-    now: u64,
-)
-    requires { 0 < length tables.old.state.reads }
-    ensures step { (answers : Answers K V R.Predicate R)
-        → StepsFor answers now tables.old.state tables.new.state }
-    ensures fewer { length tables.new.state.reads < length tables.old.state.reads }
-{
-    let _now = now;
-    tables.apply_read();
-}
-
 /// Counts all reads, the oldest first.
-pub fn apply_reads<K: Eq + Hash, V, S: BuildHasher, R: Rules<K, V>>(
-    tables: &mut Tables<K, V, S, R>,
-    now: u64,
-)
-    ensures stretch { (answers : Answers K V R.Predicate R)
-        → Stretch answers now tables.old.state tables.new.state }
+pub fn apply_reads<K: Eq + Hash, V, S: BuildHasher, R: Rules<K, V>>(tables: &mut Tables<K, V, S, R>)
+    ensures stretch { (answers : Answers K V R.Predicate R) (moment : ℕ)
+        → Stretch answers moment tables.old.state tables.new.state }
     ensures counted { tables.new.state.reads ≡ [] }
 {
-    while 0 < tables.number_of_reads() {
-        apply_read(tables, now);
+    for index in 0..tables.number_of_reads() {
+        tables.apply_read(index);
     }
+    tables.end_reads();
 }
 
-/// Where no read is left to count, applies the write that waits longest.
-fn apply_oldest<K: Eq + Hash + Drop, V: Drop, S: BuildHasher, R: Rules<K, V>>(
+/// Applies the write at a place of those that wait.
+fn apply_at<K: Eq + Hash + Drop, V: Drop, S: BuildHasher, R: Rules<K, V>>(
     tables: &mut Tables<K, V, S, R>,
-    now: u64,
+    index: usize,
 )
-    requires read { tables.old.state.reads ≡ [] }
-    requires some { 0 < length tables.old.state.writes }
-    ensures step { (answers : Answers K V R.Predicate R)
-        → StepsFor answers now tables.old.state tables.new.state }
-    ensures read { tables.new.state.reads ≡ [] }
-    ensures fewer { length tables.new.state.writes < length tables.old.state.writes }
+    requires { index < length tables.old.state.writes }
+    ensures { (w : Write) × (slice_get tables.old.state.writes index ≡ Some w)
+        × (tables.new.state ≡ after_write w tables.old.state) }
 {
-    let _now = now;
-    let oldest = tables.pop_write();
+    let oldest = tables.write_at(index);
     apply_write(tables, oldest.place, oldest.write);
 }
 
 /// Where no read is left to count, applies all writes, in the order in which they were sent.
 pub fn apply_writes<K: Eq + Hash + Drop, V: Drop, S: BuildHasher, R: Rules<K, V>>(
     tables: &mut Tables<K, V, S, R>,
-    now: u64,
 )
     requires { tables.old.state.reads ≡ [] }
-    ensures stretch { (answers : Answers K V R.Predicate R)
-        → Stretch answers now tables.old.state tables.new.state }
+    ensures stretch { (answers : Answers K V R.Predicate R) (moment : ℕ)
+        → Stretch answers moment tables.old.state tables.new.state }
     ensures applied { IsApplied tables.new.state }
 {
-    while 0 < tables.number_of_writes() {
-        apply_oldest(tables, now);
+    for index in 0..tables.number_of_writes() {
+        apply_at(tables, index);
     }
+    tables.end_writes();
 }

@@ -36,8 +36,8 @@ pub fn try_run<K: Eq + Hash + Drop, V: Drop, S: BuildHasher, R: Rules<K, V>>(
     ensures refused { OnErr result (tables.new.state.table_refused ≡ true) }
 {
     tables.mend_timers();
-    apply_reads(tables, now);
-    apply_writes(tables, now);
+    apply_reads(tables);
+    apply_writes(tables);
     let grown = grow(tables, now);
     end_predicates(tables, now);
     settle(tables, now, grown.is_err());

@@ -19,9 +19,9 @@ module _ {K V P S R : Type 0} where
   abbrev pub GoesToBack : ℕ → Kept K V P S R → Kept K V P S R → Type 0
   GoesToBack place old new = (r : Record K V) × (kept_at old place ≡ Some r) × (is_some r.counts ≡ true → new ≡ record old { state = record old.state { access = moved_to_back r.number old.state.access } })
 
-  -- an entry replaces the one before, which is reported, and the write waits to be sent
-  abbrev pub IsWrittenOver : Entry K V → RemovalCause → ℕ → Kept K V P S R → Kept K V P S R → Type 0
-  IsWrittenOver entry cause place old new = (r : Record K V) × (kept_at old place ≡ Some r) × (new ≡ record old { state = with_put_for (record r { entry = entry; writes = r.writes + 1 }) (record old.state { records = changed_at r.number (λ x. record x { entry = entry; writes = x.writes + 1 }) old.state.records; notices = told old.state.settings.tells cause r.entry old.state.notices }) })
+  -- an entry replaces the one before, which is reported, and the write goes into the queue at once, or waits to be sent
+  abbrev pub IsWrittenOver : Entry K V → RemovalCause → Bool → ℕ → Kept K V P S R → Kept K V P S R → Type 0
+  IsWrittenOver entry cause at_once place old new = (r : Record K V) × (kept_at old place ≡ Some r) × (new ≡ record old { state = with_put_for at_once (record r { entry = entry; writes = r.writes + 1 }) (record old.state { records = changed_at r.number (λ x. record x { entry = entry; writes = x.writes + 1 }) old.state.records; notices = told old.state.settings.tells cause r.entry old.state.notices }) })
 
   -- it is no longer held, and its removal waits to be sent
   abbrev pub IsMarkedRemoved : ℕ → Kept K V P S R → Kept K V P S R → Type 0

@@ -1,5 +1,5 @@
 //! The tables.
-ghost use Rattle.std.specs.Prelude.{◌≡◌, ℕ, ◌+◌, ◌-◌, ◌<◌, ◌≤◌, ◌^◌, min, true, false, [], ◌∷◌, ◌⊎◌, ◌++◌, length, remove, List, slice_get, slice_set, is_some, Some, None, IfSome, IfNone, IfOk, OnOk, OnErr, ◌↔◌, option_copied, if◌then◌else◌, ◌≢◌, option_map};
+ghost use Rattle.std.specs.Prelude.{◌≡◌, ℕ, ◌+◌, ◌-◌, ◌<◌, ◌≤◌, ◌^◌, min, true, false, [], ◌∷◌, ◌⊎◌, ◌++◌, length, remove, slice_get, slice_set, is_some, Some, None, IfSome, IfNone, IfOk, OnOk, OnErr, ◌↔◌, option_copied, if◌then◌else◌, ◌≢◌, option_map};
 ghost use Rattle.std.specs.String.{string_bytes};
 ghost use Rattle.std.specs.Result.{IsErrOf};
 ghost use Rattle.std.specs.Int.{IsNextPowerOfTwo};
@@ -58,7 +58,7 @@ pub struct Tables<K: Eq + Hash, V, S: BuildHasher, R: Rules<K, V>> {
 }
 
 impl<K: Eq + Hash, V, S: BuildHasher, R: Rules<K, V>> Model for Tables<K, V, S, R> {
-    ghost use Rattle.std.specs.Prelude.{ℕ, ◌+◌, ◌≤◌, ◌<◌, ◌^◌};
+    ghost use Rattle.std.specs.Prelude.{ℕ, ◌≡◌, true, ◌+◌, ◌≤◌, ◌<◌, ◌^◌};
     ghost use Rattle.slab.specs.Slab.{slab_len};
     ghost use Rattle.engine_pending.specs.Whole.{whole};
     ghost use Rattle.engine_cells.specs.Cells.{records_by_number, numbers_in, numbers_of, AreNumbered, AreListed};
@@ -77,7 +77,7 @@ impl<K: Eq + Hash, V, S: BuildHasher, R: Rules<K, V>> Model for Tables<K, V, S, 
       numbers = numbers_of c.cells.slots;
     } };
 
-    // the queues have the places of the admitted records; each record has room in both and for its notice, and what is reserved serves a write; what waits, and the hashes of keys, lead to their records; what expires has a timer
+    // the queues have the places of the admitted records; each record has room in both and, where removals are told, for its notice, and what is reserved serves a write; what waits, and the hashes of keys, lead to their records; what expires has a timer
     ghost invariant = { λ c. record {
       kept : AreNumbered c.cells.slots c.next_number;
       used : AreListed c.cells.slots c.access.indices;
@@ -85,7 +85,7 @@ impl<K: Eq + Hash, V, S: BuildHasher, R: Rules<K, V>> Model for Tables<K, V, S, 
       cells : slab_len c.cells + c.backlog.reserved ≤ c.cells.capacity;
       access : HasPlacesFor c.cells c.tally.number c.backlog.reserved c.access;
       order : HasPlacesFor c.cells c.tally.number c.backlog.reserved c.order;
-      notices : slab_len c.cells + c.backlog.reserved ≤ c.backlog.notice_room;
+      notices : c.backlog.settings.tells ≡ true → slab_len c.cells + c.backlog.reserved ≤ c.backlog.notice_room;
       tallied : IsTallied c.cells.slots c.tally;
       aimed : AreAllAimed c.cells.slots c.next_number c.backlog.reads c.backlog.writes c.backlog.unsent;
       reserved : c.reserved ≤ c.backlog.reserved;
@@ -311,9 +311,11 @@ impl<K: Eq + Hash, V, S: BuildHasher, R: Rules<K, V>> Tables<K, V, S, R> {
         self.access.move_to_back(index);
     }
 
-    /// Adds the record of a new key, and its write, for which there is room. Its place is answered.
-    pub fn add(&mut self, added: Record<K, V>) -> usize
+    /// Adds the record of a new key, and its write, for which there is room: it goes into the queue at once, or waits to be sent. Its place is
+    /// answered.
+    pub fn add(&mut self, added: Record<K, V>, at_once: bool) -> usize
         requires room { 0 < self.old.state.reserved }
+        requires queue { at_once ≡ true → length self.old.state.writes < 128 }
         requires newcomer { IsNewcomer K.eq (hash_of_key S.Hasher.finish S.Hasher.write
             S.build_hasher K.hash_input self.old.state.hasher) self.old.state added }
         ensures vacant { numbered_at self.old.numbers result ≡ None }
@@ -321,51 +323,60 @@ impl<K: Eq + Hash, V, S: BuildHasher, R: Rules<K, V>> Tables<K, V, S, R> {
         ensures others { (i : ℕ) → i ≢ result → numbered_at self.new.numbers i
             ≡ numbered_at self.old.numbers i }
         ensures state { self.new.state
-            ≡ with_put_for added (record self.old.state {
+            ≡ with_put_for at_once added (record self.old.state {
               records = self.old.state.records ++ added
                   ∷ [];
               next_number = self.old.state.next_number + 1;
             }) }
     {
         let _many = self.cells.capacity();
-        self.tally = self.tally.with(&added);
+        self.tally = self.tally.rewritten(0, added.entry.weight);
         let write = put_of(&added, self.tally.held);
         let hash = added.hash;
         let expires = added.entry.expires;
         let place = self.cells.insert_reserved(added);
         self.keys.put(hash, place);
         set_changed(&mut self.expirations, place, None, expires);
-        self.backlog.add_write(PlacedWrite { place, write });
+        self.backlog
+            .add_write(PlacedWrite { place, write }, at_once);
         self.reserved -= 1;
         self.next_number += 1;
         place
     }
 
-    /// Writes over the entry in a place, which is told where removals are told, and adds the write, for which there is room.
-    /// The new key compares alike.
-    pub fn write_over(&mut self, place: usize, entry: Entry<K, V>, cause: RemovalCause)
+    /// Writes over the entry in a place, which is held, and is told where removals are told. The write, for which there is room, goes into the
+    /// queue at once, or waits to be sent. The new key compares alike.
+    pub fn write_over(
+        &mut self,
+        place: usize,
+        entry: Entry<K, V>,
+        cause: RemovalCause,
+        at_once: bool,
+    )
     where
         K: Drop,
         V: Drop,
         requires there { is_some (kept_at self.old place) ≡ true }
         requires room { 0 < self.old.state.reserved }
-        requires fits { (r : Record K V) → kept_at self.old place ≡ Some r → r.writes < 2 ^ 64 - 1 }
+        requires queue { at_once ≡ true → length self.old.state.writes < 128 }
+        requires fits { (r : Record K V) → kept_at self.old place ≡ Some r
+            → (r.is_held ≡ true) × (r.writes < 2 ^ 64 - 1) }
         requires alike { (r : Record K V) → kept_at self.old place ≡ Some r
             → K.eq r.entry.key entry.key ≡ true }
-        ensures { IsWrittenOver entry cause place self.old self.new }
+        ensures { IsWrittenOver entry cause at_once place self.old self.new }
     {
         let _many = self.cells.capacity();
-        let expires = entry.expires;
         let cell = &mut self.cells[place];
-        let others = self.tally.without(cell);
+        self.tally = self.tally.rewritten(cell.entry.weight, entry.weight);
+        let expires = entry.expires;
         let before = cell.entry.expires;
         let replaced = mem::replace(&mut cell.entry, entry);
         cell.writes += 1;
-        self.tally = others.with(cell);
         let write = put_of(cell, self.tally.held);
         set_changed(&mut self.expirations, place, before, expires);
         self.backlog.tell(true, cause, replaced);
-        self.backlog.add_write(PlacedWrite { place, write });
+        self.backlog
+            .add_write(PlacedWrite { place, write }, at_once);
         self.reserved -= 1;
     }
 
@@ -376,20 +387,18 @@ impl<K: Eq + Hash, V, S: BuildHasher, R: Rules<K, V>> Tables<K, V, S, R> {
         requires fits { (r : Record K V) → kept_at self.old place ≡ Some r → r.writes < 2 ^ 64 - 1 }
         ensures { IsMarkedRemoved place self.old self.new }
     {
-        let _many = self.cells.capacity();
         let cell = &mut self.cells[place];
         let number = cell.number;
         let hash = cell.hash;
         let was_held = cell.is_held;
         let expires = cell.entry.expires;
-        let others = self.tally.without(cell);
+        self.tally = self.tally.unheld(cell);
         cell.is_held = false;
         cell.writes += 1;
-        self.tally = others.with(cell);
         take_if(&mut self.keys, was_held, hash, place);
         set_changed(&mut self.expirations, place, expires, None);
         let write = Write::Removed(number);
-        self.backlog.add_write(PlacedWrite { place, write });
+        self.backlog.add_write(PlacedWrite { place, write }, false);
         self.reserved -= 1;
     }
 
@@ -707,7 +716,15 @@ impl<K: Eq + Hash, V, S: BuildHasher, R: Rules<K, V>> Tables<K, V, S, R> {
     pub fn number_of_writes(&self) -> usize
         ensures { result ≡ length self.now.state.writes }
     {
-        self.backlog.number_of_writes()
+        self.backlog.writes().len()
+    }
+
+    /// Whether each ticket was sent and the queue has room, so that a write can go into it at once.
+    pub fn can_send(&self) -> bool
+        ensures { result ≡ true
+            → (self.now.state.unsent ≡ []) × (length self.now.state.writes < 128) }
+    {
+        self.backlog.can_send()
     }
 
     /// Moves the write of a ticket into the queue. An unknown ticket is refused before a full queue.
@@ -727,18 +744,21 @@ impl<K: Eq + Hash, V, S: BuildHasher, R: Rules<K, V>> Tables<K, V, S, R> {
         self.backlog.send(ticket)
     }
 
-    /// Takes off the write that waits longest. Only in the place that is told can its record stand.
-    pub fn pop_write(&mut self) -> PlacedWrite
-        requires { 0 < length self.old.state.writes }
-        ensures first { self.old.state.writes ≡ write_of result ∷ self.new.state.writes }
-        ensures right { AimsOnlyAt self.new.numbers result.place (number_written result.write) }
-        ensures rest { self.new
-            ≡ record self.old { state = record self.old.state { writes = self.new.state.writes } } }
+    /// The write at a place of those that wait to be applied. Only in the place that is told can its record stand.
+    pub fn write_at(&self, index: usize) -> PlacedWrite
+        requires { index < length self.now.state.writes }
+        ensures is { slice_get self.now.state.writes index ≡ Some (write_of result) }
+        ensures right { AimsOnlyAt self.now.numbers result.place (number_written result.write) }
     {
-        match self.backlog.pop_write() {
-            Some(write) => write,
-            None => unreachable!(),
-        }
+        self.backlog.writes()[index]
+    }
+
+    /// No write is left to apply.
+    pub fn end_writes(&mut self)
+        ensures { self.new
+            ≡ record self.old { state = record self.old.state { writes = [] } } }
+    {
+        self.backlog.end_writes();
     }
 
     // ---- reads that wait
@@ -747,7 +767,7 @@ impl<K: Eq + Hash, V, S: BuildHasher, R: Rules<K, V>> Tables<K, V, S, R> {
     pub fn number_of_reads(&self) -> usize
         ensures { result ≡ length self.now.state.reads }
     {
-        self.backlog.number_of_reads()
+        self.backlog.reads().len()
     }
 
     /// A look-up that found the record of a number, in a place, waits to be counted, for which there is room.
@@ -780,29 +800,31 @@ impl<K: Eq + Hash, V, S: BuildHasher, R: Rules<K, V>> Tables<K, V, S, R> {
     }
 
     /// Counts a hash as asked for.
-    pub fn count_hash(&mut self, hash: u64)
+    fn count_hash(&mut self, hash: u64)
         ensures { self.new ≡ record self.old
             { state = record self.old.state { sketch = incremented self.old.state.sketch hash } } }
     {
         self.backlog.count_hash(hash);
     }
 
-    /// Takes off the oldest read.
-    pub fn pop_read(&mut self) -> Noted
-        requires { 0 < length self.old.state.reads }
-        ensures first { self.old.state.reads ≡ read_of result ∷ self.new.state.reads }
-        ensures right { AimsRight self.new.numbers result }
-        ensures rest { self.new
-            ≡ record self.old { state = record self.old.state { reads = self.new.state.reads } } }
+    /// The read at a place of those that wait to be counted.
+    fn read_at(&self, index: usize) -> Noted
+        requires { index < length self.now.state.reads }
+        ensures is { slice_get self.now.state.reads index ≡ Some (read_of result) }
+        ensures right { AimsRight self.now.numbers result }
     {
-        match self.backlog.pop_read() {
-            Some(noted) => noted,
-            None => unreachable!(),
-        }
+        self.backlog.reads()[index]
+    }
+
+    /// No read is left to count.
+    pub fn end_reads(&mut self)
+        ensures { self.new ≡ record self.old { state = record self.old.state { reads = [] } } }
+    {
+        self.backlog.end_reads();
     }
 
     /// Moves the record of a number to the back of the access list, where it is there and admitted. It can only stand in this place.
-    pub fn hit(&mut self, place: usize, number: u64)
+    fn hit(&mut self, place: usize, number: u64)
         requires { AimsOnlyAt self.old.numbers place number }
         ensures { self.new ≡ record self.old
             { state = after_hit (record_at self.old.state.records number) self.old.state } }
@@ -836,13 +858,13 @@ impl<K: Eq + Hash, V, S: BuildHasher, R: Rules<K, V>> Tables<K, V, S, R> {
         }
     }
 
-    /// Applies the oldest read.
-    pub fn apply_read(&mut self)
-        requires { 0 < length self.old.state.reads }
-        ensures { (r : Read) × (rest : List Read) × (self.old.state.reads ≡ r ∷ rest) × (self.new
-            ≡ record self.old { state = after_read r (record self.old.state { reads = rest }) }) }
+    /// Counts the read at a place of those that wait.
+    pub fn apply_read(&mut self, index: usize)
+        requires { index < length self.old.state.reads }
+        ensures { (r : Read) × (slice_get self.old.state.reads index ≡ Some r)
+            × (self.new ≡ record self.old { state = after_read r self.old.state }) }
     {
-        match self.pop_read() {
+        match self.read_at(index) {
             Noted::Hit {
                 hash,
                 place,
@@ -865,10 +887,9 @@ impl<K: Eq + Hash, V, S: BuildHasher, R: Rules<K, V>> Tables<K, V, S, R> {
         put_last(&mut self.order, index);
         let _many = self.cells.capacity();
         let cell = &mut self.cells[place];
-        let others = self.tally.without(cell);
+        self.tally = self.tally.counted(cell.counts, weight);
         cell.applied = write;
         cell.counts = Some(weight);
-        self.tally = others.with(cell);
     }
 }
 

@@ -180,8 +180,41 @@ impl<K: Eq + Hash, V, S: BuildHasher, R: Rules<K, V>> BaseCache<K, V, S, R> {
     {
         let _moment = now.as_nanos();
         let ticket = self.tables.next_ticket();
-        write(&mut self.tables, key, hash, value, now, step);
+        write(&mut self.tables, key, hash, value, now, step, false);
         ticket
+    }
+
+    /// Returns whether each ticket was sent and the queue has room, so that `insert_and_send_with_hash` may be called.
+    pub fn can_send(&self) -> bool
+        ensures { result ≡ true → (self.now.unsent ≡ []) × (length self.now.writes < 128) }
+    {
+        self.tables.can_send()
+    }
+
+    /// Writes a value under its key, in room that was reserved, and moves the write into the queue, which has room. What it replaces is
+    /// reported. All earlier tickets were sent. It does what `do_insert_with_hash` and then `send` do, for less.
+    pub fn insert_and_send_with_hash(
+        &mut self,
+        key: K,
+        hash: u64,
+        value: V,
+        now: Instant,
+        step: u64,
+    )
+    where
+        K: Drop,
+        V: Drop,
+        requires hashed { hash ≡ hash_of_key S.Hasher.finish S.Hasher.write S.build_hasher
+            K.hash_input self.old.hasher key }
+        requires room { 0 < self.old.reserved }
+        requires sent { self.old.unsent ≡ [] }
+        requires queue { length self.old.writes < 128 }
+        ensures { self.new ≡ sent self.old.next_ticket
+            (written (answers_of R.weight_of R.created R.read R.updated R.covers) K.eq self.old key
+            hash value now step) }
+    {
+        let _moment = now.as_nanos();
+        write(&mut self.tables, key, hash, value, now, step, true);
     }
 
     /// Reports an entry that was removed by its key, which is named in addition.

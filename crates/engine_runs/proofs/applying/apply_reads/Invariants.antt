@@ -1,10 +1,11 @@
-use Rattle.std.proofs.Common.{length}
+use Rattle.std.proofs.Common.{◌≡◌, ℕ, drop, length}
 use Rattle.engine_reference.specs.State.{Answers}
 use Rattle.engine_cells.specs.Stretches.{Stretch}
 use Rattle.engine_runs.proofs.applying.apply_reads.Given as goal
 
-abbrev pub invariant-loop-tables : goal.invariant-loop-tables
-invariant-loop-tables g l = (answers : Answers g.row.K.Denot g.row.V.Denot g.row.R-Predicate.Denot g.row.R.Denot) → Stretch answers l.now l.fn.tables.state l.tables.state
-
-abbrev pub decreases-loop-tables : goal.decreases-loop-tables
-decreases-loop-tables g l = length l.tables.state.reads
+abbrev pub invariant-loop-index : goal.invariant-loop-index
+invariant-loop-index g l = record {
+  stretch : (answers : Answers g.row.K.Denot g.row.V.Denot g.row.R-Predicate.Denot g.row.R.Denot) (moment : ℕ)
+      → Stretch answers moment l.fn.tables.state (record l.tables.state { reads = drop l.index l.tables.state.reads });
+  end : length l.tables.state.reads ≡ l.index-end;
+}

@@ -10,13 +10,13 @@ pub end_predicates-requires-clause-sound : goal.end_predicates-requires-clause-s
 end_predicates-requires-clause-sound g c =
     let a : Answers g.row.K.Denot g.row.V.Denot g.row.R-Predicate.Denot g.row.R.Denot = record { weight_of = g.R.Rules.weight_of; created = g.R.Rules.created; found = g.R.Rules.read; updated = g.R.Rules.updated; covers = g.R.Rules.covers } in
     let s = c.args.tables.now.state in
-    stretch-sound a c.args.now s _ (stretch-join a c.args.now s _ _ (stretch-join a c.args.now s _ _ (stretch-join a c.args.now s _ _ (stretch-same a c.args.now s _ (ap (λ t. t.state) c.mend_timers.ensures)) (c.apply_reads.ensures.stretch a)) (c.apply_writes.ensures.stretch a)) (c.grow-grown.ensures.stretch a)) c.requires
+    stretch-sound a c.args.now s _ (stretch-join a c.args.now s _ _ (stretch-join a c.args.now s _ _ (stretch-join a c.args.now s _ _ (stretch-same a c.args.now s _ (ap (λ t. t.state) c.mend_timers.ensures)) (c.apply_reads.ensures.stretch a c.args.now)) (c.apply_writes.ensures.stretch a c.args.now)) (c.grow-grown.ensures.stretch a)) c.requires
 
 pub settle-requires-clause-sound : goal.settle-requires-clause-sound
 settle-requires-clause-sound g c =
     let a : Answers g.row.K.Denot g.row.V.Denot g.row.R-Predicate.Denot g.row.R.Denot = record { weight_of = g.R.Rules.weight_of; created = g.R.Rules.created; found = g.R.Rules.read; updated = g.R.Rules.updated; covers = g.R.Rules.covers } in
     let s = c.args.tables.now.state in
-    stretch-sound a c.args.now s _ (stretch-join a c.args.now s _ _ (stretch-join a c.args.now s _ _ (stretch-join a c.args.now s _ _ (stretch-join a c.args.now s _ _ (stretch-same a c.args.now s _ (ap (λ t. t.state) c.mend_timers.ensures)) (c.apply_reads.ensures.stretch a)) (c.apply_writes.ensures.stretch a)) (c.grow-grown.ensures.stretch a)) (c.end_predicates.ensures.stretch a refl)) c.requires
+    stretch-sound a c.args.now s _ (stretch-join a c.args.now s _ _ (stretch-join a c.args.now s _ _ (stretch-join a c.args.now s _ _ (stretch-join a c.args.now s _ _ (stretch-same a c.args.now s _ (ap (λ t. t.state) c.mend_timers.ensures)) (c.apply_reads.ensures.stretch a c.args.now)) (c.apply_writes.ensures.stretch a c.args.now)) (c.grow-grown.ensures.stretch a)) (c.end_predicates.ensures.stretch a refl)) c.requires
 
 pub settle-requires-clause-table : goal.settle-requires-clause-table
 settle-requires-clause-table g c = λ fine. c.end_predicates.ensures.table (made-then c.grow-grown.result _ c.grow-grown.ensures.table (sym c.is_err.ensures.value ∙ fine))
@@ -25,7 +25,7 @@ pub returns-clause-runs : goal.returns-clause-runs
 returns-clause-runs g c = λ answers covers.
     let s = c.args.tables.now.state in
     run-later answers c.args.now s _ _
-    (stretch-join answers c.args.now s _ _ (stretch-join answers c.args.now s _ _ (stretch-join answers c.args.now s _ _ (stretch-join answers c.args.now s _ _ (stretch-same answers c.args.now s _ (ap (λ t. t.state) c.mend_timers.ensures)) (c.apply_reads.ensures.stretch answers)) (c.apply_writes.ensures.stretch answers)) (c.grow-grown.ensures.stretch answers)) (c.end_predicates.ensures.stretch answers covers))
+    (stretch-join answers c.args.now s _ _ (stretch-join answers c.args.now s _ _ (stretch-join answers c.args.now s _ _ (stretch-join answers c.args.now s _ _ (stretch-same answers c.args.now s _ (ap (λ t. t.state) c.mend_timers.ensures)) (c.apply_reads.ensures.stretch answers c.args.now)) (c.apply_writes.ensures.stretch answers c.args.now)) (c.grow-grown.ensures.stretch answers)) (c.end_predicates.ensures.stretch answers covers))
     (c.settle.ensures.runs answers)
 
 pub returns-clause-counts : goal.returns-clause-counts

@@ -1,15 +1,17 @@
-use Rattle.std.proofs.Common.{◌≡◌, refl, ap, sym, ◌∙◌, subst, ◌+◌, ◌<◌, arith, [], ◌∷◌, ◌++◌, Some, None}
+use Rattle.std.proofs.Common.{◌≡◌, refl, ap, sym, ◌∙◌, subst, ◌+◌, ◌<◌, arith, [], ◌∷◌, ◌++◌, Some, None, length}
 use Rattle.std.specs.Prelude.{option_map}
 use Rattle.engine_cells.specs.Kept.{numbered_at}
 use Rattle.engine_cells.proofs.Views.{number-in, kept-in}
 use Rattle.engine_cells.proofs.Listed.{records-insert}
 use Rattle.engine_cells.proofs.Changes.{Gets, numbered-inserted, listed-inserted, list-inserted}
-use Rattle.engine_cells.proofs.Pointing.{pointed-gets, aims-made, aims-there, more-unsent}
+use Rattle.engine_cells.proofs.Pointing.{pointed-gets, aims-made, aims-there, made-unsent, made-writes}
 use Rattle.engine_reference.specs.Records.{held_at, held_weight}
 use Rattle.engine_cells.specs.Cells.{records_by_number}
 use Rattle.engine_cells.specs.Writing.{put_for}
+use Rattle.engine_cells.specs.Noting.{write_of}
+use Rattle.std.proofs.lemmas.List.{length-map}
 use Rattle.engine_cells.proofs.Spotting.{none-matches, spotted-inserted, hashed-inserted}
-use Rattle.engine_cells.proofs.Totals.{held-is, tally-fits, tally-insert, places-inserted}
+use Rattle.engine_cells.proofs.Totals.{held-is, tally-fits, tally-came, places-inserted}
 use Rattle.std.proofs.Math.Logic.{∥∥₁_map}
 use Rattle.engine_cells.proofs.Awaits.{awaited-gets}
 use Rattle.engine_tables.proofs.tables.Tables.add.Goals as goal
@@ -25,9 +27,9 @@ invariant_of-self g c =
     let room : 0 < c.self.inside.backlog.reserved = omega (arith, ap (λ t. t.state.reserved) c.self.view_is, c.self.invariant.reserved) in
     let is : c.args.added.number ≡ c.self.inside.next_number = c.requires.newcomer.numbered ∙ sym (ap (λ t. t.state.next_number) c.self.view_is) in
     let kept = numbered-inserted old new c.self.inside.next_number i x c.self.invariant.kept gets is in
-    let number = ap (λ v. v.number) c.with-self-inside.ensures.more in
-    let places = places-inserted c.self.inside.cells c.insert_reserved-place.new.self c.self.inside.tally.number c.with-self-inside.result.number c.self.inside.backlog.reserved x in
-    let made = c.add_write.ensures.added in
+    let number = ap (λ v. v.number) c.rewritten-self-inside.ensures.is in
+    let places = places-inserted c.self.inside.cells c.insert_reserved-place.new.self c.self.inside.tally.number c.rewritten-self-inside.result.number c.self.inside.backlog.reserved in
+    let made = c.add_write.ensures in
     let fresh = ap (λ t. held_at g.K.PartialEq.eq t.state.records c.args.added.entry.key) c.self.view_is ∙ c.requires.newcomer.fresh in
     let alone = none-matches g.K.PartialEq.eq old c.self.inside.keys c.args.added.entry.key c.self.invariant.spotted fresh in
     let space = c.put.ensures.space in
@@ -39,12 +41,12 @@ invariant_of-self g c =
       used = listed-inserted old new c.self.inside.access.indices i x c.self.invariant.used vacant gets c.requires.newcomer.uncounted;
       written = listed-inserted old new c.self.inside.order.indices i x c.self.invariant.written vacant gets c.requires.newcomer.uncounted;
       cells = rw made (omega arith);
-      access = rw made (places c.self.inside.access c.self.invariant.access c.requires.newcomer.uncounted c.insert_reserved-place.ensures.len c.insert_reserved-place.ensures.slots number room);
-      order = rw made (places c.self.inside.order c.self.invariant.order c.requires.newcomer.uncounted c.insert_reserved-place.ensures.len c.insert_reserved-place.ensures.slots number room);
-      notices = rw made (omega arith);
-      tallied = tally-insert old new i x c.self.inside.tally c.with-self-inside.result vacant gets c.with-self-inside.ensures.light c.self.invariant.tallied c.with-self-inside.ensures.more;
+      access = rw made (places c.self.inside.access c.self.invariant.access c.insert_reserved-place.ensures.len c.insert_reserved-place.ensures.slots number room);
+      order = rw made (places c.self.inside.order c.self.invariant.order c.insert_reserved-place.ensures.len c.insert_reserved-place.ensures.slots number room);
+      notices = rw made (λ tells. let had = c.self.invariant.notices tells in omega arith);
+      tallied = tally-came old new i x c.self.inside.tally c.rewritten-self-inside.result vacant gets c.requires.newcomer.held c.requires.newcomer.uncounted c.rewritten-self-inside.ensures.light c.self.invariant.tallied c.rewritten-self-inside.ensures.is;
       aimed = rw (made, c.put_of-write.ensures)
-          (aims-made new (c.self.inside.next_number + 1) c.self.inside.backlog.next_ticket _ (aims-there new (c.self.inside.next_number + 1) i x kept gets.there)
+          (aims-made c.args.at_once new (c.self.inside.next_number + 1) c.self.inside.backlog.next_ticket _ (aims-there new (c.self.inside.next_number + 1) i x kept gets.there)
           (pointed-gets old new c.self.inside.next_number i x gets is c.self.invariant.aimed));
       reserved = rw made (omega (arith, c.self.invariant.reserved));
       tickets = rw made (omega arith);
@@ -84,16 +86,17 @@ returns-clause-state g c =
     let gets : Gets old new i x = record { there = c.insert_reserved-place.ensures.updates.changed; others = c.insert_reserved-place.ensures.updates.others } in
     let is : c.args.added.number ≡ c.self.inside.next_number = c.requires.newcomer.numbered ∙ sym (ap (λ t. t.state.next_number) c.self.view_is) in
     let records = records-insert old new i x (λ j d e. subst (λ n. d.number < n) (sym is) (c.self.invariant.kept.below j d e)) vacant gets.there gets.others in
-    let tallied = tally-insert old new i x c.self.inside.tally c.with-self-inside.result vacant gets c.with-self-inside.ensures.light c.self.invariant.tallied c.with-self-inside.ensures.more in
-    let holds = sym (held-is new c.with-self-inside.result tallied) ∙ ap held_weight records in
+    let tallied = tally-came old new i x c.self.inside.tally c.rewritten-self-inside.result vacant gets c.requires.newcomer.held c.requires.newcomer.uncounted c.rewritten-self-inside.ensures.light c.self.invariant.tallied c.rewritten-self-inside.ensures.is in
+    let holds = sym (held-is new c.rewritten-self-inside.result tallied) ∙ ap held_weight records in
     let write : c.put_of-write.result ≡ put_for c.args.added (held_weight (records_by_number old ++ c.args.added ∷ [])) = c.put_of-write.ensures ∙ ap (λ n. put_for c.args.added n) holds in
     rw (
       ← c.self.view_is,
       list-inserted old new c.self.inside.access.indices i x c.self.invariant.used vacant gets,
       list-inserted old new c.self.inside.order.indices i x c.self.invariant.written vacant gets,
       records,
-      c.add_write.ensures.added,
-      more-unsent c.self.inside.backlog.unsent c.self.inside.backlog.next_ticket (record { place = i; write = c.put_of-write.result }),
+      c.add_write.ensures,
+      made-unsent c.args.at_once c.self.inside.backlog.unsent c.self.inside.backlog.next_ticket (record { place = i; write = c.put_of-write.result }),
+      made-writes c.args.at_once c.self.inside.backlog.writes (record { place = i; write = c.put_of-write.result }),
       write,
     ) refl
 
@@ -103,11 +106,16 @@ returns-clause-vacant g c =
     ∙ number-in c.self.inside.cells.slots c.insert_reserved-place.result
     ∙ ap (λ o. option_map (λ x. x.number) o) c.insert_reserved-place.ensures.was_vacant
 
-pub with-self-inside-requires : goal.with-self-inside-requires
-with-self-inside-requires g c =
+pub rewritten-self-inside-requires : goal.rewritten-self-inside-requires
+rewritten-self-inside-requires g c =
     let fits = tally-fits c.self.inside.cells.slots c.self.inside.tally c.self.invariant.tallied (omega (arith, c.capacity-many.ensures.holds_all, c.capacity-many.ensures.fits)) in
-    let number = fits.number in
-    record { held = fits.held; weight = fits.weight; number = omega (arith, number) }
+    record { within = omega arith; room = fits.held }
+
+pub add_write-requires-clause-queue : goal.add_write-requires-clause-queue
+add_write-requires-clause-queue g c at_once =
+    let short = c.requires.queue at_once in
+    let long = ap (λ t. length t.state.writes) c.self.view_is in
+    omega (arith, short, long, length-map c.self.inside.backlog.writes write_of)
 
 pub put-requires-clause-absent : goal.put-requires-clause-absent
 put-requires-clause-absent g c u =

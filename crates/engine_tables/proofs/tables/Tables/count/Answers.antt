@@ -10,7 +10,7 @@ use Rattle.engine_cells.proofs.Changes.{numbered-set, listed-moved, list-moved}
 use Rattle.engine_cells.proofs.Counting.{gets-set, pointed-gets_same}
 use Rattle.engine_cells.proofs.Listed.{records-set}
 use Rattle.engine_cells.proofs.Spotting.{spotted-gets, hashed-gets}
-use Rattle.engine_cells.proofs.Totals.{tally-has, tally-fits, fits-less, tally-replaced, number-replaced, has-place, places-counted}
+use Rattle.engine_cells.proofs.Totals.{tally-has, tally-fits, number-counted, tally-counted, has-place, places-counted}
 use Rattle.engine_cells.proofs.Views.{numbers_of-same, kept-in, count-set}
 use Rattle.engine_cells.proofs.Walking.{some-of}
 use Rattle.engine_tables.proofs.tables.Tables.count.Goals as goal
@@ -44,11 +44,10 @@ invariant_of-self g c =
     let gets = gets-set cells c.args.place y d there in
     let comes = subst (λ k. ComesLast k c.self.inside.access c.put_last.new.queue) c.index_of-index.ensures.is c.put_last.ensures in
     let comes_too = subst (λ k. ComesLast k c.self.inside.order c.put_last-2.new.queue) c.index_of-index.ensures.is c.put_last-2.ensures in
-    let has = tally-has cells c.args.place y c.self.inside.tally there c.self.invariant.tallied in
-    let number = number-replaced c.self.inside.tally c.without-others.result c.with-self-inside.result y d has c.without-others.ensures c.with-self-inside.ensures.more in
+    let number = number-counted y c.self.inside.tally c.counted-self-inside.result (ap (λ v. v.number) c.counted-self-inside.ensures.is) in
     let many = count-set cells c.args.place y d there in
     let long = length-set cells c.args.place (Some d) in
-    let places = places-counted c.self.inside.cells (record c.self.inside.cells { slots = new }) c.self.inside.tally.number c.with-self-inside.result.number c.self.inside.backlog.reserved c.args.place y d in
+    let places = places-counted c.self.inside.cells (record c.self.inside.cells { slots = new }) c.self.inside.tally.number c.counted-self-inside.result.number c.self.inside.backlog.reserved c.args.place y d in
     record {
       kept = numbered-set cells new c.self.inside.next_number c.args.place y d c.self.invariant.kept there gets refl;
       used = rw comes.indices (listed-moved cells new c.self.inside.access.indices c.args.place d c.self.invariant.used gets refl);
@@ -56,8 +55,8 @@ invariant_of-self g c =
       cells = subst (λ n. n + c.self.inside.backlog.reserved ≤ c.self.inside.cells.capacity) (sym many) c.self.invariant.cells;
       access = places c.self.inside.access c.put_last.new.queue c.self.invariant.access c.self.invariant.used there refl many long number comes;
       order = places c.self.inside.order c.put_last-2.new.queue c.self.invariant.order c.self.invariant.written there refl many long number comes_too;
-      notices = subst (λ n. n + c.self.inside.backlog.reserved ≤ c.self.inside.backlog.notice_room) (sym many) c.self.invariant.notices;
-      tallied = tally-replaced cells c.args.place y d c.self.inside.tally c.without-others.result c.with-self-inside.result there c.with-self-inside.ensures.light c.self.invariant.tallied c.without-others.ensures c.with-self-inside.ensures.more;
+      notices = λ tells. subst (λ n. n + c.self.inside.backlog.reserved ≤ c.self.inside.backlog.notice_room) (sym many) (c.self.invariant.notices tells);
+      tallied = tally-counted cells c.args.place y c.args.write c.args.weight c.self.inside.tally c.counted-self-inside.result there c.counted-self-inside.ensures.light c.self.invariant.tallied c.counted-self-inside.ensures.is;
       aimed = pointed-gets_same cells new c.self.inside.next_number c.args.place y d there gets refl c.self.invariant.aimed;
       reserved = c.self.invariant.reserved;
       tickets = c.self.invariant.tickets;
@@ -91,14 +90,9 @@ returns g c =
       ) refl,
     )
 
-pub without-others-requires : goal.without-others-requires
-without-others-requires g c =
-    let has = tally-has c.self.inside.cells.slots c.args.place c.index_mut-cell.result.now c.self.inside.tally c.index_mut-cell.ensures.value c.self.invariant.tallied in
-    record { held = has.held; weight = has.weight; number = has.number }
-
-pub with-self-inside-requires : goal.with-self-inside-requires
-with-self-inside-requires g c =
-    let fits = tally-fits c.self.inside.cells.slots c.self.inside.tally c.self.invariant.tallied (omega (arith, c.capacity-many.ensures.holds_all, c.capacity-many.ensures.fits)) in
-    let less = fits-less c.self.inside.tally c.without-others.result c.index_mut-cell.result.now fits c.without-others.ensures in
-    let number = less.number in
-    record { held = less.held; weight = less.weight; number = omega (arith, number) }
+pub counted-self-inside-requires : goal.counted-self-inside-requires
+counted-self-inside-requires g c =
+    let cells = c.self.inside.cells.slots in
+    let has = tally-has cells c.args.place c.index_mut-cell.result.now c.self.inside.tally c.index_mut-cell.ensures.value c.self.invariant.tallied in
+    let fits = tally-fits cells c.self.inside.tally c.self.invariant.tallied (omega (arith, c.capacity-many.ensures.holds_all, c.capacity-many.ensures.fits)) in
+    record { within = has.weight; room = fits.weight; number = fits.number }

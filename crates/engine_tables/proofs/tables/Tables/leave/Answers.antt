@@ -41,7 +41,7 @@ invariant_of-self g c =
       cells = rw told (omega arith);
       access = rw told (places c.self.inside.access c.take_off.new.queue c.self.invariant.access c.self.invariant.used there c.remove-gone.ensures.len long number went);
       order = rw told (places c.self.inside.order c.take_off-2.new.queue c.self.invariant.order c.self.invariant.written there c.remove-gone.ensures.len long number went_too);
-      notices = rw told (omega arith);
+      notices = rw told (λ tells. let had = c.self.invariant.notices tells in omega arith);
       tallied = tally-remove old new c.args.place x c.self.inside.tally c.without-self-inside.result there loses c.remove-gone.ensures.slots c.self.invariant.tallied c.without-self-inside.ensures;
       aimed = rw told (pointed-loses old new c.self.inside.next_number c.args.place loses c.self.invariant.aimed);
       reserved = rw told c.self.invariant.reserved;

@@ -4,11 +4,12 @@ use Rattle.engine_reference.specs.declared.data.Record.{Record}
 use Rattle.engine_cells.specs.Kept.{kept_at}
 use Rattle.engine_cells.proofs.Views.{kept-in, numbers-alike, numbered-alike, listed-alike, alike-set, numbers_of-set, count-set}
 use Rattle.engine_cells.proofs.Listed.{records-set}
-use Rattle.engine_cells.proofs.Pointing.{pointed-alike, aims-made, aims-there, more-unsent}
+use Rattle.engine_cells.proofs.Pointing.{pointed-alike, aims-made, aims-there, made-unsent}
 use Rattle.engine_cells.proofs.Counting.{gets-set}
 use Rattle.engine_reference.specs.declared.data.Write.TheVariants as Write
 use Rattle.engine_cells.proofs.Spotting.{unholds-changed, spotted-unholds, hashed-unholds, space-unholds}
-use Rattle.engine_cells.proofs.Totals.{tally-has, tally-fits, fits-less, tally-replaced, number-replaced, places-alike}
+use Rattle.engine_cells.proofs.Totals.{tally-has, tally-unheld, places-alike}
+use Rattle.engine_cells.specs.Tallying.{admitted_part}
 use Rattle.std.proofs.Math.Logic.{∥∥₁_map}
 use Rattle.engine_cells.proofs.Awaits.{awaited-gets}
 use Rattle.engine_tables.proofs.tables.Tables.mark_removed.Goals as goal
@@ -34,12 +35,11 @@ invariant_of-self g c =
     let h = alike-set cells c.args.place x d there refl in
     let room : 0 < c.self.inside.backlog.reserved = omega (arith, ap (λ t. t.state.reserved) c.self.view_is, c.self.invariant.reserved) in
     let many = count-set cells c.args.place x d there in
-    let has = tally-has cells c.args.place x c.self.inside.tally there c.self.invariant.tallied in
-    let number = number-replaced c.self.inside.tally c.without-others.result c.with-self-inside.result x d has c.without-others.ensures c.with-self-inside.ensures.more in
-    let places = places-alike c.self.inside.cells (record c.self.inside.cells { slots = slice_set cells c.args.place (Some d) }) c.self.inside.tally.number c.with-self-inside.result.number c.self.inside.backlog.reserved (c.self.inside.backlog.reserved - 1) x d in
+    let number = ap (λ v. v.number + admitted_part x) c.unheld-self-inside.ensures in
+    let places = places-alike c.self.inside.cells (record c.self.inside.cells { slots = slice_set cells c.args.place (Some d) }) c.self.inside.tally.number c.unheld-self-inside.result.number c.self.inside.backlog.reserved (c.self.inside.backlog.reserved - 1) x d in
     let long = length-set cells c.args.place (Some d) in
     let kept = numbered-alike cells (slice_set cells c.args.place (Some d)) c.self.inside.next_number h c.self.invariant.kept in
-    let made = c.add_write-self-inside.ensures.added in
+    let made = c.add_write.ensures in
     let unholds = unholds-changed g.K.PartialEq.eq cells (slice_set cells c.args.place (Some d)) c.args.place d (gets-set cells c.args.place x d there) refl in
     let space = space-unholds g.K.PartialEq.eq cells (slice_set cells c.args.place (Some d)) c.self.inside.keys c.take_if.new.keys c.args.place x there unholds c.take_if.ensures c.self.invariant.spotted in
     record {
@@ -49,10 +49,10 @@ invariant_of-self g c =
       cells = rw made (omega arith);
       access = rw made (places c.self.inside.access c.self.invariant.access many long number refl (omega arith));
       order = rw made (places c.self.inside.order c.self.invariant.order many long number refl (omega arith));
-      notices = rw made (omega arith);
-      tallied = tally-replaced cells c.args.place x d c.self.inside.tally c.without-others.result c.with-self-inside.result there c.with-self-inside.ensures.light c.self.invariant.tallied c.without-others.ensures c.with-self-inside.ensures.more;
+      notices = rw made (λ tells. let had = c.self.invariant.notices tells in omega arith);
+      tallied = tally-unheld cells c.args.place x (x.writes + 1) c.self.inside.tally c.unheld-self-inside.result there c.self.invariant.tallied c.unheld-self-inside.ensures;
       aimed = rw made
-          (aims-made (slice_set cells c.args.place (Some d)) c.self.inside.next_number c.self.inside.backlog.next_ticket (record { place = c.args.place; write = Write.Removed x.number })
+          (aims-made false (slice_set cells c.args.place (Some d)) c.self.inside.next_number c.self.inside.backlog.next_ticket (record { place = c.args.place; write = Write.Removed x.number })
           (aims-there (slice_set cells c.args.place (Some d)) c.self.inside.next_number c.args.place d kept (gets-set cells c.args.place x d there).there)
           (pointed-alike cells (slice_set cells c.args.place (Some d)) c.self.inside.next_number h c.self.invariant.aimed));
       reserved = rw made (omega (arith, c.self.invariant.reserved));
@@ -80,22 +80,13 @@ returns g c =
         numbers-alike cells (slice_set cells c.args.place (Some d)) h c.self.inside.access.indices,
         numbers-alike cells (slice_set cells c.args.place (Some d)) h c.self.inside.order.indices,
         numbers_of-set cells c.args.place x d there refl,
-        c.add_write-self-inside.ensures.added,
-        more-unsent c.self.inside.backlog.unsent c.self.inside.backlog.next_ticket (record { place = c.args.place; write = Write.Removed x.number }),
+        c.add_write.ensures,
+        made-unsent false c.self.inside.backlog.unsent c.self.inside.backlog.next_ticket (record { place = c.args.place; write = Write.Removed x.number }),
       ) refl,
     )
 
-pub without-others-requires : goal.without-others-requires
-without-others-requires g c =
-    let has = tally-has c.self.inside.cells.slots c.args.place c.index_mut-cell.result.now c.self.inside.tally c.index_mut-cell.ensures.value c.self.invariant.tallied in
-    record { held = has.held; weight = has.weight; number = has.number }
-
-pub with-self-inside-requires : goal.with-self-inside-requires
-with-self-inside-requires g c =
-    let fits = tally-fits c.self.inside.cells.slots c.self.inside.tally c.self.invariant.tallied (omega (arith, c.capacity-many.ensures.holds_all, c.capacity-many.ensures.fits)) in
-    let less = fits-less c.self.inside.tally c.without-others.result c.index_mut-cell.result.now fits c.without-others.ensures in
-    let number = less.number in
-    record { held = less.held; weight = less.weight; number = omega (arith, number) }
+pub unheld-self-inside-requires : goal.unheld-self-inside-requires
+unheld-self-inside-requires g c = (tally-has c.self.inside.cells.slots c.args.place c.index_mut-cell.result.now c.self.inside.tally c.index_mut-cell.ensures.value c.self.invariant.tallied).held
 
 pub take_if-requires : goal.take_if-requires
 take_if-requires g c held = c.self.invariant.spotted.spotted c.args.place c.index_mut-cell.result.now c.index_mut-cell.ensures.value held

@@ -30,7 +30,7 @@ invariant_of-result g c =
       cells = omega (arith, none, reserved);
       access = record { room = omega (arith, none, reserved); taken = omega (arith, long); coming = omega (arith, none, reserved) };
       order = record { room = omega (arith, none, reserved); taken = omega (arith, long); coming = omega (arith, none, reserved) };
-      notices = omega (arith, none, reserved);
+      notices = λ tells. omega (arith, none, reserved);
       tallied = rw c.new-2.ensures none-tallied;
       aimed = rw (u.reads, u.writes, u.unsent) (record { reads_are = tt; writes_are = tt; unsent_are = tt });
       reserved = omega arith;

@@ -31,7 +31,7 @@ invariant_of-self g c =
       cells = subst (λ n. n + c.self.inside.backlog.reserved ≤ c.self.inside.cells.capacity) (sym many) c.self.invariant.cells;
       access = places c.self.inside.access c.self.invariant.access many long refl refl (omega arith);
       order = places c.self.inside.order c.self.invariant.order many long refl refl (omega arith);
-      notices = subst (λ n. n + c.self.inside.backlog.reserved ≤ c.self.inside.backlog.notice_room) (sym many) c.self.invariant.notices;
+      notices = λ tells. subst (λ n. n + c.self.inside.backlog.reserved ≤ c.self.inside.backlog.notice_room) (sym many) (c.self.invariant.notices tells);
       tallied = tally-set cells c.args.place x d c.self.inside.tally c.self.inside.tally there (record { entry = (c.self.invariant.tallied.light c.args.place x there).entry; counted = (c.self.invariant.tallied.light c.args.place x there).counted }) c.self.invariant.tallied refl refl refl;
       aimed = pointed-alike cells _ c.self.inside.next_number h c.self.invariant.aimed;
       reserved = c.self.invariant.reserved;

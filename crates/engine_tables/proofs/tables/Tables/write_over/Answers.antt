@@ -1,16 +1,19 @@
-use Rattle.std.proofs.Common.{◌≡◌, refl, ap, sym, ◌∙◌, length-set, ◌-◌, subst, ◌+◌, ◌<◌, is_some, Some, arith, true}
+use Rattle.std.proofs.Common.{◌≡◌, refl, ap, sym, ◌∙◌, length-set, ◌-◌, subst, ◌+◌, ◌<◌, ◌≤◌, is_some, Some, arith, true, cond, length}
 use Rattle.std.specs.Prelude.{slice_set}
 use Rattle.engine_reference.specs.declared.data.Record.{Record}
 use Rattle.engine_cells.specs.Kept.{kept_at}
 use Rattle.engine_cells.proofs.Views.{kept-in, numbers-alike, numbered-alike, listed-alike, alike-set, numbers_of-set, count-set}
 use Rattle.engine_cells.proofs.Listed.{records-set}
-use Rattle.engine_cells.proofs.Pointing.{pointed-alike, aims-made, aims-there, more-unsent, told-same, told-room}
+use Rattle.engine_cells.proofs.Pointing.{pointed-alike, aims-made, aims-there, made-unsent, made-writes, told-same, told-room}
 use Rattle.engine_reference.specs.Records.{held_weight, changed_at}
 use Rattle.engine_cells.specs.Cells.{records_by_number}
 use Rattle.engine_cells.proofs.Counting.{gets-set}
 use Rattle.engine_cells.specs.Writing.{put_for}
 use Rattle.engine_cells.proofs.Spotting.{IsSoughtAs, hash-alike, alike-sought, spotted-gets, hashed-gets}
-use Rattle.engine_cells.proofs.Totals.{held-is, tally-has, tally-fits, fits-less, tally-replaced, number-replaced, places-alike}
+use Rattle.engine_cells.proofs.Totals.{held-is, tally-has, tally-fits, tally-rewritten, places-alike}
+use Rattle.engine_cells.specs.Tallying.{IsTallied, admitted_part}
+use Rattle.engine_cells.specs.Noting.{write_of}
+use Rattle.std.proofs.lemmas.List.{length-map}
 use Rattle.std.proofs.Math.Logic.{∥∥₁_map}
 use Rattle.engine_pending.specs.Timers.Awaited.{IsSet}
 use Rattle.engine_cells.proofs.Awaits.{awaited-gets}
@@ -25,7 +28,7 @@ pub overflow_add-cell : goal.overflow_add-cell
 overflow_add-cell g c =
     let x = c.index_mut-cell.result.now in
     let seen = ap (λ t. kept_at t c.args.place) (sym c.self.view_is) ∙ kept-in c.self.inside.cells.slots c.args.place c.self.invariant.kept.apart ∙ c.index_mut-cell.ensures.value in
-    let less = c.requires.fits x seen in
+    let less = (c.requires.fits x seen).1 in
     omega (arith, less)
 
 pub invariant_of-self : goal.invariant_of-self
@@ -37,14 +40,13 @@ invariant_of-self g c =
     let h = alike-set cells c.args.place x d there refl in
     let room : 0 < c.self.inside.backlog.reserved = omega (arith, ap (λ t. t.state.reserved) c.self.view_is, c.self.invariant.reserved) in
     let many = count-set cells c.args.place x d there in
-    let has = tally-has cells c.args.place x c.self.inside.tally there c.self.invariant.tallied in
-    let number = number-replaced c.self.inside.tally c.without-others.result c.with-self-inside.result x d has c.without-others.ensures c.with-self-inside.ensures.more in
-    let places = places-alike c.self.inside.cells (record c.self.inside.cells { slots = slice_set cells c.args.place (Some d) }) c.self.inside.tally.number c.with-self-inside.result.number c.self.inside.backlog.reserved (c.self.inside.backlog.reserved - 1) x d in
+    let number = ap (λ v. v.number + admitted_part x) c.rewritten-self-inside.ensures.is in
+    let places = places-alike c.self.inside.cells (record c.self.inside.cells { slots = slice_set cells c.args.place (Some d) }) c.self.inside.tally.number c.rewritten-self-inside.result.number c.self.inside.backlog.reserved (c.self.inside.backlog.reserved - 1) x d in
     let long = length-set cells c.args.place (Some d) in
     let tells = c.self.inside.backlog.settings.tells in
     let told = c.tell.ensures ∙ told-same tells c.args.cause c.replace-replaced.result c.self.inside.backlog in
     let less = told-room tells c.self.inside.backlog.notice_room in
-    let made = c.add_write-self-inside.ensures.added in
+    let made = c.add_write.ensures in
     let seen = ap (λ t. kept_at t c.args.place) (sym c.self.view_is) ∙ kept-in cells c.args.place c.self.invariant.kept.apart ∙ there in
     let alike : g.K.PartialEq.eq x.entry.key d.entry.key ≡ true = ap (λ e. g.K.PartialEq.eq x.entry.key e.key) c.replace-replaced.ensures.after ∙ c.requires.alike x seen in
     let sought : IsSoughtAs g.K.PartialEq.eq x d = record { held = refl; hash = refl; key = λ key. alike-sought g.K.PartialEq.eq x.entry.key d.entry.key key g.met.K.Eq.laws alike } in
@@ -57,10 +59,11 @@ invariant_of-self g c =
       cells = rw (made, told) (omega arith);
       access = rw (made, told) (places c.self.inside.access c.self.invariant.access many long number refl (omega arith));
       order = rw (made, told) (places c.self.inside.order c.self.invariant.order many long number refl (omega arith));
-      notices = rw (made, told) (omega arith);
-      tallied = tally-replaced cells c.args.place x d c.self.inside.tally c.without-others.result c.with-self-inside.result there c.with-self-inside.ensures.light c.self.invariant.tallied c.without-others.ensures c.with-self-inside.ensures.more;
+      notices = rw (made, told) (λ tells. let had = c.self.invariant.notices tells in omega arith);
+      tallied = subst (λ e. IsTallied (slice_set cells c.args.place (Some (record x { entry = e; writes = x.writes + 1 }))) c.rewritten-self-inside.result) (sym c.replace-replaced.ensures.after)
+          (tally-rewritten cells c.args.place x c.args.entry (x.writes + 1) c.self.inside.tally c.rewritten-self-inside.result there (c.requires.fits x seen).0 c.rewritten-self-inside.ensures.light c.self.invariant.tallied c.rewritten-self-inside.ensures.is);
       aimed = rw (made, told, c.put_of-write.ensures)
-          (aims-made (slice_set cells c.args.place (Some d)) c.self.inside.next_number c.self.inside.backlog.next_ticket _
+          (aims-made c.args.at_once (slice_set cells c.args.place (Some d)) c.self.inside.next_number c.self.inside.backlog.next_ticket _
           (aims-there (slice_set cells c.args.place (Some d)) c.self.inside.next_number c.args.place d kept (gets-set cells c.args.place x d there).there)
           (pointed-alike cells (slice_set cells c.args.place (Some d)) c.self.inside.next_number h c.self.invariant.aimed));
       reserved = rw (made, told) (omega (arith, c.self.invariant.reserved));
@@ -83,9 +86,11 @@ returns g c =
     let f = λ (r : Record g.row.K.Denot g.row.V.Denot). record r { entry = c.args.entry; writes = r.writes + 1 } in
     let is : d ≡ f x = ap (λ e. record x { entry = e; writes = x.writes + 1 }) c.replace-replaced.ensures.after in
     let records = records-set cells c.args.place x d f (λ r. refl) c.self.invariant.kept.apart there is in
-    let tallied = tally-replaced cells c.args.place x d c.self.inside.tally c.without-others.result c.with-self-inside.result there c.with-self-inside.ensures.light c.self.invariant.tallied c.without-others.ensures c.with-self-inside.ensures.more in
-    let holds = sym (held-is (slice_set cells c.args.place (Some d)) c.with-self-inside.result tallied) ∙ ap held_weight records in
-    let write : c.put_of-write.result ≡ put_for (f x) (held_weight (changed_at x.number f (records_by_number cells))) = c.put_of-write.ensures ∙ ap (λ r. put_for r c.with-self-inside.result.held) is ∙ ap (λ n. put_for (f x) n) holds in (
+    let seen = ap (λ t. kept_at t c.args.place) (sym c.self.view_is) ∙ kept-in cells c.args.place c.self.invariant.kept.apart ∙ there in
+    let tallied = subst (λ e. IsTallied (slice_set cells c.args.place (Some (record x { entry = e; writes = x.writes + 1 }))) c.rewritten-self-inside.result) (sym c.replace-replaced.ensures.after)
+    (tally-rewritten cells c.args.place x c.args.entry (x.writes + 1) c.self.inside.tally c.rewritten-self-inside.result there (c.requires.fits x seen).0 c.rewritten-self-inside.ensures.light c.self.invariant.tallied c.rewritten-self-inside.ensures.is) in
+    let holds = sym (held-is (slice_set cells c.args.place (Some d)) c.rewritten-self-inside.result tallied) ∙ ap held_weight records in
+    let write : c.put_of-write.result ≡ put_for (f x) (held_weight (changed_at x.number f (records_by_number cells))) = c.put_of-write.ensures ∙ ap (λ r. put_for r c.rewritten-self-inside.result.held) is ∙ ap (λ n. put_for (f x) n) holds in (
       x,
       ap (λ t. kept_at t c.args.place) (sym c.self.view_is) ∙ kept-in cells c.args.place c.self.invariant.kept.apart ∙ there,
       rw (
@@ -94,22 +99,28 @@ returns g c =
         numbers-alike cells (slice_set cells c.args.place (Some d)) h c.self.inside.access.indices,
         numbers-alike cells (slice_set cells c.args.place (Some d)) h c.self.inside.order.indices,
         numbers_of-set cells c.args.place x d there refl,
-        c.add_write-self-inside.ensures.added,
+        c.add_write.ensures,
         c.tell.ensures ∙ told-same c.self.inside.backlog.settings.tells c.args.cause c.replace-replaced.result c.self.inside.backlog,
-        more-unsent c.self.inside.backlog.unsent c.self.inside.backlog.next_ticket (record { place = c.args.place; write = c.put_of-write.result }),
+        made-unsent c.args.at_once c.self.inside.backlog.unsent c.self.inside.backlog.next_ticket (record { place = c.args.place; write = c.put_of-write.result }),
+        made-writes c.args.at_once c.self.inside.backlog.writes (record { place = c.args.place; write = c.put_of-write.result }),
         write,
         c.replace-replaced.ensures.value,
       ) refl,
     )
 
-pub without-others-requires : goal.without-others-requires
-without-others-requires g c =
-    let has = tally-has c.self.inside.cells.slots c.args.place c.index_mut-cell.result.now c.self.inside.tally c.index_mut-cell.ensures.value c.self.invariant.tallied in
-    record { held = has.held; weight = has.weight; number = has.number }
+pub rewritten-self-inside-requires : goal.rewritten-self-inside-requires
+rewritten-self-inside-requires g c =
+    let x = c.index_mut-cell.result.now in
+    let cells = c.self.inside.cells.slots in
+    let seen = ap (λ t. kept_at t c.args.place) (sym c.self.view_is) ∙ kept-in cells c.args.place c.self.invariant.kept.apart ∙ c.index_mut-cell.ensures.value in
+    let has = (tally-has cells c.args.place x c.self.inside.tally c.index_mut-cell.ensures.value c.self.invariant.tallied).held in
+    let fits = tally-fits cells c.self.inside.tally c.self.invariant.tallied (omega (arith, c.capacity-many.ensures.holds_all, c.capacity-many.ensures.fits)) in
+    record { within = subst (λ b. cond b x.entry.weight 0 ≤ c.self.inside.tally.held) (c.requires.fits x seen).0 has; room = fits.held }
 
-pub with-self-inside-requires : goal.with-self-inside-requires
-with-self-inside-requires g c =
-    let fits = tally-fits c.self.inside.cells.slots c.self.inside.tally c.self.invariant.tallied (omega (arith, c.capacity-many.ensures.holds_all, c.capacity-many.ensures.fits)) in
-    let less = fits-less c.self.inside.tally c.without-others.result c.index_mut-cell.result.now fits c.without-others.ensures in
-    let number = less.number in
-    record { held = less.held; weight = less.weight; number = omega (arith, number) }
+pub add_write-requires-clause-queue : goal.add_write-requires-clause-queue
+add_write-requires-clause-queue g c at_once =
+    let short = c.requires.queue at_once in
+    let long = ap (λ t. length t.state.writes) c.self.view_is in
+    let same = c.tell.ensures ∙ told-same c.self.inside.backlog.settings.tells c.args.cause c.replace-replaced.result c.self.inside.backlog in
+    let told = ap (λ b. length b.writes) same in
+    omega (arith, short, long, told, length-map c.self.inside.backlog.writes write_of)
