@@ -1,11 +1,11 @@
 //! Inserting, looking up, running.
 ghost use Rattle.std.specs.Prelude.{◌≡◌, ℕ, ◌+◌, ◌<◌, ◌≤◌, ◌^◌, ◌⊎◌, true, false, [], length, IfOk, OnOk, OnErr, IfErr, is_some};
 ghost use Rattle.std.specs.Result.{IsErrOf};
-ghost use Rattle.engine_reference.specs.Calls.{LooksUp, written, sent, unsent_at, with_room};
+ghost use Rattle.engine_reference.specs.Calls.{LooksUp, sent, unsent_at, with_room};
 ghost use Rattle.engine_reference.specs.Visible.{visible_record, visible_value};
 ghost use Rattle.engine_reference.specs.Asking.{answers_of};
 ghost use Rattle.engine_reference.specs.Rules.Hashing.{hash_of_key};
-ghost use Rattle.front_reference.specs.Parts.{IsCause, IsReady, Inserts, InsertsReserved, put_sent, takes_nothing, with_put_room};
+ghost use Rattle.front_reference.specs.Parts.{IsCause, IsReady, Inserts, InsertsReserved, takes_nothing, with_put_room};
 ghost use Rattle.front_reference.specs.Wholes.{RunsPart};
 
 use engine_reference::{Names, Rules};
@@ -60,26 +60,6 @@ pub fn reserve_insert<K: Eq + Hash, V, S: BuildHasher, R: Rules<K, V>>(
     }
 }
 
-/// Writes a value in room that was made for it, and sends its write.
-fn put_reserved<K: Eq + Hash + Drop, V: Drop, S: BuildHasher, R: Rules<K, V>>(
-    part: &mut BaseCache<K, V, S, R>,
-    key: K,
-    hash: u64,
-    value: V,
-    now: Instant,
-    step: u64,
-)
-    requires hashed { hash ≡ hash_of_key S.Hasher.finish S.Hasher.write S.build_hasher K.hash_input
-        part.old.hasher key }
-    requires ready { IsReady part.old }
-    requires reserved { 0 < part.old.reserved }
-    ensures { part.new ≡ put_sent (answers_of R.weight_of R.created R.read R.updated R.covers) K.eq
-        key hash value now step part.old }
-{
-    let ticket = part.do_insert_with_hash(key, hash, value, now, step);
-    send_now(part, ticket);
-}
-
 /// Inserts a value in the room that `reserve_insert` made. It is never refused.
 pub fn insert_reserved<K: Eq + Hash + Drop, V: Drop, S: BuildHasher, R: Rules<K, V>>(
     part: &mut BaseCache<K, V, S, R>,
@@ -97,7 +77,7 @@ pub fn insert_reserved<K: Eq + Hash + Drop, V: Drop, S: BuildHasher, R: Rules<K,
 {
     let At { now, step } = at;
     if !part.is_map_disabled() {
-        put_reserved(part, key, hash, value, now, step);
+        part.insert_and_send_with_hash(key, hash, value, now, step);
         part.apply_reads_writes_if_needed(now);
     }
 }

@@ -67,18 +67,16 @@ impl NumberCache for Engine {
     }
 
     fn put(&mut self, key: u64, value: u64) -> bool {
-        if self.cache.reserve_write().is_err() {
+        if !self.cache.can_send() || self.cache.reserve_write().is_err() {
             return false;
         }
         let now = Instant::from_nanos(0);
         let hash = self.cache.hash(&key);
-        let ticket = self
-            .cache
-            .do_insert_with_hash(key, hash, value, now, self.step);
+        self.cache
+            .insert_and_send_with_hash(key, hash, value, now, self.step);
         self.step = self.step.wrapping_add(1);
-        let sent = self.cache.send(ticket).is_ok();
         self.cache.apply_reads_writes_if_needed(now);
-        sent
+        true
     }
 }
 
