@@ -285,14 +285,13 @@ fn slot_of(slots: &Vec<Slot>, tag: u32, place: u32) -> usize
     unreachable!()
 }
 
-/// Whether a slot is on the way from a tag's home to another, or is that one.
-fn is_on_way(many: usize, tag: u32, to: usize, at: usize) -> bool
-    requires to { to < many }
-    requires at { at < many }
-    ensures { IsTrue result ↔ IsOnWay many tag to at }
+/// Whether a slot that is so many steps before another is on the way from a tag's home to that one, or is that one.
+fn is_on_way(many: usize, tag: u32, to: usize, steps: usize) -> bool
+    requires { to < many }
+    ensures { (at : ℕ) → at < many → steps_to many at to ≡ steps
+        → IsTrue result ↔ IsOnWay many tag to at }
 {
-    let home = home_of(tag, many);
-    steps_to(many, home, at) <= steps_to(many, home, to)
+    steps <= steps_to(many, home_of(tag, many), to)
 }
 
 /// Moves up what stands behind a slot whose place goes, up to a vacant slot, where that slot is on its way. The slot
@@ -306,15 +305,17 @@ fn move_up(slots: &mut Vec<Slot>, from: usize) -> usize
 {
     let many = slots.len();
     let mut hole = from;
+    let mut passed = 0;
     for steps in 1..many {
         let at = steps_on(many, from, steps);
         let slot = slots[at];
         if slot.place == NOWHERE {
             return hole;
         }
-        if is_on_way(many, slot.tag, at, hole) {
+        if is_on_way(many, slot.tag, at, steps - passed) {
             slots[hole] = slot;
             hole = at;
+            passed = steps;
         }
     }
     unreachable!()

@@ -1,7 +1,7 @@
 -- One increment of a sketch.
-use Rattle.std.proofs.Common.{◌≡◌, ℕ, ◌+◌, ◌*◌, ◌/◌, ◌^◌, ◌<◌, ◌≤◌, Bool, true, false, ◌||◌, refl, get_or, cond, ltb, eqb, min, max, List, map, replicate, length, sym, subst, ap, ap₂, ◌∙◌, arith}
+use Rattle.std.proofs.Common.{◌≡◌, ℕ, ◌+◌, ◌*◌, ◌/◌, ◌^◌, ◌<◌, ◌≤◌, Bool, false, cond, ltb, eqb, min, max, List, map, replicate, length, sym, subst, ap, ap₂, ◌∙◌, arith}
 use Rattle.std.proofs.lemmas.Bool.{ne_eqb, lt-ltb, le-ltb, cond-true, cond-false}
-use Rattle.policy_base.specs.Counts.{Sketch, half, bump, bumped_in, can_grow_in, incremented, aged, counts_of, sketch_of, grown}
+use Rattle.policy_base.specs.Counts.{Sketch, half, bumped_in, can_grow_in, incremented, aged, counts_of, sketch_of, grown}
 use Rattle.std.specs.Int.{IsPowerOfTwo}
 use Rattle.policy_base.proofs.Nibbles.{counts-zeros}
 
@@ -17,25 +17,6 @@ module _ (z : ℕ) (cs ds : List ℕ) (size more sample h : ℕ) (g : Bool) (som
 
   pub old : sample ≤ more → (let s : Sketch = record { words = z; counts = cs; size = size; sample = sample } in let t : Sketch = record { words = z; counts = map half ds; size = more / 2; sample = sample } in t ≡ incremented s h)
   old le = sym (cond-false (ltb more sample) _ _ (le-ltb more sample le)) ∙ same
-
--- counts at their top do not grow
-module _ (cs : List ℕ) (a b c d : ℕ) where
-  bump-full : (k : ℕ) → 15 ≤ get_or cs k 0 → bump cs k ≡ cs
-  bump-full k le = cond-false (ltb (get_or cs k 0) 15) _ _ (le-ltb (get_or cs k 0) 15 le)
-
-  pub bumped-full : 15 ≤ get_or cs a 0 → 15 ≤ get_or cs b 0 → 15 ≤ get_or cs c 0 → 15 ≤ get_or cs d 0 → cs ≡ bump (bump (bump (bump cs a) b) c) d
-  bumped-full la lb lc ld = sym (ap (λ t. bump (bump (bump t b) c) d) (bump-full a la) ∙ ap (λ t. bump (bump t c) d) (bump-full b lb) ∙ ap (λ t. bump t d) (bump-full c lc) ∙ bump-full d ld)
-
-  pub none-grows : 15 ≤ get_or cs a 0 → 15 ≤ get_or cs b 0 → 15 ≤ get_or cs c 0 → 15 ≤ get_or cs d 0 → false ≡ (ltb (get_or cs a 0) 15 || ltb (get_or cs b 0) 15 || ltb (get_or cs c 0) 15 || ltb (get_or cs d 0) 15)
-  none-grows la lb lc ld = rw (le-ltb _ _ la, le-ltb _ _ lb, le-ltb _ _ lc, le-ltb _ _ ld) refl
-
--- one of four is true
-pub some-is : (p q r s : Bool) → (p ≡ false → q ≡ false → r ≡ false → s ≡ false → ⊥) → true ≡ (p || q || r || s)
-some-is true q r s h = refl
-some-is false true r s h = refl
-some-is false false true s h = refl
-some-is false false false true h = refl
-some-is false false false false h = absurd (h refl refl refl refl)
 
 -- a table just made, where it is larger than the one before
 pub made : (s : Sketch) (words capacity : ℕ) (len sample : ℕ) (items : List ℕ) → s.words < words → len ≡ words → items ≡ replicate words 0 → sample ≡ max (10 * min capacity (2 ^ 24)) 10 → sketch_of len items 0 sample ≡ grown s words capacity

@@ -6,23 +6,25 @@ ghost use Rattle.policy_base.specs.Counts.{nibbles, counts_of, half, multiplier,
 use std::alloc::{AllocError, Global};
 use std::marker::Model;
 
-/// The `i`-th count of a word.
-fn count_at(word: u64, i: u32) -> u8
-    requires { i < 16 }
-    ensures count { result ≡ slice_index (nibbles 16 word) i }
+/// The `i`-th count of a row, which is a quarter of a word.
+fn count_at(word: u64, row: u32, i: u32) -> u8
+    requires row { row < 4 }
+    requires index { i < 4 }
+    ensures count { result ≡ slice_index (nibbles 16 word) (4 * row + i) }
     ensures top { result ≤ 15 }
 {
-    ((word >> (4 * i)) % 16) as u8
+    ((word >> (16 * row) >> (4 * i)) % 16) as u8
 }
 
-/// The word with its `i`-th count, which is below 15, increased by one.
-fn with_one_more(word: u64, i: u32) -> u64
-    requires index { i < 16 }
-    requires below { slice_index (nibbles 16 word) i < 15 }
-    ensures { nibbles 16 result
-        ≡ slice_set (nibbles 16 word) i (slice_index (nibbles 16 word) i + 1) }
+/// The word with the `i`-th count of a row, which is below 15, increased by one.
+fn with_one_more(word: u64, row: u32, i: u32) -> u64
+    requires row { row < 4 }
+    requires index { i < 4 }
+    requires below { slice_index (nibbles 16 word) (4 * row + i) < 15 }
+    ensures { nibbles 16 result ≡ slice_set (nibbles 16 word) (4 * row + i)
+        (slice_index (nibbles 16 word) (4 * row + i) + 1) }
 {
-    word + (1u64 << (4 * i))
+    word + (1u64 << (4 * i) << (16 * row))
 }
 
 /// The lower three bits of each count.
@@ -111,8 +113,7 @@ fn count_of(table: &[u64], hash: u64, i: u64) -> u8
     ensures top { result ≤ 15 }
 {
     let at = word_of(table.len(), hash, i);
-    let k = (4 * (hash % 4) + i) as u32;
-    count_at(table[at], k)
+    count_at(table[at], (hash % 4) as u32, i as u32)
 }
 
 /// The minimum of a hash's four counts.
@@ -126,18 +127,23 @@ fn least_count(table: &[u64], hash: u64) -> u8
     low.min(high)
 }
 
-/// Adds one at a place, up to 15.
-fn bump_at(table: &mut [u64], hash: u64, i: u64)
+/// Adds one at a place, up to 15, and returns whether the count grew.
+fn bump_at(table: &mut [u64], hash: u64, i: u64) -> bool
     requires index { i < 4 }
     requires power { IsPowerOfTwo (length table.old) }
-    ensures { counts_of table.new ≡ bump (counts_of table.old) (place (length table.old) hash i) }
+    ensures counts { counts_of table.new
+        ≡ bump (counts_of table.old) (place (length table.old) hash i) }
+    ensures grew { result
+        ≡ nat_lt (slice_index (counts_of table.old) (place (length table.old) hash i)) 15 }
 {
     let at = word_of(table.len(), hash, i);
-    let k = (4 * (hash % 4) + i) as u32;
+    let row = (hash % 4) as u32;
     let word = table[at];
-    if count_at(word, k) < 15 {
-        table[at] = with_one_more(word, k);
+    let grows = count_at(word, row, i as u32) < 15;
+    if grows {
+        table[at] = with_one_more(word, row, i as u32);
     }
+    grows
 }
 
 /// Adds one to each of the four counts of a hash, and returns whether one grew.
@@ -147,14 +153,11 @@ fn bump_all(table: &mut [u64], hash: u64) -> bool
     ensures grew { result ≡ can_grow_in (length table.old) (counts_of table.old) hash }
     ensures len { length table.new ≡ length table.old }
 {
-    if least_count(table, hash) == 15 {
-        return false;
-    }
-    bump_at(table, hash, 0);
-    bump_at(table, hash, 1);
-    bump_at(table, hash, 2);
-    bump_at(table, hash, 3);
-    true
+    let first = bump_at(table, hash, 0);
+    let second = bump_at(table, hash, 1);
+    let third = bump_at(table, hash, 2);
+    let fourth = bump_at(table, hash, 3);
+    first | second | third | fourth
 }
 
 /// Counts a hash once more, and returns the new size.

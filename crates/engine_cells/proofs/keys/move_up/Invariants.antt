@@ -1,5 +1,10 @@
+use Rattle.std.proofs.Common.{◌≡◌, length}
+use Rattle.engine_cells.specs.Keys.Slots.{steps_to}
 use Rattle.engine_cells.proofs.keys.Moving.{AreMoved}
 use Rattle.engine_cells.proofs.keys.move_up.Given as goal
 
 abbrev pub invariant-loop-steps : goal.invariant-loop-steps
-invariant-loop-steps l = AreMoved l.initial.slots.items l.slots.items l.from l.hole l.steps
+invariant-loop-steps l = record {
+  moved : AreMoved l.initial.slots.items l.slots.items l.from l.hole l.steps;
+  passed : l.passed ≡ steps_to (length l.initial.slots.items) l.from l.hole;
+}
