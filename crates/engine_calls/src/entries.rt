@@ -3,7 +3,6 @@ ghost use Rattle.std.specs.Prelude.{◌≡◌, ℕ, ◌-◌, ◌<◌, ◌^◌, t
 ghost use Rattle.engine_reference.specs.Rules.Changes.{change_of};
 ghost use Rattle.engine_reference.specs.declared.rules.causes.RemovalCause.TheVariants as cause;
 ghost use Rattle.engine_cells.specs.Kept.{kept_at};
-ghost use Rattle.engine_reference.specs.Asking.{answers_of};
 ghost use Rattle.engine_reference.specs.Calls.{first_entry, next_entry, used_entry};
 ghost use Rattle.engine_reference.specs.Times.{changed_expiration, has_come};
 ghost use Rattle.engine_reference.specs.Visible.{cause_of_write};
@@ -34,8 +33,7 @@ pub fn first_entry<K: Eq + Hash, V, S: BuildHasher, R: Rules<K, V>>(
     now: Instant,
     step: u64,
 ) -> Entry<K, V>
-    ensures { result ≡ first_entry (answers_of R.weight_of R.created R.read R.updated R.covers)
-        tables.now.state key value now step }
+    ensures { result ≡ first_entry R.answers tables.now.state key value now step }
 {
     let rules = tables.rules();
     let weight = rules.weight(&key, &value);
@@ -62,8 +60,7 @@ pub fn next_entry<K: Eq + Hash, V, S: BuildHasher, R: Rules<K, V>>(
 ) -> Entry<K, V>
     requires { is_some (kept_at tables.now place) ≡ true }
     ensures { (r : Record K V) → kept_at tables.now place ≡ Some r
-        → result ≡ next_entry (answers_of R.weight_of R.created R.read R.updated R.covers)
-        tables.now.state r.entry key value now step }
+        → result ≡ next_entry R.answers tables.now.state r.entry key value now step }
 {
     let rules = tables.rules();
     let before = tables.record_in(place).entry.expires;
@@ -93,8 +90,7 @@ pub fn expires_after_use<K: Eq + Hash, V, S: BuildHasher, R: Rules<K, V>>(
     requires moment { (r : Record K V) → kept_at tables.now place ≡ Some r
         → r.entry.written < 2 ^ 64 - 1 }
     ensures { (r : Record K V) → kept_at tables.now place ≡ Some r
-        → result ≡ (used_entry (answers_of R.weight_of R.created R.read R.updated R.covers)
-        tables.now.state now r.entry).expires }
+        → result ≡ (used_entry R.answers tables.now.state now r.entry).expires }
 {
     let entry = &tables.record_in(place).entry;
     let left = time_left(tables.settings(), now.as_nanos(), entry);
@@ -111,9 +107,8 @@ pub fn cause_of_write<K: Eq + Hash, V, S: BuildHasher, R: Rules<K, V>>(
     now: u64,
 ) -> RemovalCause
     requires { is_some (kept_at tables.now place) ≡ true }
-    ensures { (r : Record K V) → kept_at tables.now place ≡ Some r
-        → tables.now.state.settings.tells ≡ true → result ≡ cause_of_write
-        (answers_of R.weight_of R.created R.read R.updated R.covers) tables.now.state now r.entry }
+    ensures { (r : Record K V) → kept_at tables.now place ≡ Some r → tables.now.state.settings.tells
+        ≡ true → result ≡ cause_of_write R.answers tables.now.state now r.entry }
 {
     let settings = tables.settings();
     if !settings.tells {

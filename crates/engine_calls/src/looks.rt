@@ -3,18 +3,16 @@ ghost use Rattle.std.specs.Prelude.{◌≡◌, ℕ, true, is_some, Option, Some,
 ghost use Rattle.std.specs.Fn.{FnOnceReturnsAt};
 ghost use Rattle.engine_calls.specs.Finding.{WasFound, PassesOver};
 ghost use Rattle.engine_cells.specs.Kept.{kept_at};
-ghost use Rattle.engine_reference.specs.Asking.{answers_of};
 ghost use Rattle.engine_reference.specs.Records.{held_at};
 ghost use Rattle.engine_reference.specs.Scanning.{past};
 ghost use Rattle.engine_reference.specs.Visible.{is_visible, visible_record};
 ghost use Rattle.engine_reference.specs.declared.data.Record.{Record};
-ghost use Rattle.engine_reference.specs.Rules.Hashing.{hash_of_key};
 
 use engine_pending::is_dead;
-use engine_reference::{Names, Record, Rules};
+use engine_reference::{Hashes, Names, Record, Rules};
 use engine_tables::Tables;
 use std::alloc::AllocError;
-use std::hash::{BuildHasher, Hash, Hasher};
+use std::hash::{BuildHasher, Hash};
 
 /// The record of a key, if it is held.
 pub fn held<'a, K: Eq + Hash, V, S: BuildHasher, R: Rules<K, V>, Q: Names<K>>(
@@ -22,8 +20,7 @@ pub fn held<'a, K: Eq + Hash, V, S: BuildHasher, R: Rules<K, V>, Q: Names<K>>(
     key: &Q,
     hash: u64,
 ) -> Option<&'a Record<K, V>>
-    requires hashed { hash ≡ hash_of_key S.Hasher.finish S.Hasher.write S.build_hasher K.hash_input
-        tables.now.state.hasher (Q.named_key key.now) }
+    requires hashed { hash ≡ ⟦<S as Hashes<K>>⟧.hash tables.now.state.hasher (Q.named_key key.now) }
     ensures { option_copied result ≡ held_at K.eq tables.now.state.records (Q.named_key key.now) }
 {
     match tables.place_of(key, hash) {
@@ -39,8 +36,8 @@ fn is_seen_at<K: Eq + Hash, V, S: BuildHasher, R: Rules<K, V>>(
     now: u64,
 ) -> bool
     requires { is_some (kept_at tables.now place) ≡ true }
-    ensures { (r : Record K V) → kept_at tables.now place ≡ Some r → result ≡ is_visible
-        (answers_of R.weight_of R.created R.read R.updated R.covers) tables.now.state now r.entry }
+    ensures { (r : Record K V) → kept_at tables.now place ≡ Some r
+        → result ≡ is_visible R.answers tables.now.state now r.entry }
 {
     let entry = &tables.record_in(place).entry;
     !is_dead(tables.settings(), now, entry) && !tables.is_over(entry)
@@ -53,11 +50,9 @@ pub fn find<K: Eq + Hash, V, S: BuildHasher, R: Rules<K, V>, Q: Names<K>>(
     hash: u64,
     now: u64,
 ) -> Option<usize>
-    requires hashed { hash ≡ hash_of_key S.Hasher.finish S.Hasher.write S.build_hasher K.hash_input
-        tables.now.state.hasher (Q.named_key key.now) }
+    requires hashed { hash ≡ ⟦<S as Hashes<K>>⟧.hash tables.now.state.hasher (Q.named_key key.now) }
     ensures { WasFound tables.now hash result
-        (visible_record (answers_of R.weight_of R.created R.read R.updated R.covers) K.eq
-        tables.now.state now (Q.named_key key.now)) }
+        (visible_record R.answers K.eq tables.now.state now (Q.named_key key.now)) }
 {
     match tables.place_of(key, hash) {
         Some(place) => {
@@ -79,11 +74,9 @@ pub fn find_unless<K: Eq + Hash, V, S: BuildHasher, R: Rules<K, V>, Q: Names<K>>
     now: u64,
     ignored: bool,
 ) -> Option<usize>
-    requires hashed { hash ≡ hash_of_key S.Hasher.finish S.Hasher.write S.build_hasher K.hash_input
-        tables.now.state.hasher (Q.named_key key.now) }
+    requires hashed { hash ≡ ⟦<S as Hashes<K>>⟧.hash tables.now.state.hasher (Q.named_key key.now) }
     ensures { WasFound tables.now hash result
-        (past ignored (visible_record (answers_of R.weight_of R.created R.read R.updated R.covers)
-        K.eq tables.now.state now (Q.named_key key.now))) }
+        (past ignored (visible_record R.answers K.eq tables.now.state now (Q.named_key key.now))) }
 {
     if ignored {
         return None;
@@ -98,11 +91,9 @@ pub fn look_up<'a, K: Eq + Hash, V, S: BuildHasher, R: Rules<K, V>, Q: Names<K>>
     hash: u64,
     now: u64,
 ) -> Option<&'a Record<K, V>>
-    requires hashed { hash ≡ hash_of_key S.Hasher.finish S.Hasher.write S.build_hasher K.hash_input
-        tables.now.state.hasher (Q.named_key key.now) }
-    ensures { option_copied result
-        ≡ visible_record (answers_of R.weight_of R.created R.read R.updated R.covers) K.eq
-        tables.now.state now (Q.named_key key.now) }
+    requires hashed { hash ≡ ⟦<S as Hashes<K>>⟧.hash tables.now.state.hasher (Q.named_key key.now) }
+    ensures { option_copied result ≡ visible_record R.answers K.eq tables.now.state now
+        (Q.named_key key.now) }
 {
     match find(tables, key, hash, now) {
         Some(place) => Some(tables.record_in(place)),

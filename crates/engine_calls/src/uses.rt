@@ -2,7 +2,6 @@
 ghost use Rattle.std.specs.Prelude.{◌≡◌, ◌<◌, ℕ, true, length, is_some, Some};
 ghost use Rattle.engine_calls.specs.Bounds.{AreBounded};
 ghost use Rattle.engine_cells.specs.Kept.{kept_at};
-ghost use Rattle.engine_reference.specs.Asking.{answers_of};
 ghost use Rattle.engine_reference.specs.Calls.{with_read};
 ghost use Rattle.engine_reference.specs.Records.{record_at};
 ghost use Rattle.engine_reference.specs.declared.data.Record.{Record};
@@ -24,8 +23,7 @@ pub fn use_in<K: Eq + Hash, V, S: BuildHasher, R: Rules<K, V>>(
     requires bounded { AreBounded tables.old.state }
     requires there { is_some (kept_at tables.old place) ≡ true }
     ensures { (r : Record K V) → kept_at tables.old place ≡ Some r
-        → tables.new.state ≡ with_read (answers_of R.weight_of R.created R.read R.updated R.covers)
-        (Some r) hash now tables.old.state }
+        → tables.new.state ≡ with_read R.answers (Some r) hash now tables.old.state }
 {
     let expires = expires_after_use(tables, place, now);
     let number = tables.use_at(place, now.as_nanos(), expires);
@@ -45,8 +43,7 @@ pub fn use_found<K: Eq + Hash, V, S: BuildHasher, R: Rules<K, V>>(
     requires held { (r : Record K V) → record_at tables.old.state.records number ≡ Some r
         → (r.is_held ≡ true) × (r.hash ≡ hash) }
     ensures { (r : Record K V) → r.number ≡ number
-        → tables.new.state ≡ with_read (answers_of R.weight_of R.created R.read R.updated R.covers)
-        (Some r) hash now tables.old.state }
+        → tables.new.state ≡ with_read R.answers (Some r) hash now tables.old.state }
 {
     match tables.place_of_number(number, hash) {
         Some(place) => use_in(tables, place, hash, now),

@@ -4,16 +4,14 @@ ghost use Rattle.std.specs.Result.{IsErrOf};
 ghost use Rattle.engine_calls.specs.Bounds.{AreBounded};
 ghost use Rattle.engine_calls.specs.Sending.{SendsAll, sent_if};
 ghost use Rattle.engine_cells.specs.Kept.{kept_at};
-ghost use Rattle.engine_reference.specs.Asking.{answers_of};
 ghost use Rattle.engine_reference.specs.Calls.{removal_rooms, removal_told, with_removal_room, with_reserved_removal, with_written, written};
 ghost use Rattle.engine_reference.specs.Records.{held_at};
 ghost use Rattle.engine_reference.specs.declared.data.Record.{Record};
-ghost use Rattle.engine_reference.specs.Rules.Hashing.{hash_of_key};
 
 use crate::entries::{cause_of_removal, cause_of_write, entry_of, first_entry, next_entry};
 use crate::looks::held;
 use crate::settings::rooms_of_removal;
-use engine_reference::{Entry, Names, Record, Refusal, Rules};
+use engine_reference::{Entry, Hashes, Names, Record, Refusal, Rules};
 use engine_tables::Tables;
 use policy_base::Instant;
 use std::alloc::AllocError;
@@ -29,14 +27,12 @@ fn write_first<K: Eq + Hash, V, S: BuildHasher, R: Rules<K, V>>(
     step: u64,
     at_once: bool,
 )
-    requires hashed { hash ≡ hash_of_key S.Hasher.finish S.Hasher.write S.build_hasher K.hash_input
-        tables.old.state.hasher key }
+    requires hashed { hash ≡ ⟦<S as Hashes<K>>⟧.hash tables.old.state.hasher key }
     requires room { 0 < tables.old.state.reserved }
     requires queue { at_once ≡ true → SendsAll tables.old.state }
     requires absent { held_at K.eq tables.old.state.records key ≡ None }
     ensures { tables.new.state ≡ sent_if at_once tables.old.state.next_ticket
-        (with_written (answers_of R.weight_of R.created R.read R.updated R.covers) None
-        tables.old.state key hash value now step) }
+        (with_written R.answers None tables.old.state key hash value now step) }
 {
     let entry = first_entry(tables, key, value, now, step);
     let number = tables.next_number();
@@ -69,8 +65,7 @@ fn write_over<K: Eq + Hash + Drop, V: Drop, S: BuildHasher, R: Rules<K, V>>(
         × (held_at K.eq tables.old.state.records key ≡ Some r) }
     ensures { (r : Record K V) → kept_at tables.old place ≡ Some r
         → tables.new.state ≡ sent_if at_once tables.old.state.next_ticket
-        (written (answers_of R.weight_of R.created R.read R.updated R.covers) K.eq tables.old.state
-        key r.hash value now step) }
+        (written R.answers K.eq tables.old.state key r.hash value now step) }
 {
     tables.tickets_last();
     let cause = cause_of_write(tables, place, now.as_nanos());
@@ -88,14 +83,12 @@ pub fn write<K: Eq + Hash + Drop, V: Drop, S: BuildHasher, R: Rules<K, V>>(
     step: u64,
     at_once: bool,
 )
-    requires hashed { hash ≡ hash_of_key S.Hasher.finish S.Hasher.write S.build_hasher K.hash_input
-        tables.old.state.hasher key }
+    requires hashed { hash ≡ ⟦<S as Hashes<K>>⟧.hash tables.old.state.hasher key }
     requires room { 0 < tables.old.state.reserved }
     requires queue { at_once ≡ true → SendsAll tables.old.state }
     requires bounded { AreBounded tables.old.state }
     ensures { tables.new.state ≡ sent_if at_once tables.old.state.next_ticket
-        (written (answers_of R.weight_of R.created R.read R.updated R.covers) K.eq tables.old.state
-        key hash value now step) }
+        (written R.answers K.eq tables.old.state key hash value now step) }
 {
     match tables.place_of(&key, hash) {
         Some(place) => write_over(tables, place, key, value, now, step, at_once),
@@ -120,8 +113,7 @@ fn clone_held<K: Eq + Hash + Clone + Drop, Q: Names<K>, V: Clone, S: BuildHasher
     key: &Q,
     hash: u64,
 ) -> Result<Option<(K, V)>, AllocError>
-    requires hashed { hash ≡ hash_of_key S.Hasher.finish S.Hasher.write S.build_hasher K.hash_input
-        tables.now.state.hasher (Q.named_key key.now) }
+    requires hashed { hash ≡ ⟦<S as Hashes<K>>⟧.hash tables.now.state.hasher (Q.named_key key.now) }
     requires exact_key { (x y : K) → K.is_clone x y → y ≡ x }
     requires exact { (x y : V) → V.is_clone x y → y ≡ x }
     ensures { IfOk result (λ parts. parts ≡ option_map (λ r. (r.entry.key, r.entry.value))
@@ -163,8 +155,7 @@ pub fn prepare_removal<
     S: BuildHasher,
     R: Rules<K, V>,
 >(tables: &mut Tables<K, V, S, R>, key: &Q, hash: u64) -> Result<Option<(K, V)>, Refusal>
-    requires hashed { hash ≡ hash_of_key S.Hasher.finish S.Hasher.write S.build_hasher K.hash_input
-        tables.old.state.hasher (Q.named_key key.now) }
+    requires hashed { hash ≡ ⟦<S as Hashes<K>>⟧.hash tables.old.state.hasher (Q.named_key key.now) }
     requires exact_key { (x y : K) → K.is_clone x y → y ≡ x }
     requires exact { (x y : V) → V.is_clone x y → y ≡ x }
     ensures ok { OnOk result (tables.new.state ≡ with_removal_room
@@ -211,8 +202,7 @@ pub fn remove_reserved<K: Eq + Hash + Drop, Q: Names<K>, V: Drop, S: BuildHasher
     hash: u64,
     parts: (K, V),
 ) -> Option<(Entry<K, V>, u64)>
-    requires hashed { hash ≡ hash_of_key S.Hasher.finish S.Hasher.write S.build_hasher K.hash_input
-        tables.old.state.hasher (Q.named_key key.now) }
+    requires hashed { hash ≡ ⟦<S as Hashes<K>>⟧.hash tables.old.state.hasher (Q.named_key key.now) }
     requires room { removal_rooms tables.old.state.settings ≤ tables.old.state.reserved }
     requires bounded { AreBounded tables.old.state }
     requires parts { (r : Record K V) → held_at K.eq tables.old.state.records (Q.named_key key.now)
@@ -240,8 +230,7 @@ pub fn tell_removed<K: Eq + Hash + Drop, V: Drop, S: BuildHasher, R: Rules<K, V>
     now: Instant,
 )
     requires { tables.old.state.settings.tells ≡ true → 0 < tables.old.state.reserved }
-    ensures { tables.new.state ≡ removal_told
-        (answers_of R.weight_of R.created R.read R.updated R.covers) entry now tables.old.state }
+    ensures { tables.new.state ≡ removal_told R.answers entry now tables.old.state }
 {
     if tables.settings().tells {
         let cause = cause_of_removal(tables.settings(), now.as_nanos(), &entry);

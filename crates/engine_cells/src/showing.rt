@@ -15,7 +15,7 @@ fn shows_value<K, V, S, R: Rules<K, V>>(
     backlog: &Backlog<K, V, Noted, PlacedWrite, S, R>,
     now: u64,
 ) -> bool
-    ensures { result ≡ shows_value R.covers backlog.now now found.now }
+    ensures { result ≡ shows_value R.answers.covers backlog.now now found.now }
 {
     found.is_held
         && !is_dead(backlog.settings(), now, &found.entry)
@@ -29,7 +29,8 @@ fn shown_at<K, V, S, R: Rules<K, V>>(
     backlog: &Backlog<K, V, Noted, PlacedWrite, S, R>,
     now: u64,
 ) -> usize
-    ensures is { result ≡ shown_in R.covers backlog.now now (cell_at cells.now.slots place) }
+    ensures is { result
+        ≡ shown_in R.answers.covers backlog.now now (cell_at cells.now.slots place) }
     ensures most { result ≤ 1 }
 {
     match cells.get(place) {
@@ -44,7 +45,7 @@ pub fn count_shown<K, V, S, R: Rules<K, V>>(
     backlog: &Backlog<K, V, Noted, PlacedWrite, S, R>,
     now: u64,
 ) -> usize
-    ensures { result ≡ sum_over (shown_part R.covers backlog.now now) cells.now.slots }
+    ensures { result ≡ sum_over (shown_part R.answers.covers backlog.now now) cells.now.slots }
 {
     let mut number = 0;
     for place in 0..cells.capacity() {

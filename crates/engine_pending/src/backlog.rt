@@ -257,7 +257,7 @@ impl<K, V, O, W, S, R: Rules<K, V>> Backlog<K, V, O, W, S, R> {
 
     /// Whether a later clear or predicate stands over an entry.
     pub fn is_over(&self, entry: &Entry<K, V>) -> bool
-        ensures { result ≡ stands_over R.covers self.now entry.now }
+        ensures { result ≡ stands_over R.answers.covers self.now entry.now }
     {
         entry.step < self.cleared || is_any_over(&self.rules, self.predicates.as_slice(), entry)
     }

@@ -11,7 +11,7 @@ pub fn is_any_over<K, V, R: Rules<K, V>>(
     entry: &Entry<K, V>,
 ) -> bool
     ensures { result ≡ list_any (λ p. nat_lt entry.now.step p.step
-        && R.covers rules.now p.predicate entry.now.key entry.now.value) predicates.now }
+        && R.answers.covers rules.now p.predicate entry.now.key entry.now.value) predicates.now }
 {
     for p in predicates {
         if entry.step < p.step && rules.is_covered(&p.predicate, &entry.key, &entry.value) {

@@ -8,7 +8,6 @@ pub mod Times
 pub mod Visible
 pub mod Admission
 pub mod Runs
-pub mod Asking
 pub mod Calls
 pub mod Scanning
 pub mod Telling

@@ -1,6 +1,7 @@
 //! The rules of a cache: how much a value weighs, how long it lives, what a predicate covers, what is evicted, and why a value left.
 mod causes;
 mod expiry;
+mod hashing;
 mod names;
 mod refusal;
 mod rules;
@@ -8,6 +9,7 @@ mod settings;
 
 pub use causes::{PredicateError, RemovalCause};
 pub use expiry::{Expiration, Expiry, NoExpiry};
+pub use hashing::Hashes;
 pub use names::Names;
 pub use refusal::Refusal;
 pub use rules::{Bundle, NoPredicate, Predicate, Rules, WeighOne, Weigher};

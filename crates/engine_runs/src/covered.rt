@@ -17,7 +17,7 @@ fn is_covered_at<K: Eq + Hash, V, S: BuildHasher, R: Rules<K, V>>(
     tables: &Tables<K, V, S, R>,
     place: usize,
 ) -> bool
-    ensures { (answers : Answers K V R.Predicate R) → answers.covers ≡ R.covers
+    ensures { (answers : Answers K V R.Predicate R) → answers.covers ≡ R.answers.covers
         → result ≡ is_covered_as answers tables.now.state (kept_at tables.now place) }
 {
     match tables.record(place) {
@@ -33,11 +33,11 @@ fn leave_covered<K: Eq + Hash + Drop, V: Drop, S: BuildHasher, R: Rules<K, V>>(
     now: u64,
 )
     requires { IsApplied tables.old.state }
-    ensures stretch { (answers : Answers K V R.Predicate R) → answers.covers ≡ R.covers
+    ensures stretch { (answers : Answers K V R.Predicate R) → answers.covers ≡ R.answers.covers
         → Stretch answers now tables.old.state tables.new.state }
     ensures applied { IsApplied tables.new.state }
     ensures rest { KeepsRest tables.old.state tables.new.state }
-    ensures scanned { (answers : Answers K V R.Predicate R) → answers.covers ≡ R.covers
+    ensures scanned { (answers : Answers K V R.Predicate R) → answers.covers ≡ R.answers.covers
         → IsScanned answers place tables.old → IsScanned answers (place + 1) tables.new }
     ensures places { length tables.new.numbers ≡ length tables.old.numbers }
 {
@@ -53,11 +53,11 @@ fn scan<K: Eq + Hash + Drop, V: Drop, S: BuildHasher, R: Rules<K, V>>(
     now: u64,
 )
     requires { IsApplied tables.old.state }
-    ensures stretch { (answers : Answers K V R.Predicate R) → answers.covers ≡ R.covers
+    ensures stretch { (answers : Answers K V R.Predicate R) → answers.covers ≡ R.answers.covers
         → Stretch answers now tables.old.state tables.new.state }
     ensures applied { IsApplied tables.new.state }
     ensures rest { KeepsRest tables.old.state tables.new.state }
-    ensures none { (answers : Answers K V R.Predicate R) → answers.covers ≡ R.covers
+    ensures none { (answers : Answers K V R.Predicate R) → answers.covers ≡ R.answers.covers
         → NoneIsCovered answers tables.new.state }
 {
     for place in 0..tables.places() {
@@ -73,12 +73,12 @@ fn end_last<K: Eq + Hash, V, S: BuildHasher, R: Rules<K, V>>(
 )
     requires applied { IsApplied tables.old.state }
     requires some { 0 < length tables.old.state.predicates }
-    requires none { (answers : Answers K V R.Predicate R) → answers.covers ≡ R.covers
+    requires none { (answers : Answers K V R.Predicate R) → answers.covers ≡ R.answers.covers
         → CoverNone answers tables.old.state }
-    ensures step { (answers : Answers K V R.Predicate R) → answers.covers ≡ R.covers
+    ensures step { (answers : Answers K V R.Predicate R) → answers.covers ≡ R.answers.covers
         → StepsFor answers now tables.old.state tables.new.state }
     ensures applied { IsApplied tables.new.state }
-    ensures none { (answers : Answers K V R.Predicate R) → answers.covers ≡ R.covers
+    ensures none { (answers : Answers K V R.Predicate R) → answers.covers ≡ R.answers.covers
         → CoverNone answers tables.new.state }
     ensures table { lacks_table tables.new.state ≡ lacks_table tables.old.state }
     ensures fewer { length tables.new.state.predicates < length tables.old.state.predicates }
@@ -94,9 +94,9 @@ fn end_all<K: Eq + Hash, V, S: BuildHasher, R: Rules<K, V>>(
     now: u64,
 )
     requires applied { IsApplied tables.old.state }
-    requires none { (answers : Answers K V R.Predicate R) → answers.covers ≡ R.covers
+    requires none { (answers : Answers K V R.Predicate R) → answers.covers ≡ R.answers.covers
         → CoverNone answers tables.old.state }
-    ensures stretch { (answers : Answers K V R.Predicate R) → answers.covers ≡ R.covers
+    ensures stretch { (answers : Answers K V R.Predicate R) → answers.covers ≡ R.answers.covers
         → Stretch answers now tables.old.state tables.new.state }
     ensures applied { IsApplied tables.new.state }
     ensures ended { tables.new.state.predicates ≡ [] }
@@ -114,7 +114,7 @@ pub fn end_predicates<K: Eq + Hash + Drop, V: Drop, S: BuildHasher, R: Rules<K, 
 )
     requires applied { IsApplied tables.old.state }
     requires sound { ∥ IsSound tables.old.state ∥₁ }
-    ensures stretch { (answers : Answers K V R.Predicate R) → answers.covers ≡ R.covers
+    ensures stretch { (answers : Answers K V R.Predicate R) → answers.covers ≡ R.answers.covers
         → Stretch answers now tables.old.state tables.new.state }
     ensures applied { IsApplied tables.new.state }
     ensures ended { tables.new.state.predicates ≡ [] }

@@ -24,11 +24,10 @@ pub fn try_run<K: Eq + Hash + Drop, V: Drop, S: BuildHasher, R: Rules<K, V>>(
     now: u64,
 ) -> Result<(), AllocError>
     requires { ∥ IsSound tables.old.state ∥₁ }
-    ensures runs { (answers : Answers K V R.Predicate R) → answers.covers ≡ R.covers
+    ensures runs { (answers : Answers K V R.Predicate R) → answers.covers ≡ R.answers.covers
         → RunsToEnd answers now tables.old.state tables.new.state }
-    ensures counts { (answers : Answers K V R.Predicate R)
-        → answers.covers ≡ R.covers → tables.old.state.unsent ≡ []
-        → CountsExactly K V R.Predicate S R answers tables.new.state }
+    ensures counts { (answers : Answers K V R.Predicate R) → answers.covers ≡ R.answers.covers →
+        tables.old.state.unsent ≡ [] → CountsExactly K V R.Predicate S R answers tables.new.state }
     ensures due { (moment step : ℕ) → IsTimely moment step tables.old.state → moment ≤ now
         → now ≤ 9223372036854775807 → LeavesNoneDue now tables.new.state }
     ensures sound { ∥ IsSound tables.new.state ∥₁ }
@@ -50,11 +49,10 @@ pub fn run<K: Eq + Hash + Drop, V: Drop, S: BuildHasher, R: Rules<K, V>>(
     now: u64,
 )
     requires { ∥ IsSound tables.old.state ∥₁ }
-    ensures runs { (answers : Answers K V R.Predicate R) → answers.covers ≡ R.covers
+    ensures runs { (answers : Answers K V R.Predicate R) → answers.covers ≡ R.answers.covers
         → RunsToEnd answers now tables.old.state tables.new.state }
-    ensures counts { (answers : Answers K V R.Predicate R)
-        → answers.covers ≡ R.covers → tables.old.state.unsent ≡ []
-        → CountsExactly K V R.Predicate S R answers tables.new.state }
+    ensures counts { (answers : Answers K V R.Predicate R) → answers.covers ≡ R.answers.covers →
+        tables.old.state.unsent ≡ [] → CountsExactly K V R.Predicate S R answers tables.new.state }
     ensures due { (moment step : ℕ) → IsTimely moment step tables.old.state → moment ≤ now
         → now ≤ 9223372036854775807 → LeavesNoneDue now tables.new.state }
     ensures sound { ∥ IsSound tables.new.state ∥₁ }
@@ -68,7 +66,7 @@ pub fn run_if_due<K: Eq + Hash + Drop, V: Drop, S: BuildHasher, R: Rules<K, V>>(
     now: u64,
 )
     requires { ∥ IsSound tables.old.state ∥₁ }
-    ensures due { (answers : Answers K V R.Predicate R) → answers.covers ≡ R.covers
+    ensures due { (answers : Answers K V R.Predicate R) → answers.covers ≡ R.answers.covers
         → MaintainsIfDue answers now tables.old.state tables.new.state }
     ensures sound { ∥ IsSound tables.new.state ∥₁ }
     ensures room { length tables.new.state.reads < 64 }

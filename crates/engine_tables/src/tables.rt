@@ -12,7 +12,6 @@ ghost use Rattle.engine_cells.specs.Fitting.{HasPlaceFor, StepsOut, ComesLast};
 ghost use Rattle.engine_cells.specs.Noting.{read_of, write_of, number_written, AimsRight, AimsOnlyAt};
 ghost use Rattle.engine_reference.specs.Runs.{after_hit, after_read, after_removal, next_to_evict, is_due};
 ghost use Rattle.engine_reference.specs.Calls.{IsNew, without_room, without_notice, cleared_by, registered, sent, unsent_at, is_full};
-ghost use Rattle.engine_reference.specs.Rules.Hashing.{hash_of_key};
 ghost use Rattle.engine_reference.specs.Soundness.{AreOnce, IsIn};
 ghost use Rattle.engine_cells.specs.Looking.{is_expired, behind};
 ghost use Rattle.engine_reference.specs.declared.data.Read.{Read};
@@ -27,7 +26,8 @@ use engine_cells::{
 };
 use engine_pending::{Backlog, Expirations};
 use engine_reference::{
-    Entry, Names, Notice, Record, Refusal, Registered, RemovalCause, Rules, Settings, Upsert, Write,
+    Entry, Hashes, Names, Notice, Record, Refusal, Registered, RemovalCause, Rules, Settings,
+    Upsert, Write,
 };
 use policy_base::FrequencySketch;
 use policy_queue::IndexQueue;
@@ -235,7 +235,7 @@ impl<K: Eq + Hash, V, S: BuildHasher, R: Rules<K, V>> Tables<K, V, S, R> {
 
     /// Whether a later clear or predicate stands over an entry.
     pub fn is_over(&self, entry: &Entry<K, V>) -> bool
-        ensures { (answers : Answers K V R.Predicate R) → answers.covers ≡ R.covers
+        ensures { (answers : Answers K V R.Predicate R) → answers.covers ≡ R.answers.covers
             → result ≡ is_covered answers self.now.state entry.now }
     {
         self.backlog.is_over(entry)
@@ -272,8 +272,8 @@ impl<K: Eq + Hash, V, S: BuildHasher, R: Rules<K, V>> Tables<K, V, S, R> {
 
     /// The place of a key's record, where it is held, by the key's hash.
     pub fn place_of<Q: Names<K>>(&self, key: &Q, hash: u64) -> Option<usize>
-        requires hashed { hash ≡ hash_of_key S.Hasher.finish S.Hasher.write S.build_hasher
-            K.hash_input self.now.state.hasher (Q.named_key key.now) }
+        requires hashed { hash
+            ≡ ⟦<S as Hashes<K>>⟧.hash self.now.state.hasher (Q.named_key key.now) }
         ensures found { IfSome result (λ i. (r : Record K V) × (kept_at self.now i ≡ Some r)
             × (held_at K.eq self.now.state.records (Q.named_key key.now) ≡ Some r)) }
         ensures hash { IfSome result
@@ -316,8 +316,8 @@ impl<K: Eq + Hash, V, S: BuildHasher, R: Rules<K, V>> Tables<K, V, S, R> {
     pub fn add(&mut self, added: Record<K, V>, at_once: bool) -> usize
         requires room { 0 < self.old.state.reserved }
         requires queue { at_once ≡ true → length self.old.state.writes < 128 }
-        requires newcomer { IsNewcomer K.eq (hash_of_key S.Hasher.finish S.Hasher.write
-            S.build_hasher K.hash_input self.old.state.hasher) self.old.state added }
+        requires newcomer { IsNewcomer K.eq
+            (⟦<S as Hashes<K>>⟧.hash self.old.state.hasher) self.old.state added }
         ensures vacant { numbered_at self.old.numbers result ≡ None }
         ensures place { kept_at self.new result ≡ Some added }
         ensures others { (i : ℕ) → i ≢ result → numbered_at self.new.numbers i

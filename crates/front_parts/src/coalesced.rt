@@ -4,20 +4,18 @@ ghost use Rattle.std.specs.Fn.{FnOnceReturnsAt};
 ghost use Rattle.std.specs.Result.{IsErrOf};
 ghost use Rattle.engine_reference.specs.Scanning.{past};
 ghost use Rattle.engine_reference.specs.Visible.{visible_value};
-ghost use Rattle.engine_reference.specs.Asking.{answers_of};
-ghost use Rattle.engine_reference.specs.Rules.Hashing.{hash_of_key};
 ghost use Rattle.front_reference.specs.Parts.{IsCause, IsReady, Acts, op_of_made};
 ghost use Rattle.front_parts.specs.Looking.{AsksPart, CoalescesPart};
 ghost use Rattle.front_reference.specs.declared.data.Op.TheVariants as op;
 ghost use Rattle.front_reference.specs.declared.data.Made.TheVariants as made;
 
 use crate::part::{insert_reserved, reserve_insert};
-use engine_reference::{Names, Rules};
+use engine_reference::{Hashes, Names, Rules};
 use front_reference::{At, CacheError, IntoKey, Made};
 use moka_engine::BaseCache;
 use policy_base::Instant;
 use std::alloc::AllocError;
-use std::hash::{BuildHasher, Hash, Hasher};
+use std::hash::{BuildHasher, Hash};
 
 /// Returns a clone of the visible value of a key, unless `replace_if` returns true for it; then it is passed over, which the first of the
 /// two results says. `replace_if` is called on no other value. This does not count as a use.
@@ -35,15 +33,13 @@ pub fn look<
     now: Instant,
     replace_if: P,
 ) -> Result<(bool, Option<V>), AllocError>
-    requires hashed { hash ≡ hash_of_key S.Hasher.finish S.Hasher.write S.build_hasher K.hash_input
-        part.now.hasher (Q.named_key key.now) }
+    requires hashed { hash ≡ ⟦<S as Hashes<K>>⟧.hash part.now.hasher (Q.named_key key.now) }
     requires exact { (x y : V) → V.is_clone x y → y ≡ x }
     requires callable { P.IsAlwaysCallable replace_if }
-    ensures asked { IfOk result
-        (λ looked. AsksPart (answers_of R.weight_of R.created R.read R.updated R.covers) K.eq
-        (Q.named_key key.now) now (FnOnceReturnsAt P.FnOnce replace_if) part.now looked.0) }
-    ensures found { IfOk result (λ looked. looked.1 ≡ past looked.0 (visible_value (answers_of
-        R.weight_of R.created R.read R.updated R.covers) K.eq part.now now (Q.named_key key.now))) }
+    ensures asked { IfOk result (λ looked. AsksPart R.answers K.eq (Q.named_key key.now) now
+        (FnOnceReturnsAt P.FnOnce replace_if) part.now looked.0) }
+    ensures found { IfOk result (λ looked. looked.1
+        ≡ past looked.0 (visible_value R.answers K.eq part.now now (Q.named_key key.now))) }
 {
     match part.peek(key, hash, now) {
         Some(value) => {
@@ -67,11 +63,10 @@ pub(crate) fn note_and_insert<K: Eq + Hash + Drop, V: Drop, S: BuildHasher, R: R
     at: At,
     ignored: bool,
 ) -> Result<(), CacheError>
-    requires hashed { hash ≡ hash_of_key S.Hasher.finish S.Hasher.write S.build_hasher K.hash_input
-        part.old.hasher key }
+    requires hashed { hash ≡ ⟦<S as Hashes<K>>⟧.hash part.old.hasher key }
     requires ready { IsReady part.old }
-    ensures acts { OnOk result (Acts (answers_of R.weight_of R.created R.read R.updated R.covers)
-        K.eq key hash at.now at.step ignored (op.Put value) part.old part.new) }
+    ensures acts { OnOk result
+        (Acts R.answers K.eq key hash at.now at.step ignored (op.Put value) part.old part.new) }
     ensures err { OnErr result (part.new ≡ part.old) }
     ensures cause { IfErr result (IsCause 1 part.old) }
 {
@@ -89,10 +84,9 @@ pub(crate) fn note<K: Eq + Hash + Drop, V: Drop, S: BuildHasher, R: Rules<K, V>,
     at: At,
     ignored: bool,
 )
-    requires hashed { hash ≡ hash_of_key S.Hasher.finish S.Hasher.write S.build_hasher K.hash_input
-        part.old.hasher (Q.named_key key.now) }
-    ensures { Acts (answers_of R.weight_of R.created R.read R.updated R.covers) K.eq
-        (Q.named_key key.now) hash at.now at.step ignored op.Nop part.old part.new }
+    requires hashed { hash ≡ ⟦<S as Hashes<K>>⟧.hash part.old.hasher (Q.named_key key.now) }
+    ensures { Acts R.answers K.eq (Q.named_key key.now) hash at.now at.step ignored op.Nop part.old
+        part.new }
 {
     part.note_look_up(key, hash, at.now, ignored);
 }
@@ -113,14 +107,13 @@ fn settle<
     at: At,
     ignored: bool,
 ) -> Result<Made<V, F>, CacheError>
-    requires hashed { hash ≡ hash_of_key S.Hasher.finish S.Hasher.write S.build_hasher K.hash_input
-        part.old.hasher (Q.named_key name) }
+    requires hashed { hash ≡ ⟦<S as Hashes<K>>⟧.hash part.old.hasher (Q.named_key name) }
     requires becomes { Q.can_become name }
     requires exact { (x y : V) → V.is_clone x y → y ≡ x }
     requires ready { IsReady part.old }
     ensures same { IfOk result (λ answer. answer ≡ made) }
-    ensures acts { OnOk result (Acts (answers_of R.weight_of R.created R.read R.updated R.covers)
-        K.eq (Q.named_key name) hash at.now at.step ignored (op_of_made made) part.old part.new) }
+    ensures acts { OnOk result (Acts R.answers K.eq (Q.named_key name) hash at.now at.step ignored
+        (op_of_made made) part.old part.new) }
     ensures err { OnErr result (part.new ≡ part.old) }
     ensures cause { IfErr result (IsCause 1 part.old) }
 {
@@ -162,14 +155,12 @@ pub fn coalesce<
     replace_if: P,
     make: M,
 ) -> Result<(Made<V, F>, bool), CacheError>
-    requires hashed { hash ≡ hash_of_key S.Hasher.finish S.Hasher.write S.build_hasher K.hash_input
-        part.old.hasher (Q.named_key name) }
+    requires hashed { hash ≡ ⟦<S as Hashes<K>>⟧.hash part.old.hasher (Q.named_key name) }
     requires becomes { Q.can_become name }
     requires exact { (x y : V) → V.is_clone x y → y ≡ x }
     requires callable { P.IsAlwaysCallable replace_if × M.IsAlwaysCallable make }
     requires ready { IsReady part.old }
-    ensures answer { IfOk result (CoalescesPart
-        (answers_of R.weight_of R.created R.read R.updated R.covers) K.eq (Q.named_key name) hash at
+    ensures answer { IfOk result (CoalescesPart R.answers K.eq (Q.named_key name) hash at
         (FnOnceReturnsAt P.FnOnce replace_if) (M.post make) part.old part.new) }
     ensures err { OnErr result (part.new ≡ part.old) }
     ensures cause { IfErr result (IsCause 1 part.old) }

@@ -5,8 +5,6 @@ ghost use Rattle.engine_reference.specs.Calls.{removal_rooms};
 ghost use Rattle.engine_reference.specs.Records.{held_entries};
 ghost use Rattle.engine_reference.specs.Telling.{AreApart};
 ghost use Rattle.engine_reference.specs.Visible.{visible_value};
-ghost use Rattle.engine_reference.specs.Asking.{answers_of};
-ghost use Rattle.engine_reference.specs.Rules.Hashing.{hash_of_key};
 ghost use Rattle.front_reference.specs.Parts.{IsCause, IsReady, Computes, computed_as};
 ghost use Rattle.front_reference.specs.declared.data.Op.TheVariants as op;
 ghost use Rattle.front_parts.specs.Access.Answering.{IsOutcomeOf};
@@ -14,10 +12,10 @@ ghost use Rattle.front_parts.specs.Looking.{IsOpen, OperatesAfterLook, RemovesAf
 
 use crate::coalesced::{note, note_and_insert};
 use crate::removals::{clone_shown, prepare, take_out};
-use engine_reference::{Names, Rules};
+use engine_reference::{Hashes, Names, Rules};
 use front_reference::{At, CacheError, Computed, IntoKey, Op};
 use moka_engine::BaseCache;
-use std::hash::{BuildHasher, Hash, Hasher};
+use std::hash::{BuildHasher, Hash};
 
 /// Notes a look-up, and removes the key after it. All room for both is made before. Returns the value that is held then.
 fn note_and_remove<
@@ -27,15 +25,13 @@ fn note_and_remove<
     R: Rules<K, V>,
     Q: Names<K>,
 >(part: &mut BaseCache<K, V, S, R>, key: &Q, hash: u64, at: At) -> Result<Option<V>, CacheError>
-    requires hashed { hash ≡ hash_of_key S.Hasher.finish S.Hasher.write S.build_hasher K.hash_input
-        part.old.hasher (Q.named_key key.now) }
+    requires hashed { hash ≡ ⟦<S as Hashes<K>>⟧.hash part.old.hasher (Q.named_key key.now) }
     requires exact_key { (x y : K) → K.is_clone x y → y ≡ x }
     requires exact { (x y : V) → V.is_clone x y → y ≡ x }
     requires ready { IsReady part.old }
     requires apart { AreApart K.eq (held_entries part.old.records) }
-    ensures removes { IfOk result
-        (λ removed. RemovesAfterLook (answers_of R.weight_of R.created R.read R.updated R.covers)
-        K.eq (Q.named_key key.now) hash at.now at.step part.old part.new removed) }
+    ensures removes { IfOk result (λ removed. RemovesAfterLook R.answers K.eq
+        (Q.named_key key.now) hash at.now at.step part.old part.new removed) }
     ensures err { OnErr result (part.new ≡ part.old) }
     ensures cause { IfErr result (IsCause (removal_rooms part.old.settings) part.old) }
 {
@@ -64,17 +60,13 @@ fn operate<
     at: At,
     was_seen: bool,
 ) -> Result<Computed<V>, CacheError>
-    requires open { IsOpen K.eq
-        (hash_of_key S.Hasher.finish S.Hasher.write S.build_hasher K.hash_input) (Q.named_key name)
-        hash part.old }
+    requires open { IsOpen K.eq ⟦<S as Hashes<K>>⟧.hash (Q.named_key name) hash part.old }
     requires becomes { Q.can_become name }
     requires exact_key { (x y : K) → K.is_clone x y → y ≡ x }
     requires exact { (x y : V) → V.is_clone x y → y ≡ x }
     requires seen { was_seen
-        ≡ is_some (visible_value (answers_of R.weight_of R.created R.read R.updated R.covers) K.eq
-        part.old at.now (Q.named_key name)) }
-    ensures operates { IfOk result
-        (λ done. OperatesAfterLook (answers_of R.weight_of R.created R.read R.updated R.covers) K.eq
+        ≡ is_some (visible_value R.answers K.eq part.old at.now (Q.named_key name)) }
+    ensures operates { IfOk result (λ done. OperatesAfterLook R.answers K.eq
         (Q.named_key name) hash at.now at.step does part.old part.new done) }
     ensures err { OnErr result (part.new ≡ part.old) }
     ensures cause { IfErr result (IsCause (removal_rooms part.old.settings) part.old) }
@@ -151,16 +143,13 @@ pub fn compute<
     at: At,
     decide: D,
 ) -> Result<Result<Computed<V>, E>, CacheError>
-    requires open { IsOpen K.eq
-        (hash_of_key S.Hasher.finish S.Hasher.write S.build_hasher K.hash_input) (Q.named_key name)
-        hash part.old }
+    requires open { IsOpen K.eq ⟦<S as Hashes<K>>⟧.hash (Q.named_key name) hash part.old }
     requires becomes { Q.can_become name }
     requires exact_key { (x y : K) → K.is_clone x y → y ≡ x }
     requires exact { (x y : V) → V.is_clone x y → y ≡ x }
     requires decides { D.IsAlwaysCallable decide }
-    ensures computes { IfOk result
-        (Computes (answers_of R.weight_of R.created R.read R.updated R.covers) K.eq
-        (Q.named_key name) hash at.now at.step (D.post decide) part.old part.new) }
+    ensures computes { IfOk result (Computes R.answers K.eq (Q.named_key name) hash at.now at.step
+        (D.post decide) part.old part.new) }
     ensures err { OnErr result (part.new ≡ part.old) }
     ensures cause { IfErr result (IsCause (removal_rooms part.old.settings) part.old) }
 {

@@ -3,12 +3,10 @@ ghost use Rattle.std.specs.Prelude.{◌≡◌, ℕ, ◌+◌, ◌<◌, ◌≤◌,
 ghost use Rattle.std.specs.Result.{IsErrOf};
 ghost use Rattle.engine_reference.specs.Calls.{LooksUp, sent, unsent_at, with_room};
 ghost use Rattle.engine_reference.specs.Visible.{visible_record, visible_value};
-ghost use Rattle.engine_reference.specs.Asking.{answers_of};
-ghost use Rattle.engine_reference.specs.Rules.Hashing.{hash_of_key};
 ghost use Rattle.front_reference.specs.Parts.{IsCause, IsReady, Inserts, InsertsReserved, takes_nothing, with_put_room};
 ghost use Rattle.front_reference.specs.Wholes.{RunsPart};
 
-use engine_reference::{Names, Rules};
+use engine_reference::{Hashes, Names, Rules};
 use front_reference::{At, CacheError};
 use moka_engine::{BaseCache, Refusal};
 use policy_base::Instant;
@@ -68,12 +66,10 @@ pub fn insert_reserved<K: Eq + Hash + Drop, V: Drop, S: BuildHasher, R: Rules<K,
     value: V,
     at: At,
 )
-    requires hashed { hash ≡ hash_of_key S.Hasher.finish S.Hasher.write S.build_hasher K.hash_input
-        part.old.hasher key }
+    requires hashed { hash ≡ ⟦<S as Hashes<K>>⟧.hash part.old.hasher key }
     requires ready { IsReady part.old }
     requires reserved { takes_nothing part.old.settings.capacity ≡ false → 0 < part.old.reserved }
-    ensures { InsertsReserved (answers_of R.weight_of R.created R.read R.updated R.covers) K.eq key
-        hash value at.now at.step part.old part.new }
+    ensures { InsertsReserved R.answers K.eq key hash value at.now at.step part.old part.new }
 {
     let At { now, step } = at;
     if !part.is_map_disabled() {
@@ -90,12 +86,10 @@ pub fn insert<K: Eq + Hash + Drop, V: Drop, S: BuildHasher, R: Rules<K, V>>(
     value: V,
     at: At,
 ) -> Result<(), CacheError>
-    requires hashed { hash ≡ hash_of_key S.Hasher.finish S.Hasher.write S.build_hasher K.hash_input
-        part.old.hasher key }
+    requires hashed { hash ≡ ⟦<S as Hashes<K>>⟧.hash part.old.hasher key }
     requires ready { IsReady part.old }
     ensures inserts { OnOk result
-        (Inserts (answers_of R.weight_of R.created R.read R.updated R.covers) K.eq key hash value
-        at.now at.step part.old part.new) }
+        (Inserts R.answers K.eq key hash value at.now at.step part.old part.new) }
     ensures err { OnErr result (part.new ≡ part.old) }
     ensures cause { IfErr result (IsCause 1 part.old) }
 {
@@ -112,12 +106,10 @@ pub fn insert_or_back<K: Eq + Hash + Drop, V: Drop, S: BuildHasher, R: Rules<K, 
     value: V,
     at: At,
 ) -> Result<(), (CacheError, V)>
-    requires hashed { hash ≡ hash_of_key S.Hasher.finish S.Hasher.write S.build_hasher K.hash_input
-        part.old.hasher key }
+    requires hashed { hash ≡ ⟦<S as Hashes<K>>⟧.hash part.old.hasher key }
     requires ready { IsReady part.old }
     ensures inserts { OnOk result
-        (Inserts (answers_of R.weight_of R.created R.read R.updated R.covers) K.eq key hash value
-        at.now at.step part.old part.new) }
+        (Inserts R.answers K.eq key hash value at.now at.step part.old part.new) }
     ensures err { OnErr result (part.new ≡ part.old) }
     ensures back { IfErr result (λ refused. refused.1 ≡ value) }
     ensures cause { IfErr result (λ refused. IsCause 1 part.old refused.0) }
@@ -138,14 +130,12 @@ pub fn get<K: Eq + Hash + Drop, V: Clone + Drop, S: BuildHasher, R: Rules<K, V>,
     hash: u64,
     now: Instant,
 ) -> Result<Option<V>, AllocError>
-    requires hashed { hash ≡ hash_of_key S.Hasher.finish S.Hasher.write S.build_hasher K.hash_input
-        part.old.hasher (Q.named_key key.now) }
+    requires hashed { hash ≡ ⟦<S as Hashes<K>>⟧.hash part.old.hasher (Q.named_key key.now) }
     requires exact { (x y : V) → V.is_clone x y → y ≡ x }
     ensures found { IfOk result
-        (λ found. found ≡ visible_value (answers_of R.weight_of R.created R.read R.updated R.covers)
-        K.eq part.old now (Q.named_key key.now)) }
-    ensures used { OnOk result (LooksUp (answers_of R.weight_of R.created R.read R.updated R.covers)
-        K.eq (Q.named_key key.now) hash now part.old part.new) }
+        (λ found. found ≡ visible_value R.answers K.eq part.old now (Q.named_key key.now)) }
+    ensures used { OnOk result
+        (LooksUp R.answers K.eq (Q.named_key key.now) hash now part.old part.new) }
     ensures err { OnErr result (part.new ≡ part.old) }
 {
     part.get_with_hash(key, hash, now)
@@ -158,11 +148,8 @@ pub fn contains_key<K: Eq + Hash, V, S: BuildHasher, R: Rules<K, V>, Q: Names<K>
     hash: u64,
     now: Instant,
 ) -> bool
-    requires hashed { hash ≡ hash_of_key S.Hasher.finish S.Hasher.write S.build_hasher K.hash_input
-        part.now.hasher (Q.named_key key.now) }
-    ensures { result
-        ≡ is_some (visible_record (answers_of R.weight_of R.created R.read R.updated R.covers) K.eq
-        part.now now (Q.named_key key.now)) }
+    requires hashed { hash ≡ ⟦<S as Hashes<K>>⟧.hash part.now.hasher (Q.named_key key.now) }
+    ensures { result ≡ is_some (visible_record R.answers K.eq part.now now (Q.named_key key.now)) }
 {
     part.contains_key_with_hash(key, hash, now)
 }
@@ -173,8 +160,7 @@ pub fn run_pending_tasks<K: Eq + Hash + Drop, V: Drop, S: BuildHasher, R: Rules<
     now: Instant,
 )
     requires sent { part.old.unsent ≡ [] }
-    ensures { RunsPart (answers_of R.weight_of R.created R.read R.updated R.covers) now part.old
-        part.new }
+    ensures { RunsPart R.answers now part.old part.new }
 {
     part.run_pending_tasks(now);
 }

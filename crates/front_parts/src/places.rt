@@ -4,6 +4,7 @@ mod making;
 mod places;
 mod scans;
 mod turns;
+mod ways;
 mod wholes;
 
 pub use crate::{BaseCache, EvictionPolicy, Notice, RemovalCause, Settings};
@@ -15,4 +16,5 @@ pub use places::{
 };
 pub use scans::{held_key_at, keys_at, peek_at, scan_at};
 pub use turns::{Turns, make_turn};
+pub use ways::HasWays;
 pub use wholes::{clear_all, count_visible, is_table_refused, run_all, sum_numbers, sum_weights};

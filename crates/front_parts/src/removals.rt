@@ -4,17 +4,15 @@ ghost use Rattle.std.specs.Result.{IsErrOf};
 ghost use Rattle.engine_reference.specs.Calls.{removal_rooms, removal_told, with_removal_room};
 ghost use Rattle.engine_reference.specs.Records.{held_at};
 ghost use Rattle.engine_reference.specs.declared.data.Record.{Record};
-ghost use Rattle.engine_reference.specs.Asking.{answers_of};
-ghost use Rattle.engine_reference.specs.Rules.Hashing.{hash_of_key};
 ghost use Rattle.front_reference.specs.Parts.{IsCause, IsReady, TakesOut, freed, held_value};
 
 use crate::part::send_now;
-use engine_reference::{Names, Rules};
+use engine_reference::{Hashes, Names, Rules};
 use front_reference::CacheError;
 use moka_engine::{BaseCache, Entry, Refusal};
 use policy_base::Instant;
 use std::alloc::AllocError;
-use std::hash::{BuildHasher, Hash, Hasher};
+use std::hash::{BuildHasher, Hash};
 
 /// Makes room for the removal of a key, if it is held, and clones the key and value that are held.
 pub(crate) fn prepare<
@@ -24,8 +22,7 @@ pub(crate) fn prepare<
     R: Rules<K, V>,
     Q: Names<K>,
 >(part: &mut BaseCache<K, V, S, R>, key: &Q, hash: u64) -> Result<Option<(K, V)>, CacheError>
-    requires hashed { hash ≡ hash_of_key S.Hasher.finish S.Hasher.write S.build_hasher K.hash_input
-        part.old.hasher (Q.named_key key.now) }
+    requires hashed { hash ≡ ⟦<S as Hashes<K>>⟧.hash part.old.hasher (Q.named_key key.now) }
     requires exact_key { (x y : K) → K.is_clone x y → y ≡ x }
     requires exact { (x y : V) → V.is_clone x y → y ≡ x }
     ensures ok { OnOk result (part.new
@@ -48,8 +45,7 @@ pub(crate) fn clone_shown<K: Eq + Hash, V: Clone, S: BuildHasher, R: Rules<K, V>
     key: &Q,
     hash: u64,
 ) -> Result<Option<V>, AllocError>
-    requires hashed { hash ≡ hash_of_key S.Hasher.finish S.Hasher.write S.build_hasher K.hash_input
-        part.now.hasher (Q.named_key key.now) }
+    requires hashed { hash ≡ ⟦<S as Hashes<K>>⟧.hash part.now.hasher (Q.named_key key.now) }
     requires exact { (x y : V) → V.is_clone x y → y ≡ x }
     ensures { IfOk result (λ shown. shown ≡ (if part.now.settings.tells
         then held_value K.eq part.now (Q.named_key key.now) else None)) }
@@ -71,8 +67,7 @@ fn tell<K: Eq + Hash + Drop, V: Drop, S: BuildHasher, R: Rules<K, V>, Q: Names<K
 ) -> V
     requires room { part.old.settings.tells ≡ true → 0 < part.old.reserved }
     requires shown { shown ≡ (if part.old.settings.tells then Some entry.value else None) }
-    ensures told { part.new ≡ removal_told
-        (answers_of R.weight_of R.created R.read R.updated R.covers) entry now part.old }
+    ensures told { part.new ≡ removal_told R.answers entry now part.old }
     ensures value { result ≡ entry.value }
 {
     match shown {
@@ -107,16 +102,15 @@ pub(crate) fn take_out<K: Eq + Hash + Drop, V: Drop, S: BuildHasher, R: Rules<K,
     shown: Option<V>,
     now: Instant,
 ) -> Option<V>
-    requires hashed { hash ≡ hash_of_key S.Hasher.finish S.Hasher.write S.build_hasher K.hash_input
-        part.old.hasher (Q.named_key key.now) }
+    requires hashed { hash ≡ ⟦<S as Hashes<K>>⟧.hash part.old.hasher (Q.named_key key.now) }
     requires ready { IsReady part.old }
     requires reserved { removal_rooms part.old.settings ≤ part.old.reserved }
     requires parts { (r : Record K V) → held_at K.eq part.old.records (Q.named_key key.now) ≡ Some r
         → (parts.0 ≡ r.entry.key) × (parts.1 ≡ r.entry.value) }
     requires shown { (r : Record K V) → held_at K.eq part.old.records (Q.named_key key.now) ≡ Some r
         → shown ≡ (if part.old.settings.tells then Some r.entry.value else None) }
-    ensures takes_out { TakesOut (answers_of R.weight_of R.created R.read R.updated R.covers) K.eq
-        (Q.named_key key.now) now (freed (removal_rooms part.old.settings) part.old) part.new }
+    ensures takes_out { TakesOut R.answers K.eq (Q.named_key key.now) now
+        (freed (removal_rooms part.old.settings) part.old) part.new }
     ensures value { result ≡ held_value K.eq part.old (Q.named_key key.now) }
 {
     match part.remove_reserved(key, hash, parts) {
@@ -146,15 +140,13 @@ pub fn remove<
     hash: u64,
     now: Instant,
 ) -> Result<Option<V>, CacheError>
-    requires hashed { hash ≡ hash_of_key S.Hasher.finish S.Hasher.write S.build_hasher K.hash_input
-        part.old.hasher (Q.named_key key.now) }
+    requires hashed { hash ≡ ⟦<S as Hashes<K>>⟧.hash part.old.hasher (Q.named_key key.now) }
     requires exact_key { (x y : K) → K.is_clone x y → y ≡ x }
     requires exact { (x y : V) → V.is_clone x y → y ≡ x }
     requires ready { IsReady part.old }
     ensures value { IfOk result (λ value. value ≡ held_value K.eq part.old (Q.named_key key.now)) }
     ensures takes_out { OnOk result
-        (TakesOut (answers_of R.weight_of R.created R.read R.updated R.covers) K.eq
-        (Q.named_key key.now) now part.old part.new) }
+        (TakesOut R.answers K.eq (Q.named_key key.now) now part.old part.new) }
     ensures err { OnErr result (part.new ≡ part.old) }
     ensures cause { IfErr result (IsCause (removal_rooms part.old.settings) part.old) }
 {
@@ -173,14 +165,12 @@ pub fn invalidate<
     R: Rules<K, V>,
     Q: Names<K>,
 >(part: &mut BaseCache<K, V, S, R>, key: &Q, hash: u64, now: Instant) -> Result<(), CacheError>
-    requires hashed { hash ≡ hash_of_key S.Hasher.finish S.Hasher.write S.build_hasher K.hash_input
-        part.old.hasher (Q.named_key key.now) }
+    requires hashed { hash ≡ ⟦<S as Hashes<K>>⟧.hash part.old.hasher (Q.named_key key.now) }
     requires exact_key { (x y : K) → K.is_clone x y → y ≡ x }
     requires exact { (x y : V) → V.is_clone x y → y ≡ x }
     requires ready { IsReady part.old }
     ensures takes_out { OnOk result
-        (TakesOut (answers_of R.weight_of R.created R.read R.updated R.covers) K.eq
-        (Q.named_key key.now) now part.old part.new) }
+        (TakesOut R.answers K.eq (Q.named_key key.now) now part.old part.new) }
     ensures err { OnErr result (part.new ≡ part.old) }
     ensures cause { IfErr result (IsCause (removal_rooms part.old.settings) part.old) }
 {

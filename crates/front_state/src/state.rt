@@ -3,16 +3,15 @@ ghost use Rattle.std.specs.Prelude.{◌≡◌, ◌<◌, ◌^◌, Ok, IfOk, IfErr
 ghost use Rattle.std.specs.List.{list_any};
 ghost use Rattle.std.specs.Fn.{FnOnceReturnsAt};
 ghost use Rattle.engine_reference.specs.Calls.{cleared_by, removal_rooms};
-ghost use Rattle.engine_reference.specs.Asking.{answers_of};
 ghost use Rattle.front_reference.specs.Fronts.{CallsAll, ComesAfter};
 ghost use Rattle.front_reference.specs.Wholes.{RunsPart};
 ghost use Rattle.front_reference.specs.declared.errors.CacheError.TheVariants as errors;
-ghost use Rattle.front_parts.specs.Places.Calls.{CoalescesBy, ComputesIn, InsertsIn, IsCauseIn, LooksUpIn, TakesOutIn, hash_in, held_value_in, visible_in, ways_by};
+ghost use Rattle.front_parts.specs.Places.Calls.{CoalescesBy, ComputesIn, InsertsIn, IsCauseIn, LooksUpIn, TakesOutIn, hash_in, held_value_in, visible_in};
 
 use engine_reference::{Names, Rules, Settings};
 use front_parts::{
-    BaseCache, Turns, clear_all, coalesce_at, compute_at, contains_key_at, get_at, hash_key,
-    insert_at, invalidate_at, is_table_refused, place_of, remove_at, run_all,
+    BaseCache, HasWays, Turns, clear_all, coalesce_at, compute_at, contains_key_at, get_at,
+    hash_key, insert_at, invalidate_at, is_table_refused, place_of, remove_at, run_all,
 };
 use front_reference::{At, CacheError, Computed, IntoKey, LentKey, Made, Op, OwnedKey, Shared};
 use policy_base::Instant;
@@ -104,8 +103,7 @@ impl<K: Eq + Hash, V, S: BuildHasher, R: Rules<K, V>, C> LentState<K, V, S, R, C
     /// cache.insert_with_hash(OwnedKey { key: 7, alloc }, hash, value, at)?;
     /// ```
     pub fn hash(&self, key: &K) -> u64
-        ensures { result ≡ hash_in (ways_by R.Rules K.eq K.hash_input S.BuildHasher S.Hasher.Hasher)
-            self.now key.now }
+        ensures { result ≡ hash_in ⟦<R as HasWays<K, V, S>>⟧.ways self.now key.now }
     {
         hash_key(&self.hasher, key)
     }
@@ -126,11 +124,10 @@ impl<K: Eq + Hash, V, S: BuildHasher, R: Rules<K, V>, C> LentState<K, V, S, R, C
         V: Clone + Drop,
         requires exact { (x y : V) → V.is_clone x y → y ≡ x }
         requires follows { ComesAfter at.now at.step self.old }
-        ensures found { IfOk result (λ found. found ≡ visible_in (ways_by R.Rules K.eq K.hash_input
-            S.BuildHasher S.Hasher.Hasher) self.old at.now key.now) }
+        ensures found { IfOk result
+            (λ found. found ≡ visible_in ⟦<R as HasWays<K, V, S>>⟧.ways self.old at.now key.now) }
         ensures used { OnOk result
-            (LooksUpIn (ways_by R.Rules K.eq K.hash_input S.BuildHasher S.Hasher.Hasher) key.now at
-            self.old self.new) }
+            (LooksUpIn ⟦<R as HasWays<K, V, S>>⟧.ways key.now at self.old self.new) }
         ensures err { OnErr result (self.new ≡ self.old) }
         ensures cause { IfErr result (λ e. e ≡ errors.OutOfMemory) }
     {
@@ -152,8 +149,7 @@ impl<K: Eq + Hash, V, S: BuildHasher, R: Rules<K, V>, C> LentState<K, V, S, R, C
     /// ```
     pub fn contains_key(&self, key: &K, now: Instant) -> bool
         ensures { result
-            ≡ is_some (visible_in (ways_by R.Rules K.eq K.hash_input S.BuildHasher S.Hasher.Hasher)
-            self.now now key.now) }
+            ≡ is_some (visible_in ⟦<R as HasWays<K, V, S>>⟧.ways self.now now key.now) }
     {
         let hash = hash_key(&self.hasher, key);
         let place = place_of(self.bits, hash);
@@ -173,12 +169,10 @@ impl<K: Eq + Hash, V, S: BuildHasher, R: Rules<K, V>, C> LentState<K, V, S, R, C
         V: Drop,
         requires follows { ComesAfter at.now at.step self.old }
         ensures inserts { OnOk result
-            (InsertsIn (ways_by R.Rules K.eq K.hash_input S.BuildHasher S.Hasher.Hasher) key value
-            at self.old self.new) }
+            (InsertsIn ⟦<R as HasWays<K, V, S>>⟧.ways key value at self.old self.new) }
         ensures err { OnErr result (self.new ≡ self.old) }
         ensures cause { IfErr result
-            (IsCauseIn (ways_by R.Rules K.eq K.hash_input S.BuildHasher S.Hasher.Hasher) (λ _. 1)
-            self.old key) }
+            (IsCauseIn ⟦<R as HasWays<K, V, S>>⟧.ways (λ _. 1) self.old key) }
     {
         let hash = hash_key(&self.hasher, &key);
         let alloc = self.alloc;
@@ -201,17 +195,14 @@ impl<K: Eq + Hash, V, S: BuildHasher, R: Rules<K, V>, C> LentState<K, V, S, R, C
         K: Drop,
         V: Drop,
         requires hashed { hash
-            ≡ hash_in (ways_by R.Rules K.eq K.hash_input S.BuildHasher S.Hasher.Hasher) self.old
-            (Q.named_key name) }
+            ≡ hash_in ⟦<R as HasWays<K, V, S>>⟧.ways self.old (Q.named_key name) }
         requires becomes { Q.can_become name }
         requires follows { ComesAfter at.now at.step self.old }
-        ensures inserts { OnOk result
-            (InsertsIn (ways_by R.Rules K.eq K.hash_input S.BuildHasher S.Hasher.Hasher)
+        ensures inserts { OnOk result (InsertsIn ⟦<R as HasWays<K, V, S>>⟧.ways
             (Q.named_key name) value at self.old self.new) }
         ensures err { OnErr result (self.new ≡ self.old) }
         ensures cause { IfErr result
-            (IsCauseIn (ways_by R.Rules K.eq K.hash_input S.BuildHasher S.Hasher.Hasher) (λ _. 1)
-            self.old (Q.named_key name)) }
+            (IsCauseIn ⟦<R as HasWays<K, V, S>>⟧.ways (λ _. 1) self.old (Q.named_key name)) }
     {
         let At { now, step } = at;
         let place = place_of(self.bits, hash);
@@ -233,15 +224,13 @@ impl<K: Eq + Hash, V, S: BuildHasher, R: Rules<K, V>, C> LentState<K, V, S, R, C
         V: Clone + Drop,
         requires exact { (x y : V) → V.is_clone x y → y ≡ x }
         requires follows { ComesAfter at.now at.step self.old }
-        ensures value { IfOk result (λ value. value ≡ held_value_in
-            (ways_by R.Rules K.eq K.hash_input S.BuildHasher S.Hasher.Hasher) self.old key.now) }
+        ensures value { IfOk result
+            (λ value. value ≡ held_value_in ⟦<R as HasWays<K, V, S>>⟧.ways self.old key.now) }
         ensures takes_out { OnOk result
-            (TakesOutIn (ways_by R.Rules K.eq K.hash_input S.BuildHasher S.Hasher.Hasher) key.now at
-            self.old self.new) }
+            (TakesOutIn ⟦<R as HasWays<K, V, S>>⟧.ways key.now at self.old self.new) }
         ensures err { OnErr result (self.new ≡ self.old) }
         ensures cause { IfErr result
-            (IsCauseIn (ways_by R.Rules K.eq K.hash_input S.BuildHasher S.Hasher.Hasher)
-            removal_rooms self.old key.now) }
+            (IsCauseIn ⟦<R as HasWays<K, V, S>>⟧.ways removal_rooms self.old key.now) }
     {
         let At { now, step } = at;
         let hash = hash_key(&self.hasher, key);
@@ -264,12 +253,10 @@ impl<K: Eq + Hash, V, S: BuildHasher, R: Rules<K, V>, C> LentState<K, V, S, R, C
         requires exact { (x y : V) → V.is_clone x y → y ≡ x }
         requires follows { ComesAfter at.now at.step self.old }
         ensures takes_out { OnOk result
-            (TakesOutIn (ways_by R.Rules K.eq K.hash_input S.BuildHasher S.Hasher.Hasher) key.now at
-            self.old self.new) }
+            (TakesOutIn ⟦<R as HasWays<K, V, S>>⟧.ways key.now at self.old self.new) }
         ensures err { OnErr result (self.new ≡ self.old) }
         ensures cause { IfErr result
-            (IsCauseIn (ways_by R.Rules K.eq K.hash_input S.BuildHasher S.Hasher.Hasher)
-            removal_rooms self.old key.now) }
+            (IsCauseIn ⟦<R as HasWays<K, V, S>>⟧.ways removal_rooms self.old key.now) }
     {
         let hash = hash_key(&self.hasher, key);
         self.invalidate_with_hash(key, hash, at)
@@ -284,17 +271,14 @@ impl<K: Eq + Hash, V, S: BuildHasher, R: Rules<K, V>, C> LentState<K, V, S, R, C
     where
         K: Drop,
         V: Clone + Drop,
-        requires hashed { hash ≡ hash_in
-            (ways_by R.Rules K.eq K.hash_input S.BuildHasher S.Hasher.Hasher) self.old key.now }
+        requires hashed { hash ≡ hash_in ⟦<R as HasWays<K, V, S>>⟧.ways self.old key.now }
         requires exact { (x y : V) → V.is_clone x y → y ≡ x }
         requires follows { ComesAfter at.now at.step self.old }
         ensures takes_out { OnOk result
-            (TakesOutIn (ways_by R.Rules K.eq K.hash_input S.BuildHasher S.Hasher.Hasher) key.now at
-            self.old self.new) }
+            (TakesOutIn ⟦<R as HasWays<K, V, S>>⟧.ways key.now at self.old self.new) }
         ensures err { OnErr result (self.new ≡ self.old) }
         ensures cause { IfErr result
-            (IsCauseIn (ways_by R.Rules K.eq K.hash_input S.BuildHasher S.Hasher.Hasher)
-            removal_rooms self.old key.now) }
+            (IsCauseIn ⟦<R as HasWays<K, V, S>>⟧.ways removal_rooms self.old key.now) }
     {
         let At { now, step } = at;
         let place = place_of(self.bits, hash);
@@ -331,19 +315,16 @@ impl<K: Eq + Hash, V, S: BuildHasher, R: Rules<K, V>, C> LentState<K, V, S, R, C
         K: Drop,
         V: Clone + Drop,
         requires hashed { hash
-            ≡ hash_in (ways_by R.Rules K.eq K.hash_input S.BuildHasher S.Hasher.Hasher) self.old
-            (Q.named_key name) }
+            ≡ hash_in ⟦<R as HasWays<K, V, S>>⟧.ways self.old (Q.named_key name) }
         requires becomes { Q.can_become name }
         requires exact { (x y : V) → V.is_clone x y → y ≡ x }
         requires callable { P.IsAlwaysCallable replace_if × M.IsAlwaysCallable make }
         requires follows { ComesAfter at.now at.step self.old }
-        ensures answer { IfOk result (CoalescesBy
-            (ways_by R.Rules K.eq K.hash_input S.BuildHasher S.Hasher.Hasher) (Q.named_key name) at
-            (FnOnceReturnsAt P.FnOnce replace_if) (M.post make) self.old self.new) }
+        ensures answer { IfOk result (CoalescesBy ⟦<R as HasWays<K, V, S>>⟧.ways (Q.named_key name)
+            at (FnOnceReturnsAt P.FnOnce replace_if) (M.post make) self.old self.new) }
         ensures err { OnErr result (self.new ≡ self.old) }
         ensures cause { IfErr result
-            (IsCauseIn (ways_by R.Rules K.eq K.hash_input S.BuildHasher S.Hasher.Hasher) (λ _. 1)
-            self.old (Q.named_key name)) }
+            (IsCauseIn ⟦<R as HasWays<K, V, S>>⟧.ways (λ _. 1) self.old (Q.named_key name)) }
     {
         let At { now, step } = at;
         let place = place_of(self.bits, hash);
@@ -384,19 +365,16 @@ impl<K: Eq + Hash, V, S: BuildHasher, R: Rules<K, V>, C> LentState<K, V, S, R, C
         K: Drop,
         V: Clone + Drop,
         requires hashed { hash
-            ≡ hash_in (ways_by R.Rules K.eq K.hash_input S.BuildHasher S.Hasher.Hasher) self.old
-            (Q.named_key name) }
+            ≡ hash_in ⟦<R as HasWays<K, V, S>>⟧.ways self.old (Q.named_key name) }
         requires becomes { Q.can_become name }
         requires exact { (x y : V) → V.is_clone x y → y ≡ x }
         requires callable { D.IsAlwaysCallable decide }
         requires follows { ComesAfter at.now at.step self.old }
-        ensures computes { IfOk result
-            (ComputesIn (ways_by R.Rules K.eq K.hash_input S.BuildHasher S.Hasher.Hasher)
+        ensures computes { IfOk result (ComputesIn ⟦<R as HasWays<K, V, S>>⟧.ways
             (Q.named_key name) at (D.post decide) self.old self.new) }
         ensures err { OnErr result (self.new ≡ self.old) }
         ensures cause { IfErr result
-            (IsCauseIn (ways_by R.Rules K.eq K.hash_input S.BuildHasher S.Hasher.Hasher)
-            removal_rooms self.old (Q.named_key name)) }
+            (IsCauseIn ⟦<R as HasWays<K, V, S>>⟧.ways removal_rooms self.old (Q.named_key name)) }
     {
         let At { now, step } = at;
         let place = place_of(self.bits, hash);
@@ -419,9 +397,7 @@ impl<K: Eq + Hash, V, S: BuildHasher, R: Rules<K, V>, C> LentState<K, V, S, R, C
         K: Drop,
         V: Drop,
         requires { ComesAfter at.now at.step self.old }
-        ensures { CallsAll at.now at.step
-            (RunsPart (answers_of R.weight_of R.created R.read R.updated R.covers) at.now) self.old
-            self.new }
+        ensures { CallsAll at.now at.step (RunsPart R.answers at.now) self.old self.new }
     {
         let At { now, step } = at;
         run_all(&mut self.parts, now);
@@ -439,9 +415,7 @@ impl<K: Eq + Hash, V, S: BuildHasher, R: Rules<K, V>, C> LentState<K, V, S, R, C
         K: Drop,
         V: Drop,
         requires { ComesAfter at.now at.step self.old }
-        ensures runs { CallsAll at.now at.step
-            (RunsPart (answers_of R.weight_of R.created R.read R.updated R.covers) at.now) self.old
-            self.new }
+        ensures runs { CallsAll at.now at.step (RunsPart R.answers at.now) self.old self.new }
         ensures made { OnOk result (list_any (λ s. s.table_refused) self.new.parts ≡ false) }
         ensures refused { OnErr result (list_any (λ s. s.table_refused) self.new.parts ≡ true) }
     {

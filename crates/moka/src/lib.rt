@@ -13,8 +13,8 @@ pub use builder::CacheBuilder;
 pub use calling::next_call;
 pub use errors::BuildError;
 pub use front_parts::{
-    Access, CompResult, Entry, EntrySelector, Iter, OwnedKeyEntrySelector, RefKeyEntrySelector,
-    ScanningGet,
+    Access, CompResult, Entry, EntrySelector, HasWays, Iter, OwnedKeyEntrySelector,
+    RefKeyEntrySelector, ScanningGet,
 };
 pub use front_reference::{
     At, CacheError, ClonedKey, Computed, IntoKey, LentKey, Made, Op, OpenTurn, OwnedKey, Shared,

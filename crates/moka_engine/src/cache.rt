@@ -4,15 +4,13 @@ ghost use Rattle.std.specs.Duration.{as_nanos};
 ghost use Rattle.std.specs.Result.{IsErrOf};
 ghost use Rattle.std.specs.String.{string_bytes};
 ghost use Rattle.engine_reference.specs.RunLaws.Sweeping.{IsTimely, LeavesNoneDue};
-ghost use Rattle.engine_reference.specs.Asking.{answers_of};
 ghost use Rattle.engine_reference.specs.Calls.{IsNew, written, sent, unsent_at, is_full, removal_told, MaintainsIfDue, cleared_by, without_notice, with_room};
 ghost use Rattle.engine_reference.specs.Laws.{CountsExactly};
 ghost use Rattle.engine_reference.specs.Runs.{RunsToEnd};
 ghost use Rattle.engine_reference.specs.Visible.{visible_record, visible_value};
-ghost use Rattle.engine_reference.specs.Rules.Hashing.{hash_of_key};
 
 use engine_calls::{clone_value, look_up, policy_of, tell_removed, write};
-use engine_reference::{Entry, Names, Notice, Policy, Refusal, Rules, Settings};
+use engine_reference::{Entry, Hashes, Names, Notice, Policy, Refusal, Rules, Settings};
 use engine_runs::{run, run_if_due, try_run};
 use engine_tables::Tables;
 use policy_base::{HousekeeperConfig, Instant};
@@ -129,11 +127,9 @@ impl<K: Eq + Hash, V, S: BuildHasher, R: Rules<K, V>> BaseCache<K, V, S, R> {
 
     /// Returns whether a key has a visible value. This does not count as a use of it.
     pub fn contains_key_with_hash<Q: Names<K>>(&self, key: &Q, hash: u64, now: Instant) -> bool
-        requires hashed { hash ≡ hash_of_key S.Hasher.finish S.Hasher.write S.build_hasher
-            K.hash_input self.now.hasher (Q.named_key key.now) }
+        requires hashed { hash ≡ ⟦<S as Hashes<K>>⟧.hash self.now.hasher (Q.named_key key.now) }
         ensures { result
-            ≡ is_some (visible_record (answers_of R.weight_of R.created R.read R.updated R.covers)
-            K.eq self.now now (Q.named_key key.now)) }
+            ≡ is_some (visible_record R.answers K.eq self.now now (Q.named_key key.now)) }
     {
         look_up(&self.tables, key, hash, now.as_nanos()).is_some()
     }
@@ -147,11 +143,10 @@ impl<K: Eq + Hash, V, S: BuildHasher, R: Rules<K, V>> BaseCache<K, V, S, R> {
     ) -> Result<Option<V>, AllocError>
     where
         V: Clone,
-        requires hashed { hash ≡ hash_of_key S.Hasher.finish S.Hasher.write S.build_hasher
-            K.hash_input self.now.hasher (Q.named_key key.now) }
+        requires hashed { hash ≡ ⟦<S as Hashes<K>>⟧.hash self.now.hasher (Q.named_key key.now) }
         requires exact { (x y : V) → V.is_clone x y → y ≡ x }
-        ensures { IfOk result (λ found. found ≡ visible_value (answers_of R.weight_of R.created
-            R.read R.updated R.covers) K.eq self.now now (Q.named_key key.now)) }
+        ensures { IfOk result
+            (λ found. found ≡ visible_value R.answers K.eq self.now now (Q.named_key key.now)) }
     {
         clone_value(look_up(&self.tables, key, hash, now.as_nanos()))
     }
@@ -170,13 +165,10 @@ impl<K: Eq + Hash, V, S: BuildHasher, R: Rules<K, V>> BaseCache<K, V, S, R> {
     where
         K: Drop,
         V: Drop,
-        requires hashed { hash ≡ hash_of_key S.Hasher.finish S.Hasher.write S.build_hasher
-            K.hash_input self.old.hasher key }
+        requires hashed { hash ≡ ⟦<S as Hashes<K>>⟧.hash self.old.hasher key }
         requires room { 0 < self.old.reserved }
         ensures ticket { result ≡ self.old.next_ticket }
-        ensures written { self.new
-            ≡ written (answers_of R.weight_of R.created R.read R.updated R.covers) K.eq self.old key
-            hash value now step }
+        ensures written { self.new ≡ written R.answers K.eq self.old key hash value now step }
     {
         let _moment = now.as_nanos();
         let ticket = self.tables.next_ticket();
@@ -204,14 +196,12 @@ impl<K: Eq + Hash, V, S: BuildHasher, R: Rules<K, V>> BaseCache<K, V, S, R> {
     where
         K: Drop,
         V: Drop,
-        requires hashed { hash ≡ hash_of_key S.Hasher.finish S.Hasher.write S.build_hasher
-            K.hash_input self.old.hasher key }
+        requires hashed { hash ≡ ⟦<S as Hashes<K>>⟧.hash self.old.hasher key }
         requires room { 0 < self.old.reserved }
         requires sent { self.old.unsent ≡ [] }
         requires queue { length self.old.writes < 128 }
-        ensures { self.new ≡ sent self.old.next_ticket
-            (written (answers_of R.weight_of R.created R.read R.updated R.covers) K.eq self.old key
-            hash value now step) }
+        ensures { self.new
+            ≡ sent self.old.next_ticket (written R.answers K.eq self.old key hash value now step) }
     {
         let _moment = now.as_nanos();
         write(&mut self.tables, key, hash, value, now, step, true);
@@ -223,8 +213,7 @@ impl<K: Eq + Hash, V, S: BuildHasher, R: Rules<K, V>> BaseCache<K, V, S, R> {
         K: Drop,
         V: Drop,
         requires room { self.old.settings.tells ≡ true → 0 < self.old.reserved }
-        ensures { self.new ≡ removal_told
-            (answers_of R.weight_of R.created R.read R.updated R.covers) entry now self.old }
+        ensures { self.new ≡ removal_told R.answers entry now self.old }
     {
         tell_removed(&mut self.tables, entry, now);
     }
@@ -253,10 +242,9 @@ impl<K: Eq + Hash, V, S: BuildHasher, R: Rules<K, V>> BaseCache<K, V, S, R> {
     where
         K: Drop,
         V: Drop,
-        ensures runs { RunsToEnd (answers_of R.weight_of R.created R.read R.updated R.covers) now
-            self.old self.new }
-        ensures counts { self.old.unsent ≡ [] → CountsExactly K V R.Predicate S R
-            (answers_of R.weight_of R.created R.read R.updated R.covers) self.new }
+        ensures runs { RunsToEnd R.answers now self.old self.new }
+        ensures counts { self.old.unsent ≡ []
+            → CountsExactly K V R.Predicate S R R.answers self.new }
         ensures due { (moment step : ℕ) → IsTimely moment step self.old → moment ≤ now
             → now ≤ 9223372036854775807 → LeavesNoneDue now self.new }
         ensures made { OnOk result (self.new.table_refused ≡ false) }
@@ -270,10 +258,9 @@ impl<K: Eq + Hash, V, S: BuildHasher, R: Rules<K, V>> BaseCache<K, V, S, R> {
     where
         K: Drop,
         V: Drop,
-        ensures runs { RunsToEnd (answers_of R.weight_of R.created R.read R.updated R.covers) now
-            self.old self.new }
-        ensures counts { self.old.unsent ≡ [] → CountsExactly K V R.Predicate S R
-            (answers_of R.weight_of R.created R.read R.updated R.covers) self.new }
+        ensures runs { RunsToEnd R.answers now self.old self.new }
+        ensures counts { self.old.unsent ≡ []
+            → CountsExactly K V R.Predicate S R R.answers self.new }
         ensures due { (moment step : ℕ) → IsTimely moment step self.old → moment ≤ now
             → now ≤ 9223372036854775807 → LeavesNoneDue now self.new }
     {
@@ -292,8 +279,7 @@ impl<K: Eq + Hash, V, S: BuildHasher, R: Rules<K, V>> BaseCache<K, V, S, R> {
     where
         K: Drop,
         V: Drop,
-        ensures due { MaintainsIfDue (answers_of R.weight_of R.created R.read R.updated R.covers)
-            now self.old self.new }
+        ensures due { MaintainsIfDue R.answers now self.old self.new }
         ensures room { length self.new.reads < 64 }
     {
         run_if_due(&mut self.tables, now.as_nanos());

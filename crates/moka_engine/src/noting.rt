@@ -2,7 +2,6 @@
 ghost use Rattle.std.specs.Prelude.{◌≡◌, true, Option};
 ghost use Rattle.moka_engine.specs.Keeping.{IsWellKept, NotesRead};
 ghost use Rattle.engine_calls.specs.Finding.{IsFoundIn, WasFound};
-ghost use Rattle.engine_reference.specs.Asking.{answers_of};
 ghost use Rattle.engine_reference.specs.Runs.{is_due};
 ghost use Rattle.engine_reference.specs.declared.data.Record.{Record};
 
@@ -24,8 +23,7 @@ fn note_after_run<K: Eq + Hash + Drop, V: Drop, S: BuildHasher, R: Rules<K, V>>(
     requires due { is_due tables.old.state now ≡ true }
     requires found { (o : Option (Record K V)) × IsFoundIn tables.old hash o place }
     ensures { (o : Option (Record K V)) → IsFoundIn tables.old hash o place
-        → NotesRead (answers_of R.weight_of R.created R.read R.updated R.covers) o hash now
-        tables.old.state tables.new.state }
+        → NotesRead R.answers o hash now tables.old.state tables.new.state }
 {
     let number = tables.record_in(place).number;
     run(tables, now.as_nanos());
@@ -43,8 +41,7 @@ fn note_hit<K: Eq + Hash + Drop, V: Drop, S: BuildHasher, R: Rules<K, V>>(
     requires kept { IsWellKept tables.old.state }
     requires found { (o : Option (Record K V)) × IsFoundIn tables.old hash o place }
     ensures { (o : Option (Record K V)) → IsFoundIn tables.old hash o place
-        → NotesRead (answers_of R.weight_of R.created R.read R.updated R.covers) o hash now
-        tables.old.state tables.new.state }
+        → NotesRead R.answers o hash now tables.old.state tables.new.state }
 {
     if tables.is_due(now.as_nanos()) {
         note_after_run(tables, place, hash, now);
@@ -64,8 +61,7 @@ pub fn note_read<K: Eq + Hash + Drop, V: Drop, S: BuildHasher, R: Rules<K, V>>(
     requires kept { IsWellKept tables.old.state }
     requires found { (o : Option (Record K V)) × WasFound tables.old hash place o }
     ensures { (o : Option (Record K V)) → WasFound tables.old hash place o
-        → NotesRead (answers_of R.weight_of R.created R.read R.updated R.covers) o hash now
-        tables.old.state tables.new.state }
+        → NotesRead R.answers o hash now tables.old.state tables.new.state }
 {
     match place {
         Some(place) => note_hit(tables, place, hash, now),

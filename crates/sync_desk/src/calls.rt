@@ -1,13 +1,13 @@
 //! Calls that take the lock once.
 ghost use Rattle.std.specs.Prelude.{◌≡◌, IfOk, IfErr, OnOk, OnErr};
 ghost use Rattle.front_reference.specs.declared.errors.CacheError.TheVariants as errors;
-ghost use Rattle.front_state.specs.Calls.{ways_by};
 ghost use Rattle.sync_desk.specs.Drawing.{InsertsAsDrawn, LooksUpAsDrawn};
 ghost use Rattle.sync_desk.specs.Slots.Refusals.{IsShortage};
 
 use crate::desk::Desk;
 use crate::env::Env;
 use engine_reference::Rules;
+use front_parts::HasWays;
 use front_reference::{At, CacheError, OwnedKey};
 use std::hash::{BuildHasher, Hash};
 
@@ -33,8 +33,7 @@ impl<
     pub fn get(&mut self, key: &K) -> Result<Option<V>, CacheError>
         requires exact { (x y : V) → V.is_clone x y → y ≡ x }
         ensures found { IfOk result
-            (LooksUpAsDrawn (ways_by R.Rules K.eq K.hash_input S.BuildHasher S.Hasher.Hasher)
-            key.now self.old.state self.new.state) }
+            (LooksUpAsDrawn ⟦<R as HasWays<K, V, S>>⟧.ways key.now self.old.state self.new.state) }
         ensures err { OnErr result (self.new.state ≡ self.old.state) }
         ensures cause { IfErr result IsShortage }
     {
@@ -57,9 +56,8 @@ impl<
 
     /// Inserts a value. A cache of capacity 0 stores none.
     pub fn insert(&mut self, key: K, value: V) -> Result<(), CacheError>
-        ensures inserts { OnOk result
-            (InsertsAsDrawn (ways_by R.Rules K.eq K.hash_input S.BuildHasher S.Hasher.Hasher) key
-            value self.old.state self.new.state) }
+        ensures inserts { OnOk result (InsertsAsDrawn ⟦<R as HasWays<K, V, S>>⟧.ways key value
+            self.old.state self.new.state) }
         ensures err { OnErr result (self.new.state ≡ self.old.state) }
         ensures cause { IfErr result IsShortage }
     {

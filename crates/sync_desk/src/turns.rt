@@ -2,7 +2,6 @@
 ghost use Rattle.std.specs.Prelude.{◌≡◌, true, None, Ok, IfOk, IfErr, OnOk, OnErr, IsSome, is_some};
 ghost use Rattle.std.specs.Fn.{FnOnceReturnsAt};
 ghost use Rattle.front_reference.specs.Fronts.{turn_at, turn_of};
-ghost use Rattle.front_state.specs.Calls.{ways_by};
 ghost use Rattle.sync_desk.specs.Coalescing.{GivesUp, IsMadeOrFound};
 ghost use Rattle.sync_desk.specs.Drawing.{BeginsAsDrawn, FinishesAsDrawn};
 ghost use Rattle.sync_desk.specs.Slots.Endings.{fits, suits};
@@ -13,6 +12,7 @@ use crate::desk::Desk;
 use crate::env::Env;
 use crate::slots::{Asked, Ending, SharedName, WaitingName, copy_made};
 use engine_reference::Rules;
+use front_parts::HasWays;
 use front_reference::{At, CacheError, IntoKey, Made, Shared, TurnKind, TurnStart};
 use std::alloc::AllocError;
 use std::hash::{BuildHasher, Hash};
@@ -59,9 +59,8 @@ impl<
         requires exact { (x y : V) → V.is_clone x y → y ≡ x }
         requires callable { P.IsAlwaysCallable replace_if }
         ensures begins { IfOk result
-            (BeginsAsDrawn (ways_by R.Rules K.eq K.hash_input S.BuildHasher S.Hasher.Hasher)
-            kind (A.named_key asked) (FnOnceReturnsAt P.FnOnce replace_if) self.old.state
-            self.new.state) }
+            (BeginsAsDrawn ⟦<R as HasWays<K, V, S>>⟧.ways kind (A.named_key asked)
+            (FnOnceReturnsAt P.FnOnce replace_if) self.old.state self.new.state) }
         ensures cause { IfErr result IsShortage }
     {
         if self.state.is_turn_free(kind, asked.key()) {
@@ -83,9 +82,8 @@ impl<
         requires exact { (x y : V) → V.is_clone x y → y ≡ x }
         requires callable { P.IsAlwaysCallable replace_if }
         ensures begins { IfOk result
-            (BeginsAsDrawn (ways_by R.Rules K.eq K.hash_input S.BuildHasher S.Hasher.Hasher)
-            kind (A.named_key asked) (FnOnceReturnsAt P.FnOnce replace_if) self.old.state
-            self.new.state) }
+            (BeginsAsDrawn ⟦<R as HasWays<K, V, S>>⟧.ways kind (A.named_key asked)
+            (FnOnceReturnsAt P.FnOnce replace_if) self.old.state self.new.state) }
         ensures cause { IfErr result IsShortage }
     {
         let Some(at) = self.draw() else {
@@ -117,9 +115,8 @@ impl<
         requires exact { (x y : V) → V.is_clone x y → y ≡ x }
         requires callable { P.IsAlwaysCallable replace_if }
         ensures begins { IfOk result
-            (BeginsAsDrawn (ways_by R.Rules K.eq K.hash_input S.BuildHasher S.Hasher.Hasher)
-            kind (A.named_key asked) (FnOnceReturnsAt P.FnOnce replace_if) self.old.state
-            self.new.state) }
+            (BeginsAsDrawn ⟦<R as HasWays<K, V, S>>⟧.ways kind (A.named_key asked)
+            (FnOnceReturnsAt P.FnOnce replace_if) self.old.state self.new.state) }
         ensures cause { IfErr result IsShortage }
     {
         let Some(at) = self.draw() else {
@@ -213,9 +210,8 @@ impl<
         made: Made<V, Shared<R::Fault>>,
     ) -> Result<(), CacheError>
         requires suits { suits kind made ≡ true }
-        ensures ends { OnOk result
-            (FinishesAsDrawn (ways_by R.Rules K.eq K.hash_input S.BuildHasher S.Hasher.Hasher)
-            number made self.old.state self.new.state) }
+        ensures ends { OnOk result (FinishesAsDrawn ⟦<R as HasWays<K, V, S>>⟧.ways number made
+            self.old.state self.new.state) }
         ensures known { OnOk result (is_some (turn_at self.old.state.turns number) ≡ true) }
         ensures err { OnErr result (GivesUp number self.old.state self.new.state) }
         ensures cause { IfErr result IsEndRefusal }
@@ -255,9 +251,8 @@ impl<
         ending: Ending<V, Shared<R::Fault>>,
     ) -> Result<(), CacheError>
         requires { fits kind ending ≡ true }
-        ensures ends { OnOk result
-            (FinishesAsDrawn (ways_by R.Rules K.eq K.hash_input S.BuildHasher S.Hasher.Hasher)
-            number made self.old.state self.new.state) }
+        ensures ends { OnOk result (FinishesAsDrawn ⟦<R as HasWays<K, V, S>>⟧.ways number made
+            self.old.state self.new.state) }
         ensures known { OnOk result (is_some (turn_at self.old.state.turns number) ≡ true) }
         ensures err { OnErr result (GivesUp number self.old.state self.new.state) }
         ensures cause { IfErr result IsEndRefusal }
@@ -287,9 +282,8 @@ impl<
 
     /// Ends the turn of the state. Any refusal other than a lack of memory or of numbers means that no such turn is under way.
     fn end_state(&mut self, number: u64, made: Made<V, Shared<R::Fault>>) -> Result<(), CacheError>
-        ensures ends { OnOk result
-            (FinishesAsDrawn (ways_by R.Rules K.eq K.hash_input S.BuildHasher S.Hasher.Hasher)
-            number made self.old.state self.new.state) }
+        ensures ends { OnOk result (FinishesAsDrawn ⟦<R as HasWays<K, V, S>>⟧.ways number made
+            self.old.state self.new.state) }
         ensures known { OnOk result (is_some (turn_at self.old.state.turns number) ≡ true) }
         ensures err { OnErr result (self.new.state ≡ self.old.state) }
         ensures cause { IfErr result IsEndRefusal }

@@ -2,13 +2,13 @@
 ghost use Rattle.std.specs.Prelude.{◌≡◌, ◌≤◌, ℕ, true, IfErr, IfOk, OnOk, OnErr};
 ghost use Rattle.front_reference.specs.declared.errors.CacheError.TheVariants as errors;
 ghost use Rattle.front_reference.specs.Wholes.{next_told, without_told};
-ghost use Rattle.front_state.specs.Calls.{visible_in, ways_by};
+ghost use Rattle.front_state.specs.Calls.{visible_in};
 ghost use Rattle.sync_desk.specs.Slots.Refusals.{IsCoverRefusal};
 
 use crate::desk::Desk;
 use crate::env::Env;
 use engine_reference::Rules;
-use front_parts::ScanningGet;
+use front_parts::{HasWays, ScanningGet};
 use front_reference::{CacheError, Shared};
 use front_state::{PredicateId, Segmented, Single};
 use moka_engine::Notice;
@@ -109,8 +109,7 @@ impl<
     pub fn scan(&mut self, key: &K) -> Result<Option<V>, CacheError>
         requires exact { (x y : V) → V.is_clone x y → y ≡ x }
         ensures found { IfOk result (λ found. (now : ℕ) × (self.old.state.moment ≤ now)
-            × (found ≡ visible_in (ways_by R.Rules K.eq K.hash_input S.BuildHasher S.Hasher.Hasher)
-            self.old.state now key.now)) }
+            × (found ≡ visible_in ⟦<R as HasWays<K, V, S>>⟧.ways self.old.state now key.now)) }
         ensures state { self.new.state ≡ self.old.state }
         ensures cause { IfErr result (λ e. e ≡ errors.OutOfMemory) }
     {

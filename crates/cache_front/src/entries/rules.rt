@@ -13,15 +13,7 @@ impl Rules<Key, StoredValue> for Weight {
 
     type Fault = ();
 
-    ghost weight_of = { service_answers.weight_of };
-
-    ghost created = { service_answers.created };
-
-    ghost read = { service_answers.found };
-
-    ghost updated = { service_answers.updated };
-
-    ghost covers = { service_answers.covers };
+    ghost answers = { service_answers };
 
     fn weight(&self, _key: &Key, value: &StoredValue) -> u32 {
         value.weigh(*self)

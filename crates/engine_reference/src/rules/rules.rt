@@ -1,15 +1,16 @@
 //! What a cache asks of its keys and values.
-ghost use Rattle.std.specs.Prelude.{◌≡◌, ℕ, Bool, false, Option, Some, None, option_map};
+ghost use Rattle.std.specs.Prelude.{◌≡◌, ℕ, Bool, false, option_map};
 ghost use Rattle.std.specs.Duration.{as_nanos};
 ghost use Rattle.engine_reference.specs.Rules.Changes.{change_of, change_from};
+ghost use Rattle.engine_reference.specs.State.{Answers};
 
 use crate::rules::expiry::{Expiration, Expiry};
 use policy_base::Instant;
 use std::marker::PhantomData;
 use std::time::Duration;
 
-/// What a cache asks of its keys and values: how much a value weighs, when it expires by itself, and whether a predicate covers it. Each
-/// result is a function of the arguments, which the ghost members give; times are in nanoseconds.
+/// What a cache asks of its keys and values: how much a value weighs, when it expires by itself, and whether a predicate covers it. Times
+/// are in nanoseconds.
 pub trait Rules<K, V> {
     /// A predicate that selects the values to invalidate.
     type Predicate: Drop;
@@ -17,25 +18,17 @@ pub trait Rules<K, V> {
     /// The error with which making a value may fail.
     type Fault: Drop;
 
-    ghost weight_of: { Self → K → V → ℕ };
-
-    ghost created: { Self → K → V → ℕ → Option ℕ };
-
-    /// How a read changes the expiration: not at all, or what it becomes.
-    ghost read: { Self → K → V → ℕ → Option ℕ → ℕ → Option (Option ℕ) };
-
-    /// How an update changes the expiration: not at all, or what it becomes.
-    ghost updated: { Self → K → V → ℕ → Option ℕ → Option (Option ℕ) };
-
-    ghost covers: { Self → Self.Predicate → K → V → Bool };
+    /// The results: each is a function of the arguments.
+    ghost answers: { Answers K V Self.Predicate Self };
 
     /// Returns the weight of a value.
     fn weight(&self, key: &K, value: &V) -> u32
-        ensures { result ≡ weight_of self.now key.now value.now };
+        ensures { result ≡ answers.weight_of self.now key.now value.now };
 
     /// Returns the expiration of a value that was written under a new key.
     fn created_expiration(&self, key: &K, value: &V, created_at: Instant) -> Option<Duration>
-        ensures { option_map as_nanos result ≡ created self.now key.now value.now created_at };
+        ensures { option_map as_nanos result
+            ≡ answers.created self.now key.now value.now created_at };
 
     /// Returns how the expiration of a value that was read changes.
     fn read_expiration(
@@ -46,7 +39,7 @@ pub trait Rules<K, V> {
         remaining: Option<Duration>,
         last_modified_at: Instant,
     ) -> Expiration
-        ensures { change_of result ≡ read self.now key.now value.now read_at
+        ensures { change_of result ≡ answers.found self.now key.now value.now read_at
             (option_map as_nanos remaining) last_modified_at };
 
     /// Returns how the expiration of a value that replaced another changes.
@@ -57,12 +50,12 @@ pub trait Rules<K, V> {
         updated_at: Instant,
         remaining: Option<Duration>,
     ) -> Expiration
-        ensures { change_of result
-            ≡ updated self.now key.now value.now updated_at (option_map as_nanos remaining) };
+        ensures { change_of result ≡ answers.updated self.now key.now value.now updated_at
+            (option_map as_nanos remaining) };
 
     /// Returns whether a predicate covers a value.
     fn is_covered(&self, predicate: &Self::Predicate, key: &K, value: &V) -> bool
-        ensures { result ≡ covers self.now predicate.now key.now value.now };
+        ensures { result ≡ answers.covers self.now predicate.now key.now value.now };
 }
 
 /// How much values weigh.
@@ -135,17 +128,14 @@ impl<K, V, X: Expiry<K, V>, W: Weigher<K, V>, P: Predicate<K, V>, F: Drop> Rules
 
     type Fault = F;
 
-    ghost weight_of = { λ b. W.weight_of b.weigher };
-
-    ghost created = { λ b. X.created b.expiry };
-
-    ghost read = { λ b key value at left written.
-        change_from left (X.read b.expiry key value at left written) };
-
-    ghost updated = { λ b key value at left.
-        change_from left (X.updated b.expiry key value at left) };
-
-    ghost covers = { λ _ predicate. P.covers predicate };
+    ghost answers = { record {
+      weight_of = λ b. W.weight_of b.weigher;
+      created = λ b. X.created b.expiry;
+      found = λ b key value at left written.
+          change_from left (X.read b.expiry key value at left written);
+      updated = λ b key value at left. change_from left (X.updated b.expiry key value at left);
+      covers = λ _ predicate. P.covers predicate;
+    } };
 
     fn weight(&self, key: &K, value: &V) -> u32 {
         self.weigher.weigh(key, value)

@@ -71,7 +71,7 @@ impl<K: Eq + Hash, V, S: BuildHasher, R: Rules<K, V>> Tables<K, V, S, R> {
 
     /// How many keys have a visible value, by a look at every record.
     pub fn count_visible(&self, now: u64) -> usize
-        ensures { (answers : Answers K V R.Predicate R) → answers.covers ≡ R.covers
+        ensures { (answers : Answers K V R.Predicate R) → answers.covers ≡ R.answers.covers
             → result ≡ length (visible_keys answers K.eq self.now.state now) }
     {
         count_shown(&self.cells, &self.backlog, now)

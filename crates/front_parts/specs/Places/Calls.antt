@@ -18,7 +18,6 @@ use Rattle.front_reference.specs.declared.data.Made.{Made}
 use Rattle.front_reference.specs.declared.data.Op.{Op}
 use Rattle.front_reference.specs.declared.errors.CacheError.{CacheError}
 use Rattle.front_reference.specs.declared.errors.CacheError.TheVariants as errors
-use Rattle.engine_reference.specs.Asking.{answers_of}
 
 -- the results of rules, which keys are equal, and how a hasher hashes a key
 pub record Ways (K V P S R : Type 0) : Type 0 where
@@ -30,7 +29,7 @@ pub record Ways (K V P S R : Type 0) : Type 0 where
 abbrev pub ways_by : {K V P F S R H : Type 0} → rules.Ghosts R K V P F → (K → K → Bool)
     → (K → List (List ℕ)) → builders.Ghosts S H → hashers.Ghosts H → Ways K V P S R
 ways_by r eq hash_input b h = record {
-  answers = answers_of r.weight_of r.created r.read r.updated r.covers;
+  answers = r.answers;
   eq = eq;
   hash = hash_of_key h.finish h.write b.build_hasher hash_input;
 }

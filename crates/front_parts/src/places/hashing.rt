@@ -1,18 +1,15 @@
 //! The hash of a key, and the part that it says.
 ghost use Rattle.std.specs.Prelude.{◌≡◌, ◌-◌, ◌/◌, ◌<◌, ◌≤◌, ◌^◌};
-ghost use Rattle.engine_reference.specs.Rules.Hashing.{hash_of_key};
 ghost use Rattle.front_reference.specs.Fronts.{part_of};
 
-use std::hash::{BuildHasher, Hash, Hasher};
+use engine_reference::Hashes;
+use std::hash::{BuildHasher, Hash};
 
 /// The hash of a key.
 pub fn hash_key<K: Hash, S: BuildHasher>(hasher: &S, key: &K) -> u64
-    ensures { result ≡ hash_of_key S.Hasher.finish S.Hasher.write S.build_hasher K.hash_input
-        hasher.now key.now }
+    ensures { result ≡ ⟦<S as Hashes<K>>⟧.hash hasher.now key.now }
 {
-    let mut state = hasher.build_hasher();
-    key.hash(&mut state);
-    state.finish()
+    hasher.hash_key(key)
 }
 
 /// The part of a hash among 2^bits parts: its upper bits.

@@ -3,13 +3,13 @@ ghost use Rattle.std.specs.Prelude.{◌≡◌, false, Ok, Some, IfOk, IfErr, OnO
 ghost use Rattle.std.specs.Fn.{FnOnceReturnsAt};
 ghost use Rattle.engine_reference.specs.Calls.{removal_rooms};
 ghost use Rattle.engine_reference.specs.Scanning.{NotesLookUp};
-ghost use Rattle.engine_reference.specs.Asking.{answers_of};
 ghost use Rattle.front_reference.specs.Parts.{Inserts, TakesOut};
 ghost use Rattle.front_reference.specs.Fronts.{CallsAt};
-ghost use Rattle.front_parts.specs.Places.Calls.{CoalescesAt, ComputesAt, IsAskedFirst, IsCauseOf, IsOpenAt, seen_of, visible_of, held_of, ways_by};
+ghost use Rattle.front_parts.specs.Places.Calls.{CoalescesAt, ComputesAt, IsAskedFirst, IsCauseOf, IsOpenAt, seen_of, visible_of, held_of};
 ghost use Rattle.front_parts.specs.Places.Told.{told_at, without_told_at};
 ghost use Rattle.moka_engine.specs.Showing.{IsShown};
 
+use crate::places::HasWays;
 use crate::{
     BaseCache, Notice, coalesce, compute, contains_key, get, insert, insert_or_back, invalidate,
     look, remove,
@@ -18,7 +18,7 @@ use engine_reference::{Names, Rules};
 use front_reference::{At, CacheError, Computed, IntoKey, Made, Op};
 use policy_base::Instant;
 use std::alloc::AllocError;
-use std::hash::{BuildHasher, Hash, Hasher};
+use std::hash::{BuildHasher, Hash};
 
 /// Calls `get` of the part at a place.
 pub fn get_at<K: Eq + Hash + Drop, V: Clone + Drop, S: BuildHasher, R: Rules<K, V>, Q: Names<K>>(
@@ -29,14 +29,12 @@ pub fn get_at<K: Eq + Hash + Drop, V: Clone + Drop, S: BuildHasher, R: Rules<K, 
     now: Instant,
 ) -> Result<Option<V>, AllocError>
     requires exact { (x y : V) → V.is_clone x y → y ≡ x }
-    requires there { IsOpenAt (ways_by R.Rules K.eq K.hash_input S.BuildHasher S.Hasher.Hasher)
-        place (Q.named_key key.now) hash parts.old.items }
-    ensures found { IfOk result (λ found. found
-        ≡ visible_of (ways_by R.Rules K.eq K.hash_input S.BuildHasher S.Hasher.Hasher)
+    requires there { IsOpenAt ⟦<R as HasWays<K, V, S>>⟧.ways place
+        (Q.named_key key.now) hash parts.old.items }
+    ensures found { IfOk result (λ found. found ≡ visible_of ⟦<R as HasWays<K, V, S>>⟧.ways
         (slice_get parts.old.items place) now (Q.named_key key.now)) }
-    ensures used { OnOk result
-        (CallsAt place (NotesLookUp (answers_of R.weight_of R.created R.read R.updated R.covers)
-        K.eq (Q.named_key key.now) hash now false) parts.old.items parts.new.items) }
+    ensures used { OnOk result (CallsAt place (NotesLookUp R.answers K.eq
+        (Q.named_key key.now) hash now false) parts.old.items parts.new.items) }
     ensures err { OnErr result (parts.new.items ≡ parts.old.items) }
 {
     let part = &mut parts[place];
@@ -52,10 +50,9 @@ pub fn contains_key_at<K: Eq + Hash, V, S: BuildHasher, R: Rules<K, V>, Q: Names
     hash: u64,
     now: Instant,
 ) -> bool
-    requires there { IsOpenAt (ways_by R.Rules K.eq K.hash_input S.BuildHasher S.Hasher.Hasher)
-        place (Q.named_key key.now) hash parts.now }
-    ensures { result
-        ≡ is_some (visible_of (ways_by R.Rules K.eq K.hash_input S.BuildHasher S.Hasher.Hasher)
+    requires there { IsOpenAt ⟦<R as HasWays<K, V, S>>⟧.ways place
+        (Q.named_key key.now) hash parts.now }
+    ensures { result ≡ is_some (visible_of ⟦<R as HasWays<K, V, S>>⟧.ways
         (slice_get parts.now place) now (Q.named_key key.now)) }
 {
     contains_key(&parts[place], key, hash, now)
@@ -70,15 +67,12 @@ pub fn insert_at<K: Eq + Hash + Drop, V: Drop, S: BuildHasher, R: Rules<K, V>>(
     value: V,
     at: At,
 ) -> Result<(), CacheError>
-    requires there { IsOpenAt (ways_by R.Rules K.eq K.hash_input S.BuildHasher S.Hasher.Hasher)
-        place key hash parts.old.items }
-    ensures inserts { OnOk result
-        (CallsAt place (Inserts (answers_of R.weight_of R.created R.read R.updated R.covers) K.eq
-        key hash value at.now at.step) parts.old.items parts.new.items) }
+    requires there { IsOpenAt ⟦<R as HasWays<K, V, S>>⟧.ways place key hash parts.old.items }
+    ensures inserts { OnOk result (CallsAt place
+        (Inserts R.answers K.eq key hash value at.now at.step) parts.old.items parts.new.items) }
     ensures err { OnErr result (parts.new.items ≡ parts.old.items) }
     ensures cause { IfErr result
-        (IsCauseOf (ways_by R.Rules K.eq K.hash_input S.BuildHasher S.Hasher.Hasher) (λ _. 1)
-        (slice_get parts.old.items place)) }
+        (IsCauseOf ⟦<R as HasWays<K, V, S>>⟧.ways (λ _. 1) (slice_get parts.old.items place)) }
 {
     let part = &mut parts[place];
     match insert(part, key, hash, value, at) {
@@ -103,18 +97,15 @@ pub fn remove_at<
 ) -> Result<Option<V>, CacheError>
     requires exact_key { (x y : K) → K.is_clone x y → y ≡ x }
     requires exact { (x y : V) → V.is_clone x y → y ≡ x }
-    requires there { IsOpenAt (ways_by R.Rules K.eq K.hash_input S.BuildHasher S.Hasher.Hasher)
-        place (Q.named_key key.now) hash parts.old.items }
-    ensures value { IfOk result
-        (λ value. value ≡ held_of (ways_by R.Rules K.eq K.hash_input S.BuildHasher S.Hasher.Hasher)
+    requires there { IsOpenAt ⟦<R as HasWays<K, V, S>>⟧.ways place
+        (Q.named_key key.now) hash parts.old.items }
+    ensures value { IfOk result (λ value. value ≡ held_of ⟦<R as HasWays<K, V, S>>⟧.ways
         (slice_get parts.old.items place) (Q.named_key key.now)) }
-    ensures takes_out { OnOk result
-        (CallsAt place (TakesOut (answers_of R.weight_of R.created R.read R.updated R.covers) K.eq
-        (Q.named_key key.now) now) parts.old.items parts.new.items) }
+    ensures takes_out { OnOk result (CallsAt place
+        (TakesOut R.answers K.eq (Q.named_key key.now) now) parts.old.items parts.new.items) }
     ensures err { OnErr result (parts.new.items ≡ parts.old.items) }
     ensures cause { IfErr result
-        (IsCauseOf (ways_by R.Rules K.eq K.hash_input S.BuildHasher S.Hasher.Hasher) removal_rooms
-        (slice_get parts.old.items place)) }
+        (IsCauseOf ⟦<R as HasWays<K, V, S>>⟧.ways removal_rooms (slice_get parts.old.items place)) }
 {
     let part = &mut parts[place];
     match remove(part, key, hash, now) {
@@ -139,15 +130,13 @@ pub fn invalidate_at<
 ) -> Result<(), CacheError>
     requires exact_key { (x y : K) → K.is_clone x y → y ≡ x }
     requires exact { (x y : V) → V.is_clone x y → y ≡ x }
-    requires there { IsOpenAt (ways_by R.Rules K.eq K.hash_input S.BuildHasher S.Hasher.Hasher)
-        place (Q.named_key key.now) hash parts.old.items }
-    ensures takes_out { OnOk result
-        (CallsAt place (TakesOut (answers_of R.weight_of R.created R.read R.updated R.covers) K.eq
-        (Q.named_key key.now) now) parts.old.items parts.new.items) }
+    requires there { IsOpenAt ⟦<R as HasWays<K, V, S>>⟧.ways place
+        (Q.named_key key.now) hash parts.old.items }
+    ensures takes_out { OnOk result (CallsAt place
+        (TakesOut R.answers K.eq (Q.named_key key.now) now) parts.old.items parts.new.items) }
     ensures err { OnErr result (parts.new.items ≡ parts.old.items) }
     ensures cause { IfErr result
-        (IsCauseOf (ways_by R.Rules K.eq K.hash_input S.BuildHasher S.Hasher.Hasher) removal_rooms
-        (slice_get parts.old.items place)) }
+        (IsCauseOf ⟦<R as HasWays<K, V, S>>⟧.ways removal_rooms (slice_get parts.old.items place)) }
 {
     let part = &mut parts[place];
     match invalidate(part, key, hash, now) {
@@ -175,18 +164,17 @@ pub fn coalesce_at<
     replace_if: P,
     make: M,
 ) -> Result<(Made<V, F>, bool), CacheError>
-    requires there { IsOpenAt (ways_by R.Rules K.eq K.hash_input S.BuildHasher S.Hasher.Hasher)
-        place (Q.named_key name) hash parts.old.items }
+    requires there { IsOpenAt ⟦<R as HasWays<K, V, S>>⟧.ways place
+        (Q.named_key name) hash parts.old.items }
     requires becomes { Q.can_become name }
     requires exact { (x y : V) → V.is_clone x y → y ≡ x }
     requires callable { P.IsAlwaysCallable replace_if × M.IsAlwaysCallable make }
-    ensures answer { IfOk result (CoalescesAt
-        (ways_by R.Rules K.eq K.hash_input S.BuildHasher S.Hasher.Hasher) place (Q.named_key name)
-        hash at (FnOnceReturnsAt P.FnOnce replace_if) (M.post make) parts.old parts.new) }
+    ensures answer { IfOk result
+        (CoalescesAt ⟦<R as HasWays<K, V, S>>⟧.ways place (Q.named_key name) hash at
+        (FnOnceReturnsAt P.FnOnce replace_if) (M.post make) parts.old parts.new) }
     ensures err { OnErr result (parts.new.items ≡ parts.old.items) }
     ensures cause { IfErr result
-        (IsCauseOf (ways_by R.Rules K.eq K.hash_input S.BuildHasher S.Hasher.Hasher) (λ _. 1)
-        (slice_get parts.old.items place)) }
+        (IsCauseOf ⟦<R as HasWays<K, V, S>>⟧.ways (λ _. 1) (slice_get parts.old.items place)) }
 {
     let part = &mut parts[place];
     match coalesce(part, name, hash, at, replace_if, make) {
@@ -212,19 +200,17 @@ pub fn compute_at<
     at: At,
     decide: D,
 ) -> Result<Result<Computed<V>, E>, CacheError>
-    requires there { IsOpenAt (ways_by R.Rules K.eq K.hash_input S.BuildHasher S.Hasher.Hasher)
-        place (Q.named_key name) hash parts.old.items }
+    requires there { IsOpenAt ⟦<R as HasWays<K, V, S>>⟧.ways place
+        (Q.named_key name) hash parts.old.items }
     requires becomes { Q.can_become name }
     requires exact_key { (x y : K) → K.is_clone x y → y ≡ x }
     requires exact { (x y : V) → V.is_clone x y → y ≡ x }
     requires decides { D.IsAlwaysCallable decide }
-    ensures computes { IfOk result
-        (ComputesAt (ways_by R.Rules K.eq K.hash_input S.BuildHasher S.Hasher.Hasher) place
+    ensures computes { IfOk result (ComputesAt ⟦<R as HasWays<K, V, S>>⟧.ways place
         (Q.named_key name) hash at (D.post decide) parts.old.items parts.new.items) }
     ensures err { OnErr result (parts.new.items ≡ parts.old.items) }
     ensures cause { IfErr result
-        (IsCauseOf (ways_by R.Rules K.eq K.hash_input S.BuildHasher S.Hasher.Hasher) removal_rooms
-        (slice_get parts.old.items place)) }
+        (IsCauseOf ⟦<R as HasWays<K, V, S>>⟧.ways removal_rooms (slice_get parts.old.items place)) }
 {
     let part = &mut parts[place];
     match compute(part, name, hash, at, decide) {
@@ -249,15 +235,14 @@ pub fn look_at<
     now: Instant,
     replace_if: P,
 ) -> Result<(bool, Option<V>), AllocError>
-    requires there { IsOpenAt (ways_by R.Rules K.eq K.hash_input S.BuildHasher S.Hasher.Hasher)
-        place (Q.named_key key.now) hash parts.now }
+    requires there { IsOpenAt ⟦<R as HasWays<K, V, S>>⟧.ways place
+        (Q.named_key key.now) hash parts.now }
     requires exact { (x y : V) → V.is_clone x y → y ≡ x }
     requires callable { P.IsAlwaysCallable replace_if }
     ensures asked { IfOk result
-        (IsAskedFirst (ways_by R.Rules K.eq K.hash_input S.BuildHasher S.Hasher.Hasher) (slice_get
-        parts.now place) now (Q.named_key key.now) (FnOnceReturnsAt P.FnOnce replace_if)) }
-    ensures found { IfOk result
-        (λ a. a.1 ≡ seen_of (ways_by R.Rules K.eq K.hash_input S.BuildHasher S.Hasher.Hasher)
+        (IsAskedFirst ⟦<R as HasWays<K, V, S>>⟧.ways (slice_get parts.now place) now
+        (Q.named_key key.now) (FnOnceReturnsAt P.FnOnce replace_if)) }
+    ensures found { IfOk result (λ a. a.1 ≡ seen_of ⟦<R as HasWays<K, V, S>>⟧.ways
         (slice_get parts.now place) now (Q.named_key key.now) a.0) }
 {
     let looked = look(&parts[place], key, hash, now, replace_if)?;
@@ -273,11 +258,10 @@ pub fn note_at<K: Eq + Hash + Drop, V: Drop, S: BuildHasher, R: Rules<K, V>, Q: 
     now: Instant,
     ignored: bool,
 )
-    requires there { IsOpenAt (ways_by R.Rules K.eq K.hash_input S.BuildHasher S.Hasher.Hasher)
-        place (Q.named_key key.now) hash parts.old.items }
-    ensures { CallsAt place
-        (NotesLookUp (answers_of R.weight_of R.created R.read R.updated R.covers) K.eq
-        (Q.named_key key.now) hash now ignored) parts.old.items parts.new.items }
+    requires there { IsOpenAt ⟦<R as HasWays<K, V, S>>⟧.ways place
+        (Q.named_key key.now) hash parts.old.items }
+    ensures { CallsAt place (NotesLookUp R.answers K.eq (Q.named_key key.now) hash now ignored)
+        parts.old.items parts.new.items }
 {
     let part = &mut parts[place];
     part.note_look_up(key, hash, now, ignored);
@@ -303,15 +287,13 @@ pub fn look_up_at<
     output: &mut O,
     see: F,
 ) -> Result<T, E>
-    requires there { IsOpenAt (ways_by R.Rules K.eq K.hash_input S.BuildHasher S.Hasher.Hasher)
-        place (Q.named_key key.now) hash parts.old.items }
+    requires there { IsOpenAt ⟦<R as HasWays<K, V, S>>⟧.ways place
+        (Q.named_key key.now) hash parts.old.items }
     requires callable { F.IsAlwaysCallable see }
-    ensures shown { IsShown F.FnOnce see
-        (visible_of (ways_by R.Rules K.eq K.hash_input S.BuildHasher S.Hasher.Hasher)
+    ensures shown { IsShown F.FnOnce see (visible_of ⟦<R as HasWays<K, V, S>>⟧.ways
         (slice_get parts.old.items place) now (Q.named_key key.now)) output.old result output.new }
-    ensures used { OnOk result
-        (CallsAt place (NotesLookUp (answers_of R.weight_of R.created R.read R.updated R.covers)
-        K.eq (Q.named_key key.now) hash now false) parts.old.items parts.new.items) }
+    ensures used { OnOk result (CallsAt place (NotesLookUp R.answers K.eq
+        (Q.named_key key.now) hash now false) parts.old.items parts.new.items) }
     ensures err { OnErr result (parts.new.items ≡ parts.old.items) }
 {
     let part = &mut parts[place];
@@ -330,16 +312,13 @@ pub fn insert_or_back_at<K: Eq + Hash + Drop, V: Drop, S: BuildHasher, R: Rules<
     value: V,
     at: At,
 ) -> Result<(), (CacheError, V)>
-    requires there { IsOpenAt (ways_by R.Rules K.eq K.hash_input S.BuildHasher S.Hasher.Hasher)
-        place key hash parts.old.items }
-    ensures inserts { OnOk result
-        (CallsAt place (Inserts (answers_of R.weight_of R.created R.read R.updated R.covers) K.eq
-        key hash value at.now at.step) parts.old.items parts.new.items) }
+    requires there { IsOpenAt ⟦<R as HasWays<K, V, S>>⟧.ways place key hash parts.old.items }
+    ensures inserts { OnOk result (CallsAt place
+        (Inserts R.answers K.eq key hash value at.now at.step) parts.old.items parts.new.items) }
     ensures err { OnErr result (parts.new.items ≡ parts.old.items) }
     ensures back { IfErr result (λ refused. refused.1 ≡ value) }
-    ensures cause { IfErr result
-        (λ refused. IsCauseOf (ways_by R.Rules K.eq K.hash_input S.BuildHasher S.Hasher.Hasher)
-        (λ _. 1) (slice_get parts.old.items place) refused.0) }
+    ensures cause { IfErr result (λ refused. IsCauseOf ⟦<R as HasWays<K, V, S>>⟧.ways (λ _. 1)
+        (slice_get parts.old.items place) refused.0) }
 {
     let part = &mut parts[place];
     match insert_or_back(part, key, hash, value, at) {

@@ -1,12 +1,13 @@
 //! What is visible and held in the part at a place, without a use of it.
 ghost use Rattle.std.specs.Prelude.{◌≡◌, ◌≤◌, true, IfOk, IfSome, MatchOption, length, option_map, slice_get};
-ghost use Rattle.front_parts.specs.Places.Calls.{IsOpenAt, keys_of, visible_of, ways_by};
+ghost use Rattle.front_parts.specs.Places.Calls.{IsOpenAt, keys_of, visible_of};
 
 use crate::BaseCache;
+use crate::places::HasWays;
 use engine_reference::{Names, Rules};
 use policy_base::Instant;
 use std::alloc::AllocError;
-use std::hash::{BuildHasher, Hash, Hasher};
+use std::hash::{BuildHasher, Hash};
 
 /// The value of a key that is visible in the part at a place, without a clone. It is no use of it.
 pub fn peek_at<'a, K: Eq + Hash, V, S: BuildHasher, R: Rules<K, V>, Q: Names<K>>(
@@ -16,10 +17,9 @@ pub fn peek_at<'a, K: Eq + Hash, V, S: BuildHasher, R: Rules<K, V>, Q: Names<K>>
     hash: u64,
     now: Instant,
 ) -> Option<&'a V>
-    requires there { IsOpenAt (ways_by R.Rules K.eq K.hash_input S.BuildHasher S.Hasher.Hasher)
-        place (Q.named_key key.now) hash parts.now }
-    ensures { option_map (λ value. value.now) result
-        ≡ visible_of (ways_by R.Rules K.eq K.hash_input S.BuildHasher S.Hasher.Hasher)
+    requires there { IsOpenAt ⟦<R as HasWays<K, V, S>>⟧.ways place
+        (Q.named_key key.now) hash parts.now }
+    ensures { option_map (λ value. value.now) result ≡ visible_of ⟦<R as HasWays<K, V, S>>⟧.ways
         (slice_get parts.now place) now (Q.named_key key.now) }
 {
     parts[place].peek(key, hash, now)
@@ -34,10 +34,10 @@ pub fn scan_at<K: Eq + Hash, V: Clone, S: BuildHasher, R: Rules<K, V>, Q: Names<
     now: Instant,
 ) -> Result<Option<V>, AllocError>
     requires exact { (x y : V) → V.is_clone x y → y ≡ x }
-    requires there { IsOpenAt (ways_by R.Rules K.eq K.hash_input S.BuildHasher S.Hasher.Hasher)
-        place (Q.named_key key.now) hash parts.now }
-    ensures { IfOk result (λ found. found ≡ visible_of (ways_by R.Rules K.eq K.hash_input
-        S.BuildHasher S.Hasher.Hasher) (slice_get parts.now place) now (Q.named_key key.now)) }
+    requires there { IsOpenAt ⟦<R as HasWays<K, V, S>>⟧.ways place
+        (Q.named_key key.now) hash parts.now }
+    ensures { IfOk result (λ found. found ≡ visible_of ⟦<R as HasWays<K, V, S>>⟧.ways
+        (slice_get parts.now place) now (Q.named_key key.now)) }
 {
     parts[place].get_with_hash_without_recording(key, hash, now)
 }
@@ -50,8 +50,8 @@ pub fn held_key_at<K: Eq + Hash + Clone + Drop, V, S: BuildHasher, R: Rules<K, V
     hash: u64,
 ) -> Result<Option<K>, AllocError>
     requires exact_key { (x y : K) → K.is_clone x y → y ≡ x }
-    requires there { IsOpenAt (ways_by R.Rules K.eq K.hash_input S.BuildHasher S.Hasher.Hasher)
-        place (Q.named_key key.now) hash parts.now }
+    requires there { IsOpenAt ⟦<R as HasWays<K, V, S>>⟧.ways place
+        (Q.named_key key.now) hash parts.now }
     ensures { IfOk result (λ found. IfSome found (λ held. K.eq (Q.named_key key.now) held ≡ true)) }
 {
     parts[place].get_key_with_hash(key, hash)

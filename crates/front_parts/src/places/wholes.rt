@@ -3,7 +3,6 @@ ghost use Rattle.std.specs.Prelude.{◌≡◌, ℕ, [], Some, min, slice_get, su
 ghost use Rattle.std.specs.List.{list_any};
 ghost use Rattle.engine_reference.specs.Calls.{cleared_by};
 ghost use Rattle.engine_reference.specs.State.{State};
-ghost use Rattle.engine_reference.specs.Asking.{answers_of};
 ghost use Rattle.front_reference.specs.Fronts.{CallsEach};
 ghost use Rattle.front_reference.specs.Wholes.{RunsPart, visible_number};
 
@@ -19,8 +18,7 @@ pub fn run_all<K: Eq + Hash + Drop, V: Drop, S: BuildHasher, R: Rules<K, V>>(
 )
     requires { (place : ℕ) (s : State K V R.Predicate S R)
         → slice_get parts.old.items place ≡ Some s → s.unsent ≡ [] }
-    ensures { CallsEach (RunsPart (answers_of R.weight_of R.created R.read R.updated R.covers) now)
-        parts.old.items parts.new.items }
+    ensures { CallsEach (RunsPart R.answers now) parts.old.items parts.new.items }
 {
     let count = parts.len();
     for place in 0..count {
@@ -94,8 +92,7 @@ pub fn count_visible<K: Eq + Hash, V, S: BuildHasher, R: Rules<K, V>>(
     parts: &[BaseCache<K, V, S, R>],
     now: Instant,
 ) -> usize
-    ensures { result ≡ visible_number (answers_of R.weight_of R.created R.read R.updated R.covers)
-        K.eq now parts.now }
+    ensures { result ≡ visible_number R.answers K.eq now parts.now }
 {
     let mut total = 0usize;
     let mut rest = parts;

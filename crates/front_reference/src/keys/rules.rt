@@ -11,15 +11,7 @@ impl<K, V, R: Rules<K, V>> Rules<Shared<K>, V> for Shared<R> {
 
     type Fault = R::Fault;
 
-    ghost weight_of = { R.weight_of };
-
-    ghost created = { R.created };
-
-    ghost read = { R.read };
-
-    ghost updated = { R.updated };
-
-    ghost covers = { R.covers };
+    ghost answers = { R.answers };
 
     fn weight(&self, key: &Shared<K>, value: &V) -> u32 {
         (**self).weight(&**key, value)

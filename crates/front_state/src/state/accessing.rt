@@ -7,20 +7,20 @@ ghost use Rattle.front_reference.specs.declared.data.Made.{Made};
 ghost use Rattle.front_reference.specs.declared.data.TurnKind.TheVariants as turns;
 ghost use Rattle.front_reference.specs.declared.errors.CacheError.TheVariants as errors;
 ghost use Rattle.front_state.specs.Accessing.{DecidesIn, GivesIn, MayCall};
-ghost use Rattle.front_parts.specs.Places.Calls.{IsCauseIn, ways_by};
+ghost use Rattle.front_parts.specs.Places.Calls.{IsCauseIn};
 
 use crate::state::LentState;
 use engine_reference::Rules;
-use front_parts::{Access, OwnedKeyEntrySelector, RefKeyEntrySelector};
+use front_parts::{Access, HasWays, OwnedKeyEntrySelector, RefKeyEntrySelector};
 use front_reference::{At, CacheError, Computed, Made, Op, Shared, TurnKind};
 use std::alloc::AllocError;
-use std::hash::{BuildHasher, Hash, Hasher};
+use std::hash::{BuildHasher, Hash};
 
 impl<K: Eq + Hash + Drop, V: Clone + Drop, S: BuildHasher, R: Rules<K, V>, C> Access<K, V>
     for LentState<K, V, S, R, C> {
     ghost use Rattle.engine_reference.specs.Calls.{removal_rooms};
     ghost use Rattle.front_state.specs.Accessing.{CoalescedIn, ComputedIn, MayCall, SeesIn};
-    ghost use Rattle.front_parts.specs.Places.Calls.{IsCauseIn, ways_by};
+    ghost use Rattle.front_parts.specs.Places.Calls.{IsCauseIn};
 
     type When = At;
 
@@ -28,19 +28,16 @@ impl<K: Eq + Hash + Drop, V: Clone + Drop, S: BuildHasher, R: Rules<K, V>, C> Ac
 
     ghost may_call = { MayCall K.eq };
 
-    ghost sees = { SeesIn (ways_by R.Rules K.eq K.hash_input S.BuildHasher S.Hasher.Hasher) };
+    ghost sees = { SeesIn ⟦<R as HasWays<K, V, S>>⟧.ways };
 
-    ghost coalesced = { CoalescedIn
-        (ways_by R.Rules K.eq K.hash_input S.BuildHasher S.Hasher.Hasher) };
+    ghost coalesced = { CoalescedIn ⟦<R as HasWays<K, V, S>>⟧.ways };
 
-    ghost computed = { ComputedIn
-        (ways_by R.Rules K.eq K.hash_input S.BuildHasher S.Hasher.Hasher) };
+    ghost computed = { ComputedIn ⟦<R as HasWays<K, V, S>>⟧.ways };
 
-    ghost refuses_coalesced = { λ cache _. IsCauseIn
-        (ways_by R.Rules K.eq K.hash_input S.BuildHasher S.Hasher.Hasher) (λ _. 1) cache };
+    ghost refuses_coalesced = { λ cache _. IsCauseIn ⟦<R as HasWays<K, V, S>>⟧.ways
+        (λ _. 1) cache };
 
-    ghost refuses_computed = { IsCauseIn
-        (ways_by R.Rules K.eq K.hash_input S.BuildHasher S.Hasher.Hasher) removal_rooms };
+    ghost refuses_computed = { IsCauseIn ⟦<R as HasWays<K, V, S>>⟧.ways removal_rooms };
 
     fn coalesce<
         P: FnOnce(&V) -> bool + Drop,
@@ -57,14 +54,12 @@ impl<K: Eq + Hash + Drop, V: Clone + Drop, S: BuildHasher, R: Rules<K, V>, C> Ac
         requires free { MayCall K.eq self.old when kind key }
         requires callable { P.IsAlwaysCallable replace_if × M.IsAlwaysCallable make }
         requires suitable { (made : Made V R.Fault) → M.post make (Ok made) → Suits kind made }
-        ensures gives { IfOk result
-            (GivesIn (ways_by R.Rules K.eq K.hash_input S.BuildHasher S.Hasher.Hasher) kind when key
+        ensures gives { IfOk result (GivesIn ⟦<R as HasWays<K, V, S>>⟧.ways kind when key
             (FnOnceReturnsAt P.FnOnce replace_if) (M.post make) self.old self.new) }
         ensures suits { IfOk result (λ a. Suits kind a.0) }
         ensures err { OnErr result (self.new ≡ self.old) }
         ensures cause { IfErr result
-            (IsCauseIn (ways_by R.Rules K.eq K.hash_input S.BuildHasher S.Hasher.Hasher) (λ _. 1)
-            self.old key) }
+            (IsCauseIn ⟦<R as HasWays<K, V, S>>⟧.ways (λ _. 1) self.old key) }
     {
         let hash = self.hash(&*key);
         LentState::coalesce(self, key, hash, when, replace_if, make)
@@ -80,12 +75,10 @@ impl<K: Eq + Hash + Drop, V: Clone + Drop, S: BuildHasher, R: Rules<K, V>, C> Ac
         requires free { MayCall K.eq self.old when (Some turns.Compute) key }
         requires callable { D.IsAlwaysCallable decide }
         ensures decides { IfOk result
-            (DecidesIn (ways_by R.Rules K.eq K.hash_input S.BuildHasher S.Hasher.Hasher) when key
-            (D.post decide) self.old self.new) }
+            (DecidesIn ⟦<R as HasWays<K, V, S>>⟧.ways when key (D.post decide) self.old self.new) }
         ensures err { OnErr result (self.new ≡ self.old) }
         ensures cause { IfErr result
-            (IsCauseIn (ways_by R.Rules K.eq K.hash_input S.BuildHasher S.Hasher.Hasher)
-            removal_rooms self.old key) }
+            (IsCauseIn ⟦<R as HasWays<K, V, S>>⟧.ways removal_rooms self.old key) }
     {
         let hash = self.hash(&*key);
         LentState::compute(self, key, hash, when, decide)

@@ -9,14 +9,14 @@ ghost use Rattle.front_reference.specs.Fronts.{ComesAfter};
 ghost use Rattle.front_reference.specs.declared.data.Made.TheVariants as outcome;
 ghost use Rattle.front_reference.specs.declared.data.TurnKind.TheVariants as turns;
 ghost use Rattle.front_state.specs.Accessing.{GetsIn, GetsOptionIn, GetsResultIn, MayCall};
-ghost use Rattle.front_parts.specs.Places.Calls.{IsCauseIn, hash_in, ways_by};
+ghost use Rattle.front_parts.specs.Places.Calls.{IsCauseIn, hash_in};
 
 use crate::state::{LentState, Segmented};
 use engine_reference::Rules;
-use front_parts::{option_made, result_made, value_made};
+use front_parts::{HasWays, option_made, result_made, value_made};
 use front_reference::{At, CacheError, ClonedKey, IntoKey, Made, OwnedKey, Shared};
 use std::alloc::{AllocError, Global};
-use std::hash::{BuildHasher, Hash, Hasher};
+use std::hash::{BuildHasher, Hash};
 use std::sync::Arc;
 
 impl<K: Eq + Hash + Drop, V: Clone + Drop, S: BuildHasher, R: Rules<K, V>, C> LentState<
@@ -36,19 +36,16 @@ impl<K: Eq + Hash + Drop, V: Clone + Drop, S: BuildHasher, R: Rules<K, V>, C> Le
         at: At,
     ) -> Result<V, CacheError>
         requires hashed { hash
-            ≡ hash_in (ways_by R.Rules K.eq K.hash_input S.BuildHasher S.Hasher.Hasher) self.old
-            (Q.named_key name) }
+            ≡ hash_in ⟦<R as HasWays<K, V, S>>⟧.ways self.old (Q.named_key name) }
         requires becomes { Q.can_become name }
         requires exact { (x y : V) → V.is_clone x y → y ≡ x }
         requires callable { P.IsAlwaysCallable replace_if × M.IsAlwaysCallable make }
         requires follows { ComesAfter at.now at.step self.old }
-        ensures value { IfOk result (GetsIn
-            (ways_by R.Rules K.eq K.hash_input S.BuildHasher S.Hasher.Hasher) (Q.named_key name) at
+        ensures value { IfOk result (GetsIn ⟦<R as HasWays<K, V, S>>⟧.ways (Q.named_key name) at
             (FnOnceReturnsAt P.FnOnce replace_if) (M.post make) self.old self.new) }
         ensures err { OnErr result (self.new ≡ self.old) }
         ensures cause { IfErr result
-            (IsCauseIn (ways_by R.Rules K.eq K.hash_input S.BuildHasher S.Hasher.Hasher) (λ _. 1)
-            self.old (Q.named_key name)) }
+            (IsCauseIn ⟦<R as HasWays<K, V, S>>⟧.ways (λ _. 1) self.old (Q.named_key name)) }
     {
         let (made, _is_fresh) = self.coalesce(
             name,
@@ -69,19 +66,16 @@ impl<K: Eq + Hash + Drop, V: Clone + Drop, S: BuildHasher, R: Rules<K, V>, C> Le
         at: At,
     ) -> Result<Option<V>, CacheError>
         requires hashed { hash
-            ≡ hash_in (ways_by R.Rules K.eq K.hash_input S.BuildHasher S.Hasher.Hasher) self.old
-            (Q.named_key name) }
+            ≡ hash_in ⟦<R as HasWays<K, V, S>>⟧.ways self.old (Q.named_key name) }
         requires becomes { Q.can_become name }
         requires exact { (x y : V) → V.is_clone x y → y ≡ x }
         requires callable { M.IsAlwaysCallable make }
         requires follows { ComesAfter at.now at.step self.old }
-        ensures value { IfOk result
-            (GetsOptionIn (ways_by R.Rules K.eq K.hash_input S.BuildHasher S.Hasher.Hasher)
+        ensures value { IfOk result (GetsOptionIn ⟦<R as HasWays<K, V, S>>⟧.ways
             (Q.named_key name) at (M.post make) self.old self.new) }
         ensures err { OnErr result (self.new ≡ self.old) }
         ensures cause { IfErr result
-            (IsCauseIn (ways_by R.Rules K.eq K.hash_input S.BuildHasher S.Hasher.Hasher) (λ _. 1)
-            self.old (Q.named_key name)) }
+            (IsCauseIn ⟦<R as HasWays<K, V, S>>⟧.ways (λ _. 1) self.old (Q.named_key name)) }
     {
         let (made, _is_fresh) = self.coalesce(
             name,
@@ -102,19 +96,16 @@ impl<K: Eq + Hash + Drop, V: Clone + Drop, S: BuildHasher, R: Rules<K, V>, C> Le
         at: At,
     ) -> Result<Result<V, Arc<F>>, CacheError>
         requires hashed { hash
-            ≡ hash_in (ways_by R.Rules K.eq K.hash_input S.BuildHasher S.Hasher.Hasher) self.old
-            (Q.named_key name) }
+            ≡ hash_in ⟦<R as HasWays<K, V, S>>⟧.ways self.old (Q.named_key name) }
         requires becomes { Q.can_become name }
         requires exact { (x y : V) → V.is_clone x y → y ≡ x }
         requires callable { M.IsAlwaysCallable make }
         requires follows { ComesAfter at.now at.step self.old }
-        ensures value { IfOk result
-            (λ r. GetsResultIn (ways_by R.Rules K.eq K.hash_input S.BuildHasher S.Hasher.Hasher)
+        ensures value { IfOk result (λ r. GetsResultIn ⟦<R as HasWays<K, V, S>>⟧.ways
             (Q.named_key name) at (M.post make) self.old self.new (with_fault arc_value r)) }
         ensures err { OnErr result (self.new ≡ self.old) }
         ensures cause { IfErr result
-            (IsCauseIn (ways_by R.Rules K.eq K.hash_input S.BuildHasher S.Hasher.Hasher) (λ _. 1)
-            self.old (Q.named_key name)) }
+            (IsCauseIn ⟦<R as HasWays<K, V, S>>⟧.ways (λ _. 1) self.old (Q.named_key name)) }
     {
         let alloc = self.alloc;
         let (made, _is_fresh) = self.coalesce(
@@ -142,13 +133,11 @@ impl<K: Eq + Hash + Drop, V: Clone + Drop, S: BuildHasher, R: Rules<K, V>, C> Le
         requires exact { (x y : V) → V.is_clone x y → y ≡ x }
         requires callable { M.IsAlwaysCallable make }
         requires free { MayCall K.eq self.old at (Some turns.With) key }
-        ensures value { IfOk result
-            (GetsIn (ways_by R.Rules K.eq K.hash_input S.BuildHasher S.Hasher.Hasher) key at
-            passes_none (M.post make) self.old self.new) }
+        ensures value { IfOk result (GetsIn ⟦<R as HasWays<K, V, S>>⟧.ways key at passes_none
+            (M.post make) self.old self.new) }
         ensures err { OnErr result (self.new ≡ self.old) }
         ensures cause { IfErr result
-            (IsCauseIn (ways_by R.Rules K.eq K.hash_input S.BuildHasher S.Hasher.Hasher) (λ _. 1)
-            self.old key) }
+            (IsCauseIn ⟦<R as HasWays<K, V, S>>⟧.ways (λ _. 1) self.old key) }
     {
         let hash = self.hash(&key);
         let name = OwnedKey {
@@ -182,13 +171,11 @@ impl<K: Eq + Hash + Drop, V: Clone + Drop, S: BuildHasher, R: Rules<K, V>, C> Le
         requires exact { (x y : V) → V.is_clone x y → y ≡ x }
         requires callable { M.IsAlwaysCallable make }
         requires free { MayCall K.eq self.old at (Some turns.With) key.now }
-        ensures value { IfOk result
-            (GetsIn (ways_by R.Rules K.eq K.hash_input S.BuildHasher S.Hasher.Hasher) key.now at
-            passes_none (M.post make) self.old self.new) }
+        ensures value { IfOk result (GetsIn ⟦<R as HasWays<K, V, S>>⟧.ways key.now at passes_none
+            (M.post make) self.old self.new) }
         ensures err { OnErr result (self.new ≡ self.old) }
         ensures cause { IfErr result
-            (IsCauseIn (ways_by R.Rules K.eq K.hash_input S.BuildHasher S.Hasher.Hasher) (λ _. 1)
-            self.old key.now) }
+            (IsCauseIn ⟦<R as HasWays<K, V, S>>⟧.ways (λ _. 1) self.old key.now) }
     {
         let hash = self.hash(key);
         let name = ClonedKey {
@@ -221,13 +208,11 @@ impl<K: Eq + Hash + Drop, V: Clone + Drop, S: BuildHasher, R: Rules<K, V>, C> Le
         requires exact { (x y : V) → V.is_clone x y → y ≡ x }
         requires callable { P.IsAlwaysCallable replace_if × M.IsAlwaysCallable make }
         requires free { MayCall K.eq self.old at (Some turns.With) key }
-        ensures value { IfOk result
-            (GetsIn (ways_by R.Rules K.eq K.hash_input S.BuildHasher S.Hasher.Hasher) key at
+        ensures value { IfOk result (GetsIn ⟦<R as HasWays<K, V, S>>⟧.ways key at
             (FnOnceReturnsAt P.FnOnce replace_if) (M.post make) self.old self.new) }
         ensures err { OnErr result (self.new ≡ self.old) }
         ensures cause { IfErr result
-            (IsCauseIn (ways_by R.Rules K.eq K.hash_input S.BuildHasher S.Hasher.Hasher) (λ _. 1)
-            self.old key) }
+            (IsCauseIn ⟦<R as HasWays<K, V, S>>⟧.ways (λ _. 1) self.old key) }
     {
         let hash = self.hash(&key);
         let name = OwnedKey {
@@ -253,12 +238,10 @@ impl<K: Eq + Hash + Drop, V: Clone + Drop, S: BuildHasher, R: Rules<K, V>, C> Le
         requires callable { M.IsAlwaysCallable make }
         requires free { MayCall K.eq self.old at (Some turns.Optionally) key }
         ensures value { IfOk result
-            (GetsOptionIn (ways_by R.Rules K.eq K.hash_input S.BuildHasher S.Hasher.Hasher) key at
-            (M.post make) self.old self.new) }
+            (GetsOptionIn ⟦<R as HasWays<K, V, S>>⟧.ways key at (M.post make) self.old self.new) }
         ensures err { OnErr result (self.new ≡ self.old) }
         ensures cause { IfErr result
-            (IsCauseIn (ways_by R.Rules K.eq K.hash_input S.BuildHasher S.Hasher.Hasher) (λ _. 1)
-            self.old key) }
+            (IsCauseIn ⟦<R as HasWays<K, V, S>>⟧.ways (λ _. 1) self.old key) }
     {
         let hash = self.hash(&key);
         let name = OwnedKey {
@@ -284,13 +267,11 @@ impl<K: Eq + Hash + Drop, V: Clone + Drop, S: BuildHasher, R: Rules<K, V>, C> Le
         requires exact { (x y : V) → V.is_clone x y → y ≡ x }
         requires callable { M.IsAlwaysCallable make }
         requires free { MayCall K.eq self.old at (Some turns.Optionally) key.now }
-        ensures value { IfOk result
-            (GetsOptionIn (ways_by R.Rules K.eq K.hash_input S.BuildHasher S.Hasher.Hasher) key.now
-            at (M.post make) self.old self.new) }
+        ensures value { IfOk result (GetsOptionIn ⟦<R as HasWays<K, V, S>>⟧.ways key.now at
+            (M.post make) self.old self.new) }
         ensures err { OnErr result (self.new ≡ self.old) }
         ensures cause { IfErr result
-            (IsCauseIn (ways_by R.Rules K.eq K.hash_input S.BuildHasher S.Hasher.Hasher) (λ _. 1)
-            self.old key.now) }
+            (IsCauseIn ⟦<R as HasWays<K, V, S>>⟧.ways (λ _. 1) self.old key.now) }
     {
         let hash = self.hash(key);
         let name = ClonedKey {
@@ -318,13 +299,11 @@ impl<K: Eq + Hash + Drop, V: Clone + Drop, S: BuildHasher, R: Rules<K, V>, C> Le
         requires exact { (x y : V) → V.is_clone x y → y ≡ x }
         requires callable { M.IsAlwaysCallable make }
         requires free { MayCall K.eq self.old at (Some turns.Try) key }
-        ensures value { IfOk result
-            (λ r. GetsResultIn (ways_by R.Rules K.eq K.hash_input S.BuildHasher S.Hasher.Hasher) key
-            at (M.post make) self.old self.new (with_fault arc_value r)) }
+        ensures value { IfOk result (λ r. GetsResultIn ⟦<R as HasWays<K, V, S>>⟧.ways key at
+            (M.post make) self.old self.new (with_fault arc_value r)) }
         ensures err { OnErr result (self.new ≡ self.old) }
         ensures cause { IfErr result
-            (IsCauseIn (ways_by R.Rules K.eq K.hash_input S.BuildHasher S.Hasher.Hasher) (λ _. 1)
-            self.old key) }
+            (IsCauseIn ⟦<R as HasWays<K, V, S>>⟧.ways (λ _. 1) self.old key) }
     {
         let hash = self.hash(&key);
         let name = OwnedKey {
@@ -350,13 +329,11 @@ impl<K: Eq + Hash + Drop, V: Clone + Drop, S: BuildHasher, R: Rules<K, V>, C> Le
         requires exact { (x y : V) → V.is_clone x y → y ≡ x }
         requires callable { M.IsAlwaysCallable make }
         requires free { MayCall K.eq self.old at (Some turns.Try) key.now }
-        ensures value { IfOk result
-            (λ r. GetsResultIn (ways_by R.Rules K.eq K.hash_input S.BuildHasher S.Hasher.Hasher)
-            key.now at (M.post make) self.old self.new (with_fault arc_value r)) }
+        ensures value { IfOk result (λ r. GetsResultIn ⟦<R as HasWays<K, V, S>>⟧.ways key.now at
+            (M.post make) self.old self.new (with_fault arc_value r)) }
         ensures err { OnErr result (self.new ≡ self.old) }
         ensures cause { IfErr result
-            (IsCauseIn (ways_by R.Rules K.eq K.hash_input S.BuildHasher S.Hasher.Hasher) (λ _. 1)
-            self.old key.now) }
+            (IsCauseIn ⟦<R as HasWays<K, V, S>>⟧.ways (λ _. 1) self.old key.now) }
     {
         let hash = self.hash(key);
         let name = ClonedKey {
@@ -387,13 +364,11 @@ impl<K: Eq + Hash + Drop, V: Clone + Drop, S: BuildHasher, R: Rules<K, V>> LentS
         requires exact { (x y : V) → V.is_clone x y → y ≡ x }
         requires callable { M.IsAlwaysCallable make }
         requires free { MayCall K.eq self.old at (Some turns.With) key }
-        ensures value { IfOk result
-            (GetsIn (ways_by R.Rules K.eq K.hash_input S.BuildHasher S.Hasher.Hasher) key at
-            passes_none (M.post make) self.old self.new) }
+        ensures value { IfOk result (GetsIn ⟦<R as HasWays<K, V, S>>⟧.ways key at passes_none
+            (M.post make) self.old self.new) }
         ensures err { OnErr result (self.new ≡ self.old) }
         ensures cause { IfErr result
-            (IsCauseIn (ways_by R.Rules K.eq K.hash_input S.BuildHasher S.Hasher.Hasher) (λ _. 1)
-            self.old key) }
+            (IsCauseIn ⟦<R as HasWays<K, V, S>>⟧.ways (λ _. 1) self.old key) }
     {
         self.get_with(key, make, at)
     }
@@ -411,13 +386,11 @@ impl<K: Eq + Hash + Drop, V: Clone + Drop, S: BuildHasher, R: Rules<K, V>> LentS
         requires exact { (x y : V) → V.is_clone x y → y ≡ x }
         requires callable { M.IsAlwaysCallable make }
         requires free { MayCall K.eq self.old at (Some turns.Try) key }
-        ensures value { IfOk result
-            (λ r. GetsResultIn (ways_by R.Rules K.eq K.hash_input S.BuildHasher S.Hasher.Hasher) key
-            at (M.post make) self.old self.new (with_fault arc_value r)) }
+        ensures value { IfOk result (λ r. GetsResultIn ⟦<R as HasWays<K, V, S>>⟧.ways key at
+            (M.post make) self.old self.new (with_fault arc_value r)) }
         ensures err { OnErr result (self.new ≡ self.old) }
         ensures cause { IfErr result
-            (IsCauseIn (ways_by R.Rules K.eq K.hash_input S.BuildHasher S.Hasher.Hasher) (λ _. 1)
-            self.old key) }
+            (IsCauseIn ⟦<R as HasWays<K, V, S>>⟧.ways (λ _. 1) self.old key) }
     {
         self.try_get_with(key, make, at)
     }

@@ -5,7 +5,7 @@ ghost use Rattle.std.specs.String.{string_bytes};
 ghost use Rattle.front_reference.specs.Fronts.{ComesAfter, part_of};
 ghost use Rattle.front_reference.specs.Wholes.{next_told, without_told};
 ghost use Rattle.front_parts.specs.Places.Told.{told_at, without_told_at};
-ghost use Rattle.front_parts.specs.Places.Calls.{IsSteadyBy, hash_in, visible_in, ways_by};
+ghost use Rattle.front_parts.specs.Places.Calls.{IsSteadyBy, hash_in, visible_in};
 ghost use Rattle.front_reference.specs.declared.errors.CacheError.TheVariants as errors;
 ghost use Rattle.front_state.specs.Covering.{CoversAll, GivesVisible, IsCauseToCover, keys_in};
 ghost use Rattle.front_parts.specs.Wholes.Covering.{id_text};
@@ -13,14 +13,14 @@ ghost use Rattle.front_parts.specs.Wholes.Covering.{id_text};
 use crate::state::{LentState, PredicateId, Segmented, Single};
 use engine_reference::Rules;
 use front_parts::{
-    Iter, Notice, ScanningGet, clone_each, cover_all, hash_key, keys_at, next_notice,
+    HasWays, Iter, Notice, ScanningGet, clone_each, cover_all, hash_key, keys_at, next_notice,
     next_notice_at, place_of, scan_at, write_id,
 };
 use front_reference::{At, CacheError, LentKey, Shared};
 use policy_base::Instant;
 use rand_core::Rng;
 use std::alloc::AllocError;
-use std::hash::{BuildHasher, Hash, Hasher};
+use std::hash::{BuildHasher, Hash};
 
 impl<K: Eq + Hash, V, S: BuildHasher, R: Rules<K, V>, C> LentState<K, V, S, R, C> {
     /// Returns the part that a key belongs to, by the upper bits of its hash.
@@ -28,8 +28,8 @@ impl<K: Eq + Hash, V, S: BuildHasher, R: Rules<K, V>, C> LentState<K, V, S, R, C
     /// let segment = cache.part(&7);
     /// ```
     pub fn part(&self, key: &K) -> usize
-        ensures part { result ≡ part_of self.now.bits (hash_in
-            (ways_by R.Rules K.eq K.hash_input S.BuildHasher S.Hasher.Hasher) self.now key.now) }
+        ensures part { result
+            ≡ part_of self.now.bits (hash_in ⟦<R as HasWays<K, V, S>>⟧.ways self.now key.now) }
         ensures within { result < length self.now.parts }
     {
         let hash = hash_key(&self.hasher, key);
@@ -53,8 +53,7 @@ impl<K: Eq + Hash, V, S: BuildHasher, R: Rules<K, V>, C> LentState<K, V, S, R, C
     /// cache.keeps();
     /// ```
     pub fn keeps(&self)
-        ensures { ∥ IsSteadyBy (ways_by R.Rules K.eq K.hash_input S.BuildHasher S.Hasher.Hasher)
-            self.now ∥₁ }
+        ensures { ∥ IsSteadyBy ⟦<R as HasWays<K, V, S>>⟧.ways self.now ∥₁ }
     {
         let _step = self.step;
     }
@@ -199,8 +198,7 @@ impl<K: Eq + Hash + Drop, V: Clone, S: BuildHasher, R: Rules<K, V>, C> ScanningG
 
     ghost keys_in = { keys_in };
 
-    ghost value_of = { λ f now key.
-        visible_in (ways_by R.Rules K.eq K.hash_input S.BuildHasher S.Hasher.Hasher) f now key };
+    ghost value_of = { λ f now key. visible_in ⟦<R as HasWays<K, V, S>>⟧.ways f now key };
 
     ghost can_scan = { λ _. (x y : V) → V.is_clone x y → y ≡ x };
 
@@ -233,9 +231,7 @@ impl<K: Eq + Hash + Drop, V: Clone, S: BuildHasher, R: Rules<K, V>, C> LentState
     pub fn iter(&self, now: Instant) -> Iter<'_, Shared<K>, V, LentState<K, V, S, R, C>>
         ensures source { result.source ≡ self.now }
         ensures now { result.now ≡ now }
-        ensures coming { GivesVisible
-            (ways_by R.Rules K.eq K.hash_input S.BuildHasher S.Hasher.Hasher) now self.now
-            result.coming }
+        ensures coming { GivesVisible ⟦<R as HasWays<K, V, S>>⟧.ways now self.now result.coming }
     {
         Iter::new(self.alloc, self, now)
     }

@@ -1,17 +1,16 @@
 //! Look-ups that make no clone, and so take no memory.
 ghost use Rattle.std.specs.Prelude.{◌≡◌, ◌≤◌, IfOk, true, IfSome, OnOk, OnErr, option_map};
-ghost use Rattle.engine_reference.specs.Asking.{answers_of};
 ghost use Rattle.front_reference.specs.Wholes.{visible_number};
-ghost use Rattle.front_parts.specs.Places.Calls.{LooksUpIn, hash_in, visible_in, ways_by};
+ghost use Rattle.front_parts.specs.Places.Calls.{LooksUpIn, hash_in, visible_in};
 ghost use Rattle.front_parts.specs.Showing.{IsShown};
 
 use crate::state::LentState;
 use engine_reference::Rules;
-use front_parts::{count_visible, hash_key, held_key_at, look_up_at, peek_at, place_of};
+use front_parts::{HasWays, count_visible, hash_key, held_key_at, look_up_at, peek_at, place_of};
 use front_reference::{LentKey, Shared};
 use policy_base::Instant;
 use std::alloc::AllocError;
-use std::hash::{BuildHasher, Hash, Hasher};
+use std::hash::{BuildHasher, Hash};
 
 impl<K: Eq + Hash, V, S: BuildHasher, R: Rules<K, V>, C> LentState<K, V, S, R, C> {
     /// The visible value of a key, lent. It is no use of it.
@@ -19,8 +18,8 @@ impl<K: Eq + Hash, V, S: BuildHasher, R: Rules<K, V>, C> LentState<K, V, S, R, C
     /// let length = cache.peek(&7, now).map(|text| text.len());
     /// ```
     pub fn peek(&self, key: &K, now: Instant) -> Option<&V>
-        ensures { option_map (λ value. value.now) result ≡ visible_in
-            (ways_by R.Rules K.eq K.hash_input S.BuildHasher S.Hasher.Hasher) self.now now key.now }
+        ensures { option_map (λ value. value.now) result
+            ≡ visible_in ⟦<R as HasWays<K, V, S>>⟧.ways self.now now key.now }
     {
         let hash = hash_key(&self.hasher, key);
         let place = place_of(self.bits, hash);
@@ -35,8 +34,7 @@ impl<K: Eq + Hash, V, S: BuildHasher, R: Rules<K, V>, C> LentState<K, V, S, R, C
     pub fn held_key(&self, key: &K, hash: u64) -> Result<Option<Shared<K>>, AllocError>
     where
         K: Drop,
-        requires hashed { hash ≡ hash_in
-            (ways_by R.Rules K.eq K.hash_input S.BuildHasher S.Hasher.Hasher) self.now key.now }
+        requires hashed { hash ≡ hash_in ⟦<R as HasWays<K, V, S>>⟧.ways self.now key.now }
         ensures { IfOk result (λ found. IfSome found (λ held. K.eq key.now held ≡ true)) }
     {
         let place = place_of(self.bits, hash);
@@ -48,8 +46,7 @@ impl<K: Eq + Hash, V, S: BuildHasher, R: Rules<K, V>, C> LentState<K, V, S, R, C
     /// let number = cache.count_visible(now);
     /// ```
     pub fn count_visible(&self, now: Instant) -> usize
-        ensures { result ≡ visible_number
-            (answers_of R.weight_of R.created R.read R.updated R.covers) K.eq now self.now.parts }
+        ensures { result ≡ visible_number R.answers K.eq now self.now.parts }
     {
         count_visible(self.parts.as_slice(), now)
     }
@@ -75,11 +72,10 @@ impl<K: Eq + Hash, V, S: BuildHasher, R: Rules<K, V>, C> LentState<K, V, S, R, C
         V: Drop,
         requires later { self.old.moment ≤ now }
         requires callable { F.IsAlwaysCallable see }
-        ensures shown { IsShown F.FnOnce see (visible_in
-            (ways_by R.Rules K.eq K.hash_input S.BuildHasher S.Hasher.Hasher) self.old now key.now)
-            output.old result output.new }
+        ensures shown { IsShown F.FnOnce see (visible_in ⟦<R as HasWays<K, V, S>>⟧.ways self.old now
+            key.now) output.old result output.new }
         ensures used { OnOk result
-            (LooksUpIn (ways_by R.Rules K.eq K.hash_input S.BuildHasher S.Hasher.Hasher) key.now
+            (LooksUpIn ⟦<R as HasWays<K, V, S>>⟧.ways key.now
             (record { now = now; step = self.old.step }) self.old self.new) }
         ensures err { OnErr result (self.new ≡ self.old) }
     {
@@ -106,15 +102,13 @@ impl<K: Eq + Hash, V, S: BuildHasher, R: Rules<K, V>, C> LentState<K, V, S, R, C
     where
         K: Drop,
         V: Drop,
-        requires hashed { hash ≡ hash_in
-            (ways_by R.Rules K.eq K.hash_input S.BuildHasher S.Hasher.Hasher) self.old key.now }
+        requires hashed { hash ≡ hash_in ⟦<R as HasWays<K, V, S>>⟧.ways self.old key.now }
         requires later { self.old.moment ≤ now }
         requires callable { F.IsAlwaysCallable see }
-        ensures shown { IsShown F.FnOnce see (visible_in
-            (ways_by R.Rules K.eq K.hash_input S.BuildHasher S.Hasher.Hasher) self.old now key.now)
-            output.old result output.new }
+        ensures shown { IsShown F.FnOnce see (visible_in ⟦<R as HasWays<K, V, S>>⟧.ways self.old now
+            key.now) output.old result output.new }
         ensures used { OnOk result
-            (LooksUpIn (ways_by R.Rules K.eq K.hash_input S.BuildHasher S.Hasher.Hasher) key.now
+            (LooksUpIn ⟦<R as HasWays<K, V, S>>⟧.ways key.now
             (record { now = now; step = self.old.step }) self.old self.new) }
         ensures err { OnErr result (self.new ≡ self.old) }
     {

@@ -3,7 +3,7 @@ ghost use Rattle.std.specs.Prelude.{◌≡◌};
 
 use crate::state::LentState;
 use engine_reference::Rules;
-use front_parts::{Iter, keys_at};
+use front_parts::{HasWays, Iter, keys_at};
 use front_reference::{CacheError, Shared};
 use std::fmt;
 use std::hash::{BuildHasher, Hash};
@@ -50,7 +50,6 @@ impl<K: Eq + Hash + fmt::Debug + Drop, V: fmt::Debug, S: BuildHasher, R: Rules<K
 impl<'a, K: Eq + Hash + Drop, V: Clone + Drop, S: BuildHasher, R: Rules<K, V>, C> IntoIterator
     for &'a LentState<K, V, S, R, C> {
     ghost use Rattle.std.specs.Prelude.{◌≡◌};
-    ghost use Rattle.front_parts.specs.Places.Calls.{ways_by};
     ghost use Rattle.front_state.specs.Covering.{GivesVisible};
 
     type Item = Result<(Shared<K>, V), CacheError>;
@@ -58,7 +57,7 @@ impl<'a, K: Eq + Hash + Drop, V: Clone + Drop, S: BuildHasher, R: Rules<K, V>, C
     type IntoIter = Iter<'a, Shared<K>, V, LentState<K, V, S, R, C>>;
 
     ghost into_iter_gives = { λ f it. (it.source ≡ f.now) × (it.now ≡ f.now.moment)
-        × GivesVisible (ways_by R.Rules K.eq K.hash_input S.BuildHasher S.Hasher.Hasher) f.now.moment f.now it.coming };
+        × GivesVisible ⟦<R as HasWays<K, V, S>>⟧.ways f.now.moment f.now it.coming };
 
     fn into_iter(self) -> Iter<'a, Shared<K>, V, LentState<K, V, S, R, C>> {
         self.iter(self.last_call().now)

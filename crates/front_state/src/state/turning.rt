@@ -2,23 +2,22 @@
 ghost use Rattle.std.specs.Prelude.{◌≡◌, true, None, IfOk, IfErr, OnOk, OnErr, is_none, is_some, option_map};
 ghost use Rattle.std.specs.Fn.{FnOnceReturnsAt};
 ghost use Rattle.engine_reference.specs.Scanning.{NotesLookUp};
-ghost use Rattle.engine_reference.specs.Asking.{answers_of};
 ghost use Rattle.front_reference.specs.Fronts.{CallsPart, ComesAfter, part_by_hash, passed, turn_at, turn_of};
 ghost use Rattle.front_reference.specs.Turns.{abandoned, begun_compute, with_turn};
 ghost use Rattle.front_reference.specs.declared.data.Op.TheVariants as op;
 ghost use Rattle.front_reference.specs.declared.data.TurnKind.TheVariants as turns;
 ghost use Rattle.front_reference.specs.declared.errors.CacheError.TheVariants.{UnknownTurn};
-ghost use Rattle.front_parts.specs.Places.Calls.{IsAskedFirst, hash_in, seen_of, ways_by};
+ghost use Rattle.front_parts.specs.Places.Calls.{IsAskedFirst, hash_in, seen_of};
 ghost use Rattle.front_parts.specs.Places.Turning.{BeginsIn, EndsTurnOf, FinishesBy, IsFinishCause, IsTurnCause, Leads, WaitsOrLeads};
 ghost use Rattle.front_state.specs.Beginning.{BeginsBy};
 
 use crate::state::LentState;
 use engine_reference::{Names, Rules};
-use front_parts::{hash_key, insert_or_back_at, look_at, make_turn, note_at, place_of};
+use front_parts::{HasWays, hash_key, insert_or_back_at, look_at, make_turn, note_at, place_of};
 use front_reference::{At, CacheError, IntoKey, LentKey, Made, Shared, TurnKind, TurnStart};
 use policy_base::Instant;
 use std::alloc::AllocError;
-use std::hash::{BuildHasher, Hash, Hasher};
+use std::hash::{BuildHasher, Hash};
 
 impl<K: Eq + Hash, V, S: BuildHasher, R: Rules<K, V>, C> LentState<K, V, S, R, C> {
     /// Whether no turn of a kind and a key is under way.
@@ -36,8 +35,7 @@ impl<K: Eq + Hash, V, S: BuildHasher, R: Rules<K, V>, C> LentState<K, V, S, R, C
 
     /// The number of the turn of a kind and a key.
     fn turn_number<Q: Names<Shared<K>>>(&self, kind: TurnKind, key: &Q, hash: u64) -> Option<u64>
-        requires { hash ≡ hash_in (ways_by R.Rules K.eq K.hash_input S.BuildHasher S.Hasher.Hasher)
-            self.now (Q.named_key key.now) }
+        requires { hash ≡ hash_in ⟦<R as HasWays<K, V, S>>⟧.ways self.now (Q.named_key key.now) }
         ensures { result
             ≡ option_map (λ t. t.number) (turn_of K.eq self.now.turns kind (Q.named_key key.now)) }
     {
@@ -55,16 +53,13 @@ impl<K: Eq + Hash, V, S: BuildHasher, R: Rules<K, V>, C> LentState<K, V, S, R, C
     where
         V: Clone,
         requires hashed { hash
-            ≡ hash_in (ways_by R.Rules K.eq K.hash_input S.BuildHasher S.Hasher.Hasher) self.now
-            (Q.named_key key.now) }
+            ≡ hash_in ⟦<R as HasWays<K, V, S>>⟧.ways self.now (Q.named_key key.now) }
         requires exact { (x y : V) → V.is_clone x y → y ≡ x }
         requires callable { P.IsAlwaysCallable replace_if }
         ensures asked { IfOk result
-            (IsAskedFirst (ways_by R.Rules K.eq K.hash_input S.BuildHasher S.Hasher.Hasher)
-            (part_by_hash self.now hash) now (Q.named_key key.now)
-            (FnOnceReturnsAt P.FnOnce replace_if)) }
-        ensures found { IfOk result
-            (λ a. a.1 ≡ seen_of (ways_by R.Rules K.eq K.hash_input S.BuildHasher S.Hasher.Hasher)
+            (IsAskedFirst ⟦<R as HasWays<K, V, S>>⟧.ways (part_by_hash self.now hash) now
+            (Q.named_key key.now) (FnOnceReturnsAt P.FnOnce replace_if)) }
+        ensures found { IfOk result (λ a. a.1 ≡ seen_of ⟦<R as HasWays<K, V, S>>⟧.ways
             (part_by_hash self.now hash) now (Q.named_key key.now) a.0) }
     {
         let place = place_of(self.bits, hash);
@@ -78,11 +73,9 @@ impl<K: Eq + Hash, V, S: BuildHasher, R: Rules<K, V>, C> LentState<K, V, S, R, C
         K: Drop,
         V: Drop,
         requires hashed { hash
-            ≡ hash_in (ways_by R.Rules K.eq K.hash_input S.BuildHasher S.Hasher.Hasher) self.old
-            (Q.named_key key.now) }
+            ≡ hash_in ⟦<R as HasWays<K, V, S>>⟧.ways self.old (Q.named_key key.now) }
         requires follows { ComesAfter at.now at.step self.old }
-        ensures { CallsPart hash at.now at.step
-            (NotesLookUp (answers_of R.weight_of R.created R.read R.updated R.covers) K.eq
+        ensures { CallsPart hash at.now at.step (NotesLookUp R.answers K.eq
             (Q.named_key key.now) hash at.now ignored) self.old self.new }
     {
         let At { now, step } = at;
@@ -105,13 +98,11 @@ impl<K: Eq + Hash, V, S: BuildHasher, R: Rules<K, V>, C> LentState<K, V, S, R, C
         K: Drop,
         V: Drop,
         requires hashed { hash
-            ≡ hash_in (ways_by R.Rules K.eq K.hash_input S.BuildHasher S.Hasher.Hasher) self.old
-            (Q.named_key name) }
+            ≡ hash_in ⟦<R as HasWays<K, V, S>>⟧.ways self.old (Q.named_key name) }
         requires becomes { Q.can_become name }
         requires follows { ComesAfter at.now at.step self.old }
         requires free { turn_of K.eq self.old.turns kind (Q.named_key name) ≡ None }
-        ensures leads { IfOk result
-            (Leads (ways_by R.Rules K.eq K.hash_input S.BuildHasher S.Hasher.Hasher) kind
+        ensures leads { IfOk result (Leads ⟦<R as HasWays<K, V, S>>⟧.ways kind
             (Q.named_key name) hash at ignored self.old self.new) }
         ensures err { OnErr result (self.new ≡ self.old) }
         ensures cause { IfErr result (IsTurnCause self.old.next_turn) }
@@ -142,12 +133,10 @@ impl<K: Eq + Hash, V, S: BuildHasher, R: Rules<K, V>, C> LentState<K, V, S, R, C
         K: Drop,
         V: Drop,
         requires hashed { hash
-            ≡ hash_in (ways_by R.Rules K.eq K.hash_input S.BuildHasher S.Hasher.Hasher) self.old
-            (Q.named_key name) }
+            ≡ hash_in ⟦<R as HasWays<K, V, S>>⟧.ways self.old (Q.named_key name) }
         requires becomes { Q.can_become name }
         requires follows { ComesAfter at.now at.step self.old }
-        ensures starts { IfOk result
-            (WaitsOrLeads (ways_by R.Rules K.eq K.hash_input S.BuildHasher S.Hasher.Hasher) kind
+        ensures starts { IfOk result (WaitsOrLeads ⟦<R as HasWays<K, V, S>>⟧.ways kind
             (Q.named_key name) hash at ignored self.old self.new) }
         ensures err { OnErr result (self.new ≡ self.old) }
         ensures cause { IfErr result (IsTurnCause self.old.next_turn) }
@@ -177,14 +166,12 @@ impl<K: Eq + Hash, V, S: BuildHasher, R: Rules<K, V>, C> LentState<K, V, S, R, C
         K: Drop,
         V: Clone + Drop,
         requires hashed { hash
-            ≡ hash_in (ways_by R.Rules K.eq K.hash_input S.BuildHasher S.Hasher.Hasher) self.old
-            (Q.named_key name) }
+            ≡ hash_in ⟦<R as HasWays<K, V, S>>⟧.ways self.old (Q.named_key name) }
         requires becomes { Q.can_become name }
         requires exact { (x y : V) → V.is_clone x y → y ≡ x }
         requires callable { P.IsAlwaysCallable replace_if }
         requires follows { ComesAfter at.now at.step self.old }
-        ensures begins { IfOk result
-            (BeginsIn (ways_by R.Rules K.eq K.hash_input S.BuildHasher S.Hasher.Hasher) kind
+        ensures begins { IfOk result (BeginsIn ⟦<R as HasWays<K, V, S>>⟧.ways kind
             (Q.named_key name) hash at (FnOnceReturnsAt P.FnOnce replace_if) self.old self.new) }
         ensures err { OnErr result (self.new ≡ self.old) }
         ensures cause { IfErr result (IsTurnCause self.old.next_turn) }
@@ -219,8 +206,7 @@ impl<K: Eq + Hash, V, S: BuildHasher, R: Rules<K, V>, C> LentState<K, V, S, R, C
     where
         K: Drop,
         requires hashed { hash
-            ≡ hash_in (ways_by R.Rules K.eq K.hash_input S.BuildHasher S.Hasher.Hasher) self.old
-            (Q.named_key name) }
+            ≡ hash_in ⟦<R as HasWays<K, V, S>>⟧.ways self.old (Q.named_key name) }
         requires becomes { Q.can_become name }
         requires follows { ComesAfter at.now at.step self.old }
         requires free { turn_of K.eq self.old.turns turns.Compute (Q.named_key name) ≡ None }
@@ -250,8 +236,7 @@ impl<K: Eq + Hash, V, S: BuildHasher, R: Rules<K, V>, C> LentState<K, V, S, R, C
     where
         K: Drop,
         requires hashed { hash
-            ≡ hash_in (ways_by R.Rules K.eq K.hash_input S.BuildHasher S.Hasher.Hasher) self.old
-            (Q.named_key name) }
+            ≡ hash_in ⟦<R as HasWays<K, V, S>>⟧.ways self.old (Q.named_key name) }
         requires becomes { Q.can_become name }
         requires follows { ComesAfter at.now at.step self.old }
         ensures begins { IfOk result (λ start. (start, self.new)
@@ -292,14 +277,12 @@ impl<K: Eq + Hash, V, S: BuildHasher, R: Rules<K, V>, C> LentState<K, V, S, R, C
         K: Drop,
         V: Clone + Drop,
         requires hashed { hash
-            ≡ hash_in (ways_by R.Rules K.eq K.hash_input S.BuildHasher S.Hasher.Hasher) self.old
-            (Q.named_key name) }
+            ≡ hash_in ⟦<R as HasWays<K, V, S>>⟧.ways self.old (Q.named_key name) }
         requires becomes { Q.can_become name }
         requires exact { (x y : V) → V.is_clone x y → y ≡ x }
         requires callable { P.IsAlwaysCallable replace_if }
         requires follows { ComesAfter at.now at.step self.old }
-        ensures begins { IfOk result
-            (BeginsBy (ways_by R.Rules K.eq K.hash_input S.BuildHasher S.Hasher.Hasher) kind
+        ensures begins { IfOk result (BeginsBy ⟦<R as HasWays<K, V, S>>⟧.ways kind
             (Q.named_key name) hash at (FnOnceReturnsAt P.FnOnce replace_if) self.old self.new) }
         ensures err { OnErr result (self.new ≡ self.old) }
         ensures cause { IfErr result (IsTurnCause self.old.next_turn) }
@@ -340,13 +323,12 @@ impl<K: Eq + Hash, V, S: BuildHasher, R: Rules<K, V>, C> LentState<K, V, S, R, C
         V: Drop,
         requires { ComesAfter at.now at.step self.old }
         ensures ends { OnOk result
-            (EndsTurnOf (ways_by R.Rules K.eq K.hash_input S.BuildHasher S.Hasher.Hasher) number
-            (op.Put value) at self.old self.new) }
+            (EndsTurnOf ⟦<R as HasWays<K, V, S>>⟧.ways number (op.Put value) at self.old self.new) }
         ensures known { OnOk result (is_some (turn_at self.old.turns number) ≡ true) }
         ensures err { OnErr result (self.new ≡ self.old) }
         ensures back { IfErr result (λ refused. refused.1 ≡ value) }
-        ensures cause { IfErr result (λ refused. IsFinishCause (ways_by R.Rules K.eq K.hash_input
-            S.BuildHasher S.Hasher.Hasher) number self.old refused.0) }
+        ensures cause { IfErr result
+            (λ refused. IsFinishCause ⟦<R as HasWays<K, V, S>>⟧.ways number self.old refused.0) }
     {
         let At { now, step } = at;
         let Some(turn) = self.turns.get(number) else {
@@ -388,13 +370,12 @@ impl<K: Eq + Hash, V, S: BuildHasher, R: Rules<K, V>, C> LentState<K, V, S, R, C
         V: Drop,
         requires { ComesAfter at.now at.step self.old }
         ensures ends { OnOk result
-            (FinishesBy (ways_by R.Rules K.eq K.hash_input S.BuildHasher S.Hasher.Hasher) number end
-            at self.old self.new) }
+            (FinishesBy ⟦<R as HasWays<K, V, S>>⟧.ways number end at self.old self.new) }
         ensures known { OnOk result (is_some (turn_at self.old.turns number) ≡ true) }
         ensures err { OnErr result (self.new ≡ self.old) }
         ensures back { IfErr result (λ refused. refused.1 ≡ end) }
-        ensures cause { IfErr result (λ refused. IsFinishCause (ways_by R.Rules K.eq K.hash_input
-            S.BuildHasher S.Hasher.Hasher) number self.old refused.0) }
+        ensures cause { IfErr result
+            (λ refused. IsFinishCause ⟦<R as HasWays<K, V, S>>⟧.ways number self.old refused.0) }
     {
         match end {
             Made::Value(value) => match self.finish_with_value(number, value, at) {

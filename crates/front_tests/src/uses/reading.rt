@@ -1,9 +1,9 @@
 //! Reading through a cache.
 ghost use Rattle.std.specs.Prelude.{◌≡◌, [], Some, None, Ok, IfOk, OnErr};
-ghost use Rattle.moka.specs.Calls.{visible_in, ways_by};
+ghost use Rattle.moka.specs.Calls.{visible_in};
 ghost use Rattle.moka.specs.Fronts.{ComesAfter};
 
-use moka::{At, CacheError, LentState, Rules};
+use moka::{At, CacheError, HasWays, LentState, Rules};
 use std::hash::{BuildHasher, Hash};
 use std::sync::Arc;
 
@@ -26,11 +26,10 @@ pub fn read_through<
     requires readable { M.IsAlwaysCallable read }
     requires follows { ComesAfter at.now at.step cache.old }
     requires alone { cache.old.turns ≡ [] }
-    ensures shown { IfOk result (λ r. (value : V) → visible_in (ways_by R.Rules K.eq K.hash_input
-        S.BuildHasher S.Hasher.Hasher) cache.old at.now key ≡ Some value → r ≡ Ok value) }
-    ensures read { IfOk result (λ r. (value : V)
-        → visible_in (ways_by R.Rules K.eq K.hash_input S.BuildHasher S.Hasher.Hasher) cache.old
-        at.now key ≡ None → r ≡ Ok value → M.post read (Ok value)) }
+    ensures shown { IfOk result (λ r. (value : V) → visible_in ⟦<R as HasWays<K, V, S>>⟧.ways
+        cache.old at.now key ≡ Some value → r ≡ Ok value) }
+    ensures read { IfOk result (λ r. (value : V) → visible_in ⟦<R as HasWays<K, V, S>>⟧.ways
+        cache.old at.now key ≡ None → r ≡ Ok value → M.post read (Ok value)) }
     ensures alone { cache.new.turns ≡ [] }
     ensures refused { OnErr result (cache.new ≡ cache.old) }
 {

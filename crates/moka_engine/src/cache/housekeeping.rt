@@ -1,5 +1,4 @@
 //! Maintenance that a housekeeper runs.
-ghost use Rattle.engine_reference.specs.Asking.{answers_of};
 ghost use Rattle.engine_reference.specs.Runs.{RunsToEnd};
 
 use crate::cache::BaseCache;
@@ -9,8 +8,7 @@ use std::hash::{BuildHasher, Hash};
 
 impl<K: Eq + Hash + Drop, V: Drop, S: BuildHasher, R: Rules<K, V>> InnerSync
     for BaseCache<K, V, S, R> {
-    ghost housekept = { λ now old new.
-        RunsToEnd (answers_of R.weight_of R.created R.read R.updated R.covers) now old new };
+    ghost housekept = { λ now old new. RunsToEnd R.answers now old new };
 
     fn run_pending_tasks(&mut self, now: Instant) {
         self.run_pending_tasks(now);

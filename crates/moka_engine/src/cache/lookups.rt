@@ -1,7 +1,5 @@
 //! Look-ups that are uses, and their second half.
 ghost use Rattle.std.specs.Prelude.{◌≡◌, ◌<◌, Option, false, IfOk, OnOk, OnErr};
-ghost use Rattle.engine_reference.specs.Asking.{answers_of};
-ghost use Rattle.engine_reference.specs.Rules.Hashing.{hash_of_key};
 ghost use Rattle.engine_reference.specs.Calls.{LooksUp};
 ghost use Rattle.engine_reference.specs.Scanning.{NotesLookUp};
 ghost use Rattle.engine_reference.specs.Visible.{visible_value};
@@ -11,10 +9,10 @@ use crate::cache::BaseCache;
 use crate::noting::note_read;
 use crate::showing::{show, value_in};
 use engine_calls::{clone_found, find, find_unless};
-use engine_reference::{Names, Rules};
+use engine_reference::{Hashes, Names, Rules};
 use policy_base::Instant;
 use std::alloc::AllocError;
-use std::hash::{BuildHasher, Hash, Hasher};
+use std::hash::{BuildHasher, Hash};
 
 impl<K: Eq + Hash, V, S: BuildHasher, R: Rules<K, V>> BaseCache<K, V, S, R> {
     /// The second half of a look-up, which is never refused: runs maintenance if it is due, and then notes the read of what was visible. If
@@ -23,9 +21,8 @@ impl<K: Eq + Hash, V, S: BuildHasher, R: Rules<K, V>> BaseCache<K, V, S, R> {
     where
         K: Drop,
         V: Drop,
-        requires hashed { hash ≡ hash_of_key S.Hasher.finish S.Hasher.write S.build_hasher
-            K.hash_input self.old.hasher (Q.named_key key.now) }
-        ensures { NotesLookUp (answers_of R.weight_of R.created R.read R.updated R.covers) K.eq
+        requires hashed { hash ≡ ⟦<S as Hashes<K>>⟧.hash self.old.hasher (Q.named_key key.now) }
+        ensures { NotesLookUp R.answers K.eq
             (Q.named_key key.now) hash now ignored self.old self.new }
     {
         let found = find_unless(&self.tables, key, hash, now.as_nanos(), ignored);
@@ -43,14 +40,12 @@ impl<K: Eq + Hash, V, S: BuildHasher, R: Rules<K, V>> BaseCache<K, V, S, R> {
     where
         K: Drop,
         V: Clone + Drop,
-        requires hashed { hash ≡ hash_of_key S.Hasher.finish S.Hasher.write S.build_hasher
-            K.hash_input self.old.hasher (Q.named_key key.now) }
+        requires hashed { hash ≡ ⟦<S as Hashes<K>>⟧.hash self.old.hasher (Q.named_key key.now) }
         requires exact { (x y : V) → V.is_clone x y → y ≡ x }
-        ensures found { IfOk result (λ found. found ≡ visible_value (answers_of R.weight_of
-            R.created R.read R.updated R.covers) K.eq self.old now (Q.named_key key.now)) }
+        ensures found { IfOk result
+            (λ found. found ≡ visible_value R.answers K.eq self.old now (Q.named_key key.now)) }
         ensures used { OnOk result
-            (LooksUp (answers_of R.weight_of R.created R.read R.updated R.covers) K.eq
-            (Q.named_key key.now) hash now self.old self.new) }
+            (LooksUp R.answers K.eq (Q.named_key key.now) hash now self.old self.new) }
         ensures err { OnErr result (self.new ≡ self.old) }
     {
         let found = find(&self.tables, key, hash, now.as_nanos());
@@ -70,15 +65,12 @@ impl<K: Eq + Hash, V, S: BuildHasher, R: Rules<K, V>> BaseCache<K, V, S, R> {
     where
         K: Drop,
         V: Drop,
-        requires hashed { hash ≡ hash_of_key S.Hasher.finish S.Hasher.write S.build_hasher
-            K.hash_input self.old.hasher (Q.named_key key.now) }
+        requires hashed { hash ≡ ⟦<S as Hashes<K>>⟧.hash self.old.hasher (Q.named_key key.now) }
         requires callable { F.IsAlwaysCallable see }
-        ensures shown { IsShown F.FnOnce see
-            (visible_value (answers_of R.weight_of R.created R.read R.updated R.covers) K.eq
-            self.old now (Q.named_key key.now)) output.old result output.new }
+        ensures shown { IsShown F.FnOnce see (visible_value R.answers K.eq self.old now
+            (Q.named_key key.now)) output.old result output.new }
         ensures used { OnOk result
-            (NotesLookUp (answers_of R.weight_of R.created R.read R.updated R.covers) K.eq
-            (Q.named_key key.now) hash now false self.old self.new) }
+            (NotesLookUp R.answers K.eq (Q.named_key key.now) hash now false self.old self.new) }
         ensures err { OnErr result (self.new ≡ self.old) }
     {
         let found = find(&self.tables, key, hash, now.as_nanos());

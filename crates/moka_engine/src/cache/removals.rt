@@ -4,12 +4,11 @@ ghost use Rattle.std.specs.Result.{IsErrOf};
 ghost use Rattle.engine_reference.specs.Calls.{removal_rooms, removed_by, with_removal_room, with_reserved_removal};
 ghost use Rattle.engine_reference.specs.Records.{held_at};
 ghost use Rattle.engine_reference.specs.declared.data.Record.{Record};
-ghost use Rattle.engine_reference.specs.Rules.Hashing.{hash_of_key};
 
 use crate::cache::BaseCache;
 use engine_calls::{prepare_removal, remove_reserved};
-use engine_reference::{Entry, Names, Refusal, Rules};
-use std::hash::{BuildHasher, Hash, Hasher};
+use engine_reference::{Entry, Hashes, Names, Refusal, Rules};
+use std::hash::{BuildHasher, Hash};
 
 impl<K: Eq + Hash, V, S: BuildHasher, R: Rules<K, V>> BaseCache<K, V, S, R> {
     /// Removes a key, whether its deadline has come or not, and returns its entry and the ticket of the removal.
@@ -23,8 +22,7 @@ impl<K: Eq + Hash, V, S: BuildHasher, R: Rules<K, V>> BaseCache<K, V, S, R> {
     where
         K: Clone + Drop,
         V: Clone + Drop,
-        requires hashed { hash ≡ hash_of_key S.Hasher.finish S.Hasher.write S.build_hasher
-            K.hash_input self.old.hasher (Q.named_key key.now) }
+        requires hashed { hash ≡ ⟦<S as Hashes<K>>⟧.hash self.old.hasher (Q.named_key key.now) }
         requires exact_key { (x y : K) → K.is_clone x y → y ≡ x }
         requires exact { (x y : V) → V.is_clone x y → y ≡ x }
         ensures removed { OnOk result (self.new ≡ removed_by K.eq (Q.named_key key.now) self.old) }
@@ -53,8 +51,7 @@ impl<K: Eq + Hash, V, S: BuildHasher, R: Rules<K, V>> BaseCache<K, V, S, R> {
     where
         K: Clone + Drop,
         V: Clone + Drop,
-        requires hashed { hash ≡ hash_of_key S.Hasher.finish S.Hasher.write S.build_hasher
-            K.hash_input self.old.hasher (Q.named_key key.now) }
+        requires hashed { hash ≡ ⟦<S as Hashes<K>>⟧.hash self.old.hasher (Q.named_key key.now) }
         requires exact_key { (x y : K) → K.is_clone x y → y ≡ x }
         requires exact { (x y : V) → V.is_clone x y → y ≡ x }
         ensures ok { OnOk result (self.new
@@ -83,8 +80,7 @@ impl<K: Eq + Hash, V, S: BuildHasher, R: Rules<K, V>> BaseCache<K, V, S, R> {
     where
         K: Drop,
         V: Drop,
-        requires hashed { hash ≡ hash_of_key S.Hasher.finish S.Hasher.write S.build_hasher
-            K.hash_input self.old.hasher (Q.named_key key.now) }
+        requires hashed { hash ≡ ⟦<S as Hashes<K>>⟧.hash self.old.hasher (Q.named_key key.now) }
         requires room { removal_rooms self.old.settings ≤ self.old.reserved }
         requires parts { (r : Record K V) → held_at K.eq self.old.records (Q.named_key key.now)
             ≡ Some r → (parts.0 ≡ r.entry.key) × (parts.1 ≡ r.entry.value) }

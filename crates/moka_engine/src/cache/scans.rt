@@ -1,8 +1,6 @@
 //! What a cache holds, and a look-up that passes over values.
 ghost use Rattle.std.specs.Prelude.{◌≡◌, ◌<◌, ℕ, length, Some, None, IfOk, OnErr, MatchOption, option_map};
 ghost use Rattle.std.specs.Fn.{FnOnceReturnsAt};
-ghost use Rattle.engine_reference.specs.Rules.Hashing.{hash_of_key};
-ghost use Rattle.engine_reference.specs.Asking.{answers_of};
 ghost use Rattle.engine_reference.specs.Records.{held_at};
 ghost use Rattle.engine_reference.specs.Visible.{visible_value};
 ghost use Rattle.engine_reference.specs.Scanning.{held_keys, visible_keys, LooksUpPast};
@@ -10,10 +8,10 @@ ghost use Rattle.engine_reference.specs.Scanning.{held_keys, visible_keys, Looks
 use crate::cache::BaseCache;
 use crate::noting::note_read;
 use engine_calls::{clone_found, clone_key, clone_value, find, held, look_up, pass_over};
-use engine_reference::{Names, Rules};
+use engine_reference::{Hashes, Names, Rules};
 use policy_base::Instant;
 use std::alloc::AllocError;
-use std::hash::{BuildHasher, Hash, Hasher};
+use std::hash::{BuildHasher, Hash};
 
 impl<K: Eq + Hash, V, S: BuildHasher, R: Rules<K, V>> BaseCache<K, V, S, R> {
     /// Returns the number of segments that `keys` has: one.
@@ -41,8 +39,7 @@ impl<K: Eq + Hash, V, S: BuildHasher, R: Rules<K, V>> BaseCache<K, V, S, R> {
 
     /// Returns how many keys have a visible value. This does not count as a use of any; it allocates nothing, and looks at every record.
     pub fn count_visible(&self, now: Instant) -> usize
-        ensures { result ≡ length (visible_keys
-            (answers_of R.weight_of R.created R.read R.updated R.covers) K.eq self.now now) }
+        ensures { result ≡ length (visible_keys R.answers K.eq self.now now) }
     {
         self.tables.count_visible(now.as_nanos())
     }
@@ -52,8 +49,7 @@ impl<K: Eq + Hash, V, S: BuildHasher, R: Rules<K, V>> BaseCache<K, V, S, R> {
     where
         V: Clone,
         requires exact { (x y : V) → V.is_clone x y → y ≡ x }
-        ensures { IfOk result (λ found. found ≡ visible_value (answers_of R.weight_of R.created
-            R.read R.updated R.covers) K.eq self.now now key.now) }
+        ensures { IfOk result (λ found. found ≡ visible_value R.answers K.eq self.now now key.now) }
     {
         let hash = self.hash(key);
         self.get_with_hash_without_recording(key, hash, now)
@@ -61,11 +57,9 @@ impl<K: Eq + Hash, V, S: BuildHasher, R: Rules<K, V>> BaseCache<K, V, S, R> {
 
     /// Returns the visible value of a key, without a clone. This does not count as a use of it.
     pub fn peek<Q: Names<K>>(&self, key: &Q, hash: u64, now: Instant) -> Option<&V>
-        requires hashed { hash ≡ hash_of_key S.Hasher.finish S.Hasher.write S.build_hasher
-            K.hash_input self.now.hasher (Q.named_key key.now) }
+        requires hashed { hash ≡ ⟦<S as Hashes<K>>⟧.hash self.now.hasher (Q.named_key key.now) }
         ensures { option_map (λ value. value.now) result
-            ≡ visible_value (answers_of R.weight_of R.created R.read R.updated R.covers) K.eq
-            self.now now (Q.named_key key.now) }
+            ≡ visible_value R.answers K.eq self.now now (Q.named_key key.now) }
     {
         match look_up(&self.tables, key, hash, now.as_nanos()) {
             Some(found) => Some(&found.entry.value),
@@ -81,8 +75,7 @@ impl<K: Eq + Hash, V, S: BuildHasher, R: Rules<K, V>> BaseCache<K, V, S, R> {
     ) -> Result<Option<V>, AllocError>
     where
         V: Clone,
-        requires hashed { hash ≡ hash_of_key S.Hasher.finish S.Hasher.write S.build_hasher
-            K.hash_input self.now.hasher (Q.named_key key.now) }
+        requires hashed { hash ≡ ⟦<S as Hashes<K>>⟧.hash self.now.hasher (Q.named_key key.now) }
         requires exact { (x y : V) → V.is_clone x y → y ≡ x }
         ensures { IfOk result (λ found. found ≡ option_map (λ r. r.entry.value)
             (held_at K.eq self.now.records (Q.named_key key.now))) }
@@ -98,8 +91,7 @@ impl<K: Eq + Hash, V, S: BuildHasher, R: Rules<K, V>> BaseCache<K, V, S, R> {
     ) -> Result<Option<K>, AllocError>
     where
         K: Clone + Drop,
-        requires hashed { hash ≡ hash_of_key S.Hasher.finish S.Hasher.write S.build_hasher
-            K.hash_input self.now.hasher (Q.named_key key.now) }
+        requires hashed { hash ≡ ⟦<S as Hashes<K>>⟧.hash self.now.hasher (Q.named_key key.now) }
         requires exact_key { (x y : K) → K.is_clone x y → y ≡ x }
         ensures { IfOk result (λ found. found
             ≡ option_map (λ r. r.entry.key) (held_at K.eq self.now.records (Q.named_key key.now))) }
@@ -119,13 +111,11 @@ impl<K: Eq + Hash, V, S: BuildHasher, R: Rules<K, V>> BaseCache<K, V, S, R> {
     where
         K: Drop,
         V: Clone + Drop,
-        requires hashed { hash ≡ hash_of_key S.Hasher.finish S.Hasher.write S.build_hasher
-            K.hash_input self.old.hasher (Q.named_key key.now) }
+        requires hashed { hash ≡ ⟦<S as Hashes<K>>⟧.hash self.old.hasher (Q.named_key key.now) }
         requires exact { (x y : V) → V.is_clone x y → y ≡ x }
         requires callable { F.IsAlwaysCallable ignore_if }
-        ensures found { IfOk result
-            (LooksUpPast (answers_of R.weight_of R.created R.read R.updated R.covers) K.eq
-            (Q.named_key key.now) hash now (FnOnceReturnsAt F.FnOnce ignore_if) self.old self.new) }
+        ensures found { IfOk result (LooksUpPast R.answers K.eq (Q.named_key key.now) hash now
+            (FnOnceReturnsAt F.FnOnce ignore_if) self.old self.new) }
         ensures err { OnErr result (self.new ≡ self.old) }
     {
         let seen = find(&self.tables, key, hash, now.as_nanos());

@@ -1,10 +1,9 @@
 //! The settings and the name of a cache, and the hash of a key.
 ghost use Rattle.std.specs.Prelude.{◌≡◌, ◌↔◌, IsTrue, Some, option_map};
-ghost use Rattle.engine_reference.specs.Rules.Hashing.{hash_of_key};
 
 use crate::cache::BaseCache;
-use engine_reference::Rules;
-use std::hash::{BuildHasher, Hash, Hasher};
+use engine_reference::{Hashes, Rules};
+use std::hash::{BuildHasher, Hash};
 
 impl<K: Eq + Hash, V, S: BuildHasher, R: Rules<K, V>> BaseCache<K, V, S, R> {
     /// Returns whether the cache stores nothing, because its capacity is 0. Its owner should not write then.
@@ -23,11 +22,8 @@ impl<K: Eq + Hash, V, S: BuildHasher, R: Rules<K, V>> BaseCache<K, V, S, R> {
 
     /// Returns the hash of a key by the cache's hasher.
     pub fn hash(&self, key: &K) -> u64
-        ensures { result ≡ hash_of_key S.Hasher.finish S.Hasher.write S.build_hasher K.hash_input
-            self.now.hasher key.now }
+        ensures { result ≡ ⟦<S as Hashes<K>>⟧.hash self.now.hasher key.now }
     {
-        let mut state = self.tables.hasher().build_hasher();
-        key.hash(&mut state);
-        state.finish()
+        self.tables.hasher().hash_key(key)
     }
 }

@@ -1,12 +1,11 @@
 use Rattle.std.proofs.Common.{sym, ◌∙◌, true}
-use Rattle.engine_reference.specs.Asking.{answers_of}
 use Rattle.engine_reference.specs.Visible.{visible_record}
 use Rattle.engine_calls.proofs.Finding.{found-in, visible-as}
 use Rattle.engine_calls.proofs.looks.find.Goals as goal
 
 pub returns-then-is_seen_at : goal.returns-then-is_seen_at
 returns-then-is_seen_at g c =
-    let a = (answers_of g.R.Rules.weight_of g.R.Rules.created g.R.Rules.read g.R.Rules.updated g.R.Rules.covers) in
+    let a = g.R.Rules.answers in
     let key = g.Q.Names.named_key c.args.key.now in
     let t = c.args.tables.now in
     let f = c.in-Some.ensures.found in

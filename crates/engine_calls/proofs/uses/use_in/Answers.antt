@@ -1,6 +1,5 @@
 use Rattle.std.proofs.Common.{ap, ◌∙◌, refl}
 use Rattle.engine_cells.specs.Kept.{Kept, kept_at}
-use Rattle.engine_reference.specs.Asking.{answers_of}
 use Rattle.engine_calls.proofs.Finding.{kept-changed}
 use Rattle.engine_calls.proofs.Writing.{used-as, used-in}
 use Rattle.engine_calls.proofs.uses.use_in.Goals as goal
@@ -17,5 +16,5 @@ push_hit-requires-clause-there g c =
 
 pub returns : goal.returns
 returns g c = λ r there.
-    used-in (answers_of g.R.Rules.weight_of g.R.Rules.created g.R.Rules.read g.R.Rules.updated g.R.Rules.covers) c.args.tables.now c.use_at-number.new.self c.push_hit.new.self c.args.place c.args.hash c.args.now c.as_nanos.result c.expires_after_use-expires.result r there
+    used-in g.R.Rules.answers c.args.tables.now c.use_at-number.new.self c.push_hit.new.self c.args.place c.args.hash c.args.now c.as_nanos.result c.expires_after_use-expires.result r there
     c.as_nanos.ensures.nanos (c.expires_after_use-expires.ensures r there) c.use_at-number.ensures.changes c.push_hit.ensures

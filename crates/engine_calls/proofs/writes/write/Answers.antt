@@ -1,12 +1,11 @@
 use Rattle.std.proofs.Common.{ap, ◌∙◌}
-use Rattle.engine_reference.specs.Asking.{answers_of}
 use Rattle.engine_reference.specs.Calls.{written}
 use Rattle.engine_calls.specs.Sending.{sent_if}
 use Rattle.engine_calls.proofs.writes.write.Goals as goal
 
 pub returns-in-Some : goal.returns-in-Some
 returns-in-Some g c =
-    let a = (answers_of g.R.Rules.weight_of g.R.Rules.created g.R.Rules.read g.R.Rules.updated g.R.Rules.covers) in
+    let a = g.R.Rules.answers in
     let s = c.args.tables.now.state in
     let f = c.in-Some.ensures.found in
     c.write_over.ensures f.0 f.1

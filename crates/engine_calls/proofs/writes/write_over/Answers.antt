@@ -1,7 +1,6 @@
 use Rattle.std.proofs.Common.{◌≡◌, true, Some, ap, sym, ◌∙◌, arith}
 use Rattle.std.proofs.lemmas.Bool.{and_parts}
 use Rattle.std.proofs.lemmas.Option.{same_Some}
-use Rattle.engine_reference.specs.Asking.{answers_of}
 use Rattle.engine_reference.specs.Calls.{with_written}
 use Rattle.engine_reference.specs.Visible.{cause_of_write}
 use Rattle.engine_reference.specs.declared.data.Record.{Record}
@@ -32,7 +31,7 @@ write_over-requires-clause-fits g c = λ r there.
 
 pub returns : goal.returns
 returns g c = λ r there.
-    let a = (answers_of g.R.Rules.weight_of g.R.Rules.created g.R.Rules.read g.R.Rules.updated g.R.Rules.covers) in
+    let a = g.R.Rules.answers in
     let s = c.args.tables.now.state in
     let h = c.requires.held in
     let l = c.write_over.ensures in

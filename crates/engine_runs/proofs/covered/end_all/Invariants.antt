@@ -7,9 +7,9 @@ use Rattle.engine_runs.proofs.covered.end_all.Given as goal
 
 abbrev pub invariant-loop-tables : goal.invariant-loop-tables
 invariant-loop-tables g l = record {
-  stretch : (answers : Answers g.row.K.Denot g.row.V.Denot g.row.R-Predicate.Denot g.row.R.Denot) → answers.covers ≡ g.R.Rules.covers → Stretch answers l.now l.fn.tables.state l.tables.state;
+  stretch : (answers : Answers g.row.K.Denot g.row.V.Denot g.row.R-Predicate.Denot g.row.R.Denot) → answers.covers ≡ g.R.Rules.answers.covers → Stretch answers l.now l.fn.tables.state l.tables.state;
   applied : IsApplied l.tables.state;
-  none : (answers : Answers g.row.K.Denot g.row.V.Denot g.row.R-Predicate.Denot g.row.R.Denot) → answers.covers ≡ g.R.Rules.covers → CoverNone answers l.tables.state;
+  none : (answers : Answers g.row.K.Denot g.row.V.Denot g.row.R-Predicate.Denot g.row.R.Denot) → answers.covers ≡ g.R.Rules.answers.covers → CoverNone answers l.tables.state;
   table : lacks_table l.tables.state ≡ lacks_table l.fn.tables.state;
 }
 

@@ -14,7 +14,7 @@ use Rattle.engine_runs.proofs.covered.leave_covered.Goals as goal
 
 pub leave-requires : goal.leave-requires
 leave-requires g c =
-    let a : Answers g.row.K.Denot g.row.V.Denot g.row.R-Predicate.Denot g.row.R.Denot = record { weight_of = g.R.Rules.weight_of; created = g.R.Rules.created; found = g.R.Rules.read; updated = g.R.Rules.updated; covers = g.R.Rules.covers } in
+    let a : Answers g.row.K.Denot g.row.V.Denot g.row.R-Predicate.Denot g.row.R.Denot = g.R.Rules.answers in
     covered-there a c.args.tables.now.state (kept_at c.args.tables.now c.args.place) (sym (c.is_covered_at.ensures a refl) ∙ c.if-is_covered_at.true)
 
 pub returns-then-is_covered_at-clause-stretch : goal.returns-then-is_covered_at-clause-stretch

@@ -8,9 +8,9 @@ use Rattle.engine_runs.proofs.covered.scan.Given as goal
 
 abbrev pub invariant-loop-place : goal.invariant-loop-place
 invariant-loop-place g l = record {
-  stretch : (answers : Answers g.row.K.Denot g.row.V.Denot g.row.R-Predicate.Denot g.row.R.Denot) → answers.covers ≡ g.R.Rules.covers → Stretch answers l.now l.fn.tables.state l.tables.state;
+  stretch : (answers : Answers g.row.K.Denot g.row.V.Denot g.row.R-Predicate.Denot g.row.R.Denot) → answers.covers ≡ g.R.Rules.answers.covers → Stretch answers l.now l.fn.tables.state l.tables.state;
   applied : IsApplied l.tables.state;
   rest : KeepsRest l.fn.tables.state l.tables.state;
-  scanned : (answers : Answers g.row.K.Denot g.row.V.Denot g.row.R-Predicate.Denot g.row.R.Denot) → answers.covers ≡ g.R.Rules.covers → IsScanned answers l.place l.tables;
+  scanned : (answers : Answers g.row.K.Denot g.row.V.Denot g.row.R-Predicate.Denot g.row.R.Denot) → answers.covers ≡ g.R.Rules.answers.covers → IsScanned answers l.place l.tables;
   places : length l.tables.numbers ≡ length l.fn.tables.numbers;
 }

@@ -8,13 +8,13 @@ use Rattle.engine_runs.proofs.running.try_run.Goals as goal
 
 pub end_predicates-requires-clause-sound : goal.end_predicates-requires-clause-sound
 end_predicates-requires-clause-sound g c =
-    let a : Answers g.row.K.Denot g.row.V.Denot g.row.R-Predicate.Denot g.row.R.Denot = record { weight_of = g.R.Rules.weight_of; created = g.R.Rules.created; found = g.R.Rules.read; updated = g.R.Rules.updated; covers = g.R.Rules.covers } in
+    let a : Answers g.row.K.Denot g.row.V.Denot g.row.R-Predicate.Denot g.row.R.Denot = g.R.Rules.answers in
     let s = c.args.tables.now.state in
     stretch-sound a c.args.now s _ (stretch-join a c.args.now s _ _ (stretch-join a c.args.now s _ _ (stretch-join a c.args.now s _ _ (stretch-same a c.args.now s _ (ap (λ t. t.state) c.mend_timers.ensures)) (c.apply_reads.ensures.stretch a c.args.now)) (c.apply_writes.ensures.stretch a c.args.now)) (c.grow-grown.ensures.stretch a)) c.requires
 
 pub settle-requires-clause-sound : goal.settle-requires-clause-sound
 settle-requires-clause-sound g c =
-    let a : Answers g.row.K.Denot g.row.V.Denot g.row.R-Predicate.Denot g.row.R.Denot = record { weight_of = g.R.Rules.weight_of; created = g.R.Rules.created; found = g.R.Rules.read; updated = g.R.Rules.updated; covers = g.R.Rules.covers } in
+    let a : Answers g.row.K.Denot g.row.V.Denot g.row.R-Predicate.Denot g.row.R.Denot = g.R.Rules.answers in
     let s = c.args.tables.now.state in
     stretch-sound a c.args.now s _ (stretch-join a c.args.now s _ _ (stretch-join a c.args.now s _ _ (stretch-join a c.args.now s _ _ (stretch-join a c.args.now s _ _ (stretch-same a c.args.now s _ (ap (λ t. t.state) c.mend_timers.ensures)) (c.apply_reads.ensures.stretch a c.args.now)) (c.apply_writes.ensures.stretch a c.args.now)) (c.grow-grown.ensures.stretch a)) (c.end_predicates.ensures.stretch a refl)) c.requires
 
@@ -33,7 +33,7 @@ returns-clause-counts g c = λ answers covers. run-counts answers c.args.now c.a
 
 pub returns-clause-due : goal.returns-clause-due
 returns-clause-due g c = λ moment step timely less range.
-    let a : Answers g.row.K.Denot g.row.V.Denot g.row.R-Predicate.Denot g.row.R.Denot = record { weight_of = g.R.Rules.weight_of; created = g.R.Rules.created; found = g.R.Rules.read; updated = g.R.Rules.updated; covers = g.R.Rules.covers } in
+    let a : Answers g.row.K.Denot g.row.V.Denot g.row.R-Predicate.Denot g.row.R.Denot = g.R.Rules.answers in
     uncut_runs_leave_none_due _ _ _ _ _ a moment step c.args.now c.args.tables.now.state _ timely less range (returns-clause-runs g c a refl)
 
 pub returns-clause-made : goal.returns-clause-made
@@ -44,6 +44,6 @@ returns-clause-refused g c = err-then c.grow-grown.result (λ failed. c.settle.e
 
 pub returns-clause-sound : goal.returns-clause-sound
 returns-clause-sound g c =
-    let a : Answers g.row.K.Denot g.row.V.Denot g.row.R-Predicate.Denot g.row.R.Denot = record { weight_of = g.R.Rules.weight_of; created = g.R.Rules.created; found = g.R.Rules.read; updated = g.R.Rules.updated; covers = g.R.Rules.covers } in
+    let a : Answers g.row.K.Denot g.row.V.Denot g.row.R-Predicate.Denot g.row.R.Denot = g.R.Rules.answers in
     let h = (returns-clause-runs g c a refl).runs in
     ∥∥₁_map c.requires (λ k. run-sound a c.args.now c.args.tables.now.state _ k h)

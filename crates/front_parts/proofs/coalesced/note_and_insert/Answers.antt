@@ -1,7 +1,6 @@
 use Rattle.std.proofs.Common.{subst, sym, ap, ◌∙◌, arith}
 use Rattle.engine_reference.specs.Scanning.{NotesLookUp}
 use Rattle.engine_reference.specs.Rules.Hashing.{hash_of_key}
-use Rattle.engine_reference.specs.Asking.{answers_of}
 use Rattle.front_parts.proofs.Looked.{as_asked, insert-roomy, inserted-acts, roomy-hasher}
 use Rattle.front_parts.proofs.coalesced.note_and_insert.Goals as goal
 
@@ -12,7 +11,7 @@ note_look_up-requires g c = record {
 
 pub insert_reserved-requires : goal.insert_reserved-requires
 insert_reserved-requires g c =
-    let a = answers_of g.R.Rules.weight_of g.R.Rules.created g.R.Rules.read g.R.Rules.updated g.R.Rules.covers in
+    let a = g.R.Rules.answers in
     let looks = subst (λ x. NotesLookUp a g.K.PartialEq.eq c.args.key c.args.hash c.args.at.now c.args.ignored x c.note_look_up.new.self) c.in_ok-reserve_insert.ensures.ok c.note_look_up.ensures in
     let k = as_asked a g.K.PartialEq.eq c.args.key c.args.hash c.args.value c.args.at.now c.args.at.step c.args.ignored c.args.part.now c.note_look_up.new.self c.note_look_up.new.self looks in
     record {
@@ -23,6 +22,6 @@ insert_reserved-requires g c =
 
 pub returns-clause-acts : goal.returns-clause-acts
 returns-clause-acts g c =
-    let a = answers_of g.R.Rules.weight_of g.R.Rules.created g.R.Rules.read g.R.Rules.updated g.R.Rules.covers in
+    let a = g.R.Rules.answers in
     let looks = subst (λ x. NotesLookUp a g.K.PartialEq.eq c.args.key c.args.hash c.args.at.now c.args.ignored x c.note_look_up.new.self) c.in_ok-reserve_insert.ensures.ok c.note_look_up.ensures in
     inserted-acts a g.K.PartialEq.eq c.args.key c.args.hash c.args.value c.args.at.now c.args.at.step c.args.ignored c.args.part.now c.note_look_up.new.self c.insert_reserved.new.part looks c.insert_reserved.ensures

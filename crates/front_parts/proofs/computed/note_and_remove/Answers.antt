@@ -1,6 +1,5 @@
 use Rattle.std.proofs.Common.{ap, sym, ◌∙◌, arith}
 use Rattle.engine_reference.specs.Rules.Hashing.{hash_of_key}
-use Rattle.engine_reference.specs.Asking.{answers_of}
 use Rattle.engine_reference.specs.Records.{held_at}
 use Rattle.front_parts.proofs.HeldAfter.{finds, removes-some, removes-none, removal_room-hasher}
 use Rattle.front_parts.proofs.computed.note_and_remove.Goals as goal
@@ -13,7 +12,7 @@ note_look_up-requires g c = record {
 
 pub take_out-requires : goal.take_out-requires
 take_out-requires g c =
-    let a = answers_of g.R.Rules.weight_of g.R.Rules.created g.R.Rules.read g.R.Rules.updated g.R.Rules.covers in
+    let a = g.R.Rules.answers in
     let key = g.Q.Names.named_key c.args.key.now in
     let f = finds a g.K.PartialEq.eq g.met.K.Eq.laws key c.args.hash c.args.at.now c.args.at.step c.args.part.now c.prepare.new.part c.note_look_up.new.self c.requires.apart
     c.in-Some.parts c.in_ok-shown.shown c.in_ok-prepared.ensures.ok (sym c.in-Some.is ∙ c.in_ok-prepared.ensures.parts) c.in_ok-shown.ensures c.note_look_up.ensures in
@@ -27,7 +26,7 @@ take_out-requires g c =
 
 pub returns-in-Some-clause-removes : goal.returns-in-Some-clause-removes
 returns-in-Some-clause-removes g c =
-    let a = answers_of g.R.Rules.weight_of g.R.Rules.created g.R.Rules.read g.R.Rules.updated g.R.Rules.covers in
+    let a = g.R.Rules.answers in
     let key = g.Q.Names.named_key c.args.key.now in
     let f = finds a g.K.PartialEq.eq g.met.K.Eq.laws key c.args.hash c.args.at.now c.args.at.step c.args.part.now c.prepare.new.part c.note_look_up.new.self c.requires.apart
     c.in-Some.parts c.in_ok-shown.shown c.in_ok-prepared.ensures.ok (sym c.in-Some.is ∙ c.in_ok-prepared.ensures.parts) c.in_ok-shown.ensures c.note_look_up.ensures in
@@ -36,7 +35,7 @@ returns-in-Some-clause-removes g c =
 
 pub returns-in-None-clause-removes : goal.returns-in-None-clause-removes
 returns-in-None-clause-removes g c =
-    let a = answers_of g.R.Rules.weight_of g.R.Rules.created g.R.Rules.read g.R.Rules.updated g.R.Rules.covers in
+    let a = g.R.Rules.answers in
     let key = g.Q.Names.named_key c.args.key.now in
     removes-none a g.K.PartialEq.eq g.met.K.Eq.laws key c.args.hash c.args.at.now c.args.at.step c.args.part.now c.prepare.new.part c.note_look_up.new.self c.requires.apart
     c.in_ok-prepared.ensures.ok (sym c.in-None.is ∙ c.in_ok-prepared.ensures.parts) c.note_look_up.ensures

@@ -1,7 +1,6 @@
 use Rattle.std.proofs.Common.{◌≡◌, refl, ap, sym, ◌∙◌, subst, Some}
 use Rattle.std.proofs.lemmas.Option.{same_Some}
 use Rattle.engine_calls.proofs.Finding.{kept-number}
-use Rattle.engine_reference.specs.Asking.{answers_of}
 use Rattle.engine_reference.specs.Records.{record_at}
 use Rattle.engine_reference.specs.Runs.{RunsToEnd}
 use Rattle.engine_reference.specs.declared.data.Record.{Record}
@@ -13,21 +12,21 @@ pub run-requires : goal.run-requires
 run-requires g c = c.requires.kept.sound
 
 pub use_found-requires-clause-room : goal.use_found-requires-clause-room
-use_found-requires-clause-room g c = let a = (answers_of g.R.Rules.weight_of g.R.Rules.created g.R.Rules.read g.R.Rules.updated g.R.Rules.covers) in run-room a c.as_nanos.result _ _ (c.run.ensures.runs a refl)
+use_found-requires-clause-room g c = let a = g.R.Rules.answers in run-room a c.as_nanos.result _ _ (c.run.ensures.runs a refl)
 
 pub use_found-requires-clause-bounded : goal.use_found-requires-clause-bounded
-use_found-requires-clause-bounded g c = let a = (answers_of g.R.Rules.weight_of g.R.Rules.created g.R.Rules.read g.R.Rules.updated g.R.Rules.covers) in (well-run a c.as_nanos.result _ _ c.requires.kept (c.run.ensures.runs a refl)).bounded
+use_found-requires-clause-bounded g c = let a = g.R.Rules.answers in (well-run a c.as_nanos.result _ _ c.requires.kept (c.run.ensures.runs a refl)).bounded
 
 pub use_found-requires-clause-made : goal.use_found-requires-clause-made
 use_found-requires-clause-made g c =
-    let a = (answers_of g.R.Rules.weight_of g.R.Rules.created g.R.Rules.read g.R.Rules.updated g.R.Rules.covers) in
+    let a = g.R.Rules.answers in
     let f = c.requires.found.1 in
     let r = c.record_in.result.now in
     run-made a c.as_nanos.result _ _ (c.run.ensures.runs a refl) c.requires.kept r.number r (kept-number c.args.tables.now c.args.place r c.record_in.ensures)
 
 pub use_found-requires-clause-held : goal.use_found-requires-clause-held
 use_found-requires-clause-held g c =
-    let a = (answers_of g.R.Rules.weight_of g.R.Rules.created g.R.Rules.read g.R.Rules.updated g.R.Rules.covers) in
+    let a = g.R.Rules.answers in
     let f = c.requires.found.1 in
     let r = c.record_in.result.now in
     let same : f.found ≡ r = same_Some _ _ (sym f.there ∙ c.record_in.ensures) in
@@ -36,7 +35,7 @@ use_found-requires-clause-held g c =
 
 pub returns : goal.returns
 returns g c = λ o f.
-    let a = (answers_of g.R.Rules.weight_of g.R.Rules.created g.R.Rules.read g.R.Rules.updated g.R.Rules.covers) in
+    let a = g.R.Rules.answers in
     let old = c.args.tables.now.state in
     let r = c.record_in.result.now in
     let same : f.found ≡ r = same_Some _ _ (sym f.there ∙ c.record_in.ensures) in

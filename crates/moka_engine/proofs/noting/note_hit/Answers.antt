@@ -1,5 +1,4 @@
 use Rattle.std.proofs.Common.{◌≡◌, ap, sym, ◌∙◌, is_some, true, false}
-use Rattle.engine_reference.specs.Asking.{answers_of}
 use Rattle.engine_reference.specs.Runs.{is_due}
 use Rattle.moka_engine.proofs.Afterwards.{room-unless-due, noted-at_once}
 use Rattle.moka_engine.proofs.noting.note_hit.Goals as goal
@@ -18,5 +17,5 @@ use_in-requires-clause-there g c = let f = c.requires.found.1 in ap (λ o. is_so
 
 pub returns-else-is_due : goal.returns-else-is_due
 returns-else-is_due g c = λ o f.
-    noted-at_once (answers_of g.R.Rules.weight_of g.R.Rules.created g.R.Rules.read g.R.Rules.updated g.R.Rules.covers) c.args.hash c.args.now c.args.tables.now.state c.use_in.new.tables.state f.found o
+    noted-at_once g.R.Rules.answers c.args.hash c.args.now c.args.tables.now.state c.use_in.new.tables.state f.found o
     (ap (λ n. is_due c.args.tables.now.state n) (sym c.as_nanos.ensures.nanos) ∙ sym c.is_due.ensures ∙ c.if-is_due.false) f.is (c.use_in.ensures f.found f.there)

@@ -1,6 +1,5 @@
 use Rattle.std.proofs.Common.{◌≡◌, refl, ap, subst}
 use Rattle.engine_calls.specs.Finding.{WasFound}
-use Rattle.engine_reference.specs.Asking.{answers_of}
 use Rattle.engine_reference.specs.Calls.{MaintainsIfDue}
 use Rattle.moka_engine.proofs.Afterwards.{noted-none}
 use Rattle.moka_engine.proofs.noting.note_read.Goals as goal
@@ -18,7 +17,7 @@ run_if_due-requires g c = c.requires.kept.sound
 
 pub returns-in-None : goal.returns-in-None
 returns-in-None g c = λ o w.
-    let a = (answers_of g.R.Rules.weight_of g.R.Rules.created g.R.Rules.read g.R.Rules.updated g.R.Rules.covers) in
+    let a = g.R.Rules.answers in
     let old = c.args.tables.now.state in
     noted-none a c.args.hash c.args.now old c.run_if_due.new.tables.state c.push_miss.new.self.state o (subst (λ p. WasFound c.args.tables.now c.args.hash p o) c.in-None.is w)
     (subst (λ n. MaintainsIfDue a n old c.run_if_due.new.tables.state) c.as_nanos.ensures.nanos (c.run_if_due.ensures.due a refl)) (ap (λ t. t.state) c.push_miss.ensures)

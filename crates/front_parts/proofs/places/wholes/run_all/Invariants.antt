@@ -1,11 +1,10 @@
 use Rattle.std.proofs.Common.{◌≡◌, length}
-use Rattle.engine_reference.specs.Asking.{answers_of}
 use Rattle.front_reference.specs.Wholes.{RunsPart}
 use Rattle.front_parts.proofs.places.Eaches.{SoFar}
 use Rattle.front_parts.proofs.places.wholes.run_all.Given as goal
 
 abbrev pub invariant-loop-place : goal.invariant-loop-place
 invariant-loop-place g l = record {
-  far : SoFar (RunsPart (answers_of g.R.Rules.weight_of g.R.Rules.created g.R.Rules.read g.R.Rules.updated g.R.Rules.covers) l.now) l.place l.fn.parts.items l.parts.items;
+  far : SoFar (RunsPart g.R.Rules.answers l.now) l.place l.fn.parts.items l.parts.items;
   count : l.count ≡ length l.fn.parts.items;
 }

@@ -1,5 +1,4 @@
 use Rattle.std.proofs.Common.{◌∙◌, ap, subst, sym}
-use Rattle.engine_reference.specs.Asking.{answers_of}
 use Rattle.front_reference.specs.Fronts.{CallsAt}
 use Rattle.front_reference.specs.Parts.{Inserts}
 use Rattle.front_reference.specs.declared.errors.CacheError.TheVariants as errors
@@ -23,13 +22,13 @@ invariant_of-self g c =
     let ways = (ways_by g.R.Rules g.K.PartialEq.eq g.K.Hash.hash_input g.S.BuildHasher g.S.Hasher.Hasher) in
     finishes_steadily ways g.met.K.Eq.laws _ c.args.self.now c.args.at.now c.args.at.step c.place_of-part.result c.args.number c.in-Some.turn.now c.args.value c.insert_or_back_at.new.parts.items _ c.self.view_is c.requires
     (turn_hashed ways g.met.K.Eq.laws _ c.args.number c.in-Some.turn.now c.self.invariant (sym c.in-Some.ensures)) c.place_of-part.ensures.part
-    (subst (λ k. CallsAt c.place_of-part.result (Inserts (answers_of g.R.Rules.weight_of g.R.Rules.created g.R.Rules.read g.R.Rules.updated g.R.Rules.covers) g.K.PartialEq.eq k c.in-Some.turn.now.hash c.args.value c.args.at.now c.args.at.step) c.self.inside.parts.items c.insert_or_back_at.new.parts.items) c.in-Ok.ensures.cases c.in-Ok-insert_or_back_at.ensures.inserts) c.end.ensures.ended c.self.invariant
+    (subst (λ k. CallsAt c.place_of-part.result (Inserts g.R.Rules.answers g.K.PartialEq.eq k c.in-Some.turn.now.hash c.args.value c.args.at.now c.args.at.step) c.self.inside.parts.items c.insert_or_back_at.new.parts.items) c.in-Ok.ensures.cases c.in-Ok-insert_or_back_at.ensures.inserts) c.end.ensures.ended c.self.invariant
 
 pub returns-in-Ok-insert_or_back_at-clause-ends : goal.returns-in-Ok-insert_or_back_at-clause-ends
 returns-in-Ok-insert_or_back_at-clause-ends g c =
     let ways = (ways_by g.R.Rules g.K.PartialEq.eq g.K.Hash.hash_input g.S.BuildHasher g.S.Hasher.Hasher) in
     finished_for ways _ c.args.self.now c.args.at c.place_of-part.result c.args.number c.in-Some.turn.now c.args.value c.insert_or_back_at.new.parts.items _ c.self.view_is c.place_of-part.ensures.part
-    (subst (λ k. CallsAt c.place_of-part.result (Inserts (answers_of g.R.Rules.weight_of g.R.Rules.created g.R.Rules.read g.R.Rules.updated g.R.Rules.covers) g.K.PartialEq.eq k c.in-Some.turn.now.hash c.args.value c.args.at.now c.args.at.step) c.self.inside.parts.items c.insert_or_back_at.new.parts.items) c.in-Ok.ensures.cases c.in-Ok-insert_or_back_at.ensures.inserts) c.end.ensures.ended (sym c.in-Some.ensures)
+    (subst (λ k. CallsAt c.place_of-part.result (Inserts g.R.Rules.answers g.K.PartialEq.eq k c.in-Some.turn.now.hash c.args.value c.args.at.now c.args.at.step) c.self.inside.parts.items c.insert_or_back_at.new.parts.items) c.in-Ok.ensures.cases c.in-Ok-insert_or_back_at.ensures.inserts) c.end.ensures.ended (sym c.in-Some.ensures)
 
 pub returns-in-Err-insert_or_back_at-clause-cause : goal.returns-in-Err-insert_or_back_at-clause-cause
 returns-in-Err-insert_or_back_at-clause-cause g c =

@@ -1,6 +1,5 @@
 use Rattle.std.proofs.Common.{subst}
 use Rattle.engine_calls.specs.Finding.{WasFound}
-use Rattle.engine_reference.specs.Asking.{answers_of}
 use Rattle.engine_reference.specs.Calls.{LooksUp}
 use Rattle.engine_reference.specs.State.{State}
 use Rattle.engine_reference.specs.Visible.{visible_record}
@@ -18,11 +17,11 @@ pub note_read-requires-clause-found : goal.note_read-requires-clause-found
 note_read-requires-clause-found g c = (_, c.find-found.ensures)
 
 pub invariant_of-self : goal.invariant_of-self
-invariant_of-self g c = well-noted (answers_of g.R.Rules.weight_of g.R.Rules.created g.R.Rules.read g.R.Rules.updated g.R.Rules.covers) _ c.args.hash c.args.now _ _ c.self.invariant (c.note_read.ensures _ c.find-found.ensures)
+invariant_of-self g c = well-noted g.R.Rules.answers _ c.args.hash c.args.now _ _ c.self.invariant (c.note_read.ensures _ c.find-found.ensures)
 
 pub returns-clause-used : goal.returns-clause-used
 returns-clause-used g c =
-    let a = (answers_of g.R.Rules.weight_of g.R.Rules.created g.R.Rules.read g.R.Rules.updated g.R.Rules.covers) in
+    let a = g.R.Rules.answers in
     let s = c.self.inside.tables.state in
     let o = visible_record a g.K.PartialEq.eq s c.args.now (g.Q.Names.named_key c.args.key.now) in
     let found = subst (λ m. WasFound c.self.inside.tables c.args.hash c.find-found.result (visible_record a g.K.PartialEq.eq s m (g.Q.Names.named_key c.args.key.now))) c.as_nanos.ensures.nanos c.find-found.ensures in

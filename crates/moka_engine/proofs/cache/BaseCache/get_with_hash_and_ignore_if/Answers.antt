@@ -1,7 +1,6 @@
 use Rattle.std.proofs.Common.{subst}
 use Rattle.std.specs.Fn.{FnOnceReturnsAt}
 use Rattle.engine_calls.specs.Finding.{WasFound, PassesOver}
-use Rattle.engine_reference.specs.Asking.{answers_of}
 use Rattle.engine_reference.specs.Scanning.{past, LooksUpPast}
 use Rattle.engine_reference.specs.State.{State}
 use Rattle.engine_reference.specs.Visible.{visible_record}
@@ -21,11 +20,11 @@ note_read-requires-clause-found g c = let p = c.pass_over-found.ensures c.args.h
 pub invariant_of-self : goal.invariant_of-self
 invariant_of-self g c =
     let p = c.pass_over-found.ensures c.args.hash _ c.find-seen.ensures in
-    well-noted (answers_of g.R.Rules.weight_of g.R.Rules.created g.R.Rules.read g.R.Rules.updated g.R.Rules.covers) _ c.args.hash c.args.now _ _ c.self.invariant (c.note_read.ensures _ p.found)
+    well-noted g.R.Rules.answers _ c.args.hash c.args.now _ _ c.self.invariant (c.note_read.ensures _ p.found)
 
 pub returns-clause-found : goal.returns-clause-found
 returns-clause-found g c =
-    let a = (answers_of g.R.Rules.weight_of g.R.Rules.created g.R.Rules.read g.R.Rules.updated g.R.Rules.covers) in
+    let a = g.R.Rules.answers in
     let s = c.self.inside.tables.state in
     let t = c.self.inside.tables in
     let ignores = FnOnceReturnsAt g.F.FnOnce c.args.ignore_if in

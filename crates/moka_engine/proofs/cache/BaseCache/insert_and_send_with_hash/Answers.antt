@@ -1,5 +1,4 @@
 use Rattle.std.proofs.Common.{ap, ◌∙◌, arith, length}
-use Rattle.engine_reference.specs.Asking.{answers_of}
 use Rattle.moka_engine.proofs.Keeping.{well-as, well-sent, well-written}
 use Rattle.moka_engine.proofs.cache.BaseCache.insert_and_send_with_hash.Goals as goal
 
@@ -7,7 +6,7 @@ pub invariant_of-self : goal.invariant_of-self
 invariant_of-self g c =
     let moment = c.as_nanos-moment.ensures.in_range in
     let s = c.self.inside.tables.state in
-    well-as _ _ c.write.ensures (well-sent s.next_ticket _ (well-written (answers_of g.R.Rules.weight_of g.R.Rules.created g.R.Rules.read g.R.Rules.updated g.R.Rules.covers) g.K.PartialEq.eq s c.args.key c.args.hash c.args.value c.args.now c.args.step (omega (arith, moment, c.as_nanos-moment.ensures.nanos)) c.self.invariant))
+    well-as _ _ c.write.ensures (well-sent s.next_ticket _ (well-written g.R.Rules.answers g.K.PartialEq.eq s c.args.key c.args.hash c.args.value c.args.now c.args.step (omega (arith, moment, c.as_nanos-moment.ensures.nanos)) c.self.invariant))
 
 pub write-requires-clause-queue : goal.write-requires-clause-queue
 write-requires-clause-queue g c at_once =

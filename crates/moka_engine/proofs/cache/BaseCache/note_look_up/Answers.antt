@@ -1,6 +1,5 @@
 use Rattle.std.proofs.Common.{subst}
 use Rattle.engine_calls.specs.Finding.{WasFound}
-use Rattle.engine_reference.specs.Asking.{answers_of}
 use Rattle.engine_reference.specs.Scanning.{past, NotesLookUp}
 use Rattle.engine_reference.specs.State.{State}
 use Rattle.engine_reference.specs.Visible.{visible_record}
@@ -15,11 +14,11 @@ pub note_read-requires-clause-found : goal.note_read-requires-clause-found
 note_read-requires-clause-found g c = (_, c.find_unless-found.ensures)
 
 pub invariant_of-self : goal.invariant_of-self
-invariant_of-self g c = well-noted (answers_of g.R.Rules.weight_of g.R.Rules.created g.R.Rules.read g.R.Rules.updated g.R.Rules.covers) _ c.args.hash c.args.now _ _ c.self.invariant (c.note_read.ensures _ c.find_unless-found.ensures)
+invariant_of-self g c = well-noted g.R.Rules.answers _ c.args.hash c.args.now _ _ c.self.invariant (c.note_read.ensures _ c.find_unless-found.ensures)
 
 pub returns : goal.returns
 returns g c =
-    let a = (answers_of g.R.Rules.weight_of g.R.Rules.created g.R.Rules.read g.R.Rules.updated g.R.Rules.covers) in
+    let a = g.R.Rules.answers in
     let s = c.self.inside.tables.state in
     let o = past c.args.ignored (visible_record a g.K.PartialEq.eq s c.args.now (g.Q.Names.named_key c.args.key.now)) in
     let found = subst (λ m. WasFound c.self.inside.tables c.args.hash c.find_unless-found.result (past c.args.ignored (visible_record a g.K.PartialEq.eq s m (g.Q.Names.named_key c.args.key.now)))) c.as_nanos.ensures.nanos c.find_unless-found.ensures in

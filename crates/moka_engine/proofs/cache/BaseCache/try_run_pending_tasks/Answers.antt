@@ -1,6 +1,5 @@
 use Rattle.std.proofs.Common.{◌≡◌, refl, subst, sym, ℕ, ◌≤◌, []}
 use Rattle.engine_reference.specs.RunLaws.Sweeping.{IsTimely, LeavesNoneDue}
-use Rattle.engine_reference.specs.Asking.{answers_of}
 use Rattle.engine_reference.specs.Laws.{CountsExactly}
 use Rattle.engine_reference.specs.Runs.{RunsToEnd}
 use Rattle.engine_reference.specs.State.{State}
@@ -11,16 +10,16 @@ pub try_run-requires : goal.try_run-requires
 try_run-requires g c = c.self.invariant.sound
 
 pub invariant_of-self : goal.invariant_of-self
-invariant_of-self g c = let a = (answers_of g.R.Rules.weight_of g.R.Rules.created g.R.Rules.read g.R.Rules.updated g.R.Rules.covers) in well-run a c.as_nanos.result _ _ c.self.invariant (c.try_run.ensures.runs a refl)
+invariant_of-self g c = let a = g.R.Rules.answers in well-run a c.as_nanos.result _ _ c.self.invariant (c.try_run.ensures.runs a refl)
 
 pub returns-clause-runs : goal.returns-clause-runs
 returns-clause-runs g c =
-    let a = (answers_of g.R.Rules.weight_of g.R.Rules.created g.R.Rules.read g.R.Rules.updated g.R.Rules.covers) in
+    let a = g.R.Rules.answers in
     subst (λ (s : State g.row.K.Denot g.row.V.Denot g.row.R-Predicate.Denot g.row.S.Denot g.row.R.Denot). RunsToEnd a c.args.now s c.try_run.new.tables.state) c.self.view_is (subst (λ n. RunsToEnd a n c.self.inside.tables.state c.try_run.new.tables.state) c.as_nanos.ensures.nanos (c.try_run.ensures.runs a refl))
 
 pub returns-clause-counts : goal.returns-clause-counts
 returns-clause-counts g c = λ none.
-    c.try_run.ensures.counts (answers_of g.R.Rules.weight_of g.R.Rules.created g.R.Rules.read g.R.Rules.updated g.R.Rules.covers) refl (subst (λ (s : State g.row.K.Denot g.row.V.Denot g.row.R-Predicate.Denot g.row.S.Denot g.row.R.Denot). s.unsent ≡ []) (sym c.self.view_is) none)
+    c.try_run.ensures.counts g.R.Rules.answers refl (subst (λ (s : State g.row.K.Denot g.row.V.Denot g.row.R-Predicate.Denot g.row.S.Denot g.row.R.Denot). s.unsent ≡ []) (sym c.self.view_is) none)
 
 pub returns-clause-due : goal.returns-clause-due
 returns-clause-due g c = λ moment step timely le range.
