@@ -4,3 +4,4 @@ pub mod Live
 pub mod Drains
 pub mod Sorting
 pub mod Gathering
+pub mod Counting

@@ -1,9 +1,8 @@
+pub mod State
 pub mod Data
 pub mod Making
 pub mod Listing
 pub mod Draining
 -- of crates below, for the store above
-pub use Rattle.cache_front.specs.Laws.Laws
-pub use Rattle.cache_front.specs.Laws.State
 pub use Rattle.cache_parts_store.specs.View
 pub use Rattle.front_state.specs.Covering

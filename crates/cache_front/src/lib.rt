@@ -6,7 +6,6 @@
 
 pub mod data;
 pub mod entries;
-pub mod laws;
 pub mod store;
 
 pub use data::{

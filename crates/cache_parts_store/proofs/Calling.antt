@@ -12,12 +12,12 @@ use Rattle.cache_store.specs.Handing.{AppendsNotes}
 use Rattle.cache_store.specs.Identifiers.{KeepsIdentifiers}
 use Rattle.cache_store.specs.Promises.{Done, accepting, deleting, using, value_for}
 use Rattle.cache_store.specs.Recency.{used_first}
-use Rattle.cache_store.specs.Values.{Does, IsAcceptable}
+use Rattle.cache_store.specs.Values.{Does, IsAcceptable, IsLive}
 use Rattle.engine_reference.specs.Calls.{MaintainsIfDue, with_read}
 use Rattle.engine_reference.specs.Records.{held_at}
 use Rattle.engine_reference.specs.Scanning.{NotesLookUp}
 use Rattle.engine_reference.specs.Soundness.{IsSound}
-use Rattle.engine_reference.specs.Visible.{visible, visible_record}
+use Rattle.engine_reference.specs.Visible.{visible, visible_record, visible_value}
 use Rattle.engine_reference.proofs.SoundSteps.{runs_stay_sound}
 use Rattle.engine_reference.specs.Identifiers.Drawing.{is_registered}
 use Rattle.front_reference.specs.Parts.{Inserts, TakesOut, taken_out as taken_out_whole, takes_nothing}
@@ -41,8 +41,7 @@ use Rattle.cache_parts_store.proofs.parts_kept.Identifying.{inserted-no_more, ke
 use Rattle.cache_parts_store.proofs.parts_kept.Storing.{Comes, enough-knows, keeps-accept, keeps-look_up, keeps-remove, maintained_from, takes_values, value-new}
 use Rattle.cache_parts_store.proofs.Changing.{AreTaken, DrawsTicket, all_drained-set, greatest-with, maintained-room, maintained-ticket, put-room, put-ticket, read-room, read-ticket, removal-is, removed-room, removed-ticket, unreserved-with, waiting-set}
 use Rattle.cache_parts_store.proofs.Standing.{no_more-after, one_more-after, parts_are}
-use Rattle.cache_parts_store.specs.Meets.{AcceptMeets, LookUpMeets, PeekMeets, RemoveMeets, stored}
-use Rattle.cache_parts_store.specs.View.{ComesTo, IsWhole, StoreOfParts, after, greatest_ticket, view, waiting}
+use Rattle.cache_parts_store.specs.View.{stored, ComesTo, IsWhole, StoreOfParts, after, greatest_ticket, view, waiting}
 
 pub or-no : (b : Bool) → b ≡ (b || false)
 or-no true = refl
@@ -66,10 +65,10 @@ module _ {S : Type 0} (a : StoreOfParts S) (w : IsWhole a) where
   comes now next at = record { less = at.moment.0; rises = at.rises; range = at.moment.1 }
 
   -- at that moment one part became another, whose notices were taken
-  abbrev changed : (now next k : ℕ) → Part S → StoreOfParts S
+  abbrev pub changed : (now next k : ℕ) → Part S → StoreOfParts S
   changed now next k new = record a { frame = at_moment a.frame now; parts = with_part k (drained new) a.parts; queue = a.queue ++ map note_from new.notices; step = next }
 
-  after-is : (now next k : ℕ) (s new : Part S) → slice_get a.parts k ≡ Some s → after now next (slice_set a.parts k new) a ≡ changed now next k new
+  pub after-is : (now next k : ℕ) (s new : Part S) → slice_get a.parts k ≡ Some s → after now next (slice_set a.parts k new) a ≡ changed now next k new
   after-is now next k s new there =
       ap (λ ps. record a { frame = at_moment a.frame now; parts = ps; queue = a.queue ++ waiting (slice_set a.parts k new); step = next }) (all_drained-set a.parts k new taken)
       ∙ ap (λ ns. record a { frame = at_moment a.frame now; parts = with_part k (drained new) a.parts; queue = a.queue ++ ns; step = next }) (waiting-set a.parts k s new taken there)
@@ -93,7 +92,7 @@ module _ {S : Type 0} (a : StoreOfParts S) (w : IsWhole a) where
 
 -- ---- `peek`
 
-pub peek : {S : Type 0} → PeekMeets S
+pub peek : {S : Type 0} → (a : StoreOfParts S) (now : ℕ) (key : List ℕ) (s : Part S) → IsWhole a → slice_get a.parts (a.frame.part_of key) ≡ Some s → IsLive (view a) now key (option_map (λ value. value.bytes) (visible_value service_answers same s now key))
 peek {S} a now key s w there = λ held stands.
     sym (live_value_is a.frame.config a.frame.part_of a.frame.made now (a.frame.part_of key) s a.parts held (enough-knows a.frame a.step now (a.frame.part_of key) a.parts s held w.kept there) stands.same key refl
     ∙ bytes_are (visible service_answers same s now key))
@@ -104,9 +103,9 @@ peek {S} a now key s w there = λ held stands.
 
 -- ---- `look_up`
 
-look_up-with : {S : Type 0} (a : StoreOfParts S) (w : IsWhole a) (now next hash : ℕ) (key : List ℕ) (s new : Part S) → ComesTo a now next → slice_get a.parts (a.frame.part_of key) ≡ Some s
+pub look_up : {S : Type 0} (a : StoreOfParts S) (w : IsWhole a) (now next hash : ℕ) (key : List ℕ) (s new : Part S) → ComesTo a now next → slice_get a.parts (a.frame.part_of key) ≡ Some s
     → NotesLookUp service_answers same key hash now false s new → Does now (using key) (view a) (view (changed a w now next (a.frame.part_of key) new)) × IsWhole (changed a w now next (a.frame.part_of key) new)
-look_up-with {S} a w now next hash key s new at there look = (does, record { kept = keeps-look_up a.frame a.step now next k a.parts s new key hash (comes a w now next at) w.kept there look; small = (let l = no_more-after a w now (using key) (changed a w now next k new) refl does in let small = w.small in omega (arith, l, small)); unreserved = unreserved-with k s new a.parts there w.unreserved room })
+look_up {S} a w now next hash key s new at there look = (does, record { kept = keeps-look_up a.frame a.step now next k a.parts s new key hash (comes a w now next at) w.kept there look; small = (let l = no_more-after a w now (using key) (changed a w now next k new) refl does in let small = w.small in omega (arith, l, small)); unreserved = unreserved-with k s new a.parts there w.unreserved room })
   where
     k : ℕ
     k = a.frame.part_of key
@@ -151,11 +150,6 @@ look_up-with {S} a w now next hash key s new at there look = (does, record { kep
       spent = spent-with a w now next k s new at there ticket;
     }
 
-pub look_up : {S : Type 0} → LookUpMeets S
-look_up {S} a now next hash key parts w at call =
-    let is = ap (λ ps. after now next ps a) call.changed ∙ after-is a w now next (a.frame.part_of key) call.before call.after call.there in
-    subst (λ b. Does now (using key) (view a) (view b) × IsWhole b) (sym is) (look_up-with a w now next hash key call.before call.after at call.there call.does)
-
 -- ---- `accept`
 
 own_used : (key : List ℕ) (b : Bool) (x : List ℕ) → (if b then Some key else None) ≡ Some x → x ≡ key
@@ -176,10 +170,10 @@ own-ms : (own : Bool) (ms : Option ℕ) → IfSome ms (λ n. (n ≤ 999999999999
 own-ms own None fits some = absurd (both_ways false refl some)
 own-ms own (Some m) fits some = fits.1
 
-accept-with : {S : Type 0} (a : StoreOfParts S) (w : IsWhole a) (now next hash : ℕ) (key bytes : List ℕ) (ms : Option ℕ) (looked_up : Bool) (s new : Part S) → ComesTo a now next → IsAcceptable a.frame.config bytes ms → length (items_of 0 a.parts) < 2 ^ 50
+pub accept : {S : Type 0} (a : StoreOfParts S) (w : IsWhole a) (now next hash : ℕ) (key bytes : List ℕ) (ms : Option ℕ) (looked_up : Bool) (s new : Part S) → ComesTo a now next → IsAcceptable a.frame.config bytes ms → length (items_of 0 a.parts) < 2 ^ 50
     → slice_get a.parts (a.frame.part_of key) ≡ Some s → Inserts service_answers same key hash (stored bytes ms) now next s new
     → Does now (accepting (if looked_up then Some key else None) (value_for a.frame now key bytes ms)) (view a) (view (changed a w now next (a.frame.part_of key) new)) × IsWhole (changed a w now next (a.frame.part_of key) new)
-accept-with {S} a w now next hash key bytes ms looked_up s new at fits few there call = (does, record { kept = keeps-accept a.frame a.step now next k a.parts s new key hash (stored bytes ms) (comes a w now next at) w.kept there fits.takes acceptable call; small = (let l = one_more-after a w now deed (changed a w now next k new) does in omega (arith, l, few)); unreserved = unreserved-with k s new a.parts there w.unreserved (maintained-room now t new maintained ∙ put-room key hash (stored bytes ms) now next s) })
+accept {S} a w now next hash key bytes ms looked_up s new at fits few there call = (does, record { kept = keeps-accept a.frame a.step now next k a.parts s new key hash (stored bytes ms) (comes a w now next at) w.kept there fits.takes acceptable call; small = (let l = one_more-after a w now deed (changed a w now next k new) does in omega (arith, l, few)); unreserved = unreserved-with k s new a.parts there w.unreserved (maintained-room now t new maintained ∙ put-room key hash (stored bytes ms) now next s) })
   where
     k : ℕ
     k = a.frame.part_of key
@@ -229,17 +223,11 @@ accept-with {S} a w now next hash key bytes ms looked_up s new at fits few there
       spent = spent-with a w now next k s new at there ticket;
     }
 
-pub accept : {S : Type 0} → AcceptMeets S
-accept {S} a now next hash key bytes ms looked_up parts w at fits few call =
-    let is = ap (λ ps. after now next ps a) call.changed ∙ after-is a w now next (a.frame.part_of key) call.before call.after call.there in
-    let both = accept-with a w now next hash key bytes ms looked_up call.before call.after at fits few call.there call.does in
-    subst (λ b. ((a.frame.part_of key ≡ a.frame.part_of key) × Does now (accepting (if looked_up then Some key else None) (value_for a.frame now key bytes ms)) (view a) (view b)) × IsWhole b) (sym is) ((refl, both.0), both.1)
-
 -- ---- `remove`
 
-remove-with : {S : Type 0} (a : StoreOfParts S) (w : IsWhole a) (now next : ℕ) (key : List ℕ) (s new : Part S) → ComesTo a now next → slice_get a.parts (a.frame.part_of key) ≡ Some s → TakesOut service_answers same key now s new
+pub remove : {S : Type 0} (a : StoreOfParts S) (w : IsWhole a) (now next : ℕ) (key : List ℕ) (s new : Part S) → ComesTo a now next → slice_get a.parts (a.frame.part_of key) ≡ Some s → TakesOut service_answers same key now s new
     → Does now (deleting key) (view a) (view (changed a w now next (a.frame.part_of key) new)) × IsWhole (changed a w now next (a.frame.part_of key) new)
-remove-with {S} a w now next key s new at there call = (does, record { kept = keeps-remove a.frame a.step now next k a.parts s new key (comes a w now next at) w.kept there call; small = (let l = no_more-after a w now (deleting key) (changed a w now next k new) refl does in let small = w.small in omega (arith, l, small)); unreserved = unreserved-with k s new a.parts there w.unreserved (room (held_at same s.records key) call) })
+remove {S} a w now next key s new at there call = (does, record { kept = keeps-remove a.frame a.step now next k a.parts s new key (comes a w now next at) w.kept there call; small = (let l = no_more-after a w now (deleting key) (changed a w now next k new) refl does in let small = w.small in omega (arith, l, small)); unreserved = unreserved-with k s new a.parts there w.unreserved (room (held_at same s.records key) call) })
   where
     k : ℕ
     k = a.frame.part_of key
@@ -281,8 +269,3 @@ remove-with {S} a w now next key s new at there call = (does, record { kept = ke
       drawn = keeps-with a w k s new there (removed-no_more key now s new call);
       spent = spent-with a w now next k s new at there (ticket (held_at same s.records key) call);
     }
-
-pub remove : {S : Type 0} → RemoveMeets S
-remove {S} a now next key parts w at call =
-    let is = ap (λ ps. after now next ps a) call.changed ∙ after-is a w now next (a.frame.part_of key) call.before call.after call.there in
-    subst (λ b. Does now (deleting key) (view a) (view b) × IsWhole b) (sym is) (remove-with a w now next key call.before call.after at call.there call.does)

@@ -1,17 +1,15 @@
 -- The parts where a call changed one of them, or all: what was told is taken from them, and which ticket comes.
 use Rattle.std.proofs.Common.{◌≡◌, refl, ap, ◌∙◌, sym, subst, ℕ, zero, suc, ◌+◌, ◌≤◌, max, arith, List, [], ◌∷◌, ◌++◌, map, length, append-nil, Option, Some, None, slice_get, slice_set, Bool, true, false}
-use Rattle.std.specs.Prelude.{if◌then◌else◌, ◌-◌, drop}
+use Rattle.std.specs.Prelude.{if◌then◌else◌, ◌-◌}
 use Rattle.std.specs.List.{sum_by}
 use Rattle.std.proofs.lemmas.List.Sums.{sum_by-cons}
 use Rattle.std.proofs.lemmas.Option.{none-some}
 use Rattle.audit_model.specs.Bytewise.{same}
-use Rattle.engine_reference.specs.declared.data.Notice.{Notice}
 use Rattle.engine_reference.specs.declared.data.Write.{Write}
-use Rattle.engine_reference.specs.Calls.{removal_told, sent, unsent_at, with_read, with_removed, with_room, with_sent, with_written, without_notice, written}
+use Rattle.engine_reference.specs.Calls.{removal_told, sent, unsent_at, with_read, with_removed, with_room, with_sent, with_written, written}
 use Rattle.engine_reference.specs.Records.{held_at}
 use Rattle.engine_reference.specs.Runs.{RunsToEnd}
 use Rattle.engine_reference.proofs.RestKept.{run-rest}
-use Rattle.front_reference.specs.Wholes.{first_or, next_told, taken_or, without_told}
 use Rattle.front_reference.specs.Parts.{taken_out}
 use Rattle.cache_parts.specs.Parts.{Part, Stored, note_from, put, service_answers, with_part, drained}
 use Rattle.cache_parts.proofs.Removing.{removed}
@@ -54,38 +52,6 @@ module _ {S : Type 0} where
   waiting-set (x ∷ parts) (suc k) s t taken there = ap (λ ns. map note_from ns ++ waiting (slice_set parts k t)) (taken 0 x refl) ∙ waiting-set parts k s t (taken-rest x parts taken) there
 
   -- ---- one notice is taken
-
-  pub taken-one : (parts : List (Part S)) (n : Notice (List ℕ) Stored) → next_told parts ≡ Some n → (waiting parts ≡ note_from n ∷ waiting (without_told parts)) × (all_drained (without_told parts) ≡ all_drained parts)
-  taken-one [] n told = absurd (none-some n told)
-  taken-one (s ∷ parts) n told = go s.notices refl told (λ t. taken-one parts n t)
-    where
-      Taken : (olds news : List (Part S)) → Type 0
-      Taken olds news = (waiting olds ≡ note_from n ∷ waiting news) × (all_drained news ≡ all_drained olds)
-
-      go : (ns : List (Notice (List ℕ) Stored)) → s.notices ≡ ns → first_or ns (next_told parts) ≡ Some n → (next_told parts ≡ Some n → Taken parts (without_told parts))
-          → (map note_from s.notices ++ waiting parts ≡ note_from n ∷ waiting (taken_or ns (without_notice s ∷ parts) (s ∷ without_told parts))) × (all_drained (taken_or ns (without_notice s ∷ parts) (s ∷ without_told parts)) ≡ all_drained (s ∷ parts))
-      go [] e told others =
-          let later = others told in (
-            ap (λ xs. map note_from xs ++ waiting parts) e ∙ later.0 ∙ ap (λ xs. note_from n ∷ (map note_from xs ++ waiting (without_told parts))) (sym e),
-            ap (λ ys. drained s ∷ ys) later.1,
-          )
-      go (x ∷ ns) e told others =
-          let is : x ≡ n = cc in (
-            ap (λ xs. map note_from xs ++ waiting parts) e ∙ ap (λ y. note_from y ∷ (map note_from ns ++ waiting parts)) is ∙ ap (λ xs. note_from n ∷ (map note_from (drop 1 xs) ++ waiting parts)) (sym e),
-            refl,
-          )
-
-  pub taken-all : (parts : List (Part S)) → next_told parts ≡ None → (waiting parts ≡ []) × (all_drained parts ≡ parts)
-  taken-all [] told = (refl, refl)
-  taken-all (s ∷ parts) told = go s.notices refl told (λ t. taken-all parts t)
-    where
-      go : (ns : List (Notice (List ℕ) Stored)) → s.notices ≡ ns → first_or ns (next_told parts) ≡ None → (next_told parts ≡ None → (waiting parts ≡ []) × (all_drained parts ≡ parts)) → (map note_from s.notices ++ waiting parts ≡ []) × (all_drained (s ∷ parts) ≡ s ∷ parts)
-      go [] e told others =
-          let later = others told in (
-            ap (λ xs. map note_from xs ++ waiting parts) e ∙ later.0,
-            ap (λ y. y ∷ all_drained parts) (drained-none s e) ∙ ap (λ ys. s ∷ ys) later.1,
-          )
-      go (x ∷ ns) e told others = absurd (none-some x (sym told))
 
   -- ---- all parts ran
 

@@ -10,7 +10,7 @@ use Rattle.audit_model.specs.Commands.{Covering, Everything, Prefixed}
 use Rattle.audit_model.specs.declared.config.Weight.{Weight}
 use Rattle.cache_store.specs.Identifiers.{AreUsedUp, KeepsIdentifiers}
 use Rattle.cache_store.specs.Promises.{covering}
-use Rattle.cache_store.specs.Values.{Does}
+use Rattle.cache_store.specs.Values.{Does, LacksIdentifiers}
 use Rattle.engine_reference.specs.declared.data.Registered.{Registered}
 use Rattle.engine_reference.specs.Calls.{cleared_by, with_predicate}
 use Rattle.engine_reference.specs.Records.{held_entries}
@@ -18,7 +18,7 @@ use Rattle.engine_reference.specs.Telling.{entry_of}
 use Rattle.engine_reference.specs.Visible.{is_covered, is_covered_by}
 use Rattle.engine_reference.specs.Identifiers.Drawing.{is_registered}
 use Rattle.front_reference.specs.Fronts.{CallsEach}
-use Rattle.front_reference.specs.Wholes.{DrawAll, registered_in}
+use Rattle.front_reference.specs.Wholes.{DrawAll, DrawsInVain, registered_in}
 use Rattle.cache_parts.proofs.Covering.{AllCover, CoversToo, cover_does, none, next}
 use Rattle.cache_parts.proofs.Telling.{Kept}
 use Rattle.cache_parts.specs.Parts.{IsProper, Part, Stored, service_answers}
@@ -28,8 +28,7 @@ use Rattle.cache_parts_store.proofs.parts_kept.Storing.{covers-all, held-each, k
 use Rattle.cache_parts_store.proofs.Calling.{comes, or-no}
 use Rattle.cache_parts_store.proofs.Changing.{greatest-same}
 use Rattle.cache_parts_store.proofs.Standing.{no_more-after, parted, parts_are}
-use Rattle.cache_parts_store.specs.Meets.{ClearMeets, DropMeets, LacksMeets}
-use Rattle.cache_parts_store.specs.View.{AreUnreserved, IsWhole, StoreOfParts, greatest_ticket, passed, view}
+use Rattle.cache_parts_store.specs.View.{AreUnreserved, ComesTo, IsWhole, StoreOfParts, greatest_ticket, passed, view}
 
 or-yes : (b : Bool) → (b || true) ≡ true
 or-yes true = refl
@@ -84,7 +83,7 @@ clear-covers step n s lt early = record {
     covered : Kept → Registered (List ℕ) → Bool
     covered e p = nat_lt e.step p.step && service_answers.covers s.rules p.predicate e.key e.value
 
-pub clear : {S : Type 0} → ClearMeets S
+pub clear : {S : Type 0} → (a : StoreOfParts S) (now next : ℕ) (parts : List (Part S)) → IsWhole a → ComesTo a now next → a.step < next → CallsEach (λ s t. t ≡ cleared_by next s) a.parts parts → Does now (covering Everything) (view a) (view (passed now next parts a)) × IsWhole (passed now next parts a)
 clear {S} a now n parts w at lt calls = (does, record { kept = keeps-clear a.frame a.step now n a.parts parts (comes a w now n at) w.kept calls; small = (let l = no_more-after a w now (covering Everything) (passed now n parts a) refl does in let small = w.small in omega (arith, l, small)); unreserved = free })
   where
     cover : AllCover Everything a.parts parts
@@ -160,7 +159,7 @@ first-of : {S : Type 0} (parts : List (Part S)) → 0 < length parts → (x : Pa
 first-of [] lt = absurd (omega (arith, lt))
 first-of (x ∷ parts) lt = (x, refl)
 
-pub drop : {S : Type 0} → DropMeets S
+pub drop : {S : Type 0} → (a : StoreOfParts S) (now next : ℕ) (prefix : List ℕ) (stream : Stream) (ids : List ℕ) → IsWhole a → ComesTo a now next → a.step < next → DrawAll a.parts a.stream stream ids → let b = record a { frame = record a.frame { dropped = true; latest = now }; parts = registered_in prefix next ids a.parts; stream = stream; step = next } in Does now (covering (Prefixed prefix)) (view a) (view b) × IsWhole b
 drop {S} a now n prefix stream ids w at lt drawn = (does, record { kept = keeps-cover a.frame a.step now n a.parts news (comes a w now n at) w.kept (covers-all n prefix a.parts a.stream stream ids drawn); small = (let l = no_more-after a w now (covering (Prefixed prefix)) b refl does in let small = w.small in omega (arith, l, small)); unreserved = free })
   where
     news : List (Part S)
@@ -204,7 +203,7 @@ drop {S} a now n prefix stream ids w at lt drawn = (does, record { kept = keeps-
 
 -- ---- and where none is drawn
 
-pub lacks : {S : Type 0} → LacksMeets S
+pub lacks : {S : Type 0} → (a : StoreOfParts S) (stream : Stream) → IsWhole a → DrawsInVain a.parts a.stream stream → LacksIdentifiers (view a) (view (record a { stream = stream })) × IsWhole (record a { stream = stream })
 lacks {S} a stream w vain = (
   record {
     used_up = subst (λ n. AreUsedUp n a.stream stream (register_of a.parts)) w.kept.number (used_up a.parts a.stream stream vain);

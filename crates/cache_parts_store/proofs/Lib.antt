@@ -6,4 +6,3 @@ pub mod Calling
 pub mod Covering
 pub mod Settling
 pub mod Listing
-pub mod Fronts

@@ -17,7 +17,10 @@ use Rattle.cache_parts.proofs.Telling.{Kept}
 use Rattle.cache_parts.specs.Parts.{Part, held_of, items_of, service_answers}
 use Rattle.cache_parts_store.proofs.parts_kept.Storing.{enough-knows}
 use Rattle.cache_parts_store.proofs.Standing.{parted, parts_are}
-use Rattle.cache_parts_store.specs.Meets.{LiveKeysMeet}
+use Rattle.cache_parts_store.specs.View.{IsWhole, StoreOfParts, view}
+use Rattle.cache_store.specs.Among.{are_distinct, is_among}
+use Rattle.cache_store.specs.Values.{AreLive}
+use Rattle.audit_model.specs.Values.{sorted}
 
 and-swap : (b c : Bool) → (not c && not b) ≡ (not b && not c)
 and-swap true true = refl
@@ -29,7 +32,8 @@ some-if : (b : Bool) (e : Kept) → b ≡ is_some (cond b (Some e) None)
 some-if true e = refl
 some-if false e = refl
 
-pub live_keys : {S : Type 0} → LiveKeysMeet S
+-- of keys that are each there once, exactly those of which something is visible are the live keys, once in byte order
+pub live_keys : {S : Type 0} → (a : StoreOfParts S) (now : ℕ) (keys : List (List ℕ)) → IsWhole a → are_distinct keys ≡ true → ((key : List ℕ) (s : Part S) → slice_get a.parts (a.frame.part_of key) ≡ Some s → is_among key keys ≡ is_some (visible service_answers same s now key)) → AreLive (view a) now (λ live. live ≡ sorted keys)
 live_keys {S} a now keys w distinct among = λ held stands.
     live_keys_are a.frame.config now (items_of 0 a.parts) held (apart-of a.frame.part_of 0 a.parts (parted a w)) stands.same
     ∙ live_keys_from a.frame.config now (items_of 0 a.parts) keys (apart-of a.frame.part_of 0 a.parts (parted a w)) distinct (λ q. (let x = parts_are a w q in among q x.0 x.1 ∙ sym (live-is q x.0 x.1)))

@@ -1,14 +1,17 @@
 -- A run of all parts, and what is so of every store of parts.
-use Rattle.std.proofs.Common.{◌≡◌, refl, ap, ◌∙◌, sym, subst, ℕ, ◌≤◌, ◌^◌, arith, List, ◌++◌, length, Some, slice_get}
+use Rattle.std.proofs.Common.{◌≡◌, refl, ap, ◌∙◌, sym, subst, ℕ, suc, ◌+◌, ◌≤◌, ◌<◌, ◌^◌, arith, true, List, [], ◌++◌, length, Option, Some, slice_get}
 use Rattle.std.specs.List.{sum_by}
 use Rattle.audit_model.specs.Situation.{HeldValue}
 use Rattle.cache_store.specs.Handing.{AppendsNotes}
 use Rattle.cache_store.specs.Promises.{Done, syncing}
-use Rattle.cache_store.specs.Values.{Does, IsSettled}
+use Rattle.cache_store.specs.Values.{Does, IsSettled, IsSoundStore, IsSpent}
 use Rattle.engine_reference.specs.Identifiers.Drawing.{is_registered}
 use Rattle.front_reference.specs.Fronts.{CallsEach}
 use Rattle.front_reference.specs.Wholes.{RunsPart}
-use Rattle.cache_parts.specs.Parts.{drained, Part, Stands, service_answers, settings_of}
+use Rattle.cache_parts.specs.Parts.{drained, IsBrief, Part, Stands, service_answers, settings_of}
+use Rattle.engine_reference.specs.Calls.{IsNew}
+use Rattle.audit_model.specs.History.{part_count}
+use Rattle.cache_parts.specs.Recent.{IsRecentOver}
 use Rattle.cache_parts.proofs.Counting.{CountsAreTold, counts_are_told}
 use Rattle.cache_parts.proofs.Idling.{idle_does}
 use Rattle.cache_parts.proofs.Syncing.{AllRan, run_all_does}
@@ -19,11 +22,10 @@ use Rattle.cache_parts_store.specs.PartsKept.Keeping.{AreKeptParts, at_moment}
 use Rattle.cache_parts_store.proofs.parts_kept.Identifying.{released, run_no_more}
 use Rattle.cache_parts_store.proofs.parts_kept.Storing.{Comes, RunsDrained, all-ready, enough-knows, fits-part, keeps-run_all, lean, left-by, news-kept, rested-part, there-too, weighs as weighs_little}
 use Rattle.cache_parts_store.proofs.Calling.{comes, handed, or-no}
-use Rattle.cache_parts_store.proofs.Changing.{all-ran, drained-at, drained-length, drained-sum, greatest-same, ran-room, ran-ticket, taken-all, taken-one, ticket_within}
+use Rattle.cache_parts_store.proofs.Changing.{all-ran, drained-at, drained-length, drained-sum, greatest-same, ran-room, ran-ticket, ticket_within}
 use Rattle.cache_parts_store.proofs.Covering.{keeps-each}
 use Rattle.cache_parts_store.proofs.Standing.{no_more-after, parted, parts_are, some_held, some_stand}
-use Rattle.cache_parts_store.specs.Meets.{Drains, NewMeets, NoticeMeets, RunAllMeets, SoundMeets, UsedUpMeets, total_number, total_weight}
-use Rattle.cache_parts_store.specs.View.{AreUnreserved, ComesTo, IsWhole, StoreOfParts, after, all_drained, greatest_ticket, view, waiting}
+use Rattle.cache_parts_store.specs.View.{AreUnreserved, ComesTo, IsWhole, StoreOfParts, after, all_drained, greatest_ticket, total_number, total_weight, view, waiting}
 
 settings : {S : Type 0} (a : StoreOfParts S) → IsWhole a → (k : ℕ) (s : Part S) → slice_get a.parts k ≡ Some s → s.settings ≡ settings_of a.frame.config a.frame.made
 settings a w k s there = ap (λ c. c.settings) (w.kept.each k s there).front.made
@@ -92,7 +94,7 @@ module _ {S : Type 0} (a : StoreOfParts S) (w : IsWhole a) (now n : ℕ) (at : C
   counts held stands =
       counts_are_told a.frame.part_of now a.parts (all_drained parts) (waiting parts) held all (all-ready a.frame a.step now a.parts w.kept).1 (parted ran_to ran-whole) stands (let l = weighs held stands in omega (arith, l))
 
-  counted : (held : List HeldValue) → Stands (all_drained parts) held → (total_number S parts ≡ length held) × (total_weight S parts ≡ sum_by (λ (h : HeldValue). h.value.weight) held)
+  counted : (held : List HeldValue) → Stands (all_drained parts) held → (total_number parts ≡ length held) × (total_weight parts ≡ sum_by (λ (h : HeldValue). h.value.weight) held)
   counted held stands =
       let c = counts held stands in
       let number = sym (drained-sum (λ (x : Part S). x.number) (λ x. refl) parts) ∙ c.number in
@@ -102,7 +104,7 @@ module _ {S : Type 0} (a : StoreOfParts S) (w : IsWhole a) (now n : ℕ) (at : C
       let small = ran-whole.small in
       (omega (arith, number, m, small), omega (arith, weight, l))
 
-  ran-settled : IsSettled (view ran_to) (total_number S parts) (total_weight S parts)
+  ran-settled : IsSettled (view ran_to) (total_number parts) (total_weight parts)
   ran-settled = record {
     held = counted;
     within = λ held stands. within_all a.frame.config a.frame.part_of a.frame.made (all_drained parts) held (parted ran_to ran-whole) stands.same (parts_are ran_to ran-whole) (settings ran_to ran-whole)
@@ -117,12 +119,12 @@ module _ {S : Type 0} (a : StoreOfParts S) (w : IsWhole a) (now n : ℕ) (at : C
         sym (ap (λ (y : Part S). y.predicates) one) ∙ ap (λ (y : Part S). y.predicates) x.2.is ∙ x.2.runs.done.ended);
   }
 
-pub run_all : {S : Type 0} → RunAllMeets S
+pub run_all : {S : Type 0} → (a : StoreOfParts S) (now next : ℕ) (parts : List (Part S)) → IsWhole a → ComesTo a now next → CallsEach (RunsPart service_answers now) a.parts parts → Does now syncing (view a) (view (after now next parts a)) × IsWhole (after now next parts a) × IsSettled (view (after now next parts a)) (total_number parts) (total_weight parts)
 run_all {S} a now n parts w at calls = (ran-does a w now n at parts calls, ran-whole a w now n at parts calls, ran-settled a w now n at parts calls)
 
 -- ---- `sound`
 
-pub sound : {S : Type 0} → SoundMeets S
+pub sound : {S : Type 0} → (a : StoreOfParts S) → IsWhole a → IsSoundStore (view a)
 sound {S} a w = record {
   some = some_held a w;
   stands = some_stand a w;
@@ -135,19 +137,18 @@ sound {S} a w = record {
   ordered = λ held keys stands used. keys_held a.frame a.step a.parts held keys w.kept stands used;
 }
 
--- ---- notices, numbers, a store just made
+-- ---- numbers, a store just made
 
-pub notice : {S : Type 0} → NoticeMeets S
-notice {S} a note rest w first =
-    (first, record { stands = λ held stands. stands; frame = refl; used = λ settled keys recent. recent; identifiers = record { stream = refl; registered = λ part id e. e }; spent = refl }, record { kept = w.kept; small = w.small; unreserved = w.unreserved })
+-- a part has no tickets left for a write or a removal
+pub no_tickets : {S : Type 0} (a : StoreOfParts S) (part rooms : ℕ) (s : Part S) → IsWhole a → slice_get a.parts part ≡ Some s → rooms ≤ 2 → 2 ^ 64 ≤ s.next_ticket + s.reserved + rooms → IsSpent (view a)
+no_tickets a part rooms s w there few lack = let l = ticket_within a.parts part s there in let free = w.unreserved part s there in omega (arith, l, lack, few, free)
 
-pub used_up : {S : Type 0} → UsedUpMeets S
-used_up {S} = record {
-  tickets = λ a part rooms s w there few lack. (let l = ticket_within a.parts part s there in let free = w.unreserved part s there in omega (arith, l, lack, few, free));
-  steps = λ a lack. omega (arith, lack);
-}
+-- there is no further step
+pub no_steps : {S : Type 0} (a : StoreOfParts S) → 2 ^ 64 ≤ suc a.step → IsSpent (view a)
+no_steps a lack = omega (arith, lack)
 
-pub made : {S : Type 0} → NewMeets S
+-- a store that was just created holds nothing
+pub made : {S : Type 0} → (a : StoreOfParts S) (name : Option (List ℕ)) (hasher : S) → length a.parts ≡ part_count a.frame.config → ((key : List ℕ) → a.frame.part_of key < part_count a.frame.config) → IsBrief a.frame.config → a.frame.made < 2 ^ 63 → a.frame.latest ≡ a.frame.made → a.step ≡ 0 → ((part : ℕ) (s : Part S) → slice_get a.parts part ≡ Some s → IsNew name (settings_of a.frame.config a.frame.made) hasher a.frame.config.weight s) → IsWhole a × ((view a).count ≡ 0) × IsRecentOver a.frame.config a.parts true []
 made {S} a name hasher number placed brief range first step new =
     let none = none-yet 0 a.parts (λ k s there. (new k s there).records) in
     let count = ap (λ xs. length xs) none in (
@@ -155,6 +156,3 @@ made {S} a name hasher number placed brief range first step new =
       count,
       made_recent a.frame.config name (settings_of a.frame.config a.frame.made) hasher a.frame.config.weight a.parts new,
     )
-
-pub drains : {S : Type 0} → Drains S
-drains {S} = record { taken = taken-one; done = taken-all }

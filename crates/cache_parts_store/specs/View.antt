@@ -1,5 +1,6 @@
 -- A store over the parts of a cache, and what it shows.
-use Rattle.std.specs.Prelude.{◌≡◌, ℕ, Bool, suc, ◌≤◌, ◌^◌, max, List, [], ◌∷◌, ◌++◌, map, length, Some, slice_get}
+use Rattle.std.specs.Prelude.{◌≡◌, ℕ, Bool, suc, ◌≤◌, ◌^◌, max, min, List, [], ◌∷◌, ◌++◌, map, length, Option, Some, slice_get}
+use Rattle.std.specs.List.{sum_by}
 use Rattle.rand_core.specs.Stream.{Stream}
 use Rattle.audit_model.specs.declared.config.Config.{Config}
 use Rattle.audit_model.specs.declared.config.Weight.{Weight}
@@ -98,3 +99,14 @@ module _ {S : Type 0} where
     queue = a.queue ++ waiting parts;
     step = next;
   }
+
+  -- the number and the weight of all parts, as of their last runs, at most 2^64 - 1
+  abbrev pub total_number : List (Part S) → ℕ
+  total_number parts = min (sum_by (λ s. s.number) parts) 18446744073709551615
+
+  abbrev pub total_weight : List (Part S) → ℕ
+  total_weight parts = min (sum_by (λ s. s.weight) parts) 18446744073709551615
+
+-- what is kept of a value
+abbrev pub stored : List ℕ → Option ℕ → Stored
+stored bytes milliseconds = record { bytes = bytes; milliseconds = milliseconds }

@@ -12,8 +12,7 @@ use Rattle.cache_store.specs.Promises.{Frame}
 use Rattle.cache_parts_store.specs.View.{StoreOfParts, view}
 use Rattle.cache_parts_store.proofs.Settling.{made, sound}
 use Rattle.cache_parts_store.proofs.parts_kept.Identifying.{released}
-use Rattle.cache_front.specs.Laws.Laws.{Lent}
-use Rattle.cache_front.specs.Laws.State.{IsFit, store_of}
+use Rattle.cache_front.specs.Data.State.{IsFit, Lent, store_of}
 use Rattle.engine_reference.specs.Calls.{IsNew}
 use Rattle.engine_reference.specs.declared.data.Settings.{Settings}
 use Rattle.front_reference.specs.Fronts.{part_of, share_of}

@@ -1,52 +1,71 @@
 -- What the calls of a front come to in the store over it.
-use Rattle.std.proofs.Common.{◌≡◌, ◌≢◌, refl, ap, ◌∙◌, sym, subst, ℕ, suc, ◌+◌, ◌≤◌, ◌<◌, ◌^◌, arith, Bool, true, false, List, [], ◌∷◌, ◌++◌, length, map, Option, option_map, Some, None, slice_get, slice_set, if◌then◌else◌, true≢false, Result, Ok, Err, IfOk, OnErr}
+use Rattle.std.proofs.Common.{◌≡◌, ◌≢◌, refl, ap, ◌∙◌, sym, subst, ℕ, suc, ◌+◌, ◌≤◌, ◌<◌, ◌^◌, arith, Bool, true, false, List, [], ◌++◌, length, map, Option, option_map, Some, None, slice_get, slice_set, if◌then◌else◌, true≢false, Result, Ok, Err, IfOk, OnErr}
+use Rattle.std.specs.Prelude.{option_to_list}
 use Rattle.std.proofs.lemmas.List.{length-append, length-map}
 use Rattle.rand_core.specs.Stream.{Stream}
 use Rattle.audit_model.specs.Bytewise.{same}
-use Rattle.audit_model.specs.Changes.{all_held_after, held_after, left_held}
-use Rattle.audit_model.specs.Commands.{Covering, Everything, Prefixed}
+use Rattle.audit_model.specs.Changes.{all_held_after, held_after, left_held, newly_held}
+use Rattle.audit_model.specs.Commands.{Covering, Deed, Everything, Nothing, Prefixed}
 use Rattle.audit_model.specs.Situation.{HeldValue}
 use Rattle.audit_model.specs.declared.config.Config.{Config}
 use Rattle.audit_model.specs.declared.transcript.Note.{Note}
 use Rattle.audit_model.specs.declared.config.Weight.{Weight}
 use Rattle.cache_store.specs.declared.error.StoreError.{StoreError}
 use Rattle.cache_store.specs.declared.error.StoreError.TheVariants as refusals
-use Rattle.cache_store.specs.Handing.{TakesFirstNote}
 use Rattle.cache_store.specs.Promises.{covering, deleting, syncing, using}
-use Rattle.cache_store.specs.Values.{AcceptsValue, Does, GivesNote, IsAcceptable, IsLive, IsMoment, IsSettled, IsSoundStore, IsSpent, LacksIdentifiers}
+use Rattle.cache_store.specs.Values.{AcceptsValue, Does, IsAcceptable, IsLive, IsMoment, IsSettled, IsSoundStore, IsSpent, LacksIdentifiers}
 use Rattle.engine_reference.specs.Calls.{cleared_by, removal_rooms}
 use Rattle.engine_reference.specs.Scanning.{NotesLookUp}
 use Rattle.engine_reference.specs.declared.data.Notice.{Notice}
 use Rattle.engine_reference.specs.declared.data.Settings.{Settings}
-use Rattle.front_reference.specs.Fronts.{CallsAll, CallsPart, part_by_hash, part_of}
+use Rattle.front_reference.specs.Fronts.{CallsAll, CallsPart, part_by_hash, part_of, passed as passed_front}
 use Rattle.front_reference.specs.Wholes.{DrawsInVain, RunsPart}
 use Rattle.front_state.specs.Calls.{IsCauseOf, Ways, visible_of}
 use Rattle.front_reference.specs.declared.errors.CacheError.{CacheError}
 use Rattle.front_reference.specs.declared.errors.CacheError.TheVariants as errors
 use Rattle.front_state.specs.Covering.{CoversAll, IsCauseToCover}
 use Rattle.cache_parts.specs.Parts.{Part, Stored, items_of, note_from, service_answers}
-use Rattle.cache_parts_store.specs.Meets.{stored, total_number, total_weight}
-use Rattle.cache_parts_store.specs.View.{ComesTo, IsWhole, StoreOfParts, all_drained, view, waiting}
-use Rattle.cache_parts_store.proofs.Settling.{sound, used_up}
-use Rattle.cache_parts_store.proofs.Standing.{some_held, some_stand}
+use Rattle.cache_parts_store.specs.View.{ComesTo, IsWhole, StoreOfParts, after, all_drained, over_front, stored, total_number, total_weight, view, waiting}
+use Rattle.cache_parts_store.proofs.Calling.{accept as one_accept, after-is, changed, look_up as one_look_up, peek as one_peek, remove as one_remove}
+use Rattle.cache_parts_store.proofs.Covering.{clear as clear_parts, drop as drop_parts, lacks}
+use Rattle.cache_parts_store.proofs.Settling.{no_steps, no_tickets, run_all as run_parts, sound}
+use Rattle.cache_parts_store.proofs.Standing.{parts_are, some_held, some_stand}
 use Rattle.cache_front.specs.Data.Draining.{drained_at, waiting_at}
-use Rattle.cache_front.specs.Laws.Laws.{Lent, seen_in, settled}
-use Rattle.cache_front.specs.Laws.State.{IsFit, store_of}
+use Rattle.cache_front.specs.Data.State.{IsFit, Lent, settled}
 use Rattle.cache_front.proofs.data.Drains.{one_told}
-use Rattle.cache_front.proofs.laws.Calls.{accepted, cleared, dropped_by, given, lacking, ran, removed}
-use Rattle.cache_front.proofs.laws.Storing.{looked-up, peeked, taken}
+use Rattle.cache_front.proofs.data.Counting.{counted}
 use Rattle.cache_front.specs.Data.Data.{FrontData, InsertsBy, IsAnswerTo, LackTickets, TakesOutBy, parted_by}
 
 module _ {S : Type 0} (hash : S → List ℕ → ℕ) where
   -- the store when what a call told was taken
   abbrev pub then_by : FrontData S → Stream → Lent S → StoreOfParts S
-  then_by d stream g = settled S hash d.config d.made d.dropped d.queue stream g
+  then_by d stream g = settled hash d.config d.made d.dropped d.queue stream g
 
   -- what a call comes to once its notices are taken: the store shows this of it, is whole, and holds so many values with those told
   pub record Comes (d : FrontData S) (g : Lent S) (number : ℕ) (Shows : StoreOfParts S → Type 0) : Type 0 where
     pub shows : Shows (then_by d d.stream g)
     pub whole : IsWhole (then_by d d.stream g)
     pub number_is : length (items_of 0 (then_by d d.stream g).parts) + length (waiting g.parts) ≡ number
+
+  -- a call left these parts
+  left-is : (d : FrontData S) (g : Lent S) (now next : ℕ) (parts : List (Part S)) → g ≡ passed_front now next (record d.front { parts = parts }) → then_by d d.stream g ≡ after now next parts (parted_by hash d)
+  left-is d g now next parts is = ap (λ (x : Lent S). then_by d d.stream x) is
+
+  -- a call came to one part
+  changed-is : (d : FrontData S) (g : Lent S) (h now next : ℕ) (Rel : Part S → Part S → Type 0) (w : IsWhole (parted_by hash d)) (call : CallsPart h now next Rel d.front g)
+      → then_by d d.stream g ≡ changed (parted_by hash d) w now next (part_of d.front.bits h) call.call.after
+  changed-is d g h now next Rel w call =
+      let a = parted_by hash d in
+      left-is d g now next call.parts call.changed ∙ ap (λ ps. after now next ps a) call.call.changed ∙ after-is a w now next (part_of d.front.bits h) call.call.before call.call.after call.call.there
+
+  -- what a call comes to that left the store so
+  comes-to : (d : FrontData S) (g : Lent S) (count room number now : ℕ) (deed : Deed) (Shows : StoreOfParts S → Type 0) (b : StoreOfParts S) → IsFit (parted_by hash d) count room → deed.covers ≡ Nothing
+      → number ≡ count + length (option_to_list (option_map newly_held deed.value)) → then_by d d.stream g ≡ b → Does now deed (view (parted_by hash d)) (view b) → Shows b → IsWhole b → Comes d g number Shows
+  comes-to d g count room number now deed Shows b f none number_is is does shows whole =
+      let c = counted (parted_by hash d) (then_by d d.stream g) now deed f.whole none (subst (λ x. Does now deed (view (parted_by hash d)) (view x)) (sym is) does) in
+      let l = length-append (map note_from d.queue) (waiting g.parts) in
+      let e = f.counted in
+      record { shows = subst Shows (sym is) shows; whole = subst (λ x. IsWhole x) (sym is) whole; number_is = omega (arith, c, l, e, number_is) }
 
   -- and they were taken so
   pub record Takes (d : FrontData S) (g h : Lent S) (queue : List (Notice (List ℕ) Stored)) : Type 0 where
@@ -72,7 +91,9 @@ module _ {S : Type 0} (hash : S → List ℕ → ℕ) where
   with_front d queue front = record d { queue = queue; front = front }
 
   then_is : (d : FrontData S) (g h : Lent S) (queue : List (Notice (List ℕ) Stored)) → Takes d g h queue → parted_by hash (with_front d queue h) ≡ then_by d d.stream g
-  then_is d g h queue t = taken hash d.config d.made d.dropped d.queue queue d.stream g h t.drained t.queued
+  then_is d g h queue t =
+      ap (λ (x : Lent S). over_front d.config d.made d.dropped (hash x.common.hasher) (map note_from queue) d.stream x) t.drained
+      ∙ ap (λ (ns : List Note). over_front d.config d.made d.dropped (hash g.common.hasher) ns d.stream (record g { parts = all_drained g.parts })) t.queued
 
   -- no more were told than were held
   pub few_told : (d : FrontData S) (g : Lent S) (number : ℕ) (Shows : StoreOfParts S → Type 0) → Comes d g number Shows → length (waiting g.parts) ≤ number
@@ -95,34 +116,46 @@ module _ {S : Type 0} (hash : S → List ℕ → ℕ) where
 
   -- ---- calls that tell
 
+  still : (d : FrontData S) (now : ℕ) → IsMoment (view (parted_by hash d)) now → ComesTo (parted_by hash d) now d.front.step
+  still d now moment = record { moment = moment; rises = omega arith; one = omega arith }
+
   pub look_up : (d : FrontData S) (g : Lent S) (count room now : ℕ) (key : List ℕ) → IsFit (parted_by hash d) count room → IsMoment (view (parted_by hash d)) now
       → CallsPart (hash d.front.common.hasher key) now d.front.step (NotesLookUp service_answers same key (hash d.front.common.hasher key) now false) d.front g
       → Comes d g count (λ b. Does now (using key) (view (parted_by hash d)) (view b))
   look_up d g count room now key f moment call =
-      let t = looked-up hash d.config d.made d.dropped d.queue d.stream d.front g now key f.whole moment call in
-      record { shows = t.0; whole = t.1; number_is = t.2 ∙ sym f.counted }
-
-  still : (d : FrontData S) (now : ℕ) → IsMoment (view (parted_by hash d)) now → ComesTo (parted_by hash d) now d.front.step
-  still d now moment = record { moment = moment; rises = omega arith; one = omega arith }
+      let a = parted_by hash d in
+      let h = hash d.front.common.hasher key in
+      let both = one_look_up a f.whole now d.front.step h key call.call.before call.call.after (still d now moment) call.call.there call.call.does in
+      comes-to d g count room count now (using key) (λ b. Does now (using key) (view a) (view b)) (changed a f.whole now d.front.step (part_of d.front.bits h) call.call.after) f refl (omega arith)
+      (changed-is d g h now d.front.step _ f.whole call) both.0 both.0 both.1
 
   pub accept : (d : FrontData S) (g : Lent S) (count room now : ℕ) (key bytes : List ℕ) (milliseconds : Option ℕ) (looked_up : Bool) → IsFit (parted_by hash d) count room → IsMoment (view (parted_by hash d)) now
       → IsAcceptable d.config bytes milliseconds → count < 2 ^ 50 → InsertsBy hash key (stored bytes milliseconds) now d.front g
       → Comes d g (suc count) (λ b. AcceptsValue now key bytes milliseconds looked_up (part_of d.front.bits (hash d.front.common.hasher key)) (view (parted_by hash d)) (view b))
   accept d g count room now key bytes milliseconds looked_up f moment acceptable few call =
-      let t = accepted hash d.config d.made d.dropped d.queue d.stream d.front g now d.front.step key bytes milliseconds looked_up f.whole (still d now moment) acceptable (subst (λ n. n < 2 ^ 50) f.counted few) call in
-      record { shows = t.0; whole = t.1; number_is = t.2 ∙ ap suc (sym f.counted) }
+      let a = parted_by hash d in
+      let h = hash d.front.common.hasher key in
+      let both = one_accept a f.whole now d.front.step h key bytes milliseconds looked_up call.call.before call.call.after (still d now moment) acceptable (subst (λ n. n < 2 ^ 50) f.counted few) call.call.there call.call.does in
+      comes-to d g count room (suc count) now _ (λ b. AcceptsValue now key bytes milliseconds looked_up (part_of d.front.bits h) (view a) (view b)) (changed a f.whole now d.front.step (part_of d.front.bits h) call.call.after) f refl (omega arith)
+      (changed-is d g h now d.front.step _ f.whole call) both.0 (refl, both.0) both.1
 
   pub remove : (d : FrontData S) (g : Lent S) (count room now : ℕ) (key : List ℕ) → IsFit (parted_by hash d) count room → IsMoment (view (parted_by hash d)) now → TakesOutBy hash key now d.front g
       → Comes d g count (λ b. Does now (deleting key) (view (parted_by hash d)) (view b))
   remove d g count room now key f moment call =
-      let t = removed hash d.config d.made d.dropped d.queue d.stream d.front g now d.front.step key f.whole (still d now moment) call in
-      record { shows = t.0; whole = t.1; number_is = t.2 ∙ sym f.counted }
+      let a = parted_by hash d in
+      let h = hash d.front.common.hasher key in
+      let both = one_remove a f.whole now d.front.step key call.call.before call.call.after (still d now moment) call.call.there call.call.does in
+      comes-to d g count room count now (deleting key) (λ b. Does now (deleting key) (view a) (view b)) (changed a f.whole now d.front.step (part_of d.front.bits h) call.call.after) f refl (omega arith)
+      (changed-is d g h now d.front.step _ f.whole call) both.0 both.0 both.1
 
   pub run_all : (d : FrontData S) (g : Lent S) (count room now : ℕ) → IsFit (parted_by hash d) count room → IsMoment (view (parted_by hash d)) now → CallsAll now d.front.step (RunsPart service_answers now) d.front g
-      → Comes d g count (λ b. Does now syncing (view (parted_by hash d)) (view b) × IsSettled (view b) (total_number S g.parts) (total_weight S g.parts))
+      → Comes d g count (λ b. Does now syncing (view (parted_by hash d)) (view b) × IsSettled (view b) (total_number g.parts) (total_weight g.parts))
   run_all d g count room now f moment call =
-      let t = ran hash d.config d.made d.dropped d.queue d.stream d.front g now d.front.step f.whole (still d now moment) call in
-      record { shows = (t.0, t.2); whole = t.1; number_is = t.3 ∙ sym f.counted }
+      let a = parted_by hash d in
+      let b = after now d.front.step call.parts a in
+      let t = run_parts a now d.front.step call.parts f.whole (still d now moment) call.each in
+      comes-to d g count room count now syncing (λ x. Does now syncing (view a) (view x) × IsSettled (view x) (total_number g.parts) (total_weight g.parts)) b f refl (omega arith) (left-is d g now d.front.step call.parts call.changed) t.0
+      (t.0, subst (λ (ps : List (Part S)). IsSettled (view b) (total_number ps) (total_weight ps)) (sym (ap (λ (x : Lent S). x.parts) call.changed)) t.2) t.1
 
   -- ---- calls that cover
 
@@ -151,7 +184,9 @@ module _ {S : Type 0} (hash : S → List ℕ → ℕ) where
       → CallsAll now (suc d.front.step) (λ s t. t ≡ cleared_by (suc d.front.step) s) d.front g
       → Does now (covering Everything) (view (parted_by hash d)) (view (parted_by hash (record d { front = g }))) × IsFit (parted_by hash (record d { front = g })) count room
   clear d g count room now f moment call =
-      let t = cleared hash d.config d.made d.dropped d.queue d.stream d.front g now (suc d.front.step) f.whole (next d now moment) (omega arith) call in
+      let a = parted_by hash d in
+      let t = subst (λ (x : Lent S). Does now (covering Everything) (view a) (view (parted_by hash (record d { front = x }))) × IsWhole (parted_by hash (record d { front = x }))) (sym call.changed)
+      (clear_parts a now (suc d.front.step) call.parts f.whole (next d now moment) (omega arith) call.each) in
       let none = (t.0.done (some_held (parted_by hash d) f.whole) (some_stand (parted_by hash d) f.whole)).handed.none in
       (t.0, still_fits d (record d { front = g }) count room f t.1 (covered-count (parted_by hash d) (parted_by hash (record d { front = g })) now Everything f.whole t.0 none) refl)
 
@@ -162,54 +197,37 @@ module _ {S : Type 0} (hash : S → List ℕ → ℕ) where
   drop d g left id count room now prefix f moment call =
       let e = record d { dropped = true; stream = left; front = g } in
       let is = call.changed ∙ ap (λ (ps : List (Part S)). record d.front { parts = ps; moment = now; step = suc d.front.step }) call.covers.registers in
-      let t = dropped_by hash d.config d.made d.dropped d.queue d.stream left d.front g now (suc d.front.step) prefix call.covers.ids f.whole (next d now moment) (omega arith) call.covers.draws is in
+      let a = parted_by hash d in
+      let t = subst (λ (x : Lent S). Does now (covering (Prefixed prefix)) (view a) (view (parted_by hash (record e { front = x }))) × IsWhole (parted_by hash (record e { front = x }))) (sym is)
+      (drop_parts a now (suc d.front.step) prefix left call.covers.ids f.whole (next d now moment) (omega arith) call.covers.draws) in
       let none = (t.0.done (some_held (parted_by hash d) f.whole) (some_stand (parted_by hash d) f.whole)).handed.none in
       (t.0, still_fits d e count room f t.1 (covered-count (parted_by hash d) (parted_by hash e) now (Prefixed prefix) f.whole t.0 none) refl)
 
   pub lack : (d : FrontData S) (left : Stream) (count room : ℕ) → IsFit (parted_by hash d) count room → DrawsInVain d.front.parts d.stream left
       → LacksIdentifiers (view (parted_by hash d)) (view (parted_by hash (record d { stream = left }))) × IsFit (parted_by hash (record d { stream = left })) count room
   lack d left count room f vain =
-      let t = lacking hash d.config d.made d.dropped d.queue d.stream left d.front f.whole vain in
+      let t = lacks (parted_by hash d) left f.whole vain in
       (t.0, still_fits d (record d { stream = left }) count room f t.1 refl refl)
 
-  -- ---- a notice that is taken
-
-  pub give : (d : FrontData S) (notice : Notice (List ℕ) Stored) (queue : List (Notice (List ℕ) Stored)) (count room : ℕ) → IsFit (parted_by hash d) count room → d.queue ≡ notice ∷ queue
-      → let e = record d { queue = queue } in
-      TakesFirstNote (view (parted_by hash d)).untaken (view (parted_by hash e)).untaken (Some (note_from notice)) × GivesNote (view (parted_by hash d)) (view (parted_by hash e)) × IsFit (parted_by hash e) count room
-  give d notice queue count room f is =
-      let t = given hash d.config d.made d.dropped notice queue d.stream d.front (subst (λ (ns : List (Notice (List ℕ) Stored)). IsWhole (store_of hash d.config d.made d.dropped ns d.stream d.front)) is f.whole) in
-      let back : (P : List (Notice (List ℕ) Stored) → Type 0) → P (notice ∷ queue) → P d.queue = λ P p. subst P (sym is) p in (
-        back (λ ns. TakesFirstNote (map note_from ns) (map note_from queue) (Some (note_from notice))) t.0,
-        back (λ ns. GivesNote (view (store_of hash d.config d.made d.dropped ns d.stream d.front)) (view (parted_by hash (record d { queue = queue })))) t.1,
-        record { whole = t.2; counted = f.counted; room = (let r = f.room in let q = ap (λ ns. length (map note_from ns)) is in omega (arith, r, q)) },
-      )
-
-  pub keep : (d : FrontData S) → GivesNote (view (parted_by hash d)) (view (parted_by hash d))
-  keep d = record { stands = λ held s. s; frame = refl; used = λ settled keys u. u; identifiers = record { stream = refl; registered = λ part id r. r }; spent = refl }
-
   -- ---- what it answers, and what is true of it
-
-  seen-is : (o : Option (Part S)) (now : ℕ) (key : List ℕ) → visible_of (record { answers = service_answers; eq = same; hash = hash }) o now key ≡ seen_in o now key
-  seen-is None now key = refl
-  seen-is (Some s) now key = refl
 
   pub peek : (d : FrontData S) (now : ℕ) (key : List ℕ) (value : Option Stored) (bytes : Option (List ℕ)) → IsWhole (parted_by hash d)
       → value ≡ visible_of (record { answers = service_answers; eq = same; hash = hash }) (part_by_hash d.front (hash d.front.common.hasher key)) now key
       → bytes ≡ option_map (λ (v : Stored). v.bytes) value → IsLive (view (parted_by hash d)) now key bytes
   peek d now key value bytes w is shows = λ held stands.
-      shows ∙ ap (λ (o : Option Stored). option_map (λ (v : Stored). v.bytes) o) (is ∙ seen-is (part_by_hash d.front (hash d.front.common.hasher key)) now key)
-      ∙ peeked hash d.config d.made d.dropped d.queue d.stream d.front now key w held stands
+      let x = parts_are (parted_by hash d) w key in
+      shows ∙ ap (λ (o : Option Stored). option_map (λ (v : Stored). v.bytes) o) (is ∙ ap (λ o. visible_of (record { answers = service_answers; eq = same; hash = hash }) o now key) x.1)
+      ∙ one_peek (parted_by hash d) now key x.0 w x.1 held stands
 
   pub sound_is : (d : FrontData S) → IsWhole (parted_by hash d) → IsSoundStore (view (parted_by hash d))
   sound_is d w = sound (parted_by hash d) w
 
   -- the numbers are used up
   pub lacks_tickets : (d : FrontData S) → IsWhole (parted_by hash d) → LackTickets d.front.parts → IsSpent (view (parted_by hash d))
-  lacks_tickets d w l = used_up.tickets (parted_by hash d) l.0 2 l.1 w l.2 (omega arith) l.3
+  lacks_tickets d w l = no_tickets (parted_by hash d) l.0 2 l.1 w l.2 (omega arith) l.3
 
   pub lacks_steps : (d : FrontData S) → 2 ^ 64 ≤ suc d.front.step → IsSpent (view (parted_by hash d))
-  lacks_steps d l = used_up.steps (parted_by hash d) l
+  lacks_steps d l = no_steps (parted_by hash d) l
 
 -- ---- why a call of a front is refused
 

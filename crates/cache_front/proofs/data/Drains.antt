@@ -6,7 +6,7 @@ use Rattle.std.proofs.lemmas.List.{append-nil, append_assoc, length-append, leng
 use Rattle.std.proofs.lemmas.Option.{none-some}
 use Rattle.audit_model.specs.declared.transcript.Note.{Note}
 use Rattle.cache_front.specs.Data.Draining.{drained_at, waiting_at}
-use Rattle.cache_front.specs.Laws.Laws.{Lent}
+use Rattle.cache_front.specs.Data.State.{Lent}
 use Rattle.cache_parts.specs.Parts.{Part, Stored, drained, note_from}
 use Rattle.cache_parts_store.specs.View.{all_drained, waiting}
 use Rattle.cache_parts_store.proofs.Changing.{AreTaken, all_drained-none, drained-none, waiting-none}

@@ -92,9 +92,6 @@ module _ (test : List ℕ → Bool) where
     pub distinct : are_distinct all ≡ true
     pub texts_are : texts found ≡ sorted (filter test done)
 
-  pub sorts_start : (all : List (List ℕ)) (found : Keys) → are_distinct all ≡ true → found ≡ [] → Sorts all all found
-  sorts_start all found d e = record { done = []; whole = refl; distinct = d; texts_are = ap texts e }
-
   one-more : (done : List (List ℕ)) (key : List ℕ) → filter test (done ++ key ∷ []) ≡ filter test done ++ cond (test key) (key ∷ []) []
   one-more done key = filter-append test done (key ∷ []) ∙ ap (λ ks. filter test done ++ ks) (go (test key))
     where
@@ -128,9 +125,6 @@ module _ (test : List ℕ → Bool) where
     texts_are = s.texts_are ∙ sym (ap sorted (one-more s.done key ∙ ap (λ b. filter test s.done ++ cond b (key ∷ []) []) fails ∙ append-nil (filter test s.done)));
   }
 
-  pub sorts_end : (all : List (List ℕ)) (found : Keys) → Sorts all [] found → texts found ≡ sorted (filter test all)
-  sorts_end all found s = s.texts_are ∙ ap (λ ks. sorted (filter test ks)) (sym (append-nil s.done) ∙ sym s.whole)
-
 -- the next of a list
 pub item_next : (ks : List (List ℕ)) (i : ℕ) (item key : List ℕ) → i < length ks → item ≡ get_or ks i item → key ≡ item → drop i ks ≡ key ∷ drop (i + 1) ks
 item_next ks i item key lt at is = drop-cons ks i item lt ∙ ap (λ n. get_or ks i item ∷ drop n ks) (sym (add-one i)) ∙ ap (λ x. x ∷ drop (i + 1) ks) (sym at ∙ sym is)
@@ -150,9 +144,6 @@ pub record Lined (all rest : Keys) (lines : List ℕ) : Type 0 where
   pub done : Keys
   pub whole : all ≡ done ++ rest
   pub written : lines ≡ concat (map text_line (texts done))
-
-pub lined_start : (all : Keys) → Lined all all []
-lined_start all = record { done = []; whole = refl; written = refl }
 
 pub lined_more : (all rest : Keys) (lines new : List ℕ) (e : Bor (List ℕ) × Unit {0}) → new ≡ lines ++ text_line e.0.now → Lined all (e ∷ rest) lines → Lined all rest new
 lined_more all rest lines new e w l = record {

@@ -1,15 +1,12 @@
 -- Calls that cover, whatever they answer.
 use Rattle.std.proofs.Common.{◌≡◌, refl, ap, sym, ◌∙◌, subst, ℕ, suc, ◌≤◌, ◌^◌, ◌⊎◌, inl, inr, Bool, true, false, ◌||◌, List, Result, Ok, Err, OnOk, OnErr}
-use Rattle.std.specs.Result.{IsErrOf}
 use Rattle.rand_core.specs.Stream.{Stream}
 use Rattle.audit_model.specs.Commands.{Everything, Prefixed}
 use Rattle.cache_store.specs.Promises.{covering}
 use Rattle.cache_store.specs.Values.{Does, IsMoment, IsSpent, LacksIdentifiers}
 use Rattle.cache_store.specs.declared.error.StoreError.{StoreError}
-use Rattle.cache_store.specs.declared.error.StoreError.TheVariants as refusals
 use Rattle.cache_front.specs.Data.View.{view}
-use Rattle.cache_front.specs.Data.Laws.{Lent}
-use Rattle.cache_front.specs.Data.State.{IsFit}
+use Rattle.cache_front.specs.Data.State.{IsFit, Lent}
 use Rattle.engine_reference.specs.Calls.{cleared_by}
 use Rattle.front_reference.specs.Fronts.{CallsAll}
 use Rattle.front_reference.specs.Wholes.{DrawsInVain}
@@ -33,10 +30,6 @@ module _ {S : Type 0} (hash : S → List ℕ → ℕ) (d : FrontData S) (g : Len
       go (Err e) call same = subst (λ (x : Lent S). IsFit (parted_by hash (record d { front = x })) count room) (sym same) f
 
 module _ {S : Type 0} (hash : S → List ℕ → ℕ) (d : FrontData S) where
-  pub cleared_up : (r : Result (Unit {0}) StoreError) → OnErr r (IsErrOf r refusals.UsedUp × (2 ^ 64 ≤ suc d.front.step)) → OnErr r (IsErrOf r refusals.UsedUp × IsSpent (view (parted_by hash d)))
-  cleared_up (Ok u) is = tt
-  cleared_up (Err e) is = (is.0, lacks_steps hash d is.1)
-
   pub covered_up : (count room : ℕ) → IsFit (parted_by hash d) count room → LackTickets d.front.parts ⊎ (2 ^ 64 ≤ suc d.front.step) → IsSpent (view (parted_by hash d))
   covered_up count room f (inl lacks) = lacks_tickets hash d f.whole lacks
   covered_up count room f (inr last) = lacks_steps hash d last

@@ -8,7 +8,7 @@ use Rattle.audit_model.specs.declared.config.Config.{Config}
 use Rattle.audit_model.specs.declared.config.Weight.{Weight}
 use Rattle.cache_front.specs.declared.entries.hasher.WordBuilder.{WordBuilder}
 use Rattle.cache_front.specs.declared.entries.hasher.WordHasher.{WordHasher}
-use Rattle.cache_front.specs.Laws.State.{hash_by, store_of}
+use Rattle.cache_front.specs.Data.State.{hash_by, store_of}
 use Rattle.cache_parts.specs.Parts.{Part, Stored, service_answers}
 use Rattle.cache_parts_store.specs.View.{StoreOfParts, view}
 use Rattle.cache_store.specs.Values.{Values}

@@ -6,7 +6,7 @@ ghost use Rattle.engine_reference.specs.Calls.{cleared_by};
 ghost use Rattle.front_state.specs.Showing.{IsShown};
 ghost use Rattle.front_reference.specs.Fronts.{CallsAll, part_of};
 ghost use Rattle.front_reference.specs.Wholes.{DrawsInVain};
-ghost use Rattle.cache_parts_store.specs.Meets.{stored};
+ghost use Rattle.cache_parts_store.specs.View.{stored};
 ghost use Rattle.cache_front.specs.Data.Data.{hash_with, CoversBy, InsertsBy, IsAnswerTo, LackTickets, TakesOutBy};
 
 use crate::data::{Front, Notices};

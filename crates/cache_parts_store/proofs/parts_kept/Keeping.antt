@@ -103,15 +103,6 @@ module _ {S : Type 0} where
       taken = refl;
     }
 
-    -- maintenance, if it is due
-    pub kept-maintained : (new : Part S) → MaintainsIfDue service_answers now s new → IsKeptPart after part next (drained new)
-    kept-maintained new m = go (is_due s now) m
-      where
-        go : (b : Bool) → MatchBool b (RunsToEnd service_answers now s new) (new ≡ s) → IsKeptPart after part next (drained new)
-        go true run = kept-ran new run
-        go false is = subst (λ x. IsKeptPart after part next (drained x)) (sym is)
-            (record { hasher = h.hasher; front = front-drained common belongs now next s (keep.later common 63 same belongs frame.latest step now next s less rises h.front); own = own-drained after part next s own; reads = h.reads; taken = refl })
-
     -- a look-up
     pub kept-looked_up : (key : List ℕ) (hash : ℕ) (new : Part S) → NotesLookUp service_answers same key hash now false s new → IsKeptPart after part next (drained new)
     kept-looked_up key hash new look = record {

@@ -1,4 +1,4 @@
-use Rattle.std.proofs.Common.{◌≤◌, ◌∙◌, refl, arith, length}
+use Rattle.std.proofs.Common.{◌∙◌, refl, arith}
 use Rattle.std.specs.VecDeque.{deque_capacity}
 use Rattle.cache_parts_store.specs.View.{waiting}
 use Rattle.cache_front.proofs.data.Drains.{each_part, how_many, none_yet, one_part, part_fits}

@@ -1,6 +1,6 @@
 use Rattle.std.proofs.Common.{◌<◌, ap, sym, ◌∙◌, arith, length}
 use Rattle.std.specs.VecDeque.{deque_capacity, deque_len}
-use Rattle.cache_front.specs.Laws.Laws.{Lent}
+use Rattle.cache_front.specs.Data.State.{Lent}
 use Rattle.cache_front.specs.Data.Draining.{waiting_at}
 use Rattle.cache_front.proofs.data.Drains.{all_fit, all_taken, fewer, how_many, one_more, pushed_if}
 use Rattle.cache_front.proofs.data.draining.drain_at.Goals as goal

@@ -13,9 +13,9 @@ use Rattle.audit_model.specs.Values.{untold, without_key}
 use Rattle.audit_model.specs.View.{Candidate}
 use Rattle.audit_model.specs.declared.config.Config.{Config}
 use Rattle.audit_model.specs.declared.transcript.Note.{Note}
-use Rattle.cache_store.specs.Values.{HandsBy}
+use Rattle.cache_store.specs.Values.{Does, HandsBy}
 use Rattle.cache_parts.specs.Parts.{items_of}
-use Rattle.cache_front.specs.Laws.Laws.{TellsEachOnce}
+use Rattle.cache_parts_store.specs.View.{IsWhole, StoreOfParts, view}
 use Rattle.cache_parts_store.proofs.Standing.{some_held, some_stand}
 
 first-part : (a b : Bool) → (a && b) ≡ true → a ≡ true
@@ -102,8 +102,8 @@ handed Nothing old new told is h = ap length h.added ∙ length-append old told
 handed Everything old new told is h = let no : ⊥ = cc in absurd no
 handed (Prefixed prefix) old new told is h = let no : ⊥ = cc in absurd no
 
--- AS MANY NOTES AS VALUES LEFT
-pub counted : {S : Type 0} → TellsEachOnce S
+-- A CALL THAT COVERS NOTHING TELLS EACH NOTE OF ANOTHER VALUE: that many fewer values are held, not counting the one that it accepts
+pub counted : {S : Type 0} → (a b : StoreOfParts S) (now : ℕ) (deed : Deed) → IsWhole a → deed.covers ≡ Nothing → Does now deed (view a) (view b) → length (items_of 0 b.parts) + length b.queue ≡ length (items_of 0 a.parts) + length a.queue + length (option_to_list (option_map newly_held deed.value))
 counted {S} a b now deed w nothing does =
     let done = does.done (some_held a w) (some_stand a w) in
     let e = held-exact a.frame.config now (some_held a w) deed done.told done.right in
