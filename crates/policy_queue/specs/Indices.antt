@@ -1,5 +1,5 @@
 -- A queue of indices as its callers see it, and the array of places behind it.
-use Rattle.std.specs.Prelude.{◌≡◌, ◌≢◌, ℕ, ◌+◌, ◌-◌, ◌<◌, ◌≤◌, ◌^◌, ◌/◌, ◌||◌, eqb, nat_lt, Bool, false, List, [], ◌∷◌, ◌++◌, length, min, slice_index_or, if◌then◌else◌}
+use Rattle.std.specs.Prelude.{◌≡◌, ◌≢◌, ℕ, ◌+◌, ◌-◌, ◌<◌, ◌≤◌, ◌^◌, ◌/◌, ◌||◌, eqb, nat_lt, Bool, false, List, [], ◌∷◌, ◌++◌, length, max, min, slice_index_or, if◌then◌else◌}
 use Rattle.policy_queue.specs.declared.index_queue.Cursors.{Cursors}
 
 -- the indices front to back, how many more need no allocation, and below what bound they then are
@@ -132,4 +132,5 @@ pub record IsIndexed (places : List ℕ) (capacity : ℕ) (seats : List ℕ) (le
   pub arranged : AreArranged places seats cursors
   pub counted : len ≡ length (order places)
   pub enough : len ≤ indices_for capacity
+  pub free : length places < max (min capacity (2 ^ 32 - 1)) 1
   pub early : closes_at ≤ min capacity (2 ^ 32 - 1) - 1

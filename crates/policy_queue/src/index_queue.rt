@@ -137,6 +137,7 @@ impl IndexQueue {
     }
 
     /// Reserves room for `n` more indices, each below `bound`: their pushes then allocate nothing.
+    #[inline]
     pub fn reserve(&mut self, n: usize, bound: u32) -> Result<(), AllocError>
         ensures room { OnOk result (n ≤ self.new.room) }
         ensures bound { OnOk result (bound ≤ self.new.bound) }
@@ -159,15 +160,15 @@ impl IndexQueue {
         ensures { self.new ≡ record self.old
             { indices = self.old.indices ++ index ∷ []; room = self.old.room - 1 } }
     {
+        self.seats[index as usize] = self.places.len() as u32;
+        self.places.push_reserved(index);
+        self.len += 1;
         make_place(
             &mut self.places,
             &mut self.seats,
             &mut self.cursors,
             self.closes_at,
         );
-        self.seats[index as usize] = self.places.len() as u32;
-        self.places.push_reserved(index);
-        self.len += 1;
     }
 
     /// Moves an index that is in the queue to the back.
@@ -176,13 +177,13 @@ impl IndexQueue {
         ensures { self.new
             ≡ record self.old { indices = index_moved_to_back index self.old.indices } }
     {
+        put_last(&mut self.places, &mut self.seats, &mut self.cursors, index);
         make_place(
             &mut self.places,
             &mut self.seats,
             &mut self.cursors,
             self.closes_at,
         );
-        put_last(&mut self.places, &mut self.seats, &mut self.cursors, index);
     }
 
     /// Removes an index that is in the queue.
@@ -316,6 +317,7 @@ fn take_off(places: &mut Vec<u32>, seats: &mut Vec<u32>, cursors: &mut Cursors, 
     ensures taken { order places.new.items ≡ without_index index (order places.old.items) }
     ensures arranged { AreArranged places.new.items seats.new.items cursors.new }
     ensures bound { vec_len seats.new ≡ vec_len seats.old }
+    ensures fewer { vec_len places.new ≤ vec_len places.old }
     ensures capacity { vec_capacity places.new ≡ vec_capacity places.old }
 {
     let k = seats[index as usize] as usize;
@@ -339,14 +341,15 @@ fn put_last(places: &mut Vec<u32>, seats: &mut Vec<u32>, cursors: &mut Cursors, 
     ensures capacity { vec_capacity places.new ≡ vec_capacity places.old }
 {
     let k = seats[index as usize] as usize;
-    if k + 1 == places.len() {
+    let len = places.len();
+    if k + 1 == len {
         return;
     }
     places[k] = EMPTY;
     if k == cursors.front {
         cursors.front = next_taken(places.as_slice(), *cursors, k + 1);
     }
-    seats[index as usize] = places.len() as u32;
+    seats[index as usize] = len as u32;
     places.push_reserved(index);
 }
 
@@ -399,7 +402,6 @@ fn close_rest(places: &mut Vec<u32>, seats: &mut Vec<u32>, cursors: &mut Cursors
 }
 
 /// Compacts the next places, a step of them or all that are left.
-#[inline(never)]
 fn close_some(places: &mut Vec<u32>, seats: &mut Vec<u32>, cursors: &mut Cursors)
     requires arranged { AreArranged places.old.items seats.old.items cursors.old }
     requires some { 0 < vec_len places.old }
@@ -451,7 +453,23 @@ fn last_uncompacted(most: usize) -> usize
     (most - most / STEP).saturating_sub(1)
 }
 
-/// Compacts the next places if there are more than `closes_at`, and all empty ones if no place is free at the end.
+/// Compacts the next places, and all empty ones if no place is free at the end.
+#[inline(never)]
+fn compact(places: &mut Vec<u32>, seats: &mut Vec<u32>, cursors: &mut Cursors)
+    requires arranged { AreArranged places.old.items seats.old.items cursors.old }
+    requires some { 0 < vec_len places.old }
+    requires place { length (order places.old.items) < min (vec_capacity places.old) (2 ^ 32 - 1) }
+    ensures same { order places.new.items ≡ order places.old.items }
+    ensures free { vec_len places.new < min (vec_capacity places.new) (2 ^ 32 - 1) }
+    ensures arranged { AreArranged places.new.items seats.new.items cursors.new }
+    ensures bound { vec_len seats.new ≡ vec_len seats.old }
+    ensures capacity { vec_capacity places.new ≡ vec_capacity places.old }
+{
+    close_some(places, seats, cursors);
+    free_place(places, seats, cursors);
+}
+
+/// Keeps a place free at the end. With more places than `closes_at`, the next ones are compacted.
 fn make_place(places: &mut Vec<u32>, seats: &mut Vec<u32>, cursors: &mut Cursors, closes_at: usize)
     requires arranged { AreArranged places.old.items seats.old.items cursors.old }
     requires place { length (order places.old.items) < min (vec_capacity places.old) (2 ^ 32 - 1) }
@@ -463,7 +481,6 @@ fn make_place(places: &mut Vec<u32>, seats: &mut Vec<u32>, cursors: &mut Cursors
     ensures capacity { vec_capacity places.new ≡ vec_capacity places.old }
 {
     if places.len() > closes_at {
-        close_some(places, seats, cursors);
-        free_place(places, seats, cursors);
+        compact(places, seats, cursors);
     }
 }

@@ -45,7 +45,7 @@ returns-clause-arranged c =
     let at = seated_there c.args.places.now.items c.args.seats.now.items c.args.cursors.now c.requires.arranged c.args.index c.index.result.now c.requires.there (get_or_read _ _ _ lt c.index.ensures vacant) in
     let ok = c.args.places.now.ok.0 in
     let len = length-set c.args.places.now.items c.index.result.now vacant in
-    let here : c.len-2.result ≡ length (set c.args.places.now.items c.index.result.now vacant) = omega arith in
+    let here : c.len-len.result ≡ length (set c.args.places.now.items c.index.result.now vacant) = omega arith in
     let more : c.index.result.now + 1 ≢ length (set c.args.places.now.items c.index.result.now vacant) = λ e. c.if-k-len.false (omega arith) in
     let left = left_ends-but c.args.places.now.items c.args.seats.now.items c.args.cursors.now c.args.index c.index.result.now c.requires.arranged at in
     elim c.if-k-cursors.branch [

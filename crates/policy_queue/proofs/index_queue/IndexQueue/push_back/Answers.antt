@@ -1,36 +1,62 @@
-use Rattle.std.proofs.Common.{◌≡◌, ◌≢◌, ◌<◌, ◌++◌, ◌∷◌, [], sym, ap, ◌∙◌, length, subst, arith}
+use Rattle.std.proofs.Common.{◌≡◌, ◌≢◌, ◌<◌, ap, ◌∙◌, length, vec_capacity, arith}
 use Rattle.std.proofs.lemmas.List.{length-set, length_push}
-use Rattle.policy_queue.specs.Indices.{Lacks, order, vacant, indices_for}
+use Rattle.policy_queue.specs.Indices.{order, vacant, indices_for}
 use Rattle.policy_queue.proofs.Order.{order_push}
 use Rattle.policy_queue.proofs.Listed.{lacks_not_had}
-use Rattle.policy_queue.proofs.Arranged.{arranged_pushed, same_indices}
+use Rattle.policy_queue.proofs.Arranged.{arranged_pushed, indices_for-below, same_indices}
 use Rattle.policy_queue.proofs.index_queue.IndexQueue.push_back.Goals as goal
 
-pub invariant_of-self : goal.invariant_of-self
-invariant_of-self c =
+pub push_reserved-requires : goal.push_reserved-requires
+push_reserved-requires c =
+    let room = rw (← c.self.view_is) at c.requires.room in
+    let free = c.self.invariant.free in
+    let ok = c.self.inside.places.ok.0 in
+    let below = indices_for-below (vec_capacity c.self.inside.places) (omega arith) in
+    omega arith
+
+pub make_place-requires-clause-arranged : goal.make_place-requires-clause-arranged
+make_place-requires-clause-arranged c =
     let lacks = lacks_not_had c.args.index _ (rw (← c.self.view_is) at c.requires.new) in
     let bound = rw (← c.self.view_is) at c.requires.bound in
     let room = rw (← c.self.view_is) at c.requires.room in
+    let free = c.self.invariant.free in
+    let ok = c.self.inside.places.ok.0 in
+    let seats = c.self.inside.seats.ok.0 in
+    let here : c.len.result ≡ length c.self.inside.places.items = c.len.ensures ∙ ok in
+    let within : c.args.index < length c.self.inside.seats.items = omega arith in
+    let below = indices_for-below (vec_capacity c.self.inside.places) (omega arith) in
+    rw (c.push_reserved.ensures.items, here) (arranged_pushed c.self.inside.places.items c.self.inside.seats.items c.self.inside.cursors c.args.index c.self.invariant.arranged lacks within (omega arith))
+
+pub make_place-requires-clause-place : goal.make_place-requires-clause-place
+make_place-requires-clause-place c =
+    let bound = rw (← c.self.view_is) at c.requires.bound in
+    let room = rw (← c.self.view_is) at c.requires.room in
     let few = c.self.invariant.arranged.few in
-    let ok = c.make_place.new.places.ok.0 in
-    let seats = c.make_place.new.seats.ok.0 in
     let was = c.self.inside.seats.ok.0 in
-    let here : c.len.result ≡ length c.make_place.new.places.items = c.len.ensures ∙ ok in
-    let within : c.args.index < length c.make_place.new.seats.items = omega arith in
     let named : c.args.index ≢ vacant = λ e. absurd (omega arith) in
-    let pushed = ap length (order_push c.make_place.new.places.items c.args.index named) ∙ length_push _ _ in
-    let same = ap length c.make_place.ensures.same in
-    let cap = c.push_reserved.ensures.capacity ∙ c.make_place.ensures.capacity in
+    let pushed = ap length (ap order c.push_reserved.ensures.items ∙ order_push c.self.inside.places.items c.args.index named) ∙ length_push _ _ in
+    let cap = c.push_reserved.ensures.capacity in
+    let counted = c.self.invariant.counted in
+    let enough = c.self.invariant.enough in
+    let below = indices_for-below (vec_capacity c.self.inside.places) (omega arith) in
+    omega arith
+
+pub invariant_of-self : goal.invariant_of-self
+invariant_of-self c =
+    let bound = rw (← c.self.view_is) at c.requires.bound in
+    let room = rw (← c.self.view_is) at c.requires.room in
+    let few = c.self.invariant.arranged.few in
+    let was = c.self.inside.seats.ok.0 in
+    let named : c.args.index ≢ vacant = λ e. absurd (omega arith) in
+    let pushed = ap length (c.make_place.ensures.same ∙ ap order c.push_reserved.ensures.items ∙ order_push c.self.inside.places.items c.args.index named) ∙ length_push _ _ in
+    let cap = c.make_place.ensures.capacity ∙ c.push_reserved.ensures.capacity in
     let fits = ap indices_for cap in
     let counted = c.self.invariant.counted in
     let enough = c.self.invariant.enough in
     let early = c.self.invariant.early in
-    rw (c.push_reserved.ensures.items, here) (record {
-      arranged = arranged_pushed c.make_place.new.places.items c.make_place.new.seats.items c.make_place.new.cursors c.args.index c.make_place.ensures.arranged (subst (Lacks c.args.index) (sym c.make_place.ensures.same) lacks) within (omega arith);
-      counted = omega arith;
-      enough = omega arith;
-      early = omega arith;
-    })
+    let free = c.make_place.ensures.free in
+    let ok = c.make_place.new.places.ok.0 in
+    record { arranged = c.make_place.ensures.arranged; counted = omega arith; enough = omega arith; free = omega arith; early = omega arith }
 
 pub returns : goal.returns
 returns c =
@@ -39,7 +65,8 @@ returns c =
     let seats = c.make_place.new.seats.ok.0 in
     let was = c.self.inside.seats.ok.0 in
     let named : c.args.index ≢ vacant = λ e. absurd (omega arith) in
-    let cap = ap indices_for (c.push_reserved.ensures.capacity ∙ c.make_place.ensures.capacity) in
+    let cap = ap indices_for (c.make_place.ensures.capacity ∙ c.push_reserved.ensures.capacity) in
     let enough = c.self.invariant.enough in
-    let same = length-set c.make_place.new.seats.items c.args.index c.len.result in
-    rw (← c.self.view_is) (same_indices _ _ (ap order c.push_reserved.ensures.items ∙ order_push c.make_place.new.places.items c.args.index named ∙ ap (λ r. r ++ c.args.index ∷ []) c.make_place.ensures.same) (omega arith) (omega arith))
+    let same = length-set c.self.inside.seats.items c.args.index c.len.result in
+    let still = c.make_place.ensures.bound in
+    rw (← c.self.view_is) (same_indices _ _ (c.make_place.ensures.same ∙ ap order c.push_reserved.ensures.items ∙ order_push c.self.inside.places.items c.args.index named) (omega arith) (omega arith))

@@ -14,7 +14,11 @@ invariant_of-self c =
     let fits = ap indices_for cap in
     let enough = c.self.invariant.enough in
     let early = c.self.invariant.early in
-    record { arranged = c.take_off.ensures.arranged; counted = omega arith; enough = omega arith; early = omega arith }
+    let free = c.self.invariant.free in
+    let was = c.self.inside.places.ok.0 in
+    let now = c.take_off.new.places.ok.0 in
+    let fewer = c.take_off.ensures.fewer in
+    record { arranged = c.take_off.ensures.arranged; counted = omega arith; enough = omega arith; free = omega arith; early = omega arith }
 
 pub returns : goal.returns
 returns c =
