@@ -13,6 +13,10 @@ use engine_reference::Rules;
 use std::alloc::AllocError;
 use std::hash::{BuildHasher, Hash};
 
+/// For how many records more than are asked for space is made: those whose writes wait for a run, and those to come for which room is made
+/// ahead.
+const WAITING: usize = 128;
+
 impl<K: Eq + Hash, V, S: BuildHasher, R: Rules<K, V>> Tables<K, V, S, R> {
     /// The place of the record of a number, by the hash of its key. If it is there it is held.
     pub fn place_of_number(&self, number: u64, hash: u64) -> Option<usize>
@@ -42,7 +46,8 @@ impl<K: Eq + Hash, V, S: BuildHasher, R: Rules<K, V>> Tables<K, V, S, R> {
         });
     }
 
-    /// Makes space for so many records, in tables that have none, and answers whether there was memory for it.
+    /// Makes space for so many records, and for those that wait for a run, in tables that have none, and answers whether there was memory
+    /// for it.
     pub fn make_space(&mut self, records: usize) -> bool
         ensures { self.new ≡ self.old }
     {
@@ -52,7 +57,7 @@ impl<K: Eq + Hash, V, S: BuildHasher, R: Rules<K, V>> Tables<K, V, S, R> {
             &mut self.access,
             &mut self.order,
             &mut self.keys,
-            records,
+            records.saturating_add(WAITING),
             0,
         )
     }
