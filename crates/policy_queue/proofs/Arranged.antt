@@ -141,6 +141,10 @@ module _ (ps ss : List ℕ) (cs : Cursors) (h : AreArranged ps ss cs) where
   pub seated_there : (x k : ℕ) → has_index x (order ps) ≡ true → k ≡ get_or ss x vacant → IsSeatedAt ps ss x k
   seated_there x k has e = subst (λ j. IsSeatedAt ps ss x j) (sym e) (has_seat ps ss h.seated x h.few (seat_taken x has))
 
+  -- and a place
+  pub place_there : (x : ℕ) → has_index x (order ps) ≡ true → get_or ss x vacant < length ps
+  place_there x has = within_at ps ss cs x (get_or ss x vacant) h (seated_there x (get_or ss x vacant) has refl)
+
   pub head_front : 0 < length ps → head (order ps) ≡ Some (get_or ps cs.front vacant)
   head_front some = ap head (sym (order_drop_front ps cs.front h.ends.before) ∙ order_drop_some ps cs.front (h.ends.first some).1)
 

@@ -87,6 +87,7 @@ impl IndexQueue {
     }
 
     /// Returns whether the queue has the index.
+    #[tactic(auto, using(crate::proofs::Arranged::has_taken, crate::proofs::Arranged::has_vacant))]
     pub fn contains(&self, index: u32) -> bool
         ensures { result ≡ has_index index self.now.indices }
     {
@@ -97,6 +98,7 @@ impl IndexQueue {
     }
 
     /// Returns the first index.
+    #[tactic(auto, using(crate::proofs::Arranged::head_front))]
     pub fn first(&self) -> Option<u32>
         ensures { result ≡ head self.now.indices }
     {
@@ -107,6 +109,7 @@ impl IndexQueue {
     }
 
     /// Returns the last index.
+    #[tactic(auto, using(crate::proofs::Arranged::final_last))]
     pub fn last(&self) -> Option<u32>
         ensures { result ≡ final self.now.indices }
     {
@@ -117,6 +120,7 @@ impl IndexQueue {
     }
 
     /// Returns the index after this one, which must be in the queue.
+    #[tactic(auto, using(crate::proofs::Arranged::seat_there, crate::proofs::Arranged::place_there))]
     pub fn behind(&self, index: u32) -> Option<u32>
         requires { IsTrue (has_index index self.now.indices) }
         ensures { result ≡ head (tail (from_index index self.now.indices)) }
@@ -153,6 +157,7 @@ impl IndexQueue {
     }
 
     /// Appends an index that is not in the queue.
+    #[tactic(auto, using(crate::proofs::Order::order_push, crate::proofs::Listed::lacks_not_had))]
     pub fn push_back(&mut self, index: u32)
         requires new { has_index index self.old.indices ≡ false }
         requires bound { index < self.old.bound }
@@ -172,6 +177,7 @@ impl IndexQueue {
     }
 
     /// Moves an index that is in the queue to the back.
+    #[tactic(auto, using(crate::proofs::Listed::length_without, crate::proofs::Listed::length_moved))]
     pub fn move_to_back(&mut self, index: u32)
         requires { IsTrue (has_index index self.old.indices) }
         ensures { self.new
@@ -187,6 +193,7 @@ impl IndexQueue {
     }
 
     /// Removes an index that is in the queue.
+    #[tactic(auto, using(crate::proofs::Listed::length_without))]
     pub fn remove(&mut self, index: u32)
         requires { IsTrue (has_index index self.old.indices) }
         ensures { self.new ≡ record self.old
@@ -198,6 +205,7 @@ impl IndexQueue {
 }
 
 /// The indices of a queue are different from one another.
+#[tactic(auto, using(crate::proofs::Seats::apart_order, crate::proofs::Seats::one_place))]
 pub fn indices_are_apart(queue: &IndexQueue)
     ensures { AreApart queue.now.indices }
 {
@@ -311,6 +319,7 @@ fn trim(places: &mut Vec<u32>, cursors: &mut Cursors)
 }
 
 /// Takes an index out of its place.
+#[tactic(auto, using(crate::proofs::Arranged::seat_there, crate::proofs::Arranged::place_there))]
 fn take_off(places: &mut Vec<u32>, seats: &mut Vec<u32>, cursors: &mut Cursors, index: u32)
     requires arranged { AreArranged places.old.items seats.old.items cursors.old }
     requires there { IsTrue (has_index index (order places.old.items)) }
@@ -331,6 +340,7 @@ fn take_off(places: &mut Vec<u32>, seats: &mut Vec<u32>, cursors: &mut Cursors, 
 }
 
 /// Moves an index to a new place at the end, unless it is in the last one.
+#[tactic(auto, using(crate::proofs::Arranged::seat_there, crate::proofs::Arranged::place_there))]
 fn put_last(places: &mut Vec<u32>, seats: &mut Vec<u32>, cursors: &mut Cursors, index: u32)
     requires arranged { AreArranged places.old.items seats.old.items cursors.old }
     requires there { IsTrue (has_index index (order places.old.items)) }

@@ -2,28 +2,8 @@ use Rattle.std.proofs.Common.{◌≢◌, ◌+◌, ◌∙◌, length, set, subst,
 use Rattle.std.proofs.lemmas.List.{length-set, get_or_read}
 use Rattle.policy_queue.specs.Indices.{vacant, IsCutShort}
 use Rattle.policy_queue.proofs.Ends.{Ends-advanced, Ends-between}
-use Rattle.policy_queue.proofs.Arranged.{seat_there, seated_there, within_at, arranged_trimmed, arranged_fronted, left_without, left_ends-but}
+use Rattle.policy_queue.proofs.Arranged.{seat_there, seated_there, arranged_trimmed, arranged_fronted, left_without, left_ends-but}
 use Rattle.policy_queue.proofs.index_queue.take_off.Goals as goal
-
-pub index-requires : goal.index-requires
-index-requires c =
-    let lt = seat_there c.args.places.now.items c.args.seats.now.items c.args.cursors.now c.requires.arranged c.args.index c.requires.there in
-    let ok = c.args.seats.now.ok.0 in
-    omega arith
-
-pub index_mut-requires : goal.index_mut-requires
-index_mut-requires c =
-    let lt = seat_there c.args.places.now.items c.args.seats.now.items c.args.cursors.now c.requires.arranged c.args.index c.requires.there in
-    let ok = c.args.seats.now.ok.0 in
-    omega arith
-
-pub index_mut-requires-2 : goal.index_mut-requires-2
-index_mut-requires-2 c =
-    let lt = seat_there c.args.places.now.items c.args.seats.now.items c.args.cursors.now c.requires.arranged c.args.index c.requires.there in
-    let at = seated_there c.args.places.now.items c.args.seats.now.items c.args.cursors.now c.requires.arranged c.args.index c.index.result.now c.requires.there (get_or_read _ _ _ lt c.index.ensures vacant) in
-    let k = within_at c.args.places.now.items c.args.seats.now.items c.args.cursors.now c.args.index c.index.result.now c.requires.arranged at in
-    let ok = c.args.places.now.ok.0 in
-    omega arith
 
 pub returns-then-k-len-clause-arranged : goal.returns-then-k-len-clause-arranged
 returns-then-k-len-clause-arranged c =

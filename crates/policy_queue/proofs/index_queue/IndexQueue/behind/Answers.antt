@@ -2,24 +2,8 @@ use Rattle.std.proofs.Common.{◌+◌, ◌<◌, Some, sym, ap, ◌∙◌, length
 use Rattle.std.proofs.lemmas.List.{get_or_read}
 use Rattle.policy_queue.specs.Indices.{vacant}
 use Rattle.policy_queue.specs.Queue.{head}
-use Rattle.policy_queue.proofs.Arranged.{seat_there, seated_there, within_at, behind_there, head_from, none_from}
+use Rattle.policy_queue.proofs.Arranged.{seat_there, seated_there, behind_there, head_from, none_from}
 use Rattle.policy_queue.proofs.index_queue.IndexQueue.behind.Goals as goal
-
-pub index-requires : goal.index-requires
-index-requires c =
-    let has = rw (← c.self.view_is) at c.requires in
-    let lt = seat_there c.self.inside.places.items c.self.inside.seats.items c.self.inside.cursors c.self.invariant.arranged c.args.index has in
-    let ok = c.self.inside.seats.ok.0 in
-    omega arith
-
-pub next_taken-next-requires-clause-low : goal.next_taken-next-requires-clause-low
-next_taken-next-requires-clause-low c =
-    let has = rw (← c.self.view_is) at c.requires in
-    let lt = seat_there c.self.inside.places.items c.self.inside.seats.items c.self.inside.cursors c.self.invariant.arranged c.args.index has in
-    let read = get_or_read _ _ _ lt c.index.ensures vacant in
-    let at = seated_there c.self.inside.places.items c.self.inside.seats.items c.self.inside.cursors c.self.invariant.arranged c.args.index c.index.result.now has read in
-    let inside = within_at c.self.inside.places.items c.self.inside.seats.items c.self.inside.cursors c.args.index c.index.result.now c.self.invariant.arranged at in
-    rw c.as_slice.ensures.value (omega arith)
 
 pub returns-then-next-len : goal.returns-then-next-len
 returns-then-next-len c =

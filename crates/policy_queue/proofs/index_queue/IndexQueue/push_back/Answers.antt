@@ -1,18 +1,10 @@
 use Rattle.std.proofs.Common.{◌≡◌, ◌≢◌, ◌<◌, ap, ◌∙◌, length, vec_capacity, arith}
-use Rattle.std.proofs.lemmas.List.{length-set, length_push}
+use Rattle.std.proofs.lemmas.List.{length_push}
 use Rattle.policy_queue.specs.Indices.{order, vacant, indices_for}
 use Rattle.policy_queue.proofs.Order.{order_push}
 use Rattle.policy_queue.proofs.Listed.{lacks_not_had}
-use Rattle.policy_queue.proofs.Arranged.{arranged_pushed, indices_for-below, same_indices}
+use Rattle.policy_queue.proofs.Arranged.{arranged_pushed, indices_for-below}
 use Rattle.policy_queue.proofs.index_queue.IndexQueue.push_back.Goals as goal
-
-pub push_reserved-requires : goal.push_reserved-requires
-push_reserved-requires c =
-    let room = rw (← c.self.view_is) at c.requires.room in
-    let free = c.self.invariant.free in
-    let ok = c.self.inside.places.ok.0 in
-    let below = indices_for-below (vec_capacity c.self.inside.places) (omega arith) in
-    omega arith
 
 pub make_place-requires-clause-arranged : goal.make_place-requires-clause-arranged
 make_place-requires-clause-arranged c =
@@ -57,16 +49,3 @@ invariant_of-self c =
     let free = c.make_place.ensures.free in
     let ok = c.make_place.new.places.ok.0 in
     record { arranged = c.make_place.ensures.arranged; counted = omega arith; enough = omega arith; free = omega arith; early = omega arith }
-
-pub returns : goal.returns
-returns c =
-    let bound = rw (← c.self.view_is) at c.requires.bound in
-    let few = c.self.invariant.arranged.few in
-    let seats = c.make_place.new.seats.ok.0 in
-    let was = c.self.inside.seats.ok.0 in
-    let named : c.args.index ≢ vacant = λ e. absurd (omega arith) in
-    let cap = ap indices_for (c.make_place.ensures.capacity ∙ c.push_reserved.ensures.capacity) in
-    let enough = c.self.invariant.enough in
-    let same = length-set c.self.inside.seats.items c.args.index c.len.result in
-    let still = c.make_place.ensures.bound in
-    rw (← c.self.view_is) (same_indices _ _ (c.make_place.ensures.same ∙ ap order c.push_reserved.ensures.items ∙ order_push c.self.inside.places.items c.args.index named) (omega arith) (omega arith))
