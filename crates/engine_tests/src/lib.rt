@@ -24,4 +24,6 @@ mod rows;
 #[cfg(test)]
 mod running;
 #[cfg(test)]
+mod without_memory;
+#[cfg(test)]
 mod writes;

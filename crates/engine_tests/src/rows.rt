@@ -7,5 +7,7 @@ mod values;
 
 pub use calls::put;
 pub use rules::{Folding, ITSELF, Numbers};
-pub use script::{CASE, Case, Look, Row, SECOND, SETTINGS, none_wrong};
+pub use script::{
+    CASE, Case, Look, Row, SECOND, SETTINGS, at, empty_cache, none_wrong, wrong_among,
+};
 pub use values::NOT_CLONED;

@@ -150,7 +150,7 @@ pub const CASE: Case<'static> = Case {
 /// For how many entries a cache is made.
 const INITIAL_CAPACITY: usize = 2;
 
-fn at(nanos: u64) -> Instant {
+pub fn at(nanos: u64) -> Instant {
     Instant::from_nanos(nanos.min(1_000_000_000_000))
 }
 
@@ -338,7 +338,7 @@ fn moment_from(row: Row<'_>, now: Instant) -> Instant {
 }
 
 /// Asks one row after another, and returns the place of the first that failed.
-fn wrong_among(cache: &mut Numbers, rows: &[Row<'_>], now: &mut Instant) -> Option<usize> {
+pub fn wrong_among(cache: &mut Numbers, rows: &[Row<'_>], now: &mut Instant) -> Option<usize> {
     for (place, row) in rows.iter().enumerate() {
         *now = moment_from(*row, *now);
         if !writes_so(cache, *now, *row) {
@@ -386,7 +386,7 @@ fn made(alloc: Global, case: &Case<'_>) -> Result<Numbers, AllocError> {
 }
 
 /// The same, on the second attempt if memory is refused.
-fn empty_cache(alloc: Global, case: &Case<'_>) -> Result<Numbers, AllocError> {
+pub fn empty_cache(alloc: Global, case: &Case<'_>) -> Result<Numbers, AllocError> {
     match made(alloc, case) {
         Ok(cache) => Ok(cache),
         Err(_) => made(alloc, case),
