@@ -19,3 +19,5 @@ mod rows;
 mod turns;
 #[cfg(test)]
 mod uses;
+#[cfg(test)]
+mod without_memory;

@@ -10,7 +10,7 @@ pub use hashing::Times;
 pub use rules::IsEither;
 pub use script::{
     Call, Case, Closure, Done, Form, Numbers, ONE, SPREAD, Start, all_right, empty_cache, next,
-    none_wrong,
+    none_wrong, wrong_call,
 };
 pub use selecting::Select;
 pub use turning::Turning;

@@ -426,7 +426,7 @@ fn perform(alloc: Global, state: &mut Numbers, nanos: u64, call: Call) -> Result
 }
 
 /// The place of the first of these calls, each at its moment, that does not answer what it is to.
-fn wrong_call(alloc: Global, state: &mut Numbers, calls: &[(u64, Call)]) -> Option<usize> {
+pub fn wrong_call(alloc: Global, state: &mut Numbers, calls: &[(u64, Call)]) -> Option<usize> {
     for (place, (nanos, call)) in calls.iter().enumerate() {
         if !is_right(alloc, state, *nanos, *call) {
             return Some(place);
