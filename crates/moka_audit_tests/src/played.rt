@@ -231,44 +231,11 @@ fn has_replies(alloc: Global, transcript: &Transcript, row: &Row<'_>) -> bool {
     true
 }
 
-/// The transcript that is played of a row.
-fn played(alloc: Global, cut: Cut, row: &Row<'_>) -> Option<Transcript> {
-    match inputs_of(alloc, cut, row.came) {
-        Ok(inputs) => play_row(alloc, row, &inputs),
-        Err(_) => None,
-    }
-}
-
-/// Whether a transcript is judged to be right, and comes out as its row says.
-fn is_right(alloc: Global, transcript: &Transcript, row: &Row<'_>) -> bool {
-    audit(alloc, row.config, transcript) == Verdict::Yes
-        && loads_of(transcript) == row.loads
-        && has_replies(alloc, transcript, row)
-}
-
-/// Whether the transcript of a row is.
-fn comes_so(alloc: Global, cut: Cut, row: &Row<'_>) -> bool {
-    match played(alloc, cut, row) {
-        Some(transcript) => is_right(alloc, &transcript, row),
-        None => false,
-    }
-}
-
-/// The place of the first row of which it is not, on the second attempt if memory is refused.
-fn first_wrong(alloc: Global, cut: Cut, rows: &[Row<'_>]) -> Option<usize> {
-    for (place, row) in rows.iter().enumerate() {
-        if !comes_so(alloc, cut, row) && !comes_so(alloc, cut, row) {
-            return Some(place);
-        }
-    }
-    None
-}
-
-/// All that comes, whole, on the second attempt if memory is refused.
-fn inputs_again(alloc: Global, came: &[Came<'_>]) -> Result<Vec<Input>, AllocError> {
-    match inputs_of(alloc, Cut::Whole, came) {
+/// All that comes, on the second attempt if memory is refused.
+fn inputs_again(alloc: Global, cut: Cut, came: &[Came<'_>]) -> Result<Vec<Input>, AllocError> {
+    match inputs_of(alloc, cut, came) {
         Ok(inputs) => Ok(inputs),
-        Err(_) => inputs_of(alloc, Cut::Whole, came),
+        Err(_) => inputs_of(alloc, cut, came),
     }
 }
 
@@ -281,8 +248,8 @@ fn play_again(alloc: Global, row: &Row<'_>, inputs: &[Input]) -> Option<Transcri
 }
 
 /// The transcript of a row, on the second attempt if memory is refused.
-fn played_again(alloc: Global, row: &Row<'_>) -> Option<Transcript> {
-    match inputs_again(alloc, row.came) {
+fn played_again(alloc: Global, cut: Cut, row: &Row<'_>) -> Option<Transcript> {
+    match inputs_again(alloc, cut, row.came) {
         Ok(inputs) => play_again(alloc, row, &inputs),
         Err(_) => None,
     }
@@ -296,6 +263,41 @@ fn verdict_again(alloc: Global, config: &Config, transcript: &Transcript) -> Ver
     }
 }
 
+/// Whether a transcript comes out as its row says.
+fn is_as_said(alloc: Global, transcript: &Transcript, row: &Row<'_>) -> bool {
+    loads_of(transcript) == row.loads && has_replies(alloc, transcript, row)
+}
+
+/// Whether the transcript of a row is judged to be right, and whether it comes out so.
+fn judged(alloc: Global, cut: Cut, row: &Row<'_>) -> (bool, bool) {
+    match played_again(alloc, cut, row) {
+        Some(transcript) => (
+            verdict_again(alloc, row.config, &transcript) == Verdict::Yes,
+            is_as_said(alloc, &transcript, row),
+        ),
+        None => (false, false),
+    }
+}
+
+/// Whether both are so. A transcript that comes out otherwise, as lines are held back where memory is
+/// refused, has to be right too, and then the row is played once more.
+fn comes_so(alloc: Global, cut: Cut, row: &Row<'_>) -> bool {
+    match judged(alloc, cut, row) {
+        (true, false) => judged(alloc, cut, row) == (true, true),
+        (is_right, _) => is_right,
+    }
+}
+
+/// The place of the first row that does not come out so.
+fn first_wrong(alloc: Global, cut: Cut, rows: &[Row<'_>]) -> Option<usize> {
+    for (place, row) in rows.iter().enumerate() {
+        if !comes_so(alloc, cut, row) {
+            return Some(place);
+        }
+    }
+    None
+}
+
 /// Whether a transcript obeys, and has one verdict by a configuration that it may break.
 fn has_one_verdict(alloc: Global, transcript: &Transcript, row: &Row<'_>, other: &Config) -> bool {
     let first = verdict_again(alloc, other, transcript);
@@ -305,7 +307,7 @@ fn has_one_verdict(alloc: Global, transcript: &Transcript, row: &Row<'_>, other:
 
 /// Whether the transcript of a row does.
 fn is_steady(alloc: Global, row: &Row<'_>) -> bool {
-    match played_again(alloc, row) {
+    match played_again(alloc, Cut::Whole, row) {
         Some(transcript) => has_one_verdict(alloc, &transcript, row, &NOTHING),
         None => false,
     }

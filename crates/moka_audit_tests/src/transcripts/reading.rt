@@ -1,6 +1,7 @@
 //! Texts that are read and written.
-use audit_text::{TextError, read_inputs, read_transcript, write_transcript};
-use std::alloc::Global;
+use audit_model::{Config, Transcript};
+use audit_text::{Replay, TextError, read_inputs, read_transcript, write_transcript};
+use std::alloc::{AllocError, Global};
 
 const EXAMPLE: &[u8] =
     b"config capacity=- policy=lru parts=1 weight=one live_ms=- idle_ms=- deadlines=0
@@ -33,10 +34,36 @@ note Explicit x0a x20
 const COMMENTED: &[u8] =
     b"# a journal\n\nconfig capacity=- policy=lru parts=1 weight=one live_ms=- idle_ms=- deadlines=0\n# made\nmade 0\n\n#";
 
+/// The transcript of a text, on the second attempt if memory is refused.
+fn read(alloc: Global, text: &[u8]) -> Result<(Config, Transcript), TextError> {
+    match read_transcript(alloc, text) {
+        Err(TextError::OutOfMemory) => read_transcript(alloc, text),
+        read => read,
+    }
+}
+
+/// The inputs of a text, on the second attempt if memory is refused.
+fn inputs_of(alloc: Global, text: &[u8]) -> Result<Replay, TextError> {
+    match read_inputs(alloc, text) {
+        Err(TextError::OutOfMemory) => read_inputs(alloc, text),
+        read => read,
+    }
+}
+
+/// The text of a transcript, on the second attempt if memory is refused.
+fn written(alloc: Global, config: &Config, transcript: &Transcript) -> Option<Vec<u8>> {
+    match write_transcript(alloc, config, transcript) {
+        Ok(text) => Some(text),
+        Err(_) => write_transcript(alloc, config, transcript).ok(),
+    }
+}
+
 /// What is written of what is read, if it is read.
 fn written_again(alloc: Global, text: &[u8]) -> Option<Vec<u8>> {
-    let (config, transcript) = read_transcript(alloc, text).ok()?;
-    write_transcript(alloc, &config, &transcript).ok()
+    match read(alloc, text) {
+        Ok((config, transcript)) => written(alloc, &config, &transcript),
+        Err(_) => None,
+    }
 }
 
 /// Whether a text is written as this one again.
@@ -49,19 +76,27 @@ fn is_written_as(alloc: Global, text: &[u8], written: &[u8]) -> bool {
 
 /// The error of a text.
 fn error_of(alloc: Global, text: &[u8]) -> Option<TextError> {
-    read_transcript(alloc, text).err()
+    read(alloc, text).err()
 }
 
 /// The error of a text of inputs.
 fn error_of_inputs(alloc: Global, text: &[u8]) -> Option<TextError> {
-    read_inputs(alloc, text).err()
+    inputs_of(alloc, text).err()
 }
 
-/// The two lines that begin each text, and what stands behind them.
-fn behind_head(alloc: Global, rest: &[u8]) -> Option<Vec<u8>> {
-    let mut text = Vec::from_slice(alloc, HEAD).ok()?;
-    text.extend_from_slice(rest).ok()?;
-    Some(text)
+fn try_behind_head(alloc: Global, rest: &[u8]) -> Result<Vec<u8>, AllocError> {
+    let mut text = Vec::from_slice(alloc, HEAD)?;
+    text.extend_from_slice(rest)?;
+    Ok(text)
+}
+
+/// The two lines that begin each text, and what stands behind them, on the second attempt if memory
+/// is refused.
+fn behind_head(alloc: Global, rest: &[u8]) -> Result<Vec<u8>, AllocError> {
+    match try_behind_head(alloc, rest) {
+        Ok(text) => Ok(text),
+        Err(_) => try_behind_head(alloc, rest),
+    }
 }
 
 /// What a text is read as.
@@ -88,7 +123,7 @@ fn is_line(error: Option<TextError>, number: u64) -> bool {
 
 /// Whether a text holds one configuration and so many inputs.
 fn has_inputs(alloc: Global, text: &[u8], number: usize) -> bool {
-    match read_inputs(alloc, text) {
+    match inputs_of(alloc, text) {
         Ok(replay) => replay.configs.len() == 1 && replay.inputs.len() == number,
         Err(_) => false,
     }
@@ -108,8 +143,8 @@ fn comes_behind(alloc: Global, text: &[u8], row: Row<'_>) -> bool {
 /// Whether what stands behind the two lines that begin each text comes to what its row says.
 fn comes_with_head(alloc: Global, rest: &[u8], row: Row<'_>) -> bool {
     match behind_head(alloc, rest) {
-        Some(text) => comes_behind(alloc, text.as_slice(), row),
-        None => false,
+        Ok(text) => comes_behind(alloc, text.as_slice(), row),
+        Err(_) => false,
     }
 }
 
@@ -135,7 +170,7 @@ fn first_wrong(alloc: Global, rows: &[Row<'_>]) -> Option<usize> {
 
 /// Whether a text has so many records, was made at that moment, and has so many parts.
 fn has(alloc: Global, text: &[u8], records: usize, made: u64, parts: u32) -> bool {
-    match read_transcript(alloc, text) {
+    match read(alloc, text) {
         Ok((config, transcript)) => {
             transcript.records.len() == records
                 && transcript.made.nanos == made
@@ -147,7 +182,7 @@ fn has(alloc: Global, text: &[u8], records: usize, made: u64, parts: u32) -> boo
 
 /// Whether a text lets values live no time at all.
 fn never_live(alloc: Global, text: &[u8]) -> bool {
-    match read_transcript(alloc, text) {
+    match read(alloc, text) {
         Ok((config, _)) => config.live_ms == Some(0),
         Err(_) => false,
     }
