@@ -31,3 +31,5 @@ mod stores;
 mod texts;
 #[cfg(test)]
 mod uses;
+#[cfg(test)]
+mod without_memory;
