@@ -23,8 +23,8 @@ pub use part::{
 };
 pub use places::{
     HasWays, Turns, clear_all, coalesce_at, compute_at, contains_key_at, count_visible, for_part,
-    get_at, hash_key, held_key_at, insert_at, insert_or_back_at, invalidate_at, is_table_refused,
-    keys_at, look_at, look_up_at, make_turn, new_parts, next_notice_at, note_at, peek_at, place_of,
+    get_at, held_key_at, insert_at, insert_or_back_at, invalidate_at, is_table_refused, keys_at,
+    look_at, look_up_at, make_turn, new_parts, next_notice_at, note_at, peek_at, place_of,
     remove_at, run_all, scan_at, sum_numbers, sum_weights,
 };
 pub use removals::{invalidate, remove};

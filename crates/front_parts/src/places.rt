@@ -8,7 +8,7 @@ mod ways;
 mod wholes;
 
 pub use crate::{BaseCache, EvictionPolicy, Notice, RemovalCause, Settings};
-pub use hashing::{hash_key, place_of};
+pub use hashing::place_of;
 pub use making::{for_part, new_parts};
 pub use places::{
     coalesce_at, compute_at, contains_key_at, get_at, insert_at, insert_or_back_at, invalidate_at,

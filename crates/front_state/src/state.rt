@@ -8,10 +8,10 @@ ghost use Rattle.front_reference.specs.Wholes.{RunsPart};
 ghost use Rattle.front_reference.specs.declared.errors.CacheError.TheVariants as errors;
 ghost use Rattle.front_parts.specs.Places.Calls.{CoalescesBy, ComputesIn, InsertsIn, IsCauseIn, LooksUpIn, TakesOutIn, hash_in, held_value_in, visible_in};
 
-use engine_reference::{Names, Rules, Settings};
+use engine_reference::{Hashes, Names, Rules, Settings};
 use front_parts::{
     BaseCache, HasWays, Turns, clear_all, coalesce_at, compute_at, contains_key_at, get_at,
-    hash_key, insert_at, invalidate_at, is_table_refused, place_of, remove_at, run_all,
+    insert_at, invalidate_at, is_table_refused, place_of, remove_at, run_all,
 };
 use front_reference::{At, CacheError, Computed, IntoKey, LentKey, Made, Op, OwnedKey, Shared};
 use policy_base::Instant;
@@ -105,7 +105,7 @@ impl<K: Eq + Hash, V, S: BuildHasher, R: Rules<K, V>, C> LentState<K, V, S, R, C
     pub fn hash(&self, key: &K) -> u64
         ensures { result ≡ hash_in ⟦<R as HasWays<K, V, S>>⟧.ways self.now key.now }
     {
-        hash_key(&self.hasher, key)
+        self.hasher.hash_key(key)
     }
 
     /// Returns a clone of the visible value of a key, which counts as a use of it.
@@ -132,7 +132,7 @@ impl<K: Eq + Hash, V, S: BuildHasher, R: Rules<K, V>, C> LentState<K, V, S, R, C
         ensures cause { IfErr result (λ e. e ≡ errors.OutOfMemory) }
     {
         let At { now, step } = at;
-        let hash = hash_key(&self.hasher, key);
+        let hash = self.hasher.hash_key(key);
         let place = place_of(self.bits, hash);
         let found = get_at(&mut self.parts, place, &LentKey { key }, hash, now)?;
         self.moment = now;
@@ -151,7 +151,7 @@ impl<K: Eq + Hash, V, S: BuildHasher, R: Rules<K, V>, C> LentState<K, V, S, R, C
         ensures { result
             ≡ is_some (visible_in ⟦<R as HasWays<K, V, S>>⟧.ways self.now now key.now) }
     {
-        let hash = hash_key(&self.hasher, key);
+        let hash = self.hasher.hash_key(key);
         let place = place_of(self.bits, hash);
         contains_key_at(self.parts.as_slice(), place, &LentKey { key }, hash, now)
     }
@@ -174,7 +174,7 @@ impl<K: Eq + Hash, V, S: BuildHasher, R: Rules<K, V>, C> LentState<K, V, S, R, C
         ensures cause { IfErr result
             (IsCauseIn ⟦<R as HasWays<K, V, S>>⟧.ways (λ _. 1) self.old key) }
     {
-        let hash = hash_key(&self.hasher, &key);
+        let hash = self.hasher.hash_key(&key);
         let alloc = self.alloc;
         self.insert_with_hash(OwnedKey { key, alloc }, hash, value, at)
     }
@@ -233,7 +233,7 @@ impl<K: Eq + Hash, V, S: BuildHasher, R: Rules<K, V>, C> LentState<K, V, S, R, C
             (IsCauseIn ⟦<R as HasWays<K, V, S>>⟧.ways removal_rooms self.old key.now) }
     {
         let At { now, step } = at;
-        let hash = hash_key(&self.hasher, key);
+        let hash = self.hasher.hash_key(key);
         let place = place_of(self.bits, hash);
         let value = remove_at(&mut self.parts, place, &LentKey { key }, hash, now)?;
         self.moment = now;
@@ -258,7 +258,7 @@ impl<K: Eq + Hash, V, S: BuildHasher, R: Rules<K, V>, C> LentState<K, V, S, R, C
         ensures cause { IfErr result
             (IsCauseIn ⟦<R as HasWays<K, V, S>>⟧.ways removal_rooms self.old key.now) }
     {
-        let hash = hash_key(&self.hasher, key);
+        let hash = self.hasher.hash_key(key);
         self.invalidate_with_hash(key, hash, at)
     }
 

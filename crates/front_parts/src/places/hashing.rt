@@ -1,16 +1,6 @@
-//! The hash of a key, and the part that it says.
+//! The part that the hash of a key says.
 ghost use Rattle.std.specs.Prelude.{◌≡◌, ◌-◌, ◌/◌, ◌<◌, ◌≤◌, ◌^◌};
 ghost use Rattle.front_reference.specs.Fronts.{part_of};
-
-use engine_reference::Hashes;
-use std::hash::{BuildHasher, Hash};
-
-/// The hash of a key.
-pub fn hash_key<K: Hash, S: BuildHasher>(hasher: &S, key: &K) -> u64
-    ensures { result ≡ ⟦<S as Hashes<K>>⟧.hash hasher.now key.now }
-{
-    hasher.hash_key(key)
-}
 
 /// The part of a hash among 2^bits parts: its upper bits.
 pub fn place_of(bits: u32, hash: u64) -> usize

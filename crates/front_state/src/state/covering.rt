@@ -11,9 +11,9 @@ ghost use Rattle.front_state.specs.Covering.{CoversAll, GivesVisible, IsCauseToC
 ghost use Rattle.front_parts.specs.Wholes.Covering.{id_text};
 
 use crate::state::{LentState, PredicateId, Segmented, Single};
-use engine_reference::Rules;
+use engine_reference::{Hashes, Rules};
 use front_parts::{
-    HasWays, Iter, Notice, ScanningGet, clone_each, cover_all, hash_key, keys_at, next_notice,
+    HasWays, Iter, Notice, ScanningGet, clone_each, cover_all, keys_at, next_notice,
     next_notice_at, place_of, scan_at, write_id,
 };
 use front_reference::{At, CacheError, LentKey, Shared};
@@ -32,7 +32,7 @@ impl<K: Eq + Hash, V, S: BuildHasher, R: Rules<K, V>, C> LentState<K, V, S, R, C
             ≡ part_of self.now.bits (hash_in ⟦<R as HasWays<K, V, S>>⟧.ways self.now key.now) }
         ensures within { result < length self.now.parts }
     {
-        let hash = hash_key(&self.hasher, key);
+        let hash = self.hasher.hash_key(key);
         self.part_with_hash(hash)
     }
 
@@ -208,7 +208,7 @@ impl<K: Eq + Hash + Drop, V: Clone, S: BuildHasher, R: Rules<K, V>, C> ScanningG
 
     fn scanning_get(&self, key: &Shared<K>, now: Instant) -> Result<Option<V>, AllocError> {
         let key = &**key;
-        let hash = hash_key(&self.hasher, key);
+        let hash = self.hasher.hash_key(key);
         let place = place_of(self.bits, hash);
         scan_at(self.parts.as_slice(), place, &LentKey { key }, hash, now)
     }

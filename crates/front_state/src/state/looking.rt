@@ -5,8 +5,8 @@ ghost use Rattle.front_parts.specs.Places.Calls.{LooksUpIn, hash_in, visible_in}
 ghost use Rattle.front_parts.specs.Showing.{IsShown};
 
 use crate::state::LentState;
-use engine_reference::Rules;
-use front_parts::{HasWays, count_visible, hash_key, held_key_at, look_up_at, peek_at, place_of};
+use engine_reference::{Hashes, Rules};
+use front_parts::{HasWays, count_visible, held_key_at, look_up_at, peek_at, place_of};
 use front_reference::{LentKey, Shared};
 use policy_base::Instant;
 use std::alloc::AllocError;
@@ -21,7 +21,7 @@ impl<K: Eq + Hash, V, S: BuildHasher, R: Rules<K, V>, C> LentState<K, V, S, R, C
         ensures { option_map (λ value. value.now) result
             ≡ visible_in ⟦<R as HasWays<K, V, S>>⟧.ways self.now now key.now }
     {
-        let hash = hash_key(&self.hasher, key);
+        let hash = self.hasher.hash_key(key);
         let place = place_of(self.bits, hash);
         peek_at(self.parts.as_slice(), place, &LentKey { key }, hash, now)
     }
@@ -79,7 +79,7 @@ impl<K: Eq + Hash, V, S: BuildHasher, R: Rules<K, V>, C> LentState<K, V, S, R, C
             (record { now = now; step = self.old.step }) self.old self.new) }
         ensures err { OnErr result (self.new ≡ self.old) }
     {
-        let hash = hash_key(&self.hasher, key);
+        let hash = self.hasher.hash_key(key);
         self.look_up_with_hash(key, hash, now, output, see)
     }
 

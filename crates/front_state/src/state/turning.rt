@@ -12,8 +12,8 @@ ghost use Rattle.front_parts.specs.Places.Turning.{BeginsIn, EndsTurnOf, Finishe
 ghost use Rattle.front_state.specs.Beginning.{BeginsBy};
 
 use crate::state::LentState;
-use engine_reference::{Names, Rules};
-use front_parts::{HasWays, hash_key, insert_or_back_at, look_at, make_turn, note_at, place_of};
+use engine_reference::{Hashes, Names, Rules};
+use front_parts::{HasWays, insert_or_back_at, look_at, make_turn, note_at, place_of};
 use front_reference::{At, CacheError, IntoKey, LentKey, Made, Shared, TurnKind, TurnStart};
 use policy_base::Instant;
 use std::alloc::AllocError;
@@ -29,7 +29,7 @@ impl<K: Eq + Hash, V, S: BuildHasher, R: Rules<K, V>, C> LentState<K, V, S, R, C
     pub fn is_turn_free(&self, kind: TurnKind, key: &K) -> bool
         ensures { result ≡ is_none (turn_of K.eq self.now.turns kind key.now) }
     {
-        let hash = hash_key(&self.hasher, key);
+        let hash = self.hasher.hash_key(key);
         self.turn_number(kind, &LentKey { key }, hash).is_none()
     }
 
