@@ -85,8 +85,6 @@ impl Host for Lent {
 
     fn await_ready(&mut self, place: &Service, conn: Conn) {
         // No `LOAD` waits for others.
-        let _place = place;
-        let _conn = conn;
     }
 
     fn close(&mut self, place: &mut Service, conn: Conn) {
@@ -100,7 +98,6 @@ impl Host for Lent {
         hand: &[(LoadId, Bytes)],
         loader: &mut L,
     ) {
-        let _loader = loader;
         drop_loads(place, conn, hand)
     }
 

@@ -1,21 +1,24 @@
--- Loads that had gone out, among those that were taken.
-use Rattle.std.proofs.Common.{◌≡◌, ℕ, ◌<◌, List, length, refl, sym, subst}
-use Rattle.std.proofs.Math.Logic.{∥∥₁_map}
+-- What a connection is owed, given by a seat's host.
+use Rattle.std.proofs.Common.{ℕ, List, Some, None, refl}
+use Rattle.std.specs.Prelude.{Option, IfSome, Vec}
 use Rattle.std.specs.List.{slice_index_or}
+use Rattle.std.specs.Option.{option_map}
+use Rattle.std.specs.declared.alloc.Global.{Global}
 use Rattle.std.proofs.lemmas.List.Elements.{Contains-get_or}
+use Rattle.audit_model.specs.declared.input.Conn.{Conn}
 use Rattle.audit_model.specs.declared.input.LoadId.{LoadId}
-use Rattle.cache_serve.specs.Out.{AreOut, WasOut}
-use Rattle.cache_shared.specs.Untaken.{WereOut}
+use Rattle.cache_serve.specs.Out.{AreOut}
+use Rattle.cache_serve.specs.Sitting.{IsReply}
+use Rattle.cache_shared.specs.Untaken.{WereOut, WereUntaken}
 use Rattle.cache_spaces.specs.Spaces.{Shown}
 
-abbrev Load : Type 0
-Load = LoadId × List ℕ
-
-module _ {C : Type 0} (spaces : C → List Shown) (events : C → ℕ) where
+module _ {C : Type 0} (spaces : C → List Shown) where
   -- each of the loads that one taking gave
-  pub are-out : (mine n : ℕ) (given taken : List Load) → ∥ WereOut spaces events mine given ∥₁ → mine ≡ n → taken ≡ given → AreOut spaces events n taken
-  are-out mine n given taken were same is =
-      subst (AreOut spaces events n) (sym is) (subst (λ m. AreOut spaces events m given) same (λ k d lt. ∥∥₁_map were (one k d lt)))
-    where
-      one : (k : ℕ) (d : Load) → k < length given → WereOut spaces events mine given → WasOut spaces events mine (slice_index_or given k d).0.number (slice_index_or given k d).1
-      one k d lt out = record { loads = given; out = out; load = (slice_index_or given k d).0; among = Contains-get_or given k d lt; same = refl }
+  pub are-out : (n : ℕ) (loads : Option (Vec (LoadId × List ℕ) Global)) → IfSome loads (λ loads. WereOut spaces n loads.items) → IfSome (option_map (λ loads. loads.items) loads) (AreOut spaces n)
+  are-out n None out = out
+  are-out n (Some loads) out = λ k d lt. ∣ record { loads = loads.items; out = out; load = (slice_index_or loads.items k d).0; among = Contains-get_or loads.items k d lt; same = refl } ∣₁
+
+  -- the text that one taking gave
+  pub is-reply : (untaken : C → Conn → List ℕ) (conn : Conn) (text : Option (Vec ℕ Global)) → IfSome text (λ text. WereUntaken spaces untaken conn text.items) → IfSome (option_map (λ text. text.items) text) (IsReply spaces untaken conn)
+  is-reply untaken conn None taken = taken
+  is-reply untaken conn (Some text) taken = ∣ taken ∣₁

@@ -184,10 +184,10 @@ settles-by load moment asking (asked.Answered number key outcome) of numbered =
 settles-by load moment asking (asked.GivenUp number said) of numbered = inr (inl (ap (λ n. did.GivenUp n said moment) numbered ∙ ap (λ x. did.GivenUp load x moment) of))
 settles-by load moment asking (asked.Dropped number said) of numbered = inr (inr (ap (λ n. did.Dropped n said moment) numbered ∙ ap (λ x. did.Dropped load x moment) of))
 
-module _ {C : Type 0} {spaces : C → List Shown} {events : C → ℕ} {untaken : C → Conn → List ℕ} {keeps : Bool} where
+module _ {C : Type 0} {spaces : C → List Shown} {untaken : C → Conn → List ℕ} {keeps : Bool} where
   comes-done : {conn : Conn} {wants : Bool} {given : Given} {h k : Tally} (moment : ℕ) (s : Settling) → (keeps ≡ true → Asks conn.namespace h.receipts k.receipts (settling_inputs conn.namespace moment s)) → k.count ≡ h.count + length (settling_inputs conn.namespace moment s)
-      → MayBeGivenUp IsUnfit conn.namespace s → Gives spaces events untaken conn wants given
-      → SeatComes keeps (HadGoneOut spaces events) IsUnfit (IsReply spaces events untaken) conn h (exchange_of (done_of moment s) given) k
+      → MayBeGivenUp IsUnfit conn.namespace s → Gives spaces untaken conn wants given
+      → SeatComes keeps (HadGoneOut spaces) IsUnfit (IsReply spaces untaken) conn h (exchange_of (done_of moment s) given) k
   comes-done {conn} moment (asked.Answered number key outcome) asks counts fit gives = record {
     asks = asks;
     counts = counts;
@@ -214,14 +214,14 @@ module _ {C : Type 0} {spaces : C → List Shown} {events : C → ℕ} {untaken 
   }
 
   -- a load was settled
-  comes-settled : {conn : Conn} {wants : Bool} {given : Given} {h k : Tally} (load moment : ℕ) (asking : Asking) → SeatSettles keeps (HadGoneOut spaces events) IsUnfit (IsReply spaces events untaken) conn.namespace moment load asking h k → Gives spaces events untaken conn wants given
-      → (doing : Doing) × SettlesBy load moment asking doing × SeatComes keeps (HadGoneOut spaces events) IsUnfit (IsReply spaces events untaken) conn h (exchange_of doing given) k
+  comes-settled : {conn : Conn} {wants : Bool} {given : Given} {h k : Tally} (load moment : ℕ) (asking : Asking) → SeatSettles keeps (HadGoneOut spaces) IsUnfit (IsReply spaces untaken) conn.namespace moment load asking h k → Gives spaces untaken conn wants given
+      → (doing : Doing) × SettlesBy load moment asking doing × SeatComes keeps (HadGoneOut spaces) IsUnfit (IsReply spaces untaken) conn h (exchange_of doing given) k
   comes-settled load moment asking s gives = (done_of moment s.settling, settles-by load moment asking s.settling s.of s.numbered, comes-done moment s.settling s.asks s.counts s.fit gives)
 
   -- so it was, if no error came
   pub came-settled : {E : Type 0} (conn : Conn) (wants : Bool) (said : Option Outcome) (h k : Tally) (load moment : ℕ) (r : Result Given E)
-      → ((key : List ℕ) → SeatSettles keeps (HadGoneOut spaces events) IsUnfit (IsReply spaces events untaken) conn.namespace moment load (record { key = key; answer = said }) h k) → IfOk r (Gives spaces events untaken conn wants)
-      → IfOk r (λ given. (key : List ℕ) → (doing : Doing) × SettlesBy load moment (record { key = key; answer = said }) doing × SeatComes keeps (HadGoneOut spaces events) IsUnfit (IsReply spaces events untaken) conn h (exchange_of doing given) k)
+      → ((key : List ℕ) → SeatSettles keeps (HadGoneOut spaces) IsUnfit (IsReply spaces untaken) conn.namespace moment load (record { key = key; answer = said }) h k) → IfOk r (Gives spaces untaken conn wants)
+      → IfOk r (λ given. (key : List ℕ) → (doing : Doing) × SettlesBy load moment (record { key = key; answer = said }) doing × SeatComes keeps (HadGoneOut spaces) IsUnfit (IsReply spaces untaken) conn h (exchange_of doing given) k)
   came-settled conn wants said h k load moment (Ok given) settled gives = λ key. comes-settled load moment (record { key = key; answer = said }) (settled key) gives
   came-settled conn wants said h k load moment (Err e) settled gives = tt
 

@@ -7,18 +7,18 @@ use Rattle.cache_spaces.specs.Spaces.{Shown}
 
 -- At some moment, in a service to which some journals that obey lead, the load with this number was among those of the namespace that had
 -- been sent and not taken, with this key.
-pub record WasOut {C : Type 0} (spaces : C → List Shown) (events : C → ℕ) (namespace number : ℕ)
+pub record WasOut {C : Type 0} (spaces : C → List Shown) (namespace number : ℕ)
     (key : List ℕ) : Type 0 where
   pub loads : List (LoadId × List ℕ)
-  pub out : WereOut spaces events namespace loads
+  pub out : WereOut spaces namespace loads
   pub load : LoadId
   pub among : Contains loads (load, key)
   pub same : number ≡ load.number
 
-abbrev pub HadGoneOut : {C : Type 0} → (C → List Shown) → (C → ℕ) → ℕ → ℕ → List ℕ → Type 0
-HadGoneOut spaces events namespace number key = ∥ WasOut spaces events namespace number key ∥₁
+abbrev pub HadGoneOut : {C : Type 0} → (C → List Shown) → ℕ → ℕ → List ℕ → Type 0
+HadGoneOut spaces namespace number key = ∥ WasOut spaces namespace number key ∥₁
 
 -- each of these loads had been sent
-abbrev pub AreOut : {C : Type 0} → (C → List Shown) → (C → ℕ) → ℕ → List (LoadId × List ℕ) → Type 0
-AreOut spaces events namespace loads =
-    All (λ (pair : LoadId × List ℕ). HadGoneOut spaces events namespace pair.0.number pair.1) loads
+abbrev pub AreOut : {C : Type 0} → (C → List Shown) → ℕ → List (LoadId × List ℕ) → Type 0
+AreOut spaces namespace loads =
+    All (λ (pair : LoadId × List ℕ). HadGoneOut spaces namespace pair.0.number pair.1) loads

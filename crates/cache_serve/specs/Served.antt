@@ -33,31 +33,31 @@ BeginsOrIdles keeps namespace before after conn =
 -- Texts that were replies of a connection of this namespace were written, except for the end of the last one after an error: one for each
 -- input that was counted, less three, and after an error also less one for each load for which the loader was asked.
 abbrev pub WritesAll : {C L W D X E : Type 0} → {G : Ledgers L} → (keeps : Bool)
-    → (C → List Shown) → (C → ℕ) → (C → Conn → List ℕ) → (W → Option (List ℕ))
+    → (C → List Shown) → (C → Conn → List ℕ) → (W → Option (List ℕ))
     → (D → List ℕ → Option Outcome → D → Type 0) → ℕ → Result X E
     → Seat L G → Seat L G → Watched W → Watched W → D → D → Type 0
-WritesAll keeps spaces events untaken contents loads namespace result seat seat' writer writer' d e =
+WritesAll keeps spaces untaken contents loads namespace result seat seat' writer writer' d e =
     MatchResult result
-    (λ x. Serves spaces events untaken namespace
+    (λ x. Serves spaces untaken namespace
     (BeginsOrIdles keeps namespace seat.receipts.items seat'.receipts.items) seat.count
     seat'.count 3 (contents (device writer)) (contents (device writer')) [])
     (λ err. (rest : List ℕ) × (asks : List Asking) × Askings loads d asks e
-    × Serves spaces events untaken namespace
+    × Serves spaces untaken namespace
     (BeginsOrIdles keeps namespace seat.receipts.items seat'.receipts.items) seat.count
     seat'.count (length asks + 3) (contents (device writer)) (contents (device writer')) rest)
 
 -- if receipts are kept, those that the seat gains are of what was done for a connection of this namespace
 abbrev pub AsksAll : {C L R K D X E : Type 0} → {G : Ledgers L} → (keeps : Bool)
-    → (C → List Shown) → (C → ℕ) → (R → Option (List ℕ)) → (K → ℕ → K → Type 0)
+    → (C → List Shown) → (R → Option (List ℕ)) → (K → ℕ → K → Type 0)
     → (D → List ℕ → Option Outcome → D → Type 0) → ℕ → Result X E
     → Seat L G → Seat L G → Watched R → Watched R → K → K → D → D → Type 0
-AsksAll keeps spaces events remaining reads loads namespace result seat seat' reader reader' k l d e =
+AsksAll keeps spaces remaining reads loads namespace result seat seat' reader reader' k l d e =
     keeps ≡ true
     → MatchResult result
-    (λ x. (conn : Conn) × ServesConnection (HadGoneOut spaces events) IsUnfit reads
+    (λ x. (conn : Conn) × ServesConnection (HadGoneOut spaces) IsUnfit reads
     loads seat.receipts.items seat'.receipts.items (remaining (device reader))
     (remaining (device reader')) k l d e namespace conn [])
     (λ err. (conn : Conn)
-    × ServesConnectionOrNot (HadGoneOut spaces events) IsUnfit reads loads seat.receipts.items
+    × ServesConnectionOrNot (HadGoneOut spaces) IsUnfit reads loads seat.receipts.items
     seat'.receipts.items (remaining (device reader)) (remaining (device reader')) k l d e
     namespace conn)

@@ -19,7 +19,7 @@ pub record WritesTexts (IsTaken : List ℕ → Type 0) (count : ℕ) (before aft
   pub taken : AllAre IsTaken texts
   pub sent : SentBut rest (concat texts) before after
 
-module _ {C : Type 0} (spaces : C → List Shown) (events : C → ℕ) (untaken : C → Conn → List ℕ) where
+module _ {C : Type 0} (spaces : C → List Shown) (untaken : C → Conn → List ℕ) where
   -- The texts are the replies of one connection of this namespace, each taken from a service to which some journals that obey lead. There
   -- is at least one for each input that the seat counts, less the number that is spared. This was asked for the connection.
   pub record Serves (namespace : ℕ) (Asked : Conn → Type 0) (inputs later spared : ℕ)
@@ -29,5 +29,5 @@ module _ {C : Type 0} (spaces : C → List Shown) (events : C → ℕ) (untaken 
     pub asked : Asked conn
     pub count : ℕ
     pub counted : later ≤ inputs + count + spared
-    pub writes : WritesTexts (λ text. ∥ WereUntaken spaces events untaken conn text ∥₁) count before
+    pub writes : WritesTexts (λ text. ∥ WereUntaken spaces untaken conn text ∥₁) count before
         after rest

@@ -22,10 +22,7 @@ impl Teller for Untold {
         false
     }
 
-    fn tell<R: Wait>(&mut self, rt: &R, notes: &[Note]) {
-        let _rt = rt;
-        let _notes = notes;
-    }
+    fn tell<R: Wait>(&mut self, rt: &R, notes: &[Note]) {}
 }
 
 /// Creates what each connection that `host` serves needs.

@@ -4,7 +4,7 @@ use crate::devices::{Devices, Teller};
 use crate::serving::serve_and_tell;
 use crate::workers::Workers;
 use cache_run::{Clock, Loader, Watched};
-use cache_shared::{Seat, Seating, SharedService, Takings};
+use cache_shared::{Seat, Seating, Shareable, SharedService};
 use std::alloc::Global;
 use std::net::{TcpListener, TcpStream};
 use std::sync::Wait;
@@ -24,7 +24,7 @@ pub struct Hosted<L: Seating> {
 
 /// What one connection is served with.
 #[derive(Drop)]
-struct Work<L: Seating, C: Takings, K: Clock + Drop, D: Loader + Drop, T: Teller> {
+struct Work<L: Seating, C: Shareable, K: Clock + Drop, D: Loader + Drop, T: Teller> {
     shared: SharedService<L, C>,
     seat: Seat<L>,
     namespace: u64,
@@ -32,7 +32,7 @@ struct Work<L: Seating, C: Takings, K: Clock + Drop, D: Loader + Drop, T: Teller
     stream: TcpStream,
 }
 
-impl<L: Seating, C: Takings, K: Clock + Drop, D: Loader + Drop, T: Teller> Work<L, C, K, D, T> {
+impl<L: Seating, C: Shareable, K: Clock + Drop, D: Loader + Drop, T: Teller> Work<L, C, K, D, T> {
     /// Serves the connection, and returns the seat.
     fn attend(self, rt: &impl Wait, alloc: Global) -> Seat<L> {
         let Work {
@@ -78,7 +78,7 @@ pub fn host<L, C, D, R>(
 ) -> Hosted<L>
 where
     L: Seating + Send + Sync + 'static,
-    C: Takings + Send + 'static,
+    C: Shareable + Send + 'static,
     D: Devices,
     R: Threads + Wait + Copy + Send + Sync + 'static,
 {
@@ -114,7 +114,7 @@ fn admit<L, C, D, R>(
 )
 where
     L: Seating + Send + Sync + 'static,
-    C: Takings + Send + 'static,
+    C: Shareable + Send + 'static,
     D: Devices,
     R: Threads + Wait + Copy + Send + Sync + 'static,
 {

@@ -10,7 +10,7 @@ use crate::devices::{Teller, Untold};
 use crate::sitting::Sitting;
 use audit_model::Note;
 use cache_run::{Clock, Loader, Progress, RunError, Watched, close, converse, open, outcome_of};
-use cache_shared::{Seat, Seating, SharedService, Takings};
+use cache_shared::{Seat, Seating, Shareable, SharedService};
 use std::alloc::{AllocError, Global};
 use std::io::{Read, Write};
 use std::sync::Wait;
@@ -54,7 +54,7 @@ fn is_more(ended: &Result<Progress, RunError>) -> bool
 /// ```
 /// serve(&rt, alloc, &shared, &mut seat, 0, &mut reader, &mut writer, &mut clock, &mut loader)?;
 /// ```
-pub fn serve<L: Seating, C: Takings, I: Read, O: Write, K: Clock, D: Loader, R: Wait>(
+pub fn serve<L: Seating, C: Shareable, I: Read, O: Write, K: Clock, D: Loader, R: Wait>(
     rt: &R,
     alloc: Global,
     shared: &SharedService<L, C>,
@@ -65,9 +65,9 @@ pub fn serve<L: Seating, C: Takings, I: Read, O: Write, K: Clock, D: Loader, R: 
     clock: &mut K,
     loader: &mut D,
 ) -> Result<(), RunError>
-    ensures wrote { WritesAll C.KEEPS C.spaces C.events C.untaken O.contents D.loads namespace
+    ensures wrote { WritesAll C.KEEPS C.spaces C.untaken O.contents D.loads namespace
         result seat.old seat.new writer.old writer.new loader.old loader.new }
-    ensures asked { AsksAll C.KEEPS C.spaces C.events I.remaining K.reads D.loads namespace result
+    ensures asked { AsksAll C.KEEPS C.spaces I.remaining K.reads D.loads namespace result
         seat.old seat.new reader.old reader.new clock.old clock.new loader.old loader.new }
     ensures count { seat.old.count ≤ seat.new.count }
     ensures read { IsErrOf result RunError.Read
@@ -95,7 +95,7 @@ pub fn serve<L: Seating, C: Takings, I: Read, O: Write, K: Clock, D: Loader, R: 
 /// it takes the notes of the namespace, including those of other connections' events, and passes them to the teller.
 pub fn serve_and_tell<
     L: Seating,
-    C: Takings,
+    C: Shareable,
     I: Read,
     O: Write,
     K: Clock,
@@ -114,9 +114,9 @@ pub fn serve_and_tell<
     loader: &mut D,
     teller: &mut T,
 ) -> Result<(), RunError>
-    ensures wrote { WritesAll C.KEEPS C.spaces C.events C.untaken O.contents D.loads namespace
+    ensures wrote { WritesAll C.KEEPS C.spaces C.untaken O.contents D.loads namespace
         result seat.old seat.new writer.old writer.new loader.old loader.new }
-    ensures asked { AsksAll C.KEEPS C.spaces C.events I.remaining K.reads D.loads namespace result
+    ensures asked { AsksAll C.KEEPS C.spaces I.remaining K.reads D.loads namespace result
         seat.old seat.new reader.old reader.new clock.old clock.new loader.old loader.new }
     ensures count { seat.old.count ≤ seat.new.count }
     ensures read { IsErrOf result RunError.Read

@@ -1,13 +1,14 @@
 //! The host of a connection that has a seat of a shared service.
-ghost use Rattle.std.specs.Prelude.{◌≡◌, ◌≤◌, ◌^◌, ℕ, true, false, None, IfOk, IfErr, IfSome, OnOk, OnErr};
-ghost use Rattle.std.specs.Option.{ForSome, option_map};
+ghost use Rattle.std.specs.Prelude.{◌≡◌, ◌≤◌, ◌^◌, true, false, IfOk, IfErr, IfSome, OnOk, OnErr};
+ghost use Rattle.std.specs.Option.{option_map};
 ghost use Rattle.audit_model.specs.declared.input.Conn.{Conn};
 ghost use Rattle.cache_run.specs.Driver.Hosting.{Stops};
 ghost use Rattle.cache_serve.specs.Asked.{feed_input, give_up_input};
 ghost use Rattle.cache_serve.specs.Out.{AreOut};
 ghost use Rattle.cache_serve.specs.Cutting.{IsShortPiece};
-ghost use Rattle.cache_serve.specs.Sitting.{Closes, Comes, Drops, DropsBy, DropsOne, Gives, IsReply, Opens, SeatRests, SeatTakes, Settles, SettlesLate, TakesIfGiven, closes-behind, none-short, tally};
+ghost use Rattle.cache_serve.specs.Sitting.{Closes, Comes, Drops, DropsBy, DropsOne, Gives, Opens, SeatRests, SeatTakes, Settles, SettlesLate, TakesIfGiven, closes-behind, none-short, tally};
 ghost use Rattle.cache_shared.specs.Events.{IsLate, IsUnfitAnswer, is_of_outcome};
+ghost use Rattle.cache_shared.specs.Looked.{Owes};
 
 use crate::cutting::{Pace, length_of_cut};
 use crate::devices::Teller;
@@ -15,14 +16,14 @@ use crate::errors::error_of_refusal;
 use crate::pausing::pause;
 use audit_model::{Bytes, Conn, Input, Instant, LoadId, Note, Outcome, Seq, ServiceError};
 use cache_run::{Given, Host, Loader, RunError};
-use cache_shared::{Owed, Replies, Seat, Seating, SharedService, TakenLoads, Takings, Turn};
+use cache_shared::{Owed, Seat, Seating, Shareable, SharedService, Turn};
 use cache_spaces::{Output, Refusal};
 use std::alloc::Global;
 use std::sync::Wait;
 
 /// What a connection is served with, apart from its seat: the service, who receives notes, and room for them.
 #[derive(Drop)]
-pub struct Sitting<'a, L: Seating, C: Takings, T: Teller, R: Wait> {
+pub struct Sitting<'a, L: Seating, C: Shareable, T: Teller, R: Wait> {
     rt: &'a R,
     alloc: Global,
     shared: &'a SharedService<L, C>,
@@ -31,30 +32,7 @@ pub struct Sitting<'a, L: Seating, C: Takings, T: Teller, R: Wait> {
     pace: Pace,
 }
 
-/// The bytes of replies.
-fn text_of<C: Takings>(replies: Option<Replies<C>>) -> Option<Vec<u8>>
-    ensures { (conn : Conn) → ForSome replies (λ one. one.conn ≡ conn) → IfSome
-        (option_map (λ text. text.items) result) (IsReply C.spaces C.events C.untaken conn) }
-{
-    match replies {
-        Some(replies) => Some(replies.into_text()),
-        None => None,
-    }
-}
-
-/// Loads that were taken, if they are requested.
-fn loads_of<C: Takings>(loads: Option<TakenLoads<C>>, wanted: bool) -> Option<Vec<(LoadId, Bytes)>>
-    ensures out { (n : ℕ) → ForSome loads (λ one. one.namespace ≡ n)
-        → IfSome (option_map (λ given. given.items) result) (AreOut C.spaces C.events n) }
-    ensures unwanted { wanted ≡ false → result ≡ None }
-{
-    match loads {
-        Some(loads) if wanted => Some(loads.into_loads()),
-        _ => None,
-    }
-}
-
-impl<'a, L: Seating, C: Takings, T: Teller, R: Wait> Sitting<'a, L, C, T, R> {
+impl<'a, L: Seating, C: Shareable, T: Teller, R: Wait> Sitting<'a, L, C, T, R> {
     /// What a connection is served with, with room for notes.
     pub fn new(
         rt: &'a R,
@@ -74,7 +52,7 @@ impl<'a, L: Seating, C: Takings, T: Teller, R: Wait> Sitting<'a, L, C, T, R> {
     }
 }
 
-impl<L: Seating, C: Takings, T: Teller, R: Wait> Sitting<'_, L, C, T, R> {
+impl<L: Seating, C: Shareable, T: Teller, R: Wait> Sitting<'_, L, C, T, R> {
     /// Reports the notes that were taken, and those for which there was no room.
     fn tell_notes(&mut self, namespace: u64) {
         for _turn in 0..u64::MAX {
@@ -94,17 +72,16 @@ impl<L: Seating, C: Takings, T: Teller, R: Wait> Sitting<'_, L, C, T, R> {
     }
 
     /// Gives what is owed, and counts the reply bytes.
-    fn give(&mut self, owed: Owed<C>, held: bool, wants_loads: bool) -> Given
-        ensures { Gives C.spaces C.events C.untaken owed.conn wants_loads result }
+    fn give(&mut self, owed: Owed, held: bool, wants_loads: bool) -> Given
+        ensures { (conn : Conn) → Owes C.spaces C.untaken conn wants_loads owed
+            → Gives C.spaces C.untaken conn wants_loads result }
     {
         let Owed {
             replies,
             loads,
             closing,
             waits,
-            ..
         } = owed;
-        let replies = text_of(replies);
         match &replies {
             Some(text) => self.pace.note(text.len()),
             None => {}
@@ -112,7 +89,7 @@ impl<L: Seating, C: Takings, T: Teller, R: Wait> Sitting<'_, L, C, T, R> {
         Given {
             held,
             replies,
-            loads: loads_of(loads, wants_loads),
+            loads,
             closing,
             waits,
         }
@@ -127,7 +104,7 @@ impl<L: Seating, C: Takings, T: Teller, R: Wait> Sitting<'_, L, C, T, R> {
         wants_loads: bool,
     ) -> Result<Given, ServiceError>
         ensures taken { OnOk result (SeatTakes C.KEEPS input (tally seat.old) (tally seat.new)) }
-        ensures given { IfOk result (Gives C.spaces C.events C.untaken conn wants_loads) }
+        ensures given { IfOk result (Gives C.spaces C.untaken conn wants_loads) }
         ensures rests { OnErr result (SeatRests (tally seat.old) (tally seat.new)) }
         ensures late { IfErr result (λ e. e ≡ ServiceError.Moment → IsLate input) }
         ensures unfit { IfErr result (λ e. is_of_outcome e ≡ true → IsUnfitAnswer input) }
@@ -150,7 +127,7 @@ impl<L: Seating, C: Takings, T: Teller, R: Wait> Sitting<'_, L, C, T, R> {
 
     /// What a connection is owed; notes are reported.
     fn take_owed(&mut self, conn: Conn, wants_loads: bool) -> Given
-        ensures { Gives C.spaces C.events C.untaken conn wants_loads result }
+        ensures { Gives C.spaces C.untaken conn wants_loads result }
     {
         let owed = self
             .shared
@@ -171,7 +148,7 @@ impl<L: Seating, C: Takings, T: Teller, R: Wait> Sitting<'_, L, C, T, R> {
         ensures taken { TakesIfGiven C.KEEPS (give_up_input conn.namespace moment load) result
             (tally seat.old) (tally seat.new) }
         ensures given { IfOk result
-            (λ given. IfSome given (Gives C.spaces C.events C.untaken conn wants_loads)) }
+            (λ given. IfSome given (Gives C.spaces C.untaken conn wants_loads)) }
         ensures why { IfErr result (Stops (Unit {0}) (2 ^ 63 ≤ moment)) }
     {
         for _try in self.rt.forever() {
@@ -205,11 +182,11 @@ impl<L: Seating, C: Takings, T: Teller, R: Wait> Sitting<'_, L, C, T, R> {
         moment: u64,
         wants_loads: bool,
     ) -> Result<Option<Given>, RunError>
-        ensures settled { Settles C.spaces C.events C.untaken C.KEEPS conn.namespace load said
+        ensures settled { Settles C.spaces C.untaken C.KEEPS conn.namespace load said
             moment seat.old seat.new }
         ensures rests { OnErr result (SeatRests (tally seat.old) (tally seat.new)) }
         ensures given { IfOk result
-            (λ given. IfSome given (Gives C.spaces C.events C.untaken conn wants_loads)) }
+            (λ given. IfSome given (Gives C.spaces C.untaken conn wants_loads)) }
         ensures why { IfErr result (Stops (Unit {0}) (2 ^ 63 ≤ moment)) }
     {
         let outcome = match said {
@@ -243,7 +220,7 @@ impl<L: Seating, C: Takings, T: Teller, R: Wait> Sitting<'_, L, C, T, R> {
     /// Settles a load of a connection that has closed, at moment 0, which counts as the latest. An answer that is refused is followed by a
     /// give-up.
     fn settle_late(&mut self, seat: &mut Seat<L>, conn: Conn, load: u64, said: Option<Outcome>)
-        ensures { SettlesLate C.spaces C.events C.untaken C.KEEPS conn.namespace load said seat.old
+        ensures { SettlesLate C.spaces C.untaken C.KEEPS conn.namespace load said seat.old
             seat.new }
     {
         match self.settle_load(seat, conn, load, said, 0, false) {
@@ -262,7 +239,7 @@ impl<L: Seating, C: Takings, T: Teller, R: Wait> Sitting<'_, L, C, T, R> {
         key: &[u8],
         loader: &mut D,
     )
-        ensures { DropsOne C.spaces C.events C.untaken C.KEEPS D.loads conn.namespace load key.now
+        ensures { DropsOne C.spaces C.untaken C.KEEPS D.loads conn.namespace load key.now
             seat.old seat.new loader.old loader.new }
     {
         let said = loader.load(key);
@@ -277,7 +254,7 @@ impl<L: Seating, C: Takings, T: Teller, R: Wait> Sitting<'_, L, C, T, R> {
         loads: &[(LoadId, Bytes)],
         loader: &mut D,
     )
-        ensures { DropsBy C.spaces C.events C.untaken C.KEEPS D.loads conn loads.now seat.old
+        ensures { DropsBy C.spaces C.untaken C.KEEPS D.loads conn loads.now seat.old
             seat.new loader.old loader.new }
     {
         for place in 0..loads.len() {
@@ -289,7 +266,7 @@ impl<L: Seating, C: Takings, T: Teller, R: Wait> Sitting<'_, L, C, T, R> {
     /// Takes the loads of a connection's namespace that have gone out.
     fn take_loads(&mut self, conn: Conn) -> Option<Vec<(LoadId, Bytes)>>
         ensures { IfSome (option_map (λ loads. loads.items) result)
-            (AreOut C.spaces C.events conn.namespace) }
+            (AreOut C.spaces conn.namespace) }
     {
         let Given { loads, .. } = self.take_owed(conn, true);
         loads
@@ -298,7 +275,7 @@ impl<L: Seating, C: Takings, T: Teller, R: Wait> Sitting<'_, L, C, T, R> {
     /// Opens a connection of a namespace.
     fn open_connection(&mut self, seat: &mut Seat<L>, namespace: u64) -> Result<Conn, RunError>
         ensures opens { IfOk result
-            (λ conn. Opens C.spaces C.events C.untaken C.KEEPS namespace conn seat.old seat.new) }
+            (λ conn. Opens C.spaces C.untaken C.KEEPS namespace conn seat.old seat.new) }
         ensures rests { OnErr result (SeatRests (tally seat.old) (tally seat.new)) }
         ensures why { IfErr result (Stops (Unit {0}) ⊥) }
     {
@@ -322,7 +299,7 @@ impl<L: Seating, C: Takings, T: Teller, R: Wait> Sitting<'_, L, C, T, R> {
             (feed_input conn (record { bytes = piece.now; moment = moment })) result
             (tally seat.old) (tally seat.new) }
         ensures given { IfOk result
-            (λ given. IfSome given (Gives C.spaces C.events C.untaken conn wants_loads)) }
+            (λ given. IfSome given (Gives C.spaces C.untaken conn wants_loads)) }
         ensures why { IfErr result (Stops (Unit {0}) (2 ^ 63 ≤ moment)) }
     {
         let Ok(copy) = Vec::from_slice(self.alloc, piece) else {
@@ -350,10 +327,10 @@ impl<L: Seating, C: Takings, T: Teller, R: Wait> Sitting<'_, L, C, T, R> {
         moment: u64,
         wants_loads: bool,
     ) -> Result<Given, RunError>
-        ensures settled { Settles C.spaces C.events C.untaken C.KEEPS conn.namespace load said
+        ensures settled { Settles C.spaces C.untaken C.KEEPS conn.namespace load said
             moment seat.old seat.new }
         ensures rests { OnErr result (SeatRests (tally seat.old) (tally seat.new)) }
-        ensures given { IfOk result (Gives C.spaces C.events C.untaken conn wants_loads) }
+        ensures given { IfOk result (Gives C.spaces C.untaken conn wants_loads) }
         ensures why { IfErr result (Stops (Unit {0}) (2 ^ 63 ≤ moment)) }
     {
         match self.settle_load(seat, conn, load, said, moment, wants_loads) {
@@ -365,7 +342,7 @@ impl<L: Seating, C: Takings, T: Teller, R: Wait> Sitting<'_, L, C, T, R> {
 
     /// Closes a connection, unless it has closed. If that is refused for memory, it is tried again.
     fn close_if_open(&mut self, seat: &mut Seat<L>, conn: Conn)
-        ensures { Closes C.spaces C.events C.untaken C.KEEPS conn seat.old seat.new }
+        ensures { Closes C.spaces C.untaken C.KEEPS conn seat.old seat.new }
     {
         for _try in 0..u64::MAX {
             match self.shared.step(self.rt, seat, Input::Close { conn }) {
@@ -388,7 +365,7 @@ impl<L: Seating, C: Takings, T: Teller, R: Wait> Sitting<'_, L, C, T, R> {
         hand: &[(LoadId, Bytes)],
         loader: &mut D,
     )
-        ensures { DropsBy C.spaces C.events C.untaken C.KEEPS D.loads conn hand.now seat.old
+        ensures { DropsBy C.spaces C.untaken C.KEEPS D.loads conn hand.now seat.old
             seat.new loader.old loader.new }
     {
         self.drop_each(seat, conn, hand, loader);
@@ -404,18 +381,18 @@ impl<L: Seating, C: Takings, T: Teller, R: Wait> Sitting<'_, L, C, T, R> {
     }
 }
 
-impl<L: Seating, C: Takings, T: Teller, R: Wait> Host for Sitting<'_, L, C, T, R> {
+impl<L: Seating, C: Shareable, T: Teller, R: Wait> Host for Sitting<'_, L, C, T, R> {
     type Place = Seat<L>;
 
     ghost LENT = { false };
 
-    ghost opens = { Opens C.spaces C.events C.untaken C.KEEPS };
+    ghost opens = { Opens C.spaces C.untaken C.KEEPS };
 
     ghost knows = { λ conn seat. Unit {0} };
 
     ghost fits = { IsShortPiece };
 
-    ghost came = { Comes C.spaces C.events C.untaken C.KEEPS };
+    ghost came = { Comes C.spaces C.untaken C.KEEPS };
 
     ghost rests = { λ p q. SeatRests (tally p) (tally q) };
 
@@ -423,9 +400,9 @@ impl<L: Seating, C: Takings, T: Teller, R: Wait> Host for Sitting<'_, L, C, T, R
 
     ghost exhausts = { λ before after. Unit {0} };
 
-    ghost closes = { Closes C.spaces C.events C.untaken C.KEEPS };
+    ghost closes = { Closes C.spaces C.untaken C.KEEPS };
 
-    ghost drops = { Drops C.spaces C.events C.untaken C.KEEPS };
+    ghost drops = { Drops C.spaces C.untaken C.KEEPS };
 
     fn open(&mut self, place: &mut Seat<L>, namespace: u64) -> Result<Conn, RunError> {
         self.open_connection(place, namespace)
@@ -459,7 +436,6 @@ impl<L: Seating, C: Takings, T: Teller, R: Wait> Host for Sitting<'_, L, C, T, R
     }
 
     fn look(&mut self, place: &mut Seat<L>, conn: Conn, wants_loads: bool) -> Given {
-        let _seat = place;
         self.take_owed(conn, wants_loads)
     }
 

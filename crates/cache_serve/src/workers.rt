@@ -1,7 +1,7 @@
 //! The threads that serve connections, and the seats that they return.
 
 use crate::pausing::pause;
-use cache_shared::{Seat, Seating, SharedService, Takings};
+use cache_shared::{Seat, Seating, Shareable, SharedService};
 use slab::Slab;
 use std::alloc::{AllocError, Global};
 use std::io;
@@ -110,7 +110,7 @@ impl<L: Seating + Send + Sync + 'static> Workers<L> {
     }
 
     /// Returns a free seat, or else a new one; `None` if the service has no more.
-    pub fn take_seat<C: Takings>(
+    pub fn take_seat<C: Shareable>(
         &mut self,
         rt: &impl Wait,
         shared: &SharedService<L, C>,

@@ -4,7 +4,7 @@ ghost use Rattle.std.specs.Prelude.{◌≡◌};
 use crate::inputs::{conn, feed, feed_by_key};
 use crate::steps::{count_held, counts_of, finish, is_replied, opens, refuses, runs, takes};
 use audit_model::{Conn, Input};
-use cache_shared::{Finished, Seat, Seating, SharedService, Stepping, Takings};
+use cache_shared::{Finished, Seat, Seating, Shareable, SharedService};
 use std::alloc::Global;
 use std::sync::Wait;
 use std::sync::atomic::{AtomicU64, Ordering};
@@ -30,7 +30,7 @@ pub struct Script<'a> {
 pub type Crew<'a> = [Script<'a>; 4];
 
 /// Feeds a text, and answers whether all of it runs and is replied so.
-fn talks<L: Seating, C: Takings, R: Wait>(
+fn talks<L: Seating, C: Shareable, R: Wait>(
     rt: &R,
     alloc: Global,
     shared: &SharedService<L, C>,
@@ -48,7 +48,7 @@ fn talks<L: Seating, C: Takings, R: Wait>(
 }
 
 /// Feeds each text of a script.
-fn talks_once<L: Seating, C: Takings, R: Wait>(
+fn talks_once<L: Seating, C: Shareable, R: Wait>(
     rt: &R,
     alloc: Global,
     shared: &SharedService<L, C>,
@@ -65,7 +65,7 @@ fn talks_once<L: Seating, C: Takings, R: Wait>(
 }
 
 /// The same so often.
-fn talks_often<L: Seating, C: Takings, R: Wait>(
+fn talks_often<L: Seating, C: Shareable, R: Wait>(
     rt: &R,
     alloc: Global,
     shared: &SharedService<L, C>,
@@ -88,7 +88,7 @@ fn counts_so<L: Seating>(seat: &Seat<L>, script: &Script<'_>) -> bool {
 }
 
 /// Follows a script on a connection. Answers whether each input was taken and replied so, and the seat counts them and has their receipts.
-fn follows_on<L: Seating, C: Takings, R: Wait>(
+fn follows_on<L: Seating, C: Shareable, R: Wait>(
     rt: &R,
     alloc: Global,
     shared: &SharedService<L, C>,
@@ -102,7 +102,7 @@ fn follows_on<L: Seating, C: Takings, R: Wait>(
 }
 
 /// The same on a connection that is opened for it.
-pub fn follows<L: Seating, C: Takings, R: Wait>(
+pub fn follows<L: Seating, C: Shareable, R: Wait>(
     rt: &R,
     alloc: Global,
     shared: &SharedService<L, C>,
@@ -116,7 +116,7 @@ pub fn follows<L: Seating, C: Takings, R: Wait>(
 }
 
 /// Whether a feed of a connection that is not there is refused.
-fn refuses_feed<L: Seating, C: Takings, R: Wait>(
+fn refuses_feed<L: Seating, C: Shareable, R: Wait>(
     rt: &R,
     alloc: Global,
     shared: &SharedService<L, C>,
@@ -129,7 +129,7 @@ fn refuses_feed<L: Seating, C: Takings, R: Wait>(
 }
 
 /// One thread's part: beside its script, inputs of connections that are not there are refused.
-fn works<L: Seating, C: Takings, R: Wait>(
+fn works<L: Seating, C: Shareable, R: Wait>(
     rt: &R,
     alloc: Global,
     shared: &SharedService<L, C>,
@@ -142,7 +142,7 @@ fn works<L: Seating, C: Takings, R: Wait>(
 }
 
 /// The part of the thread of this number, which is counted if all came out so.
-fn works_at<L: Seating, C: Takings, R: Wait>(
+fn works_at<L: Seating, C: Shareable, R: Wait>(
     rt: &R,
     alloc: Global,
     shared: &SharedService<L, C>,
@@ -158,7 +158,7 @@ fn works_at<L: Seating, C: Takings, R: Wait>(
 }
 
 /// Whether all came out so in each of four threads, one for each seat.
-pub fn all_work<L: Seating + Send + Sync, C: Takings + Send, R: Threads + Wait + Sync>(
+pub fn all_work<L: Seating + Send + Sync, C: Shareable + Send, R: Threads + Wait + Sync>(
     rt: &R,
     alloc: Global,
     shared: &SharedService<L, C>,
@@ -176,7 +176,7 @@ pub fn all_work<L: Seating + Send + Sync, C: Takings + Send, R: Threads + Wait +
 }
 
 /// The service and these seats back, where it is not to be had beside a clone.
-fn refused_beside_clone<L: Seating, C: Stepping>(
+fn refused_beside_clone<L: Seating, C: Shareable>(
     shared: SharedService<L, C>,
     seats: Vec<Seat<L>>,
 ) -> Option<(SharedService<L, C>, Vec<Seat<L>>)>
@@ -189,7 +189,7 @@ fn refused_beside_clone<L: Seating, C: Stepping>(
 }
 
 /// What seats leave. The service is not to be had beside a clone.
-fn finish_without_clone<L: Seating, C: Stepping>(
+fn finish_without_clone<L: Seating, C: Shareable>(
     shared: SharedService<L, C>,
     seats: Vec<Seat<L>>,
 ) -> Option<Finished<C>>
@@ -202,7 +202,7 @@ fn finish_without_clone<L: Seating, C: Stepping>(
 }
 
 /// The same of all seats but the last one, and that one.
-fn finish_with<L: Seating, C: Stepping>(
+fn finish_with<L: Seating, C: Shareable>(
     shared: SharedService<L, C>,
     mut seats: Vec<Seat<L>>,
     last: Seat<L>,
@@ -216,7 +216,7 @@ fn finish_with<L: Seating, C: Stepping>(
 }
 
 /// The same, where the service is not to be had without the last one.
-fn finish_with_last<L: Seating, C: Stepping>(
+fn finish_with_last<L: Seating, C: Shareable>(
     shared: SharedService<L, C>,
     seats: Vec<Seat<L>>,
     last: Seat<L>,
@@ -230,7 +230,7 @@ fn finish_with_last<L: Seating, C: Stepping>(
 }
 
 /// What seats leave. The service is not to be had without the last one, nor beside a clone.
-pub fn finish_at_last<L: Seating, C: Stepping>(
+pub fn finish_at_last<L: Seating, C: Shareable>(
     shared: SharedService<L, C>,
     mut seats: Vec<Seat<L>>,
 ) -> Option<Finished<C>>

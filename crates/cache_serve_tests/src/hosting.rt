@@ -5,7 +5,7 @@ use crate::devices::Plain;
 use crate::meetings::Meeting;
 use crate::steps::finish;
 use cache_serve::{Hosted, host};
-use cache_shared::{Seat, Seating, SharedService, Stepping, Takings};
+use cache_shared::{Seat, Seating, Shareable, SharedService};
 use std::alloc::Global;
 use std::io::{Read, Write};
 use std::net::{Ipv4Addr, Net, SocketAddr, TcpListener, TcpStream};
@@ -163,7 +163,7 @@ fn host_them<L, C, R>(
 ) -> Option<Hosted<L>>
 where
     L: Seating + Send + Sync + 'static,
-    C: Takings + Send + 'static,
+    C: Shareable + Send + 'static,
     R: Threads + Wait + Clock + Copy + Send + Sync + 'static,
 {
     if meeting.meets(&rt) {
@@ -186,7 +186,7 @@ fn host_with<L, C, R>(
 ) -> Option<Came<L>>
 where
     L: Seating + Send + Sync + 'static,
-    C: Takings + Send + 'static,
+    C: Shareable + Send + 'static,
     R: Net<Listener = TcpListener, Stream = TcpStream>
         + Threads
         + Wait
@@ -221,7 +221,7 @@ fn host_both<L, C, R>(
 ) -> Option<Came<L>>
 where
     L: Seating + Send + Sync + 'static,
-    C: Takings + Send + 'static,
+    C: Shareable + Send + 'static,
     R: Net<Listener = TcpListener, Stream = TcpStream>
         + Threads
         + Wait
@@ -247,7 +247,7 @@ fn host_here<L, C, R>(
 ) -> Option<Came<L>>
 where
     L: Seating + Send + Sync + 'static,
-    C: Takings + Send + 'static,
+    C: Shareable + Send + 'static,
     R: Net<Listener = TcpListener, Stream = TcpStream>
         + Threads
         + Wait
@@ -273,7 +273,7 @@ fn count_of<L: Seating>(seats: &[Seat<L>]) -> u64 {
 }
 
 /// Whether a host ends as it should, and as many events as wanted are behind it.
-fn ends_so<L: Seating, C: Stepping>(
+fn ends_so<L: Seating, C: Shareable>(
     shared: SharedService<L, C>,
     hosted: Hosted<L>,
     visit: &Visit<'_>,
@@ -286,7 +286,7 @@ fn ends_so<L: Seating, C: Stepping>(
 }
 
 /// Whether two clients came to what their visit says.
-fn comes_so<L: Seating, C: Stepping>(
+fn comes_so<L: Seating, C: Shareable>(
     shared: SharedService<L, C>,
     came: Came<L>,
     visit: &Visit<'_>,
@@ -307,7 +307,7 @@ fn is_hosted_so<L, C, R>(
 ) -> bool
 where
     L: Seating + Send + Sync + 'static,
-    C: Takings + Send + 'static,
+    C: Shareable + Send + 'static,
     R: Net<Listener = TcpListener, Stream = TcpStream>
         + Threads
         + Wait
@@ -335,7 +335,7 @@ pub fn is_visit_so<L, C, R>(
 ) -> bool
 where
     L: Seating + Send + Sync + 'static,
-    C: Takings + Send + 'static,
+    C: Shareable + Send + 'static,
     R: Net<Listener = TcpListener, Stream = TcpStream>
         + Threads
         + Wait

@@ -1,13 +1,13 @@
 //! Services, and inputs of them.
-ghost use Rattle.std.specs.Prelude.{◌≡◌, IfSome};
-ghost use Rattle.cache_shared.specs.Events.{record_count};
-ghost use Rattle.cache_shared.specs.Recordings.{journals_in};
+ghost use Rattle.std.specs.Prelude.{true, false, IfSome};
+ghost use Rattle.cache_shared.specs.Bared.{bare_spaces, no_journals};
+ghost use Rattle.cache_shared.specs.Events.{StandsAfter};
+ghost use Rattle.cache_shared.specs.Recordings.{journals_in, spaces_in};
 
 use audit_model::{
     Bytes, Config, Conn, EvictionPolicy, Input, Instant, LoadId, Outcome, Seq, Weight,
 };
-use cache_shared::LiveService;
-use cache_spaces::RecordedService;
+use cache_spaces::{RecordedService, Service};
 use rand_core::SeedableRng;
 use rand_xoshiro::Xoshiro256PlusPlus;
 use std::alloc::Global;
@@ -27,10 +27,10 @@ pub const PLAIN: Config = Config {
 pub const START: Instant = Instant { nanos: 0 };
 
 /// A new service of one plain namespace that keeps no journal.
-pub fn make_live(alloc: Global) -> Option<LiveService>
-    ensures { IfSome result (λ core. core.events ≡ 0) }
+pub fn make_live(alloc: Global) -> Option<Service>
+    ensures { IfSome result (StandsAfter false bare_spaces no_journals 0) }
 {
-    match LiveService::new(alloc, &[PLAIN], Xoshiro256PlusPlus::seed_from_u64(1), START) {
+    match Service::new(alloc, &[PLAIN], Xoshiro256PlusPlus::seed_from_u64(1), START) {
         Ok(core) => Some(core),
         Err(_) => None,
     }
@@ -38,7 +38,7 @@ pub fn make_live(alloc: Global) -> Option<LiveService>
 
 /// One that keeps its journal.
 pub fn make_recorded(alloc: Global) -> Option<RecordedService>
-    ensures { IfSome result (λ core. record_count (journals_in core) ≡ 0) }
+    ensures { IfSome result (StandsAfter true spaces_in journals_in 0) }
 {
     match RecordedService::new(alloc, &[PLAIN], Xoshiro256PlusPlus::seed_from_u64(1), START) {
         Ok(core) => Some(core),

@@ -3,7 +3,7 @@ use crate::crews::{Crew, Script};
 use crate::inputs::{PLAIN, conn, feed};
 use audit_laws::{Receipt, receipts_stand};
 use audit_model::{Input, Transcript};
-use cache_shared::{Finished, Stepping};
+use cache_shared::{Finished, Shareable};
 use moka_audit::{Verdict, audit};
 use std::alloc::Global;
 
@@ -140,7 +140,7 @@ fn is_journal_right(
 }
 
 /// The same of what a crew leaves.
-pub fn is_crew_right<C: Stepping>(
+pub fn is_crew_right<C: Shareable>(
     alloc: Global,
     finished: Finished<C>,
     crew: &Crew<'_>,

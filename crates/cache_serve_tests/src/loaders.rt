@@ -2,7 +2,7 @@
 use crate::inputs::{bytes, conn};
 use audit_model::Outcome;
 use cache_run::Loader;
-use cache_shared::{Seating, SharedService, Takings};
+use cache_shared::{Seating, Shareable, SharedService};
 use std::alloc::Global;
 use std::io::{ErrorKind, Write};
 use std::sync::Wait;
@@ -36,7 +36,7 @@ pub enum Hold {
 /// A loader that is held, up to a limit of turns. It finds nothing for `n`, fails for `f`, asks for a give-up for `g`, finds a value with a
 /// line end for `b` when it is asked first of all, and else the value `v`; where it was held too long it fails.
 #[derive(Drop)]
-pub struct Held<'a, L: Seating, C: Takings, R: Wait + Clock> {
+pub struct Held<'a, L: Seating, C: Shareable, R: Wait + Clock> {
     pub rt: &'a R,
     pub alloc: Global,
     pub shared: &'a SharedService<L, C>,
@@ -44,7 +44,7 @@ pub struct Held<'a, L: Seating, C: Takings, R: Wait + Clock> {
     pub hold: Hold,
 }
 
-impl<L: Seating, C: Takings, R: Wait + Clock> Held<'_, L, C, R> {
+impl<L: Seating, C: Shareable, R: Wait + Clock> Held<'_, L, C, R> {
     /// Whether a connection waits for a load.
     fn waits(&self, number: u64) -> bool {
         self.shared.waiting(self.rt, conn(number)) == Ok(true)
@@ -98,7 +98,7 @@ fn found(alloc: Global, key: &[u8], asked: u64) -> Option<Outcome> {
     }
 }
 
-impl<L: Seating, C: Takings, R: Wait + Clock> Loader for Held<'_, L, C, R> {
+impl<L: Seating, C: Shareable, R: Wait + Clock> Loader for Held<'_, L, C, R> {
     ghost loads = { λ c key answer d. Unit {0} };
 
     fn load(&mut self, key: &[u8]) -> Option<Outcome> {

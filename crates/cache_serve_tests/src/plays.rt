@@ -1,7 +1,8 @@
 //! What is played over a shared service.
-ghost use Rattle.std.specs.Prelude.{◌≡◌};
-ghost use Rattle.cache_shared.specs.Events.{record_count};
-ghost use Rattle.cache_shared.specs.Recordings.{journals_in};
+ghost use Rattle.std.specs.Prelude.{◌≡◌, true, false};
+ghost use Rattle.cache_shared.specs.Bared.{bare_spaces, no_journals};
+ghost use Rattle.cache_shared.specs.Events.{StandsAfter};
+ghost use Rattle.cache_shared.specs.Recordings.{journals_in, spaces_in};
 
 use crate::crews::{Crew, Script, all_work, finish_at_last, follows};
 use crate::hosting::{Visit, is_visit_so};
@@ -11,8 +12,8 @@ use crate::serving::{Row, is_journal_so, is_live_so, serves_so};
 use crate::steps::make_seats;
 use crate::waiting::is_answered;
 use audit_laws::Receipt;
-use cache_shared::{Finished, LiveService, Seat, Seating, SharedService, Stepping, Takings};
-use cache_spaces::RecordedService;
+use cache_shared::{Finished, Seat, Seating, Shareable, SharedService};
+use cache_spaces::{RecordedService, Service};
 use std::alloc::Global;
 use std::marker::Brand;
 use std::net::{Net, TcpListener, TcpStream};
@@ -44,13 +45,13 @@ pub enum Seated<'a> {
 }
 
 /// A shared form, on the second attempt if memory is refused.
-fn share<L: Seating, C: Stepping>(
+fn share<L: Seating, C: Shareable>(
     alloc: Global,
     core: C,
     blank: Blank,
     parts: u64,
 ) -> Option<SharedService<L, C>>
-    requires empty { C.events core ≡ 0 }
+    requires empty { StandsAfter C.KEEPS C.spaces C.journals 0 core }
     requires name { blank.name ≡ L.name }
     requires parts { (blank.parts ≡ L.parts) × (L.all ≡ L.parts) × (parts ≡ L.parts) }
 {
@@ -64,7 +65,7 @@ fn share<L: Seating, C: Stepping>(
 fn is_awaited<L, C, R>(rt: &R, alloc: Global, shared: &SharedService<L, C>) -> bool
 where
     L: Seating + Send + Sync + 'static,
-    C: Takings + Send + 'static,
+    C: Shareable + Send + 'static,
     R: Threads + Wait + Clock + Sync,
 {
     match make_seats(rt, alloc, shared, 2) {
@@ -83,7 +84,7 @@ fn seats_of(play: Seated<'_>) -> usize {
 }
 
 /// Whether the first of these seats follows a script.
-fn first_follows<L: Seating, C: Takings, R: Wait>(
+fn first_follows<L: Seating, C: Shareable, R: Wait>(
     rt: &R,
     alloc: Global,
     shared: &SharedService<L, C>,
@@ -106,7 +107,7 @@ fn do_so<L, C, R>(
 ) -> bool
 where
     L: Seating + Send + Sync + 'static,
-    C: Takings + Send + 'static,
+    C: Shareable + Send + 'static,
     R: Threads + Wait + Clock + Sync,
 {
     match play {
@@ -126,7 +127,7 @@ fn leave<L, C, R>(
 ) -> Option<Finished<C>>
 where
     L: Seating + Send + Sync + 'static,
-    C: Takings + Send + 'static,
+    C: Shareable + Send + 'static,
     R: Threads + Wait + Clock + Sync,
     requires ledger { L.all ≡ L.parts }
 {
@@ -146,7 +147,7 @@ fn leaves<L, C, R>(
 ) -> Option<Finished<C>>
 where
     L: Seating + Send + Sync + 'static,
-    C: Takings + Send + 'static,
+    C: Shareable + Send + 'static,
     R: Threads + Wait + Clock + Sync,
     requires ledger { L.all ≡ L.parts }
 {
@@ -157,12 +158,7 @@ where
 }
 
 /// Whether what is left of two connections is that of their row.
-fn is_served<L, R>(
-    rt: &R,
-    alloc: Global,
-    shared: SharedService<L, LiveService>,
-    row: &Row<'_>,
-) -> bool
+fn is_served<L, R>(rt: &R, alloc: Global, shared: SharedService<L, Service>, row: &Row<'_>) -> bool
 where
     L: Seating + Send + Sync + 'static,
     R: Threads + Wait + Clock + Sync,
@@ -178,7 +174,7 @@ where
 fn is_live_played<L, R>(
     rt: R,
     alloc: Global,
-    shared: SharedService<L, LiveService>,
+    shared: SharedService<L, Service>,
     play: Live<'_>,
 ) -> bool
 where
@@ -204,7 +200,7 @@ where
 fn play_live<L, R>(
     rt: R,
     alloc: Global,
-    core: LiveService,
+    core: Service,
     blank: Blank,
     parts: u64,
     play: Live<'_>,
@@ -219,11 +215,11 @@ where
         + Send
         + Sync
         + 'static,
-    requires empty { core.events ≡ 0 }
+    requires empty { StandsAfter false bare_spaces no_journals 0 core }
     requires name { blank.name ≡ L.name }
     requires parts { (blank.parts ≡ L.parts) × (L.all ≡ L.parts) × (parts ≡ L.parts) }
 {
-    let shared: Option<SharedService<L, LiveService>> = share(alloc, core, blank, parts);
+    let shared: Option<SharedService<L, Service>> = share(alloc, core, blank, parts);
     match shared {
         Some(shared) => is_live_played(rt, alloc, shared, play),
         None => false,
@@ -260,7 +256,7 @@ fn count_of(seats: &[Vec<Vec<Receipt>>]) -> usize {
 }
 
 /// Whether the journal has a record for each receipt of the one seat.
-fn are_recorded<C: Stepping>(finished: Finished<C>) -> bool {
+fn are_recorded<C: Shareable>(finished: Finished<C>) -> bool {
     match finished.service.journal(0) {
         Ok(journal) => journal.records.len() == count_of(finished.receipts.as_slice()),
         Err(_) => false,
@@ -268,7 +264,7 @@ fn are_recorded<C: Stepping>(finished: Finished<C>) -> bool {
 }
 
 /// Whether the journal of what is left is that of its play.
-fn is_left_so<C: Stepping>(alloc: Global, finished: Finished<C>, play: Seated<'_>) -> bool {
+fn is_left_so<C: Shareable>(alloc: Global, finished: Finished<C>, play: Seated<'_>) -> bool {
     match play {
         Seated::Serve(_) => is_journal_so(alloc, finished),
         Seated::Crew(crew, records) => is_crew_right(alloc, finished, crew, records),
@@ -285,7 +281,7 @@ fn is_recorded_played<L, C, R>(
 ) -> bool
 where
     L: Seating + Send + Sync + 'static,
-    C: Takings + Send + 'static,
+    C: Shareable + Send + 'static,
     R: Threads + Wait + Clock + Sync,
     requires ledger { L.all ≡ L.parts }
 {
@@ -307,7 +303,7 @@ fn play_recorded<L, R>(
 where
     L: Seating + Send + Sync + 'static,
     R: Threads + Wait + Clock + Sync,
-    requires empty { record_count (journals_in core) ≡ 0 }
+    requires empty { StandsAfter true spaces_in journals_in 0 core }
     requires name { blank.name ≡ L.name }
     requires parts { (blank.parts ≡ L.parts) × (L.all ≡ L.parts) × (parts ≡ L.parts) }
 {

@@ -8,7 +8,8 @@ use crate::steps::has_one_journal;
 use audit_model::{Closing, Transcript};
 use cache_run::{RunError, Watched};
 use cache_serve::serve;
-use cache_shared::{Finished, LiveService, Seat, Seating, SharedService, Stepping, Takings};
+use cache_shared::{Finished, Seat, Seating, Shareable, SharedService};
+use cache_spaces::Service;
 use moka_audit::{Verdict, audit};
 use std::alloc::Global;
 use std::sync::Wait;
@@ -66,7 +67,7 @@ fn second_part<'a>(row: &Row<'a>) -> Part<'a> {
 }
 
 /// Serves a connection over memory, with a loader that is held, and answers how it ended.
-fn attend_over<L: Seating, C: Takings, R: Wait + Clock>(
+fn attend_over<L: Seating, C: Shareable, R: Wait + Clock>(
     rt: &R,
     alloc: Global,
     shared: &SharedService<L, C>,
@@ -100,7 +101,7 @@ fn is_page(page: &Page<'_>, part: Part<'_>) -> bool {
 }
 
 /// Whether a connection is written what its part says, and ends so.
-fn attend<L: Seating, C: Takings, R: Wait + Clock>(
+fn attend<L: Seating, C: Shareable, R: Wait + Clock>(
     rt: &R,
     alloc: Global,
     shared: &SharedService<L, C>,
@@ -117,7 +118,7 @@ fn attend<L: Seating, C: Takings, R: Wait + Clock>(
 }
 
 /// Serves both, each on a thread of its own. Answers whether all came out so, and loads were asked for as often as the row says.
-fn attend_both<L: Seating + Send + Sync, C: Takings + Send, R: Threads + Wait + Clock + Sync>(
+fn attend_both<L: Seating + Send + Sync, C: Shareable + Send, R: Threads + Wait + Clock + Sync>(
     rt: &R,
     alloc: Global,
     shared: &SharedService<L, C>,
@@ -135,7 +136,7 @@ fn attend_both<L: Seating + Send + Sync, C: Takings + Send, R: Threads + Wait + 
 }
 
 /// The same, while nothing has come about yet.
-fn attend_anew<L: Seating + Send + Sync, C: Takings + Send, R: Threads + Wait + Clock + Sync>(
+fn attend_anew<L: Seating + Send + Sync, C: Shareable + Send, R: Threads + Wait + Clock + Sync>(
     rt: &R,
     alloc: Global,
     shared: &SharedService<L, C>,
@@ -151,7 +152,7 @@ fn attend_anew<L: Seating + Send + Sync, C: Takings + Send, R: Threads + Wait + 
 }
 
 /// The same, and the seats count as many inputs as the row says.
-fn attend_row<L: Seating + Send + Sync, C: Takings + Send, R: Threads + Wait + Clock + Sync>(
+fn attend_row<L: Seating + Send + Sync, C: Shareable + Send, R: Threads + Wait + Clock + Sync>(
     rt: &R,
     alloc: Global,
     shared: &SharedService<L, C>,
@@ -164,7 +165,7 @@ fn attend_row<L: Seating + Send + Sync, C: Takings + Send, R: Threads + Wait + C
 }
 
 /// The same with these seats, if they are two.
-pub fn serves_so<L: Seating + Send + Sync, C: Takings + Send, R: Threads + Wait + Clock + Sync>(
+pub fn serves_so<L: Seating + Send + Sync, C: Shareable + Send, R: Threads + Wait + Clock + Sync>(
     rt: &R,
     alloc: Global,
     shared: &SharedService<L, C>,
@@ -178,14 +179,14 @@ pub fn serves_so<L: Seating + Send + Sync, C: Takings + Send, R: Threads + Wait 
 }
 
 /// Whether both connections are closed for that, where that is looked at.
-fn are_closed(service: &LiveService, closing: Option<Closing>) -> bool {
+fn are_closed(service: &Service, closing: Option<Closing>) -> bool {
     closing.is_none()
         || service.closed(conn(1)) == Ok(closing) && service.closed(conn(2)) == Ok(closing)
 }
 
 /// Whether no load is under way in what a row leaves, and both connections are closed as it says.
-pub fn is_live_so(service: &LiveService, row: &Row<'_>) -> bool {
-    service.service().loads_open(0) == Ok(0) && are_closed(service, row.closing)
+pub fn is_live_so(service: &Service, row: &Row<'_>) -> bool {
+    service.loads_open(0) == Ok(0) && are_closed(service, row.closing)
 }
 
 /// Whether a journal has five records and is judged to obey.
@@ -194,7 +195,7 @@ fn obeys(alloc: Global, journal: &Transcript) -> bool {
 }
 
 /// Whether the journal of what is left does, and there is no other one.
-pub fn is_journal_so<C: Stepping>(alloc: Global, finished: Finished<C>) -> bool {
+pub fn is_journal_so<C: Shareable>(alloc: Global, finished: Finished<C>) -> bool {
     match finished.service.journal(0) {
         Ok(journal) => obeys(alloc, journal) && has_one_journal(&finished.service),
         Err(_) => false,

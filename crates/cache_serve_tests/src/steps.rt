@@ -4,13 +4,13 @@ ghost use Rattle.std.specs.Prelude.{◌≡◌};
 use crate::inputs::feed;
 use audit_laws::Output;
 use audit_model::{Conn, Input, ServiceError};
-use cache_shared::{Finished, Seat, Seating, SharedService, Stepping, Takings};
+use cache_shared::{Finished, Seat, Seating, Shareable, SharedService};
 use cache_spaces::Refusal;
 use std::alloc::Global;
 use std::sync::Wait;
 
 /// Adds a seat of a shared service, if there is one more.
-fn add_seat<L: Seating, C: Stepping>(
+fn add_seat<L: Seating, C: Shareable>(
     rt: &impl Wait,
     shared: &SharedService<L, C>,
     seats: &mut Vec<Seat<L>>,
@@ -22,7 +22,7 @@ fn add_seat<L: Seating, C: Stepping>(
 }
 
 /// Adds so many seats. Room for them is made first, on the second attempt if memory is refused.
-fn add_seats<L: Seating, C: Stepping>(
+fn add_seats<L: Seating, C: Shareable>(
     rt: &impl Wait,
     shared: &SharedService<L, C>,
     seats: &mut Vec<Seat<L>>,
@@ -38,7 +38,7 @@ fn add_seats<L: Seating, C: Stepping>(
 }
 
 /// So many seats of a shared service, if there are.
-pub fn make_seats<L: Seating, C: Stepping>(
+pub fn make_seats<L: Seating, C: Shareable>(
     rt: &impl Wait,
     alloc: Global,
     shared: &SharedService<L, C>,
@@ -69,7 +69,7 @@ pub fn count_held<L: Seating>(seat: &Seat<L>) -> usize {
 }
 
 /// Takes an input that was refused. `None` also if the seat counted others than these before.
-fn step_again<L: Seating, C: Stepping, R: Wait>(
+fn step_again<L: Seating, C: Shareable, R: Wait>(
     rt: &R,
     shared: &SharedService<L, C>,
     seat: &mut Seat<L>,
@@ -82,7 +82,7 @@ fn step_again<L: Seating, C: Stepping, R: Wait>(
 }
 
 /// Takes an input, again where it is refused, if the refusal left the seat as it was.
-fn step<L: Seating, C: Stepping, R: Wait>(
+fn step<L: Seating, C: Shareable, R: Wait>(
     rt: &R,
     shared: &SharedService<L, C>,
     seat: &mut Seat<L>,
@@ -104,7 +104,7 @@ fn is_unknown(taken: Result<Output, Refusal>) -> bool {
 }
 
 /// Whether an input is refused for its unknown connection, and leaves no receipt.
-pub fn refuses<L: Seating, C: Stepping, R: Wait>(
+pub fn refuses<L: Seating, C: Shareable, R: Wait>(
     rt: &R,
     shared: &SharedService<L, C>,
     seat: &mut Seat<L>,
@@ -115,7 +115,7 @@ pub fn refuses<L: Seating, C: Stepping, R: Wait>(
 }
 
 /// Whether an input is taken.
-pub fn takes<L: Seating, C: Stepping, R: Wait>(
+pub fn takes<L: Seating, C: Shareable, R: Wait>(
     rt: &R,
     shared: &SharedService<L, C>,
     seat: &mut Seat<L>,
@@ -125,7 +125,7 @@ pub fn takes<L: Seating, C: Stepping, R: Wait>(
 }
 
 /// Whether the lines of a feed of nothing run, so one that is held back.
-fn runs_held<L: Seating, C: Stepping, R: Wait>(
+fn runs_held<L: Seating, C: Shareable, R: Wait>(
     rt: &R,
     alloc: Global,
     shared: &SharedService<L, C>,
@@ -139,7 +139,7 @@ fn runs_held<L: Seating, C: Stepping, R: Wait>(
 }
 
 /// Whether all lines of a feed run, one that is held back for want of memory at a feed of nothing.
-pub fn runs<L: Seating, C: Stepping, R: Wait>(
+pub fn runs<L: Seating, C: Shareable, R: Wait>(
     rt: &R,
     alloc: Global,
     shared: &SharedService<L, C>,
@@ -154,7 +154,7 @@ pub fn runs<L: Seating, C: Stepping, R: Wait>(
 }
 
 /// Opens a connection.
-pub fn opens<L: Seating, C: Stepping, R: Wait>(
+pub fn opens<L: Seating, C: Shareable, R: Wait>(
     rt: &R,
     shared: &SharedService<L, C>,
     seat: &mut Seat<L>,
@@ -166,7 +166,7 @@ pub fn opens<L: Seating, C: Stepping, R: Wait>(
 }
 
 /// Whether a feed of this text is taken.
-pub fn feeds<L: Seating, C: Stepping, R: Wait>(
+pub fn feeds<L: Seating, C: Shareable, R: Wait>(
     rt: &R,
     alloc: Global,
     shared: &SharedService<L, C>,
@@ -181,7 +181,7 @@ pub fn feeds<L: Seating, C: Stepping, R: Wait>(
 }
 
 /// Whether those are the replies that a connection did not take yet, where they are known.
-fn takes_reply<L: Seating, C: Takings, R: Wait>(
+fn takes_reply<L: Seating, C: Shareable, R: Wait>(
     rt: &R,
     shared: &SharedService<L, C>,
     conn: Conn,
@@ -194,7 +194,7 @@ fn takes_reply<L: Seating, C: Takings, R: Wait>(
 }
 
 /// Whether a connection is replied so, where that is known; on the second attempt if memory is refused for the copy.
-pub fn is_replied<L: Seating, C: Takings, R: Wait>(
+pub fn is_replied<L: Seating, C: Shareable, R: Wait>(
     rt: &R,
     shared: &SharedService<L, C>,
     conn: Conn,
@@ -204,7 +204,7 @@ pub fn is_replied<L: Seating, C: Takings, R: Wait>(
 }
 
 /// Whether a service has no second namespace, and so no second journal.
-pub fn has_one_journal<C: Stepping>(service: &C) -> bool {
+pub fn has_one_journal<C: Shareable>(service: &C) -> bool {
     match service.journal(1) {
         Ok(_) => false,
         Err(error) => error == ServiceError::NoNamespace,
@@ -212,7 +212,7 @@ pub fn has_one_journal<C: Stepping>(service: &C) -> bool {
 }
 
 /// What these seats leave, on the second attempt if memory is refused.
-pub fn finish<L: Seating, C: Stepping>(
+pub fn finish<L: Seating, C: Shareable>(
     shared: SharedService<L, C>,
     seats: Vec<Seat<L>>,
 ) -> Option<Finished<C>>

@@ -3,7 +3,7 @@ use crate::inputs::answer;
 use crate::meetings::Meeting;
 use crate::steps::{feeds, opens, takes};
 use audit_model::{Bytes, Conn, LoadId};
-use cache_shared::{Seat, Seating, SharedService, Takings};
+use cache_shared::{Seat, Seating, Shareable, SharedService};
 use std::alloc::Global;
 use std::sync::Wait;
 use std::thread;
@@ -11,20 +11,20 @@ use std::thread::Threads;
 use std::time::{Clock, Duration};
 
 /// Whether a connection was told this and did not take it yet.
-fn is_told<L: Seating, C: Takings, R: Wait>(
+fn is_told<L: Seating, C: Shareable, R: Wait>(
     rt: &R,
     shared: &SharedService<L, C>,
     conn: Conn,
     text: &[u8],
 ) -> bool {
     match shared.take_output(rt, conn) {
-        Ok(replies) => replies.into_text().as_slice() == text,
+        Ok(replies) => replies.as_slice() == text,
         Err(_) => false,
     }
 }
 
 /// Whether a connection that loads is told the value once it is ready.
-fn awaits_on<L: Seating, C: Takings, R: Wait>(
+fn awaits_on<L: Seating, C: Shareable, R: Wait>(
     rt: &R,
     alloc: Global,
     shared: &SharedService<L, C>,
@@ -40,7 +40,7 @@ fn awaits_on<L: Seating, C: Takings, R: Wait>(
 }
 
 /// The same on a connection that is opened for it.
-fn awaits<L: Seating, C: Takings, R: Wait>(
+fn awaits<L: Seating, C: Shareable, R: Wait>(
     rt: &R,
     alloc: Global,
     shared: &SharedService<L, C>,
@@ -61,15 +61,18 @@ fn first_of(loads: &[(LoadId, Bytes)]) -> Option<u64> {
 }
 
 /// The number of a load that goes out, if there is one.
-fn next_load<L: Seating, C: Takings, R: Wait>(rt: &R, shared: &SharedService<L, C>) -> Option<u64> {
+fn next_load<L: Seating, C: Shareable, R: Wait>(
+    rt: &R,
+    shared: &SharedService<L, C>,
+) -> Option<u64> {
     match shared.take_loads(rt, 0) {
-        Ok(loads) => first_of(loads.into_loads().as_slice()),
+        Ok(loads) => first_of(loads.as_slice()),
         Err(_) => None,
     }
 }
 
 /// The number of the load that goes out first, looked for a limited number of times.
-fn first_load<L: Seating, C: Takings, R: Wait + Clock>(
+fn first_load<L: Seating, C: Shareable, R: Wait + Clock>(
     rt: &R,
     shared: &SharedService<L, C>,
 ) -> Option<u64> {
@@ -83,7 +86,7 @@ fn first_load<L: Seating, C: Takings, R: Wait + Clock>(
 }
 
 /// Answers a load, and says whether that was taken.
-fn answers_load<L: Seating, C: Takings, R: Wait>(
+fn answers_load<L: Seating, C: Shareable, R: Wait>(
     rt: &R,
     alloc: Global,
     shared: &SharedService<L, C>,
@@ -97,7 +100,7 @@ fn answers_load<L: Seating, C: Takings, R: Wait>(
 }
 
 /// Answers the load that goes out first, and says whether that was taken.
-fn answers<L: Seating, C: Takings, R: Wait + Clock>(
+fn answers<L: Seating, C: Shareable, R: Wait + Clock>(
     rt: &R,
     alloc: Global,
     shared: &SharedService<L, C>,
@@ -110,7 +113,7 @@ fn answers<L: Seating, C: Takings, R: Wait + Clock>(
 }
 
 /// Awaits unless the other thread has given this one up: where no thread can be made, one part runs behind the other.
-fn awaits_other<L: Seating, C: Takings, R: Wait>(
+fn awaits_other<L: Seating, C: Shareable, R: Wait>(
     rt: &R,
     alloc: Global,
     shared: &SharedService<L, C>,
@@ -121,7 +124,7 @@ fn awaits_other<L: Seating, C: Takings, R: Wait>(
 }
 
 /// Answers once the other thread is there.
-fn answers_other<L: Seating, C: Takings, R: Wait + Clock>(
+fn answers_other<L: Seating, C: Shareable, R: Wait + Clock>(
     rt: &R,
     alloc: Global,
     shared: &SharedService<L, C>,
@@ -141,7 +144,7 @@ fn both_do<L, C, R>(
 ) -> bool
 where
     L: Seating + Send + Sync + 'static,
-    C: Takings + Send,
+    C: Shareable + Send,
     R: Threads + Wait + Clock + Sync,
 {
     let meeting = Meeting::new();
@@ -162,7 +165,7 @@ pub fn is_answered<L, C, R>(
 ) -> bool
 where
     L: Seating + Send + Sync + 'static,
-    C: Takings + Send,
+    C: Shareable + Send,
     R: Threads + Wait + Clock + Sync,
 {
     match seats {

@@ -13,9 +13,10 @@ use Rattle.audit_model.specs.declared.transcript.Step.{Step}
 use Rattle.audit_laws.specs.Receipts.Answers.{last_is_held, output_with}
 use Rattle.audit_laws.specs.declared.receipts.output.Output.{Output}
 use Rattle.audit_laws.specs.declared.receipts.output.Output.TheVariants.{All, Held}
-use Rattle.cache_shared.specs.Events.{Performs, IsReached, is_fed, is_output_for}
+use Rattle.cache_shared.specs.Events.{Performs, is_fed, is_output_for}
 use Rattle.cache_core.proofs.connections.Getting.{found-at}
 use Rattle.cache_spaces.specs.Inputs.{namespace_of}
+use Rattle.cache_spaces.specs.Reached.{IsReached}
 use Rattle.cache_spaces.specs.Spaces.{Shown}
 
 chosen : {X : Type 0} (b : Bool) (x y : X) → (if b then Some x else None) ≡ Some y → x ≡ y

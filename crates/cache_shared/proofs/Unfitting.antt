@@ -82,15 +82,14 @@ module _ (e : ServiceError) (so : is_of_outcome e ≡ true) where
         (subst Caused (sym (chosen (load.namespace == load.namespace) (event.GiveUp load.number moment) happened at)) cause))
 
 -- a step that is refused so
-pub unfit_step : (i : Input) (e : ServiceError) (count events : ℕ) (spaces : List Shown) → is_of_outcome e ≡ true → RefusesStep i e count events spaces → IsUnfitAnswer i
-unfit_step i e count events spaces so (inl full) = absurd (other e so error.UsedUp refl full.0)
-unfit_step i e count events spaces so (inr (inl full)) = absurd (other e so error.OutOfMemory refl full)
-unfit_step i e count events spaces so (inr (inr (inl full))) = absurd (other e so error.UsedUp refl full.0)
-unfit_step i e count events spaces so (inr (inr (inr (inl none)))) = absurd (other e so error.NoNamespace refl none.0)
-unfit_step i e count events spaces so (inr (inr (inr (inr there)))) =
+pub unfit_step : (i : Input) (e : ServiceError) (count : ℕ) (spaces : List Shown) → is_of_outcome e ≡ true → RefusesStep i e count spaces → IsUnfitAnswer i
+unfit_step i e count spaces so (inl full) = absurd (other e so error.UsedUp refl full.0)
+unfit_step i e count spaces so (inr (inl full)) = absurd (other e so error.OutOfMemory refl full)
+unfit_step i e count spaces so (inr (inr (inl none))) = absurd (other e so error.NoNamespace refl none.0)
+unfit_step i e count spaces so (inr (inr (inr there))) =
     let refused = there.fact in
     unfit-input e so (config_of there.space) (known_of there.space) (is_held_for there.space i) i _ refused.happened refused.event refused.refused
 
-pub unfit_refused : {A : Type 0} (i : Input) (r : Result A Refusal) (count events : ℕ) (spaces : List Shown) → IfErr r (λ refusal. RefusesStep i refusal.error count events spaces) → IfErr r (λ refusal. is_of_outcome refusal.error ≡ true → IsUnfitAnswer i)
-unfit_refused i (Ok a) count events spaces refused = tt
-unfit_refused i (Err refusal) count events spaces refused = λ so. unfit_step i refusal.error count events spaces so refused
+pub unfit_refused : {A : Type 0} (i : Input) (r : Result A Refusal) (count : ℕ) (spaces : List Shown) → IfErr r (λ refusal. RefusesStep i refusal.error count spaces) → IfErr r (λ refusal. is_of_outcome refusal.error ≡ true → IsUnfitAnswer i)
+unfit_refused i (Ok a) count spaces refused = tt
+unfit_refused i (Err refusal) count spaces refused = λ so. unfit_step i refusal.error count spaces so refused

@@ -1,10 +1,8 @@
--- What inputs do to a service, and the state that it has reached.
-use Rattle.std.specs.Prelude.{◌≡◌, ℕ, ◌^◌, ◌-◌, ◌≤◌, ◌==◌, Bool, true, false, List, [], length, Some, is_some, sum_by, ◌⊎◌}
+-- What inputs do to a service, and where it stands.
+use Rattle.std.specs.Prelude.{◌≡◌, ℕ, ◌+◌, ◌^◌, ◌-◌, ◌≤◌, ◌==◌, Bool, true, false, List, length, Some, is_some, ◌⊎◌}
 use Rattle.std.specs.List.{slice_get}
-use Rattle.audit_model.specs.Belongs.{IsAdmitted, refusal_of_outcome}
-use Rattle.audit_model.specs.Obeys.{Obeys}
+use Rattle.audit_model.specs.Belongs.{refusal_of_outcome}
 use Rattle.audit_model.specs.declared.config.Config.{Config}
-use Rattle.audit_model.specs.declared.event.Instant.{Instant}
 use Rattle.audit_model.specs.declared.event.Outcome.{Outcome}
 use Rattle.audit_model.specs.declared.input.Input.{Input}
 use Rattle.audit_model.specs.declared.input.Input.TheVariants as input
@@ -16,47 +14,32 @@ use Rattle.audit_laws.specs.declared.receipts.output.Output.TheVariants.{Opened,
 use Rattle.cache_spaces.specs.Calls.{At, Refuses}
 use Rattle.cache_spaces.specs.Inputs as inputs
 use Rattle.cache_spaces.specs.Inputs.{RefusedInput, namespace_of}
-use Rattle.cache_spaces.specs.Journals.{LeadsSo}
-use Rattle.cache_spaces.specs.Spaces.{Shown, Space, config_of, shown_tape}
-
--- how many records the journals have in total
-abbrev pub record_count : List Transcript → ℕ
-record_count journals = sum_by (λ journal. length journal.records) journals
-
--- transcripts that begin at this moment, without records
-abbrev pub AreEmpty : Instant → List Transcript → Type 0
-AreEmpty made transcripts =
-    (namespace : ℕ) (transcript : Transcript) → slice_get transcripts namespace ≡ Some transcript → transcript ≡ record {
-      made = made;
-      records = [];
-    }
-
--- the journal obeys, none of its events is refused, and it leads to a situation for which the namespace stands
-pub record IsJournal (space : Shown) (journal : Transcript) : Type 0 where
-  pub obeys : Obeys (config_of space) journal
-  pub admitted : IsAdmitted (config_of space) journal
-  pub leads : LeadsSo space journal
-
--- one journal for each namespace, in their order
-pub record AreJournals (spaces : List Shown) (journals : List Transcript) : Type 0 where
-  pub count : length journals ≡ length spaces
-  pub each : (namespace : ℕ) (space : Shown) (journal : Transcript)
-      → slice_get spaces namespace ≡ Some space → slice_get journals namespace ≡ Some journal
-      → IsJournal space journal
-
--- some journals with this many records lead here
-pub record IsReached (spaces : List Shown) (events : ℕ) : Type 0 where
-  pub journals : List Transcript
-  pub are : AreJournals spaces journals
-  pub count : record_count journals ≡ events
+use Rattle.cache_spaces.specs.Reached.{IsReached, IsWhereItWas, record_count}
+use Rattle.cache_spaces.specs.Spaces.{Shown, shown_tape}
 
 -- the input's event happened in its namespace
 abbrev pub Performs : Input → Output → List Shown → List Shown → Type 0
 Performs i output old new = At old new (namespace_of i) (inputs.Performs shown_tape i output)
 
--- no input was taken: what can be seen of the service is as it was
-abbrev pub TakesNothing : {C : Type 0} → (C → List Shown) → (C → ℕ) → (old new : C) → Type 0
-TakesNothing spaces events old new = (events new ≡ events old) × (spaces new ≡ spaces old)
+-- the journals have one record more
+abbrev pub CountsRecord : List Transcript → List Transcript → Type 0
+CountsRecord old new = record_count new ≡ record_count old + 1
+
+-- nothing was taken: the service is as it was, and no input was counted
+abbrev pub TakesNothing : {C : Type 0} → (old new : C) → (events later : ℕ) → Type 0
+TakesNothing old new events later = (new ≡ old) × (later ≡ events)
+
+-- no input was taken: the journals are as they were, and where journals led before, others with as many records lead now
+abbrev pub KeepsStanding : {C : Type 0} → (C → List Shown) → (C → List Transcript) → (old new : C)
+    → Type 0
+KeepsStanding spaces journals old new =
+    (journals new ≡ journals old) × IsWhereItWas (spaces old) (spaces new)
+
+-- Some journals with this many records lead to where the service stands; if it keeps journals, its own have as many.
+pub record StandsAfter {C : Type 0} (keeps : Bool) (spaces : C → List Shown)
+    (journals : C → List Transcript) (events : ℕ) (core : C) : Type 0 where
+  pub reached : ∥ IsReached (spaces core) events ∥₁
+  pub counted : keeps ≡ true → record_count (journals core) ≡ events
 
 -- the number of the last record of the namespace's journal, if it has one
 abbrev pub IsLastNumber : List Transcript → ℕ → ℕ → Type 0
@@ -64,17 +47,11 @@ IsLastNumber journals namespace number =
     (journal : Transcript) → slice_get journals namespace ≡ Some journal
     → number ≡ length journal.records
 
--- the count of inputs is used up, or the service refuses the input
-abbrev pub RefusesEvent : {T : Type 0} → Input → ServiceError → ℕ → List (Space T) → Type 0
-RefusesEvent i e events spaces =
-    ((e ≡ error.UsedUp) × (events ≡ 2 ^ 64 - 1))
-    ⊎ Refuses spaces (namespace_of i) e (RefusedInput i e)
-
--- a count is used up, or there is no memory for a receipt, or the service refuses the input
-abbrev pub RefusesStep : Input → ServiceError → ℕ → ℕ → List Shown → Type 0
-RefusesStep i e count events spaces =
+-- the count is used up, or there is no memory for a receipt, or the service refuses the input
+abbrev pub RefusesStep : Input → ServiceError → ℕ → List Shown → Type 0
+RefusesStep i e count spaces =
     ((e ≡ error.UsedUp) × (count ≡ 2 ^ 64 - 1))
-    ⊎ ((e ≡ error.OutOfMemory) ⊎ RefusesEvent i e events spaces)
+    ⊎ ((e ≡ error.OutOfMemory) ⊎ Refuses spaces (namespace_of i) e (RefusedInput i e))
 
 -- its moment is 2 ^ 63 nanoseconds or more
 abbrev pub IsLate : Input → Type 0

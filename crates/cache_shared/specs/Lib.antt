@@ -3,5 +3,5 @@ pub mod Marks
 pub mod Seats
 pub mod Untaken
 pub mod Looked
-pub mod Live
+pub mod Bared
 pub mod Recordings

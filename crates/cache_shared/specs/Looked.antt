@@ -1,23 +1,29 @@
 -- What a look at a shared service saw.
-use Rattle.std.specs.Prelude.{◌≡◌, ℕ, ◌++◌, List, [], Option, IsNone}
+use Rattle.std.specs.Prelude.{◌≡◌, ℕ, ◌++◌, Bool, true, false, List, Option, [], Some, None, IfSome, IsNone}
 use Rattle.std.specs.Option.{option_to_list}
+use Rattle.audit_model.specs.declared.input.Conn.{Conn}
 use Rattle.audit_model.specs.declared.transcript.Note.{Note}
-use Rattle.cache_shared.specs.Events.{IsReached}
-use Rattle.cache_spaces.specs.Spaces.{Shown}
+use Rattle.cache_shared.specs.Untaken.{WereOut, WereUntaken}
+use Rattle.cache_shared.specs.declared.owed.Owed.{Owed}
+use Rattle.cache_spaces.specs.Calls.{InSpace}
+use Rattle.cache_spaces.specs.Reached.{IsReached}
+use Rattle.cache_spaces.specs.Spaces.{Shown, closing_of, is_waiting_for}
 
 -- At some moment, in a service to which some journals that obey lead, this was true of its namespaces.
-pub record HeldAtSomeMoment {C : Type 0} (spaces : C → List Shown) (events : C → ℕ)
-    (Fact : List Shown → Type 0) : Type 0 where
+pub record HeldAtSomeMoment {C : Type 0} (spaces : C → List Shown) (Fact : List Shown → Type 0) :
+    Type 0 where
   pub core : C
-  pub reached : ∥ IsReached (spaces core) (events core) ∥₁
+  pub events : ℕ
+  pub reached : ∥ IsReached (spaces core) events ∥₁
   pub fact : Fact (spaces core)
 
 -- At some moment, in a service to which some journals that obey lead, this was the oldest note of the namespace that was reported and not
 -- taken; none if there was none.
-pub record WasOldestNote {C : Type 0} (spaces : C → List Shown) (events : C → ℕ)
-    (untold : C → ℕ → List Note) (namespace : ℕ) (note : Option Note) : Type 0 where
+pub record WasOldestNote {C : Type 0} (spaces : C → List Shown) (untold : C → ℕ → List Note)
+    (namespace : ℕ) (note : Option Note) : Type 0 where
   pub core : C
-  pub reached : ∥ IsReached (spaces core) (events core) ∥₁
+  pub events : ℕ
+  pub reached : ∥ IsReached (spaces core) events ∥₁
   pub rest : List Note
   pub same : untold core namespace ≡ option_to_list note ++ rest
   pub none : IsNone note → untold core namespace ≡ []
@@ -30,9 +36,22 @@ pub record Moves (behind behind' notes notes' : List Note) : Type 0 where
 
 -- At some moment, in a service to which some journals that obey lead, the oldest notes of the namespace that were reported and not taken
 -- were appended to others, in order.
-pub record WereMoved {C : Type 0} (spaces : C → List Shown) (events : C → ℕ)
-    (untold : C → ℕ → List Note) (namespace : ℕ) (behind behind' : List Note) : Type 0 where
+pub record WereMoved {C : Type 0} (spaces : C → List Shown) (untold : C → ℕ → List Note)
+    (namespace : ℕ) (behind behind' : List Note) : Type 0 where
   pub core : C
-  pub reached : ∥ IsReached (spaces core) (events core) ∥₁
+  pub events : ℕ
+  pub reached : ∥ IsReached (spaces core) events ∥₁
   pub left : List Note
   pub moved : Moves behind behind' (untold core namespace) left
+
+-- What a connection is owed: its replies, and the loads of its namespace, which are there only if they are requested, were there at some
+-- moment, and so were the reason for which it is closed and the load for which it waits.
+pub record Owes {C : Type 0} (spaces : C → List Shown) (untaken : C → Conn → List ℕ) (conn : Conn)
+    (wants_loads : Bool) (owed : Owed) : Type 0 where
+  pub replies : IfSome owed.replies (λ text. WereUntaken spaces untaken conn text.items)
+  pub loads : IfSome owed.loads (λ loads. WereOut spaces conn.namespace loads.items)
+  pub unwanted : wants_loads ≡ false → owed.loads ≡ None
+  pub closed : IfSome owed.closing (λ closing. HeldAtSomeMoment spaces (λ spaces.
+      InSpace spaces conn.namespace (λ space. closing_of space conn.number ≡ Some closing)))
+  pub waits : owed.waits ≡ true → HeldAtSomeMoment spaces (λ spaces.
+      InSpace spaces conn.namespace (λ space. is_waiting_for space conn.number ≡ true))

@@ -4,8 +4,8 @@ use Rattle.audit_model.specs.declared.input.Conn.{Conn}
 use Rattle.audit_model.specs.declared.input.LoadId.{LoadId}
 use Rattle.audit_model.specs.declared.input.ServiceError.{ServiceError}
 use Rattle.audit_model.specs.declared.input.ServiceError.TheVariants as error
-use Rattle.cache_shared.specs.Events.{IsReached}
 use Rattle.cache_spaces.specs.Calls.{InSpace, IsOpened, IsUnknown}
+use Rattle.cache_spaces.specs.Reached.{IsReached}
 use Rattle.cache_spaces.specs.Spaces.{Shown, Space, outgoing_of}
 
 -- the connection was never opened; or it was, and there is no memory for a copy
@@ -14,16 +14,18 @@ RefusesCopy space number e =
     IsUnknown space number e ⊎ (IsOpened space number × (e ≡ error.OutOfMemory))
 
 -- At some moment, in a service to which some journals that obey lead, these were the replies of the connection that were not taken.
-pub record WereUntaken {C : Type 0} (spaces : C → List Shown) (events : C → ℕ)
-    (untaken : C → Conn → List ℕ) (conn : Conn) (text : List ℕ) : Type 0 where
+pub record WereUntaken {C : Type 0} (spaces : C → List Shown) (untaken : C → Conn → List ℕ)
+    (conn : Conn) (text : List ℕ) : Type 0 where
   pub core : C
-  pub reached : ∥ IsReached (spaces core) (events core) ∥₁
+  pub events : ℕ
+  pub reached : ∥ IsReached (spaces core) events ∥₁
   pub same : text ≡ untaken core conn
 
 -- At some moment, in a service to which some journals that obey lead, these were the loads of the namespace that had been sent and not
 -- taken, with their keys, in the order in which they were sent.
-pub record WereOut {C : Type 0} (spaces : C → List Shown) (events : C → ℕ) (namespace : ℕ)
+pub record WereOut {C : Type 0} (spaces : C → List Shown) (namespace : ℕ)
     (loads : List (LoadId × List ℕ)) : Type 0 where
   pub core : C
-  pub reached : ∥ IsReached (spaces core) (events core) ∥₁
+  pub events : ℕ
+  pub reached : ∥ IsReached (spaces core) events ∥₁
   pub out : InSpace (spaces core) namespace (λ space. loads ≡ outgoing_of space)

@@ -1,33 +1,31 @@
 //! What is under the lock.
-ghost use Rattle.std.specs.Prelude.{◌≡◌, ℕ, ◌+◌, ◌≤◌, ◌<◌, ◌++◌, ◌∷◌, [], true, false, length, map, sum_by, vec_len, vec_capacity, IfOk, IfErr, OnOk, OnErr};
-ghost use Rattle.cache_shared.specs.Events.{IsLastNumber, IsReached, Performs, RefusesStep, TakesNothing};
-ghost use Rattle.cache_shared.specs.Looked.{WasOldestNote, HeldAtSomeMoment};
+ghost use Rattle.std.specs.Prelude.{◌≡◌, ℕ, ◌+◌, ◌≤◌, ◌<◌, ◌++◌, ◌∷◌, [], true, length, map, sum_by, vec_len, vec_capacity, IfOk, IfErr, OnOk, OnErr};
+ghost use Rattle.cache_shared.specs.Events.{IsLastNumber, Performs, RefusesStep, StandsAfter, TakesNothing};
+ghost use Rattle.cache_shared.specs.Looked.{HeldAtSomeMoment, WasOldestNote};
 ghost use Rattle.cache_shared.specs.Seats.{AgreeAll, Counts, GainsReceipt, SameReceipts, receipt_for};
 ghost use Rattle.cache_spaces.specs.Inputs.{namespace_of};
-ghost use Rattle.cache_shared.specs.Untaken.{RefusesCopy};
+ghost use Rattle.cache_shared.specs.Untaken.{RefusesCopy, WereOut, WereUntaken};
 ghost use Rattle.cache_spaces.specs.Calls.{InSpace, IsUnknown, Refuses};
 ghost use Rattle.cache_spaces.specs.Spaces.{closing_of, is_waiting_for};
 
 use crate::judging::agree;
-use crate::loads::{TakenLoads, take_loads};
-use crate::replies::{Replies, take_replies};
 use crate::seat::{Seat, Seating, make_lists, namespace_of};
-use crate::service_core::{Stepping, Takings};
+use crate::shareable::Shareable;
 use audit_laws::{Receipt, copy_input};
-use audit_model::{Closing, Conn, Input, Note, ServiceError};
+use audit_model::{Bytes, Closing, Conn, Input, LoadId, Note, ServiceError};
 use cache_spaces::{Output, Refusal};
 use std::alloc::Global;
 use std::sync::ledger::{Blank, Book, Share};
 
 /// The service under the lock, with the book of all seats' events and the parts that no seat has.
 #[derive(Drop)]
-pub struct BookedService<L: Seating, C: Stepping> {
+pub struct BookedService<L: Seating, C: Shareable> {
     pub(crate) core: C,
     book: Book<L>,
     rest: Share<L>,
     left: u64,
     parts: u64,
-    ghost counted: { C.events core ≡ book.total },
+    ghost stands: { StandsAfter C.KEEPS C.spaces C.journals book.total core },
     ghost spare: { rest.parts ≡ left },
     ghost idle: { rest.amount ≡ 0 },
     ghost whole: { parts ≡ L.all },
@@ -36,17 +34,17 @@ pub struct BookedService<L: Seating, C: Stepping> {
 
 /// What `SharedService::finish` returns: the service, and what its seats can show by its journals.
 #[derive(Drop)]
-pub struct Finished<C: Stepping> {
-    /// The service, which took as many inputs as the seats count together.
+pub struct Finished<C: Shareable> {
+    /// The service, which accepted as many inputs as the seats count together.
     pub service: C,
     /// For each seat, in the order in which the seats were passed, a list of receipts for each namespace up to the last one that it used.
     pub receipts: Vec<Vec<Vec<Receipt>>>,
 }
 
-impl<L: Seating, C: Stepping> BookedService<L, C> {
-    /// A service without seats, over a service without events. Its ledger is cut into `parts`, one for each seat.
+impl<L: Seating, C: Shareable> BookedService<L, C> {
+    /// A service without seats, over a service without inputs. Its ledger is cut into `parts`, one for each seat.
     pub fn new(core: C, blank: Blank, parts: u64) -> BookedService<L, C>
-        requires empty { C.events core ≡ 0 }
+        requires empty { StandsAfter C.KEEPS C.spaces C.journals 0 core }
         requires name { blank.name ≡ L.name }
         requires parts { (blank.parts ≡ L.parts) × (L.all ≡ L.parts) × (parts ≡ L.parts) }
         ensures { result.core ≡ core }
@@ -102,67 +100,55 @@ impl<L: Seating, C: Stepping> BookedService<L, C> {
     ) -> Result<Output, Refusal>
         ensures taken { IfOk result
             (λ output. Performs input output (C.spaces self.old.core) (C.spaces self.new.core)) }
-        ensures events { OnOk result (C.events self.new.core ≡ C.events self.old.core + 1) }
+        ensures events { OnOk result (self.new.book.total ≡ self.old.book.total + 1) }
         ensures counted { IfOk result (λ output. Counts C.KEEPS input output seat.old.count
             seat.new.count seat.old.receipts.items seat.new.receipts.items) }
         ensures receipt { C.KEEPS ≡ true
             → IfOk result (λ output. GainsReceipt (C.journals self.new.core) seat.old.receipts.items
             seat.new.receipts.items input output) }
         ensures refused { IfErr result (λ refusal. RefusesStep input refusal.error seat.old.count
-            (C.events self.old.core) (C.spaces self.old.core)) }
-        ensures unchanged { OnErr result (TakesNothing C.spaces C.events self.old.core self.new.core
+            (C.spaces self.old.core)) }
+        ensures unchanged { OnErr result
+            (TakesNothing self.old.core self.new.core self.old.book.total self.new.book.total
             × (seat.new.count ≡ seat.old.count)
             × SameReceipts seat.old.receipts.items seat.new.receipts.items) }
-        ensures back { IfErr result (λ refusal. refusal.input ≡ input) }
-    {
-        self.core.stands();
-        if C::KEEPS {
-            self.step_kept(alloc, seat, input)
-        } else {
-            self.step_bare(seat, input)
-        }
-    }
-
-    /// Takes an input for a seat, without a receipt.
-    fn step_bare(&mut self, seat: &mut Seat<L>, input: Input) -> Result<Output, Refusal>
-        ensures taken { IfOk result
-            (λ output. Performs input output (C.spaces self.old.core) (C.spaces self.new.core)) }
-        ensures count { OnOk result ((C.events self.new.core ≡ C.events self.old.core + 1)
-            × (seat.new.count ≡ seat.old.count + 1)) }
-        ensures bare { seat.new.receipts ≡ seat.old.receipts }
-        ensures refused { IfErr result (λ refusal. RefusesStep input refusal.error seat.old.count
-            (C.events self.old.core) (C.spaces self.old.core)) }
-        ensures unchanged { OnErr result (TakesNothing C.spaces C.events self.old.core self.new.core
-            × (seat.new.count ≡ seat.old.count)) }
         ensures back { IfErr result (λ refusal. refusal.input ≡ input) }
     {
         let Seat {
             share,
             count,
-            receipts: _,
+            receipts,
         } = seat;
-        self.count_one(share, count, input)
+        if C::KEEPS {
+            self.step_kept(alloc, share, count, receipts, input)
+        } else {
+            self.count_one(share, count, input)
+        }
     }
 
-    /// Takes an input for a seat, with a receipt.
+    /// Takes an input, and counts it on the share, with a receipt in the list of its namespace.
     fn step_kept(
         &mut self,
         alloc: Global,
-        seat: &mut Seat<L>,
+        share: &mut Share<L>,
+        count: &mut u64,
+        receipts: &mut Vec<Vec<Receipt>>,
         input: Input,
     ) -> Result<Output, Refusal>
         requires keeps { C.KEEPS ≡ true }
+        requires share { (share.old.parts ≡ 1) × (share.old.amount ≡ count.old) }
+        ensures share { (share.new.parts ≡ 1) × (share.new.amount ≡ count.new) }
         ensures taken { IfOk result
             (λ output. Performs input output (C.spaces self.old.core) (C.spaces self.new.core)) }
-        ensures count { OnOk result ((C.events self.new.core ≡ C.events self.old.core + 1)
-            × (seat.new.count ≡ seat.old.count + 1)) }
+        ensures count { OnOk result ((self.new.book.total ≡ self.old.book.total + 1)
+            × (count.new ≡ count.old + 1)) }
         ensures receipt { IfOk result (λ output. GainsReceipt (C.journals self.new.core)
-            seat.old.receipts.items seat.new.receipts.items input output) }
-        ensures refused { IfErr result (λ refusal. RefusesStep input refusal.error seat.old.count
-            (C.events self.old.core) (C.spaces self.old.core)) }
-        ensures unchanged { OnErr result (TakesNothing C.spaces C.events self.old.core self.new.core
-            × (seat.new.count ≡ seat.old.count)
-            × SameReceipts seat.old.receipts.items seat.new.receipts.items) }
+            receipts.old.items receipts.new.items input output) }
+        ensures refused { IfErr result (λ refusal. RefusesStep input refusal.error count.old
+            (C.spaces self.old.core)) }
+        ensures unchanged { OnErr result
+            (TakesNothing self.old.core self.new.core self.old.book.total self.new.book.total
+            × (count.new ≡ count.old) × SameReceipts receipts.old.items receipts.new.items) }
         ensures back { IfErr result (λ refusal. refusal.input ≡ input) }
     {
         let namespace = namespace_of(&input);
@@ -170,11 +156,6 @@ impl<L: Seating, C: Stepping> BookedService<L, C> {
             Ok(_) => {}
             Err(error) => return Err(Refusal { error, input }),
         }
-        let Seat {
-            share,
-            count,
-            receipts,
-        } = seat;
         match make_lists(alloc, receipts, namespace as usize) {
             Ok(()) => self.keep(
                 alloc,
@@ -204,13 +185,14 @@ impl<L: Seating, C: Stepping> BookedService<L, C> {
         ensures taken { IfOk result
             (λ output. Performs input output (C.spaces self.old.core) (C.spaces self.new.core)) }
         ensures count { OnOk result
-            ((C.events self.new.core ≡ C.events self.old.core + 1) × (count.new ≡ count.old + 1)) }
+            ((self.new.book.total ≡ self.old.book.total + 1) × (count.new ≡ count.old + 1)) }
         ensures receipt { IfOk result
             (λ output. (number : ℕ) × IsLastNumber (C.journals self.new.core) (namespace_of input)
             number × (own.new.items ≡ own.old.items ++ receipt_for input output number ∷ [])) }
         ensures refused { IfErr result (λ refusal. RefusesStep input refusal.error count.old
-            (C.events self.old.core) (C.spaces self.old.core)) }
-        ensures unchanged { OnErr result (TakesNothing C.spaces C.events self.old.core self.new.core
+            (C.spaces self.old.core)) }
+        ensures unchanged { OnErr result
+            (TakesNothing self.old.core self.new.core self.old.book.total self.new.book.total
             × (count.new ≡ count.old) × (own.new.items ≡ own.old.items)) }
         ensures back { IfErr result (λ refusal. refusal.input ≡ input) }
     {
@@ -262,11 +244,12 @@ impl<L: Seating, C: Stepping> BookedService<L, C> {
         ensures taken { IfOk result
             (λ output. Performs input output (C.spaces self.old.core) (C.spaces self.new.core)) }
         ensures count { OnOk result
-            ((C.events self.new.core ≡ C.events self.old.core + 1) × (count.new ≡ count.old + 1)) }
+            ((self.new.book.total ≡ self.old.book.total + 1) × (count.new ≡ count.old + 1)) }
         ensures refused { IfErr result (λ refusal. RefusesStep input refusal.error count.old
-            (C.events self.old.core) (C.spaces self.old.core)) }
+            (C.spaces self.old.core)) }
         ensures unchanged { OnErr result
-            (TakesNothing C.spaces C.events self.old.core self.new.core × (count.new ≡ count.old)) }
+            (TakesNothing self.old.core self.new.core self.old.book.total self.new.book.total
+            × (count.new ≡ count.old)) }
         ensures back { IfErr result (λ refusal. refusal.input ≡ input) }
     {
         let BookedService { core, book, .. } = self;
@@ -318,9 +301,9 @@ impl<L: Seating, C: Stepping> BookedService<L, C> {
         requires none { receipts.items ≡ [] }
         requires room { vec_len seats ≤ vec_capacity receipts }
         ensures service { result.service ≡ self.core }
-        ensures count { C.events result.service ≡ sum_by (λ seat. seat.count) seats.items }
+        ensures stands { StandsAfter C.KEEPS C.spaces C.journals
+            (sum_by (λ seat. seat.count) seats.items) result.service }
         ensures receipts { result.receipts.items ≡ map (λ seat. seat.receipts) seats.items }
-        ensures reached { ∥ IsReached (C.spaces result.service) (C.events result.service) ∥₁ }
     {
         let BookedService {
             core,
@@ -338,69 +321,59 @@ impl<L: Seating, C: Stepping> BookedService<L, C> {
             receipts.push_reserved(own);
         }
         book.audit(&mut rest);
-        core.stands();
         Finished {
             service: core,
             receipts,
         }
     }
-}
 
-impl<L: Seating, C: Takings> BookedService<L, C> {
     /// Returns the reply bytes of a connection since they were last taken, moved out.
-    pub fn take_output(&mut self, conn: Conn) -> Result<Replies<C>, ServiceError>
-        ensures conn { IfOk result (λ replies. replies.conn ≡ conn) }
-        ensures refused { IfErr result (λ e. HeldAtSomeMoment C.spaces C.events (λ spaces.
+    pub fn take_output(&mut self, conn: Conn) -> Result<Vec<u8>, ServiceError>
+        ensures taken { IfOk result (λ text. WereUntaken C.spaces C.untaken conn text.items) }
+        ensures refused { IfErr result (λ e. HeldAtSomeMoment C.spaces (λ spaces.
             Refuses spaces conn.namespace e (λ space. RefusesCopy space conn.number e))) }
-        ensures events { C.events self.new.core ≡ C.events self.old.core }
     {
         let BookedService { core, .. } = self;
-        take_replies(core, conn)
+        core.take_output(conn)
     }
 
     /// Returns the loads of a namespace that went out and were not taken, moved out.
-    pub fn take_loads(&mut self, namespace: u64) -> Result<TakenLoads<C>, ServiceError>
-        ensures namespace { IfOk result (λ loads. loads.namespace ≡ namespace) }
-        ensures refused { IfErr result (λ e. HeldAtSomeMoment C.spaces C.events
+    pub fn take_loads(&mut self, namespace: u64) -> Result<Vec<(LoadId, Bytes)>, ServiceError>
+        ensures taken { IfOk result (λ loads. WereOut C.spaces namespace loads.items) }
+        ensures refused { IfErr result (λ e. HeldAtSomeMoment C.spaces
             (λ spaces. (e ≡ ServiceError.NoNamespace) × (length spaces ≤ namespace))) }
-        ensures events { C.events self.new.core ≡ C.events self.old.core }
     {
         let BookedService { core, .. } = self;
-        take_loads(core, namespace)
+        core.take_loads(namespace)
     }
 
     /// Returns the oldest note of a namespace that was reported and not taken.
     pub fn next_notice(&mut self, namespace: u64) -> Result<Option<Note>, ServiceError>
-        ensures note { IfOk result
-            (λ note. WasOldestNote C.spaces C.events C.untold namespace note) }
-        ensures refused { IfErr result (λ e. HeldAtSomeMoment C.spaces C.events
+        ensures note { IfOk result (λ note. WasOldestNote C.spaces C.untold namespace note) }
+        ensures refused { IfErr result (λ e. HeldAtSomeMoment C.spaces
             (λ spaces. Refuses spaces namespace e (λ space. e ≡ ServiceError.OutOfMemory))) }
-        ensures events { C.events self.new.core ≡ C.events self.old.core }
     {
         let BookedService { core, .. } = self;
-        core.stands();
         core.next_notice(namespace)
     }
 
     /// Returns why a connection is closed, if it is.
     pub fn closed(&self, conn: Conn) -> Result<Option<Closing>, ServiceError>
-        ensures closing { IfOk result (λ closing. HeldAtSomeMoment C.spaces C.events (λ spaces.
+        ensures closing { IfOk result (λ closing. HeldAtSomeMoment C.spaces (λ spaces.
             InSpace spaces conn.namespace (λ space. closing ≡ closing_of space conn.number))) }
-        ensures refused { IfErr result (λ e. HeldAtSomeMoment C.spaces C.events
+        ensures refused { IfErr result (λ e. HeldAtSomeMoment C.spaces
             (λ spaces. Refuses spaces conn.namespace e (λ space. IsUnknown space conn.number e))) }
     {
-        self.core.stands();
         self.core.closed(conn)
     }
 
     /// Returns whether a `LOAD` of a connection waits for its load.
     pub fn waiting(&self, conn: Conn) -> Result<bool, ServiceError>
-        ensures waits { IfOk result (λ waits. HeldAtSomeMoment C.spaces C.events (λ spaces.
+        ensures waits { IfOk result (λ waits. HeldAtSomeMoment C.spaces (λ spaces.
             InSpace spaces conn.namespace (λ space. waits ≡ is_waiting_for space conn.number))) }
-        ensures refused { IfErr result (λ e. HeldAtSomeMoment C.spaces C.events
+        ensures refused { IfErr result (λ e. HeldAtSomeMoment C.spaces
             (λ spaces. Refuses spaces conn.namespace e (λ space. IsUnknown space conn.number e))) }
     {
-        self.core.stands();
         self.core.waiting(conn)
     }
 }

@@ -1,12 +1,13 @@
 //! Notes that were taken.
 ghost use Rattle.std.specs.Prelude.{◌≡◌, ◌⊎◌, IfErr, vec_capacity};
+ghost use Rattle.cache_shared.specs.Events.{KeepsStanding};
 ghost use Rattle.cache_shared.specs.Looked.{Moves};
 
-use crate::service_core::Takings;
+use crate::shareable::Shareable;
 use audit_model::{Note, ServiceError};
 
 /// Takes the oldest notes of a namespace, as many as there is room for. If one is refused, those before it were taken.
-pub fn take_notices<C: Takings>(
+pub fn take_notices<C: Shareable>(
     core: &mut C,
     namespace: u64,
     notes: &mut Vec<Note>,
@@ -16,7 +17,7 @@ pub fn take_notices<C: Takings>(
     ensures refused { IfErr result
         (λ e. (e ≡ ServiceError.OutOfMemory) ⊎ (e ≡ ServiceError.NoNamespace)) }
     ensures room { vec_capacity notes.new ≡ vec_capacity notes.old }
-    ensures events { C.events core.new ≡ C.events core.old }
+    ensures standing { KeepsStanding C.spaces C.journals core.old core.new }
 {
     let room = notes.capacity() - notes.len();
     for _place in 0..room {

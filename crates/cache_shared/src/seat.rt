@@ -63,7 +63,7 @@ pub fn make_lists(
         return Ok(());
     }
     let missing = namespace - lists.len();
-    for made in 0..missing {
+    for _made in 0..missing {
         lists.push(Vec::new(alloc))?;
     }
     lists.push(Vec::new(alloc))?;

@@ -1,22 +1,20 @@
 //! The shared service.
 ghost use Rattle.std.specs.Prelude.{◌≡◌, ◌≤◌, ◌⊎◌, [], length, map, sum_by, true, IfOk, IfErr, IsSome, OnErr};
 ghost use Rattle.std.specs.Arc.{arc_value};
-ghost use Rattle.cache_shared.specs.Events.{IsLate, IsReached, IsUnfitAnswer, is_of_outcome};
-ghost use Rattle.cache_shared.specs.Looked.{WasOldestNote, HeldAtSomeMoment, WereMoved};
+ghost use Rattle.cache_shared.specs.Events.{IsLate, IsUnfitAnswer, StandsAfter, is_of_outcome};
+ghost use Rattle.cache_shared.specs.Looked.{HeldAtSomeMoment, Owes, WasOldestNote, WereMoved};
 ghost use Rattle.cache_shared.specs.Seats.{AgreeAll, Counts, SameReceipts};
-ghost use Rattle.cache_shared.specs.Untaken.{RefusesCopy};
+ghost use Rattle.cache_shared.specs.Untaken.{RefusesCopy, WereOut, WereUntaken};
 ghost use Rattle.cache_spaces.specs.Calls.{InSpace, IsUnknown, Refuses};
 ghost use Rattle.cache_spaces.specs.Spaces.{closing_of, is_waiting_for};
 
 use crate::booked::{BookedService, Finished};
-use crate::loads::TakenLoads;
 use crate::owed::Owed;
-use crate::replies::Replies;
 use crate::seat::{Seat, Seating};
-use crate::service_core::{Stepping, Takings};
+use crate::shareable::Shareable;
 use crate::turning::Turn;
 use audit_laws::Receipt;
-use audit_model::{Closing, Conn, Input, Note, ServiceError};
+use audit_model::{Bytes, Closing, Conn, Input, LoadId, Note, ServiceError};
 use cache_spaces::{Output, RecordedService, Refusal};
 use std::alloc::{AllocError, Global};
 use std::sync::ledger::Blank;
@@ -24,7 +22,7 @@ use std::sync::{Arc, Condvar, Mutex, Wait};
 
 /// The lock, and the condition variable that signals changes.
 #[derive(Drop)]
-struct Inner<L: Seating, C: Stepping> {
+struct Inner<L: Seating, C: Shareable> {
     booked: Mutex<BookedService<L, C>>,
     changed: Condvar,
 }
@@ -34,13 +32,13 @@ struct Inner<L: Seating, C: Stepping> {
 /// Whenever the lock is taken, there are journals that obey and lead to where the service stands, of as many records as inputs were
 /// accepted. `L` is the ledger of its seats.
 #[derive(Drop)]
-pub struct SharedService<L: Seating, C: Stepping = RecordedService> {
+pub struct SharedService<L: Seating, C: Shareable = RecordedService> {
     inner: Arc<Option<Inner<L, C>>>,
     alloc: Global,
     ghost full: { IsSome (arc_value inner) },
 }
 
-impl<L: Seating, C: Stepping> Clone for SharedService<L, C> {
+impl<L: Seating, C: Shareable> Clone for SharedService<L, C> {
     fn clone(&self) -> Result<SharedService<L, C>, AllocError> {
         Ok(SharedService {
             inner: Arc::try_clone(&self.inner)?,
@@ -49,7 +47,7 @@ impl<L: Seating, C: Stepping> Clone for SharedService<L, C> {
     }
 }
 
-impl<L: Seating, C: Stepping> SharedService<L, C> {
+impl<L: Seating, C: Shareable> SharedService<L, C> {
     /// Makes a service without inputs shared, over a new ledger with this many parts, one for each possible seat. If there is not enough
     /// memory, service and ledger are returned.
     pub fn new(
@@ -58,7 +56,7 @@ impl<L: Seating, C: Stepping> SharedService<L, C> {
         blank: Blank,
         parts: u64,
     ) -> Result<SharedService<L, C>, (C, Blank)>
-        requires empty { C.events core ≡ 0 }
+        requires empty { StandsAfter C.KEEPS C.spaces C.journals 0 core }
         requires name { blank.name ≡ L.name }
         requires parts { (blank.parts ≡ L.parts) × (L.all ≡ L.parts) × (parts ≡ L.parts) }
         ensures back { IfErr result (λ both. (both.0 ≡ core) × (both.1 ≡ blank)) }
@@ -98,8 +96,8 @@ impl<L: Seating, C: Stepping> SharedService<L, C> {
     /// journals, has one more receipt, of this input and its output.
     ///
     /// A refused input is returned, and leaves no receipt and no count; then nothing has changed. It is refused as the service under
-    /// the lock refuses it, with `OutOfMemory` also if there is no memory for the receipt, and with `UsedUp` if the seat's count or that
-    /// of all inputs is at 2^64 - 1.
+    /// the lock refuses it, with `OutOfMemory` also if there is no memory for the receipt, and with `UsedUp` if the seat's count is at
+    /// 2^64 - 1.
     pub fn step(&self, rt: &impl Wait, seat: &mut Seat<L>, input: Input) -> Result<Output, Refusal>
         ensures counted { IfOk result (λ output. Counts C.KEEPS input output seat.old.count
             seat.new.count seat.old.receipts.items seat.new.receipts.items) }
@@ -114,7 +112,6 @@ impl<L: Seating, C: Stepping> SharedService<L, C> {
         let inner = self.inner();
         let mut guard = inner.booked.lock(rt);
         let booked = &mut *guard;
-        booked.core.stands();
         let taken = booked.step(self.alloc, seat, input);
         drop(guard);
         inner.changed.notify_all();
@@ -131,14 +128,12 @@ impl<L: Seating, C: Stepping> SharedService<L, C> {
         seats: Vec<Seat<L>>,
     ) -> Result<Finished<C>, (SharedService<L, C>, Vec<Seat<L>>)>
         requires ledger { L.all ≡ L.parts }
-        ensures count { IfOk result
-            (λ finished. C.events finished.service ≡ sum_by (λ seat. seat.count) seats.items) }
+        ensures stands { IfOk result (λ finished. StandsAfter C.KEEPS C.spaces C.journals
+            (sum_by (λ seat. seat.count) seats.items) finished.service) }
         ensures receipts { IfOk result
             (λ finished. finished.receipts.items ≡ map (λ seat. seat.receipts) seats.items) }
         ensures agree { IfOk result (λ finished.
             AgreeAll (C.journals finished.service) (λ seat. seat.receipts.items) seats.items) }
-        ensures reached { IfOk result
-            (λ finished. ∥ IsReached (C.spaces finished.service) (C.events finished.service) ∥₁) }
         ensures back { IfErr result (λ both. both.1 ≡ seats) }
     {
         let SharedService { mut inner, alloc } = self;
@@ -153,14 +148,14 @@ impl<L: Seating, C: Stepping> SharedService<L, C> {
     }
 }
 
-impl<L: Seating, C: Takings> SharedService<L, C> {
+impl<L: Seating, C: Shareable> SharedService<L, C> {
     /// Returns the reply bytes of a connection since they were last taken, moved out, in one hold of the lock. This is not an event, and
     /// leaves no receipt.
     /// Returns `NoNamespace`, then `NoConnection`, then `OutOfMemory` if the core copies replies; then they come the
     /// next time.
-    pub fn take_output(&self, rt: &impl Wait, conn: Conn) -> Result<Replies<C>, ServiceError>
-        ensures conn { IfOk result (λ replies. replies.conn ≡ conn) }
-        ensures refused { IfErr result (λ e. HeldAtSomeMoment C.spaces C.events (λ spaces.
+    pub fn take_output(&self, rt: &impl Wait, conn: Conn) -> Result<Vec<u8>, ServiceError>
+        ensures taken { IfOk result (λ text. WereUntaken C.spaces C.untaken conn text.items) }
+        ensures refused { IfErr result (λ e. HeldAtSomeMoment C.spaces (λ spaces.
             Refuses spaces conn.namespace e (λ space. RefusesCopy space conn.number e))) }
     {
         let mut guard = self.inner().booked.lock(rt);
@@ -181,10 +176,11 @@ impl<L: Seating, C: Takings> SharedService<L, C> {
         input: Input,
         wants_loads: bool,
         notes: &mut Vec<Note>,
-    ) -> Result<Turn<C>, Refusal>
+    ) -> Result<Turn, Refusal>
         ensures counted { IfOk result (λ turn. Counts C.KEEPS input turn.output seat.old.count
             seat.new.count seat.old.receipts.items seat.new.receipts.items) }
-        ensures conn { IfOk result (λ turn. turn.owed.conn ≡ conn) }
+        ensures owed { IfOk result
+            (λ turn. Owes C.spaces C.untaken conn wants_loads turn.owed) }
         ensures back { IfErr result (λ refusal. refusal.input ≡ input) }
         ensures unchanged { OnErr result ((seat.new.count ≡ seat.old.count)
             × SameReceipts seat.old.receipts.items seat.new.receipts.items) }
@@ -192,7 +188,7 @@ impl<L: Seating, C: Takings> SharedService<L, C> {
             (λ refusal. refusal.error ≡ ServiceError.Moment → IsLate input) }
         ensures unfit { IfErr result
             (λ refusal. is_of_outcome refusal.error ≡ true → IsUnfitAnswer input) }
-        ensures moved { WereMoved C.spaces C.events C.untold conn.namespace notes.old.items
+        ensures moved { WereMoved C.spaces C.untold conn.namespace notes.old.items
             notes.new.items }
     {
         let inner = self.inner();
@@ -213,9 +209,9 @@ impl<L: Seating, C: Takings> SharedService<L, C> {
         conn: Conn,
         wants_loads: bool,
         notes: &mut Vec<Note>,
-    ) -> Owed<C>
-        ensures conn { result.conn ≡ conn }
-        ensures moved { WereMoved C.spaces C.events C.untold conn.namespace notes.old.items
+    ) -> Owed
+        ensures owed { Owes C.spaces C.untaken conn wants_loads result }
+        ensures moved { WereMoved C.spaces C.untold conn.namespace notes.old.items
             notes.new.items }
     {
         let mut guard = self.inner().booked.lock(rt);
@@ -232,7 +228,7 @@ impl<L: Seating, C: Takings> SharedService<L, C> {
         namespace: u64,
         notes: &mut Vec<Note>,
     ) -> Result<(), ServiceError>
-        ensures moved { WereMoved C.spaces C.events C.untold namespace notes.old.items
+        ensures moved { WereMoved C.spaces C.untold namespace notes.old.items
             notes.new.items }
         ensures refused { IfErr result
             (λ e. (e ≡ ServiceError.OutOfMemory) ⊎ (e ≡ ServiceError.NoNamespace)) }
@@ -244,9 +240,13 @@ impl<L: Seating, C: Takings> SharedService<L, C> {
 
     /// Returns the loads of a namespace that went out and were not taken, with their keys, in the order in which they were sent, moved out,
     /// in one hold of the lock. This is not an event, and leaves no receipt. Returns `NoNamespace` if there is no such namespace.
-    pub fn take_loads(&self, rt: &impl Wait, namespace: u64) -> Result<TakenLoads<C>, ServiceError>
-        ensures namespace { IfOk result (λ loads. loads.namespace ≡ namespace) }
-        ensures refused { IfErr result (λ e. HeldAtSomeMoment C.spaces C.events
+    pub fn take_loads(
+        &self,
+        rt: &impl Wait,
+        namespace: u64,
+    ) -> Result<Vec<(LoadId, Bytes)>, ServiceError>
+        ensures taken { IfOk result (λ loads. WereOut C.spaces namespace loads.items) }
+        ensures refused { IfErr result (λ e. HeldAtSomeMoment C.spaces
             (λ spaces. (e ≡ ServiceError.NoNamespace) × (length spaces ≤ namespace))) }
     {
         let mut guard = self.inner().booked.lock(rt);
@@ -259,8 +259,8 @@ impl<L: Seating, C: Takings> SharedService<L, C> {
     /// Returns `NoNamespace`, then `OutOfMemory` if the core copies notes; then it comes the next time.
     pub fn next_notice(&self, rt: &impl Wait, namespace: u64) -> Result<Option<Note>, ServiceError>
         ensures note { IfOk result
-            (λ note. WasOldestNote C.spaces C.events C.untold namespace note) }
-        ensures refused { IfErr result (λ e. HeldAtSomeMoment C.spaces C.events
+            (λ note. WasOldestNote C.spaces C.untold namespace note) }
+        ensures refused { IfErr result (λ e. HeldAtSomeMoment C.spaces
             (λ spaces. Refuses spaces namespace e (λ space. e ≡ ServiceError.OutOfMemory))) }
     {
         let mut guard = self.inner().booked.lock(rt);
@@ -270,9 +270,9 @@ impl<L: Seating, C: Takings> SharedService<L, C> {
 
     /// Returns why a connection is closed, or `None` while it is open, in one hold of the lock. Returns `NoNamespace`, then `NoConnection`.
     pub fn closed(&self, rt: &impl Wait, conn: Conn) -> Result<Option<Closing>, ServiceError>
-        ensures closing { IfOk result (λ closing. HeldAtSomeMoment C.spaces C.events (λ spaces.
+        ensures closing { IfOk result (λ closing. HeldAtSomeMoment C.spaces (λ spaces.
             InSpace spaces conn.namespace (λ space. closing ≡ closing_of space conn.number))) }
-        ensures refused { IfErr result (λ e. HeldAtSomeMoment C.spaces C.events
+        ensures refused { IfErr result (λ e. HeldAtSomeMoment C.spaces
             (λ spaces. Refuses spaces conn.namespace e (λ space. IsUnknown space conn.number e))) }
     {
         let guard = self.inner().booked.lock(rt);
@@ -281,9 +281,9 @@ impl<L: Seating, C: Takings> SharedService<L, C> {
 
     /// Returns whether a `LOAD` of a connection waits for its load, in one hold of the lock. Returns `NoNamespace`, then `NoConnection`.
     pub fn waiting(&self, rt: &impl Wait, conn: Conn) -> Result<bool, ServiceError>
-        ensures waits { IfOk result (λ waits. HeldAtSomeMoment C.spaces C.events (λ spaces.
+        ensures waits { IfOk result (λ waits. HeldAtSomeMoment C.spaces (λ spaces.
             InSpace spaces conn.namespace (λ space. waits ≡ is_waiting_for space conn.number))) }
-        ensures refused { IfErr result (λ e. HeldAtSomeMoment C.spaces C.events
+        ensures refused { IfErr result (λ e. HeldAtSomeMoment C.spaces
             (λ spaces. Refuses spaces conn.namespace e (λ space. IsUnknown space conn.number e))) }
     {
         let guard = self.inner().booked.lock(rt);
@@ -293,7 +293,6 @@ impl<L: Seating, C: Takings> SharedService<L, C> {
     /// Waits until no `LOAD` of a connection waits for its load. Each step of a seat lets those that wait look again. Nothing is promised
     /// about when it returns; if the connection is unknown it returns at once.
     pub fn await_ready(&self, rt: &impl Wait, seat: &Seat<L>, conn: Conn) {
-        let _seat = seat;
         let inner = self.inner();
         let mut guard = inner.booked.lock(rt);
         for _ in rt.forever() {
@@ -306,21 +305,19 @@ impl<L: Seating, C: Takings> SharedService<L, C> {
 }
 
 /// Closes it, if these are all seats, their receipts stand, and there is enough memory.
-fn close_if_all<L: Seating, C: Stepping>(
+fn close_if_all<L: Seating, C: Shareable>(
     alloc: Global,
     slot: &mut Option<Inner<L, C>>,
     seats: Vec<Seat<L>>,
 ) -> Result<Finished<C>, Vec<Seat<L>>>
     requires ledger { L.all ≡ L.parts }
     requires full { IsSome slot.old }
-    ensures count { IfOk result
-        (λ finished. C.events finished.service ≡ sum_by (λ seat. seat.count) seats.items) }
+    ensures stands { IfOk result (λ finished. StandsAfter C.KEEPS C.spaces C.journals
+        (sum_by (λ seat. seat.count) seats.items) finished.service) }
     ensures receipts { IfOk result
         (λ finished. finished.receipts.items ≡ map (λ seat. seat.receipts) seats.items) }
     ensures agree { IfOk result (λ finished.
         AgreeAll (C.journals finished.service) (λ seat. seat.receipts.items) seats.items) }
-    ensures reached { IfOk result
-        (λ finished. ∥ IsReached (C.spaces finished.service) (C.events finished.service) ∥₁) }
     ensures back { IfErr result (λ back. back ≡ seats) }
     ensures full { OnErr result (IsSome slot.new) }
 {

@@ -5,6 +5,8 @@ pub mod Chaining
 pub mod Listing
 pub mod Performing
 pub mod Journaling
+pub mod Counting
+pub mod Reaching
 pub mod Newly
 pub mod Showing
 mod Noting

@@ -10,6 +10,7 @@ pub mod Throughout
 pub mod Recent
 pub mod Played
 pub mod Journals
+pub mod Reached
 pub mod Notes
 pub mod Replies
 pub mod Lent

@@ -5,6 +5,7 @@ ghost use Rattle.audit_model.specs.declared.event.Event.TheVariants as event;
 ghost use Rattle.cache_core.specs.Settling.{answering, giving_up};
 ghost use Rattle.cache_core.specs.Turned.{feeding};
 ghost use Rattle.cache_spaces.specs.Calls.{At, InSpace, IsUnknown, OpensNext, RefusedFor, Refuses, ServesEvent, Settled, TakesLoads, TakesNotice, TakesOutput, IsOpened, is_held_in};
+ghost use Rattle.cache_spaces.specs.Reached.{IsReached, IsWhereItWas};
 ghost use Rattle.cache_spaces.specs.Services.{AreNew, are_taken, feed_is_held};
 ghost use Rattle.cache_spaces.specs.Spaces.{closing_of, config_of, is_waiting_for, known_of};
 
@@ -96,6 +97,8 @@ impl<T: NewTape> Core<T> {
     ) -> Result<Core<T>, ServiceError>
         ensures made { IfOk result
             (λ core. AreNew T.Tape.view (T.blank moment) core configs.now generator moment.nanos) }
+        // no input has come: journals without records lead here
+        ensures reached { IfOk result (λ core. ∥ IsReached core 0 ∥₁) }
         ensures moment { IsErrOf result ServiceError.Moment ↔ (2 ^ 63 ≤ moment.nanos) }
         ensures config { IsErrOf result ServiceError.Config
             ↔ ((moment.nanos < 2 ^ 63) × (are_taken configs.now ≡ false)) }
@@ -243,6 +246,8 @@ impl<T: Tape> Core<T> {
         ensures refused { IfErr result
             (λ e. Refuses self.old conn.namespace e (λ was. IsUnknown was conn.number e)) }
         ensures unchanged { OnErr result (self.new ≡ self.old) }
+        // not an event: as many records lead here as before
+        ensures reached { IsWhereItWas self.old self.new }
     {
         let Some(space) = self.spaces.get_mut(conn.namespace as usize) else {
             return Err(ServiceError::NoNamespace);
@@ -264,6 +269,8 @@ impl<T: Tape> Core<T> {
         ensures refused { IfErr result
             (λ e. (e ≡ ServiceError.NoNamespace) × (length self.old ≤ namespace)) }
         ensures unchanged { OnErr result (self.new ≡ self.old) }
+        // not an event: as many records lead here as before
+        ensures reached { IsWhereItWas self.old self.new }
     {
         let Some(space) = self.spaces.get_mut(namespace as usize) else {
             return Err(ServiceError::NoNamespace);
@@ -285,6 +292,8 @@ impl<T: Tape> Core<T> {
         ensures refused { IfErr result
             (λ e. (e ≡ ServiceError.NoNamespace) × (length self.old ≤ namespace)) }
         ensures unchanged { OnErr result (self.new ≡ self.old) }
+        // not an event: as many records lead here as before
+        ensures reached { IsWhereItWas self.old self.new }
     {
         let Some(space) = self.spaces.get_mut(namespace as usize) else {
             return Err(ServiceError::NoNamespace);

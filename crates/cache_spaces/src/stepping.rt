@@ -1,8 +1,9 @@
 //! Taking inputs one by one.
-ghost use Rattle.std.specs.Prelude.{◌≡◌, IfOk, IfErr, OnErr};
+ghost use Rattle.std.specs.Prelude.{◌≡◌, IfOk, IfErr, OnErr, OnOk};
 ghost use Rattle.audit_model.specs.declared.input.Input.TheVariants as input;
 ghost use Rattle.cache_spaces.specs.Calls.{At, Refuses};
 ghost use Rattle.cache_spaces.specs.Inputs.{Performs, RefusedInput, namespace_of};
+ghost use Rattle.cache_spaces.specs.Reached.{IsOneFurther};
 
 use crate::service::{AnswerError, Core, Fed};
 use audit_laws::Output;
@@ -40,6 +41,8 @@ impl<T: Tape> Core<T> {
             refusal.error (RefusedInput input refusal.error)) }
         ensures back { IfErr result (λ refusal. refusal.input ≡ input) }
         ensures unchanged { OnErr result (self.new ≡ self.old) }
+        // journals with one more record lead here, whether they are kept or not
+        ensures reached { OnOk result (IsOneFurther self.old self.new) }
     {
         match input {
             Input::Open { namespace } => self.step_open(namespace),

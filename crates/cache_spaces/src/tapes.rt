@@ -24,7 +24,6 @@ impl NewTape for Bare {
     ghost blank = { λ made. None };
 
     fn make(alloc: Global, made: Instant) -> Bare {
-        let _made = made;
         Bare::new(alloc)
     }
 }

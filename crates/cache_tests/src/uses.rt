@@ -12,8 +12,7 @@ use cache_service::model::{
     Weight,
 };
 use cache_service::{
-    Clock, LiveService, Loader, RunError, Seat, Seating, Service, SharedService, Watched, play,
-    serve,
+    Clock, Loader, RunError, Seat, Seating, Service, SharedService, Watched, play, serve,
 };
 use rand_core::SeedableRng;
 use rand_xoshiro::Xoshiro256PlusPlus;
@@ -157,7 +156,7 @@ pub fn play_pair(
 pub fn answer_shared<L: Seating, K: Clock, D: Loader>(
     rt: &impl Wait,
     alloc: Global,
-    shared: &SharedService<L, LiveService>,
+    shared: &SharedService<L, Service>,
     seat: &mut Seat<L>,
     text: &[u8],
     clock: &mut K,

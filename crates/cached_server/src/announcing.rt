@@ -121,7 +121,6 @@ impl<R: time::Clock + Wait + Copy> Teller for Announcer<R> {
     }
 
     fn tell<Q: Wait>(&mut self, rt: &Q, notes: &[Note]) {
-        let _rt = rt;
         self.outlet.tell(&self.rt, self.name.as_slice(), notes);
     }
 }

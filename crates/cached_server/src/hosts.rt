@@ -1,11 +1,14 @@
 //! A thread for each namespace, and one that writes what they tell.
-ghost use Rattle.std.specs.Prelude.{◌≡◌, ◌⊎◌, IfOk, IfErr};
+ghost use Rattle.std.specs.Prelude.{◌≡◌, ◌⊎◌, false, IfOk, IfErr};
+ghost use Rattle.cache_shared.specs.Bared.{bare_spaces, no_journals};
+ghost use Rattle.cache_shared.specs.Events.{StandsAfter};
 
 use crate::announcing::{Outlet, Scribe, Site};
 use crate::script::Fault;
 use audit_model::{Config, Instant};
 use cache_serve::host;
-use cache_shared::{LiveService, Seating, SharedService};
+use cache_shared::{Seating, SharedService};
+use cache_spaces::Service;
 use cached_config::HostedNamespace;
 use rand_core::SeedableRng;
 use rand_xoshiro::Xoshiro256PlusPlus;
@@ -60,7 +63,7 @@ impl Board {
 /// What one namespace is hosted with.
 #[derive(Drop)]
 struct Post<L: Seating, R: time::Clock + Wait + Copy> {
-    shared: SharedService<L, LiveService>,
+    shared: SharedService<L, Service>,
     namespace: u64,
     listener: TcpListener,
     site: Site<R>,
@@ -116,7 +119,7 @@ where
 fn make_post<L, R>(
     rt: R,
     alloc: Global,
-    shared: &SharedService<L, LiveService>,
+    shared: &SharedService<L, Service>,
     namespace: u64,
     space: HostedNamespace,
     listener: TcpListener,
@@ -152,7 +155,7 @@ where
 fn host_all<L, W, E, R>(
     rt: R,
     alloc: Global,
-    core: LiveService,
+    core: Service,
     blank: Blank,
     parts: u64,
     spaces: Vec<HostedNamespace>,
@@ -166,14 +169,12 @@ where
     W: Write + Drop + Send + 'static,
     E: Write + Drop + Send + 'static,
     R: time::Clock + Threads + Wait + Copy + Send + Sync + 'static,
-    requires empty { core.events ≡ 0 }
+    requires empty { StandsAfter false bare_spaces no_journals 0 core }
     requires name { blank.name ≡ L.name }
     requires parts { (blank.parts ≡ L.parts) × (L.all ≡ L.parts) × (parts ≡ L.parts) }
     ensures { IfErr result (λ e. (e ≡ Fault.CannotListen) ⊎ (e ≡ Fault.OutOfMemory)) }
 {
-    let shared: SharedService<L, LiveService> = match SharedService::new(
-        alloc, core, blank, parts,
-    ) {
+    let shared: SharedService<L, Service> = match SharedService::new(alloc, core, blank, parts) {
         Ok(shared) => shared,
         Err(_) => return Err(Fault::OutOfMemory),
     };
@@ -280,14 +281,14 @@ fn make_core(
     alloc: Global,
     spaces: &[HostedNamespace],
     generator: Xoshiro256PlusPlus,
-) -> Result<LiveService, Fault>
-    ensures none { IfOk result (λ core. core.events ≡ 0) }
+) -> Result<Service, Fault>
+    ensures empty { IfOk result (StandsAfter false bare_spaces no_journals 0) }
     ensures err { IfErr result (λ e. e ≡ Fault.OutOfMemory) }
 {
     let Some(configs) = gather_configs(alloc, spaces) else {
         return Err(Fault::OutOfMemory);
     };
-    match LiveService::new(alloc, &configs, generator, Instant { nanos: 0 }) {
+    match Service::new(alloc, &configs, generator, Instant { nanos: 0 }) {
         Ok(core) => Ok(core),
         Err(_) => Err(Fault::OutOfMemory),
     }

@@ -27,7 +27,6 @@ impl Loader for NoLoader {
     ghost loads = { λ c key answer d. answer ≡ Some outcome.None };
 
     fn load(&mut self, key: &[u8]) -> Option<Outcome> {
-        let _key = key;
         Some(Outcome::None)
     }
 }

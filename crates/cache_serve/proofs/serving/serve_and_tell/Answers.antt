@@ -9,13 +9,13 @@ use Rattle.cache_serve.proofs.Promised.{attended, ended-because, rested, rested-
 use Rattle.cache_serve.proofs.serving.serve_and_tell.Goals as goal
 
 pub returns-in-Err-clause-wrote : goal.returns-in-Err-clause-wrote
-returns-in-Err-clause-wrote g c = let seat = c.args.seat.now in ([], [], refl, rested-wrote g.C.Stepping.KEEPS _ _ _ _ (tally seat) (tally seat) _ (rested seat seat (inl refl)))
+returns-in-Err-clause-wrote g c = let seat = c.args.seat.now in ([], [], refl, rested-wrote g.C.Shareable.KEEPS _ _ _ (tally seat) (tally seat) _ (rested seat seat (inl refl)))
 
 pub returns-in-Err-clause-asked : goal.returns-in-Err-clause-asked
 returns-in-Err-clause-asked g c = λ kept. (record { namespace = c.args.namespace; number = 0 }, inr (record { same = λ n. refl; unread = refl; untold = refl; unasked = refl }))
 
 pub returns-in-Err-open-clause-wrote : goal.returns-in-Err-open-clause-wrote
-returns-in-Err-open-clause-wrote g c = ([], [], refl, rested-wrote g.C.Stepping.KEEPS _ _ _ _ (tally c.args.seat.now) (tally c.open.new.place) _ (rested c.args.seat.now c.open.new.place c.in-Err-open.ensures.rests))
+returns-in-Err-open-clause-wrote g c = ([], [], refl, rested-wrote g.C.Shareable.KEEPS _ _ _ (tally c.args.seat.now) (tally c.open.new.place) _ (rested c.args.seat.now c.open.new.place c.in-Err-open.ensures.rests))
 
 pub returns-in-Err-open-clause-asked : goal.returns-in-Err-open-clause-asked
 returns-in-Err-open-clause-asked g c = λ kept. (
@@ -25,8 +25,8 @@ returns-in-Err-open-clause-asked g c = λ kept. (
 
 pub loop-turn-init : goal.loop-turn-init
 loop-turn-init g c = record {
-  goes = fresh-underway false (Opens g.C.Stepping.spaces g.C.Stepping.events g.C.Takings.untaken g.C.Stepping.KEEPS) (Comes g.C.Stepping.spaces g.C.Stepping.events g.C.Takings.untaken g.C.Stepping.KEEPS)
-      (Closes g.C.Stepping.spaces g.C.Stepping.events g.C.Takings.untaken g.C.Stepping.KEEPS) (Drops g.C.Stepping.spaces g.C.Stepping.events g.C.Takings.untaken g.C.Stepping.KEEPS) g.K.Clock.reads g.D.Loader.loads _ _ c.in-Ok-open.session c.in-Ok-open.ensures.opens.1;
+  goes = fresh-underway false (Opens g.C.Shareable.spaces g.C.Shareable.untaken g.C.Shareable.KEEPS) (Comes g.C.Shareable.spaces g.C.Shareable.untaken g.C.Shareable.KEEPS)
+      (Closes g.C.Shareable.spaces g.C.Shareable.untaken g.C.Shareable.KEEPS) (Drops g.C.Shareable.spaces g.C.Shareable.untaken g.C.Shareable.KEEPS) g.K.Clock.reads g.D.Loader.loads _ _ c.in-Ok-open.session c.in-Ok-open.ensures.opens.1;
   same = refl;
   reads = omega arith;
   writes = omega arith;
@@ -47,7 +47,7 @@ loop-turn-preserved g c =
 pub returns-in-loop-turn : goal.returns-in-loop-turn
 returns-in-loop-turn g c =
     let i = c.loop-turn.invariant in
-    let all = attended g.C.Stepping.spaces g.C.Stepping.events g.C.Takings.untaken g.C.Stepping.KEEPS g.I.Read.remaining g.O.Write.contents g.K.Clock.reads g.D.Loader.loads c.args.namespace c.args.seat.now c.close.new.place c.args.reader.now c.converse-ended.new.reader c.args.writer.now
+    let all = attended g.C.Shareable.spaces g.C.Shareable.untaken g.C.Shareable.KEEPS g.I.Read.remaining g.O.Write.contents g.K.Clock.reads g.D.Loader.loads c.args.namespace c.args.seat.now c.close.new.place c.args.reader.now c.converse-ended.new.reader c.args.writer.now
     c.converse-ended.new.writer c.args.clock.now c.converse-ended.new.clock c.args.loader.now c.close.new.loader c.in-Ok-open.session c.converse-ended.new.session c.open.new.place c.converse-ended.new.place c.converse-ended.new.loader c.converse-ended.result c.outcome_of.result
     c.close.result c.in-Ok-open.ensures.opens.0 (c.converse-ended.ensures.known.1 ∙ i.same) (c.converse-ended.ensures.goes c.open.new.place (around g.I.Read.remaining g.O.Write.contents c.args.reader.now c.args.writer.now c.args.clock.now c.args.loader.now) i.goes) c.outcome_of.ensures c.close.ensures.closes c.close.ensures.same in
     let counts : c.args.seat.now.count ≤ c.close.new.place.count = omega arith in

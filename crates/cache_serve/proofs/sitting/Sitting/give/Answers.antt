@@ -1,9 +1,10 @@
+use Rattle.cache_serve.proofs.Outgoing.{are-out, is-reply}
 use Rattle.cache_serve.proofs.Seating.{suits-shared}
 use Rattle.cache_serve.proofs.sitting.Sitting.give.Goals as goal
 
 pub returns : goal.returns
-returns g c = record {
-  text = c.text_of-replies.ensures c.args.owed.conn c.args.owed.its_replies;
-  out = c.loads_of.ensures.out c.args.owed.conn.namespace c.args.owed.its_loads;
-  suits = suits-shared c.loads_of.ensures.unwanted;
+returns g c = λ conn owes. record {
+  text = is-reply g.C.Shareable.spaces g.C.Shareable.untaken conn c.args.owed.replies owes.replies;
+  out = are-out g.C.Shareable.spaces conn.namespace c.args.owed.loads owes.loads;
+  suits = suits-shared owes.unwanted;
 }

@@ -1,0 +1,49 @@
+//! The service that keeps no journal.
+use crate::shareable::Shareable;
+use audit_model::{Bytes, Closing, Conn, Input, LoadId, Note, ServiceError, Transcript};
+use cache_spaces::{Output, Refusal, Service};
+
+impl Shareable for Service {
+    ghost use Rattle.std.specs.Prelude.{false};
+    ghost use Rattle.cache_shared.specs.Bared.{bare_spaces, no_journals, untaken_of, untold_of};
+
+    ghost spaces = { bare_spaces };
+
+    ghost journals = { no_journals };
+
+    ghost untaken = { untaken_of };
+
+    ghost untold = { untold_of };
+
+    ghost KEEPS = { false };
+
+    const KEEPS: bool = false;
+
+    fn step(&mut self, input: Input) -> Result<Output, Refusal> {
+        Service::step(self, input)
+    }
+
+    fn journal(&self, namespace: u64) -> Result<&Transcript, ServiceError> {
+        Err(ServiceError::NoNamespace)
+    }
+
+    fn take_output(&mut self, conn: Conn) -> Result<Vec<u8>, ServiceError> {
+        Service::take_output(self, conn)
+    }
+
+    fn next_notice(&mut self, namespace: u64) -> Result<Option<Note>, ServiceError> {
+        Service::next_notice(self, namespace)
+    }
+
+    fn take_loads(&mut self, namespace: u64) -> Result<Vec<(LoadId, Bytes)>, ServiceError> {
+        Service::take_loads(self, namespace)
+    }
+
+    fn closed(&self, conn: Conn) -> Result<Option<Closing>, ServiceError> {
+        Service::closed(self, conn)
+    }
+
+    fn waiting(&self, conn: Conn) -> Result<bool, ServiceError> {
+        Service::waiting(self, conn)
+    }
+}

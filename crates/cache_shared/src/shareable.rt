@@ -1,0 +1,99 @@
+//! What a shared service requires of the service under its lock.
+ghost use Rattle.std.specs.Prelude.{◌≡◌, ℕ, ◌++◌, ◌≤◌, Bool, true, List, [], Some, length, IsNone, IfOk, IfErr, OnOk, OnErr};
+ghost use Rattle.std.specs.List.{slice_get};
+ghost use Rattle.std.specs.Option.{option_to_list};
+ghost use Rattle.audit_model.specs.declared.input.Conn.{Conn};
+ghost use Rattle.audit_model.specs.declared.transcript.Note.{Note as Told};
+ghost use Rattle.audit_model.specs.declared.transcript.Transcript.{Transcript};
+ghost use Rattle.cache_shared.specs.Events.{CountsRecord, KeepsStanding, Performs};
+ghost use Rattle.cache_shared.specs.Untaken.{RefusesCopy};
+ghost use Rattle.cache_spaces.specs.Calls.{At, InSpace, IsUnknown, Refuses, TakesLoads};
+ghost use Rattle.cache_spaces.specs.Inputs.{RefusedInput, namespace_of};
+ghost use Rattle.cache_spaces.specs.Spaces.{Shown, closing_of, is_waiting_for};
+
+use audit_model::{Bytes, Closing, Conn, Input, LoadId, Note, ServiceError, Transcript};
+use cache_spaces::{Output, Refusal};
+
+/// The service under the lock of a `SharedService`: a `Service` or a `RecordedService`. Taking replies, loads and notes is not an event.
+pub trait Shareable: Drop {
+    /// Its namespaces, in their order.
+    ghost spaces: { Self → List Shown };
+
+    /// The journals of its namespaces; none if it keeps none.
+    ghost journals: { Self → List Transcript };
+
+    /// The reply bytes of a connection that were not taken.
+    ghost untaken: { Self → Conn → List ℕ };
+
+    /// The notes of a namespace that were reported and not taken, in order.
+    ghost untold: { Self → ℕ → List Told };
+
+    /// Whether it keeps journals, and seats keep receipts.
+    ghost KEEPS: { Bool };
+
+    const KEEPS: bool;
+
+    /// Takes an input: its event happens, and the output is that of the event.
+    ///
+    /// A refused input is returned; then nothing has changed.
+    fn step(&mut self, input: Input) -> Result<Output, Refusal>
+        ensures taken { IfOk result
+            (λ output. Performs input output (spaces self.old) (spaces self.new)) }
+        ensures one { KEEPS ≡ true
+            → OnOk result (CountsRecord (journals self.old) (journals self.new)) }
+        ensures refused { IfErr result (λ refusal. Refuses (spaces self.old) (namespace_of input)
+            refusal.error (RefusedInput input refusal.error)) }
+        ensures unchanged { OnErr result (self.new ≡ self.old) }
+        ensures back { IfErr result (λ refusal. refusal.input ≡ input) };
+
+    /// Returns the journal of a namespace: a record for each input that it accepted. Returns `NoNamespace` if it has none.
+    fn journal(&self, namespace: u64) -> Result<&Transcript, ServiceError>
+        ensures journal { IfOk result
+            (λ journal. slice_get (journals self.now) namespace ≡ Some journal.now) }
+        ensures error { IfErr result (λ e. e ≡ ServiceError.NoNamespace) }
+        ensures refused { KEEPS ≡ true → OnErr result (length (spaces self.now) ≤ namespace) }
+        ensures none { IfErr result (λ e. length (journals self.now) ≤ namespace) };
+
+    /// Returns the reply bytes of a connection since they were last taken, moved out. Returns `NoNamespace`, then `NoConnection`, then
+    /// `OutOfMemory` if taking them needs memory that there is not; then they come the next time.
+    fn take_output(&mut self, conn: Conn) -> Result<Vec<u8>, ServiceError>
+        ensures taken { IfOk result (λ text. text.items ≡ untaken self.old conn) }
+        ensures refused { IfErr result (λ e.
+            Refuses (spaces self.old) conn.namespace e (λ space. RefusesCopy space conn.number e)) }
+        ensures standing { KeepsStanding spaces journals self.old self.new };
+
+    /// Returns the oldest note of a namespace that was reported and not taken; `None` if there is none. Returns `NoNamespace`, then
+    /// `OutOfMemory` if taking it needs memory that there is not; then it comes the next time.
+    fn next_notice(&mut self, namespace: u64) -> Result<Option<Note>, ServiceError>
+        ensures note { IfOk result
+            (λ note. untold self.old namespace ≡ option_to_list note ++ untold self.new namespace) }
+        ensures none { IfOk result (λ note. IsNone note → untold self.old namespace ≡ []) }
+        ensures refused { IfErr result
+            (λ e. Refuses (spaces self.old) namespace e (λ space. e ≡ ServiceError.OutOfMemory)) }
+        ensures kept { OnErr result (untold self.new namespace ≡ untold self.old namespace) }
+        ensures standing { KeepsStanding spaces journals self.old self.new };
+
+    /// Returns the loads of a namespace that went out and were not taken, with their keys, in the order in which they were sent, moved out.
+    /// Returns `NoNamespace` if there is no such namespace.
+    fn take_loads(&mut self, namespace: u64) -> Result<Vec<(LoadId, Bytes)>, ServiceError>
+        ensures loads { IfOk result (λ loads. At (spaces self.old) (spaces self.new) namespace
+            (λ was is. TakesLoads was is loads.items)) }
+        ensures refused { IfErr result
+            (λ e. (e ≡ ServiceError.NoNamespace) × (length (spaces self.old) ≤ namespace)) }
+        ensures standing { KeepsStanding spaces journals self.old self.new };
+
+    /// Returns why a connection is closed; `None` while it is open. Returns `NoNamespace`, then `NoConnection`.
+    fn closed(&self, conn: Conn) -> Result<Option<Closing>, ServiceError>
+        ensures closing { IfOk result (λ closing. InSpace (spaces self.now) conn.namespace
+            (λ space. closing ≡ closing_of space conn.number)) }
+        ensures refused { IfErr result (λ e.
+            Refuses (spaces self.now) conn.namespace e (λ space. IsUnknown space conn.number e)) };
+
+    /// Returns whether a `LOAD` of a connection waits for its load, so that no later line runs. Returns `NoNamespace`, then
+    /// `NoConnection`.
+    fn waiting(&self, conn: Conn) -> Result<bool, ServiceError>
+        ensures waits { IfOk result (λ waits. InSpace (spaces self.now) conn.namespace
+            (λ space. waits ≡ is_waiting_for space conn.number)) }
+        ensures refused { IfErr result (λ e.
+            Refuses (spaces self.now) conn.namespace e (λ space. IsUnknown space conn.number e)) };
+}

@@ -1,0 +1,204 @@
+-- Journals lead to where a service stands, whether or not it keeps them.
+use Rattle.std.proofs.Common.{◌≡◌, ◌≢◌, ◌∙◌, ℕ, zero, suc, ◌+◌, List, [], ◌∷◌, ◌++◌, length, length-append, Option, Some, Vec, Global, refl, sym, ap, subst, inl, inr, arith}
+use Rattle.std.specs.Prelude.{◌⊎◌, slice_set, map, Result, Ok, Err, IfErr, IfOk, OnErr, OnOk}
+use Rattle.std.specs.List.{slice_get}
+use Rattle.std.proofs.Math.Logic.{∥∥₁_map}
+use Rattle.std.proofs.lemmas.Bool.{cases_eq}
+use Rattle.std.proofs.lemmas.List.{length-map, length-set}
+use Rattle.std.proofs.lemmas.Option.{slice_get_within, none-some, same_Some}
+use Rattle.audit_laws.proofs.Journals.{leads_by-more, obeys-led}
+use Rattle.audit_laws.specs.Leading.{LeadsBy, LeadsTo}
+use Rattle.audit_model.specs.Situation.{Situation, empty_situation}
+use Rattle.audit_model.specs.declared.config.Config.{Config}
+use Rattle.audit_model.specs.declared.event.Instant.{Instant}
+use Rattle.audit_model.specs.declared.input.Input.{Input}
+use Rattle.audit_model.specs.declared.input.LoadId.{LoadId}
+use Rattle.audit_model.specs.declared.input.ServiceError.{ServiceError}
+use Rattle.audit_model.specs.declared.input.ServiceError.TheVariants as error
+use Rattle.audit_model.specs.declared.transcript.Transcript.{Transcript}
+use Rattle.audit_laws.specs.declared.receipts.output.Output.{Output}
+use Rattle.cache_core.proofs.connections.Getting.{at-mapped, found-at, set-same}
+use Rattle.cache_spaces.proofs.Counting.{count-empty, count-more}
+use Rattle.cache_spaces.proofs.Journaling.{mapped}
+use Rattle.cache_spaces.proofs.Putting.{at-it, at-length, at-others, put-at}
+use Rattle.cache_spaces.proofs.Showing.{stands-hidden, stands-shown}
+use Rattle.cache_spaces.specs.Calls.{At, TakesLoads, TakesOutput}
+use Rattle.cache_spaces.specs.Inputs.{Performs, namespace_of}
+use Rattle.cache_spaces.specs.Journals.{LeadsSo}
+use Rattle.cache_spaces.specs.Reached.{IsJournal, IsOneFurther, IsReached, IsWhereItWas, record_count}
+use Rattle.cache_spaces.specs.Services.{AreNew}
+use Rattle.cache_spaces.specs.Spaces.{Space, StandsFor, config_of, part_in, shown}
+use Rattle.cache_spaces.specs.Stores.{shown_of}
+use Rattle.cache_store.specs.Values.{GivesNote}
+use Rattle.cache_lines.specs.Tape.Taped.{Taped}
+
+-- journals of that moment without records
+empties : {X : Type 0} → Instant → List X → List Transcript
+empties made spaces = map (λ space. record { made = made; records = [] }) spaces
+
+empties-at : {X : Type 0} (made : Instant) (spaces : List X) (k : ℕ) (journal : Transcript) → slice_get (empties made spaces) k ≡ Some journal → journal ≡ record { made = made; records = [] }
+unfolding empties
+empties-at made [] k journal at = absurd (none-some journal at)
+empties-at made (x ∷ xs) zero journal at = sym (same_Some _ journal at)
+empties-at made (x ∷ xs) (suc k) journal at = empties-at made xs k journal at
+
+empties-count : {X : Type 0} (made : Instant) (spaces : List X) → length (empties made spaces) ≡ length spaces
+unfolding empties
+empties-count made [] = refl
+empties-count made (x ∷ xs) = let e = empties-count made xs in omega (arith, e)
+
+-- a journal in the place of another
+abbrev put-journal : (journals : List Transcript) (k : ℕ) (t u : Transcript) → slice_get journals k ≡ Some t → At journals (slice_set journals k u) k (λ was is. Unit {0})
+put-journal journals k t u at = record { was = t; is = u; at = at; set = refl; fact = tt }
+
+module _ {T : Type 0} where
+  -- a journal that leads to where the namespace stands obeys
+  pub led-journal : (space : Space T) (journal : Transcript) (led : LeadsSo space journal) → LeadsBy (config_of space) (part_in space) journal led.last → IsJournal space journal
+  led-journal space journal led parted =
+      let o = obeys-led (config_of space) (part_in space) journal led.last parted in
+      record { obeys = o.0; admitted = o.1; leads = led; parted = parted }
+
+  -- ---- one namespace changes
+
+  reached-set : (F : Space T → Space T → Type 0) (old new : List (Space T)) (k n m : ℕ) (w : IsReached old n) (a : At old new k F) (t u : Transcript)
+      → slice_get w.journals k ≡ Some t → IsJournal a.is u → record_count (slice_set w.journals k u) ≡ m → IsReached new m
+  reached-set F old new k n m w a t u at is_led records = record {
+    journals = slice_set w.journals k u;
+    are = record {
+      count = length-set w.journals k u ∙ w.are.count ∙ sym (at-length old new k a);
+      each = λ j space journal s c. go j space journal s c (cases_eq j k);
+    };
+    count = records;
+  }
+    where
+      go : (j : ℕ) (space : Space T) (journal : Transcript) → slice_get new j ≡ Some space → slice_get (slice_set w.journals k u) j ≡ Some journal → (j ≡ k) ⊎ (j ≢ k) → IsJournal space journal
+      go j space journal s c (inl here) =
+          let is = at-it old new k a space (ap (slice_get new) (sym here) ∙ s) in
+          let same : u ≡ journal = at-it w.journals (slice_set w.journals k u) k (put-journal w.journals k t u at) journal (ap (slice_get (slice_set w.journals k u)) (sym here) ∙ c) in
+          subst (λ x. IsJournal x journal) is (subst (IsJournal a.is) same is_led)
+      go j space journal s c (inr ne) = w.are.each j space journal (sym (at-others old new k j a ne) ∙ s) (sym (at-others w.journals (slice_set w.journals k u) k j (put-journal w.journals k t u at) ne) ∙ c)
+
+  -- the journal of that namespace
+  journal-there : (F : Space T → Space T → Type 0) (old new : List (Space T)) (k n : ℕ) (w : IsReached old n) → At old new k F → (t : Transcript) × (slice_get w.journals k ≡ Some t)
+  journal-there F old new k n w a =
+      let lt = slice_get_within old k a.was a.at in
+      found-at w.journals k (let e = w.are.count in omega arith)
+
+  -- the namespace stands for the same, made as it was
+  pub record IsStill (was is : Space T) : Type 0 where
+    pub stands : (s : Situation) → StandsFor was s → StandsFor is s
+    pub config : config_of is ≡ config_of was
+    pub part_of : part_in is ≡ part_in was
+
+  reached-still : (F : Space T → Space T → Type 0) (k : ℕ) (old new : List (Space T)) (n : ℕ) → ((x y : Space T) → F x y → IsStill x y) → At old new k F → IsReached old n → IsReached new n
+  reached-still F k old new n still a w =
+      let t = journal-there F old new k n w a in
+      let h = w.are.each k a.was t.0 a.at t.1 in
+      let e = still a.was a.is a.fact in
+      let led : LeadsSo a.is t.0 = record { last = h.leads.last; stands = e.stands h.leads.last h.leads.stands; leads = subst (λ c. LeadsTo c t.0 h.leads.last) (sym e.config) h.leads.leads } in
+      reached-set F old new k n n w a t.0 t.0 t.1
+      (led-journal a.is t.0 led (subst (λ m. LeadsBy (config_of a.is) m t.0 h.leads.last) (sym e.part_of) (subst (λ c. LeadsBy c (part_in a.was) t.0 h.leads.last) (sym e.config) h.parted)))
+      (ap record_count (set-same w.journals k t.0 t.1) ∙ w.count)
+
+  pub still-text : (was is : Space T) (outputs : List (List ℕ)) → is ≡ record was { outputs = outputs } → IsStill was is
+  still-text was is outputs e = subst (IsStill was) (sym e) (record { stands = λ s x. record { held = x.held; stands = x.stands; is = x.is }; config = refl; part_of = refl })
+
+  pub still-loads : (was is : Space T) → is ≡ record was { outgoing = [] } → IsStill was is
+  still-loads was is e = subst (IsStill was) (sym e) (record { stands = λ s x. record { held = x.held; stands = x.stands; is = x.is }; config = refl; part_of = refl })
+
+  pub still-note : (was is : Space T) → GivesNote (shown_of was.store) (shown_of is.store) → is ≡ record was { store = is.store } → IsStill was is
+  still-note was is gives e =
+      let frame = gives.frame in
+      subst (IsStill was) (sym e) (record {
+        stands = λ s x. record {
+          held = x.held;
+          stands = gives.stands x.held x.stands;
+          is = x.is ∙ ap (λ d. record { latest = was.latest; opened = length was.closings; sent = was.sent; connections = was.connections; pending = was.pending; held = x.held; dropped = d }) (sym (ap (λ f. f.dropped) frame));
+        };
+        config = ap (λ f. f.config) frame;
+        part_of = ap (λ f. f.part_of) frame;
+      })
+
+  -- replies were taken, or were not
+  pub still-output : (was is : Space T) (number : ℕ) (r : Result (Vec ℕ Global) ServiceError) → IfOk r (λ text. TakesOutput was is number text.items) → IfErr r (λ e. (e ≡ error.NoConnection) × (is ≡ was)) → IsStill was is
+  still-output was is number (Ok text) t same = still-text was is _ t.rest
+  still-output was is number (Err e) t same = subst (IsStill was) (sym same.1) (record { stands = λ s x. x; config = refl; part_of = refl })
+
+  -- one that stands for the same was put in the place of another
+  pub put-still : (seen xs : List (Space T)) (e : xs ≡ seen) (k : ℕ) (was is : Space T) → slice_get xs k ≡ Some was → IsStill was is → IsWhereItWas seen (slice_set xs k is)
+  put-still seen xs e k was is at still = λ n w. ∥∥₁_map w (reached-still IsStill k seen (slice_set xs k is) n (λ x y s. s) (put-at seen xs e k was at IsStill is still))
+
+  -- loads were taken, or were not
+  pub reached-loads : (k : ℕ) (old new : List (Space T)) (r : Result (Vec (LoadId × List ℕ) Global) ServiceError) → IfOk r (λ loads. At old new k (λ was is. TakesLoads was is loads.items)) → OnErr r (new ≡ old) → IsWhereItWas old new
+  reached-loads k old new (Ok loads) a same = λ n w. ∥∥₁_map w (reached-still (λ was is. TakesLoads was is loads.items) k old new n (λ x y t. still-loads x y t.rest) a)
+  reached-loads k old new (Err e) a same = λ n w. subst (λ x. ∥ IsReached x n ∥₁) (sym same) w
+
+module _ {T : Type 0} (tape : T → Option Taped) where
+  -- nothing has come yet
+  pub reached-none : (blank : Option Taped) (configs : List Config) (generator : List ℕ) (moment : Instant) (spaces : List (Space T)) → AreNew tape blank spaces configs generator moment.nanos → IsReached spaces 0
+  reached-none blank configs generator moment spaces new = record {
+    journals = empties moment spaces;
+    are = record {
+      count = empties-count moment spaces;
+      each = λ k space journal s j.
+          let lt = slice_get_within spaces k space s in
+          let config = found-at configs k (let e = new.count in omega arith) in
+          let n = new.each k config.0 space config.1 s in
+          let e = empties-at moment spaces k journal j in
+          subst (IsJournal space) (sym e)
+          (led-journal space _ (record { last = empty_situation moment.nanos; stands = n.stands; leads = refl }) (record { leads = refl; parted = refl }));
+    };
+    count = count-empty moment (empties moment spaces) (empties-at moment spaces);
+  }
+
+  -- an input was taken
+  pub reached-more : (i : Input) (output : Output) (old new : List (Space T)) (n : ℕ) → At old new (namespace_of i) (Performs tape i output) → IsReached old n → IsReached new (n + 1)
+  reached-more i output old new n a w =
+      let k = namespace_of i in
+      let t = journal-there (Performs tape i output) old new k n w a in
+      let h = w.are.each k a.was t.0 a.at t.1 in
+      let p = a.fact.from h.leads.last h.leads.stands in
+      let config = a.fact.stays.config in
+      let last = p.turned.next in
+      let u : Transcript = record { made = t.0.made; records = t.0.records ++ p.entry ∷ [] } in
+      let more : LeadsBy (config_of a.was) (part_in a.was) u last =
+      leads_by-more (config_of a.was) (part_in a.was) t.0.made t.0.records p.entry h.leads.last last h.parted p.turned.follows p.turned.parted in
+      reached-set (Performs tape i output) old new k n (n + 1) w a t.0 u t.1
+      (led-journal a.is u (record { last = last; stands = p.turned.stands; leads = subst (λ c. LeadsTo c u last) (sym config) more.leads })
+      (subst (λ m. LeadsBy (config_of a.is) m u last) (sym a.fact.stays.part_of) (subst (λ c. LeadsBy c (part_in a.was) u last) (sym config) more)))
+      (count-more w.journals (slice_set w.journals k u) k t.0 u t.1 refl (length-append t.0.records (p.entry ∷ [])) ∙ ap (λ c. c + 1) w.count)
+
+  pub reached-result : {E : Type 0} (i : Input) (r : Result Output E) (old new : List (Space T)) → IfOk r (λ output. At old new (namespace_of i) (Performs tape i output)) → OnOk r (IsOneFurther old new)
+  reached-result i (Ok output) old new a = λ n w. ∥∥₁_map w (reached-more i output old new n a)
+  reached-result i (Err e) old new taken = taken
+
+  -- ---- the same namespaces, as they are shown
+
+  pub reached-shown : (spaces : List (Space T)) (n : ℕ) → IsReached spaces n → IsReached (map (shown tape) spaces) n
+  reached-shown spaces n w = record {
+    journals = w.journals;
+    are = record {
+      count = w.are.count ∙ sym (length-map spaces (shown tape));
+      each = λ k space journal s j.
+          let x = mapped (shown tape) spaces k space s in
+          let h = w.are.each k x.0 journal x.1 j in
+          subst (λ v. IsJournal v journal) x.2
+          (led-journal (shown tape x.0) journal (record { last = h.leads.last; stands = stands-shown tape x.0 h.leads.last h.leads.stands; leads = h.leads.leads }) h.parted);
+    };
+    count = w.count;
+  }
+
+  pub reached-hidden : (spaces : List (Space T)) (n : ℕ) → IsReached (map (shown tape) spaces) n → IsReached spaces n
+  reached-hidden spaces n w = record {
+    journals = w.journals;
+    are = record {
+      count = w.are.count ∙ length-map spaces (shown tape);
+      each = λ k space journal s j.
+          let h = w.are.each k (shown tape space) journal (at-mapped (shown tape) spaces k space s) j in
+          led-journal space journal (record { last = h.leads.last; stands = stands-hidden tape space h.leads.last h.leads.stands; leads = h.leads.leads }) h.parted;
+    };
+    count = w.count;
+  }
+
+  pub where-shown : (old new : List (Space T)) → IsWhereItWas old new → IsWhereItWas (map (shown tape) old) (map (shown tape) new)
+  where-shown old new still n w = ∥∥₁_map (still n (∥∥₁_map w (reached-hidden old n))) (reached-shown new n)
