@@ -30,13 +30,7 @@ module _ {K V : Type 0} where
   told_alike true why other e ns h = ap (λ w. told true w e ns) (h refl)
   told_alike false why other e ns h = refl
 
-  abbrev pub marked : Record K V → Record K V
-  marked r = record r { is_held = false; writes = r.writes + 1 }
-
 module _ {K V P S R : Type 0} where
-  abbrev pub added : State K V P S R → Record K V → State K V P S R
-  added s r = with_put_for false r (record s { records = s.records ++ r ∷ []; next_number = s.next_number + 1 })
-
   -- as the tables write over the record in a place
   abbrev pub over : State K V P S R → Entry K V → RemovalCause → Record K V → State K V P S R
   over s e why r = with_put_for false (next_record e r) (record s { records = changed_at r.number (next_record e) s.records; notices = told s.settings.tells why r.entry s.notices })
@@ -56,15 +50,6 @@ module _ {K V P S R : Type 0} where
       ∙ sym (single-sent u t)
       ∙ ap (λ us. with_sent s.next_ticket (unsent_at (us ++ u ∷ []) s.next_ticket) (record t { unsent = us ++ u ∷ [] })) (sym (h refl))
   put-sent false r s h = refl
-
-  -- as they mark it
-  abbrev pub taken : State K V P S R → Record K V → State K V P S R
-  taken s r = record s {
-    records = changed_at r.number marked s.records;
-    unsent = s.unsent ++ (record { ticket = s.next_ticket; write = Removed r.number }) ∷ [];
-    next_ticket = s.next_ticket + 1;
-    reserved = s.reserved - 1;
-  }
 
 module _ {K V P S R : Type 0} (answers : Answers K V P R) where
   abbrev over_with : State K V P S R → Record K V → Entry K V → RemovalCause → State K V P S R

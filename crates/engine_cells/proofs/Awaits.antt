@@ -1,5 +1,5 @@
 -- Timers of places, as cells come, change and go.
-use Rattle.std.proofs.Common.{◌≡◌, ◌≢◌, refl, ap, sym, ◌∙◌, subst, ℕ, ◌<◌, Bool, true, false, ◌&&◌, List, Option, Some, None, inl, inr, ◌⊎◌, zero, suc, ◌+◌, ◌≤◌, length, arith, [], ◌∷◌}
+use Rattle.std.proofs.Common.{◌≡◌, ◌≢◌, refl, ap, sym, ◌∙◌, subst, ℕ, ◌<◌, Bool, true, false, ◌&&◌, List, Option, Some, None, inl, inr, ◌⊎◌, zero, suc, ◌≤◌, length, arith, [], ◌∷◌}
 use Rattle.std.specs.Prelude.{slice_set}
 use Rattle.std.proofs.lemmas.Bool.{cases_eq, lt-leb}
 use Rattle.std.proofs.lemmas.Option.{same_Some}
@@ -60,14 +60,6 @@ module _ {K V : Type 0} where
   -- each place below this one has the timer that it is to have
   abbrev pub AreTimed : List (Option (Record K V)) → Awaited → ℕ → Type 0
   AreTimed cells a below = (i : ℕ) (c : Record K V) → i < below → cell_at cells i ≡ Some c → c.is_held ≡ true → IsSet a i c.entry.expires
-
-  pub timed-more : (cells : List (Option (Record K V))) (a b : Awaited) (place : ℕ) → KeepsOthers place a.timers b.timers → (b.is_whole ≡ true → a.is_whole ≡ true)
-      → ((c : Record K V) → cell_at cells place ≡ Some c → c.is_held ≡ true → IsSet b place c.entry.expires) → AreTimed cells a place → AreTimed cells b (place + 1)
-  timed-more cells a b place keeps whole here h i c less there held = go (cases_eq i place)
-    where
-      go : (i ≡ place) ⊎ (i ≢ place) → IsSet b i c.entry.expires
-      go (inl same) = subst (λ j. IsSet b j c.entry.expires) (sym same) (here c (ap (λ j. cell_at cells j) (sym same) ∙ there) held)
-      go (inr apart) = other-set a b place i c.entry.expires apart keeps whole (h i c (omega arith) there held)
 
   pub timed-whole : (cells : List (Option (Record K V))) (a : Awaited) (below : ℕ) → length cells ≤ below → AreTimed cells a below → AreAwaited cells a
   timed-whole cells a below many h i c there held =

@@ -1,7 +1,6 @@
 -- How each change of the drawers keeps them sound. The lists of vacant entries are those of `slab`.
-use Rattle.std.proofs.Common.{◌≡◌, ◌≢◌, ℕ, ◌+◌, ◌-◌, ◌^◌, ◌<◌, ◌≤◌, true, List, [], ◌∷◌, ◌++◌, map, length, get_or, set, Some, None, is_some, count_by, slice_get, sym, ap, ◌∙◌, inl, inr, arith, length-set}
-use Rattle.std.proofs.lemmas.List.{map-set, map_push, length-map, length_push, get_or-map, get_or_at, get_or_append_left, get_or_past}
-use Rattle.std.proofs.lemmas.Bool.{cases_lt}
+use Rattle.std.proofs.Common.{◌≡◌, ◌≢◌, ℕ, ◌+◌, ◌-◌, ◌^◌, ◌<◌, ◌≤◌, true, List, [], ◌∷◌, ◌++◌, map, length, get_or, set, Some, None, is_some, count_by, slice_get, sym, ap, ◌∙◌, arith, length-set}
+use Rattle.std.proofs.lemmas.List.{map-set, map_push, length-map, length_push, get_or-map, get_or_past}
 use Rattle.std.proofs.lemmas.Option.{slice_get_within, slice_get-get_or}
 use Rattle.slab.specs.Slab.{Slab, Updates}
 use Rattle.slab.specs.declared.Entry.{Entry}
@@ -103,22 +102,3 @@ module _ {T : Type 0} (cs : List (Drawer T)) (len next : ℕ) (h : AreSound cs l
   -- a write of one cell changes what its key finds, and no other
   pub updated : (s t : Slab T) (k : ℕ) (c : Drawer T) → k < length cs → s.slots ≡ map value_of es → t.slots ≡ map value_of (map entry_of (set cs k c)) → Updates s t k (value_of (entry_of c))
   updated s t k c within was is = Updates-set s t k (value_of (entry_of c)) (omega (arith, longs, ap length was, length-map es value_of)) (is ∙ ap (map value_of) (map-set entry_of cs k c) ∙ map-set value_of es k (entry_of c) ∙ ap (λ xs. set xs k (value_of (entry_of c))) (sym was))
-
-  -- so does one more cell
-  pub added : (s t : Slab T) (v : T) → next ≡ length cs → s.slots ≡ map value_of es → t.slots ≡ map value_of (map entry_of (cs ++ drawer.Taken v ∷ [])) → Updates s t next (Some v)
-  added s t v at_end was is = record {
-    changed = ap (λ xs. get_or xs next None) all ∙ get_or_at (map value_of es) (Some v) [] None next (here);
-    others = λ other differs. ap (λ xs. get_or xs other None) all ∙ elsewhere other differs ∙ ap (λ xs. get_or xs other None) (sym was);
-  }
-    where
-      here : length (map value_of es) ≡ next
-      here = length-map es value_of ∙ longs ∙ sym at_end
-
-      all : t.slots ≡ map value_of es ++ Some v ∷ []
-      all = is ∙ ap (map value_of) (map_push entry_of cs (drawer.Taken v)) ∙ map_push value_of es (Occupied v)
-
-      elsewhere : (other : ℕ) → other ≢ next → get_or (map value_of es ++ Some v ∷ []) other None ≡ get_or (map value_of es) other None
-      elsewhere other differs = elim (cases_lt other (length (map value_of es))) [
-        | inl lt ↦ get_or_append_left (map value_of es) (Some v ∷ []) None other lt
-        | inr ge ↦ get_or_past (map value_of es ++ Some v ∷ []) other None (omega (arith, here, differs, length_push (map value_of es) (Some v))) ∙ sym (get_or_past (map value_of es) other None ge)
-      ]

@@ -1,5 +1,5 @@
 -- The held records in the order of their numbers, and their keys.
-use Rattle.std.proofs.Common.{◌≡◌, refl, ap, sym, ◌∙◌, ℕ, ◌+◌, suc, zero, arith, Bool, true, false, cond, eqb, List, [], ◌∷◌, ◌++◌, Option, Some, None, drop}
+use Rattle.std.proofs.Common.{◌≡◌, refl, ap, sym, ◌∙◌, ℕ, ◌+◌, suc, zero, arith, Bool, true, false, cond, eqb, List, [], ◌∷◌, ◌++◌, Option, Some, None}
 use Rattle.std.specs.Prelude.{map, sum_by}
 use Rattle.std.specs.List.{AllByRecursion}
 use Rattle.std.specs.List.Sorted.{IsPermutation, IsNonDecreasingBy}
@@ -13,7 +13,7 @@ use Rattle.engine_reference.specs.Records.{record_at, held_entries}
 use Rattle.engine_reference.specs.Scanning.{held_keys}
 use Rattle.engine_cells.specs.declared.listing.Stand.{Stand}
 use Rattle.engine_cells.specs.Cells.{cell_at, records_by_number, HaveOwnNumbers}
-use Rattle.engine_cells.specs.Listing.{stand_of, stands_from, key_of, keys_in}
+use Rattle.engine_cells.specs.Listing.{stands_from, key_of, keys_in}
 use Rattle.engine_cells.specs.Tallying.{sum_over}
 use Rattle.engine_cells.proofs.Listed.{record_at-there, records-rising}
 use Rattle.engine_cells.proofs.Placed.{AllAbove, AreRising}
@@ -25,14 +25,6 @@ listed-counted n [] = refl
 listed-counted n (s ∷ ss) = ap (λ m. cond (eqb s.number n) 1 0 + m) (listed-counted n ss) ∙ sym (sum_by-cons (λ (x : Stand). cond (eqb x.number n) 1 0) s ss)
 
 module _ {K V : Type 0} where
-  -- ---- one place after another
-
-  step : (cells : List (Option (Record K V))) (k i : ℕ) → stand_of k (cell_at cells i) ++ stands_from (k + 1) (drop (suc i) cells) ≡ stands_from k (drop i cells)
-  step [] k zero = refl
-  step [] k (suc i) = refl
-  step (o ∷ cells) k zero = refl
-  step (o ∷ cells) k (suc i) = step cells k i
-
   -- ---- numbers
 
   abbrev held_numbers : List (Record K V) → List ℕ

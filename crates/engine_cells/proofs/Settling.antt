@@ -1,11 +1,11 @@
 -- A walk over a list of places that seeks the first settled record.
-use Rattle.std.proofs.Common.{◌≡◌, ℕ, ◌<◌, true, false, cond, List, [], ◌∷◌, length, Option, Some, None, ap, sym, subst, ◌∙◌, inl, inr, arith}
+use Rattle.std.proofs.Common.{◌≡◌, ℕ, ◌<◌, true, false, cond, List, [], ◌∷◌, length, Option, Some, ap, sym, ◌∙◌, inl, inr, arith}
 use Rattle.std.proofs.lemmas.Bool.{cases_eq, cond-true, cond-false, eq-eqb, ne_eqb}
 use Rattle.std.proofs.lemmas.Option.{none-some, same_Some}
 use Rattle.policy_queue.specs.Indices.{has_index, from_index}
 use Rattle.policy_queue.specs.Places.{slots_from}
 use Rattle.policy_queue.specs.Queue.{head, tail}
-use Rattle.policy_queue.proofs.Standing.{from_head, next_slots}
+use Rattle.policy_queue.proofs.Standing.{next_slots}
 use Rattle.engine_reference.specs.declared.data.Record.{Record}
 use Rattle.engine_reference.specs.Runs.{first_of}
 use Rattle.engine_reference.specs.Records.{record_at, settled_in, with_settled, is_settled}
@@ -39,12 +39,6 @@ module _ {K V : Type 0} (cells : List (Option (Record K V))) (xs : List ℕ) whe
   pub record Seeks (next : Option ℕ) : Type 0 where
     pub same : settled xs ≡ settled (slots_from next xs)
     pub first : head (slots_from next xs) ≡ next
-
-  pub seeks-start : (next : Option ℕ) → next ≡ head xs → Seeks next
-  seeks-start next e = subst Seeks (sym e) (record { same = ap settled (sym (from_head xs)); first = ap head (from_head xs) })
-
-  pub seeks-none : Seeks None → settled xs ≡ []
-  seeks-none h = h.same
 
   module _ (apart : HaveOwnNumbers cells) (listed : AreListed cells xs) (x : ℕ) (h : Seeks (Some x)) where
     pub seeks_has : has_index x xs ≡ true

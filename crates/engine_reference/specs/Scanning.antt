@@ -21,15 +21,6 @@ module _ {K V P S R : Type 0} (answers : Answers K V P R) where
   visible_keys eq s now =
       filter (λ key. is_some (visible_value answers eq s now key)) (held_keys s.records)
 
-  -- the test is called on a visible value, and one that is to be passed over is not found
-  pub record LooksPast (eq : K → K → Bool) (key : K) (now : ℕ) (Ignores : V → Bool → Type 0)
-      (s : State K V P S R) (found : Option (ℕ × V)) : Type 0 where
-    pub ignored : Bool
-    pub asked : (r : Record K V) → visible_record answers eq s now key ≡ Some r
-        → Ignores r.entry.value ignored
-    pub answer : found ≡ option_map (λ r. (r.number, r.entry.value))
-        (past ignored (visible_record answers eq s now key))
-
   -- the second half of a look-up, which is not refused: maintenance runs if it is due, and then the read of what was visible is noted,
   -- unless that was passed over
   pub record NotesLookUp (eq : K → K → Bool) (key : K) (hash now : ℕ) (ignored : Bool)

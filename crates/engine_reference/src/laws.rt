@@ -23,6 +23,7 @@ pub fn runs_keep_visible<K, V, P, S, R>()
 
 /// No write, removal, clear, predicate or eviction changes the counts of requests for hashes: a run changes them only if it counts a read
 /// or creates the table.
+#[tactic(auto, using(crate::proofs::CountsKept::counts_are_kept))]
 pub fn counts_are_kept<K, V, P, S, R>()
     ensures { CountsAreKept K V P S R }
 {}
@@ -33,32 +34,38 @@ pub fn runs_keep_rest<K, V, P, S, R>()
 {}
 
 /// No write, look-up, removal, clear, predicate, notice or run changes the name of the cache.
+#[tactic(auto, using(crate::proofs::NameKept::name_is_kept))]
 pub fn name_is_kept<K, V, P, S, R>()
     ensures { NameIsKept K V P S R }
 {}
 
 /// Registering a predicate in room that was made for it, and a removal in its room, are the same as in one call; and giving up room is the
 /// same as never having made it.
+#[tactic(auto, using(crate::proofs::Halves::halves_are_whole))]
 pub fn halves_are_whole<K, V, P, S, R>()
     ensures { HalvesAreWhole K V P S R }
 {}
 
 /// Sending a ticket changes no look-up, whichever ticket it is.
+#[tactic(auto, using(crate::proofs::Seeing::sending_keeps_visible))]
 pub fn sending_keeps_visible<K, V, P, S, R>()
     ensures { SendingKeepsVisible K V P S R }
 {}
 
 /// A clear and a predicate make nothing visible that was not.
+#[tactic(auto, using(crate::proofs::Seeing::cover_shows_nothing))]
 pub fn cover_shows_nothing<K, V, P, S, R>()
     ensures { CoverShowsNothing K V P S R }
 {}
 
 /// A record with an unapplied write is evicted neither for another's write nor for the excess.
+#[tactic(auto, using(crate::proofs::Unapplied::unapplied_stay))]
 pub fn unapplied_stay<K, V, P, S, R>()
     ensures { UnappliedStay K V P S R }
 {}
 
 /// An empty cache is sound, and each call keeps a sound cache sound.
+#[tactic(auto, using(crate::proofs::SoundCalls::calls_stay_sound))]
 pub fn calls_stay_sound<K, V, P, S, R>()
     ensures { CallsStaySound K V P S R }
 {}
@@ -75,6 +82,7 @@ pub fn counts_are_exact<K, V, P, S, R>()
 
 /// What evictions remove until the weight is within the capacity is the shortest front of the settled records of the access list that
 /// reaches the excess.
+#[tactic(auto, using(crate::proofs::Evicting::evicts_shortest_front))]
 pub fn evicts_shortest_front<K, V, P, S, R>()
     ensures { EvictsShortestFront K V P S R }
 {}

@@ -4,7 +4,7 @@ use Rattle.std.proofs.lemmas.Bool.{cases_lt, cases_eq, true≢false, cond-true, 
 use Rattle.std.proofs.lemmas.List.{get_or_past, get_or-set_same, get_or-set_other, get_or_append_left, get_or-append_right, get_or-replicate, append-nil, drop_all, length_push, length-set, length-append, length-replicate}
 use Rattle.policy_queue.specs.declared.index_queue.Cursors.{Cursors}
 use Rattle.policy_queue.specs.Queue.{head, tail, final}
-use Rattle.policy_queue.specs.Indices.{Indices, vacant, order, Lacks, has_index, without_index, from_index, index_moved_to_back, AreSeated, AreArranged, Ends, EndsBut, IsGap, IsSeatedAt, IsCutShort, Trims, indices_for}
+use Rattle.policy_queue.specs.Indices.{vacant, order, Lacks, has_index, without_index, from_index, index_moved_to_back, AreSeated, AreArranged, Ends, EndsBut, IsGap, IsSeatedAt, IsCutShort, Trims, indices_for}
 use Rattle.policy_queue.proofs.Order.{within, order_at, order_drop_some, order_drop_front, order_emptied, order_skip, order_push, Lacks-order}
 use Rattle.policy_queue.proofs.Listed.{without_at, from_at}
 use Rattle.policy_queue.proofs.Seats.{seated_alike, seated_emptied, seated_pushed, has_seat, has_seated, has_unseated, apart_front}
@@ -170,12 +170,6 @@ indices_for-below cap some = elim (cases_lt cap (2 ^ 32 - 1)) [
   | inl lt ↦ omega (arith, indices_for_small cap lt)
   | inr ge ↦ omega (arith, indices_for_large cap ge)
 ]
-
--- two queues with the same parts are one
-pub same_indices : (a b : Indices) → a.indices ≡ b.indices → a.room ≡ b.room → a.bound ≡ b.bound → a ≡ b
-same_indices a b indices room bound =
-    let mk : List ℕ → ℕ → ℕ → Indices = λ l r m. record { indices = l; room = r; bound = m } in
-    ap (λ l. mk l a.room a.bound) indices ∙ ap (λ r. mk b.indices r a.bound) room ∙ ap (λ m. mk b.indices b.room m) bound
 
 -- more seats, which are vacant
 pub seats_more : (ss : List ℕ) (n : ℕ) (k : ℕ) → get_or (ss ++ replicate n vacant) k vacant ≡ get_or ss k vacant

@@ -1,16 +1,14 @@
 -- A queue that gets room, and one that a node comes to or leaves.
-use Rattle.std.proofs.Common.{◌≡◌, ℕ, ◌+◌, ◌<◌, ◌≤◌, false, List, [], ◌∷◌, ◌++◌, length, max, Some, None, Result, Ok, Err, is_err, OnOk, is_some, count_by, refl, sym, ap, ◌∙◌, inl, inr, arith, subst}
+use Rattle.std.proofs.Common.{◌≡◌, ℕ, ◌+◌, ◌<◌, ◌≤◌, false, [], ◌∷◌, ◌++◌, length, max, Some, None, Result, Ok, Err, is_err, OnOk, refl, sym, ap, ◌∙◌, inl, inr, arith, subst}
 use Rattle.std.proofs.lemmas.Bool.{cases_lt, true≢false}
 use Rattle.std.proofs.lemmas.Option.{none-some}
 use Rattle.std.proofs.lemmas.List.{get_or_past, length_push}
 use Rattle.slab.specs.Slab.{get, Updates, slab_len}
 use Rattle.policy_base.specs.declared.name.CacheRegion.{CacheRegion}
 use Rattle.policy_base.specs.declared.name.NodeId.{NodeId}
-use Rattle.policy_queue.specs.declared.places.Node.{Node}
-use Rattle.policy_queue.specs.declared.places.Cursor.{Cursor}
 use Rattle.policy_queue.specs.Indices.{Indices, has_index, without_index, index_moved_to_back, OnlyGainsPlaces}
-use Rattle.policy_queue.specs.Places.{Nodes, node_of, nodes_of, AreTaken, IsQueue, room_of}
-use Rattle.policy_queue.specs.Queue.{Stays, AreNamed}
+use Rattle.policy_queue.specs.Places.{Nodes, node_of, nodes_of, AreTaken, IsQueue}
+use Rattle.policy_queue.specs.Queue.{AreNamed}
 use Rattle.policy_queue.proofs.Listed.{has_lacked}
 use Rattle.policy_queue.proofs.Names.{AreNamed-push, AreNamed-more, AreNamed-remove, AreNamed-moved, LacksSerial-next}
 use Rattle.policy_queue.proofs.Standing.{FoundAt, split, front, back, the_node, slots_without, nodes_left, taken_left, nodes_moved, taken_moved, lacks_vacant, nodes_pushed, taken_pushed, length-split}
@@ -21,14 +19,6 @@ on_ok (Ok x) P e h = h
 on_ok (Err x) P e h = absurd (true≢false e)
 
 module _ {T : Type 0} (r : CacheRegion) where
-  pub IsQueue-none : (q : Indices) (s : Nodes T) → q.indices ≡ [] → s.slots ≡ [] → IsQueue r q s 0
-  IsQueue-none q s e f = record {
-    taken = subst (AreTaken s) (sym e) tt;
-    counted = ap (count_by is_some) f ∙ sym (ap length e);
-    named = subst (λ xs. AreNamed r 0 (nodes_of r s xs)) (sym e) tt;
-    seats = omega (arith, ap length f);
-  }
-
   module _ (q q' : Indices) (s s' : Nodes T) (next : ℕ) (gains : OnlyGainsPlaces q q') (kept : s' ≡ record s { capacity = s'.capacity }) where
     len_kept : slab_len s' ≡ slab_len s
     len_kept = ap (λ (t : Nodes T). slab_len t) kept
@@ -49,16 +39,6 @@ module _ {T : Type 0} (r : CacheRegion) where
           counted = len_kept ∙ h.counted ∙ ap length (sym gains.same);
           named = subst (AreNamed r next) (sym nodes_kept) h.named;
           seats = omega arith;
-        }
-
-    pub Stays-room : (cursor : Cursor) → s.capacity ≤ s'.capacity → Stays (record { region = r; nodes = nodes_of r s q.indices; cursor = cursor; next_serial = next; room = room_of q s next }) (record { region = r; nodes = nodes_of r s' q'.indices; cursor = cursor; next_serial = next; room = room_of q' s' next })
-    Stays-room cursor bigger =
-        let len = len_kept in
-        let bound = gains.bound in
-        let room = gains.room in
-        record {
-          same = ap (λ (ns : List (Node T)). record { region = r; nodes = ns; cursor = cursor; next_serial = next; room = room_of q' s' next }) nodes_kept;
-          room = omega arith;
         }
 
   -- a key that has a value is one of the slots

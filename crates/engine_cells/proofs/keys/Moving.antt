@@ -15,9 +15,6 @@ pub record AreMoved (old now : List Slot) (from hole steps : ℕ) : Type 0 where
       → IsOnWay (length old) (slot_at now k).tag k hole → ⊥
 
 module _ (old now : List Slot) (from hole steps at : ℕ) (f : from < length old) (moved : AreMoved old now from hole steps) (is : steps_to (length old) from at ≡ steps) (within : at < length old) where
-  m : ℕ
-  m = length old
-
   other-slot : (k : ℕ) → k < length old → steps_to (length old) from k < steps + 1 → (k ≡ at → ⊥) → steps_to (length old) from k < steps
   other-slot k less near off = elim (cases_eq (steps_to (length old) from k) steps) [
     | inl e ↦ absurd (off (one_to (length old) from k at f less within (e ∙ sym is)))
@@ -44,9 +41,6 @@ module _ (old now : List Slot) (from hole steps at : ℕ) (f : from < length old
 
   -- or moves up into the free one, and its own is the free one then
   module _ (taken : IsTaken now at) (way : IsOnWay (length old) (slot_at now at).tag at hole) where
-    new : List Slot
-    new = set now hole (slot_at now at)
-
     inside : hole < length now
     inside = omega (arith, moved.holed.long, moved.holed.within)
 

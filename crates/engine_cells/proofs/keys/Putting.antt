@@ -1,5 +1,5 @@
 -- What comes into a table of slots, and what is looked for there.
-use Rattle.std.proofs.Common.{◌≡◌, ◌≢◌, ap, sym, ◌∙◌, subst, ℕ, ◌+◌, ◌<◌, ◌≤◌, ◌⊎◌, inl, inr, arith, List, length, set, take, length-set}
+use Rattle.std.proofs.Common.{◌≡◌, ap, sym, ◌∙◌, subst, ℕ, ◌+◌, ◌<◌, ◌≤◌, ◌⊎◌, inl, inr, arith, List, length, set, take, length-set}
 use Rattle.std.proofs.lemmas.Bool.{cases_lt, cases_eq, lt-ltb, le-ltb}
 use Rattle.std.proofs.lemmas.List.Sums.{count_by_more_yes, count_by_more_no}
 use Rattle.std.proofs.lemmas.List.{take_all}
@@ -8,7 +8,7 @@ use Rattle.engine_cells.specs.declared.keys.Slot.{Slot}
 use Rattle.engine_cells.specs.Keys.Spots.{tag_of, ComesUnder, LeavesFrom, OnlyGainsSpace}
 use Rattle.engine_cells.specs.Keys.Slots.{entries_in, nowhere, vacant, slot_at, IsTaken, taken_in, home_of, steps_on, steps_to, IsOnWay, Has, HasAll, AreFound, IsFirstVacant, Adds, Loses}
 use Rattle.engine_cells.proofs.keys.Around.{home-below, to-below, on-to, reaches}
-use Rattle.engine_cells.proofs.keys.Tables.{at-set, off-set, taken-within, still-taken, taken-more, all-taken, has-among, among-has, both}
+use Rattle.engine_cells.proofs.keys.Tables.{at-set, off-set, taken-within, taken-more, all-taken, has-among, among-has, both}
 
 -- what is so of each slot within so many steps from a home is so of each slot
 pub all-seen : (many home : ℕ) (P : ℕ → Type 0) → home < many → ((t : ℕ) → t < many → P (steps_on many home t)) → (k : ℕ) → k < many → P k
@@ -73,12 +73,6 @@ module _ (old : List Slot) (tag place at : ℕ) (room : taken_in old < length ol
 
   here : slot_at (set old at (record { tag = tag; place = place })) at ≡ record { tag = tag; place = place }
   here = at-set old at (record { tag = tag; place = place }) first.within
-
-  off : (k : ℕ) → k ≢ at → slot_at (set old at (record { tag = tag; place = place })) k ≡ slot_at old k
-  off k ne = off-set old at k (record { tag = tag; place = place }) ne
-
-  stays : (x : ℕ) → IsTaken old x → IsTaken (set old at (record { tag = tag; place = place })) x
-  stays x t = still-taken old at (record { tag = tag; place = place }) first.within fits x t
 
 -- what there is once a place came
 module _ (old new : List Slot) (tag place : ℕ) (fits : place < nowhere) (adds : Adds old new tag place) where

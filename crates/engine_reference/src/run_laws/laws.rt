@@ -8,6 +8,7 @@ ghost use Rattle.engine_reference.specs.RunLaws.Showing.{OnlyWritesShow, CallsKe
 /// If tickets were sent in the order in which they were made, each removal within a run is justified: reported as `Expired` for an entry
 /// whose deadline has come, as `Explicit` for one that is covered, and as `Size` for one that has a *point* (`size_has_point`); and what
 /// stays was there before it.
+#[tactic(auto, using(crate::proofs::run_laws::Justly::run_tells_justly))]
 pub fn run_tells_justly<K, V, P, S, R>()
     ensures { RunTellsJustly K V P S R }
 {}
@@ -20,6 +21,7 @@ pub fn size_has_point<K, V, P, S, R>()
 {}
 
 /// An empty cache is in order, and each call keeps it so, if the ticket that is sent is the oldest.
+#[tactic(auto, using(crate::proofs::run_laws::Ordering::calls_stay_in_order))]
 pub fn calls_stay_in_order<K, V, P, S, R>()
     ensures { CallsStayInOrder K V P S R }
 {}
@@ -60,6 +62,7 @@ pub fn looking_at_all_sweeps<K, V, P, S, R>()
 {}
 
 /// An empty cache is timely, and each call at a moment and a step not before the last keeps it so, if its ticket is sent at once.
+#[tactic(auto, using(crate::proofs::run_laws::Rises::calls_stay_timely))]
 pub fn calls_stay_timely<K, V, P, S, R>()
     ensures { CallsStayTimely K V P S R }
 {}
@@ -67,11 +70,13 @@ pub fn calls_stay_timely<K, V, P, S, R>()
 /// Nothing becomes visible except by a write of its key: a write changes no look-up of another key, a removal and a look-up make nothing
 /// visible that was not, and room, notices and reports change no look-up. (`engine_reference::laws` has the same for sending, clears,
 /// predicates and runs.)
+#[tactic(auto, using(crate::proofs::run_laws::Shown::only_writes_show))]
 pub fn only_writes_show<K, V, P, S, R>()
     ensures { OnlyWritesShow K V P S R }
 {}
 
 /// No call makes two entries whose keys compare equal.
+#[tactic(auto, using(crate::proofs::run_laws::Shown::calls_keep_apart))]
 pub fn calls_keep_apart<K, V, P, S, R>()
     ensures { CallsKeepApart K V P S R }
 {}

@@ -62,15 +62,6 @@ module _ {K : Type 0} where
     pub rest : wheel₀.timers ≡ gone ++ wheel.timers
     pub forgot : entries ≡ all_forgotten gone entries₀
 
-  pub Advancing-start : (entries : Slab (Slot K)) (wheel : Timers) → Advancing entries wheel entries wheel
-  Advancing-start entries wheel = record {
-    keeps = record { is_enabled = refl; origin = refl; moment = refl; next_serial = refl; room = omega arith };
-    gone = [];
-    had_none = λ k d lt. absurd (omega arith);
-    rest = refl;
-    forgot = refl;
-  }
-
   module _ (entries₀ entries : Slab (Slot K)) (wheel₀ wheel : Timers) (h : Advancing entries₀ wheel₀ entries wheel) where
     pub advancing_times : SameTimes entries₀ entries
     advancing_times k = ap (λ s. due_of s k) h.forgot ∙ all_forgotten_times h.gone entries₀ k

@@ -322,10 +322,6 @@ first_of items front x t h lt e same =
     let first : IsFirst live t = subst (λ l. IsFirst l t) (sym is) (subst (λ l. StartsTaken l) is h.starts, same) in
     (first, first_least live t h.spread first)
 
--- the place of a name
-pub named_taken : (ps : List Place) (id : NodeId) (k : ℕ) → IsNamed ps id k → IsTaken ps k
-named_taken ps id k h = (h.0, λ d. (h.1 d).0)
-
 pub named_id : (ps : List Place) (id : NodeId) (k : ℕ) (t : Timer) → IsNamed ps id k → ((d : Place) → t ≡ timer_at (get_or ps k d)) → t.id ≡ id
 named_id ps id k t h is =
     let d : Place = record { placed = 0; serial = 0; entry = 0; slot = 0; expiry_gen = 0; is_taken = true } in

@@ -56,9 +56,6 @@ pub permutes_left : (k : ℕ) (old new : List Timer) (t : Timer) → Goes k old 
 permutes_left k old new t h =
     subst (λ ts. IsPermutation ts (t ∷ new)) (sym h.was) (subst (λ ts. IsPermutation (h.before ++ t ∷ h.after) (t ∷ ts)) (sym h.is) (IsPermutation-middle h.before t h.after))
 
-pub first_left : (old new : List Timer) (t : Timer) → Goes 0 old new t → old ≡ t ∷ new
-first_left old new t h = h.was ∙ ap (λ l. l ++ t ∷ h.after) (h.first refl) ∙ ap (λ l. t ∷ l) (sym (h.is ∙ ap (λ l. l ++ h.after) (h.first refl)))
-
 -- a timer was put at another time
 pub MovesTo-both : (k time generation : ℕ) (old middle new : List Timer) (t : Timer) → Goes k old middle t → Comes middle new (moved t time generation) → MovesTo k old new t time generation
 MovesTo-both k time generation old middle new t g h = record { before = g.before; after = g.after; first = g.first; was = g.was; low = h.before; high = h.after; others = sym g.is ∙ h.was; is = h.is }
@@ -114,8 +111,3 @@ leads ts rest after t u e f = f ∙ ap (λ (v : Timer). v ∷ after) (sym (ap (�
 
 pub leads_same : (ts rest after : List Timer) (t u : Timer) → ts ≡ t ∷ rest → ts ≡ u ∷ after → u ≡ t
 leads_same ts rest after t u e f = sym (ap (λ xs. get_or xs 0 t) (sym e ∙ f))
-
--- the first timer and the others
-pub first_split : (ts : List Timer) (t : Timer) → 0 < length ts → t ≡ get_or ts 0 t → (rest : List Timer) × (ts ≡ t ∷ rest)
-first_split [] t lt e = absurd (omega arith)
-first_split (u ∷ ts) t lt e = (ts, ap (λ x. x ∷ ts) (sym e))

@@ -2,11 +2,8 @@ use Rattle.std.proofs.Common.{◌≡◌, ◌<◌, sym, ap, ◌∙◌, subst, len
 use Rattle.policy_queue.specs.Places.{slots_from}
 use Rattle.engine_cells.specs.Cells.{cell_at}
 use Rattle.engine_cells.specs.Looking.{is_settled_as}
-use Rattle.engine_cells.proofs.Settling.{seeks-start, seeks_has, seeks-one, seeks-less, seeks-found, seeks-none}
+use Rattle.engine_cells.proofs.Settling.{seeks_has, seeks-one, seeks-less, seeks-found}
 use Rattle.engine_cells.proofs.looking.first_settled.Goals as goal
-
-pub loop-next-init : goal.loop-next-init
-loop-next-init g c = seeks-start c.args.cells.now.slots c.args.queue.now.indices c.first-next.result c.first-next.ensures
 
 pub returns-then-is_settled_at-clause-found : goal.returns-then-is_settled_at-clause-found
 returns-then-is_settled_at-clause-found g c =
@@ -30,6 +27,3 @@ loop-next-preserved g c =
     let h = rw c.in-Some.is at c.loop-next.invariant in
     let off : is_settled_as (cell_at c.args.cells.now.slots c.in-Some.index) ≡ false = sym c.is_settled_at.ensures ∙ c.if-is_settled_at.false in
     seeks-one c.args.cells.now.slots c.args.queue.now.indices c.requires.apart c.requires.listed c.in-Some.index h c.behind-next.result off c.behind-next.ensures
-
-pub returns-clause-none : goal.returns-clause-none
-returns-clause-none g c = seeks-none c.args.cells.now.slots c.args.queue.now.indices (rw c.in_default.is at c.loop-next.invariant)

@@ -1,4 +1,4 @@
-use Rattle.std.proofs.Common.{◌≡◌, sym, ap, ◌∙◌, Some, None}
+use Rattle.std.proofs.Common.{◌≡◌, sym, ap, ◌∙◌, Some}
 use Rattle.std.proofs.lemmas.Option.{same_Some}
 use Rattle.engine_cells.specs.Cells.{cell_at}
 use Rattle.engine_cells.specs.Looking.{is_expired}
@@ -12,6 +12,3 @@ returns-in-Some-clause-due g c = λ due.
 pub returns-in-Some-clause-not : goal.returns-in-Some-clause-not
 returns-in-Some-clause-not g c = λ off x there.
     ap (λ y. is_expired c.args.now y) (same_Some _ _ (sym there ∙ sym c.in-Some.ensures)) ∙ sym c.is_expired.ensures ∙ off
-
-pub returns-in-None-clause-not : goal.returns-in-None-clause-not
-returns-in-None-clause-not g c = λ off x there. absurd (let e : None ≡ Some x = c.in-None.ensures ∙ there in cc)

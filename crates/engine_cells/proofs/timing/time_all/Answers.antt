@@ -1,12 +1,6 @@
 use Rattle.std.proofs.Common.{arith}
-use Rattle.engine_cells.proofs.Awaits.{timed-more, timed-whole}
+use Rattle.engine_cells.proofs.Awaits.{timed-whole}
 use Rattle.engine_cells.proofs.timing.time_all.Goals as goal
-
-pub loop-place-init : goal.loop-place-init
-loop-place-init g c = λ i x less there held. absurd (omega arith)
-
-pub loop-place-preserved : goal.loop-place-preserved
-loop-place-preserved g c = timed-more c.args.cells.now.slots c.loop-place.expirations c.time_place.new.expirations c.loop-place.place c.time_place.ensures.others c.time_place.ensures.whole c.time_place.ensures.set c.loop-place.invariant
 
 pub returns : goal.returns
 returns g c =

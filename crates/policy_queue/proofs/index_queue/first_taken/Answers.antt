@@ -4,9 +4,6 @@ use Rattle.std.proofs.lemmas.List.{get_or_default}
 use Rattle.policy_queue.specs.Indices.{vacant}
 use Rattle.policy_queue.proofs.index_queue.first_taken.Goals as goal
 
-pub returns-then-places-k-clause-first : goal.returns-then-places-k-clause-first
-returns-then-places-k-clause-first c = λ lt e. let less : c.loop-k.k < length c.args.places.now = omega arith in c.if-places-k.true (get_or_default c.args.places.now c.loop-k.k 0 vacant less ∙ e)
-
 pub loop-k-preserved : goal.loop-k-preserved
 loop-k-preserved c =
     let lt : c.loop-k.k < length c.args.places.now = omega arith in

@@ -1,5 +1,4 @@
 use Rattle.std.proofs.Common.{sym, ap, ◌∙◌}
-use Rattle.std.proofs.lemmas.Bool.{cond-false}
 use Rattle.policy_queue.specs.Queue.{head}
 use Rattle.policy_queue.proofs.Standing.{found_at, has_found, slots_behind, taken_behind, taken_head, off_next, off_last}
 use Rattle.policy_queue.proofs.places.cursor_leaving.Goals as goal
@@ -17,6 +16,3 @@ returns-in-Some g c = rw (c.in-At.is) (off_next c.args.region c.args.nodes.now c
 
 pub returns-in-None : goal.returns-in-None
 returns-in-None g c = rw (c.in-At.is) (off_last c.args.region c.args.nodes.now c.args.slots.now.indices c.args.id c.in-At.at c.args.last (found_at c.args.region c.args.nodes.now c.args.slots.now.indices c.args.id c.requires.taken c.requires.there) (sym c.is_same.ensures.test ∙ c.if-is_same.true) (sym c.in-None.ensures))
-
-pub returns-else-is_same : goal.returns-else-is_same
-returns-else-is_same g c = rw (c.in-At.is) (sym (cond-false _ _ _ (sym c.is_same.ensures.test ∙ c.if-is_same.false)))

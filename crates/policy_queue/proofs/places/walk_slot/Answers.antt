@@ -1,10 +1,7 @@
-use Rattle.std.proofs.Common.{refl, sym, ◌∙◌}
+use Rattle.std.proofs.Common.{sym, ◌∙◌}
 use Rattle.policy_queue.proofs.Live.{from_none}
-use Rattle.policy_queue.proofs.Standing.{from_head, found_at, has_found, nodes_from-here, not_some}
+use Rattle.policy_queue.proofs.Standing.{found_at, has_found, nodes_from-here, not_some}
 use Rattle.policy_queue.proofs.places.walk_slot.Goals as goal
-
-pub returns-in-Unstarted-clause-gives : goal.returns-in-Unstarted-clause-gives
-returns-in-Unstarted-clause-gives g c = rw (c.in-Unstarted.is, c.first.ensures, from_head c.args.slots.now.indices) refl
 
 pub returns-then-holds-clause-gives : goal.returns-then-holds-clause-gives
 returns-then-holds-clause-gives g c = rw (c.in-At.is) (sym (nodes_from-here c.args.region c.args.nodes.now c.args.slots.now.indices c.in-At.id (found_at c.args.region c.args.nodes.now c.args.slots.now.indices c.in-At.id c.requires (sym c.holds.ensures ∙ c.if-holds.true))))
@@ -14,6 +11,3 @@ returns-then-holds-clause-there g c = has_found c.args.region c.args.nodes.now c
 
 pub returns-else-holds-clause-gives : goal.returns-else-holds-clause-gives
 returns-else-holds-clause-gives g c = rw (c.in-At.is) (from_none c.in-At.id _ (not_some _ (sym c.holds.ensures ∙ c.if-holds.false)))
-
-pub returns-in-Done-clause-gives : goal.returns-in-Done-clause-gives
-returns-in-Done-clause-gives g c = rw (c.in-Done.is) refl

@@ -3,7 +3,7 @@ use Rattle.std.proofs.lemmas.List.{length-map, length_push}
 use Rattle.slab.specs.Entry.{value_of}
 use Rattle.engine_cells.specs.declared.cell_slab.Drawer.TheVariants as drawer
 use Rattle.engine_cells.specs.Drawers.{entry_of}
-use Rattle.engine_cells.proofs.Drawers.{full, before_end, next_not_taken, next_vacant, pushed, filled, filled_len, updated, added}
+use Rattle.engine_cells.proofs.Drawers.{full, before_end, next_not_taken, next_vacant, pushed, filled, filled_len, updated}
 use Rattle.engine_cells.proofs.cell_slab.CellSlab.insert_reserved.Goals as goal
 
 pub push_reserved-requires : goal.push_reserved-requires
@@ -19,9 +19,6 @@ invariant_of-self g c =
     let all = full _ _ _ c.self.invariant (omega arith) in
     let counted = c.self.invariant.sound.counted in
     rw c.push_reserved.ensures.items (pushed _ _ _ c.self.invariant c.args.value (omega arith) (omega arith))
-
-pub returns-then-key-len-clause-updates : goal.returns-then-key-len-clause-updates
-returns-then-key-len-clause-updates g c = rw (← c.self.view_is, c.push_reserved.ensures.items) (added _ _ _ c.self.invariant _ _ c.args.value (omega arith) refl refl)
 
 pub returns-then-key-len-clause-key_in_range : goal.returns-then-key-len-clause-key_in_range
 returns-then-key-len-clause-key_in_range g c =
@@ -39,9 +36,6 @@ returns-then-key-len-clause-slots g c =
     let long = length-map (map entry_of items) value_of ∙ length-map items entry_of in
     let longer = length-map (map entry_of (items ++ taken ∷ [])) value_of ∙ length-map (items ++ taken ∷ []) entry_of ∙ length_push items taken in
     rw (← c.self.view_is, c.push_reserved.ensures.items) (omega (arith, all, counted, long, longer))
-
-pub index_mut-requires : goal.index_mut-requires
-index_mut-requires g c = omega (arith, before_end _ _ _ c.self.invariant (λ e. omega arith))
 
 pub invariant_of-self-in-Vacant : goal.invariant_of-self-in-Vacant
 invariant_of-self-in-Vacant g c = rw c.replace.ensures.after (filled _ _ _ c.self.invariant c.index_mut.result.now _ c.args.value (λ e. omega arith) c.index_mut.ensures.value (sym c.replace.ensures.value ∙ c.in-Vacant.is))

@@ -1,5 +1,5 @@
 use Rattle.std.proofs.Common.{refl, sym, ◌∙◌, arith}
-use Rattle.policy_base.proofs.Sound.{full, before_end, next_not_taken, next_vacant, pushed, pushed_slots, filled, filled_len, updated, added}
+use Rattle.policy_base.proofs.Sound.{full, before_end, next_not_taken, next_vacant, pushed, pushed_slots, filled, filled_len, updated}
 use Rattle.policy_base.proofs.cells.Cells.insert_reserved.Goals as goal
 
 pub push_reserved-requires : goal.push_reserved-requires
@@ -16,18 +16,12 @@ invariant_of-self g c =
     let counted = c.self.invariant.sound.counted in
     rw c.push_reserved.ensures.items (pushed _ _ _ c.self.invariant c.args.first c.args.second (omega arith) (omega arith))
 
-pub returns-then-key-len-clause-updates : goal.returns-then-key-len-clause-updates
-returns-then-key-len-clause-updates g c = rw (← c.self.view_is, c.push_reserved.ensures.items) (added _ _ _ c.self.invariant _ _ c.args.first c.args.second (omega arith) refl refl)
-
 pub returns-then-key-len-clause-key_in_range : goal.returns-then-key-len-clause-key_in_range
 returns-then-key-len-clause-key_in_range g c =
     let room = rw (← c.self.view_is) at c.requires in
     let all = full _ _ _ c.self.invariant (omega arith) in
     let counted = c.self.invariant.sound.counted in
     omega arith
-
-pub index_mut-requires : goal.index_mut-requires
-index_mut-requires g c = omega (arith, before_end _ _ _ c.self.invariant (λ e. omega arith))
 
 pub invariant_of-self-in-Vacant : goal.invariant_of-self-in-Vacant
 invariant_of-self-in-Vacant g c = rw c.replace.ensures.after (filled _ _ _ c.self.invariant c.index_mut.result.now _ c.args.first c.args.second (λ e. omega arith) c.index_mut.ensures.value (sym c.replace.ensures.value ∙ c.in-Vacant.is))

@@ -3,23 +3,11 @@ use Rattle.policy_queue.proofs.Standing.{found_at, has_found, found-moved, nodes
 use Rattle.policy_queue.proofs.Queues.{IsQueue-moved}
 use Rattle.policy_queue.proofs.deque.Deque.move_to_back.Goals as goal
 
-pub holds-requires : goal.holds-requires
-holds-requires g c = c.self.invariant.taken
-
-pub cursor_leaving-self-inside-requires-clause-taken : goal.cursor_leaving-self-inside-requires-clause-taken
-cursor_leaving-self-inside-requires-clause-taken g c = c.self.invariant.taken
-
-pub cursor_leaving-self-inside-requires-clause-there : goal.cursor_leaving-self-inside-requires-clause-there
-cursor_leaving-self-inside-requires-clause-there g c = sym c.holds.ensures ∙ c.if-not-holds.false
-
 pub move_to_back-requires : goal.move_to_back-requires
 move_to_back-requires g c = has_found c.self.inside.region c.self.inside.nodes c.self.inside.slots.indices c.args.id (found_at c.self.inside.region c.self.inside.nodes c.self.inside.slots.indices c.args.id c.self.invariant.taken (sym c.holds.ensures ∙ c.if-not-holds.false))
 
 pub invariant_of-self : goal.invariant_of-self
 invariant_of-self g c = rw c.move_to_back.ensures (IsQueue-moved c.self.inside.region c.self.inside.slots c.self.inside.nodes c.self.inside.next_serial c.args.id c.self.invariant (found_at c.self.inside.region c.self.inside.nodes c.self.inside.slots.indices c.args.id c.self.invariant.taken (sym c.holds.ensures ∙ c.if-not-holds.false)))
-
-pub returns-clause-found : goal.returns-clause-found
-returns-clause-found g c = (λ _. rw (← c.self.view_is) (sym c.holds.ensures ∙ c.if-not-holds.false), λ _. refl)
 
 pub returns-clause-moves : goal.returns-clause-moves
 returns-clause-moves g c =

@@ -7,12 +7,6 @@ use Rattle.policy_queue.specs.Queue.{head, tail, cursor_at, cursor_past}
 use Rattle.policy_queue.proofs.Standing.{taken_has, taken_from, taken_tail, from_has, head_element, cursor_head, cursor_past-slot, at_cursor, first_there}
 use Rattle.policy_queue.proofs.deque.Deque.next.Goals as goal
 
-pub walk_slot-requires : goal.walk_slot-requires
-walk_slot-requires g c = c.self.invariant.taken
-
-pub behind-requires : goal.behind-requires
-behind-requires g c = c.in-Some.ensures.there
-
 pub cursor_to-self-inside-requires : goal.cursor_to-self-inside-requires
 cursor_to-self-inside-requires g c = first_there c.self.inside.nodes _ c.behind.result c.behind.ensures (taken_tail c.self.inside.nodes _ (taken_from c.self.inside.nodes c.in-Some.slot c.self.inside.slots.indices c.self.invariant.taken))
 

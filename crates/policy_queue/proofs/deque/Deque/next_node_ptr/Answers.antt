@@ -1,7 +1,7 @@
 use Rattle.std.proofs.Common.{sym, ap, ◌∙◌, is_some, option_map}
 use Rattle.policy_queue.specs.declared.places.Node.{Node}
 use Rattle.policy_queue.specs.Queue.{head}
-use Rattle.policy_queue.proofs.Standing.{found_at, found, has_found, found-behind, slots_behind, taken_behind, taken_head, head_id, nodes_none, not_some}
+use Rattle.policy_queue.proofs.Standing.{found_at, found, has_found, found-behind, slots_behind, taken_behind, taken_head, head_id, nodes_none}
 use Rattle.policy_queue.proofs.deque.Deque.next_node_ptr.Goals as goal
 
 pub behind-requires : goal.behind-requires
@@ -11,9 +11,6 @@ pub id_of-requires : goal.id_of-requires
 id_of-requires g c =
     let f = found_at c.self.inside.region c.self.inside.nodes c.self.inside.slots.indices c.args.id c.self.invariant.taken (sym c.holds.ensures ∙ c.if-not-holds.false) in
     taken_head c.self.inside.nodes f.behind c.in-Some.slot (taken_behind c.self.inside.region c.self.inside.nodes c.self.inside.slots.indices c.args.id f c.self.invariant.taken) (ap head (sym (slots_behind c.self.inside.region c.self.inside.nodes c.self.inside.slots.indices c.args.id f)) ∙ sym c.in-Some.ensures)
-
-pub returns-then-not-holds : goal.returns-then-not-holds
-returns-then-not-holds g c = rw (← c.self.view_is) (not_some _ (sym c.holds.ensures ∙ c.if-not-holds.true))
 
 pub returns-in-Some : goal.returns-in-Some
 returns-in-Some g c =

@@ -3,23 +3,8 @@ use Rattle.std.proofs.lemmas.Bool.{true≢false}
 use Rattle.slab.specs.Slab.{slab_len}
 use Rattle.policy_queue.specs.Places.{node_of}
 use Rattle.policy_queue.proofs.Standing.{stale_lacked, lacks_vacant}
-use Rattle.policy_queue.proofs.Queues.{IsQueue-room, Stays-room, push_new, push_bound, nodes_come, nodes_kept, IsQueue-pushed}
+use Rattle.policy_queue.proofs.Queues.{IsQueue-room, push_new, push_bound, nodes_come, nodes_kept, IsQueue-pushed}
 use Rattle.policy_queue.proofs.deque.Deque.push_back.Goals as goal
-
-pub returns-then-self-clause-had_room : goal.returns-then-self-clause-had_room
-returns-then-self-clause-had_room g c = λ h. let h' = rw (← c.self.view_is) at h in absurd (omega arith)
-
-pub returns-then-self-clause-used_up : goal.returns-then-self-clause-used_up
-returns-then-self-clause-used_up g c = λ _. refl
-
-pub returns-then-self-clause-stays : goal.returns-then-self-clause-stays
-returns-then-self-clause-stays g c = record { same = refl; room = omega arith }
-
-pub returns-then-self-clause-handed_back : goal.returns-then-self-clause-handed_back
-returns-then-self-clause-handed_back g c = refl
-
-pub returns-then-self-clause-why : goal.returns-then-self-clause-why
-returns-then-self-clause-why g c = rw (← c.self.view_is) (omega arith)
 
 pub invariant_of-self : goal.invariant_of-self
 invariant_of-self g c = IsQueue-room c.self.inside.region c.self.inside.slots c.make_room.new.slots c.self.inside.nodes c.make_room.new.nodes c.self.inside.next_serial c.make_room.ensures.slots c.make_room.ensures.kept c.self.invariant
@@ -28,18 +13,6 @@ pub returns-in-Err-clause-had_room : goal.returns-in-Err-clause-had_room
 returns-in-Err-clause-had_room g c = λ h.
     let h' = rw (← c.self.view_is) at h in
     absurd (true≢false (sym (c.make_room.ensures.had_room (omega arith) (omega arith) (omega arith)) ∙ ap is_ok c.in-Err.is))
-
-pub returns-in-Err-clause-used_up : goal.returns-in-Err-clause-used_up
-returns-in-Err-clause-used_up g c = λ _. refl
-
-pub returns-in-Err-clause-stays : goal.returns-in-Err-clause-stays
-returns-in-Err-clause-stays g c = rw (← c.self.view_is) (Stays-room c.self.inside.region c.self.inside.slots c.make_room.new.slots c.self.inside.nodes c.make_room.new.nodes c.self.inside.next_serial c.make_room.ensures.slots c.make_room.ensures.kept c.self.inside.cursor c.make_room.ensures.cells)
-
-pub returns-in-Err-clause-handed_back : goal.returns-in-Err-clause-handed_back
-returns-in-Err-clause-handed_back g c = refl
-
-pub insert_reserved-slot-requires : goal.insert_reserved-slot-requires
-insert_reserved-slot-requires g c = c.in-Ok.ensures.room.0
 
 pub push_back-requires-clause-new : goal.push_back-requires-clause-new
 push_back-requires-clause-new g c =
@@ -54,12 +27,6 @@ push_back-requires-clause-bound g c =
     let more = c.in-Ok.ensures.room in
     let room : slab_len c.make_room.new.nodes + 1 ≤ c.make_room.new.slots.bound = omega arith in
     push_bound c.self.inside.region c.make_room.new.slots c.make_room.new.nodes c.insert_reserved-slot.new.self c.insert_reserved-slot.result c.self.inside.next_serial c.args.element (IsQueue-room c.self.inside.region c.self.inside.slots c.make_room.new.slots c.self.inside.nodes c.make_room.new.nodes c.self.inside.next_serial c.make_room.ensures.slots c.make_room.ensures.kept c.self.invariant) c.insert_reserved-slot.ensures.was_vacant c.insert_reserved-slot.ensures.updates c.insert_reserved-slot.ensures.len c.insert_reserved-slot.ensures.slots room
-
-pub push_back-requires-clause-room : goal.push_back-requires-clause-room
-push_back-requires-clause-room g c = let more = c.in-Ok.ensures.room in omega arith
-
-pub overflow_add-self : goal.overflow_add-self
-overflow_add-self g c = omega arith
 
 pub invariant_of-self-2 : goal.invariant_of-self-2
 invariant_of-self-2 g c =
@@ -90,9 +57,3 @@ returns-clause-pushes g c =
           let gains = c.make_room.ensures.slots in
           rw c.push_back.ensures (omega arith);
     })
-
-pub returns-clause-had_room : goal.returns-clause-had_room
-returns-clause-had_room g c = λ _. refl
-
-pub returns-clause-used_up : goal.returns-clause-used_up
-returns-clause-used_up g c = λ h. let h' = rw (← c.self.view_is) at h in absurd (omega arith)

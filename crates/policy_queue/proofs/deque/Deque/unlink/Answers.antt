@@ -1,18 +1,9 @@
 use Rattle.std.proofs.Common.{◌≡◌, refl, sym, ap, ◌∙◌, option_map, Some, arith}
 use Rattle.std.proofs.lemmas.Option.{same_Some}
 use Rattle.policy_queue.specs.declared.places.Node.{Node}
-use Rattle.policy_queue.proofs.Standing.{found_at, found, found-without, has_found, found_there, nodes_left, off_leaving, not_some}
+use Rattle.policy_queue.proofs.Standing.{found_at, found, found-without, has_found, found_there, nodes_left, off_leaving}
 use Rattle.policy_queue.proofs.Queues.{IsQueue-left}
 use Rattle.policy_queue.proofs.deque.Deque.unlink.Goals as goal
-
-pub holds-requires : goal.holds-requires
-holds-requires g c = c.self.invariant.taken
-
-pub cursor_leaving-self-inside-requires-clause-taken : goal.cursor_leaving-self-inside-requires-clause-taken
-cursor_leaving-self-inside-requires-clause-taken g c = c.self.invariant.taken
-
-pub cursor_leaving-self-inside-requires-clause-there : goal.cursor_leaving-self-inside-requires-clause-there
-cursor_leaving-self-inside-requires-clause-there g c = sym c.holds.ensures ∙ c.if-not-holds.false
 
 pub remove-requires : goal.remove-requires
 remove-requires g c = has_found c.self.inside.region c.self.inside.nodes c.self.inside.slots.indices c.args.id (found_at c.self.inside.region c.self.inside.nodes c.self.inside.slots.indices c.args.id c.self.invariant.taken (sym c.holds.ensures ∙ c.if-not-holds.false))
@@ -22,9 +13,6 @@ remove-element-requires g c = found_there c.self.inside.region c.self.inside.nod
 
 pub invariant_of-self : goal.invariant_of-self
 invariant_of-self g c = rw c.remove.ensures (IsQueue-left c.self.inside.region c.self.inside.slots c.self.inside.nodes c.self.inside.next_serial c.args.id c.self.invariant (found_at c.self.inside.region c.self.inside.nodes c.self.inside.slots.indices c.args.id c.self.invariant.taken (sym c.holds.ensures ∙ c.if-not-holds.false)) c.remove-element.new.self _ c.remove-element.ensures.updates c.remove-element.ensures.len c.remove-element.ensures.slots)
-
-pub returns-then-not-holds-clause-value : goal.returns-then-not-holds-clause-value
-returns-then-not-holds-clause-value g c = rw (← c.self.view_is) (not_some _ (sym c.holds.ensures ∙ c.if-not-holds.true))
 
 pub returns-clause-value : goal.returns-clause-value
 returns-clause-value g c =

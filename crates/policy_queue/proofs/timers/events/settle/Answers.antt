@@ -6,12 +6,6 @@ use Rattle.policy_queue.specs.Timers.Timers.{moved}
 use Rattle.policy_queue.proofs.timers.Wheels.{leads, leads_same}
 use Rattle.policy_queue.proofs.timers.events.settle.Goals as goal
 
-pub pop_first-requires : goal.pop_first-requires
-pop_first-requires g c = rw c.requires.there.1 (omega arith)
-
-pub move_first-requires : goal.move_first-requires
-move_first-requires g c = rw c.requires.there.1 (omega arith)
-
 pub returns-then-as_nanos-clause-event : goal.returns-then-as_nanos-clause-event
 returns-then-as_nanos-clause-event g c =
     let ts = c.args.wheel.now.timers in
@@ -25,12 +19,6 @@ returns-then-as_nanos-clause-event g c =
       reached = omega arith;
       placed = c.requires.placed;
     }
-
-pub returns-then-as_nanos-clause-keeps : goal.returns-then-as_nanos-clause-keeps
-returns-then-as_nanos-clause-keeps g c = c.pop_first.ensures.keeps
-
-pub returns-then-as_nanos-clause-entries : goal.returns-then-as_nanos-clause-entries
-returns-then-as_nanos-clause-entries g c = c.forget_timer.ensures
 
 pub returns-else-as_nanos-clause-event : goal.returns-else-as_nanos-clause-event
 returns-else-as_nanos-clause-event g c =
@@ -46,9 +34,3 @@ returns-else-as_nanos-clause-event g c =
       placed = c.requires.placed;
       moves = subst (λ (u : Timer). IsPermutation (moved u c.args.due.time c.args.due.expiry_gen ∷ m.1) c.move_first.new.self.timers) (leads_same ts c.requires.there.0 m.1 c.args.timer m.0 c.requires.there.1 m.2) m.3;
     }
-
-pub returns-else-as_nanos-clause-keeps : goal.returns-else-as_nanos-clause-keeps
-returns-else-as_nanos-clause-keeps g c = c.move_first.ensures.keeps
-
-pub returns-else-as_nanos-clause-entries : goal.returns-else-as_nanos-clause-entries
-returns-else-as_nanos-clause-entries g c = refl

@@ -1,7 +1,7 @@
 use Rattle.std.proofs.Common.{refl, arith}
 use Rattle.policy_queue.specs.Timers.Places.{taken}
 use Rattle.policy_queue.proofs.timers.Wheels.{below_left, one_fewer, permutes_left}
-use Rattle.policy_queue.proofs.timers.Comings.{named_taken, named_id}
+use Rattle.policy_queue.proofs.timers.Comings.{named_id}
 use Rattle.policy_queue.proofs.timers.wheel.TimerWheel.deschedule.Goals as goal
 
 pub invariant_of-self : goal.invariant_of-self
@@ -19,21 +19,6 @@ returns-in-Some-clause-leaves g c =
       recorded = refl;
       timers = permutes_left c.in-Some.k (taken c.self.inside.row.places) (taken c.take-timer.new.row.places) t c.take-timer.ensures.goes;
     })
-
-pub find-requires : goal.find-requires
-find-requires g c = c.self.invariant.arranged
-
-pub take-timer-requires-clause-arranged : goal.take-timer-requires-clause-arranged
-take-timer-requires-clause-arranged g c = c.self.invariant.arranged
-
-pub take-timer-requires-clause-taken : goal.take-timer-requires-clause-taken
-take-timer-requires-clause-taken g c = named_taken c.self.inside.row.places c.args.id c.in-Some.k c.in-Some.ensures
-
-pub returns-in-None-clause-stale : goal.returns-in-None-clause-stale
-returns-in-None-clause-stale g c = rw (← c.self.view_is) c.in-None.ensures
-
-pub returns-in-None-clause-unchanged : goal.returns-in-None-clause-unchanged
-returns-in-None-clause-unchanged g c = refl
 
 pub returns-in-Some-clause-keeps : goal.returns-in-Some-clause-keeps
 returns-in-Some-clause-keeps g c =

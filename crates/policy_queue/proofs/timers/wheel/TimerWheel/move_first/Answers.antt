@@ -1,14 +1,7 @@
 use Rattle.std.proofs.Common.{◌++◌, refl, arith}
 use Rattle.policy_queue.specs.Timers.Places.{taken}
-use Rattle.policy_queue.proofs.timers.Comings.{first_is}
 use Rattle.policy_queue.proofs.timers.Wheels.{below_moved, as_many, first_moved, permutes_to}
 use Rattle.policy_queue.proofs.timers.wheel.TimerWheel.move_first.Goals as goal
-
-pub move_timer-requires-clause-taken : goal.move_timer-requires-clause-taken
-move_timer-requires-clause-taken g c = (first_is c.self.inside.row.places c.in-Some.field-0 c.in-Some.ensures.0).0
-
-pub move_timer-requires-clause-arranged : goal.move_timer-requires-clause-arranged
-move_timer-requires-clause-arranged g c = c.self.invariant.arranged
 
 pub invariant_of-self : goal.invariant_of-self
 invariant_of-self g c =

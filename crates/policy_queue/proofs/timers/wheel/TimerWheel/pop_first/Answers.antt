@@ -1,23 +1,13 @@
 use Rattle.std.proofs.Common.{refl, arith}
 use Rattle.policy_queue.specs.Timers.Places.{taken}
-use Rattle.policy_queue.proofs.timers.Comings.{first_is}
-use Rattle.policy_queue.proofs.timers.Wheels.{below_left, one_fewer, first_left}
+use Rattle.policy_queue.proofs.timers.Wheels.{below_left, one_fewer}
 use Rattle.policy_queue.proofs.timers.wheel.TimerWheel.pop_first.Goals as goal
-
-pub take-timer-requires-clause-taken : goal.take-timer-requires-clause-taken
-take-timer-requires-clause-taken g c = (first_is c.self.inside.row.places c.in-Some.field-0 c.in-Some.ensures.0).0
-
-pub take-timer-requires-clause-arranged : goal.take-timer-requires-clause-arranged
-take-timer-requires-clause-arranged g c = c.self.invariant.arranged
 
 pub invariant_of-self : goal.invariant_of-self
 invariant_of-self g c = record {
   arranged = c.take-timer.ensures.arranged;
   below = below_left c.self.inside.next_serial 0 (taken c.self.inside.row.places) (taken c.take-timer.new.row.places) c.take-timer.result c.take-timer.ensures.goes c.self.invariant.below;
 }
-
-pub returns-clause-first : goal.returns-clause-first
-returns-clause-first g c = rw (← c.self.view_is) (c.take-timer.result, first_left (taken c.self.inside.row.places) (taken c.take-timer.new.row.places) c.take-timer.result c.take-timer.ensures.goes)
 
 pub returns-clause-keeps : goal.returns-clause-keeps
 returns-clause-keeps g c =

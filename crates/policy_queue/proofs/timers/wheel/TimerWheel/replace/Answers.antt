@@ -1,7 +1,7 @@
 use Rattle.std.proofs.Common.{◌++◌, refl, arith}
 use Rattle.policy_queue.specs.Timers.Places.{taken}
 use Rattle.policy_queue.proofs.timers.Wheels.{below_moved, as_many, permutes_from, permutes_to}
-use Rattle.policy_queue.proofs.timers.Comings.{named_taken, named_id}
+use Rattle.policy_queue.proofs.timers.Comings.{named_id}
 use Rattle.policy_queue.proofs.timers.wheel.TimerWheel.replace.Goals as goal
 
 pub invariant_of-self : goal.invariant_of-self
@@ -12,21 +12,6 @@ invariant_of-self g c =
       arranged = c.move_timer.ensures.arranged;
       below = below_moved c.self.inside.next_serial c.in-Some.k due.time due.expiry_gen (taken c.self.inside.row.places) (taken c.move_timer.new.row.places) m.0 m.2 c.self.invariant.below;
     }
-
-pub find-requires : goal.find-requires
-find-requires g c = c.self.invariant.arranged
-
-pub move_timer-requires-clause-arranged : goal.move_timer-requires-clause-arranged
-move_timer-requires-clause-arranged g c = c.self.invariant.arranged
-
-pub move_timer-requires-clause-taken : goal.move_timer-requires-clause-taken
-move_timer-requires-clause-taken g c = named_taken c.self.inside.row.places c.args.id c.in-Some.k c.in-Some.ensures
-
-pub returns-in-None-clause-stale : goal.returns-in-None-clause-stale
-returns-in-None-clause-stale g c = rw (← c.self.view_is) c.in-None.ensures
-
-pub returns-in-None-clause-unchanged : goal.returns-in-None-clause-unchanged
-returns-in-None-clause-unchanged g c = refl
 
 pub returns-in-Some-clause-replaces : goal.returns-in-Some-clause-replaces
 returns-in-Some-clause-replaces g c =

@@ -3,7 +3,7 @@ use Rattle.policy_queue.specs.Timers.Entries.{due_of}
 use Rattle.policy_queue.specs.declared.timers.array.Timer.{Timer}
 use Rattle.policy_queue.specs.Timers.Places.{taken}
 use Rattle.policy_queue.proofs.timers.Wheels.{below_left, below_moved, one_fewer, as_many, permutes_left, permutes_from, permutes_to}
-use Rattle.policy_queue.proofs.timers.Comings.{named_taken, named_id, same_timer}
+use Rattle.policy_queue.proofs.timers.Comings.{named_id, same_timer}
 use Rattle.policy_queue.proofs.timers.wheel.TimerWheel.reschedule.Goals as goal
 
 pub invariant_of-self : goal.invariant_of-self
@@ -55,30 +55,6 @@ returns-in-Some-due_of-clause-rescheduled g c =
       is_due = ap (λ (u : Timer). due_of c.args.entries.now u.node.entry_info) (sym same) ∙ sym c.due_of.ensures ∙ c.in-Some-due_of.is;
       after = permutes_to k due.time due.expiry_gen (taken ps) new t m.2;
     })
-
-pub find-requires : goal.find-requires
-find-requires g c = c.self.invariant.arranged
-
-pub at-requires : goal.at-requires
-at-requires g c = c.in-Some.ensures.0
-
-pub take-timer-requires-clause-arranged : goal.take-timer-requires-clause-arranged
-take-timer-requires-clause-arranged g c = c.self.invariant.arranged
-
-pub take-timer-requires-clause-taken : goal.take-timer-requires-clause-taken
-take-timer-requires-clause-taken g c = named_taken c.self.inside.row.places c.args.id c.in-Some.k c.in-Some.ensures
-
-pub move_timer-requires-clause-arranged : goal.move_timer-requires-clause-arranged
-move_timer-requires-clause-arranged g c = c.self.invariant.arranged
-
-pub move_timer-requires-clause-taken : goal.move_timer-requires-clause-taken
-move_timer-requires-clause-taken g c = named_taken c.self.inside.row.places c.args.id c.in-Some.k c.in-Some.ensures
-
-pub returns-in-None-clause-stale : goal.returns-in-None-clause-stale
-returns-in-None-clause-stale g c = rw (← c.self.view_is) c.in-None.ensures
-
-pub returns-in-None-clause-unchanged : goal.returns-in-None-clause-unchanged
-returns-in-None-clause-unchanged g c = refl
 
 pub returns-in-None-due_of-clause-keeps : goal.returns-in-None-due_of-clause-keeps
 returns-in-None-due_of-clause-keeps g c =
