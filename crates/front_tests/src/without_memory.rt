@@ -4,10 +4,13 @@
 //! A test asks for a block of a size that nothing else asks for, `BEGINS`, and at the end for one of
 //! another, `ENDS`. `tools/refuse_allocations.py --between` refuses whatever is asked for from the
 //! one to the other. Otherwise these are requests as any.
+ghost use Rattle.std.specs.Prelude.{◌≡◌};
+
 use crate::playing::{Call, Form, Numbers, ONE, empty_cache, wrong_call};
 use engine_reference::RemovalCause;
 use moka::{CacheBuilder, CacheError, CacheState, Instant, Iter, Shared, StdHasher, next_call};
-use std::alloc::Global;
+use std::alloc::{AllocError, Global};
+use std::marker::Model;
 
 const BEGINS: usize = 20_011;
 
@@ -69,10 +72,32 @@ fn runs_looks_and_clears(rt: HostRuntime) {
     assert_eq!(rt; wrong_row_of(rt.alloc()), None);
 }
 
-/// Texts, whose clones take memory.
-type Texts = CacheState<u64, String>;
+/// Bytes, whose clones take memory.
+#[derive(Drop)]
+struct Text {
+    bytes: Vec<u8>,
+}
 
-type Given<'a> = Iter<'a, Shared<u64>, String, Texts>;
+impl Model for Text {
+    ghost use Rattle.std.specs.Prelude.{List, ℕ};
+
+    ghost Value = { List ℕ };
+
+    ghost view = { λ text. text.bytes.items };
+}
+
+impl Clone for Text {
+    ghost is_clone = { λ old made. made ≡ old };
+
+    fn clone(&self) -> Result<Text, AllocError> {
+        let bytes = self.bytes.clone()?;
+        Ok(Text { bytes })
+    }
+}
+
+type Texts = CacheState<u64, Text>;
+
+type Given<'a> = Iter<'a, Shared<u64>, Text, Texts>;
 
 fn new_texts(alloc: Global) -> Option<Texts> {
     CacheBuilder::default()
@@ -81,9 +106,9 @@ fn new_texts(alloc: Global) -> Option<Texts> {
 }
 
 fn try_insert(alloc: Global, texts: &mut Texts, key: u64) -> Result<(), CacheError> {
-    let text = String::from_str(alloc, "a text of some length")?;
+    let bytes = vec![in alloc; 7u8; 20]?;
     let at = next_call(texts, Instant::from_nanos(0))?;
-    texts.insert(key, text, at)
+    texts.insert(key, Text { bytes }, at)
 }
 
 /// Adds three texts, each on the second attempt if memory is refused.
