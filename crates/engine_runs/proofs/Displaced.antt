@@ -1,5 +1,5 @@
 -- Records that go for a newcomer, one after another, and then its write.
-use Rattle.std.proofs.Common.{◌≡◌, refl, ap, sym, ◌∙◌, ℕ, zero, suc, ◌-◌, ◌<◌, arith, true, false, true≢false, eqb, Bool, cond, length, List, [], ◌∷◌, Option, Some, None, is_some}
+use Rattle.std.proofs.Common.{◌≡◌, refl, ap, sym, ◌∙◌, ℕ, zero, suc, ◌-◌, ◌<◌, arith, true, true≢false, eqb, cond, length, List, [], ◌∷◌, Option, Some, None, is_some}
 use Rattle.std.specs.Prelude.{slice_set, slice_index_or}
 use Rattle.std.specs.Option.{option_and_then}
 use Rattle.std.proofs.lemmas.Bool.{ne_eqb, and_parts}
@@ -16,6 +16,7 @@ use Rattle.engine_reference.proofs.Unapplied.{record_at-without}
 use Rattle.engine_cells.specs.Kept.{Kept, kept_at, numbered_at, is_admitted_as}
 use Rattle.engine_runs.specs.Displacing.{without_victims, front_of, displaced, KeepsUncounted, GivesWay}
 use Rattle.engine_runs.proofs.Contests.{kept-number}
+use Rattle.engine_runs.proofs.SweepingStretching.{fewer}
 
 -- another place has the number that it had
 numbered-other : (ns : List (Option ℕ)) (i j : ℕ) → (j ≡ i → ⊥) → slice_index_or (slice_set ns i None) j None ≡ slice_index_or ns j None
@@ -24,15 +25,6 @@ numbered-other (n ∷ ns) zero zero other = absurd (other refl)
 numbered-other (n ∷ ns) zero (suc j) other = refl
 numbered-other (n ∷ ns) (suc i) zero other = refl
 numbered-other (n ∷ ns) (suc i) (suc j) other = numbered-other ns i j (λ e. other (ap suc e))
-
-module _ {K V : Type 0} where
-  fewer-without : (n : ℕ) (rs : List (Record K V)) (r : Record K V) → record_at rs n ≡ Some r → length (without_record n rs) < length rs
-  fewer-without n [] r h = absurd (cc)
-  fewer-without n (x ∷ rs) r h = go (eqb x.number n) h (fewer-without n rs r)
-    where
-      go : (b : Bool) → cond b (Some x) (record_at rs n) ≡ Some r → (record_at rs n ≡ Some r → length (without_record n rs) < length rs) → length (cond b rs (x ∷ without_record n rs)) < length (x ∷ rs)
-      go true e later = omega arith
-      go false e later = let l = later e in omega arith
 
 module _ {K V P S R : Type 0} where
   -- the tables once a record left its place
@@ -102,4 +94,4 @@ module _ {K V P S R : Type 0} where
   put_off-at s u n same = ap (λ m. record s { records = changed_at m (λ x. record x { applied = u.write }) s.records }) same
 
   pub fewer-place : (t : Kept K V P S R) (place : ℕ) (r : Record K V) → kept_at t place ≡ Some r → length (without_place t place r).state.records < length t.state.records
-  fewer-place t place r there = fewer-without r.number t.state.records r (kept-number t.state.records (numbered_at t.numbers place) r there)
+  fewer-place t place r there = fewer r.number t.state.records r (kept-number t.state.records (numbered_at t.numbers place) r there)

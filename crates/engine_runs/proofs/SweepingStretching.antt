@@ -12,7 +12,7 @@ use Rattle.engine_reference.specs.declared.data.Record.{Record}
 use Rattle.engine_reference.specs.declared.data.Settings.{Settings}
 use Rattle.engine_reference.specs.Admission.{is_above, wants_table}
 use Rattle.engine_reference.specs.Records.{record_at, without_record, admitted_number, admitted_weight, weight_at, admitted_in, with_admitted}
-use Rattle.engine_reference.specs.Runs.{Step, Steps, leaves, evicts, RunsToEnd, IsDone, IsApplied, IsSwept, lacks_table, is_due_for, left, with_left, first_of}
+use Rattle.engine_reference.specs.Runs.{Step, Steps, leaves, evicts, RunsToEnd, IsDone, IsApplied, IsSwept, lacks_table, is_due_for, left, with_left, first_of, is_later_tick}
 use Rattle.engine_reference.specs.Soundness.{Each, IsSound, IsAccounted}
 use Rattle.engine_reference.specs.State.{State, Answers}
 use Rattle.engine_reference.specs.Times.{tick_of}
@@ -23,7 +23,7 @@ use Rattle.engine_cells.specs.Stretches.{Stretch, StepsFor}
 use Rattle.engine_runs.specs.Stretches.{KeepsRest}
 
 module _ {K V : Type 0} where
-  fewer : (n : ℕ) (rs : List (Record K V)) (r : Record K V) → record_at rs n ≡ Some r → length (without_record n rs) < length rs
+  pub fewer : (n : ℕ) (rs : List (Record K V)) (r : Record K V) → record_at rs n ≡ Some r → length (without_record n rs) < length rs
   fewer n [] r h = absurd (cc)
   fewer n (x ∷ rs) r h = go (eqb x.number n) h (fewer n rs r)
     where
@@ -81,6 +81,9 @@ module _ {K V P S R : Type 0} where
 
   pub rest-start : (s : State K V P S R) → KeepsRest s s
   rest-start s = record { predicates = refl; unsent = refl; ran = refl; settings = refl; table = λ h. h; sound = λ h. h }
+
+  pub later-alike : (old new : State K V P S R) (now : ℕ) → KeepsRest old new → is_later_tick old now ≡ is_later_tick new now
+  later-alike old new now h = ap (λ n. nat_lt (tick_of old.settings n) (tick_of old.settings now)) (sym h.ran) ∙ ap (λ t. nat_lt (tick_of t new.ran) (tick_of t now)) (sym h.settings)
 
   pub rest-more : (old mid new : State K V P S R) → KeepsRest old mid → KeepsRest mid new → KeepsRest old new
   rest-more old mid new h k = record { predicates = k.predicates ∙ h.predicates; unsent = k.unsent ∙ h.unsent; ran = k.ran ∙ h.ran; settings = k.settings ∙ h.settings; table = λ x. k.table (h.table x); sound = λ x. k.sound (h.sound x) }

@@ -1,5 +1,5 @@
 -- What a run sees at the fronts of its lists.
-use Rattle.std.specs.Prelude.{◌≡◌, ℕ, Bool, nat_lt, true, false, not, ◌&&◌, if◌then◌else◌, [], Option, Some, None}
+use Rattle.std.specs.Prelude.{◌≡◌, ℕ, nat_lt, true, not, ◌&&◌, if◌then◌else◌, [], Option, Some, None}
 use Rattle.engine_reference.specs.declared.rules.causes.RemovalCause.{RemovalCause}
 use Rattle.engine_reference.specs.declared.rules.causes.RemovalCause.TheVariants as cause
 use Rattle.engine_reference.specs.declared.data.Record.{Record}

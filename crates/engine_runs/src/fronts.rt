@@ -115,7 +115,7 @@ fn tick_at(settings: &Settings, moment: u64) -> u64
 }
 
 /// Whether a run is in a later tick than the last one was.
-fn is_in_later_tick<K: Eq + Hash, V, S: BuildHasher, R: Rules<K, V>>(
+pub fn is_in_later_tick<K: Eq + Hash, V, S: BuildHasher, R: Rules<K, V>>(
     tables: &Tables<K, V, S, R>,
     now: u64,
 ) -> bool
@@ -129,12 +129,14 @@ fn is_in_later_tick<K: Eq + Hash, V, S: BuildHasher, R: Rules<K, V>>(
 fn timer_leaving<K: Eq + Hash, V, S: BuildHasher, R: Rules<K, V>>(
     tables: &Tables<K, V, S, R>,
     now: u64,
+    is_later: bool,
 ) -> Option<(usize, RemovalCause)>
+    requires { is_later ≡ is_later_tick tables.now.state now }
     ensures found { IfSome result (λ due. (r : Record K V) × (kept_at tables.now due.0 ≡ Some r)
         × MayLeave tables.now.state now r due.1) }
     ensures none { IfNone result (IsTimerClean now tables.now.state) }
 {
-    if !is_in_later_tick(tables, now) {
+    if !is_later {
         return None;
     }
     match tables.first_due(now) {
@@ -167,8 +169,10 @@ fn excess_leaving<K: Eq + Hash, V, S: BuildHasher, R: Rules<K, V>>(
 pub fn next_leaving<K: Eq + Hash, V, S: BuildHasher, R: Rules<K, V>>(
     tables: &Tables<K, V, S, R>,
     now: u64,
+    is_later: bool,
 ) -> Option<(usize, RemovalCause)>
-    requires { tables.now.state.predicates ≡ [] }
+    requires predicates { tables.now.state.predicates ≡ [] }
+    requires later { is_later ≡ is_later_tick tables.now.state now }
     ensures found { IfSome result (λ due. (r : Record K V) × (kept_at tables.now due.0 ≡ Some r)
         × MayLeave tables.now.state now r due.1) }
     ensures none { IfNone result (IsClean now tables.now.state) }
@@ -179,7 +183,7 @@ pub fn next_leaving<K: Eq + Hash, V, S: BuildHasher, R: Rules<K, V>>(
     if let Some(found) = used_leaving(tables, now) {
         return Some(found);
     }
-    if let Some(found) = timer_leaving(tables, now) {
+    if let Some(found) = timer_leaving(tables, now, is_later) {
         return Some(found);
     }
     if let Some(found) = excess_leaving(tables, now) {

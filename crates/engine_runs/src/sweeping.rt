@@ -9,7 +9,7 @@ ghost use Rattle.engine_runs.specs.Fronts.{MayLeave, IsClean};
 ghost use Rattle.engine_cells.specs.Stretches.{Stretch, StepsFor};
 ghost use Rattle.engine_runs.specs.Stretches.{KeepsRest};
 
-use crate::fronts::next_leaving;
+use crate::fronts::{is_in_later_tick, next_leaving};
 use engine_reference::{RemovalCause, Rules};
 use engine_tables::Tables;
 use std::hash::{BuildHasher, Hash};
@@ -47,7 +47,8 @@ pub fn sweep<K: Eq + Hash + Drop, V: Drop, S: BuildHasher, R: Rules<K, V>>(
     ensures rest { KeepsRest tables.old.state tables.new.state }
     ensures clean { IsClean now tables.new.state }
 {
-    while let Some((place, cause)) = next_leaving(tables, now) {
+    let is_later = is_in_later_tick(tables, now);
+    while let Some((place, cause)) = next_leaving(tables, now, is_later) {
         leave_for(tables, place, cause, now);
     }
 }

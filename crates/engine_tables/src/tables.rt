@@ -1,6 +1,7 @@
 //! The tables.
 ghost use Rattle.std.specs.Prelude.{◌≡◌, ℕ, ◌+◌, ◌-◌, ◌<◌, ◌≤◌, ◌^◌, min, true, false, [], ◌∷◌, ◌⊎◌, ◌++◌, length, remove, slice_get, slice_set, is_some, Some, None, IfSome, IfNone, IfOk, OnOk, OnErr, ◌↔◌, option_copied, if◌then◌else◌, ◌≢◌, option_map};
 ghost use Rattle.std.specs.String.{string_bytes};
+ghost use Rattle.policy_queue.specs.Indices.{has_index};
 ghost use Rattle.std.specs.Result.{IsErrOf};
 ghost use Rattle.std.specs.Int.{IsNextPowerOfTwo};
 ghost use Rattle.engine_reference.specs.Records.{record_at, held_at, changed_at, without_record, without, moved_to_back, settled_in, admitted_number, admitted_weight, held_weight};
@@ -490,6 +491,7 @@ impl<K: Eq + Hash, V, S: BuildHasher, R: Rules<K, V>> Tables<K, V, S, R> {
     }
 
     /// The record in a place leaves, and is told where it was held and removals are told.
+    #[inline(always)]
     pub fn leave(&mut self, place: usize, cause: RemovalCause)
     where
         K: Drop,
@@ -500,8 +502,9 @@ impl<K: Eq + Hash, V, S: BuildHasher, R: Rules<K, V>> Tables<K, V, S, R> {
         let index = self.cells.index_of(place);
         let gone = self.cells.remove(place);
         self.tally = self.tally.without(&gone);
-        take_off(&mut self.access, index);
-        take_off(&mut self.order, index);
+        let is_queued = gone.counts.is_some();
+        take_off(&mut self.access, index, is_queued);
+        take_off(&mut self.order, index, is_queued);
         take_if(&mut self.keys, gone.is_held, gone.hash, place);
         set_changed(&mut self.expirations, place, gone.entry.expires, None);
         self.backlog.tell(gone.is_held, cause, gone.entry);
@@ -878,27 +881,30 @@ impl<K: Eq + Hash, V, S: BuildHasher, R: Rules<K, V>> Tables<K, V, S, R> {
     }
 
     /// The record in a place counts with a weight, at the back of the access list.
+    #[inline(always)]
     pub fn count(&mut self, place: usize, write: u64, weight: u32)
         requires { is_some (kept_at self.old place) ≡ true }
         ensures { CountsAt write weight place self.old self.new }
     {
         let index = self.cells.index_of(place);
-        put_last(&mut self.access, index);
-        put_last(&mut self.order, index);
         let _many = self.cells.capacity();
         let cell = &mut self.cells[place];
+        let is_queued = cell.counts.is_some();
         self.tally = self.tally.counted(cell.counts, weight);
         cell.applied = write;
         cell.counts = Some(weight);
+        put_last(&mut self.access, index, is_queued);
+        put_last(&mut self.order, index, is_queued);
     }
 }
 
-/// Moves a place to the back of a queue, or puts it there, for which there is room.
-fn put_last(queue: &mut IndexQueue, index: u32)
-    requires { HasPlaceFor index queue.old }
+/// Moves a place that is in a queue to the back, or puts another there, for which there is room.
+fn put_last(queue: &mut IndexQueue, index: u32, is_there: bool)
+    requires there { is_there ≡ has_index index queue.old.indices }
+    requires room { HasPlaceFor index queue.old }
     ensures { ComesLast index queue.old queue.new }
 {
-    if queue.contains(index) {
+    if is_there {
         queue.move_to_back(index);
     } else {
         queue.push_back(index);
@@ -906,10 +912,11 @@ fn put_last(queue: &mut IndexQueue, index: u32)
 }
 
 /// Takes a place out of a queue, if it is there.
-fn take_off(queue: &mut IndexQueue, index: u32)
+fn take_off(queue: &mut IndexQueue, index: u32, is_there: bool)
+    requires { is_there ≡ has_index index queue.old.indices }
     ensures { StepsOut index queue.old queue.new }
 {
-    if queue.contains(index) {
+    if is_there {
         queue.remove(index);
     }
 }

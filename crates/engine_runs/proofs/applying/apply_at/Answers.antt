@@ -1,4 +1,4 @@
-use Rattle.std.proofs.Common.{ap, ◌∙◌, subst}
+use Rattle.std.proofs.Common.{subst}
 use Rattle.engine_cells.specs.Noting.{AimsOnlyAt}
 use Rattle.engine_runs.proofs.Stretching.{number-is}
 use Rattle.engine_runs.proofs.applying.apply_at.Goals as goal

@@ -1,4 +1,4 @@
-use Rattle.std.proofs.Common.{refl, ap, sym, ◌∙◌, subst, arith, [], length}
+use Rattle.std.proofs.Common.{ap, sym, ◌∙◌, subst, arith, length}
 use Rattle.engine_cells.specs.Stretches.{Stretch}
 use Rattle.engine_runs.proofs.Stretching.{stretch-start, walk-read, reads-left, drop-all}
 use Rattle.engine_runs.proofs.applying.apply_reads.Goals as goal

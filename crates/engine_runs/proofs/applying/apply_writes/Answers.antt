@@ -1,4 +1,4 @@
-use Rattle.std.proofs.Common.{refl, ap, sym, ◌∙◌, subst, arith, [], length}
+use Rattle.std.proofs.Common.{ap, sym, ◌∙◌, subst, arith, length}
 use Rattle.engine_cells.specs.Stretches.{Stretch}
 use Rattle.engine_reference.proofs.SoundSteps.{after_write-frame}
 use Rattle.engine_runs.proofs.Stretching.{stretch-start, walk-write, drop-all}

@@ -1,4 +1,5 @@
-use Rattle.engine_runs.proofs.SweepingStretching.{stretch-start, stretch-more, rest-start, rest-more}
+use Rattle.std.proofs.Common.{◌∙◌}
+use Rattle.engine_runs.proofs.SweepingStretching.{stretch-start, stretch-more, rest-start, rest-more, later-alike}
 use Rattle.engine_runs.proofs.sweeping.sweep.Goals as goal
 
 pub loop-place-init : goal.loop-place-init
@@ -14,3 +15,6 @@ loop-place-preserved g c = record {
   applied = c.leave_for.ensures.applied;
   rest = rest-more c.args.tables.now.state _ _ c.loop-place.invariant.rest c.leave_for.ensures.rest;
 }
+
+pub next_leaving-requires-clause-later : goal.next_leaving-requires-clause-later
+next_leaving-requires-clause-later g c = c.is_in_later_tick-is_later.ensures ∙ later-alike c.args.tables.now.state _ c.args.now c.loop-place.invariant.rest

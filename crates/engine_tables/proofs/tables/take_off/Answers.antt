@@ -2,9 +2,9 @@ use Rattle.std.proofs.Common.{◌≡◌, ℕ, ◌+◌, cond, refl, sym, ap, ◌�
 use Rattle.engine_cells.proofs.Indexed.{without_lacked}
 use Rattle.engine_tables.proofs.tables.take_off.Goals as goal
 
-pub returns-else-contains : goal.returns-else-contains
-returns-else-contains c =
-    let off = sym c.contains.ensures ∙ c.if-contains.false in
+pub returns-else-is_there : goal.returns-else-is_there
+returns-else-is_there c =
+    let off = sym c.requires ∙ c.if-is_there.false in
     let same : c.args.queue.now.room ≡ c.args.queue.now.room + 0 = omega arith in
     record {
       indices = sym (without_lacked c.args.index c.args.queue.now.indices off);

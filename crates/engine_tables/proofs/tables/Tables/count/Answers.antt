@@ -2,7 +2,8 @@ use Rattle.std.proofs.Common.{refl, ap, sym, ◌∙◌, subst, ◌+◌, ◌<◌,
 use Rattle.std.specs.Prelude.{slice_set}
 use Rattle.std.proofs.Math.Logic.{∥∥₁_map}
 use Rattle.engine_reference.specs.declared.data.Record.{Record}
-use Rattle.engine_cells.specs.Cells.{cell_at}
+use Rattle.policy_queue.specs.Indices.{has_index}
+use Rattle.engine_cells.specs.Cells.{cell_at, has_counts}
 use Rattle.engine_cells.specs.Fitting.{ComesLast, HasPlaceFor}
 use Rattle.engine_cells.specs.Kept.{kept_at}
 use Rattle.engine_cells.proofs.Awaits.{awaited-alike}
@@ -20,19 +21,29 @@ index_of-index-requires g c =
     let seen = ap (λ t. kept_at t c.args.place) (sym c.self.view_is) ∙ kept-in c.self.inside.cells.slots c.args.place c.self.invariant.kept.apart in
     sym (ap (λ o. is_some o) seen) ∙ c.requires
 
-pub put_last-requires : goal.put_last-requires
-put_last-requires g c =
+pub put_last-requires-clause-room : goal.put_last-requires-clause-room
+put_last-requires-clause-room g c =
     let cells = c.self.inside.cells in
     let x = some-of (cell_at cells.slots c.args.place) (sym (ap (λ o. is_some o) (ap (λ t. kept_at t c.args.place) (sym c.self.view_is) ∙ kept-in c.self.inside.cells.slots c.args.place c.self.invariant.kept.apart)) ∙ c.requires) in
     subst (λ k. HasPlaceFor k c.self.inside.access) (sym c.index_of-index.ensures.is)
     (has-place cells c.self.inside.tally c.self.inside.backlog.reserved c.args.place x.0 c.self.inside.access c.self.invariant.tallied c.self.invariant.used c.self.invariant.access x.1 (subst (λ k. k < length cells.slots) c.index_of-index.ensures.is c.index_of-index.ensures.within))
 
-pub put_last-requires-2 : goal.put_last-requires-2
-put_last-requires-2 g c =
+pub put_last-requires-2-clause-room : goal.put_last-requires-2-clause-room
+put_last-requires-2-clause-room g c =
     let cells = c.self.inside.cells in
     let x = some-of (cell_at cells.slots c.args.place) (sym (ap (λ o. is_some o) (ap (λ t. kept_at t c.args.place) (sym c.self.view_is) ∙ kept-in c.self.inside.cells.slots c.args.place c.self.invariant.kept.apart)) ∙ c.requires) in
     subst (λ k. HasPlaceFor k c.self.inside.order) (sym c.index_of-index.ensures.is)
     (has-place cells c.self.inside.tally c.self.inside.backlog.reserved c.args.place x.0 c.self.inside.order c.self.invariant.tallied c.self.invariant.written c.self.invariant.order x.1 (subst (λ k. k < length cells.slots) c.index_of-index.ensures.is c.index_of-index.ensures.within))
+
+pub put_last-requires-clause-there : goal.put_last-requires-clause-there
+put_last-requires-clause-there g c =
+    c.is_some-is_queued.ensures
+    ∙ sym (ap (λ k. has_index k c.self.inside.access.indices) c.index_of-index.ensures.is ∙ c.self.invariant.used.listed c.args.place ∙ ap (λ o. has_counts o) c.index_mut-cell.ensures.value)
+
+pub put_last-requires-2-clause-there : goal.put_last-requires-2-clause-there
+put_last-requires-2-clause-there g c =
+    c.is_some-is_queued.ensures
+    ∙ sym (ap (λ k. has_index k c.self.inside.order.indices) c.index_of-index.ensures.is ∙ c.self.invariant.written.listed c.args.place ∙ ap (λ o. has_counts o) c.index_mut-cell.ensures.value)
 
 pub invariant_of-self : goal.invariant_of-self
 invariant_of-self g c =

@@ -1,4 +1,6 @@
 use Rattle.std.proofs.Common.{refl, ap, sym, ◌∙◌, subst, is_some, None, length, length-set, arith, ◌&&◌}
+use Rattle.policy_queue.specs.Indices.{has_index}
+use Rattle.engine_cells.specs.Cells.{has_counts}
 use Rattle.engine_cells.specs.Fitting.{StepsOut}
 use Rattle.engine_cells.specs.Kept.{kept_at}
 use Rattle.engine_cells.proofs.Views.{kept-in}
@@ -15,6 +17,16 @@ pub index_of-index-requires : goal.index_of-index-requires
 index_of-index-requires g c =
     let seen = ap (λ t. kept_at t c.args.place) (sym c.self.view_is) ∙ kept-in c.self.inside.cells.slots c.args.place c.self.invariant.kept.apart in
     sym (ap (λ o. is_some o) seen) ∙ c.requires
+
+pub take_off-requires : goal.take_off-requires
+take_off-requires g c =
+    c.is_some-is_queued.ensures
+    ∙ sym (ap (λ k. has_index k c.self.inside.access.indices) c.index_of-index.ensures.is ∙ c.self.invariant.used.listed c.args.place ∙ ap (λ o. has_counts o) c.remove-gone.ensures.value)
+
+pub take_off-requires-2 : goal.take_off-requires-2
+take_off-requires-2 g c =
+    c.is_some-is_queued.ensures
+    ∙ sym (ap (λ k. has_index k c.self.inside.order.indices) c.index_of-index.ensures.is ∙ c.self.invariant.written.listed c.args.place ∙ ap (λ o. has_counts o) c.remove-gone.ensures.value)
 
 pub invariant_of-self : goal.invariant_of-self
 invariant_of-self g c =
