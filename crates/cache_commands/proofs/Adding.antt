@@ -1,7 +1,7 @@
 -- The steps of an `ADD`.
-use Rattle.std.proofs.Common.{◌≡◌, ℕ, ◌<◌, Bool, true, false, not, ◌&&◌, List, ◌++◌, map, Option, Some, None, if◌then◌else◌, refl, sym, ap, ◌∙◌, subst}
-use Rattle.std.specs.Prelude.{codes, decimal, is_some, nat_lt, option_map, Result, Ok, Err, OnOk}
+use Rattle.std.proofs.Common.{◌<◌, refl, sym, ap, ◌∙◌, subst, Result, Err, OnOk, OnErr, ◌≡◌, ℕ, Bool, true, false, not, ◌&&◌, List, ◌++◌, map, Option, Some, None, if◌then◌else◌, codes, decimal, is_some, nat_lt, Ok}
 use Rattle.std.proofs.lemmas.Bool.{lt-ltb}
+use Rattle.std.specs.Option.{option_map}
 use Rattle.audit_model.specs.Bytewise.{text_line}
 use Rattle.audit_model.specs.Changes.{all_held_after}
 use Rattle.audit_model.specs.Commands.{Deed}
@@ -9,15 +9,25 @@ use Rattle.audit_model.specs.History.{Running, Value, accepts_values, part_count
 use Rattle.audit_model.specs.Notes.{are_true_notes, candidates_of}
 use Rattle.audit_model.specs.Replies.{Offer, offer_of, taken_where, value_from, sum_with, sum_or_error}
 use Rattle.audit_model.specs.Situation.{Situation, HeldValue, live_at, candidate_at, view_in}
-use Rattle.audit_model.specs.declared.command.Command.TheVariants as says
 use Rattle.audit_model.specs.declared.config.Config.{Config}
 use Rattle.audit_model.specs.declared.transcript.Note.{Note}
-use Rattle.cache_store.specs.Promises.{Frame, Done, no_deed, using, accepting, value_for}
 use Rattle.cache_commands.specs.Right.{RepliesRightly}
 use Rattle.cache_commands.specs.Sums.{sum_of_bytes}
+use Rattle.cache_store.specs.Promises.{Frame, Done, no_deed, using, accepting, value_for}
+use Rattle.audit_model.specs.declared.command.Command.TheVariants as says
 use Rattle.cache_commands.proofs.Answering.{said, undropped}
 
 -- ---- what is known of a result
+
+-- where a call went well, what follows from what it left
+pub follows : {A E P Q : Type 0} (r : Result A E) → (P → Q) → OnOk r P → OnOk r Q
+follows (Ok x) f p = f p
+follows (Err e) f p = tt
+
+-- where it failed, the same
+pub fails : {A E P Q : Type 0} (r : Result A E) → (P → Q) → OnErr r P → OnErr r Q
+fails (Ok x) f p = tt
+fails (Err e) f p = f p
 
 pub on-both : {T E : Type 0} (r : Result T E) (A B C : Type 0) → OnOk r A → OnOk r B → (A → B → C) → OnOk r C
 on-both (Ok x) A B C a b f = f a b

@@ -1,40 +1,39 @@
 -- From what a store's call does to what a line owes.
-use Rattle.std.proofs.Common.{◌≡◌, ℕ, ◌≤◌, Bool, true, false, ◌||◌, List, ◌++◌, length, map, Option, Some, None, refl, sym, ap, ◌∙◌, subst, arith}
+use Rattle.std.proofs.Common.{refl, sym, ap, ◌∙◌, subst, arith, Err, get_or, ◌≡◌, ℕ, ◌≤◌, Bool, true, false, ◌||◌, List, ◌++◌, length, map, Option, Some, None, Ok, IfSome, codes, decimal, is_some, IsTrue, [], if◌then◌else◌, not}
 use Rattle.std.proofs.lemmas.List.{append-nil, append_cancel_left}
-use Rattle.std.specs.Prelude.{Ok, Err, IfSome, codes, option_map, decimal, is_some}
 use Rattle.std.specs.List.{concat, list_all}
-use Rattle.std.specs.Prelude.{IsTrue, get_or}
+use Rattle.std.specs.Option.{option_map}
 use Rattle.audit_model.specs.Bytewise.{is_empty, text_line}
 use Rattle.audit_model.specs.Changes.{all_held_after}
-use Rattle.audit_model.specs.Notes.{is_within}
-use Rattle.cache_store.specs.Running.{is_timely}
-use Rattle.audit_model.specs.Commands.{Covering, Deed, Everything, Nothing, Prefixed, is_sync}
+use Rattle.audit_model.specs.Commands.{Covering, Deed, Everything, Nothing, Prefixed, is_sync, deed_of, drops}
 use Rattle.audit_model.specs.Grammar.{Reading}
-use Rattle.audit_model.specs.History.{Storing, Value, accepts_values}
-use Rattle.audit_model.specs.Replies.{fault_text, keys_listed, offered, taken_where, value_or_none, yes_or_no}
-use Rattle.audit_model.specs.Situation.{HeldValue, Situation, live_at, live_keys_at, view_in}
-use Rattle.audit_model.specs.Steps.{action_by}
-use Rattle.audit_model.specs.declared.command.Command.TheVariants as says
+use Rattle.audit_model.specs.History.{Storing, Value, accepts_values, Effect}
+use Rattle.audit_model.specs.Notes.{is_within}
+use Rattle.audit_model.specs.Replies.{fault_text, keys_listed, offered, taken_where, value_or_none, yes_or_no, ok_or_off}
+use Rattle.audit_model.specs.Situation.{HeldValue, Situation, live_at, live_keys_at, view_in, candidate_at}
+use Rattle.audit_model.specs.Steps.{action_by, effect_in}
+use Rattle.audit_model.specs.declared.command.LineError.{LineError}
 use Rattle.audit_model.specs.declared.config.Config.{Config}
 use Rattle.audit_model.specs.declared.event.Outcome.{Outcome}
-use Rattle.audit_model.specs.declared.event.Outcome.TheVariants as came
-use Rattle.audit_model.specs.declared.command.LineError.{LineError}
 use Rattle.audit_model.specs.declared.transcript.Accepted.{Accepted}
+use Rattle.cache_commands.specs.Answered.{Agrees, IsAnswered, IsStored, key_written, says_drop}
+use Rattle.cache_commands.specs.Drawing.{DrawsForParts}
+use Rattle.cache_commands.specs.Found.{found_text}
+use Rattle.cache_commands.specs.Order.{MovesOrder}
+use Rattle.cache_commands.specs.Right.{RepliesRightly, KeepsFrame, DoesRight, step_saying}
+use Rattle.cache_commands.specs.Sums.{sum_of_bytes}
 use Rattle.cache_store.specs.Handing.{AppendsNotes}
-use Rattle.cache_store.specs.Promises.{Done, Frame, accepting, covering, deleting, syncing, using, value_for}
+use Rattle.cache_store.specs.Promises.{Done, Frame, accepting, covering, deleting, syncing, using, value_for, no_deed}
+use Rattle.cache_store.specs.Values.{AcceptsValue, AreLive, DrawsBy, Does, HandsBy, IsLive, IsSettled, IsSoundStore, LacksIdentifiers, Values, covers_prefix}
+use Rattle.cache_store.specs.Running.{is_timely}
+use Rattle.audit_model.specs.declared.command.Command.TheVariants as says
+use Rattle.audit_model.specs.declared.event.Outcome.TheVariants as came
 use Rattle.cache_commands.proofs.Adding.{answers-add, answers-add-error, answers-add-off, sum-found}
 use Rattle.cache_commands.proofs.LoadSteps.{found-load, stores-nothing, stores-off, stores-value}
-use Rattle.cache_commands.specs.Found.{found_text}
-use Rattle.cache_commands.specs.Sums.{sum_of_bytes}
-use Rattle.cache_commands.proofs.Answering.{answers-fault, answers-get, answers-has, answers-keys, answers-off, answers-quit, answers-refused, answers-set, answers-sync, keys-written, no-found, undropped, yes-found}
+use Rattle.cache_commands.proofs.Answering.{answers-get, answers-refused, none_succeeded, said, answers-set, answers-sync, keys-written, no-found, undropped, yes-found, or-false}
 use Rattle.cache_commands.proofs.Ordering.{moves-add, moves-del, moves-drop, moves-fault, moves-get, moves-has, moves-keys, moves-off, moves-quit, moves-set, moves-sync}
 use Rattle.cache_commands.proofs.Drawn.{draws-alone, draws-kept, draws-none, draws-registers}
-use Rattle.cache_commands.specs.Drawing.{DrawsForParts}
-use Rattle.cache_commands.specs.Order.{MovesOrder}
-use Rattle.cache_commands.specs.Right.{RepliesRightly, KeepsFrame}
-use Rattle.cache_commands.specs.Answered.{Agrees, IsAnswered, IsStored, key_written, says_drop}
 use Rattle.cache_store.proofs.Few.{few}
-use Rattle.cache_store.specs.Values.{AcceptsValue, AreLive, DrawsBy, Does, HandsBy, IsLive, IsSettled, IsSoundStore, LacksIdentifiers, Values, covers_prefix}
 
 -- ---- what each call leaves
 
@@ -49,13 +48,9 @@ draws-by Nothing was is d = draws-kept was.stream is.stream was.registered is.re
 draws-by Everything was is d = draws-kept was.stream is.stream was.registered is.registered d
 draws-by (Prefixed prefix) was is d = draws-registers was.stream is.stream was.registered is.registered d
 
-or-no : (b : Bool) → (b || false) ≡ b
-or-no true = refl
-or-no false = refl
-
 -- whether a `DROPIF` was accepted, where none is now
 pub still : (now : ℕ) (deed : Deed) (was is : Values) (s : Situation) → Does now deed was is → covers_prefix deed.covers ≡ false → Agrees was now s → is.frame.dropped ≡ s.dropped
-still now deed was is s d none a = ap (λ (f : Frame). f.dropped) d.frame ∙ ap (λ b. was.frame.dropped || b) none ∙ or-no was.frame.dropped ∙ sym a.dropped
+still now deed was is s d none a = ap (λ (f : Frame). f.dropped) d.frame ∙ ap (λ b. was.frame.dropped || b) none ∙ or-false was.frame.dropped ∙ sym a.dropped
 
 -- a call that did something answers a line that is no `DROPIF`
 pub answered-by : (now : ℕ) (reading : Reading) (accepted : Option Accepted) (deed : Deed) (was is : Values) (old new : List ℕ) → IsSoundStore was → Does now deed was is → says_drop reading ≡ false
@@ -74,12 +69,25 @@ answered-by now reading accepted deed was is old new sound d no_drop right part 
   order = order;
 }
 
+-- what the step of such a line does
+abbrev effect_of : Values → Situation → Reading → List ℕ → Effect
+effect_of v s reading reply = effect_in v.frame.config (view_in v.frame.config s) (action_by reading) (step_saying 0 [] reply None [])
+
 -- a line that changes nothing
-pub answered-idle : (now : ℕ) (reading : Reading) (v : Values) (old new : List ℕ) → v.frame.latest ≤ now → says_drop reading ≡ false → is_sync (action_by reading) ≡ false
-    → ((s : Situation) → Agrees v now s → RepliesRightly v.frame.config s (action_by reading) None v.Stands v.frame.dropped (AppendsNotes v.untaken v.untaken) old new)
+pub answered-idle : (now : ℕ) (reading : Reading) (v : Values) (reply : Situation → List ℕ) (old new : List ℕ) → IsSoundStore v → v.frame.latest ≤ now → says_drop reading ≡ false → is_sync (action_by reading) ≡ false
+    → ((s : Situation) → Agrees v now s → (new ≡ old ++ reply s) × DoesRight v.frame.config s (action_by reading) (step_saying 0 [] (reply s) None []))
+    → ((s : Situation) → (deed_of (effect_of v s reading (reply s)) ≡ no_deed) × (drops (effect_of v s reading (reply s)) ≡ false))
     → MovesOrder v.frame.config v.Used v.Used reading → IsAnswered now reading None v v old new
-answered-idle now reading v old new in_time no_drop no_sync right order = record {
-  right = right;
+answered-idle now reading v reply old new sound in_time no_drop no_sync right idle order = record {
+  right = λ s a. record {
+    told = [];
+    reply = reply s;
+    written = (right s a).0;
+    right = (right s a).1;
+    left = subst (λ d. v.Stands (all_held_after v.frame.config s.latest s.held d [])) (sym (idle s).0) (sound.idle s.held s.latest a.stands);
+    dropped_is = undropped s v.frame.dropped (sym a.dropped) ∙ ap (λ b. s.dropped || b) (sym (idle s).1);
+    handed = record { added = sym (append-nil v.untaken) };
+  };
   part = tt;
   timely = λ h. let e : false ≡ true = sym no_sync ∙ h in cc;
   frame = same-frame v.frame now in_time;
@@ -138,47 +146,47 @@ answered-set now key bytes ms part was is old new sound takes w (p, d) =
 pub answered-off : (now : ℕ) (key bytes : List ℕ) (ms : Option ℕ) (v : Values) (old new : List ℕ) → IsSoundStore v → v.frame.latest ≤ now → accepts_values v.frame.config.capacity ≡ false
     → new ≡ old ++ codes "OFF\n" → IsAnswered now (Ok (says.Set key ms bytes)) None v v old new
 answered-off now key bytes ms v old new sound in_time off w =
-    answered-idle now (Ok (says.Set key ms bytes)) v old new in_time refl refl
-    (λ s a. answers-off v.frame.config s key bytes ms old new v.untaken v.Stands v.frame.dropped off w (sound.idle s.held s.latest a.stands) (sym a.dropped))
-    (moves-off v.frame.config v.Used v.Used (Ok (says.Set key ms bytes)) off)
+    answered-idle now (Ok (says.Set key ms bytes)) v (λ s. codes "OFF\n") old new sound in_time refl refl
+    (λ s a. (w, record { replies = said (codes "OFF\n") (ok_or_off v.frame.config) _ (sym (ap (λ b. if b then text_line (codes "OK") else text_line (codes "OFF")) off)); loads = refl; accepts = ap (λ b. not (is_some (taken_where b (Some (record { key = key; bytes = bytes; ms = ms }))))) off; tells = none_succeeded (map (candidate_at v.frame.config s.latest) s.held ++ []); silent = refl; within = refl }))
+    (λ s. (refl, refl)) (moves-off v.frame.config v.Used v.Used (Ok (says.Set key ms bytes)) off)
 
 pub answered-fault : (now : ℕ) (error : LineError) (v : Values) (old new : List ℕ) → IsSoundStore v → v.frame.latest ≤ now → new ≡ old ++ fault_text error → IsAnswered now (Err error) None v v old new
 answered-fault now error v old new sound in_time w =
-    answered-idle now (Err error) v old new in_time refl refl
-    (λ s a. answers-fault v.frame.config s error old new v.untaken v.Stands v.frame.dropped w (sound.idle s.held s.latest a.stands) (sym a.dropped)) (moves-fault v.frame.config v.Used v.Used error)
+    answered-idle now (Err error) v (λ s. fault_text error) old new sound in_time refl refl
+    (λ s a. (w, record { replies = said (fault_text error) (fault_text error) _ refl; loads = refl; accepts = refl; tells = none_succeeded (map (candidate_at v.frame.config s.latest) s.held ++ []); silent = refl; within = refl }))
+    (λ s. (refl, refl)) (moves-fault v.frame.config v.Used v.Used error)
 
 pub answered-quit : (now : ℕ) (v : Values) (old new : List ℕ) → IsSoundStore v → v.frame.latest ≤ now → new ≡ old ++ codes "OK\n" → IsAnswered now (Ok says.Quit) None v v old new
 answered-quit now v old new sound in_time w =
-    answered-idle now (Ok says.Quit) v old new in_time refl refl
-    (λ s a. answers-quit v.frame.config s old new v.untaken v.Stands v.frame.dropped w (sound.idle s.held s.latest a.stands) (sym a.dropped)) (moves-quit v.frame.config v.Used v.Used)
+    answered-idle now (Ok says.Quit) v (λ s. codes "OK\n") old new sound in_time refl refl
+    (λ s a. (w, record { replies = refl; loads = refl; accepts = refl; tells = none_succeeded (map (candidate_at v.frame.config s.latest) s.held ++ []); silent = refl; within = refl }))
+    (λ s. (refl, refl)) (moves-quit v.frame.config v.Used v.Used)
+
+-- a `HAS` with this reply
+answered-has : (now : ℕ) (key reply : List ℕ) (v : Values) (old new : List ℕ) → IsSoundStore v → v.frame.latest ≤ now → ((s : Situation) → Agrees v now s → reply ≡ yes_or_no (live_at v.frame.config now s.held key)) → new ≡ old ++ reply
+    → IsAnswered now (Ok (says.Has key)) None v v old new
+answered-has now key reply v old new sound in_time found w =
+    answered-idle now (Ok (says.Has key)) v (λ s. reply) old new sound in_time refl refl
+    (λ s a. (w, record { replies = said reply (yes_or_no (live_at v.frame.config s.latest s.held key)) _ (subst (λ n. reply ≡ yes_or_no (live_at v.frame.config n s.held key)) (sym a.at) (found s a)); loads = refl; accepts = refl; tells = none_succeeded (map (candidate_at v.frame.config s.latest) s.held ++ []); silent = refl; within = refl }))
+    (λ s. (refl, refl)) (moves-has v.frame.config v.Used key)
 
 pub answered-yes : (now : ℕ) (key bytes : List ℕ) (v : Values) (old new : List ℕ) → IsSoundStore v → v.frame.latest ≤ now → IsLive v now key (Some bytes) → new ≡ old ++ codes "YES\n"
     → IsAnswered now (Ok (says.Has key)) None v v old new
-answered-yes now key bytes v old new sound in_time live w =
-    answered-idle now (Ok (says.Has key)) v old new in_time refl refl
-    (λ s a. answers-has v.frame.config s key (codes "YES\n") old new v.untaken v.Stands v.frame.dropped w
-    (subst (λ n. codes "YES\n" ≡ yes_or_no (live_at v.frame.config n s.held key)) (sym a.at) (yes-found v.frame.config now s.held key bytes (live s.held a.stands)))
-    (sound.idle s.held s.latest a.stands) (sym a.dropped))
-    (moves-has v.frame.config v.Used key)
+answered-yes now key bytes v old new sound in_time live w = answered-has now key (codes "YES\n") v old new sound in_time (λ s a. yes-found v.frame.config now s.held key bytes (live s.held a.stands)) w
 
 pub answered-no : (now : ℕ) (key : List ℕ) (v : Values) (old new : List ℕ) → IsSoundStore v → v.frame.latest ≤ now → IsLive v now key None → new ≡ old ++ codes "NO\n"
     → IsAnswered now (Ok (says.Has key)) None v v old new
-answered-no now key v old new sound in_time live w =
-    answered-idle now (Ok (says.Has key)) v old new in_time refl refl
-    (λ s a. answers-has v.frame.config s key (codes "NO\n") old new v.untaken v.Stands v.frame.dropped w
-    (subst (λ n. codes "NO\n" ≡ yes_or_no (live_at v.frame.config n s.held key)) (sym a.at) (no-found v.frame.config now s.held key (live s.held a.stands)))
-    (sound.idle s.held s.latest a.stands) (sym a.dropped))
-    (moves-has v.frame.config v.Used key)
+answered-no now key v old new sound in_time live w = answered-has now key (codes "NO\n") v old new sound in_time (λ s a. no-found v.frame.config now s.held key (live s.held a.stands)) w
 
 pub answered-keys : (now number : ℕ) (v : Values) (old before new : List ℕ) → IsSoundStore v → v.frame.latest ≤ now → AreLive v now (λ keys. number ≡ length keys)
     → before ≡ old ++ (codes "KEYS " ++ decimal number ++ codes "\n") → AreLive v now (λ keys. new ≡ before ++ concat (map text_line keys)) → IsAnswered now (Ok says.Keys) None v v old new
 answered-keys now number v old before new sound in_time n b w =
-    answered-idle now (Ok says.Keys) v old new in_time refl refl
-    (λ s a.
-    let keys = live_keys_at v.frame.config now s.held in
-    answers-keys v.frame.config s (keys_listed keys) old new v.untaken v.Stands v.frame.dropped (keys-written keys number old before new (n s.held a.stands) b (w s.held a.stands))
-    (ap (λ m. keys_listed (live_keys_at v.frame.config m s.held)) (sym a.at)) (sound.idle s.held s.latest a.stands) (sym a.dropped))
-    (moves-keys v.frame.config v.Used)
+    answered-idle now (Ok says.Keys) v (λ s. keys_listed (live_keys_at v.frame.config now s.held)) old new sound in_time refl refl
+    (λ s a. let keys = live_keys_at v.frame.config now s.held in (
+      keys-written keys number old before new (n s.held a.stands) b (w s.held a.stands),
+      record { replies = said (keys_listed keys) (keys_listed (live_keys_at v.frame.config s.latest s.held)) _ (ap (λ m. keys_listed (live_keys_at v.frame.config m s.held)) (sym a.at)); loads = refl; accepts = refl; tells = none_succeeded (map (candidate_at v.frame.config s.latest) s.held ++ []); silent = refl; within = refl },
+    ))
+    (λ s. (refl, refl)) (moves-keys v.frame.config v.Used)
 
 pub answered-sync : (now number weight : ℕ) (was is : Values) (old new : List ℕ) → IsSoundStore was → Does now syncing was is → IsSettled is number weight
     → new ≡ old ++ (codes "SYNC " ++ decimal number ++ codes " " ++ decimal weight ++ codes "\n") → IsAnswered now (Ok says.Sync) None was is old new
@@ -362,7 +370,7 @@ stored-value now key bytes ms part was is sound takes (p, d) =
       right = λ s e m. (stores-value was.frame s now key bytes ms part is.Stands (AppendsNotes was.untaken is.untaken) e takes p (sound.parted key) (d.done s.held m), refl);
       part = p;
       frame = keeps-frame was.frame is.frame now _ d.frame;
-      dropped = ap (λ (f : Frame). f.dropped) d.frame ∙ or-no was.frame.dropped;
+      dropped = ap (λ (f : Frame). f.dropped) d.frame ∙ or-false was.frame.dropped;
       spent = d.spent;
       few = few now deed was is sound d;
       identifiers = d.drawn;

@@ -1,32 +1,23 @@
 -- What a store's clauses say, in the words of the definition of steps.
-use Rattle.std.proofs.Common.{◌≡◌, ℕ, Bool, true, false, not, ◌&&◌, ◌||◌, List, [], ◌∷◌, ◌++◌, map, Option, Some, None, if◌then◌else◌, refl, sym, ap, ◌∙◌, subst, append_assoc}
-use Rattle.std.specs.Prelude.{codes, option_map}
+use Rattle.std.proofs.Common.{refl, sym, ap, ◌∙◌, subst, append_assoc, ◌<◌, ◌≡◌, ℕ, Bool, true, false, not, ◌&&◌, ◌||◌, List, [], ◌∷◌, ◌++◌, map, Option, Some, None, if◌then◌else◌, codes, nat_lt, length, decimal, IsTrue, ◌+◌, is_some}
 use Rattle.std.proofs.lemmas.Bool.{eq-eqb, lt-ltb}
+use Rattle.std.proofs.lemmas.List.{length-map, append-nil}
+use Rattle.std.specs.List.{sum_by, list_all, concat, fold}
+use Rattle.std.specs.Option.{option_map}
 use Rattle.audit_model.specs.Bytewise.{same, text_line}
-use Rattle.audit_model.specs.History.{Running, Value}
-use Rattle.std.specs.Prelude.{nat_lt, length, decimal, IsTrue}
-use Rattle.std.specs.List.{sum_by, list_all, concat}
-use Rattle.std.proofs.Common.{◌<◌, ◌+◌}
-use Rattle.std.proofs.lemmas.List.{length-map}
-use Rattle.std.specs.List.{fold}
-use Rattle.std.specs.Prelude.{is_some}
-use Rattle.std.proofs.lemmas.List.{append-nil}
-use Rattle.audit_model.specs.Changes.{all_held_after}
+use Rattle.audit_model.specs.Changes.{all_held_after, held_after, left_held}
 use Rattle.audit_model.specs.Commands.{Deed}
-use Rattle.audit_model.specs.Changes.{held_after, left_held}
-use Rattle.audit_model.specs.History.{Faulting, accepts_values, part_count}
+use Rattle.audit_model.specs.History.{Running, Value, accepts_values, part_count}
 use Rattle.audit_model.specs.Notes.{is_within, is_succeeded, are_true_notes, candidates_of}
-use Rattle.audit_model.specs.Replies.{value_or_none, yes_or_no, keys_listed, ok_or_off, fault_text, count_and_weight, offer_of, taken_where, value_from}
-use Rattle.audit_model.specs.declared.command.LineError.{LineError}
-use Rattle.cache_store.specs.Handing.{AppendsNotes}
-use Rattle.cache_store.specs.Promises.{Frame, no_deed, accepting, syncing, value_for}
-use Rattle.audit_model.specs.Situation.{Situation, HeldValue, live_at, live_keys_at, candidate_at, view_in}
-use Rattle.audit_model.specs.View.{Candidate}
-use Rattle.audit_model.specs.declared.command.Command.TheVariants as says
+use Rattle.audit_model.specs.Replies.{value_or_none, yes_or_no, keys_listed, ok_or_off, count_and_weight, offer_of, taken_where, value_from}
+use Rattle.audit_model.specs.Situation.{Situation, HeldValue, live_at, candidate_at, view_in}
 use Rattle.audit_model.specs.declared.config.Config.{Config}
 use Rattle.audit_model.specs.declared.transcript.Note.{Note}
-use Rattle.cache_store.specs.Promises.{Done, using}
 use Rattle.cache_commands.specs.Right.{RepliesRightly}
+use Rattle.cache_store.specs.Handing.{AppendsNotes}
+use Rattle.cache_store.specs.Promises.{Frame, no_deed, accepting, syncing, value_for, Done, using}
+use Rattle.audit_model.specs.View.{Candidate}
+use Rattle.audit_model.specs.declared.command.Command.TheVariants as says
 
 pub same-refl : (a : List ℕ) → same a a ≡ true
 same-refl [] = refl
@@ -72,7 +63,7 @@ answers-get config s key reply old new Stands dropped Handed w r d kept = record
 -- ---- a `SET`
 
 -- all that a step does is to accept a value, or none
-abbrev writing : Option Value → Deed
+abbrev pub writing : Option Value → Deed
 writing value = record no_deed { value = value }
 
 -- the value that the step of a `SET` accepts
@@ -111,28 +102,6 @@ answers-set frame s now key bytes ms part old new Stands dropped Handed at a p i
       left = subst Stands (sym (ap (λ v. all_held_after config s.latest s.held (writing v) done.told) is)) done.left;
       dropped_is = undropped s dropped kept;
       handed = done.handed;
-    }
-
--- a `SET` at capacity 0
-pub answers-off : (config : Config) (s : Situation) (key bytes : List ℕ) (ms : Option ℕ) (old new : List ℕ) (untaken : List Note) (Stands : List HeldValue → Type 0) (dropped : Bool)
-    → accepts_values config.capacity ≡ false → new ≡ old ++ codes "OFF\n" → Stands (all_held_after config s.latest s.held no_deed []) → dropped ≡ s.dropped
-    → RepliesRightly config s (Running (says.Set key ms bytes)) None Stands dropped (AppendsNotes untaken untaken) old new
-answers-off config s key bytes ms old new untaken Stands dropped a w m kept =
-    record {
-      told = [];
-      reply = codes "OFF\n";
-      written = w;
-      right = record {
-        replies = said (codes "OFF\n") (ok_or_off config) _ (sym (ap (λ b. if b then text_line (codes "OK") else text_line (codes "OFF")) a));
-        loads = refl;
-        accepts = ap (λ b. not (is_some (taken_where b (Some (record { key = key; bytes = bytes; ms = ms }))))) a;
-        tells = none_succeeded (map (candidate_at config s.latest) s.held ++ []);
-        silent = refl;
-        within = refl;
-      };
-      left = m;
-      dropped_is = undropped s dropped kept;
-      handed = record { added = sym (append-nil untaken) };
     }
 
 -- ---- a `SYNC`
@@ -184,69 +153,7 @@ answers-sync config s now number weight old new Stands dropped Handed at w d0 ke
       handed = d.handed;
     }
 
--- ---- a line that cannot be read
-
--- a step that does nothing to values
-pub answers-fault : (config : Config) (s : Situation) (error : LineError) (old new : List ℕ) (untaken : List Note) (Stands : List HeldValue → Type 0) (dropped : Bool)
-    → new ≡ old ++ fault_text error → Stands (all_held_after config s.latest s.held no_deed []) → dropped ≡ s.dropped
-    → RepliesRightly config s (Faulting error) None Stands dropped (AppendsNotes untaken untaken) old new
-answers-fault config s error old new untaken Stands dropped w m kept =
-    record {
-      told = [];
-      reply = fault_text error;
-      written = w;
-      right = record { replies = said (fault_text error) (fault_text error) _ refl; loads = refl; accepts = refl; tells = none_succeeded (map (candidate_at config s.latest) s.held ++ []); silent = refl; within = refl };
-      left = m;
-      dropped_is = undropped s dropped kept;
-      handed = record { added = sym (append-nil untaken) };
-    }
-
 -- ---- commands that ask
-
--- a `HAS`
-pub answers-has : (config : Config) (s : Situation) (key reply : List ℕ) (old new : List ℕ) (untaken : List Note) (Stands : List HeldValue → Type 0) (dropped : Bool)
-    → new ≡ old ++ reply → reply ≡ yes_or_no (live_at config s.latest s.held key) → Stands (all_held_after config s.latest s.held no_deed []) → dropped ≡ s.dropped
-    → RepliesRightly config s (Running (says.Has key)) None Stands dropped (AppendsNotes untaken untaken) old new
-answers-has config s key reply old new untaken Stands dropped w r m kept =
-    record {
-      told = [];
-      reply = reply;
-      written = w;
-      right = record { replies = said reply (yes_or_no (live_at config s.latest s.held key)) _ r; loads = refl; accepts = refl; tells = none_succeeded (map (candidate_at config s.latest) s.held ++ []); silent = refl; within = refl };
-      left = m;
-      dropped_is = undropped s dropped kept;
-      handed = record { added = sym (append-nil untaken) };
-    }
-
--- a `KEYS`
-pub answers-keys : (config : Config) (s : Situation) (reply : List ℕ) (old new : List ℕ) (untaken : List Note) (Stands : List HeldValue → Type 0) (dropped : Bool)
-    → new ≡ old ++ reply → reply ≡ keys_listed (live_keys_at config s.latest s.held) → Stands (all_held_after config s.latest s.held no_deed []) → dropped ≡ s.dropped
-    → RepliesRightly config s (Running says.Keys) None Stands dropped (AppendsNotes untaken untaken) old new
-answers-keys config s reply old new untaken Stands dropped w r m kept =
-    record {
-      told = [];
-      reply = reply;
-      written = w;
-      right = record { replies = said reply (keys_listed (live_keys_at config s.latest s.held)) _ r; loads = refl; accepts = refl; tells = none_succeeded (map (candidate_at config s.latest) s.held ++ []); silent = refl; within = refl };
-      left = m;
-      dropped_is = undropped s dropped kept;
-      handed = record { added = sym (append-nil untaken) };
-    }
-
--- a `QUIT`
-pub answers-quit : (config : Config) (s : Situation) (old new : List ℕ) (untaken : List Note) (Stands : List HeldValue → Type 0) (dropped : Bool)
-    → new ≡ old ++ codes "OK\n" → Stands (all_held_after config s.latest s.held no_deed []) → dropped ≡ s.dropped
-    → RepliesRightly config s (Running says.Quit) None Stands dropped (AppendsNotes untaken untaken) old new
-answers-quit config s old new untaken Stands dropped w m kept =
-    record {
-      told = [];
-      reply = codes "OK\n";
-      written = w;
-      right = record { replies = refl; loads = refl; accepts = refl; tells = none_succeeded (map (candidate_at config s.latest) s.held ++ []); silent = refl; within = refl };
-      left = m;
-      dropped_is = undropped s dropped kept;
-      handed = record { added = sym (append-nil untaken) };
-    }
 
 -- what a look-up without a use found, as an answer of yes or no
 pub yes-found : (config : Config) (now : ℕ) (held : List HeldValue) (key : List ℕ) (bytes : List ℕ) → Some bytes ≡ option_map (λ (v : Value). v.bytes) (live_at config now held key) → codes "YES\n" ≡ yes_or_no (live_at config now held key)

@@ -1,11 +1,10 @@
 -- What a store's clauses on identifiers say of a step.
-use Rattle.std.proofs.Common.{◌≡◌, Bool, true, ◌&&◌, ◌||◌, refl, ap, ◌∙◌}
-use Rattle.std.specs.Prelude.{nat_lt}
+use Rattle.std.proofs.Common.{refl, ap, ◌∙◌, ◌≡◌, Bool, true, ◌&&◌, ◌||◌, nat_lt}
 use Rattle.std.proofs.lemmas.Bool.{lt-ltb}
 use Rattle.audit_model.specs.Bytewise.{same}
-use Rattle.rand_core.specs.Stream.{Stream}
-use Rattle.cache_store.specs.Identifiers.{Register, KeepsIdentifiers, Registers, DrawsAlone, identifier_at}
 use Rattle.cache_commands.specs.Drawing.{DrawsForParts}
+use Rattle.rand_core.specs.Stream.{Stream}
+use Rattle.cache_store.specs.Identifiers.{Registers, DrawsAlone, Register, KeepsIdentifiers, identifier_at}
 
 or-left : (a b : Bool) → a ≡ true → (a || b) ≡ true
 or-left a b e = ap (λ t. t || b) e

@@ -1,27 +1,25 @@
 -- `LOAD`s, and what a load's outcome does, in the words of the definition of steps.
-use Rattle.std.proofs.Common.{◌≡◌, ℕ, ◌<◌, Bool, true, false, not, ◌&&◌, ◌||◌, cond, List, [], ◌∷◌, ◌++◌, map, Option, Some, None, if◌then◌else◌, refl, sym, ap, ◌∙◌, subst}
-use Rattle.std.specs.Prelude.{codes, is_some, nat_lt, nat_eq}
-use Rattle.std.specs.List.{find}
-use Rattle.std.specs.Option.{option_eq, option_map}
+use Rattle.std.proofs.Common.{◌<◌, cond, refl, sym, ap, ◌∙◌, subst, ◌≡◌, ℕ, Bool, true, false, not, ◌&&◌, ◌||◌, List, [], ◌∷◌, ◌++◌, map, Option, Some, None, if◌then◌else◌, codes, is_some, nat_lt, nat_eq}
 use Rattle.std.proofs.lemmas.Bool.{eq-eqb, lt-ltb}
 use Rattle.std.proofs.lemmas.List.{append-nil}
+use Rattle.std.specs.List.{find}
+use Rattle.std.specs.Option.{option_eq, option_map}
 use Rattle.audit_model.specs.Bytewise.{is_empty, same}
 use Rattle.audit_model.specs.Changes.{all_held_after, held_after, is_evictable_after}
-use Rattle.audit_model.specs.Commands.{Deed}
 use Rattle.audit_model.specs.History.{Running, Delivering, Abandoning, Storing, Value, accepts_values, part_count}
 use Rattle.audit_model.specs.Notes.{are_true_notes, candidates_of}
 use Rattle.audit_model.specs.Replies.{value_reply, value_or_none, load_sent_by, offer_of, offered, taken_where, value_from, outcome_text}
 use Rattle.audit_model.specs.Situation.{Situation, HeldValue, candidate_at, is_live_at, live_at, load_in, view_in}
-use Rattle.audit_model.specs.declared.command.Command.TheVariants as says
 use Rattle.audit_model.specs.declared.config.Config.{Config}
 use Rattle.audit_model.specs.declared.event.Outcome.{Outcome}
-use Rattle.audit_model.specs.declared.event.Outcome.TheVariants as came
 use Rattle.audit_model.specs.declared.transcript.Note.{Note}
+use Rattle.cache_commands.specs.Right.{RepliesRightly}
 use Rattle.cache_store.specs.Handing.{AppendsNotes}
 use Rattle.cache_store.specs.Promises.{Done, Frame, accepting, no_deed, using, value_for}
+use Rattle.audit_model.specs.declared.command.Command.TheVariants as says
+use Rattle.audit_model.specs.declared.event.Outcome.TheVariants as came
 use Rattle.cache_commands.specs.Loading.{SaysRightly, Stores, Waits}
-use Rattle.cache_commands.specs.Right.{RepliesRightly}
-use Rattle.cache_commands.proofs.Answering.{none_succeeded, said, or-false}
+use Rattle.cache_commands.proofs.Answering.{none_succeeded, said, or-false, writing}
 
 -- ---- a `LOAD` that finds a value
 
@@ -148,10 +146,6 @@ stores-off config s key outcome off = ap (λ b. taken_where b (offered (view_in 
     go : (o : Option _) → taken_where false o ≡ None
     go None = refl
     go (Some offer) = refl
-
--- all that the step does is to accept a value
-abbrev writing : Option Value → Deed
-writing value = record no_deed { value = value }
 
 -- a value is stored
 pub stores-value : (frame : Frame) (s : Situation) (now : ℕ) (key bytes : List ℕ) (ms : Option ℕ) (part : ℕ) (Stands : List HeldValue → Type 0) (Handed : List Note → Type 0)

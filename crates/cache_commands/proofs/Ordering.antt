@@ -1,18 +1,17 @@
 -- How commands change the order of use.
-use Rattle.std.proofs.Common.{◌≡◌, ℕ, zero, suc, ◌≤◌, Bool, true, false, not, ◌||◌, List, [], ◌∷◌, length, take, Option, cond, refl, sym, ap, ◌∙◌, subst, arith}
-use Rattle.std.specs.Prelude.{Ok, Err, if◌then◌else◌}
-use Rattle.std.specs.List.{list_any}
+use Rattle.std.proofs.Common.{zero, cond, refl, sym, ap, ◌∙◌, subst, arith, Err, ◌≡◌, ℕ, suc, ◌≤◌, Bool, true, false, not, ◌||◌, List, [], ◌∷◌, length, take, Option, Ok, if◌then◌else◌}
 use Rattle.std.proofs.lemmas.List.{take_all}
+use Rattle.std.specs.List.{list_any}
 use Rattle.audit_model.specs.Bytewise.{same}
 use Rattle.audit_model.specs.Grammar.{Reading}
 use Rattle.audit_model.specs.History.{accepts_values}
+use Rattle.audit_model.specs.declared.command.LineError.{LineError}
+use Rattle.audit_model.specs.declared.config.Config.{Config}
+use Rattle.cache_commands.specs.Order.{Order, Settled, Used, Unknown, AgreesWith, MovesOrder, settled, used_by}
 use Rattle.audit_model.specs.Recency.{recency_after, keys_without}
 use Rattle.audit_model.specs.declared.command.Command.{Command}
 use Rattle.audit_model.specs.declared.command.Command.TheVariants as says
-use Rattle.audit_model.specs.declared.command.LineError.{LineError}
-use Rattle.audit_model.specs.declared.config.Config.{Config}
 use Rattle.cache_store.specs.Recency.{IsPlainLru, KeepsRecency, put_first, used_first}
-use Rattle.cache_commands.specs.Order.{Order, Settled, Used, Unknown, AgreesWith, MovesOrder, settled, used_by}
 
 abbrev Recency : Type 1
 Recency = Bool → List (List ℕ) → Type 0

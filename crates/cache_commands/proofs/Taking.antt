@@ -1,6 +1,6 @@
 -- Which loads were taken, over several calls.
-use Rattle.std.proofs.Common.{[], ◌++◌, refl, sym, ap, ◌∙◌}
-use Rattle.std.proofs.lemmas.List.{append-nil, append_assoc}
+use Rattle.std.proofs.Common.{refl, sym, ap, ◌∙◌, append_assoc, [], ◌++◌}
+use Rattle.std.proofs.lemmas.List.{append-nil}
 use Rattle.cache_commands.specs.Loads.Pending.{SameTaken, outgoing_loads}
 use Rattle.cache_commands.specs.declared.loads.loads.Loads.{Loads}
 

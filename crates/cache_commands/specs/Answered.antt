@@ -1,25 +1,25 @@
 -- What the reply to a line guarantees.
 use Rattle.std.specs.Prelude.{◌≡◌, ℕ, ◌+◌, ◌≤◌, ◌++◌, ◌||◌, Bool, true, false, is_some, List, length, Option, Some, None, Ok, IfSome, IsTrue, codes}
 use Rattle.std.specs.List.{list_all}
+use Rattle.audit_lines.specs.Request.{IsOwn}
 use Rattle.audit_model.specs.Bytewise.{is_empty}
 use Rattle.audit_model.specs.Commands.{is_sync}
 use Rattle.audit_model.specs.Grammar.{Reading}
 use Rattle.audit_model.specs.History.{part_count}
 use Rattle.audit_model.specs.Situation.{HeldValue, Situation}
 use Rattle.audit_model.specs.Steps.{action_by}
-use Rattle.audit_model.specs.declared.command.Command.TheVariants as says
 use Rattle.audit_model.specs.declared.config.Config.{Config}
 use Rattle.audit_model.specs.declared.event.Outcome.{Outcome}
 use Rattle.audit_model.specs.declared.transcript.Accepted.{Accepted}
-use Rattle.audit_lines.specs.Request.{IsOwn}
-use Rattle.cache_store.specs.Handing.{AppendsNotes}
 use Rattle.cache_store.specs.Identifiers.{AreUsedUp, KeepsIdentifiers}
+use Rattle.cache_store.specs.Values.{Values}
+use Rattle.audit_model.specs.declared.command.Command.TheVariants as says
+use Rattle.cache_store.specs.Handing.{AppendsNotes}
 use Rattle.cache_store.specs.Running.{is_timely}
 use Rattle.cache_commands.specs.Drawing.{DrawsForParts}
 use Rattle.cache_commands.specs.Loading.{Stores}
 use Rattle.cache_commands.specs.Order.{MovesOrder}
 use Rattle.cache_commands.specs.Right.{RepliesRightly, KeepsFrame}
-use Rattle.cache_store.specs.Values.{Values}
 
 -- the store stands for the situation at this moment
 pub record Agrees (v : Values) (now : ℕ) (s : Situation) : Type 0 where

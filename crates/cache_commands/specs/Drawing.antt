@@ -1,8 +1,8 @@
 -- The identifiers that a step draws and registers.
 use Rattle.std.specs.Prelude.{◌≡◌, ℕ, ◌&&◌, ◌||◌, nat_lt, List, IsTrue}
 use Rattle.audit_model.specs.Bytewise.{same}
-use Rattle.rand_core.specs.Stream.{Stream}
 use Rattle.cache_store.specs.Identifiers.{Register, stream_after, identifier_at}
+use Rattle.rand_core.specs.Stream.{Stream}
 
 -- this many identifiers are drawn, and each part registers one of them at most
 pub record DrawsForParts (old_stream new_stream : Stream) (old new : Register) : Type 0 where

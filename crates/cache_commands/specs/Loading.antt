@@ -3,12 +3,12 @@ use Rattle.std.specs.Prelude.{◌≡◌, ℕ, false, List, [], Option, Some, Non
 use Rattle.audit_model.specs.History.{Action, Running, Storing}
 use Rattle.audit_model.specs.Replies.{load_sent_by}
 use Rattle.audit_model.specs.Situation.{Situation, HeldValue, view_in}
-use Rattle.audit_model.specs.declared.command.Command.TheVariants as says
 use Rattle.audit_model.specs.declared.config.Config.{Config}
 use Rattle.audit_model.specs.declared.event.Outcome.{Outcome}
 use Rattle.audit_model.specs.declared.transcript.Accepted.{Accepted}
 use Rattle.audit_model.specs.declared.transcript.Note.{Note}
 use Rattle.audit_model.specs.declared.transcript.Step.{Step}
+use Rattle.audit_model.specs.declared.command.Command.TheVariants as says
 use Rattle.cache_commands.specs.Right.{DoesRight, held_when_run, dropped_when_run, step_saying}
 
 -- a step without a reply, of this connection and line, which sends this load

@@ -1,10 +1,10 @@
 -- The order of use of keys, line by line: which keys are held under LRU.
 use Rattle.std.specs.Prelude.{◌≡◌, ℕ, suc, ◌≤◌, Bool, true, List, length, take, Ok}
 use Rattle.audit_model.specs.Grammar.{Reading}
+use Rattle.audit_model.specs.declared.config.Config.{Config}
 use Rattle.audit_model.specs.Recency.{recency_after}
 use Rattle.audit_model.specs.declared.command.Command.{Command}
 use Rattle.audit_model.specs.declared.command.Command.TheVariants as says
-use Rattle.audit_model.specs.declared.config.Config.{Config}
 use Rattle.cache_store.specs.Recency.{IsPlainLru}
 
 -- What is known of the keys held: exactly these, since the last line was a `SYNC`, or none ran yet; exactly these once a `SYNC` runs next;

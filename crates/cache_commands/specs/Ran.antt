@@ -1,15 +1,15 @@
 -- What a line did.
 use Rattle.std.specs.Prelude.{◌≡◌, ℕ, Bool, true, false, List, None, Ok}
-use Rattle.audit_model.specs.Grammar.{Reading}
-use Rattle.audit_model.specs.declared.command.Command.TheVariants as says
-use Rattle.audit_model.specs.declared.config.Config.{Config}
 use Rattle.audit_lines.specs.Request.{IsOwn}
+use Rattle.audit_model.specs.Grammar.{Reading}
+use Rattle.audit_model.specs.declared.config.Config.{Config}
+use Rattle.cache_store.specs.Values.{IsLive, Values}
+use Rattle.audit_model.specs.declared.command.Command.TheVariants as says
 use Rattle.audit_lines.specs.declared.request.Request.{Request}
 use Rattle.audit_lines.specs.declared.request.Request.TheVariants.{Set, Get, Has, Load, Del, Add, Clear, DropIf, Keys, Sync, Quit, Fault}
 use Rattle.cache_commands.specs.Answered.{IsAnswered, IsTakable}
 use Rattle.cache_commands.specs.declared.running.Ran.{Ran}
 use Rattle.cache_commands.specs.declared.running.Ran.TheVariants.{Answered, Misses}
-use Rattle.cache_store.specs.Values.{IsLive, Values}
 
 -- a request whose words a store accepts
 abbrev pub FitsStore : Config → Request → Type 0

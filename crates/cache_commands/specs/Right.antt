@@ -1,15 +1,15 @@
 -- What makes one command right, apart from whose turn it is and which line is due.
 use Rattle.std.specs.Prelude.{◌≡◌, ℕ, ◌≤◌, ◌||◌, Bool, false, List, [], ◌++◌, map, Option, Some, None, IsTrue}
-use Rattle.audit_model.specs.Changes.{left_held, all_held_after}
 use Rattle.audit_model.specs.Commands.{deed_of, drops}
 use Rattle.audit_model.specs.History.{Action}
 use Rattle.audit_model.specs.Situation.{Situation, HeldValue, view_in}
 use Rattle.audit_model.specs.Steps.{Task, PlacedStep, effect_in, has_right_reply, has_right_load, has_right_acceptance, has_right_notes, is_quiet_where_silent, keeps_shares}
-use Rattle.cache_store.specs.Promises.{Frame}
 use Rattle.audit_model.specs.declared.config.Config.{Config}
 use Rattle.audit_model.specs.declared.transcript.Accepted.{Accepted}
 use Rattle.audit_model.specs.declared.transcript.Note.{Note}
 use Rattle.audit_model.specs.declared.transcript.Step.{Step}
+use Rattle.audit_model.specs.Changes.{left_held, all_held_after}
+use Rattle.cache_store.specs.Promises.{Frame}
 
 -- a step with a reply, of this connection and line
 abbrev pub step_saying : ℕ → List ℕ → List ℕ → Option Accepted → List Note → Step

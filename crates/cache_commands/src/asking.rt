@@ -4,8 +4,8 @@ ghost use Rattle.audit_model.specs.declared.command.Command.TheVariants as says;
 ghost use Rattle.cache_commands.specs.Answered.{IsAnswered};
 ghost use Rattle.cache_store.specs.Values.{IsMoment};
 
-use crate::commands::SHORT;
-use crate::writing::{take_back, write};
+use crate::commands::{SHORT, write_short};
+use crate::writing::write_line;
 use audit_model::Key;
 use cache_store::Store;
 use itoa::Buffer;
@@ -19,12 +19,10 @@ pub fn has<S: Store>(store: &S, key: &Key, now: u64, output: &mut Vec<u8>) -> Re
     ensures unwritten { OnErr result (output.new.items ≡ output.old.items) }
 {
     store.sound();
-    output.try_reserve(SHORT)?;
     match store.peek(key, now) {
-        Some(_) => write(output, b"YES\n"),
-        None => write(output, b"NO\n"),
+        Some(_) => write_short(output, b"YES\n"),
+        None => write_short(output, b"NO\n"),
     }
-    Ok(())
 }
 
 /// Replies to a `KEYS`.
@@ -41,7 +39,7 @@ pub fn keys<S: Store>(store: &S, now: u64, output: &mut Vec<u8>) -> Result<(), A
     match store.write_live_keys(now, output) {
         Ok(()) => Ok(()),
         Err(error) => {
-            take_back(output, start);
+            output.truncate(start);
             Err(error)
         }
     }
@@ -54,9 +52,7 @@ fn write_number_of_keys(output: &mut Vec<u8>, number: usize)
         ++ (codes "KEYS " ++ decimal number ++ codes "\n") }
 {
     let mut digits = Buffer::new();
-    write(output, b"KEYS ");
-    write(output, digits.format(number).as_bytes());
-    write(output, b"\n");
+    write_line(output, b"KEYS ", digits.format(number).as_bytes());
 }
 
 /// Replies to a `QUIT`.
@@ -67,7 +63,5 @@ pub fn quit<S: Store>(store: &S, now: u64, output: &mut Vec<u8>) -> Result<(), A
     ensures unwritten { OnErr result (output.new.items ≡ output.old.items) }
 {
     store.sound();
-    output.try_reserve(SHORT)?;
-    write(output, b"OK\n");
-    Ok(())
+    write_short(output, b"OK\n")
 }

@@ -8,7 +8,7 @@ ghost use Rattle.cache_commands.specs.Answered.{IsAnswered, IsTakable};
 ghost use Rattle.cache_commands.specs.Found.{found_text};
 ghost use Rattle.cache_store.specs.Values.{IsMoment, IsSpent};
 
-use crate::writing::write;
+use crate::writing::{write, write_line};
 use audit_model::{Accepted, Key, LineError};
 use cache_store::{Counts, Store, StoreError};
 use itoa::Buffer;
@@ -53,9 +53,7 @@ pub(crate) fn write_value(output: &mut Vec<u8>, bytes: &[u8]) -> Result<(), Allo
     ensures unwritten { OnErr result (output.new.items ≡ output.old.items) }
 {
     output.try_reserve(bytes.len() + SHORT)?;
-    write(output, b"VAL ");
-    write(output, bytes);
-    write(output, b"\n");
+    write_line(output, b"VAL ", bytes);
     Ok(())
 }
 
@@ -103,10 +101,7 @@ pub fn set<S: Store>(
 pub fn accepts(capacity: Option<u64>) -> bool
     ensures { result ≡ accepts_values capacity }
 {
-    match capacity {
-        Some(limit) => limit > 0,
-        None => true,
-    }
+    !matches!(capacity, Some(0))
 }
 
 /// Replies to a `DEL`.
@@ -155,9 +150,7 @@ fn write_counts(output: &mut Vec<u8>, counts: Counts)
     let mut weight = Buffer::new();
     write(output, b"SYNC ");
     write(output, number.format(counts.number).as_bytes());
-    write(output, b" ");
-    write(output, weight.format(counts.weight).as_bytes());
-    write(output, b"\n");
+    write_line(output, b" ", weight.format(counts.weight).as_bytes());
 }
 
 /// Replies to a line that cannot be read.
@@ -173,9 +166,7 @@ pub fn fault<S: Store>(
     ensures unwritten { OnErr result (output.new.items ≡ output.old.items) }
 {
     store.sound();
-    output.try_reserve(SHORT)?;
-    write(output, text_of(error));
-    Ok(())
+    write_short(output, text_of(error))
 }
 
 /// The reply to a line that cannot be read.

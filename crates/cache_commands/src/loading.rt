@@ -9,7 +9,7 @@ ghost use Rattle.cache_commands.specs.Found.{found_text};
 ghost use Rattle.cache_store.specs.Values.{IsLive, IsMoment, IsSpent};
 
 use crate::commands::{accepts, write_value};
-use crate::writing::write;
+use crate::writing::{write, write_line};
 use audit_model::{Accepted, Key, Outcome};
 use cache_store::{Store, StoreError};
 use std::alloc::AllocError;
@@ -100,17 +100,9 @@ pub fn write_outcome(outcome: &Outcome, output: &mut Vec<u8>)
     ensures { output.new.items ≡ output.old.items ++ outcome_text outcome.now }
 {
     match outcome {
-        Outcome::Value(bytes, _) => {
-            write(output, b"VAL ");
-            write(output, bytes.as_slice());
-            write(output, b"\n");
-        }
+        Outcome::Value(bytes, _) => write_line(output, b"VAL ", bytes.as_slice()),
         Outcome::None => write(output, b"NONE\n"),
-        Outcome::Fault(text) => {
-            write(output, b"ERR load ");
-            write(output, text.as_slice());
-            write(output, b"\n");
-        }
+        Outcome::Fault(text) => write_line(output, b"ERR load ", text.as_slice()),
     }
 }
 

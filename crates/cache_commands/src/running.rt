@@ -41,14 +41,15 @@ pub fn run_request<S: Store>(
     ensures unchanged { OnErr result (store.new ≡ store.old) }
     ensures unwritten { OnErr result (reply.new.items ≡ reply.old.items) }
 {
-    let accepted = match request {
+    match request {
         Request::Set {
             key: name,
             deadline,
             value,
         } => {
             key.fill(name)?;
-            set(store, key, deadline, value, now, reply)?
+            let accepted = set(store, key, deadline, value, now, reply)?;
+            return Ok(Ran::Answered(accepted));
         }
         Request::Add {
             key: name,
@@ -56,54 +57,33 @@ pub fn run_request<S: Store>(
             number,
         } => {
             key.fill(name)?;
-            add(store, key, deadline, number, now, reply)?
+            let accepted = add(store, key, deadline, number, now, reply)?;
+            return Ok(Ran::Answered(accepted));
         }
         Request::Load { key: name } => {
             key.fill(name)?;
             if !load(store, key, now, reply)? {
                 return Ok(Ran::Misses);
             }
-            None
         }
         Request::Get { key: name } => {
             key.fill(name)?;
             get(store, key, now, reply)?;
-            None
         }
         Request::Has { key: name } => {
             key.fill(name)?;
             has(store, key, now, reply)?;
-            None
         }
         Request::Del { key: name } => {
             key.fill(name)?;
             del(store, key, now, reply)?;
-            None
         }
-        Request::Clear => {
-            clear(store, now, reply)?;
-            None
-        }
-        Request::DropIf { prefix } => {
-            drop_prefix(store, prefix, now, reply)?;
-            None
-        }
-        Request::Keys => {
-            keys(store, now, reply)?;
-            None
-        }
-        Request::Sync => {
-            sync(store, now, reply)?;
-            None
-        }
-        Request::Quit => {
-            quit(store, now, reply)?;
-            None
-        }
-        Request::Fault(error) => {
-            fault(store, error, now, reply)?;
-            None
-        }
-    };
-    Ok(Ran::Answered(accepted))
+        Request::Clear => clear(store, now, reply)?,
+        Request::DropIf { prefix } => drop_prefix(store, prefix, now, reply)?,
+        Request::Keys => keys(store, now, reply)?,
+        Request::Sync => sync(store, now, reply)?,
+        Request::Quit => quit(store, now, reply)?,
+        Request::Fault(error) => fault(store, error, now, reply)?,
+    }
+    Ok(Ran::Answered(None))
 }

@@ -9,7 +9,7 @@ ghost use Rattle.cache_commands.specs.Answered.{IsAnswered};
 ghost use Rattle.cache_store.specs.Values.{AcceptsValue, IsMoment, IsSpent};
 
 use crate::commands::{SHORT, accepts, write_short};
-use crate::writing::write;
+use crate::writing::write_line;
 use audit_lines::number;
 use audit_model::{Accepted, Key};
 use cache_store::{Store, StoreError};
@@ -121,8 +121,6 @@ fn accept_sum<S: Store>(
     let mut buffer = Buffer::new();
     let digits = buffer.format(sum).as_bytes();
     let part = store.accept(key, digits, milliseconds, true, now)?;
-    write(output, b"VAL ");
-    write(output, digits);
-    write(output, b"\n");
+    write_line(output, b"VAL ", digits);
     Ok(part)
 }

@@ -1,8 +1,9 @@
 -- A load that may be settled.
-use Rattle.std.proofs.Common.{◌≡◌, ℕ, ◌<◌, ◌≤◌, ◌^◌, max, Bool, true, false, not, List, [], ◌∷◌, length, Option, Some, None, if◌then◌else◌, refl, sym, ap, ◌∙◌, subst, arith, nat_le, nat_lt, length-append}
-use Rattle.std.specs.Prelude.{MatchOption, is_some}
-use Rattle.std.specs.Option.{option_map, option_or}
+use Rattle.std.proofs.Common.{max, refl, sym, ap, ◌∙◌, subst, arith, ◌≡◌, ℕ, ◌<◌, ◌≤◌, ◌^◌, Bool, true, false, not, List, [], ◌∷◌, length, Option, Some, None, if◌then◌else◌, nat_le, nat_lt, MatchOption, is_some}
 use Rattle.std.proofs.lemmas.Bool.{leb-false, ltb-false}
+use Rattle.std.proofs.lemmas.List.{length-append}
+use Rattle.std.specs.Option.{option_map, option_or}
+use Rattle.audit_laws.proofs.waiting.Records.{settled-tidy}
 use Rattle.audit_model.specs.Belongs.{refusal_of, refusal_of_bytes, refusal_of_ms, refusal_of_outcome, refusal_where}
 use Rattle.audit_model.specs.Follows.{without_load}
 use Rattle.audit_model.specs.Grammar.{is_value}
@@ -10,22 +11,21 @@ use Rattle.audit_model.specs.Replies.{outcome_text}
 use Rattle.audit_model.specs.Situation.{PendingLoad}
 use Rattle.audit_model.specs.declared.config.Config.{Config}
 use Rattle.audit_model.specs.declared.event.Outcome.{Outcome}
-use Rattle.audit_model.specs.declared.event.Outcome.TheVariants as came
 use Rattle.audit_model.specs.declared.input.ServiceError.{ServiceError}
-use Rattle.audit_model.specs.declared.input.ServiceError.TheVariants as error
 use Rattle.audit_model.specs.declared.transcript.Accepted.{Accepted}
 use Rattle.audit_model.specs.declared.transcript.Note.{Note}
-use Rattle.audit_laws.proofs.waiting.Records.{settled-tidy}
-use Rattle.cache_core.specs.Connections.Presence.{Presence}
-use Rattle.cache_lines.specs.Waiting.{under_way}
-use Rattle.cache_lines.specs.declared.base.Base.{Base}
 use Rattle.cache_commands.specs.Loads.Pending.{load_numbered}
-use Rattle.cache_store.specs.Promises.{Frame}
-use Rattle.cache_store.specs.Values.{Values}
-use Rattle.cache_lines.specs.Tape.Taped.{IsAtRest, Taped, forgets, started}
+use Rattle.cache_core.specs.Connections.Presence.{Presence}
 use Rattle.cache_core.specs.Settled.{IsAmid}
 use Rattle.cache_core.specs.Settling.{AllLookAsBefore, AreWaiting, BeginsAnswer, CanSettle, answering, giving_up, known_of_loads, waiting_on}
 use Rattle.cache_core.specs.State.{IsInOrder, at_number, situation_with, state_of}
+use Rattle.cache_lines.specs.Tape.Taped.{IsAtRest, Taped, forgets, started}
+use Rattle.cache_lines.specs.Waiting.{under_way}
+use Rattle.cache_lines.specs.declared.base.Base.{Base}
+use Rattle.cache_store.specs.Promises.{Frame}
+use Rattle.cache_store.specs.Values.{Values}
+use Rattle.audit_model.specs.declared.event.Outcome.TheVariants as came
+use Rattle.audit_model.specs.declared.input.ServiceError.TheVariants as error
 use Rattle.cache_core.proofs.Happening.{started-some}
 use Rattle.cache_core.proofs.Touched.{all-texts}
 use Rattle.cache_core.proofs.Waiters.{same-wait, told-wait}
@@ -102,10 +102,8 @@ module _ {S T : Type 0} (view : S → Values) (tape : T → Option Taped) (base 
   pub amid-begun : (begun : T) (now moment room : ℕ) → now ≡ max moment latest → moment < 2 ^ 63 → tape begun ≡ option_map (started room) (tape base.tape) → IsAmid view tape now (record base { tape = begun }) cs room
   amid-begun begun now moment room at_now low starts =
       let some = started-some room (tape base.tape) (tape begun) starts in
-      let h = order.in_time in
-      let k = order.moment in
       record {
-        in_time = (omega (arith, h, at_now), omega (arith, k, low, at_now));
+        in_time = (omega (arith, order.in_time, at_now), omega (arith, order.moment, low, at_now));
         untaken = λ e. order.untaken (sym some ∙ e);
         outputs = λ e n. order.outputs (sym some ∙ e) n;
         room = started-room room (tape base.tape) (tape begun) starts;
@@ -120,18 +118,15 @@ module _ {S T : Type 0} (view : S → Values) (tape : T → Option Taped) (base 
   -- the load may be settled
   pub can-settle : (now moment : ℕ) → now ≡ max moment latest → moment < 2 ^ 63 → CanSettle view tape now base
   can-settle now moment at_now low =
-      let h = order.in_time in
-      let k = order.moment in
-      record { in_time = (omega (arith, h, at_now), omega (arith, k, low, at_now)); rests = order.rests; untaken = order.untaken }
+      record { in_time = (omega (arith, order.in_time, at_now), omega (arith, order.moment, low, at_now)); rests = order.rests; untaken = order.untaken }
 
   module _ (begun : Base S T) (ds : List Presence) (now load moment room : ℕ) (outcome : Outcome) (accepted : Option Accepted) (notes : List Note) (starts : BeginsAnswer view tape now load outcome accepted notes room base begun) (looks : AllLookAsBefore cs ds) where
     -- an answer's record is begun
     pub amid-answered : now ≡ max moment latest → moment < 2 ^ 63 → IsAmid view tape now begun ds room
     amid-answered at_now low =
         let some = started-some room (tape base.tape) (tape begun.tape) starts.begun in
-        let k = order.moment in
         record {
-          in_time = (subst (λ (f : Frame). f.latest ≤ now) (sym starts.drains.frame) starts.stored.frame.latest, omega (arith, k, low, at_now));
+          in_time = (subst (λ (f : Frame). f.latest ≤ now) (sym starts.drains.frame) starts.stored.frame.latest, omega (arith, order.moment, low, at_now));
           untaken = λ e. starts.untaken_is ∙ ap (λ b. if b then [] else (view starts.middle).untaken) (sym some ∙ e);
           outputs = λ e n. ap (λ xs. at_number [] xs n) (all-texts cs ds looks) ∙ order.outputs (sym some ∙ e) n;
           room = started-room room (tape base.tape) (tape begun.tape) starts.begun;

@@ -1,10 +1,9 @@
 -- What goes through a record.
-use Rattle.std.proofs.Common.{◌≡◌, ℕ, suc, ◌+◌, ◌<◌, ◌≤◌, true, false, List, [], ◌∷◌, ◌++◌, length, map, Option, Some, None, if◌then◌else◌, refl, sym, ap, ◌∙◌, subst, arith}
-use Rattle.std.specs.Prelude.{is_some, MatchOption}
-use Rattle.std.specs.List.{flat_map}
-use Rattle.std.specs.Option.{option_map, option_map_or}
+use Rattle.std.proofs.Common.{refl, sym, ap, ◌∙◌, subst, arith, ◌≡◌, ℕ, suc, ◌+◌, ◌<◌, ◌≤◌, true, false, List, [], ◌∷◌, ◌++◌, length, map, Option, Some, None, if◌then◌else◌, is_some, MatchOption}
 use Rattle.std.proofs.lemmas.List.{append-nil}
 use Rattle.std.proofs.lemmas.Option.{same_Some}
+use Rattle.std.specs.List.{flat_map}
+use Rattle.std.specs.Option.{option_map, option_map_or}
 use Rattle.audit_model.specs.Bytewise.{is_empty}
 use Rattle.audit_model.specs.Situation.{HeldValue}
 use Rattle.audit_model.specs.Steps.{Task}
@@ -12,20 +11,20 @@ use Rattle.audit_model.specs.declared.config.Config.{Config}
 use Rattle.audit_model.specs.declared.transcript.Step.{Step}
 use Rattle.cache_commands.specs.Right.{KeepsFrame}
 use Rattle.cache_core.specs.Connections.Presence.{Presence, reply_text_of, text_at}
-use Rattle.cache_lines.specs.Leads.Leads.{BeginsUnknown}
-use Rattle.cache_lines.specs.Bases.{CanRun}
-use Rattle.cache_lines.specs.Ended.{spare_of}
-use Rattle.cache_lines.specs.Gathered.{IsFresh, adds, gathered, stage, written}
-use Rattle.cache_lines.specs.Making.{Making, making_of}
-use Rattle.cache_lines.specs.declared.base.Base.{Base}
-use Rattle.cache_store.specs.Promises.{Frame}
-use Rattle.cache_store.specs.Values.{Values}
-use Rattle.cache_lines.specs.Tape.Taped.{HasSpare, IsBegun, Taped, started}
 use Rattle.cache_core.specs.Fed.{seen_at}
 use Rattle.cache_core.specs.Settled.{IsAmid, Parts, Piece}
 use Rattle.cache_core.specs.Settling.{PartsUnknown, Reruns}
 use Rattle.cache_core.specs.State.{at_number}
 use Rattle.cache_core.specs.Turned.{replies_to}
+use Rattle.cache_lines.specs.Bases.{CanRun}
+use Rattle.cache_lines.specs.Ended.{spare_of}
+use Rattle.cache_lines.specs.Gathered.{IsFresh, adds, gathered, stage, written}
+use Rattle.cache_lines.specs.Leads.Leads.{BeginsUnknown}
+use Rattle.cache_lines.specs.Making.{Making, making_of}
+use Rattle.cache_lines.specs.Tape.Taped.{HasSpare, IsBegun, Taped, started}
+use Rattle.cache_lines.specs.declared.base.Base.{Base}
+use Rattle.cache_store.specs.Promises.{Frame}
+use Rattle.cache_store.specs.Values.{Values}
 use Rattle.cache_core.proofs.Joined.{piece-on, piece-on-steps, still-kept}
 use Rattle.cache_core.proofs.connections.Getting.{found-at}
 use Rattle.cache_core.proofs.Spots.{seen-was}

@@ -1,54 +1,53 @@
 -- An answer's record, from its own step and its parts.
-use Rattle.std.proofs.Common.{◌≡◌, ℕ, ◌<◌, ◌^◌, max, Bool, true, false, List, [], ◌++◌, length, map, Option, Some, None, if◌then◌else◌, refl, sym, ap, ◌∙◌, subst, append_assoc}
-use Rattle.std.specs.Prelude.{IfSome, IsTrue, is_some}
-use Rattle.std.specs.List.{flat_map}
-use Rattle.std.specs.Option.{option_map, option_map_or}
+use Rattle.std.proofs.Common.{max, refl, sym, ap, ◌∙◌, subst, append_assoc, ◌≡◌, ℕ, ◌<◌, ◌^◌, Bool, true, false, List, [], ◌++◌, length, map, Option, Some, None, if◌then◌else◌, IfSome, IsTrue, is_some}
 use Rattle.std.proofs.lemmas.Bool.{eq-eqb}
 use Rattle.std.proofs.lemmas.List.{append-nil}
+use Rattle.std.specs.List.{flat_map}
+use Rattle.std.specs.Option.{option_map, option_map_or}
 use Rattle.audit_laws.specs.Leading.{is_parted}
 use Rattle.audit_model.specs.Belongs.{refusal_of}
 use Rattle.audit_model.specs.Follows.{after_event, tasks_in, without_load}
 use Rattle.audit_model.specs.History.{Storing, accepts_values}
 use Rattle.audit_model.specs.Places.{steps_of}
 use Rattle.audit_model.specs.Replies.{value_with}
-use Rattle.audit_model.specs.Situation as model
-use Rattle.audit_model.specs.Situation.{HeldValue, PendingLoad, Situation, key_in, view_in, waiting_in}
+use Rattle.audit_model.specs.Situation.{HeldValue, PendingLoad, Situation, view_in}
 use Rattle.audit_model.specs.Steps.{Deliver, RunLines, Task, effect_in}
 use Rattle.audit_model.specs.declared.command.Closing.{Closing}
 use Rattle.audit_model.specs.declared.config.Config.{Config}
 use Rattle.audit_model.specs.declared.event.Event.{Event}
 use Rattle.audit_model.specs.declared.event.Outcome.{Outcome}
-use Rattle.audit_model.specs.declared.event.Outcome.TheVariants as came
 use Rattle.audit_model.specs.declared.input.LoadId.{LoadId}
 use Rattle.audit_model.specs.declared.transcript.Accepted.{Accepted}
 use Rattle.audit_model.specs.declared.transcript.Note.{Note}
 use Rattle.audit_model.specs.declared.transcript.Record.{Record}
 use Rattle.audit_model.specs.declared.transcript.Step.{Step}
-use Rattle.cache_commands.proofs.Drawn.{spends-kept}
 use Rattle.cache_commands.specs.Loading.{step_silent}
+use Rattle.cache_commands.specs.Loads.Pending.{SameTaken, loads_pending, namespace_of_loads, outgoing_loads, sent_of}
 use Rattle.cache_commands.specs.Right.{held_when_run}
 use Rattle.cache_core.specs.Connections.Presence.{Presence, closing_of, open_from, reply_text_of}
-use Rattle.cache_lines.specs.Leads.Laws.{record_answered, when_stored}
-use Rattle.cache_lines.specs.Leads.Leads.{TasksLead}
-use Rattle.cache_lines.proofs.leads.Leading.{draws-on}
-use Rattle.cache_lines.proofs.leads.Settling.{answer}
-use Rattle.cache_lines.specs.Drawing.{Identifiers, identifiers_in}
-use Rattle.cache_lines.specs.Lines.{has_its_part}
-use Rattle.cache_lines.specs.Making.{Making, making_of}
-use Rattle.cache_lines.specs.Waiting.{UnderWay, under_way}
-use Rattle.cache_lines.specs.declared.base.Base.{Base}
-use Rattle.cache_lines.proofs.Drawn.{keeps-more}
-use Rattle.cache_commands.specs.Loads.Pending.{SameTaken, loads_pending, namespace_of_loads, outgoing_loads, sent_of}
-use Rattle.cache_store.specs.Identifiers.{KeepsIdentifiers}
-use Rattle.cache_store.specs.Promises.{Frame}
-use Rattle.cache_store.specs.Running.{is_bounded}
-use Rattle.cache_store.specs.Values.{IsSoundStore, Values}
-use Rattle.cache_lines.specs.Tape.Taped.{IsAtRest, Taped, finishes}
 use Rattle.cache_core.specs.Fed.{BaseStays}
 use Rattle.cache_core.specs.Settled.{Absent, Moves, Piece, course_at, middle_of}
 use Rattle.cache_core.specs.Settling.{AllLookAsBefore, BeginsAnswer, Happens, HandsOut, answering, but_for, known_of_loads, waiting_on}
 use Rattle.cache_core.specs.State.{IsInOrder, State, at_number, situation_with, state_of}
 use Rattle.cache_core.specs.Turned.{Turned, own_steps, replies_to, with_record}
+use Rattle.cache_lines.proofs.Drawn.{keeps-more}
+use Rattle.cache_lines.proofs.leads.Leading.{draws-on}
+use Rattle.cache_lines.proofs.leads.Settling.{answer}
+use Rattle.cache_lines.specs.Drawing.{Identifiers, identifiers_in}
+use Rattle.cache_lines.specs.Leads.Laws.{record_answered, when_stored}
+use Rattle.cache_lines.specs.Leads.Leads.{TasksLead}
+use Rattle.cache_lines.specs.Lines.{has_its_part}
+use Rattle.cache_lines.specs.Making.{Making, making_of}
+use Rattle.cache_lines.specs.Tape.Taped.{IsAtRest, Taped, finishes}
+use Rattle.cache_lines.specs.Waiting.{UnderWay, under_way}
+use Rattle.cache_lines.specs.declared.base.Base.{Base}
+use Rattle.cache_store.specs.Identifiers.{KeepsIdentifiers}
+use Rattle.cache_store.specs.Promises.{Frame}
+use Rattle.cache_store.specs.Running.{is_bounded}
+use Rattle.cache_store.specs.Values.{IsSoundStore, Values}
+use Rattle.audit_model.specs.Situation as model
+use Rattle.audit_model.specs.declared.event.Outcome.TheVariants as came
+use Rattle.cache_commands.proofs.Drawn.{spends-kept}
 use Rattle.cache_core.proofs.Sending.{sends-behind}
 use Rattle.cache_core.proofs.Happening.{closings-moved, orders-lost, settled-kept, started-some}
 use Rattle.cache_core.proofs.Orders.{order-turned}

@@ -1,29 +1,29 @@
 -- The connection at a place, as the calls on it see it.
-use Rattle.std.proofs.Common.{◌≡◌, ℕ, suc, ◌+◌, ◌<◌, ◌≤◌, true, List, [], ◌∷◌, length, Option, Some, None, refl, sym, ap, ◌∙◌, subst, arith}
+use Rattle.std.proofs.Common.{sym, ap, ◌∙◌, subst, arith, ◌≡◌, ℕ, suc, ◌+◌, ◌<◌, ◌≤◌, true, List, [], ◌∷◌, length, Option, Some, None}
 use Rattle.std.specs.List.{slice_get}
 use Rattle.audit_model.specs.Grammar.{reading}
 use Rattle.audit_model.specs.Steps.{Task}
 use Rattle.audit_model.specs.declared.config.Config.{Config}
+use Rattle.cache_commands.proofs.Taking.{taken-same}
+use Rattle.cache_commands.specs.Loads.Pending.{SameTaken}
+use Rattle.cache_commands.specs.declared.loads.loads.Loads.{Loads}
 use Rattle.cache_core.specs.Connection.Again.{StepRan}
 use Rattle.cache_core.specs.Connection.Fed.{seen_of}
-use Rattle.cache_core.specs.declared.connection.connection.Connection.{Connection}
 use Rattle.cache_core.specs.Connections.Presence.{Here, Presence, is_here}
+use Rattle.cache_core.specs.Fed.{ReplacedAt, seen_at}
+use Rattle.cache_core.specs.Settled.{IsAmid, Parts}
+use Rattle.cache_core.specs.Settling.{IsWaitingAt, LeavesOthers, Reruns}
 use Rattle.cache_lines.specs.Bases.{CanRun, Seen}
 use Rattle.cache_lines.specs.Ended.{spare_of}
 use Rattle.cache_lines.specs.Gathered.{stage}
 use Rattle.cache_lines.specs.Making.{making_of}
+use Rattle.cache_lines.specs.Tape.Taped.{Taped}
 use Rattle.cache_lines.specs.Waiting.{is_load, under_way}
 use Rattle.cache_lines.specs.Whole.{held_line}
 use Rattle.cache_lines.specs.declared.base.Base.{Base}
-use Rattle.cache_commands.proofs.Taking.{taken-same}
-use Rattle.cache_commands.specs.Loads.Pending.{SameTaken}
-use Rattle.cache_commands.specs.declared.loads.loads.Loads.{Loads}
-use Rattle.cache_commands.specs.declared.loads.standing.Standing.TheVariants as now_is
 use Rattle.cache_store.specs.Values.{IsSoundStore, Values}
-use Rattle.cache_lines.specs.Tape.Taped.{Taped}
-use Rattle.cache_core.specs.Fed.{ReplacedAt, seen_at}
-use Rattle.cache_core.specs.Settled.{IsAmid, Parts}
-use Rattle.cache_core.specs.Settling.{IsWaitingAt, LeavesOthers, Reruns}
+use Rattle.cache_core.specs.declared.connection.connection.Connection.{Connection}
+use Rattle.cache_commands.specs.declared.loads.standing.Standing.TheVariants as now_is
 use Rattle.cache_core.proofs.Amid.{amid-behind, can-run}
 use Rattle.cache_core.proofs.Spots.{replaced-is, same-here, text-is}
 use Rattle.cache_core.proofs.Steps.{piece-step}
@@ -37,16 +37,14 @@ pub record Waits (config : Config) (c : Connection) : Type 0 where
 
 pub waits-is : (config : Config) (cs : List Presence) (i : ℕ) (c : Connection) → IsWaitingAt config cs (i + 1) → slice_get cs i ≡ Some (Here c) → Waits config c
 waits-is config cs i c w at =
-    let e = w.place in
-    let here : w.index ≡ i = omega (arith, e) in
+    let here : w.index ≡ i = omega (arith, w.place) in
     let is : w.is ≡ c = same-here (slice_get cs i) w.is c (ap (slice_get cs) (sym here) ∙ w.at) at in
     subst (Waits config) is (record { waits = w.waits; is_open = w.is_open; load = w.load })
 
 -- it is here
 pub waits-here : (config : Config) (cs : List Presence) (i : ℕ) → IsWaitingAt config cs (i + 1) → is_here (slice_get cs i) ≡ true
 waits-here config cs i w =
-    let e = w.place in
-    let here : w.index ≡ i = omega (arith, e) in
+    let here : w.index ≡ i = omega (arith, w.place) in
     ap is_here (ap (slice_get cs) (sym here) ∙ w.at)
 
 -- it may run lines

@@ -1,16 +1,16 @@
 -- How a connection goes on, by one list of its steps behind another.
-use Rattle.std.proofs.Common.{◌≡◌, ℕ, Bool, true, false, ◌==◌, List, [], ◌∷◌, ◌++◌, cond, refl, sym, ap, ◌∙◌, subst}
+use Rattle.std.proofs.Common.{cond, refl, sym, ap, ◌∙◌, subst, ◌≡◌, ℕ, Bool, true, false, ◌==◌, List, [], ◌∷◌, ◌++◌}
 use Rattle.std.proofs.lemmas.List.{append-nil}
 use Rattle.audit_model.specs.Bytewise.{is_empty}
 use Rattle.audit_model.specs.declared.command.Closing.{Closing}
 use Rattle.audit_model.specs.declared.config.Config.{Config}
 use Rattle.audit_model.specs.declared.transcript.Step.{Step}
-use Rattle.cache_lines.specs.Ended.{ends_silent}
-use Rattle.cache_lines.specs.Lines.{ends_quit}
 use Rattle.cache_core.specs.Connection.Again.{EndsCalm}
 use Rattle.cache_core.specs.Connection.Fed.{closing_by}
-use Rattle.cache_core.specs.Settled.{Absent, Closed, Course, Moves, Resting, Running, closing_of_steps}
 use Rattle.cache_core.specs.Turned.{own_steps}
+use Rattle.cache_lines.specs.Ended.{ends_silent}
+use Rattle.cache_lines.specs.Lines.{ends_quit}
+use Rattle.cache_core.specs.Settled.{Running, Absent, Closed, Course, Moves, Resting, closing_of_steps}
 
 -- the last of steps is the last of those behind
 quit-behind : (config : Config) (xs ys : List Step) → is_empty ys ≡ false → ends_quit config (xs ++ ys) ≡ ends_quit config ys

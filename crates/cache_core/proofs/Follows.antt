@@ -1,44 +1,43 @@
 -- A feed of a namespace is one record that follows.
-use Rattle.std.proofs.Common.{◌≡◌, ℕ, suc, ◌+◌, ◌<◌, ◌^◌, max, Bool, true, false, not, ◌&&◌, ◌==◌, List, [], ◌++◌, Option, Some, None, if◌then◌else◌, refl, sym, ap, ◌∙◌, arith, nat_le, subst}
-use Rattle.std.specs.Prelude.{is_some, is_none, slice_set, IsTrue}
+use Rattle.std.proofs.Common.{max, refl, sym, ap, ◌∙◌, arith, subst, ◌≡◌, ℕ, suc, ◌+◌, ◌<◌, ◌^◌, Bool, true, false, not, ◌&&◌, ◌==◌, List, [], ◌++◌, Option, Some, None, if◌then◌else◌, nat_le, is_some, is_none, slice_set, IsTrue}
+use Rattle.std.proofs.lemmas.Option.{slice_get_within}
 use Rattle.std.specs.List.{flat_map, list_all, slice_get}
 use Rattle.std.specs.Option.{option_map, option_map_or, option_or}
-use Rattle.std.proofs.lemmas.Option.{slice_get_within}
 use Rattle.audit_laws.specs.Leading.{is_parted}
 use Rattle.audit_laws.specs.Placing.{placed_steps_in}
 use Rattle.audit_model.specs.Belongs.{refusal_where}
 use Rattle.audit_model.specs.Follows.{after_event, after_steps, known_in, tasks_in}
 use Rattle.audit_model.specs.Obeys.{accepted_values}
 use Rattle.audit_model.specs.Places.{tasks_to_feed}
-use Rattle.audit_model.specs.Situation as model
-use Rattle.audit_model.specs.Situation.{HeldValue, Situation, connection_in, is_holding, is_waiting_now, with_connection}
+use Rattle.audit_model.specs.Situation.{HeldValue, Situation, is_holding, is_waiting_now, with_connection}
 use Rattle.audit_model.specs.declared.config.Config.{Config}
-use Rattle.audit_model.specs.declared.input.ServiceError.TheVariants as error
 use Rattle.audit_model.specs.declared.transcript.Record.{Record}
 use Rattle.audit_model.specs.declared.transcript.Step.{Step}
+use Rattle.cache_commands.proofs.Taking.{taken-on}
+use Rattle.cache_commands.specs.Loads.Pending.{SameTaken}
+use Rattle.cache_commands.specs.Loads.Standings.{holds_line, waits_for_load}
+use Rattle.cache_commands.specs.declared.loads.loads.Loads.{Loads}
+use Rattle.cache_core.specs.Connection.Fed.{closing_by}
+use Rattle.cache_core.specs.Connection.Fits.{ClosesFor}
+use Rattle.cache_core.specs.Connection.Shown.{put_in, shown, with_piece}
+use Rattle.cache_core.specs.Connections.Presence.{Here, Presence, closing_at, text_at}
+use Rattle.cache_core.specs.Fed.{FedTurn, ReplacedAt, seen_at}
+use Rattle.cache_core.specs.State.{IsInOrder, State, situation_with, state_of}
+use Rattle.cache_core.specs.Turned.{IsRecordOf, Turned, Turns, feeding, own_steps, reason_of}
 use Rattle.cache_lines.specs.Ended.{RanTasks, ends_silent}
 use Rattle.cache_lines.specs.Gathered.{reply_in, stage}
 use Rattle.cache_lines.specs.Lines.{are_timely, ends_quit, set_in}
 use Rattle.cache_lines.specs.Making.{making_of}
 use Rattle.cache_lines.specs.Ordered.{HaveKeys}
+use Rattle.cache_lines.specs.Tape.Taped.{IsAtRest, Taped, started}
 use Rattle.cache_lines.specs.Waiting.{under_way, when_left}
 use Rattle.cache_lines.specs.declared.base.Base.{Base}
-use Rattle.cache_commands.proofs.Taking.{taken-on}
-use Rattle.cache_commands.specs.Loads.Pending.{SameTaken}
-use Rattle.cache_commands.specs.Loads.Standings.{holds_line, waits_for_load}
-use Rattle.cache_commands.specs.declared.loads.loads.Loads.{Loads}
 use Rattle.cache_store.specs.Promises.{Frame}
 use Rattle.cache_store.specs.Running.{is_bounded}
 use Rattle.cache_store.specs.Values.{IsSoundStore, Values}
-use Rattle.cache_lines.specs.Tape.Taped.{IsAtRest, Taped, started}
-use Rattle.cache_core.specs.Connection.Fed.{closing_by}
-use Rattle.cache_core.specs.Fed.{FedTurn, ReplacedAt, seen_at}
-use Rattle.cache_core.specs.Connection.Fits.{ClosesFor}
-use Rattle.cache_core.specs.Connection.Shown.{put_in, shown, with_piece}
-use Rattle.cache_core.specs.State.{IsInOrder, State, situation_with, state_of}
-use Rattle.cache_core.specs.Turned.{IsRecordOf, Turned, Turns, feeding, own_steps, reason_of}
+use Rattle.audit_model.specs.Situation as model
+use Rattle.audit_model.specs.declared.input.ServiceError.TheVariants as error
 use Rattle.cache_core.specs.declared.connection.connection.Connection.{Connection}
-use Rattle.cache_core.specs.Connections.Presence.{Here, Presence, closing_at, text_at}
 use Rattle.cache_core.proofs.Orders.{order-turned}
 use Rattle.cache_core.proofs.Own.{all-own, feed-own, own-all}
 use Rattle.cache_core.proofs.Records.{KeptBy, kept-by}

@@ -1,21 +1,20 @@
 -- A load that is taken out, and those that waited for it.
-use Rattle.std.proofs.Common.{◌≡◌, ℕ, ◌≤◌, Bool, not, ◌==◌, if◌then◌else◌, List, [], Option, Some, refl, ap, ◌∙◌}
-use Rattle.std.specs.Prelude.{is_some}
+use Rattle.std.proofs.Common.{refl, ap, ◌∙◌, ◌≡◌, ℕ, ◌≤◌, Bool, not, ◌==◌, if◌then◌else◌, List, [], Option, Some, is_some}
 use Rattle.std.specs.List.{filter}
 use Rattle.std.specs.Option.{option_map, option_map_or}
 use Rattle.audit_model.specs.Situation.{PendingLoad}
 use Rattle.audit_model.specs.declared.event.Outcome.{Outcome}
 use Rattle.audit_model.specs.declared.transcript.Accepted.{Accepted}
 use Rattle.audit_model.specs.declared.transcript.Note.{Note}
-use Rattle.cache_core.specs.Connections.Presence.{Presence}
-use Rattle.cache_lines.specs.Waiting.{UnderWay, under_way}
-use Rattle.cache_lines.specs.declared.base.Base.{Base}
 use Rattle.cache_commands.specs.Loads.Pending.{load_numbered, loads_pending, sent_of}
 use Rattle.cache_commands.specs.declared.loads.loads.Loads.{Loads}
-use Rattle.cache_store.specs.Values.{GivesNote, Values}
-use Rattle.cache_lines.specs.Tape.Taped.{Taped, started}
+use Rattle.cache_core.specs.Connections.Presence.{Presence}
 use Rattle.cache_core.specs.Settled.{IsAmid}
 use Rattle.cache_core.specs.Settling.{BeginsAnswer, StoresNoted, but_for, waiting_on}
+use Rattle.cache_lines.specs.Tape.Taped.{Taped, started}
+use Rattle.cache_lines.specs.Waiting.{UnderWay, under_way}
+use Rattle.cache_lines.specs.declared.base.Base.{Base}
+use Rattle.cache_store.specs.Values.{GivesNote, Values}
 use Rattle.cache_core.proofs.Amid.{room-least}
 
 -- those that waited

@@ -1,51 +1,50 @@
 -- A settled load's record, from its parts.
-use Rattle.std.proofs.Common.{◌≡◌, ℕ, zero, suc, ◌+◌, ◌<◌, ◌^◌, max, Bool, true, false, not, ◌||◌, ◌==◌, List, [], ◌∷◌, ◌++◌, map, Option, Some, None, if◌then◌else◌, refl, sym, ap, ◌∙◌, subst, arith, inl}
-use Rattle.std.specs.Prelude.{is_none, is_some, IsTrue, MatchOption}
-use Rattle.std.specs.List.{find, flat_map}
-use Rattle.std.specs.Option.{option_map}
+use Rattle.std.proofs.Common.{max, refl, sym, ap, ◌∙◌, subst, arith, inl, ◌≡◌, ℕ, zero, suc, ◌+◌, ◌<◌, ◌^◌, Bool, true, false, not, ◌||◌, ◌==◌, List, [], ◌∷◌, ◌++◌, map, Option, Some, None, if◌then◌else◌, is_none, is_some, IsTrue, MatchOption}
 use Rattle.std.proofs.lemmas.List.{append-nil}
 use Rattle.std.proofs.lemmas.Option.{same_Some}
+use Rattle.std.specs.List.{find, flat_map}
+use Rattle.std.specs.Option.{option_map}
 use Rattle.audit_model.specs.Belongs.{refusal_of}
 use Rattle.audit_model.specs.Bytewise.{is_empty}
 use Rattle.audit_model.specs.Follows.{without_load}
 use Rattle.audit_model.specs.Places.{tasks_to_give_up}
-use Rattle.audit_model.specs.Situation as model
-use Rattle.audit_model.specs.Situation.{HeldValue, Situation, connection_in, waiting_in}
+use Rattle.audit_model.specs.Situation.{HeldValue, Situation, connection_in}
 use Rattle.audit_model.specs.Steps.{Task}
 use Rattle.audit_model.specs.declared.command.Closing.{Closing}
 use Rattle.audit_model.specs.declared.config.Config.{Config}
 use Rattle.audit_model.specs.declared.event.Event.{Event}
 use Rattle.audit_model.specs.declared.input.ServiceError.{ServiceError}
-use Rattle.audit_model.specs.declared.input.ServiceError.TheVariants as error
 use Rattle.audit_model.specs.declared.transcript.Accepted.{Accepted}
 use Rattle.audit_model.specs.declared.transcript.Note.{Note}
 use Rattle.audit_model.specs.declared.transcript.Record.{Record}
 use Rattle.audit_model.specs.declared.transcript.Step.{Step}
-use Rattle.cache_commands.specs.Order.{AgreesWith}
-use Rattle.cache_core.specs.Connection.Shown.{shown}
-use Rattle.cache_core.specs.Connections.Presence.{Gone, Here, Out, Presence, closing_of, open_from, reply_text_of}
-use Rattle.cache_lines.specs.Leads.Laws.{record_given_up}
-use Rattle.cache_lines.specs.Leads.Leads.{LeavesUnknown, TasksLead}
-use Rattle.cache_lines.proofs.leads.Settling.{give-up}
-use Rattle.cache_lines.specs.Drawing.{identifiers_in}
-use Rattle.cache_lines.specs.Gathered.{adds, written}
-use Rattle.cache_lines.specs.Making.{making_of}
-use Rattle.cache_lines.specs.Ordered.{OrdersSteps}
-use Rattle.cache_lines.specs.Waiting.{UnderWay, under_way}
-use Rattle.cache_lines.specs.declared.base.Base.{Base}
 use Rattle.cache_commands.specs.Loads.Pending.{SameTaken, loads_pending}
+use Rattle.cache_commands.specs.Order.{AgreesWith}
 use Rattle.cache_commands.specs.declared.loads.loads.Loads.{Loads}
 use Rattle.cache_commands.specs.declared.loads.standing.Standing.{Standing}
-use Rattle.cache_commands.specs.declared.loads.standing.Standing.TheVariants as now_is
-use Rattle.cache_store.specs.Promises.{Frame}
-use Rattle.cache_store.specs.Running.{is_bounded}
-use Rattle.cache_store.specs.Values.{IsSoundStore, Values}
-use Rattle.cache_lines.specs.Tape.Taped.{IsAtRest, Taped, finishes, started, with_entry}
+use Rattle.cache_core.specs.Connection.Shown.{shown}
+use Rattle.cache_core.specs.Connections.Presence.{Gone, Here, Out, Presence, closing_of, open_from, reply_text_of}
 use Rattle.cache_core.specs.Fed.{WantsMemory}
-use Rattle.cache_core.specs.Settled.{Absent, Closed, Course, Moves, Resting, Running, course_at, course_in, course_of, closing_of_steps, middle_of}
 use Rattle.cache_core.specs.Settling.{Happens, PartsUnknown, but_for, giving_up, known_of_loads, waiting_on}
 use Rattle.cache_core.specs.State.{IsInOrder, State, at_number, known_of, situation_with, state_of}
 use Rattle.cache_core.specs.Turned.{RefusesBy, Turned, closing_behind, own_steps, reason_of, replies_to, with_record}
+use Rattle.cache_lines.proofs.leads.Settling.{give-up}
+use Rattle.cache_lines.specs.Drawing.{identifiers_in}
+use Rattle.cache_lines.specs.Gathered.{adds, written}
+use Rattle.cache_lines.specs.Leads.Laws.{record_given_up}
+use Rattle.cache_lines.specs.Leads.Leads.{LeavesUnknown, TasksLead}
+use Rattle.cache_lines.specs.Making.{making_of}
+use Rattle.cache_lines.specs.Ordered.{OrdersSteps}
+use Rattle.cache_lines.specs.Tape.Taped.{IsAtRest, Taped, finishes, started, with_entry}
+use Rattle.cache_lines.specs.Waiting.{UnderWay, under_way}
+use Rattle.cache_lines.specs.declared.base.Base.{Base}
+use Rattle.cache_store.specs.Promises.{Frame}
+use Rattle.cache_store.specs.Running.{is_bounded}
+use Rattle.cache_store.specs.Values.{IsSoundStore, Values}
+use Rattle.audit_model.specs.Situation as model
+use Rattle.audit_model.specs.declared.input.ServiceError.TheVariants as error
+use Rattle.cache_commands.specs.declared.loads.standing.Standing.TheVariants as now_is
+use Rattle.cache_core.specs.Settled.{Running, Absent, Closed, Course, Moves, Resting, course_at, course_in, course_of, closing_of_steps, middle_of}
 use Rattle.cache_core.proofs.Sending.{sends-behind}
 use Rattle.cache_core.proofs.Orders.{order-turned}
 use Rattle.cache_core.proofs.Table.{found-first, listed_as, listed_of, none-below, passed-over}

@@ -1,35 +1,34 @@
 -- One part of a record behind another.
-use Rattle.std.proofs.Common.{◌≡◌, ◌≢◌, ℕ, suc, Bool, true, false, ◌==◌, List, [], ◌∷◌, ◌++◌, map, Option, Some, None, if◌then◌else◌, refl, sym, ap, ◌∙◌, subst, append_assoc}
-use Rattle.std.specs.Prelude.{is_some, slice_set}
-use Rattle.std.specs.List.{flat_map, list_all, slice_get}
-use Rattle.std.specs.Option.{option_map}
+use Rattle.std.proofs.Common.{refl, sym, ap, ◌∙◌, subst, append_assoc, ◌≡◌, ◌≢◌, ℕ, suc, Bool, true, false, ◌==◌, List, [], ◌∷◌, ◌++◌, map, Option, Some, None, if◌then◌else◌, is_some, slice_set}
 use Rattle.std.proofs.lemmas.Bool.{eq-eqb, eqb-true}
 use Rattle.std.proofs.lemmas.List.{append-nil}
 use Rattle.std.proofs.lemmas.Option.{slice_get_within}
+use Rattle.std.specs.List.{flat_map, list_all, slice_get}
+use Rattle.std.specs.Option.{option_map}
 use Rattle.audit_model.specs.Situation.{HeldValue}
 use Rattle.audit_model.specs.Steps.{Task}
 use Rattle.audit_model.specs.declared.config.Config.{Config}
 use Rattle.audit_model.specs.declared.transcript.Note.{Note}
 use Rattle.audit_model.specs.declared.transcript.Step.{Step}
-use Rattle.cache_lines.specs.Leads.Leads.{TasksLead}
-use Rattle.cache_lines.proofs.leads.Leading.{on}
-use Rattle.cache_lines.specs.Drawing.{identifiers_in}
-use Rattle.cache_lines.specs.Gathered.{Gathered, adds, gather, gathered, reply_in, stage, written}
-use Rattle.cache_lines.specs.Making.{Making}
-use Rattle.cache_lines.specs.Waiting.{under_way}
-use Rattle.cache_lines.specs.declared.base.Base.{Base}
-use Rattle.cache_store.specs.Values.{Values}
-use Rattle.cache_lines.specs.Tape.Taped.{Taped}
+use Rattle.cache_core.specs.Connections.Presence.{Here, Presence, reply_text_of}
 use Rattle.cache_core.specs.Settled.{Absent, Moves, Piece, course_at, course_in, course_of, middle_of}
 use Rattle.cache_core.specs.State.{at_number}
 use Rattle.cache_core.specs.Turned.{own_steps, replies_to}
+use Rattle.cache_lines.proofs.leads.Leading.{on}
+use Rattle.cache_lines.specs.Drawing.{identifiers_in}
+use Rattle.cache_lines.specs.Gathered.{Gathered, adds, gather, gathered, reply_in, stage, written}
+use Rattle.cache_lines.specs.Leads.Leads.{TasksLead}
+use Rattle.cache_lines.specs.Making.{Making}
+use Rattle.cache_lines.specs.Tape.Taped.{Taped}
+use Rattle.cache_lines.specs.Waiting.{under_way}
+use Rattle.cache_lines.specs.declared.base.Base.{Base}
+use Rattle.cache_store.specs.Values.{Values}
 use Rattle.cache_core.specs.declared.connection.connection.Connection.{Connection}
-use Rattle.cache_core.specs.Connections.Presence.{Here, Presence, reply_text_of}
 use Rattle.cache_core.proofs.Courses.{moves-none, moves-on, own-both}
 use Rattle.cache_core.proofs.Own.{own-all, own-none}
 use Rattle.cache_core.proofs.Spots.{seen-at, seen-other, seen-was}
 
-flat-both : {A B : Type 0} (f : A → List B) (xs ys : List A) → flat_map f (xs ++ ys) ≡ flat_map f xs ++ flat_map f ys
+pub flat-both : {A B : Type 0} (f : A → List B) (xs ys : List A) → flat_map f (xs ++ ys) ≡ flat_map f xs ++ flat_map f ys
 flat-both f [] ys = refl
 flat-both f (x ∷ xs) ys = ap (λ zs. f x ++ zs) (flat-both f xs ys) ∙ sym (append_assoc (f x) (flat_map f xs) (flat_map f ys))
 

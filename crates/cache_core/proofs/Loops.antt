@@ -1,25 +1,21 @@
 -- Calls on connections, one after another.
-use Rattle.std.proofs.Common.{◌≡◌, ℕ, ◌+◌, ◌-◌, ◌≤◌, ◌<◌, List, [], ◌∷◌, ◌++◌, length, map, take, drop, get_or, Option, refl, sym, ap, ◌∙◌, subst, arith, append_assoc}
-use Rattle.std.specs.List.{flat_map}
+use Rattle.std.proofs.Common.{drop, get_or, refl, ap, ◌∙◌, subst, arith, ◌≡◌, ℕ, ◌+◌, ◌-◌, ◌≤◌, ◌<◌, List, [], ◌∷◌, ◌++◌, length, map, take, Option}
+use Rattle.audit_laws.specs.Waiting.Tidy.{times_in}
 use Rattle.audit_model.specs.Places.{tasks_to_give_up}
 use Rattle.audit_model.specs.Steps.{RunAgain, RunLines, Task}
-use Rattle.audit_laws.specs.Waiting.Tidy.{times_in}
 use Rattle.cache_core.specs.Connections.Presence.{Presence}
-use Rattle.cache_lines.specs.declared.base.Base.{Base}
-use Rattle.cache_store.specs.Values.{Values}
-use Rattle.cache_lines.specs.Tape.Taped.{Taped}
 use Rattle.cache_core.specs.Settled.{IsAmid}
 use Rattle.cache_core.specs.Settling.{AreThere}
+use Rattle.cache_lines.specs.Tape.Taped.{Taped}
+use Rattle.cache_lines.specs.declared.base.Base.{Base}
+use Rattle.cache_store.specs.Values.{Values}
 use Rattle.cache_core.proofs.Amid.{amid-least}
-use Rattle.cache_core.proofs.Waiters.{front-more, rest-next}
+use Rattle.cache_core.proofs.Waiters.{front-more, once-first, rest-next}
+use Rattle.cache_core.proofs.Joined.{flat-both}
 
 map-both : {A B : Type 0} (f : A → B) (xs ys : List A) → map f (xs ++ ys) ≡ map f xs ++ map f ys
 map-both f [] ys = refl
 map-both f (x ∷ xs) ys = ap (λ zs. f x ∷ zs) (map-both f xs ys)
-
-flat-both : {A B : Type 0} (f : A → List B) (xs ys : List A) → flat_map f (xs ++ ys) ≡ flat_map f xs ++ flat_map f ys
-flat-both f [] ys = refl
-flat-both f (x ∷ xs) ys = ap (λ zs. f x ++ zs) (flat-both f xs ys) ∙ sym (append_assoc (f x) (flat_map f xs) (flat_map f ys))
 
 -- the tasks of one more
 pub mapped-more : (f : ℕ → Task) (ns : List ℕ) (at : ℕ) → at < length ns → map f (take (at + 1) ns) ≡ map f (take at ns) ++ f (get_or ns at 0) ∷ []
@@ -31,6 +27,9 @@ give-up-more ns at lt = ap tasks_to_give_up (front-more ns at lt) ∙ flat-both 
 -- numbers that are there
 pub there-number : (n : ℕ) → 1 ≤ n → n - 1 + 1 ≡ n
 there-number n le = omega (arith, le)
+
+pub next-there : (cs : List Presence) (ns : List ℕ) (at : ℕ) → at < length ns → AreThere cs (drop at ns) → (1 ≤ get_or ns at 0) × (get_or ns at 0 ≤ length cs)
+next-there cs ns at lt there = (subst (AreThere cs) (rest-next ns at lt) there) (get_or ns at 0) (once-first (get_or ns at 0) (drop (at + 1) ns))
 
 pub first-there : (cs : List Presence) (n : ℕ) → 1 ≤ n → n ≤ length cs → n - 1 < length cs
 first-there cs n a b = omega (arith, a, b)

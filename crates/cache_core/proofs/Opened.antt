@@ -1,40 +1,39 @@
 -- Openings and closings of a namespace, as records that follow.
-use Rattle.std.proofs.Common.{◌≡◌, ℕ, zero, suc, ◌+◌, Bool, true, false, not, ◌&&◌, ◌||◌, ◌==◌, cond, List, [], ◌∷◌, ◌++◌, length, map, Option, Some, None, if◌then◌else◌, refl, sym, ap, ◌∙◌, arith, length-append, subst, inr}
-use Rattle.std.specs.Prelude.{is_some, is_none, slice_set}
+use Rattle.std.proofs.Common.{cond, refl, sym, ap, ◌∙◌, arith, subst, inr, ◌≡◌, ℕ, zero, suc, ◌+◌, Bool, true, false, not, ◌&&◌, ◌||◌, ◌==◌, List, [], ◌∷◌, ◌++◌, length, map, Option, Some, None, if◌then◌else◌, is_some, is_none, slice_set}
+use Rattle.std.proofs.lemmas.Bool.{eq-eqb}
+use Rattle.std.proofs.lemmas.List.{length-append, append-nil, length-map}
+use Rattle.std.proofs.lemmas.Option.{slice_get_within}
 use Rattle.std.specs.List.{find}
 use Rattle.std.specs.Option.{option_map, option_or}
-use Rattle.std.proofs.lemmas.Bool.{eq-eqb}
-use Rattle.std.proofs.lemmas.List.{append-nil, length-map}
-use Rattle.std.proofs.lemmas.Option.{slice_get_within}
 use Rattle.audit_model.specs.Belongs.{refusal_where}
 use Rattle.audit_model.specs.Follows.{known_in}
-use Rattle.audit_model.specs.Situation as model
 use Rattle.audit_model.specs.Situation.{HeldValue, Situation, connection_in, without_connection, without_waiting}
 use Rattle.audit_model.specs.declared.command.Closing.{Closing}
-use Rattle.audit_model.specs.declared.command.Closing.TheVariants as by
 use Rattle.audit_model.specs.declared.config.Config.{Config}
 use Rattle.audit_model.specs.declared.event.Event.{Event}
-use Rattle.audit_model.specs.declared.event.Event.TheVariants as event
-use Rattle.audit_model.specs.declared.input.ServiceError.TheVariants as error
 use Rattle.audit_model.specs.declared.transcript.Record.{Record}
-use Rattle.cache_lines.specs.Drawing.{identifiers_in}
-use Rattle.cache_lines.specs.Lines.{ready}
-use Rattle.cache_lines.specs.Waiting.{under_way, when_left}
-use Rattle.cache_lines.specs.declared.base.Base.{Base}
-use Rattle.cache_lines.proofs.Drawn.{spends-same}
 use Rattle.cache_commands.proofs.Taking.{taken-same}
 use Rattle.cache_commands.specs.Loads.Pending.{SameTaken, loads_pending, sent_of}
 use Rattle.cache_commands.specs.declared.loads.loads.Loads.{Loads}
-use Rattle.cache_commands.specs.declared.loads.standing.Standing.TheVariants as now
-use Rattle.cache_store.specs.Values.{IsSoundStore, Values}
-use Rattle.cache_lines.specs.Tape.Taped.{IsAtRest, Taped, finishes, started, with_entry}
-use Rattle.cache_core.specs.Fed.{ReplacedAt}
 use Rattle.cache_core.specs.Connection.Parts.{standing_as}
 use Rattle.cache_core.specs.Connection.Shown.{shown}
+use Rattle.cache_core.specs.Connections.Presence.{Here, Presence, closing_of, open_from, reply_text_of}
+use Rattle.cache_core.specs.Fed.{ReplacedAt}
 use Rattle.cache_core.specs.State.{IsInOrder, State, at_number, situation_with, state_of}
 use Rattle.cache_core.specs.Turned.{Turned, Turns, closing_behind, reason_of, with_record}
+use Rattle.cache_lines.proofs.Drawn.{spends-same}
+use Rattle.cache_lines.specs.Drawing.{identifiers_in}
+use Rattle.cache_lines.specs.Lines.{ready}
+use Rattle.cache_lines.specs.Tape.Taped.{IsAtRest, Taped, finishes, started, with_entry}
+use Rattle.cache_lines.specs.Waiting.{under_way, when_left}
+use Rattle.cache_lines.specs.declared.base.Base.{Base}
+use Rattle.cache_store.specs.Values.{IsSoundStore, Values}
+use Rattle.audit_model.specs.Situation as model
+use Rattle.audit_model.specs.declared.command.Closing.TheVariants as by
+use Rattle.audit_model.specs.declared.event.Event.TheVariants as event
+use Rattle.audit_model.specs.declared.input.ServiceError.TheVariants as error
+use Rattle.cache_commands.specs.declared.loads.standing.Standing.TheVariants as now
 use Rattle.cache_core.specs.declared.connection.connection.Connection.{Connection}
-use Rattle.cache_core.specs.Connections.Presence.{Here, Presence, closing_of, open_from, reply_text_of}
 use Rattle.cache_core.proofs.Sending.{sends-behind}
 use Rattle.cache_core.proofs.Orders.{order-turned}
 use Rattle.cache_core.proofs.connections.Getting.{map-same}

@@ -1,43 +1,42 @@
 -- A namespace in order, before and behind an event, and how an event is refused.
-use Rattle.std.proofs.Common.{◌≡◌, ℕ, suc, ◌<◌, ◌≤◌, ◌^◌, Bool, true, false, not, List, [], ◌∷◌, ◌++◌, length, map, Option, Some, None, if◌then◌else◌, refl, sym, ap, ◌∙◌, arith, nat_lt, nat_le, subst, inl}
-use Rattle.std.specs.Prelude.{is_some, is_none, ◌⊎◌, MatchOption}
-use Rattle.std.specs.List.{slice_get}
-use Rattle.std.specs.Option.{option_map, option_map_or, option_or}
+use Rattle.std.proofs.Common.{refl, sym, ap, ◌∙◌, arith, subst, inl, ◌≡◌, ℕ, suc, ◌<◌, ◌≤◌, ◌^◌, Bool, true, false, not, List, [], ◌∷◌, ◌++◌, length, map, Option, Some, None, if◌then◌else◌, nat_lt, nat_le, is_some, is_none, ◌⊎◌, MatchOption}
 use Rattle.std.proofs.lemmas.Bool.{and_from, le-leb, lt-ltb}
 use Rattle.std.proofs.lemmas.List.{append-nil, length-map}
+use Rattle.std.specs.List.{slice_get}
+use Rattle.std.specs.Option.{option_map, option_map_or, option_or}
+use Rattle.audit_laws.specs.Waiting.Tidy.{Tidy}
 use Rattle.audit_model.specs.Belongs.{refusal_of, refusal_of_conn, refusal_where}
-use Rattle.audit_model.specs.Situation as model
 use Rattle.audit_model.specs.Situation.{HeldValue, PendingLoad, Situation, is_holding, is_holding_in}
 use Rattle.audit_model.specs.declared.command.Closing.{Closing}
 use Rattle.audit_model.specs.declared.config.Config.{Config}
 use Rattle.audit_model.specs.declared.input.LoadId.{LoadId}
-use Rattle.audit_model.specs.declared.event.Event.TheVariants as event
 use Rattle.audit_model.specs.declared.input.ServiceError.{ServiceError}
-use Rattle.audit_model.specs.declared.input.ServiceError.TheVariants as error
 use Rattle.audit_model.specs.declared.transcript.Note.{Note}
 use Rattle.audit_model.specs.declared.transcript.Record.{Record}
-use Rattle.audit_laws.specs.Waiting.Tidy.{Tidy}
-use Rattle.audit_laws.proofs.waiting.Records.{records as records-tidy}
-use Rattle.cache_lines.specs.Leads.Waiters.{WaitForLoads}
-use Rattle.cache_lines.proofs.leads.Waits.{records-wait}
-use Rattle.cache_lines.specs.Gathered.{gathered, IsFresh, stage}
-use Rattle.cache_lines.specs.declared.base.Base.{Base}
 use Rattle.cache_commands.specs.Loads.Pending.{loads_pending, namespace_of_loads, outgoing_loads, sent_of}
 use Rattle.cache_commands.specs.Loads.Standings.{holds_line}
-use Rattle.cache_store.specs.Handing.{TakesFirstNote}
-use Rattle.cache_store.specs.Promises.{Frame}
-use Rattle.cache_store.specs.Values.{GivesNote, Values}
-use Rattle.cache_lines.specs.Tape.Taped.{IsAtRest, Taped}
 use Rattle.cache_core.specs.Connection.Fed.{LooksAsBefore}
-use Rattle.cache_core.specs.Fed.{BaseStays, CanTurn, ReplacedAt, WantsMemory, seen_at}
 use Rattle.cache_core.specs.Connection.Parts.{standing_as}
-use Rattle.cache_core.specs.Places.{known_of_all, refusal_at}
 use Rattle.cache_core.specs.Connection.Shown.{shown}
-use Rattle.cache_core.proofs.connections.Listed.{open-same}
+use Rattle.cache_core.specs.Connections.Presence.{Gone, Here, Out, Presence, closing_at, closing_of, open_from, reply_text_of, text_at}
+use Rattle.cache_core.specs.Fed.{BaseStays, CanTurn, ReplacedAt, WantsMemory, seen_at}
+use Rattle.cache_core.specs.Places.{known_of_all, refusal_at}
 use Rattle.cache_core.specs.State.{IsInOrder, StandsFor, State, known_of, output_in, situation_with, state_of}
 use Rattle.cache_core.specs.Turned.{RefusesBy, Turned, feeding, notes_in, replies_to, with_record}
+use Rattle.cache_lines.specs.Gathered.{gathered, IsFresh, stage}
+use Rattle.cache_lines.specs.Leads.Waiters.{WaitForLoads}
+use Rattle.cache_lines.specs.Tape.Taped.{IsAtRest, Taped}
+use Rattle.cache_lines.specs.declared.base.Base.{Base}
+use Rattle.cache_store.specs.Promises.{Frame}
+use Rattle.cache_store.specs.Values.{GivesNote, Values}
+use Rattle.audit_model.specs.Situation as model
+use Rattle.audit_model.specs.declared.event.Event.TheVariants as event
+use Rattle.audit_model.specs.declared.input.ServiceError.TheVariants as error
+use Rattle.audit_laws.proofs.waiting.Records.{records as records-tidy}
+use Rattle.cache_lines.proofs.leads.Waits.{records-wait}
+use Rattle.cache_store.specs.Handing.{TakesFirstNote}
+use Rattle.cache_core.proofs.connections.Listed.{open-same}
 use Rattle.cache_core.specs.declared.connection.connection.Connection.{Connection}
-use Rattle.cache_core.specs.Connections.Presence.{Gone, Here, Out, Presence, closing_at, closing_of, open_from, reply_text_of, text_at}
 use Rattle.cache_core.proofs.connections.Getting.{found-at, map-same}
 use Rattle.cache_core.proofs.Spots.{here-open, seen-was}
 use Rattle.cache_core.proofs.Table.{listed_as, listed_of}

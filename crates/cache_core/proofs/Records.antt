@@ -1,26 +1,25 @@
 -- The record of a feed.
-use Rattle.std.proofs.Common.{◌≡◌, ℕ, Bool, true, false, List, [], ◌∷◌, ◌++◌, Option, Some, None, if◌then◌else◌, refl, sym, ap, ◌∙◌, subst}
-use Rattle.std.specs.Prelude.{is_some}
-use Rattle.std.specs.List.{flat_map}
-use Rattle.std.specs.Option.{option_map}
+use Rattle.std.proofs.Common.{refl, sym, ap, ◌∙◌, subst, ◌≡◌, ℕ, Bool, true, false, List, [], ◌∷◌, ◌++◌, Option, Some, None, if◌then◌else◌, is_some}
 use Rattle.std.proofs.lemmas.Bool.{eq-eqb}
 use Rattle.std.proofs.lemmas.List.{append-nil}
 use Rattle.std.proofs.lemmas.Option.{same_Some}
+use Rattle.std.specs.List.{flat_map}
+use Rattle.std.specs.Option.{option_map}
 use Rattle.audit_model.specs.Situation.{HeldValue, Situation}
 use Rattle.audit_model.specs.declared.event.Event.{Event}
 use Rattle.audit_model.specs.declared.transcript.Note.{Note}
 use Rattle.audit_model.specs.declared.transcript.Record.{Record}
 use Rattle.audit_model.specs.declared.transcript.Step.{Step}
-use Rattle.cache_lines.specs.Bases.{Seen, seen}
-use Rattle.cache_lines.specs.Gathered.{Gathered, adds, gather, reply_in, stage, written}
-use Rattle.cache_lines.specs.Lines.{IsThere, ready}
-use Rattle.cache_lines.specs.Waiting.{under_way}
-use Rattle.cache_lines.specs.declared.base.Base.{Base}
-use Rattle.cache_store.specs.Values.{IsSoundStore, Values}
-use Rattle.cache_lines.specs.Tape.Taped.{IsAtRest, IsBegun, Taped, finishes, started, with_entry}
 use Rattle.cache_core.specs.Connection.Fed.{FedRan, LooksAsBefore}
 use Rattle.cache_core.specs.Fed.{with_tape}
 use Rattle.cache_core.specs.Turned.{with_record}
+use Rattle.cache_lines.specs.Bases.{Seen, seen}
+use Rattle.cache_lines.specs.Gathered.{Gathered, adds, gather, reply_in, stage, written}
+use Rattle.cache_lines.specs.Lines.{IsThere, ready}
+use Rattle.cache_lines.specs.Tape.Taped.{IsAtRest, IsBegun, Taped, finishes, started, with_entry}
+use Rattle.cache_lines.specs.Waiting.{under_way}
+use Rattle.cache_lines.specs.declared.base.Base.{Base}
+use Rattle.cache_store.specs.Values.{IsSoundStore, Values}
 use Rattle.cache_core.proofs.connection.Pieces.{fed-from}
 use Rattle.cache_core.specs.declared.connection.connection.Connection.{Connection}
 

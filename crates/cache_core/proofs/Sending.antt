@@ -1,38 +1,37 @@
 -- The loads that an event sends.
-use Rattle.std.proofs.Common.{◌≡◌, ◌≢◌, ℕ, suc, ◌+◌, ◌-◌, ◌<◌, ◌≤◌, ◌==◌, Bool, true, false, not, ◌&&◌, ◌||◌, cond, List, [], ◌∷◌, ◌++◌, length, map, Option, Some, None, is_some, refl, sym, ap, ◌∙◌, subst, inl, inr, arith}
-use Rattle.std.specs.Prelude.{◌⊎◌, if◌then◌else◌}
-use Rattle.std.specs.List.{list_all}
-use Rattle.std.specs.Option.{option_map_or}
+use Rattle.std.proofs.Common.{cond, refl, sym, ap, ◌∙◌, subst, inl, inr, arith, ◌≡◌, ◌≢◌, ℕ, suc, ◌+◌, ◌-◌, ◌<◌, ◌≤◌, ◌==◌, Bool, true, false, not, ◌&&◌, ◌||◌, List, [], ◌∷◌, ◌++◌, length, map, Option, Some, None, is_some, ◌⊎◌, if◌then◌else◌}
 use Rattle.std.proofs.lemmas.Bool.{and_from, and_parts, cases_eq, eq-eqb, eqb-true, ne_eqb}
 use Rattle.std.proofs.lemmas.List.{length-append}
-use Rattle.std.proofs.lemmas.List.Folds.{list_all-append}
-use Rattle.std.proofs.lemmas.Option.{none-some, same_Some}
-use Rattle.audit_laws.proofs.Following.{Passed, passed}
-use Rattle.audit_laws.proofs.waiting.Keys.{Sends, sends-right}
+use Rattle.std.proofs.lemmas.Option.{same_Some}
+use Rattle.std.specs.List.{list_all}
+use Rattle.std.specs.Option.{option_map_or}
 use Rattle.audit_model.specs.Bytewise.{is_empty, same}
 use Rattle.audit_model.specs.Changes.{after_step, connection_after, join_by, join_load}
 use Rattle.audit_model.specs.Commands.{quits}
 use Rattle.audit_model.specs.Follows.{Follows, after_event, after_steps, placed_step_in, tasks_in}
 use Rattle.audit_model.specs.History.{Effect}
-use Rattle.audit_model.specs.Loads.{key_loaded}
 use Rattle.audit_model.specs.Places.{due, first_due, left_after, steps_of}
 use Rattle.audit_model.specs.Situation.{Connection, PendingLoad, Situation, connection_in, is_overlong, may_run_in, with_connection, with_waiting, without_waiting}
 use Rattle.audit_model.specs.Steps.{Task, Store, is_right}
 use Rattle.audit_model.specs.Stream.{is_waiting}
 use Rattle.audit_model.specs.declared.config.Config.{Config}
 use Rattle.audit_model.specs.declared.event.Event.{Event}
-use Rattle.audit_model.specs.declared.event.Event.TheVariants as event
 use Rattle.audit_model.specs.declared.input.LoadId.{LoadId}
 use Rattle.audit_model.specs.declared.transcript.Record.{Record}
 use Rattle.audit_model.specs.declared.transcript.Step.{Step}
 use Rattle.cache_commands.specs.Loads.Keys.{agrees_on, are_in_turn, has_its_key, have_their_keys}
 use Rattle.cache_commands.specs.Loads.Pending.{SameTaken, load_numbered, outgoing_loads}
-use Rattle.cache_lines.specs.Tape.Taped.{Taped}
-use Rattle.cache_lines.specs.declared.base.Base.{Base}
-use Rattle.cache_store.specs.Values.{Values}
 use Rattle.cache_core.specs.Connections.Presence.{Presence}
 use Rattle.cache_core.specs.State.{State, StandsFor, state_of}
 use Rattle.cache_core.specs.Turned.{SendsBehind, Turned, is_sent}
+use Rattle.cache_lines.specs.Tape.Taped.{Taped}
+use Rattle.cache_lines.specs.declared.base.Base.{Base}
+use Rattle.cache_store.specs.Values.{Values}
+use Rattle.std.proofs.lemmas.List.Folds.{list_all-append}
+use Rattle.audit_laws.proofs.Following.{Passed, passed}
+use Rattle.audit_laws.proofs.waiting.Keys.{Sends, sends-right}
+use Rattle.audit_model.specs.Loads.{key_loaded}
+use Rattle.audit_model.specs.declared.event.Event.TheVariants as event
 
 -- ---- loads that change, but for their numbers
 
@@ -166,25 +165,21 @@ module _ {S T : Type 0} (view : S → Values) (tape : T → Option Taped) (base 
 
   pub sends-behind : (s : Situation) (entry : Record) → StandsFor view was s → Turned view tape was is s entry → SameTaken base.loads new_base.loads → SendsBehind was is
   sends-behind s entry st turned goes =
-      let old = base.loads in
       let new = new_base.loads in
-      let outs = outgoing_loads old in
+      let outs = outgoing_loads base.loads in
       let counted : length (outgoing_loads new) ≡ length outs + length goes.more = ap length goes.behind ∙ length-append outs goes.more in
       let taken = goes.taken in
-      let few = old.fewer in
-      let fewer = new.fewer in
-      let count : is.sent ≡ was.sent + length goes.more = omega (arith, counted, taken, few, fewer) in
-      let from : (was.sent - length outs) + length outs ≡ was.sent = omega (arith, few) in
+      let count : is.sent ≡ was.sent + length goes.more = omega (arith, counted, taken, base.loads.fewer, new.fewer) in
+      let from : (was.sent - length outs) + length outs ≡ was.sent = omega (arith, base.loads.fewer) in
       let whole : are_in_turn was.namespace (was.sent - length outs) (outs ++ goes.more) ≡ true =
       ap (λ l. are_in_turn was.namespace (was.sent - length outs) l) (sym goes.behind) ∙ ap (λ n. are_in_turn was.namespace n (outgoing_loads new)) (sym taken) ∙ ap (λ ns. are_in_turn ns (is.sent - length (outgoing_loads new)) (outgoing_loads new)) (sym goes.namespace) ∙ new.in_turn in
       let turn : are_in_turn was.namespace was.sent goes.more ≡ true =
       ap (λ n. are_in_turn was.namespace n goes.more) (sym from) ∙ turn-behind was.namespace (was.sent - length outs) outs goes.more whole in
       let keyed : have_their_keys is.pending goes.more ≡ true = keys-behind is.pending outs goes.more (ap (have_their_keys is.pending) (sym goes.behind) ∙ new.keyed) in
       let before : s.sent ≡ was.sent = ap (λ (u : Situation). u.sent) st.is in
-      let stands = turned.stands.is in
       let found : (n : ℕ) → was.sent < n → n ≤ is.sent → is_some (load_numbered n is.pending) ≡ true =
-      λ n lt le. ap (λ (u : Situation). is_some (load_numbered n u.pending)) (sym stands)
-      ∙ record-sends (view was.store).frame.config s turned.next entry turned.follows n (subst (λ k. k < n) (sym before) lt) (subst (λ (u : Situation). n ≤ u.sent) (sym stands) le) in
+      λ n lt le. ap (λ (u : Situation). is_some (load_numbered n u.pending)) (sym turned.stands.is)
+      ∙ record-sends (view was.store).frame.config s turned.next entry turned.follows n (subst (λ k. k < n) (sym before) lt) (subst (λ (u : Situation). n ≤ u.sent) (sym turned.stands.is) le) in
       record {
         loads = goes.more;
         behind = goes.behind;

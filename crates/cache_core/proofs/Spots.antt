@@ -1,16 +1,15 @@
 -- What stands at a place of a list, before and after it is replaced.
-use Rattle.std.proofs.Common.{◌≡◌, ◌≢◌, ℕ, zero, suc, ◌<◌, true, false, List, [], ◌∷◌, map, Option, Some, None, length, refl, sym, ap, ◌∙◌, arith}
-use Rattle.std.specs.Prelude.{MatchOption, is_some, slice_set}
+use Rattle.std.proofs.Common.{refl, sym, ap, ◌∙◌, arith, ◌≡◌, ◌≢◌, ℕ, zero, suc, ◌<◌, true, false, List, [], ◌∷◌, map, Option, Some, None, length, MatchOption, is_some, slice_set}
+use Rattle.std.proofs.lemmas.Option.{slice_get_within, same_Some}
 use Rattle.std.specs.List.{slice_get}
 use Rattle.std.specs.Option.{option_map_or}
-use Rattle.std.proofs.lemmas.Option.{slice_get_within, same_Some}
+use Rattle.cache_core.specs.Connections.Presence.{Gone, Here, Out, Presence, closing_at, closing_of, is_here, reply_text_of, text_at}
+use Rattle.cache_core.specs.Fed.{ReplacedAt}
+use Rattle.cache_core.specs.State.{at_number}
 use Rattle.audit_model.specs.declared.command.Closing.TheVariants as by
 use Rattle.cache_core.proofs.connections.Getting.{at-replaced}
 use Rattle.cache_core.proofs.connections.Listed.{put-back as put-twice}
-use Rattle.cache_core.specs.Fed.{ReplacedAt}
-use Rattle.cache_core.specs.State.{at_number}
 use Rattle.cache_core.specs.declared.connection.connection.Connection.{Connection}
-use Rattle.cache_core.specs.Connections.Presence.{Gone, Here, Out, Presence, closing_at, closing_of, is_here, reply_text_of, text_at}
 
 pub text-is : (cs : List Presence) (i : ℕ) (c : Connection) → slice_get cs i ≡ Some (Here c) → text_at cs i ≡ c.output.text.items
 text-is cs i c at = ap (λ o. option_map_or reply_text_of o []) at
@@ -65,12 +64,6 @@ here-open (c ∷ cs) (suc i) lt is_open = here-open cs i (omega (arith, lt)) is_
 
 pub is-here : (o : Option Presence) (c : Connection) → o ≡ Some (Here c) → is_here o ≡ true
 is-here o c e = ap is_here e
-
-pub here-is : (o : Option Presence) → is_here o ≡ true → (c : Connection) × (o ≡ Some (Here c))
-here-is None e = let no : false ≡ true = e in cc
-here-is (Some (Here c)) e = (c, refl)
-here-is (Some Out) e = let no : false ≡ true = e in cc
-here-is (Some (Gone why)) e = let no : false ≡ true = e in cc
 
 -- ---- one that is taken out and put back
 

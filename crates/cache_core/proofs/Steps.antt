@@ -1,47 +1,46 @@
 -- Parts of a record in which one connection has its steps.
-use Rattle.std.proofs.Common.{◌≡◌, ℕ, suc, Bool, true, false, ◌&&◌, ◌==◌, List, [], ◌∷◌, ◌++◌, map, Option, Some, None, if◌then◌else◌, refl, sym, ap, ◌∙◌, subst, inl, inr}
-use Rattle.std.specs.Prelude.{is_none, is_some, slice_set}
-use Rattle.std.specs.List.{flat_map, list_all, slice_get}
-use Rattle.std.specs.Option.{option_map, option_map_or}
+use Rattle.std.proofs.Common.{refl, sym, ap, ◌∙◌, subst, inl, inr, ◌≡◌, ℕ, suc, Bool, true, false, ◌&&◌, ◌==◌, List, [], ◌∷◌, ◌++◌, map, Option, Some, None, if◌then◌else◌, is_none, is_some, slice_set}
 use Rattle.std.proofs.lemmas.Bool.{and_from, eq-eqb}
 use Rattle.std.proofs.lemmas.List.{append-nil, set-get_or}
 use Rattle.std.proofs.lemmas.Option.{get_or_from_slice_get}
+use Rattle.std.specs.List.{flat_map, list_all, slice_get}
+use Rattle.std.specs.Option.{option_map, option_map_or}
 use Rattle.audit_model.specs.Bytewise.{is_empty}
 use Rattle.audit_model.specs.Places.{tasks_to_feed}
-use Rattle.audit_model.specs.Situation as model
-use Rattle.audit_model.specs.Situation.{HeldValue, Situation, connection_in, is_ready, may_run_in, without_connection}
+use Rattle.audit_model.specs.Situation.{HeldValue, Situation, is_ready, may_run_in, without_connection}
 use Rattle.audit_model.specs.Steps.{RunLines, Task}
 use Rattle.audit_model.specs.Stream.{first_line}
 use Rattle.audit_model.specs.declared.command.Closing.{Closing}
 use Rattle.audit_model.specs.declared.config.Config.{Config}
 use Rattle.audit_model.specs.declared.transcript.Step.{Step}
+use Rattle.cache_commands.specs.Loads.Standings.{holds_line, waits_for_load}
+use Rattle.cache_commands.specs.declared.loads.loads.Loads.{Loads}
+use Rattle.cache_commands.specs.declared.loads.standing.Standing.{Standing}
 use Rattle.cache_core.specs.Connection.Again.{EndsCalm, StepRan}
 use Rattle.cache_core.specs.Connection.Fed.{FedRan, closing_by}
 use Rattle.cache_core.specs.Connection.Fits.{ClosesFor, RunsOn}
 use Rattle.cache_core.specs.Connection.Parts.{standing_as}
 use Rattle.cache_core.specs.Connection.Shown.{put_in, shown, with_piece}
-use Rattle.cache_core.specs.declared.connection.connection.Connection.{Connection}
 use Rattle.cache_core.specs.Connections.Presence.{Gone, Here, Out, Presence, closing_at, is_here, reply_text_of, text_at}
-use Rattle.cache_lines.specs.Leads.Leads.{BeginsUnknown, TasksLead}
+use Rattle.cache_core.specs.Fed.{ReplacedAt, seen_at}
+use Rattle.cache_core.specs.Settling.{runs_at, runs_with}
+use Rattle.cache_core.specs.State.{at_number}
+use Rattle.cache_core.specs.Turned.{own_steps, replies_to}
 use Rattle.cache_lines.proofs.leads.Leading.{lines, no-lines, nothing}
 use Rattle.cache_lines.specs.Drawing.{identifiers_in}
 use Rattle.cache_lines.specs.Ended.{RanTasks, ends_silent}
 use Rattle.cache_lines.specs.Gathered.{adds, reply_in, stage, written}
+use Rattle.cache_lines.specs.Leads.Leads.{BeginsUnknown, TasksLead}
 use Rattle.cache_lines.specs.Lines.{ends_quit, set_in, with_drops}
 use Rattle.cache_lines.specs.Making.{Making, making_of}
+use Rattle.cache_lines.specs.Tape.Taped.{Taped}
 use Rattle.cache_lines.specs.Waiting.{UnderWay, under_way, when_left, with_under_way}
 use Rattle.cache_lines.specs.declared.base.Base.{Base}
-use Rattle.cache_commands.specs.Loads.Standings.{holds_line, waits_for_load}
-use Rattle.cache_commands.specs.declared.loads.loads.Loads.{Loads}
-use Rattle.cache_commands.specs.declared.loads.standing.Standing.{Standing}
-use Rattle.cache_commands.specs.declared.loads.standing.Standing.TheVariants as now_is
 use Rattle.cache_store.specs.Values.{Values}
-use Rattle.cache_lines.specs.Tape.Taped.{Taped}
-use Rattle.cache_core.specs.Fed.{ReplacedAt, seen_at}
-use Rattle.cache_core.specs.Settled.{Moves, Piece, Running, course_at, course_of, closing_of_steps, middle_of}
-use Rattle.cache_core.specs.Settling.{runs_at, runs_with}
-use Rattle.cache_core.specs.State.{at_number}
-use Rattle.cache_core.specs.Turned.{own_steps, replies_to}
+use Rattle.audit_model.specs.Situation as model
+use Rattle.cache_core.specs.declared.connection.connection.Connection.{Connection}
+use Rattle.cache_commands.specs.declared.loads.standing.Standing.TheVariants as now_is
+use Rattle.cache_core.specs.Settled.{Running, Moves, Piece, course_at, course_of, closing_of_steps, middle_of}
 use Rattle.cache_core.proofs.Courses.{moves-none}
 use Rattle.cache_core.proofs.Joined.{gathered-apart, moves-by}
 use Rattle.cache_core.proofs.Opened.{none-more}

@@ -1,13 +1,12 @@
 -- How the parts of a namespace suit one another.
-use Rattle.std.proofs.Common.{◌≡◌, ℕ, zero, suc, Bool, true, false, ◌&&◌, ◌==◌, nat_lt, nat_le, List, length, map, None, refl, sym, ap, ◌∙◌, arith}
-use Rattle.std.specs.Prelude.{is_none, is_some}
-use Rattle.std.specs.List.{find}
+use Rattle.std.proofs.Common.{refl, sym, ap, ◌∙◌, arith, ◌≡◌, ℕ, zero, suc, Bool, true, false, ◌&&◌, ◌==◌, nat_lt, nat_le, List, length, map, None, is_none, is_some}
 use Rattle.std.proofs.lemmas.Bool.{and_parts, leb-true}
 use Rattle.std.proofs.lemmas.List.{length-map}
-use Rattle.audit_model.specs.Situation as model
+use Rattle.std.specs.List.{find}
 use Rattle.cache_core.specs.Connection.Shown.{shown}
 use Rattle.cache_core.specs.Connections.Presence.{Gone, Here, Out, Presence, closing_of, open_from, reply_text_of}
 use Rattle.cache_core.specs.State.{at_number}
+use Rattle.audit_model.specs.Situation as model
 use Rattle.cache_core.proofs.Opened.{count-open}
 use Rattle.cache_core.proofs.connections.Getting.{found-at}
 use Rattle.cache_core.proofs.Spots.{seen-was}

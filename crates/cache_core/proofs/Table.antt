@@ -1,13 +1,12 @@
 -- The connections of a namespace, as the definitions list them.
-use Rattle.std.proofs.Common.{◌≡◌, ℕ, zero, suc, ◌+◌, ◌<◌, Bool, true, false, not, ◌==◌, List, [], ◌∷◌, ◌++◌, length, map, cond, Option, Some, None, if◌then◌else◌, refl, sym, ap, ◌∙◌, arith, get_or}
-use Rattle.std.specs.Prelude.{is_none, slice_set}
-use Rattle.std.specs.List.{find}
+use Rattle.std.proofs.Common.{cond, refl, sym, ap, ◌∙◌, arith, get_or, ◌≡◌, ℕ, zero, suc, ◌+◌, ◌<◌, Bool, true, false, not, ◌==◌, List, [], ◌∷◌, ◌++◌, length, map, Option, Some, None, if◌then◌else◌, is_none, slice_set}
 use Rattle.std.proofs.lemmas.Bool.{eq-eqb, eqb-true}
-use Rattle.audit_model.specs.Situation as model
+use Rattle.std.specs.List.{find}
 use Rattle.audit_model.specs.Situation.{without_number}
 use Rattle.cache_core.specs.Connection.Shown.{shown}
-use Rattle.cache_core.specs.declared.connection.connection.Connection.{Connection}
 use Rattle.cache_core.specs.Connections.Presence.{Gone, Here, Out, Presence, open_from}
+use Rattle.audit_model.specs.Situation as model
+use Rattle.cache_core.specs.declared.connection.connection.Connection.{Connection}
 
 -- numbers that differ
 pub apart : (a b : ℕ) → a < b → (a == b) ≡ false
@@ -161,8 +160,3 @@ opened-last n (Here d ∷ ds) c is =
     go next false = next
 opened-last n (Out ∷ ds) c is = let n_is : n + length (Out ∷ ds) ≡ suc n + length ds = omega arith in opened-last (suc n) ds c is ∙ ap (λ k. open_from (suc n) ds ++ shown k c ∷ []) (sym n_is)
 opened-last n (Gone why ∷ ds) c is = let n_is : n + length (Gone why ∷ ds) ≡ suc n + length ds = omega arith in opened-last (suc n) ds c is ∙ ap (λ k. open_from (suc n) ds ++ shown k c ∷ []) (sym n_is)
-
--- no connection has a number from n + length on
-pub none-beyond : (m n : ℕ) (cs : List Presence) → n + length cs < suc m → find (λ k. k.number == m) (open_from n cs) ≡ None
-none-beyond m n [] lt = refl
-none-beyond m n (c ∷ cs) lt = passed-over m n c cs (apart n m (omega arith)) ∙ none-beyond m (suc n) cs (omega arith)

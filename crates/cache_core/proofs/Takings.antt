@@ -1,24 +1,23 @@
 -- What is taken from a namespace, and what it is asked.
-use Rattle.std.proofs.Common.{◌≡◌, ℕ, zero, suc, ◌+◌, ◌-◌, ◌<◌, Bool, true, false, ◌&&◌, List, [], ◌∷◌, length, map, Option, Some, None, refl, sym, ap, ◌∙◌, arith, subst}
-use Rattle.std.specs.Prelude.{is_none, slice_set}
+use Rattle.std.proofs.Common.{refl, sym, ap, ◌∙◌, arith, subst, ◌≡◌, ℕ, zero, suc, ◌+◌, ◌-◌, ◌<◌, Bool, true, false, ◌&&◌, List, [], ◌∷◌, length, map, Option, Some, None, is_none, slice_set}
 use Rattle.std.specs.List.{slice_get}
 use Rattle.std.specs.Option.{option_map_or}
-use Rattle.audit_model.specs.Situation as model
-use Rattle.audit_model.specs.Situation.{is_waiting_now}
 use Rattle.audit_laws.specs.Waiting.Tidy.{Tidy}
-use Rattle.cache_lines.specs.Leads.Waiters.{WaitForLoads}
-use Rattle.cache_lines.specs.declared.base.Base.{Base}
+use Rattle.audit_model.specs.Situation.{is_waiting_now}
 use Rattle.cache_commands.specs.Loads.Standings.{waits_for_load}
-use Rattle.cache_store.specs.Values.{Values}
-use Rattle.cache_lines.specs.Tape.Taped.{Taped}
-use Rattle.cache_core.specs.Fed.{ReplacedAt}
 use Rattle.cache_core.specs.Connection.Parts.{standing_as}
-use Rattle.cache_core.specs.Places.{IsTakenAt, IsTakenFrom, waits_at, waits_in}
 use Rattle.cache_core.specs.Connection.Shown.{shown}
-use Rattle.cache_core.proofs.connections.Listed.{closings-retired, open-retired, open-same, texts-put, texts-retired}
+use Rattle.cache_core.specs.Connections.Presence.{Gone, Here, Out, Presence, closing_at, closing_of, is_here, open_from, reply_text_of, retired_at, text_at}
+use Rattle.cache_core.specs.Fed.{ReplacedAt}
+use Rattle.cache_core.specs.Places.{IsTakenAt, IsTakenFrom, waits_at, waits_in}
 use Rattle.cache_core.specs.State.{IsInOrder, at_number, situation_with, state_of}
 use Rattle.cache_core.specs.Turned.{is_waiting_in}
-use Rattle.cache_core.specs.Connections.Presence.{Gone, Here, Out, Presence, closing_at, closing_of, is_here, open_from, reply_text_of, retired_at, text_at}
+use Rattle.cache_lines.specs.Leads.Waiters.{WaitForLoads}
+use Rattle.cache_lines.specs.Tape.Taped.{Taped}
+use Rattle.cache_lines.specs.declared.base.Base.{Base}
+use Rattle.cache_store.specs.Values.{Values}
+use Rattle.audit_model.specs.Situation as model
+use Rattle.cache_core.proofs.connections.Listed.{closings-retired, open-retired, open-same, texts-put, texts-retired}
 use Rattle.cache_core.proofs.connections.Getting.{at-mapped, found-at, map-same, set-same}
 use Rattle.cache_core.proofs.Spots.{seen-was}
 use Rattle.cache_core.proofs.Table.{listed_as, listed_of}

@@ -1,22 +1,21 @@
 -- Connections of which one was touched, or none that anybody could see.
-use Rattle.std.proofs.Common.{◌≡◌, ◌≢◌, ℕ, zero, suc, ◌+◌, ◌-◌, ◌≤◌, Bool, true, false, ◌==◌, List, [], ◌∷◌, ◌++◌, map, Some, None, if◌then◌else◌, length, refl, sym, ap, ◌∙◌, subst, arith, vec_len}
-use Rattle.std.specs.Prelude.{is_none, slice_set, vec_capacity}
-use Rattle.std.specs.List.{slice_get}
+use Rattle.std.proofs.Common.{refl, sym, ap, ◌∙◌, subst, arith, ◌≡◌, ◌≢◌, ℕ, zero, suc, ◌+◌, ◌-◌, ◌≤◌, Bool, true, false, ◌==◌, List, [], ◌∷◌, ◌++◌, map, Some, None, if◌then◌else◌, length, vec_len, is_none, slice_set, vec_capacity}
 use Rattle.std.proofs.lemmas.Bool.{eqb-true, eq-eqb}
 use Rattle.std.proofs.lemmas.List.{length-set}
 use Rattle.std.proofs.lemmas.Option.{same_Some}
-use Rattle.audit_laws.specs.Waiting.Tidy.{times_in}
+use Rattle.std.specs.List.{slice_get}
 use Rattle.audit_laws.proofs.waiting.Counts.{one_if}
+use Rattle.audit_laws.specs.Waiting.Tidy.{times_in}
 use Rattle.cache_core.specs.Connection.Fed.{LooksAsBefore}
 use Rattle.cache_core.specs.Connection.Parts.{standing_as}
 use Rattle.cache_core.specs.Connection.Shown.{shown}
-use Rattle.cache_core.specs.declared.connection.connection.Connection.{Connection}
 use Rattle.cache_core.specs.Connections.Presence.{Gone, Here, Out, Presence, closing_of, open_from, reply_text_of}
-use Rattle.cache_core.proofs.connections.Getting.{at-other}
-use Rattle.cache_core.proofs.connections.Listed.{open-behind}
 use Rattle.cache_core.specs.Fed.{ReplacedAt}
 use Rattle.cache_core.specs.Settled.{course_in, course_of}
 use Rattle.cache_core.specs.Settling.{AllLookAsBefore, HasReplyRoomAt, HaveReplyRoom, LeavesOthers, LooksLike}
+use Rattle.cache_core.specs.declared.connection.connection.Connection.{Connection}
+use Rattle.cache_core.proofs.connections.Getting.{at-other}
+use Rattle.cache_core.proofs.connections.Listed.{open-behind}
 
 -- ---- one was put in the place of another
 
@@ -73,12 +72,6 @@ all-set (c ∷ cs) (suc i) was is at same = (like-itself c, all-set cs i was is 
 
 pub all-replaced : (old new : List Presence) (i : ℕ) (p : ReplacedAt old new i) → LooksAsBefore p.was p.is → AllLookAsBefore old new
 all-replaced old new i p same = subst (AllLookAsBefore old) (sym p.set) (all-set old i p.was p.is p.at same)
-
-pub all-count : (old new : List Presence) → AllLookAsBefore old new → length new ≡ length old
-all-count [] [] a = refl
-all-count [] (d ∷ ds) a = absurd a
-all-count (c ∷ cs) [] a = absurd a
-all-count (c ∷ cs) (d ∷ ds) a = ap suc (all-count cs ds a.1)
 
 shows-same : (k : ℕ) (c d : Connection) → LooksAsBefore c d → shown k d ≡ shown k c
 shows-same k c d same = ap (λ st. standing_as k st d.waited d.unread.bytes) same.standing ∙ ap (λ n. standing_as k c.standing n d.unread.bytes) same.waited ∙ ap (standing_as k c.standing c.waited) same.bytes

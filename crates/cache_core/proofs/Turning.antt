@@ -1,32 +1,31 @@
 -- A feed of a namespace, as a record that follows.
-use Rattle.std.proofs.Common.{◌≡◌, ◌≢◌, ℕ, zero, suc, ◌+◌, ◌<◌, Bool, true, false, not, ◌||◌, ◌==◌, List, [], ◌∷◌, ◌++◌, length, map, cond, Option, Some, None, if◌then◌else◌, refl, sym, ap, ◌∙◌, arith, nat_lt, nat_le, subst, inl, inr}
-use Rattle.std.specs.Prelude.{is_some, is_none, slice_set, IsTrue}
-use Rattle.std.specs.List.{find, flat_map, list_all, slice_get}
+use Rattle.std.proofs.Common.{cond, refl, sym, ap, ◌∙◌, arith, subst, inl, inr, ◌≡◌, ◌≢◌, ℕ, zero, suc, ◌+◌, ◌<◌, Bool, true, false, not, ◌||◌, ◌==◌, List, [], ◌∷◌, ◌++◌, length, map, Option, Some, None, if◌then◌else◌, nat_lt, nat_le, is_some, is_none, slice_set, IsTrue}
 use Rattle.std.proofs.lemmas.Bool.{and_from, eq-eqb, eqb-true, lt-ltb, le-leb, leb-true}
 use Rattle.std.proofs.lemmas.List.{append-nil, length-map, length-set}
 use Rattle.std.proofs.lemmas.Option.{get_or_from_slice_get, slice_get_within}
+use Rattle.std.specs.List.{find, flat_map, list_all, slice_get}
 use Rattle.audit_model.specs.Follows.{known_in}
-use Rattle.audit_model.specs.Situation as model
-use Rattle.audit_model.specs.Situation.{HeldValue, Situation, connection_in, is_holding, is_overlong, is_waiting_now, with_connection, without_connection, without_number, without_waiting}
+use Rattle.audit_model.specs.Situation.{HeldValue, Situation, connection_in, is_holding, is_overlong, is_waiting_now, without_connection, without_number, without_waiting}
 use Rattle.audit_model.specs.Stream.{behind_lines}
 use Rattle.audit_model.specs.declared.command.Closing.{Closing}
 use Rattle.audit_model.specs.declared.config.Config.{Config}
 use Rattle.audit_model.specs.declared.transcript.Record.{Record}
 use Rattle.audit_model.specs.declared.transcript.Step.{Step}
+use Rattle.cache_commands.specs.Loads.Standings.{holds_line, waits_for_load}
+use Rattle.cache_commands.specs.declared.loads.standing.Standing.{Standing}
+use Rattle.cache_core.specs.Connection.Fits.{ClosesFor, Fits}
+use Rattle.cache_core.specs.Connection.Parts.{standing_as}
+use Rattle.cache_core.specs.Connection.Shown.{put_in, shown}
+use Rattle.cache_core.specs.Connections.Presence.{Gone, Here, Out, Presence, closing_of, open_from, reply_text_of}
+use Rattle.cache_core.specs.State.{at_number}
+use Rattle.cache_core.specs.Turned.{closing_behind, reason_of, replies_to}
 use Rattle.cache_lines.specs.Gathered.{reply_in}
 use Rattle.cache_lines.specs.Lines.{set_in}
 use Rattle.cache_lines.specs.Waiting.{UnderWay, when_left}
 use Rattle.cache_lines.specs.Whole.{is_long_line}
-use Rattle.cache_commands.specs.Loads.Standings.{holds_line, waits_for_load}
-use Rattle.cache_commands.specs.declared.loads.standing.Standing.{Standing}
+use Rattle.audit_model.specs.Situation as model
 use Rattle.cache_commands.specs.declared.loads.standing.Standing.TheVariants as now
-use Rattle.cache_core.specs.Connection.Fits.{ClosesFor, Fits}
-use Rattle.cache_core.specs.Connection.Parts.{standing_as}
-use Rattle.cache_core.specs.Connection.Shown.{put_in, shown}
-use Rattle.cache_core.specs.State.{at_number}
-use Rattle.cache_core.specs.Turned.{closing_behind, reason_of, replies_to}
 use Rattle.cache_core.specs.declared.connection.connection.Connection.{Connection}
-use Rattle.cache_core.specs.Connections.Presence.{Gone, Here, Out, Presence, closing_of, open_from, reply_text_of}
 use Rattle.cache_core.proofs.Own.{own-all, own-none}
 use Rattle.cache_core.proofs.connection.Putting.{not-above}
 use Rattle.cache_core.proofs.connections.Getting.{at-replaced}

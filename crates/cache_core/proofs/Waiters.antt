@@ -1,29 +1,28 @@
 -- The connections that wait for a load.
-use Rattle.std.proofs.Common.{◌≡◌, ◌≢◌, ℕ, suc, ◌+◌, ◌-◌, ◌≤◌, ◌<◌, Bool, true, false, ◌==◌, cond, List, [], ◌∷◌, ◌++◌, Option, Some, None, if◌then◌else◌, length, refl, sym, ap, ◌∙◌, subst, arith, get_or, drop, take}
+use Rattle.std.proofs.Common.{cond, refl, sym, ap, ◌∙◌, subst, arith, get_or, drop, ◌≡◌, ◌≢◌, ℕ, suc, ◌+◌, ◌-◌, ◌≤◌, ◌<◌, Bool, true, false, ◌==◌, List, [], ◌∷◌, ◌++◌, Option, Some, None, if◌then◌else◌, length, take, is_none}
 use Rattle.std.proofs.Math.Seq.{drop-cons, take-suc}
-use Rattle.std.specs.Prelude.{is_none}
-use Rattle.std.specs.List.{find, slice_get}
-use Rattle.std.specs.Option.{option_map_or}
 use Rattle.std.proofs.lemmas.Bool.{eqb-true, eq-eqb}
 use Rattle.std.proofs.lemmas.Option.{same_Some, slice_get_within}
+use Rattle.std.specs.List.{find, slice_get}
+use Rattle.std.specs.Option.{option_map_or}
+use Rattle.audit_laws.proofs.waiting.Counts.{one_if}
+use Rattle.audit_laws.specs.Waiting.Tidy.{Tidy, times_in}
 use Rattle.audit_model.specs.Grammar.{reading}
-use Rattle.audit_model.specs.Situation as model
 use Rattle.audit_model.specs.Situation.{Situation, connection_in, is_waiting_now}
 use Rattle.audit_model.specs.declared.command.Closing.{Closing}
 use Rattle.audit_model.specs.declared.config.Config.{Config}
-use Rattle.audit_laws.specs.Waiting.Tidy.{Tidy, times_in}
-use Rattle.audit_laws.proofs.waiting.Counts.{one_if}
+use Rattle.cache_commands.specs.declared.loads.standing.Standing.{Standing}
 use Rattle.cache_core.specs.Connection.Parts.{stands_before}
 use Rattle.cache_core.specs.Connection.Shown.{shown}
-use Rattle.cache_core.specs.declared.connection.connection.Connection.{Connection}
 use Rattle.cache_core.specs.Connections.Presence.{Gone, Here, Out, Presence, open_from}
-use Rattle.cache_lines.specs.Leads.Waiters.{WaitForLoads}
+use Rattle.cache_core.specs.Settling.{AllLookAsBefore, AreThere, AreWaiting, HaveReplyRoom, IsWaitingAt, LeavesOthers}
 use Rattle.cache_lines.proofs.leads.Turns.{counted}
+use Rattle.cache_lines.specs.Leads.Waiters.{WaitForLoads}
 use Rattle.cache_lines.specs.Waiting.{is_load}
 use Rattle.cache_lines.specs.Whole.{held_line}
-use Rattle.cache_commands.specs.declared.loads.standing.Standing.{Standing}
+use Rattle.audit_model.specs.Situation as model
+use Rattle.cache_core.specs.declared.connection.connection.Connection.{Connection}
 use Rattle.cache_commands.specs.declared.loads.standing.Standing.TheVariants as now
-use Rattle.cache_core.specs.Settling.{AllLookAsBefore, AreThere, AreWaiting, HaveReplyRoom, IsWaitingAt, LeavesOthers}
 use Rattle.cache_core.proofs.Touched.{all-at}
 
 -- ---- where a connection is found
@@ -128,6 +127,10 @@ waits-inside config cs n w = let e = w.place in let lt = slice_get_within cs w.i
 pub waits-numbered : (config : Config) (cs : List Presence) (n : ℕ) → IsWaitingAt config cs n → IsWaitingAt config cs (n - 1 + 1)
 waits-numbered config cs n w = let e = w.place in let is : n ≡ n - 1 + 1 = omega (arith, e) in subst (IsWaitingAt config cs) is w
 
+-- the first of those that are left
+pub next-waits : (config : Config) (cs : List Presence) (ns : List ℕ) (at : ℕ) → at < length ns → AreWaiting config cs (drop at ns) → IsWaitingAt config cs (get_or ns at 0)
+next-waits config cs ns at lt waits = first-waits config cs (get_or ns at 0) (drop (at + 1) ns) (subst (AreWaiting config cs) (rest-next ns at lt) waits)
+
 -- those that are left wait as they did
 pub left-wait : (config : Config) (n : ℕ) (rest : List ℕ) (mid new : List Presence) → AreWaiting config mid (n ∷ rest) → LeavesOthers mid new (n - 1) → AreWaiting config new rest
 left-wait config n rest mid new w o = record {
@@ -136,10 +139,8 @@ left-wait config n rest mid new w o = record {
       let also : 1 ≤ times_in m (n ∷ rest) = omega (arith, some) in
       let here = w.each m also in
       let first = first-waits config mid n rest w in
-      let e = here.place in
-      let f = first.place in
       let once = w.once n in
-      let differs : here.index ≢ n - 1 = λ at. no-two m n rest (omega (arith, at, e, f)) some once in
+      let differs : here.index ≢ n - 1 = λ at. no-two m n rest (omega (arith, at, here.place, first.place)) some once in
       record { index = here.index; place = here.place; is = here.is; at = o.others here.index differs ∙ here.at; waits = here.waits; is_open = here.is_open; load = here.load };
 }
 
@@ -149,10 +150,8 @@ left-room config n size rest mid new w room o m some c at =
     let also : 1 ≤ times_in m (n ∷ rest) = omega (arith, some) in
     let here = w.each m also in
     let first = first-waits config mid n rest w in
-    let e = here.place in
-    let f = first.place in
     let once = w.once n in
-    let differs : m - 1 ≢ n - 1 = λ h. no-two m n rest (omega (arith, h, e, f)) some once in
+    let differs : m - 1 ≢ n - 1 = λ h. no-two m n rest (omega (arith, h, here.place, first.place)) some once in
     room m also c (sym (o.others (m - 1) differs) ∙ at)
 
 -- where nothing changed that is seen
@@ -177,6 +176,5 @@ same-wait config numbers old new same w = record {
 pub wait-there : (config : Config) (numbers : List ℕ) (old new : List Presence) → AreWaiting config old numbers → length new ≡ length old → AreThere new numbers
 wait-there config numbers old new w count n some =
     let here = w.each n some in
-    let e = here.place in
     let lt = slice_get_within old here.index (Here here.is) here.at in
-    (omega (arith, e), omega (arith, e, lt, count))
+    (omega (arith, here.place), omega (arith, here.place, lt, count))

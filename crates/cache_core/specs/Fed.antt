@@ -2,16 +2,16 @@
 use Rattle.std.specs.Prelude.{◌≡◌, ℕ, ◌+◌, Bool, true, List, [], Option, Some, None, ◌⊎◌, slice_set}
 use Rattle.std.specs.List.{slice_get}
 use Rattle.std.specs.Option.{option_map}
-use Rattle.audit_model.specs.declared.event.Event.TheVariants as event
 use Rattle.audit_model.specs.declared.input.ServiceError.{ServiceError}
-use Rattle.audit_model.specs.declared.input.ServiceError.TheVariants as error
+use Rattle.cache_commands.specs.Loads.Pending.{SameLoads}
 use Rattle.cache_lines.specs.Bases.{Seen}
 use Rattle.cache_lines.specs.Gathered.{IsFresh, gathered, stage}
+use Rattle.cache_lines.specs.Tape.Taped.{IsAtRest, Taped, finishes, started}
 use Rattle.cache_lines.specs.Waiting.{under_way}
 use Rattle.cache_lines.specs.declared.base.Base.{Base}
-use Rattle.cache_commands.specs.Loads.Pending.{SameLoads}
 use Rattle.cache_store.specs.Values.{IsMoment, Values}
-use Rattle.cache_lines.specs.Tape.Taped.{IsAtRest, Taped, finishes, started}
+use Rattle.audit_model.specs.declared.event.Event.TheVariants as event
+use Rattle.audit_model.specs.declared.input.ServiceError.TheVariants as error
 use Rattle.cache_core.specs.declared.connection.connection.Connection.{Connection}
 use Rattle.cache_core.specs.Connection.Fed.{FedRan, seen_of}
 use Rattle.cache_core.specs.Connections.Presence.{Here, Presence, text_at}

@@ -6,22 +6,22 @@ use Rattle.audit_model.specs.Bytewise.{is_empty}
 use Rattle.audit_model.specs.Situation.{HeldValue, Situation}
 use Rattle.audit_model.specs.Steps.{Task}
 use Rattle.audit_model.specs.declared.command.Closing.{Closing}
-use Rattle.audit_model.specs.declared.command.Closing.TheVariants as by
 use Rattle.audit_model.specs.declared.config.Config.{Config}
 use Rattle.audit_model.specs.declared.transcript.Step.{Step}
 use Rattle.cache_commands.specs.Right.{KeepsFrame}
-use Rattle.cache_lines.specs.Leads.Leads.{TasksLead}
+use Rattle.cache_commands.specs.declared.loads.standing.Standing.{Standing}
 use Rattle.cache_lines.specs.Drawing.{identifiers_in}
 use Rattle.cache_lines.specs.Ended.{ends_silent}
 use Rattle.cache_lines.specs.Gathered.{adds, written}
+use Rattle.cache_lines.specs.Leads.Leads.{TasksLead}
 use Rattle.cache_lines.specs.Lines.{ends_quit}
 use Rattle.cache_lines.specs.Making.{Making, making_of}
+use Rattle.cache_lines.specs.Tape.Taped.{Taped}
 use Rattle.cache_lines.specs.Waiting.{UnderWay, under_way}
 use Rattle.cache_lines.specs.declared.base.Base.{Base}
-use Rattle.cache_commands.specs.declared.loads.standing.Standing.{Standing}
-use Rattle.cache_commands.specs.declared.loads.standing.Standing.TheVariants as now_is
 use Rattle.cache_store.specs.Values.{IsMoment, Values}
-use Rattle.cache_lines.specs.Tape.Taped.{Taped}
+use Rattle.audit_model.specs.declared.command.Closing.TheVariants as by
+use Rattle.cache_commands.specs.declared.loads.standing.Standing.TheVariants as now_is
 use Rattle.cache_core.specs.Connection.Again.{EndsCalm}
 use Rattle.cache_core.specs.Connection.Fed.{closing_by}
 use Rattle.cache_core.specs.State.{at_number}

@@ -2,6 +2,7 @@
 use Rattle.std.specs.Prelude.{◌≡◌, ◌≢◌, ℕ, suc, ◌+◌, ◌-◌, ◌≤◌, ◌==◌, not, Bool, true, false, List, [], ◌∷◌, if◌then◌else◌, is_some, length, Option, Some, None, vec_len, vec_capacity}
 use Rattle.std.specs.List.{filter, slice_get}
 use Rattle.std.specs.Option.{option_map, option_map_or}
+use Rattle.audit_laws.specs.Waiting.Tidy.{times_in}
 use Rattle.audit_model.specs.Belongs.{Known}
 use Rattle.audit_model.specs.Bytewise.{is_empty}
 use Rattle.audit_model.specs.Follows.{known_in}
@@ -11,28 +12,27 @@ use Rattle.audit_model.specs.Steps.{Task}
 use Rattle.audit_model.specs.declared.command.Closing.{Closing}
 use Rattle.audit_model.specs.declared.config.Config.{Config}
 use Rattle.audit_model.specs.declared.event.Event.{Event}
-use Rattle.audit_model.specs.declared.event.Event.TheVariants as event
 use Rattle.audit_model.specs.declared.event.Outcome.{Outcome}
 use Rattle.audit_model.specs.declared.transcript.Accepted.{Accepted}
 use Rattle.audit_model.specs.declared.transcript.Note.{Note}
 use Rattle.audit_model.specs.declared.transcript.Record.{Record}
-use Rattle.audit_laws.specs.Waiting.Tidy.{times_in}
 use Rattle.cache_commands.specs.Answered.{IsStored}
+use Rattle.cache_commands.specs.Loads.Pending.{load_numbered, loads_pending}
 use Rattle.cache_commands.specs.Right.{KeepsFrame}
-use Rattle.cache_core.specs.Connection.Fed.{FedRan, LooksAsBefore}
-use Rattle.cache_core.specs.declared.connection.connection.Connection.{Connection}
-use Rattle.cache_core.specs.Connections.Presence.{Gone, Here, Out, Presence}
+use Rattle.cache_commands.specs.declared.loads.standing.Standing.{Standing}
 use Rattle.cache_lines.specs.Leads.Leads.{BeginsUnknown}
 use Rattle.cache_lines.specs.Making.{making_of}
+use Rattle.cache_lines.specs.Tape.Taped.{IsAtRest, Taped, started}
 use Rattle.cache_lines.specs.Waiting.{UnderWay, is_load, under_way}
 use Rattle.cache_lines.specs.Whole.{held_line}
 use Rattle.cache_lines.specs.declared.base.Base.{Base}
-use Rattle.cache_commands.specs.Loads.Pending.{load_numbered, loads_pending}
-use Rattle.cache_commands.specs.declared.loads.loads.Loads.{Loads}
-use Rattle.cache_commands.specs.declared.loads.standing.Standing.{Standing}
-use Rattle.cache_commands.specs.declared.loads.standing.Standing.TheVariants as now_is
 use Rattle.cache_store.specs.Values.{GivesNote, IsMoment, Values}
-use Rattle.cache_lines.specs.Tape.Taped.{IsAtRest, Taped, started}
+use Rattle.audit_model.specs.declared.event.Event.TheVariants as event
+use Rattle.cache_core.specs.Connection.Fed.{FedRan, LooksAsBefore}
+use Rattle.cache_core.specs.declared.connection.connection.Connection.{Connection}
+use Rattle.cache_core.specs.Connections.Presence.{Gone, Here, Out, Presence}
+use Rattle.cache_commands.specs.declared.loads.loads.Loads.{Loads}
+use Rattle.cache_commands.specs.declared.loads.standing.Standing.TheVariants as now_is
 use Rattle.cache_core.specs.Fed.{ReplacedAt, seen_at}
 use Rattle.cache_core.specs.Settled.{Parts, Piece}
 use Rattle.cache_core.specs.State.{State, StandsFor}

@@ -1,19 +1,19 @@
 -- A namespace as its callers see it.
 use Rattle.std.specs.Prelude.{◌≡◌, ℕ, zero, suc, ◌-◌, ◌<◌, ◌≤◌, ◌^◌, Bool, true, nat_lt, nat_le, ◌&&◌, List, [], length, map, Option, None, is_none, is_some, unwrap_or, IsTrue}
 use Rattle.std.specs.List.{slice_get}
+use Rattle.audit_laws.specs.Waiting.Tidy.{Tidy}
 use Rattle.audit_model.specs.Belongs.{Known}
 use Rattle.audit_model.specs.Follows.{known_in}
-use Rattle.audit_model.specs.Situation as model
 use Rattle.audit_model.specs.Situation.{HeldValue, PendingLoad, Situation}
 use Rattle.audit_model.specs.declared.command.Closing.{Closing}
 use Rattle.audit_model.specs.declared.input.LoadId.{LoadId}
-use Rattle.audit_laws.specs.Waiting.Tidy.{Tidy}
-use Rattle.cache_lines.specs.Leads.Waiters.{WaitForLoads}
-use Rattle.cache_store.specs.Values.{Values}
-use Rattle.cache_lines.specs.Tape.Taped.{IsAtRest, Taped}
-use Rattle.cache_lines.specs.declared.base.Base.{Base}
 use Rattle.cache_commands.specs.Loads.Keys.{were_sent}
 use Rattle.cache_commands.specs.Loads.Pending.{loads_pending, namespace_of_loads, outgoing_loads, sent_of}
+use Rattle.cache_lines.specs.Tape.Taped.{IsAtRest, Taped}
+use Rattle.cache_lines.specs.declared.base.Base.{Base}
+use Rattle.cache_store.specs.Values.{Values}
+use Rattle.audit_model.specs.Situation as model
+use Rattle.cache_lines.specs.Leads.Waiters.{WaitForLoads}
 use Rattle.cache_core.specs.Connections.Presence.{Presence, closing_of, open_from, reply_text_of}
 
 -- A namespace: its store, and the tape of its records; the latest moment; the open connections; for each connection that was opened why it

@@ -10,26 +10,26 @@ use Rattle.audit_model.specs.Follows.{Follows, after_event, tasks_in}
 use Rattle.audit_model.specs.Places.{steps_of}
 use Rattle.audit_model.specs.Situation.{PendingLoad, Situation, connection_in, is_waiting_now}
 use Rattle.audit_model.specs.declared.command.Closing.{Closing}
-use Rattle.audit_model.specs.declared.command.Closing.TheVariants as by
 use Rattle.audit_model.specs.declared.config.Config.{Config}
 use Rattle.audit_model.specs.declared.event.Event.{Event}
-use Rattle.audit_model.specs.declared.event.Event.TheVariants as event
 use Rattle.audit_model.specs.declared.input.LoadId.{LoadId}
 use Rattle.audit_model.specs.declared.input.ServiceError.{ServiceError}
-use Rattle.audit_model.specs.declared.input.ServiceError.TheVariants as error
 use Rattle.audit_model.specs.declared.transcript.Note.{Note}
 use Rattle.audit_model.specs.declared.transcript.Record.{Record}
 use Rattle.audit_model.specs.declared.transcript.Step.{Step}
 use Rattle.cache_commands.specs.Loads.Keys.{are_in_turn}
 use Rattle.cache_commands.specs.Loads.Pending.{load_numbered}
-use Rattle.cache_store.specs.Running.{is_bounded}
-use Rattle.cache_store.specs.Values.{Values}
-use Rattle.cache_lines.specs.Tape.Taped.{Taped, with_entry}
 use Rattle.cache_lines.specs.Drawing.{StepsDraw, identifiers_in}
 use Rattle.cache_lines.specs.Ended.{ends_held, ends_silent}
 use Rattle.cache_lines.specs.Gathered.{reply_in}
 use Rattle.cache_lines.specs.Lines.{are_timely, ends_quit}
 use Rattle.cache_lines.specs.Ordered.{OrdersSteps}
+use Rattle.cache_lines.specs.Tape.Taped.{Taped, with_entry}
+use Rattle.cache_store.specs.Values.{Values}
+use Rattle.audit_model.specs.declared.command.Closing.TheVariants as by
+use Rattle.audit_model.specs.declared.event.Event.TheVariants as event
+use Rattle.audit_model.specs.declared.input.ServiceError.TheVariants as error
+use Rattle.cache_store.specs.Running.{is_bounded}
 use Rattle.cache_core.specs.Connection.Fed.{closing_by}
 use Rattle.cache_core.specs.State.{State, StandsFor, closing_in, known_of, loads_taken_of, output_in}
 

@@ -87,9 +87,8 @@ impl<S: Store, T: Tape> Namespace<S, T> {
         match self.connections.push(new_connection(self.alloc)) {
             Ok(()) => {
                 let number = self.connections.len() as u64;
-                self.base
-                    .tape
-                    .finish(Event::Open { conn: number }, None, Seq::new(self.alloc));
+                let event = Event::Open { conn: number };
+                self.base.tape.finish(event, None, Seq::new(self.alloc));
                 Ok(number)
             }
             Err(error) => {
@@ -109,10 +108,7 @@ impl<S: Store, T: Tape> Namespace<S, T> {
         ensures unchanged { OnErr result (self.new ≡ self.old) }
     {
         self.base.store.sound();
-        let index = match find_open(&self.connections, number) {
-            Ok(index) => index,
-            Err(error) => return Err(error),
-        };
+        let index = find_open(&self.connections, number)?;
         if moment.nanos > MAX_MOMENT {
             return Err(ServiceError::Moment);
         }
@@ -147,19 +143,15 @@ impl<S: Store, T: Tape> Namespace<S, T> {
         ensures unchanged { OnErr result (self.new ≡ self.old) }
     {
         self.base.store.sound();
-        let index = match find_open(&self.connections, number) {
-            Ok(index) => index,
-            Err(error) => return Err(error),
-        };
+        let index = find_open(&self.connections, number)?;
         let Ok(()) = begin_kept(&mut self.base.tape, 0) else {
             return Err(ServiceError::OutOfMemory);
         };
         close_at(&mut self.connections, index);
         self.connections.retire(index);
         self.base.loads.leave(number);
-        self.base
-            .tape
-            .finish(Event::Close { conn: number }, None, Seq::new(self.alloc));
+        let event = Event::Close { conn: number };
+        self.base.tape.finish(event, None, Seq::new(self.alloc));
         Ok(())
     }
 
@@ -179,13 +171,8 @@ impl<S: Store, T: Tape> Namespace<S, T> {
         ensures unchanged { OnErr result (self.new ≡ self.old) }
     {
         self.base.store.sound();
-        match refuse_answer(
-            self.base.store.store().config(),
-            &self.base.loads,
-            load,
-            &outcome,
-            moment.nanos,
-        ) {
+        let config = self.base.store.store().config();
+        match refuse_answer(config, &self.base.loads, load, &outcome, moment.nanos) {
             Some(error) => return Err((error, outcome)),
             None => {}
         }
@@ -200,15 +187,12 @@ impl<S: Store, T: Tape> Namespace<S, T> {
         ) {
             Ok(Stored { accepted, notes }) => {
                 hand_out(&mut self.base, now, &mut self.connections, load, &outcome);
-                self.base.tape.finish(
-                    Event::Answer {
-                        load,
-                        outcome,
-                        moment,
-                    },
-                    accepted,
-                    Seq::from_vec(notes),
-                );
+                let event = Event::Answer {
+                    load,
+                    outcome,
+                    moment,
+                };
+                self.base.tape.finish(event, accepted, Seq::from_vec(notes));
                 self.base.store.sound();
                 self.latest = now;
                 Ok(())
@@ -231,12 +215,8 @@ impl<S: Store, T: Tape> Namespace<S, T> {
         ensures unchanged { OnErr result (self.new ≡ self.old) }
     {
         self.base.store.sound();
-        match refuse_load(
-            self.base.store.store().config(),
-            &self.base.loads,
-            load,
-            moment.nanos,
-        ) {
+        let config = self.base.store.store().config();
+        match refuse_load(config, &self.base.loads, load, moment.nanos) {
             Some(error) => return Err(error),
             None => {}
         }
@@ -245,9 +225,8 @@ impl<S: Store, T: Tape> Namespace<S, T> {
         };
         let now = moment.nanos.max(self.latest);
         settle_give_up(&mut self.base, now, &mut self.connections, load);
-        self.base
-            .tape
-            .finish(Event::GiveUp { load, moment }, None, Seq::new(self.alloc));
+        let event = Event::GiveUp { load, moment };
+        self.base.tape.finish(event, None, Seq::new(self.alloc));
         self.base.store.sound();
         self.latest = now;
         Ok(())
@@ -261,10 +240,7 @@ impl<S: Store, T: Tape> Namespace<S, T> {
         ensures unchanged { IfErr result
             (λ e. (e ≡ ServiceError.NoConnection) × (self.new ≡ self.old)) }
     {
-        let index = match find_opened(&self.connections, number) {
-            Ok(index) => index,
-            Err(error) => return Err(error),
-        };
+        let index = find_opened(&self.connections, number)?;
         Ok(take_at(self.alloc, &mut self.connections, index))
     }
 
@@ -295,10 +271,7 @@ impl<S: Store, T: Tape> Namespace<S, T> {
         ensures refused { IsErr result ↔ (was_opened self.now number ≡ false) }
         ensures error { IfErr result (λ e. e ≡ ServiceError.NoConnection) }
     {
-        let index = match find_opened(&self.connections, number) {
-            Ok(index) => index,
-            Err(error) => return Err(error),
-        };
+        let index = find_opened(&self.connections, number)?;
         Ok(self.connections.closing(index))
     }
 
@@ -309,10 +282,7 @@ impl<S: Store, T: Tape> Namespace<S, T> {
         ensures refused { IsErr result ↔ (was_opened self.now number ≡ false) }
         ensures error { IfErr result (λ e. e ≡ ServiceError.NoConnection) }
     {
-        let index = match find_opened(&self.connections, number) {
-            Ok(index) => index,
-            Err(error) => return Err(error),
-        };
+        let index = find_opened(&self.connections, number)?;
         Ok(waits_at_place(&self.connections, index))
     }
 
@@ -328,8 +298,7 @@ impl<S: Store, T: Tape> Namespace<S, T> {
         ensures { result ≡ self.tape }
     {
         let Namespace { base, .. } = self;
-        let Base { tape, .. } = base;
-        tape
+        base.tape
     }
 
     /// The tape of its records.

@@ -41,16 +41,11 @@ fn refuse_bytes(bytes: &[u8]) -> Option<ServiceError>
 fn refuse_milliseconds(config: &Config, milliseconds: Option<u64>) -> Option<ServiceError>
     ensures { result ≡ refusal_of_ms config.now milliseconds }
 {
-    match milliseconds {
-        Some(milliseconds) => {
-            if !config.own_deadlines || milliseconds > MAX_MILLISECONDS {
-                Some(ServiceError::Deadline)
-            } else {
-                None
-            }
-        }
-        None => None,
+    let milliseconds = milliseconds?;
+    if !config.own_deadlines || milliseconds > MAX_MILLISECONDS {
+        return Some(ServiceError::Deadline);
     }
+    None
 }
 
 /// Why an outcome is refused.

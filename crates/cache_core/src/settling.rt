@@ -25,11 +25,7 @@ fn runs(connection: &Connection) -> bool
 {
     match connection.closing {
         Some(_) => false,
-        None => match connection.standing {
-            Standing::Ready => true,
-            Standing::Held => false,
-            Standing::Waiting => false,
-        },
+        None => matches!(connection.standing, Standing::Ready),
     }
 }
 

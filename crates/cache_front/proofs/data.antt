@@ -2,6 +2,5 @@ pub mod Calls
 pub mod Beginning
 pub mod Live
 pub mod Drains
-pub mod Sorting
 pub mod Gathering
 pub mod Counting

@@ -1,2 +1,10 @@
+pub mod Parts
+pub mod Recent
+pub mod Keeping
+pub mod Registering
+pub mod View
+pub mod State
 pub mod Data
-pub mod Store
+pub mod Making
+pub mod Listing
+pub mod Draining

@@ -7,9 +7,8 @@ mod making;
 use crate::entries::StoredValue;
 use audit_model::{Key, Weight};
 pub use calling::{bytes_found, clear, cover, insert, invalidate, prepare, read_bytes};
-pub use draining::{drain, drain_at, note_of};
-use front_reference::Shared;
-pub use front_state::{LentState, Notice, Segmented};
+pub use draining::{WaitingNote, drain, drain_at};
+pub use front_state::{LentState, Segmented};
 pub use listing::write_keys;
 pub use making::{bits_of, settings_of};
 use std::collections::VecDeque;
@@ -17,5 +16,5 @@ use std::collections::VecDeque;
 /// The front, whose keys this hashes.
 pub type Front<S> = LentState<Key, StoredValue, S, Weight, Segmented>;
 
-/// Notices that a front told.
-pub type Notices = VecDeque<Notice<Shared<Key>, StoredValue>>;
+/// Notes of what a front told.
+pub type Notes = VecDeque<WaitingNote>;

@@ -1,33 +1,32 @@
 -- A line that was answered, and what was gathered of it.
-use Rattle.std.proofs.Common.{◌≡◌, ℕ, suc, Bool, List, [], ◌∷◌, ◌++◌, Option, Some, None, if◌then◌else◌, refl, sym, ap, ◌∙◌, subst}
-use Rattle.std.specs.Prelude.{IsTrue, Ok, is_some, not, ◌||◌}
-use Rattle.std.specs.List.{list_all}
-use Rattle.audit_model.specs.Commands.{is_sync}
-use Rattle.std.specs.Option.{option_map}
+use Rattle.std.proofs.Common.{refl, sym, ap, ◌∙◌, subst, ◌≡◌, ℕ, suc, Bool, List, [], ◌∷◌, ◌++◌, Option, Some, None, if◌then◌else◌, IsTrue, Ok, is_some, not, ◌||◌}
 use Rattle.std.proofs.lemmas.List.{append-nil}
+use Rattle.std.specs.List.{list_all}
+use Rattle.std.specs.Option.{option_map}
+use Rattle.audit_model.specs.Commands.{is_sync}
 use Rattle.audit_model.specs.Grammar.{reading}
 use Rattle.audit_model.specs.History.{Value}
 use Rattle.audit_model.specs.Situation.{live_at, view_in}
 use Rattle.audit_model.specs.Steps.{action_by, effect_in}
-use Rattle.audit_model.specs.declared.command.Command.TheVariants as says
 use Rattle.audit_model.specs.declared.transcript.Accepted.{Accepted}
 use Rattle.audit_model.specs.declared.transcript.Note.{Note}
 use Rattle.audit_model.specs.declared.transcript.Step.{Step}
-use Rattle.cache_store.specs.Promises.{Frame}
-use Rattle.cache_store.specs.Running.{is_timely}
-use Rattle.cache_store.specs.Values.{GivesNote, IsSoundStore, Values}
 use Rattle.cache_commands.specs.Answered.{IsAnswered}
 use Rattle.cache_commands.specs.Loading.{step_silent}
 use Rattle.cache_commands.specs.Order.{order_by}
 use Rattle.cache_commands.specs.Ran.{MissesLive}
 use Rattle.cache_commands.specs.Right.{KeepsFrame, held_when_run, step_saying}
-use Rattle.cache_commands.proofs.Ordering.{agrees-kept}
-use Rattle.cache_lines.specs.Tape.Taped.{Taped, drafts, ends, text_left}
 use Rattle.cache_lines.specs.Drawing.{identifiers_in}
 use Rattle.cache_lines.specs.Gathered.{IsFresh, gather, gathered, stage}
 use Rattle.cache_lines.specs.Lines.{IsPlain, says_quit}
 use Rattle.cache_lines.specs.Ran.{RanLine, WaitsLine}
+use Rattle.cache_lines.specs.Tape.Taped.{Taped, drafts, ends, text_left}
 use Rattle.cache_lines.specs.Waiting.{UnderWay, load_sent_for, when_waiting}
+use Rattle.cache_store.specs.Promises.{Frame}
+use Rattle.cache_store.specs.Running.{is_timely}
+use Rattle.cache_store.specs.Values.{GivesNote, IsSoundStore, Values}
+use Rattle.audit_model.specs.declared.command.Command.TheVariants as says
+use Rattle.cache_commands.proofs.Ordering.{agrees-kept}
 use Rattle.cache_lines.proofs.Drawn.{step-drawn, step-kept}
 use Rattle.cache_lines.proofs.Gathering.{silent-gathered}
 use Rattle.cache_lines.proofs.Knowing.{keys-known}

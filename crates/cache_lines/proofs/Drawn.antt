@@ -1,8 +1,6 @@
 -- Identifiers drawn by one step after another.
-use Rattle.std.proofs.Common.{◌≡◌, ℕ, zero, suc, ◌+◌, true, false, List, [], ◌∷◌, ◌++◌, Option, ap, ◌∙◌, arith}
-use Rattle.std.specs.Prelude.{codes}
+use Rattle.std.proofs.Common.{zero, ap, ◌∙◌, arith, ◌≡◌, ℕ, suc, ◌+◌, true, false, List, [], ◌∷◌, ◌++◌, Option, codes}
 use Rattle.std.proofs.lemmas.Bool.{and_parts}
-use Rattle.std.proofs.lemmas.Slice.Eq.{bytes_eq-Decides}
 use Rattle.audit_model.specs.Bytewise.{same}
 use Rattle.audit_model.specs.Grammar.{reading}
 use Rattle.audit_model.specs.History.{part_count}
@@ -10,14 +8,15 @@ use Rattle.audit_model.specs.declared.config.Config.{Config}
 use Rattle.audit_model.specs.declared.transcript.Accepted.{Accepted}
 use Rattle.audit_model.specs.declared.transcript.Note.{Note}
 use Rattle.audit_model.specs.declared.transcript.Step.{Step}
-use Rattle.rand_core.specs.Stream.{Stream}
-use Rattle.cache_store.specs.Identifiers.{Register, KeepsIdentifiers, AreUsedUp, drawn, stream_after}
+use Rattle.cache_commands.proofs.Drawn.{draws-none, spends-none}
+use Rattle.cache_commands.specs.Answered.{says_drop}
 use Rattle.cache_commands.specs.Drawing.{DrawsForParts}
 use Rattle.cache_commands.specs.Right.{step_saying}
-use Rattle.cache_commands.proofs.Drawn.{draws-none, spends-none}
 use Rattle.cache_lines.specs.Drawing.{Identifiers, Spends, StepDraws, StepsDraw}
-use Rattle.cache_commands.specs.Answered.{says_drop}
 use Rattle.cache_lines.specs.Tape.Taped.{step_held}
+use Rattle.std.proofs.lemmas.Slice.Eq.{bytes_eq-Decides}
+use Rattle.rand_core.specs.Stream.{Stream}
+use Rattle.cache_store.specs.Identifiers.{drawn, stream_after, Register, KeepsIdentifiers, AreUsedUp}
 
 pub keeps-more : (a b c : Stream) (x y z : Register) → KeepsIdentifiers a b x y → KeepsIdentifiers b c y z → KeepsIdentifiers a c x z
 keeps-more a b c x y z k l = record { stream = l.stream ∙ k.stream; registered = λ part id h. k.registered part id (l.registered part id h) }
@@ -54,11 +53,6 @@ step-kept config step a b c s k = record {
 pub draws-more : (config : Config) (steps : List Step) (step : Step) (a b c : Identifiers) → StepsDraw config steps a b → StepDraws config step b c → StepsDraw config (steps ++ step ∷ []) a c
 draws-more config [] step a b c s t = record { before = b; behind = c; spends = s; step_draws = t; rest = spends-same c }
 draws-more config (x ∷ xs) step a b c s t = record { before = s.before; behind = s.behind; spends = s.spends; step_draws = s.step_draws; rest = draws-more config xs step s.behind b c s.rest t }
-
--- more are drawn behind
-pub draws-spend : (config : Config) (steps : List Step) (a b c : Identifiers) → StepsDraw config steps a b → Spends b c → StepsDraw config steps a c
-draws-spend config [] a b c s t = spends-more a b c s t
-draws-spend config (x ∷ xs) a b c s t = record { before = s.before; behind = s.behind; spends = s.spends; step_draws = s.step_draws; rest = draws-spend config xs s.behind b c s.rest t }
 
 -- a step before others
 pub draws-first : (config : Config) (step : Step) (steps : List Step) (a b c : Identifiers) → StepDraws config step a b → StepsDraw config steps b c → StepsDraw config (step ∷ steps) a c

@@ -1,14 +1,14 @@
 -- What is gathered of a step, where a record is made or none.
-use Rattle.std.proofs.Common.{◌≡◌, ℕ, ◌<◌, arith, List, [], ◌∷◌, ◌++◌, Option, Some, None, refl, sym, ap, ◌∙◌}
-use Rattle.std.specs.Option.{option_map}
+use Rattle.std.proofs.Common.{arith, refl, sym, ap, ◌∙◌, ◌≡◌, ℕ, ◌<◌, List, [], ◌∷◌, ◌++◌, Option, Some, None}
 use Rattle.std.proofs.lemmas.List.{append-nil}
+use Rattle.std.specs.Option.{option_map}
 use Rattle.cache_commands.specs.Loading.{step_silent}
 use Rattle.cache_commands.specs.Loads.Pending.{SameLoads}
-use Rattle.cache_commands.specs.declared.loads.loads.Loads.{Loads}
-use Rattle.cache_store.specs.Values.{Values}
 use Rattle.cache_lines.specs.Gathered.{Gathered, gather, gathered, spare_in, stage}
-use Rattle.cache_lines.specs.Waiting.{under_way}
 use Rattle.cache_lines.specs.Tape.Taped.{HasSpare, Taped, drafts, ends, spends, step_held}
+use Rattle.cache_lines.specs.Waiting.{under_way}
+use Rattle.cache_store.specs.Values.{Values}
+use Rattle.cache_commands.specs.declared.loads.loads.Loads.{Loads}
 
 -- a line that was held back
 pub held-gathered : (g : Gathered) (v : Values) (text line : List ℕ) (n : ℕ) (t : Option Taped) → gathered (stage v text t) ≡ g → gathered (stage v text (option_map (spends (step_held n line)) t)) ≡ gather g (step_held n line ∷ [])

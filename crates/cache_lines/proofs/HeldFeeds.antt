@@ -1,8 +1,7 @@
 -- A feed of a connection that holds a line back.
-use Rattle.std.proofs.Common.{◌≡◌, ℕ, suc, ◌+◌, Bool, true, false, not, ◌&&◌, List, [], ◌∷◌, ◌++◌, Option, Some, None, if◌then◌else◌, refl, sym, ap, ◌∙◌, subst}
-use Rattle.std.specs.Prelude.{Ok, is_none}
-use Rattle.std.specs.List.{list_all}
+use Rattle.std.proofs.Common.{refl, sym, ap, ◌∙◌, subst, ◌≡◌, ℕ, suc, ◌+◌, Bool, true, false, not, ◌&&◌, List, [], ◌∷◌, ◌++◌, Option, Some, None, if◌then◌else◌, Ok, is_none}
 use Rattle.std.proofs.lemmas.Bool.{and_from, eq-eqb}
+use Rattle.std.specs.List.{list_all}
 use Rattle.audit_laws.specs.Leading.{is_parted}
 use Rattle.audit_laws.specs.Placing.{placed_steps_in}
 use Rattle.audit_model.specs.Bytewise.{is_empty}
@@ -13,18 +12,15 @@ use Rattle.audit_model.specs.History.{Running}
 use Rattle.audit_model.specs.Obeys.{accepted_values}
 use Rattle.audit_model.specs.Places.{tasks_to_feed}
 use Rattle.audit_model.specs.Situation.{Situation, HeldValue, live_at, view_in}
-use Rattle.audit_model.specs.Steps.{Task, RunLines, RunHeld, action_by, effect_in, is_right}
+use Rattle.audit_model.specs.Steps.{RunLines, RunHeld, action_by, effect_in, is_right}
 use Rattle.audit_model.specs.Stream.{behind_lines}
-use Rattle.audit_model.specs.declared.command.Command.TheVariants as says
 use Rattle.audit_model.specs.declared.config.Config.{Config}
 use Rattle.audit_model.specs.declared.transcript.Accepted.{Accepted}
 use Rattle.audit_model.specs.declared.transcript.Note.{Note}
 use Rattle.audit_model.specs.declared.transcript.Step.{Step}
+use Rattle.cache_commands.specs.Loads.Pending.{number_to_send, when_joined, when_sent}
 use Rattle.cache_commands.specs.Order.{AgreesWith, order_by}
 use Rattle.cache_commands.specs.Right.{held_when_run, placed_doing, step_saying}
-use Rattle.cache_commands.specs.Loads.Pending.{number_to_send, when_joined, when_sent}
-use Rattle.cache_store.specs.Promises.{no_deed}
-use Rattle.cache_lines.specs.Tape.Taped.{Taped}
 use Rattle.cache_lines.specs.Drawing.{identifiers_in}
 use Rattle.cache_lines.specs.Ended.{RanReady, RanTasks, ends_held, ends_silent, held_with}
 use Rattle.cache_lines.specs.Gathered.{Stage, gather, gathered, stage}
@@ -32,18 +28,19 @@ use Rattle.cache_lines.specs.Lines.{IsThere, are_timely, ends_quit, has_its_part
 use Rattle.cache_lines.specs.Making.{Making}
 use Rattle.cache_lines.specs.Ordered.{HasKeys, HaveKeys}
 use Rattle.cache_lines.specs.Ran.{RanOne}
+use Rattle.cache_lines.specs.Tape.Taped.{Taped}
 use Rattle.cache_lines.specs.Waiting.{waiting, with_under_way}
 use Rattle.cache_lines.specs.Whole.{held_line}
+use Rattle.cache_store.specs.Promises.{no_deed}
+use Rattle.audit_model.specs.declared.command.Command.TheVariants as says
 use Rattle.cache_lines.proofs.Drawn.{draws-first, spends-same}
 use Rattle.cache_lines.proofs.LineRuns.{gather-more, timely-ended}
 use Rattle.cache_lines.proofs.LoadWaits.{after-waits, left_waiting, step_waits, stops-waiting, turn-right, waits-draws, waits-left, waits-right}
 use Rattle.cache_lines.proofs.Placing.{found-there}
-use Rattle.cache_lines.proofs.ReadyRuns.{cons-parted, stops-quit}
+use Rattle.cache_lines.proofs.ReadyRuns.{stops-quit}
 use Rattle.cache_lines.proofs.Stepping.{after-held, right-in-turn}
-
--- the tasks that are due while lines may run or not
-abbrev due_if : Bool → ℕ → List Task
-due_if may number = if may then RunLines number ∷ [] else []
+use Rattle.cache_lines.proofs.Knowing.{due_if}
+use Rattle.cache_lines.proofs.leads.Leading.{cons-parted}
 
 -- a step before others, of which the last one is a `QUIT` or not
 starts-quit : (config : Config) (x : Step) (xs : List Step) (quit : Bool) → (not x.held && says_quit (reading config x.line)) ≡ false → ends_quit config xs ≡ quit → ends_quit config (x ∷ xs) ≡ quit

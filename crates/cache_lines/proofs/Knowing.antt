@@ -1,20 +1,19 @@
 -- What is known of the keys held, step by step.
-use Rattle.std.proofs.Common.{◌≡◌, ℕ, suc, Bool, true, false, List, [], ◌∷◌, ◌++◌, Some, if◌then◌else◌, refl, sym, ap, ◌∙◌, subst}
-use Rattle.std.specs.Prelude.{Ok, Err}
+use Rattle.std.proofs.Common.{refl, sym, ap, ◌∙◌, subst, ◌≡◌, ℕ, Bool, true, false, List, [], ◌∷◌, ◌++◌, Some, if◌then◌else◌, Ok, Err}
 use Rattle.audit_model.specs.Changes.{after_step}
 use Rattle.audit_model.specs.Follows.{placed_step_in}
 use Rattle.audit_model.specs.Grammar.{Reading, reading}
 use Rattle.audit_model.specs.Places.{due, first_due, left_after}
 use Rattle.audit_model.specs.Situation.{Situation, Connection, HeldValue, may_run_in}
 use Rattle.audit_model.specs.Steps.{Task, RunLines}
-use Rattle.audit_model.specs.declared.command.Command.TheVariants as says
 use Rattle.audit_model.specs.declared.config.Config.{Config}
 use Rattle.audit_model.specs.declared.transcript.Step.{Step}
 use Rattle.cache_commands.specs.Order.{Order, Settled, Used, Unknown, AgreesWith, order_by}
-use Rattle.cache_store.specs.Recency.{AreKeysOf}
 use Rattle.cache_lines.specs.Lines.{Runs, situation_behind, effect_of_step}
 use Rattle.cache_lines.specs.Making.{Making}
-use Rattle.cache_lines.specs.Ordered.{HasKeys, HaveKeys, HaveKeysBehind, OrdersSteps, order_behind_step, order_behind}
+use Rattle.cache_lines.specs.Ordered.{HasKeys, HaveKeys, HaveKeysBehind, order_behind_step, order_behind}
+use Rattle.cache_store.specs.Recency.{AreKeysOf}
+use Rattle.audit_model.specs.declared.command.Command.TheVariants as says
 
 -- a store's keys in their order of use are those held
 pub keys-known : (Recency : Bool → List (List ℕ) → Type 0) (Stands : List HeldValue → Type 0) (places : ℕ) (order : Order) (held : List HeldValue)
@@ -45,7 +44,7 @@ runs-keys-more making number n order (x ∷ xs) s t step runs keys h =
     (keys.0, runs-keys-more making number n (order_behind_step making.config n order x) xs _ t step runs.4 keys.1 h)
 
 -- the tasks that are due while lines may run or not
-abbrev due_if : Bool → ℕ → List Task
+abbrev pub due_if : Bool → ℕ → List Task
 due_if may number = if may then RunLines number ∷ [] else []
 
 -- lines that ran in turn
@@ -95,16 +94,3 @@ unknown-keys config n s tasks (step ∷ steps) =
     let t = after_step config s placed.task step placed.effect in
     let P : Order → Type 0 = λ o. HasKeys o t.held × HaveKeys config n o t (left_after now_due) steps in
     subst P (sym (unknown-after config n step)) (tt, unknown-keys config n t (left_after now_due) steps)
-
--- steps of which the first leaves nothing known
-pub orders-lost : (config : Config) (old new : Bool → List (List ℕ) → Type 0) (s : Situation) (tasks : List Task) (first : Step) (rest : List Step)
-    → ((n : ℕ) (order : Order) → order_behind_step config n order first ≡ Unknown) → OrdersSteps config old new s tasks (first ∷ rest)
-orders-lost config old new s tasks first rest lost = λ places order plain agrees.
-    let n = suc places in
-    let now_due = due (may_run_in s) tasks in
-    let placed = placed_step_in config s (first_due now_due) first in
-    let t = after_step config s placed.task first placed.effect in
-    let P : Order → Type 0 = λ o. HasKeys o t.held × HaveKeys config n o t (left_after now_due) rest in (
-      subst (AgreesWith new places) (sym (ap (λ o. order_behind config n o rest) (lost n order) ∙ unknown-behind config n rest)) tt,
-      subst P (sym (lost n order)) (tt, unknown-keys config n t (left_after now_due) rest),
-    )

@@ -1,37 +1,35 @@
 -- A connection's lines run, one after another.
-use Rattle.std.proofs.Common.{◌≡◌, ℕ, suc, ◌+◌, Bool, true, false, not, ◌&&◌, ◌||◌, List, [], ◌∷◌, ◌++◌, take, drop, Option, Some, None, refl, sym, ap, ◌∙◌, subst, append_assoc}
-use Rattle.std.specs.Prelude.{is_none, is_some}
-use Rattle.std.specs.List.{flat_map}
-use Rattle.std.specs.Option.{option_map_or}
-use Rattle.std.proofs.lemmas.List.{append-nil}
-use Rattle.std.proofs.lemmas.Grind.{flat_map-append}
+use Rattle.std.proofs.Common.{drop, refl, sym, ap, ◌∙◌, subst, append_assoc, ◌≡◌, ℕ, suc, ◌+◌, Bool, true, false, not, ◌&&◌, ◌||◌, List, [], ◌∷◌, ◌++◌, take, Option, Some, None, is_none, is_some}
 use Rattle.std.proofs.lemmas.Bool.{eq-eqb, and_from, and_parts}
-use Rattle.std.proofs.lemmas.List.Folds.{list_all-append}
-use Rattle.std.specs.List.{list_all}
+use Rattle.std.proofs.lemmas.Grind.{flat_map-append}
+use Rattle.std.proofs.lemmas.List.{append-nil}
+use Rattle.std.specs.List.{flat_map, list_all}
+use Rattle.std.specs.Option.{option_map_or}
+use Rattle.audit_lines.proofs.Lines.{IsLine-first_line, IsLine-behind_lines, IsLine-not_long}
+use Rattle.audit_lines.specs.Next.{IsLine}
 use Rattle.audit_model.specs.Changes.{after_step}
 use Rattle.audit_model.specs.Commands.{drops, syncs}
-use Rattle.audit_model.specs.History.{Effect}
-use Rattle.cache_store.specs.Running.{is_timely}
 use Rattle.audit_model.specs.Follows.{line_in, placed_step_in}
 use Rattle.audit_model.specs.Grammar.{reading}
+use Rattle.audit_model.specs.History.{Effect}
 use Rattle.audit_model.specs.Situation.{Situation, Connection, HeldValue, is_ready, connection_in, may_run_in, is_overlong}
 use Rattle.audit_model.specs.Steps.{RunLines, action_by, is_right}
 use Rattle.audit_model.specs.Stream.{behind_lines, first_line, without_return}
 use Rattle.audit_model.specs.declared.config.Config.{Config}
 use Rattle.audit_model.specs.declared.transcript.Step.{Step}
-use Rattle.audit_lines.specs.Next.{IsLine}
-use Rattle.audit_lines.proofs.Lines.{IsLine-first_line, IsLine-behind_lines, IsLine-not_long}
+use Rattle.cache_commands.specs.Order.{AgreesWith, order_by}
 use Rattle.cache_commands.specs.Right.{step_saying, placed_doing, held_when_run}
 use Rattle.cache_lines.specs.Drawing.{identifiers_in}
-use Rattle.cache_lines.specs.Making.{Making}
-use Rattle.cache_lines.specs.Gathered.{Gathered, IsFresh, Stage, gather, gathered, reply_in, stage}
-use Rattle.cache_store.specs.Values.{Values}
-use Rattle.cache_lines.specs.Tape.Taped.{Taped}
 use Rattle.cache_lines.specs.Ended.{ends_silent}
+use Rattle.cache_lines.specs.Gathered.{Gathered, IsFresh, Stage, gather, gathered, reply_in, stage}
 use Rattle.cache_lines.specs.Lines.{Runs, IsThere, situation_behind, ends_quit, has_its_part, is_timely_after, effect_of_step, ready, says_quit, set_in, with_drops}
-use Rattle.cache_lines.specs.Ran.{RanOne, RanLines}
+use Rattle.cache_lines.specs.Making.{Making}
 use Rattle.cache_lines.specs.Ordered.{HasKeys, order_behind}
-use Rattle.cache_commands.specs.Order.{AgreesWith, order_by}
+use Rattle.cache_lines.specs.Ran.{RanOne, RanLines}
+use Rattle.cache_lines.specs.Tape.Taped.{Taped}
+use Rattle.cache_store.specs.Running.{is_timely}
+use Rattle.cache_store.specs.Values.{Values}
+use Rattle.std.proofs.lemmas.List.Folds.{list_all-append}
 use Rattle.cache_lines.proofs.Knowing.{has-ended, order-behind-more, runs-keys-more}
 use Rattle.cache_lines.proofs.Drawn.{draws-more, spends-same}
 use Rattle.cache_lines.proofs.Placing.{found-there}

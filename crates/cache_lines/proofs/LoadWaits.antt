@@ -1,49 +1,43 @@
 -- Lines that end with a `LOAD` that begins to wait.
-use Rattle.std.proofs.Common.{◌≡◌, ℕ, suc, Bool, true, false, ◌&&◌, ◌||◌, ◌==◌, List, [], map, Option, Some, None, if◌then◌else◌, refl, ap, ◌∙◌}
-use Rattle.std.specs.Prelude.{Ok, is_some}
+use Rattle.std.proofs.Common.{refl, ap, ◌∙◌, subst, sym, ◌≡◌, ℕ, suc, Bool, true, false, ◌&&◌, ◌||◌, ◌==◌, List, [], map, Option, Some, None, if◌then◌else◌, Ok, is_some, take, ◌++◌, ◌∷◌}
+use Rattle.std.proofs.Math.Bool.{or-false}
+use Rattle.std.proofs.lemmas.Bool.{and_from, eq-eqb, and_parts}
 use Rattle.std.specs.List.{find}
 use Rattle.std.specs.Option.{option_map_or}
-use Rattle.std.proofs.lemmas.Bool.{and_from, eq-eqb}
-use Rattle.std.proofs.Math.Bool.{or-false}
-use Rattle.audit_model.specs.Changes.{connection_after, join_by, join_load}
+use Rattle.audit_lines.proofs.Lines.{IsLine-first_line}
+use Rattle.audit_lines.specs.Next.{IsLine}
+use Rattle.audit_model.specs.Changes.{connection_after, join_by, join_load, after_step, all_held_after}
 use Rattle.audit_model.specs.Commands.{drops, quits}
 use Rattle.audit_model.specs.Follows.{line_in, placed_step_in}
-use Rattle.audit_model.specs.History.{Action, Effect, Running}
 use Rattle.audit_model.specs.Grammar.{reading}
+use Rattle.audit_model.specs.History.{Action, Effect, Running}
 use Rattle.audit_model.specs.Replies.{load_sent_by}
 use Rattle.audit_model.specs.Situation.{Situation, Connection, HeldValue, PendingLoad, connection_in, is_overlong, is_ready, live_at, load_in, may_run_in, view_in, with_connection, without_number, without_waiting}
-use Rattle.audit_model.specs.Steps.{Task, action_by, action_in, effect_in, is_right, is_in_turn, is_held_rightly, is_task_of}
-use Rattle.audit_model.specs.Stream.{first_line}
-use Rattle.audit_model.specs.declared.command.Command.TheVariants as says
+use Rattle.audit_model.specs.Steps.{Task, action_by, action_in, effect_in, is_right, is_in_turn, is_held_rightly, is_task_of, RunLines}
+use Rattle.audit_model.specs.Stream.{first_line, behind_lines, without_return}
 use Rattle.audit_model.specs.declared.config.Config.{Config}
 use Rattle.audit_model.specs.declared.transcript.Step.{Step}
-use Rattle.cache_commands.specs.Loads.Pending.{number_to_send, when_joined, when_sent}
 use Rattle.cache_commands.proofs.Answering.{same-refl}
-use Rattle.cache_commands.specs.Loading.{step_silent}
-use Rattle.cache_commands.specs.Right.{DoesRight, placed_doing}
-use Rattle.cache_lines.specs.Lines.{IsThere, Runs, ready, set_in, with_drops, has_its_part, is_timely_after, effect_of_step, says_quit}
-use Rattle.cache_lines.specs.Waiting.{waiting, with_loads, with_under_way}
-use Rattle.cache_lines.proofs.ReadyRuns.{find-dropped}
-use Rattle.cache_lines.proofs.Placing.{dropped-swapped, found-there, numbered, swap, swapped-again}
-use Rattle.std.proofs.Common.{subst, sym, take, ◌++◌, ◌∷◌}
-use Rattle.std.proofs.lemmas.Bool.{and_parts}
-use Rattle.audit_model.specs.Changes.{after_step, all_held_after}
-use Rattle.audit_model.specs.Steps.{RunLines}
-use Rattle.audit_model.specs.Stream.{behind_lines, without_return}
-use Rattle.audit_lines.specs.Next.{IsLine}
-use Rattle.audit_lines.proofs.Lines.{IsLine-first_line}
-use Rattle.cache_commands.specs.Answered.{says_drop}
-use Rattle.cache_commands.specs.Order.{AgreesWith, order_by}
 use Rattle.cache_commands.proofs.Drawn.{draws-none}
-use Rattle.cache_commands.proofs.LoadSteps as loading
-use Rattle.cache_store.specs.Promises.{no_deed}
-use Rattle.cache_lines.specs.Tape.Taped.{Taped}
+use Rattle.cache_commands.specs.Answered.{says_drop}
+use Rattle.cache_commands.specs.Loading.{step_silent}
+use Rattle.cache_commands.specs.Loads.Pending.{number_to_send, when_joined, when_sent}
+use Rattle.cache_commands.specs.Order.{AgreesWith, order_by}
+use Rattle.cache_commands.specs.Right.{DoesRight, placed_doing}
 use Rattle.cache_lines.specs.Drawing.{Identifiers, StepDraws, identifiers_in}
 use Rattle.cache_lines.specs.Ended.{RanReady, ends_held}
 use Rattle.cache_lines.specs.Gathered.{Stage, gather, gathered, stage}
+use Rattle.cache_lines.specs.Lines.{IsThere, Runs, ready, set_in, with_drops, has_its_part, is_timely_after, effect_of_step, says_quit}
 use Rattle.cache_lines.specs.Making.{Making}
 use Rattle.cache_lines.specs.Ordered.{HasKeys, order_behind}
 use Rattle.cache_lines.specs.Ran.{RanLines}
+use Rattle.cache_lines.specs.Tape.Taped.{Taped}
+use Rattle.cache_lines.specs.Waiting.{waiting, with_loads, with_under_way}
+use Rattle.cache_store.specs.Promises.{no_deed}
+use Rattle.audit_model.specs.declared.command.Command.TheVariants as says
+use Rattle.cache_lines.proofs.ReadyRuns.{find-dropped}
+use Rattle.cache_lines.proofs.Placing.{dropped-swapped, found-there, numbered, swap, swapped-again}
+use Rattle.cache_commands.proofs.LoadSteps as loading
 use Rattle.cache_lines.proofs.Drawn.{draws-more}
 use Rattle.cache_lines.proofs.Knowing.{keys-in-turn, order-behind-more, runs-keys-more}
 use Rattle.cache_lines.proofs.LineRuns.{ends-quit-more, gather-more, line-fits, may-run, runs-more, silent-more}

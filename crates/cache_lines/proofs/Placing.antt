@@ -1,8 +1,7 @@
 -- A connection put in its place again.
-use Rattle.std.proofs.Common.{◌≡◌, ℕ, Bool, true, false, not, ◌==◌, List, [], ◌∷◌, map, cond, Some, if◌then◌else◌, refl, sym, ap, ◌∙◌}
-use Rattle.std.specs.Prelude.{is_some}
-use Rattle.std.specs.List.{find}
+use Rattle.std.proofs.Common.{cond, refl, sym, ap, ◌∙◌, ◌≡◌, ℕ, Bool, true, false, not, ◌==◌, List, [], ◌∷◌, map, Some, if◌then◌else◌, is_some}
 use Rattle.std.proofs.lemmas.Bool.{eq-eqb}
+use Rattle.std.specs.List.{find}
 use Rattle.audit_model.specs.Situation.{Situation, Connection, HeldValue, connection_in, with_connection, without_number, without_waiting, is_overlong}
 use Rattle.cache_lines.specs.Lines.{situation_behind, set_in, IsThere}
 

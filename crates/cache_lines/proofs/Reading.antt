@@ -1,6 +1,5 @@
 -- What a line did, by how it is read.
-use Rattle.std.proofs.Common.{◌≡◌, ℕ, Bool, true, false, not, ◌||◌, List, Option, Some, None, Ok, Err, refl}
-use Rattle.std.specs.Prelude.{IfSome, decimal}
+use Rattle.std.proofs.Common.{refl, ◌≡◌, ℕ, Bool, true, false, not, ◌||◌, List, Option, Some, None, Ok, Err, IfSome, decimal}
 use Rattle.std.proofs.lemmas.Bool.{eq-eqb}
 use Rattle.std.specs.Option.{option_map, option_map_or}
 use Rattle.audit_laws.specs.Leading.{is_parted}
@@ -9,13 +8,13 @@ use Rattle.audit_model.specs.History.{accepts_values}
 use Rattle.audit_model.specs.Replies.{Offer, offer_of, sum_with, taken_where, value_from}
 use Rattle.audit_model.specs.Situation.{Situation, view_in}
 use Rattle.audit_model.specs.Steps.{action_by, effect_in}
-use Rattle.audit_model.specs.declared.command.Command.TheVariants as says
 use Rattle.audit_model.specs.declared.config.Config.{Config}
 use Rattle.audit_model.specs.declared.transcript.Accepted.{Accepted}
 use Rattle.audit_model.specs.declared.transcript.Note.{Note}
 use Rattle.cache_commands.specs.Answered.{key_written}
 use Rattle.cache_commands.specs.Right.{step_saying}
 use Rattle.cache_lines.specs.Lines.{IsPlain, says_quit}
+use Rattle.audit_model.specs.declared.command.Command.TheVariants as says
 
 -- a step with a reply does nothing but to values, and closes its connection where it is a `QUIT`
 pub plain-reading : (config : Config) (s : Situation) (r : Reading) (conn : ℕ) (line reply : List ℕ) (accepted : Option Accepted) (told : List Note) → IsPlain (effect_in config (view_in config s) (action_by r) (step_saying conn line reply accepted told)) (says_quit r)

@@ -1,21 +1,17 @@
 -- How the lines of a connection that is ready end.
-use Rattle.std.proofs.Common.{◌≡◌, ℕ, true, false, true≢false, ◌||◌, List, [], ◌∷◌, drop, Option, None, refl, sym, ap, ◌∙◌, subst}
-use Rattle.std.specs.Prelude.{Ok, unwrap_or}
+use Rattle.std.proofs.Common.{true≢false, drop, refl, sym, ap, ◌∙◌, subst, ◌≡◌, ℕ, true, false, ◌||◌, List, [], ◌∷◌, Option, None, Ok, unwrap_or}
+use Rattle.audit_lines.proofs.Lines.{IsLine-first_line, long_from}
+use Rattle.audit_lines.specs.Next.{IsLine}
 use Rattle.audit_model.specs.Changes.{all_held_after}
 use Rattle.audit_model.specs.Grammar.{reading}
 use Rattle.audit_model.specs.Situation.{Situation, HeldValue, live_at, may_run_in}
 use Rattle.audit_model.specs.Stream.{behind_lines}
-use Rattle.audit_model.specs.declared.command.Command.TheVariants as says
 use Rattle.audit_model.specs.declared.config.Config.{Config}
 use Rattle.audit_model.specs.declared.transcript.Step.{Step}
-use Rattle.audit_lines.specs.Next.{IsLine}
-use Rattle.audit_lines.proofs.Lines.{IsLine-first_line, long_from}
 use Rattle.cache_commands.specs.Answered.{Agrees}
 use Rattle.cache_commands.specs.Loading.{step_silent}
 use Rattle.cache_commands.specs.Loads.Pending.{when_joined, when_sent}
 use Rattle.cache_commands.specs.Right.{KeepsFrame}
-use Rattle.cache_store.specs.Promises.{Frame, no_deed}
-use Rattle.cache_store.specs.Values.{IsSoundStore, Values}
 use Rattle.cache_lines.specs.Bases.{Seen}
 use Rattle.cache_lines.specs.Ended.{RanReady, RunsReady}
 use Rattle.cache_lines.specs.Gathered.{IsFresh, gather, gathered, stage}
@@ -26,6 +22,9 @@ use Rattle.cache_lines.specs.Stops.{AddsSteps, StopsBy, ends_by_quit, line_at}
 use Rattle.cache_lines.specs.Tape.Taped.{Taped, step_held}
 use Rattle.cache_lines.specs.Waiting.{UnderWay, load_sent_for, loads_in, waiting, when_waiting, with_under_way}
 use Rattle.cache_lines.specs.Whole.{held_line}
+use Rattle.cache_store.specs.Promises.{Frame, no_deed}
+use Rattle.cache_store.specs.Values.{IsSoundStore, Values}
+use Rattle.audit_model.specs.declared.command.Command.TheVariants as says
 use Rattle.cache_lines.specs.declared.looping.End.{End}
 use Rattle.cache_lines.specs.declared.looping.End.TheVariants as at
 use Rattle.cache_lines.proofs.LineRuns.{fresh-gather, gather-none, ran-kept}

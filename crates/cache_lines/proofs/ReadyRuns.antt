@@ -1,46 +1,42 @@
 -- Lines of a connection that is ready, to their end.
-use Rattle.std.proofs.Common.{◌≡◌, ℕ, suc, Bool, true, false, not, ◌&&◌, ◌||◌, ◌==◌, List, [], ◌∷◌, ◌++◌, map, take, cond, Option, Some, None, if◌then◌else◌, refl, sym, ap, ◌∙◌, subst}
-use Rattle.std.specs.Prelude.{is_some, unwrap_or}
-use Rattle.std.specs.List.{find, list_all, cons_option}
+use Rattle.std.proofs.Common.{cond, refl, sym, ap, ◌∙◌, subst, ◌≡◌, ℕ, suc, Bool, true, false, not, ◌&&◌, ◌||◌, ◌==◌, List, [], ◌∷◌, ◌++◌, map, take, Option, Some, None, if◌then◌else◌, is_some, unwrap_or}
 use Rattle.std.proofs.Math.Bool.{or-false}
+use Rattle.std.proofs.lemmas.Bool.{eq-eqb, and_from}
+use Rattle.std.specs.List.{find, list_all, cons_option}
+use Rattle.std.specs.Option.{option_map_or}
 use Rattle.audit_laws.specs.Leading.{is_parted}
 use Rattle.audit_laws.specs.Placing.{placed_steps_in}
-use Rattle.audit_model.specs.Obeys.{accepted_values}
-use Rattle.std.specs.Option.{option_map_or}
-use Rattle.std.proofs.lemmas.Bool.{eq-eqb, and_from}
+use Rattle.audit_lines.proofs.Lines.{IsLine-first_line, IsPartial-first_line, IsPartial-not_long}
+use Rattle.audit_lines.specs.Next.{IsLine, IsPartial}
 use Rattle.audit_model.specs.Bytewise.{is_empty}
 use Rattle.audit_model.specs.Changes.{after_step, connection_after, all_held_after}
 use Rattle.audit_model.specs.Follows.{after_steps, placed_step_in}
-use Rattle.audit_model.specs.History.{Holding, Value}
+use Rattle.audit_model.specs.History.{Holding}
+use Rattle.audit_model.specs.Obeys.{accepted_values}
 use Rattle.audit_model.specs.Places.{first_due, left_after}
 use Rattle.audit_model.specs.Situation.{Situation, Connection, HeldValue, may_run_in, is_ready, is_overlong, without_number, view_in, candidate_at}
-use Rattle.audit_model.specs.Steps.{Task, RunLines, effect_in, is_right, is_in_turn}
+use Rattle.audit_model.specs.Steps.{RunLines, effect_in, is_right, is_in_turn}
 use Rattle.audit_model.specs.Stream.{first_line, behind_lines, without_return}
 use Rattle.audit_model.specs.declared.config.Config.{Config}
 use Rattle.audit_model.specs.declared.transcript.Step.{Step}
-use Rattle.audit_lines.specs.Next.{IsLine, IsPartial}
-use Rattle.audit_lines.proofs.Lines.{IsLine-first_line, IsPartial-first_line, IsPartial-not_long}
+use Rattle.cache_commands.proofs.Answering.{same-refl, none_succeeded}
 use Rattle.cache_commands.specs.Order.{AgreesWith}
 use Rattle.cache_commands.specs.Right.{placed_doing}
-use Rattle.cache_commands.proofs.Answering.{same-refl, none_succeeded}
-use Rattle.cache_store.specs.Promises.{no_deed}
-use Rattle.cache_lines.specs.Tape.Taped.{Taped, step_held}
 use Rattle.cache_lines.specs.Drawing.{identifiers_in}
 use Rattle.cache_lines.specs.Ended.{RanReady, ends_held}
 use Rattle.cache_lines.specs.Gathered.{Stage, gather, gathered, stage}
 use Rattle.cache_lines.specs.Lines.{ArePartedIn, Runs, IsThere, are_timely, situation_behind, holding, is_timely_after, effect_of_step, ready, set_in, with_drops}
 use Rattle.cache_lines.specs.Making.{Making}
 use Rattle.cache_lines.specs.Ran.{RanLines}
+use Rattle.cache_lines.specs.Tape.Taped.{Taped, step_held}
 use Rattle.cache_lines.specs.Whole.{held_line}
+use Rattle.cache_store.specs.Promises.{no_deed}
 use Rattle.cache_lines.proofs.Drawn.{draws-more, held-draws}
-use Rattle.cache_lines.proofs.Knowing.{keys-in-turn, order-behind-more, runs-keys-more}
+use Rattle.cache_lines.proofs.Knowing.{keys-in-turn, order-behind-more, runs-keys-more, due_if}
 use Rattle.cache_lines.proofs.LineRuns.{runs-more, ends-quit-more, silent-more, silent-none, may-run, line-due, line-fits, gather-more}
 use Rattle.cache_lines.proofs.Placing.{found-there}
 use Rattle.cache_lines.proofs.Stepping.{placed-again}
-
--- the tasks that are due while lines may run or not
-abbrev due_if : Bool → ℕ → List Task
-due_if may number = if may then RunLines number ∷ [] else []
+use Rattle.cache_lines.proofs.leads.Leading.{cons-parted}
 
 -- lines that ran until none may
 pub runs-end : (making : Making) (number : ℕ) (steps : List Step) (s t : Situation) → Runs making number s steps t → may_run_in t number ≡ false
@@ -52,11 +48,6 @@ runs-end making number (step ∷ steps) s t runs stops =
     if is_right making.config placed then after_steps making.config (after_step making.config s placed.task step placed.effect) (left_after now_due) steps else None) runs.0
     ∙ ap (λ b. if b then after_steps making.config (after_step making.config s (Some (RunLines number)) step (effect_of_step making.config number s step)) (RunLines number ∷ []) steps else None) runs.1
     ∙ runs-end making number steps _ t runs.4 stops
-
--- one more value in its part
-pub cons-parted : (part_of : List ℕ → ℕ) (o : Option Value) (values : List Value) → option_map_or (is_parted part_of) o true ≡ true → list_all (is_parted part_of) values ≡ true → list_all (is_parted part_of) (cons_option o values) ≡ true
-cons-parted part_of None values one rest = rest
-cons-parted part_of (Some v) values one rest = and_from (is_parted part_of v) (list_all (is_parted part_of) values) one rest
 
 -- the values that such lines accept stand in their parts
 pub runs-parted : (making : Making) (number : ℕ) (steps : List Step) (s t : Situation) → Runs making number s steps t → ArePartedIn making.config making.part_of s (RunLines number ∷ []) steps

@@ -1,8 +1,7 @@
 -- Lines run one after another until they stop.
-use Rattle.std.proofs.Common.{◌≡◌, ℕ, ◌+◌, Bool, false, List, drop, refl, ap, ◌∙◌, subst}
-use Rattle.audit_model.specs.Situation.{Situation}
+use Rattle.std.proofs.Common.{drop, refl, ap, ◌∙◌, subst, ◌≡◌, ℕ, ◌+◌, Bool, false, List}
 use Rattle.audit_lines.specs.Next.{IsLine}
-use Rattle.cache_store.specs.Promises.{Frame}
+use Rattle.audit_model.specs.Situation.{Situation}
 use Rattle.cache_commands.specs.Answered.{Agrees}
 use Rattle.cache_commands.specs.Right.{KeepsFrame}
 use Rattle.cache_lines.specs.Gathered.{Stage}
@@ -10,6 +9,7 @@ use Rattle.cache_lines.specs.Lines.{IsThere, ready, set_in, with_drops}
 use Rattle.cache_lines.specs.Making.{Making, making_of}
 use Rattle.cache_lines.specs.Ran.{RanLine, RanLines, RanOne}
 use Rattle.cache_lines.specs.Stops.{line_at}
+use Rattle.cache_store.specs.Promises.{Frame}
 use Rattle.cache_lines.proofs.LineRuns.{ran-more}
 
 pub frames-more : (a b c : Frame) (now : ℕ) → KeepsFrame a b now → KeepsFrame b c now → KeepsFrame a c now

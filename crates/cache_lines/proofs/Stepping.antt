@@ -1,19 +1,19 @@
 -- One line of a connection runs.
-use Rattle.std.proofs.Common.{◌≡◌, ℕ, Bool, true, false, ◌||◌, List, [], Option, Some, if◌then◌else◌, refl, ap, ◌∙◌}
-use Rattle.std.specs.Option.{option_map_or}
+use Rattle.std.proofs.Common.{refl, ap, ◌∙◌, ◌≡◌, ℕ, Bool, true, false, ◌||◌, List, [], Option, Some, if◌then◌else◌}
 use Rattle.std.proofs.lemmas.Bool.{and_from}
+use Rattle.std.specs.Option.{option_map_or}
 use Rattle.audit_model.specs.Changes.{after_step, join_load, connection_after}
 use Rattle.audit_model.specs.Commands.{drops, quits}
+use Rattle.audit_model.specs.Grammar.{reading}
 use Rattle.audit_model.specs.History.{Effect}
 use Rattle.audit_model.specs.Situation.{Situation, Connection, HeldValue, Ready, Held, view_in, connection_in, with_connection, is_overlong}
 use Rattle.audit_model.specs.Steps.{Task, RunLines, RunHeld, action_by, effect_in, is_right, is_in_turn, is_held_rightly}
-use Rattle.audit_model.specs.Grammar.{reading}
 use Rattle.audit_model.specs.Stream.{behind_lines}
 use Rattle.audit_model.specs.declared.config.Config.{Config}
 use Rattle.audit_model.specs.declared.transcript.Accepted.{Accepted}
 use Rattle.audit_model.specs.declared.transcript.Note.{Note}
-use Rattle.cache_commands.specs.Right.{DoesRight, step_saying, placed_doing, held_when_run}
 use Rattle.cache_commands.proofs.Answering.{same-refl}
+use Rattle.cache_commands.specs.Right.{DoesRight, step_saying, placed_doing, held_when_run}
 use Rattle.cache_lines.specs.Lines.{IsPlain, IsThere, situation_behind, set_in, with_drops}
 use Rattle.cache_lines.proofs.Placing.{found-there, ended-again, numbered}
 

@@ -1,14 +1,13 @@
 -- A whole line at the front, with more bytes behind it.
-use Rattle.std.proofs.Common.{◌≡◌, ℕ, Bool, true, false, ◌&&◌, List, [], ◌++◌, take, length, Some, None, if◌then◌else◌, refl, ap, ◌∙◌, arith, nat_le}
-use Rattle.std.specs.Prelude.{is_some, unwrap_or}
+use Rattle.std.proofs.Common.{refl, ap, ◌∙◌, arith, ◌≡◌, ℕ, Bool, true, false, ◌&&◌, List, [], ◌++◌, take, length, Some, None, if◌then◌else◌, nat_le, is_some, unwrap_or}
 use Rattle.std.proofs.lemmas.Bool.{le-leb}
 use Rattle.std.proofs.lemmas.List.{length-take-le}
+use Rattle.audit_lines.proofs.Lines.{cut_at-append, cut_with}
+use Rattle.audit_lines.specs.Next.{IsLine}
 use Rattle.audit_model.specs.Bytewise.{cut_at}
 use Rattle.audit_model.specs.Stream.{behind_lines, without_return}
-use Rattle.audit_lines.specs.Next.{IsLine}
-use Rattle.audit_lines.proofs.Cuts.{Cut}
-use Rattle.audit_lines.proofs.Lines.{cut_at-append, cut_with}
 use Rattle.cache_lines.specs.Whole.{has_line, held_line}
+use Rattle.audit_lines.proofs.Cuts.{Cut}
 
 pub has-line : (bytes : List ℕ) (n : ℕ) → IsLine bytes n → has_line bytes ≡ true
 has-line bytes n line =

@@ -1,12 +1,12 @@
 -- How a connection's lines end.
 use Rattle.std.specs.Prelude.{◌≡◌, ℕ, ◌<◌, ◌++◌, Bool, false, not, ◌&&◌, List, [], ◌∷◌, length, Option, Some, IsTrue, is_none, unwrap_or}
+use Rattle.audit_lines.specs.Next.{IsPartial}
 use Rattle.audit_model.specs.Bytewise.{cut_at}
 use Rattle.audit_model.specs.Follows.{after_steps}
 use Rattle.audit_model.specs.Situation.{Situation, Connection, HeldValue}
 use Rattle.audit_model.specs.Steps.{Task, RunLines}
 use Rattle.audit_model.specs.Stream.{behind_lines}
 use Rattle.audit_model.specs.declared.transcript.Step.{Step}
-use Rattle.audit_lines.specs.Next.{IsPartial}
 use Rattle.cache_commands.specs.Answered.{Agrees}
 use Rattle.cache_commands.specs.Right.{KeepsFrame}
 use Rattle.cache_lines.specs.Tape.Taped.{Taped}

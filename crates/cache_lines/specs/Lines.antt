@@ -4,9 +4,9 @@ use Rattle.std.specs.List.{list_all}
 use Rattle.std.specs.Option.{option_map_or}
 use Rattle.audit_laws.specs.Leading.{is_parted}
 use Rattle.audit_laws.specs.Placing.{placed_steps_in}
+use Rattle.audit_model.specs.Changes.{after_step, join_load}
 use Rattle.audit_model.specs.Commands.{quits, syncs}
 use Rattle.audit_model.specs.Follows.{placed_step_in}
-use Rattle.audit_model.specs.Changes.{after_step, join_load}
 use Rattle.audit_model.specs.Grammar.{Reading, reading}
 use Rattle.audit_model.specs.History.{Effect}
 use Rattle.audit_model.specs.Obeys.{accepted_values}
@@ -14,10 +14,10 @@ use Rattle.audit_model.specs.Places.{due, first_due, left_after}
 use Rattle.audit_model.specs.Situation.{Situation, Connection, HeldValue, Ready, Held, connection_in, may_run_in, with_connection, without_connection}
 use Rattle.audit_model.specs.Steps.{Task, RunLines, is_right}
 use Rattle.audit_model.specs.Stream.{is_held}
-use Rattle.audit_model.specs.declared.command.Command.TheVariants as says
 use Rattle.audit_model.specs.declared.config.Config.{Config}
 use Rattle.audit_model.specs.declared.transcript.Step.{Step}
 use Rattle.cache_store.specs.Running.{is_timely}
+use Rattle.audit_model.specs.declared.command.Command.TheVariants as says
 use Rattle.cache_lines.specs.Making.{Making}
 
 -- a connection that runs lines, with these bytes unread

@@ -5,17 +5,17 @@ use Rattle.audit_model.specs.Commands.{is_sync}
 use Rattle.audit_model.specs.Grammar.{reading}
 use Rattle.audit_model.specs.Situation.{Situation, HeldValue, live_at, view_in}
 use Rattle.audit_model.specs.Steps.{action_by, effect_in}
-use Rattle.audit_model.specs.declared.command.Command.TheVariants as says
 use Rattle.audit_model.specs.declared.config.Config.{Config}
 use Rattle.audit_model.specs.declared.transcript.Accepted.{Accepted}
 use Rattle.audit_model.specs.declared.transcript.Note.{Note}
 use Rattle.audit_model.specs.declared.transcript.Step.{Step}
-use Rattle.cache_store.specs.Recency.{IsPlainLru}
-use Rattle.cache_store.specs.Running.{is_timely}
 use Rattle.cache_commands.specs.Answered.{Agrees}
+use Rattle.cache_commands.specs.Loading.{step_silent}
 use Rattle.cache_commands.specs.Order.{Order, AgreesWith, order_by}
 use Rattle.cache_commands.specs.Right.{DoesRight, KeepsFrame, step_saying, held_when_run, dropped_when_run}
-use Rattle.cache_commands.specs.Loading.{step_silent}
+use Rattle.cache_store.specs.Recency.{IsPlainLru}
+use Rattle.cache_store.specs.Running.{is_timely}
+use Rattle.audit_model.specs.declared.command.Command.TheVariants as says
 use Rattle.cache_lines.specs.Bases.{Seen}
 use Rattle.cache_lines.specs.Drawing.{StepDraws, StepsDraw, identifiers_in}
 use Rattle.cache_lines.specs.Gathered.{IsFresh, Stage, gather, gathered}

@@ -1,8 +1,8 @@
 -- Where lines stop.
 use Rattle.std.specs.Prelude.{◌≡◌, ℕ, ◌<◌, Bool, true, false, List, [], ◌∷◌, length, take, Result, Ok, Err}
+use Rattle.audit_lines.specs.Next.{IsLine, IsPartial}
 use Rattle.audit_model.specs.Bytewise.{cut_at}
 use Rattle.audit_model.specs.Stream.{without_return}
-use Rattle.audit_lines.specs.Next.{IsLine, IsPartial}
 use Rattle.audit_model.specs.declared.transcript.Step.{Step}
 use Rattle.cache_lines.specs.Bases.{Seen}
 use Rattle.cache_lines.specs.Gathered.{gather, gathered}

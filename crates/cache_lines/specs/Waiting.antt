@@ -1,9 +1,9 @@
 -- Connections whose `LOAD` waits, and the loads under way.
-use Rattle.std.specs.Prelude.{ℕ, Bool, true, false, List, [], map, Option, Ok}
+use Rattle.std.specs.Prelude.{ℕ, Bool, true, false, List, map, Option, Ok}
 use Rattle.audit_model.specs.Grammar.{Reading}
-use Rattle.audit_model.specs.declared.command.Command.TheVariants as says
 use Rattle.audit_model.specs.Situation.{Situation, Connection, PendingLoad, Held, Waiting, without_waiting}
 use Rattle.cache_commands.specs.Loads.Pending.{number_to_send, loads_pending, sent_of, when_joined, when_sent}
+use Rattle.audit_model.specs.declared.command.Command.TheVariants as says
 use Rattle.cache_commands.specs.declared.loads.loads.Loads.{Loads}
 
 -- a connection whose `LOAD` waits, with these bytes unread after it, and how often it began to wait
@@ -24,9 +24,6 @@ with_loads sent pending s = record s { sent = sent; pending = pending }
 pub record UnderWay : Type 0 where
   pub sent : ℕ
   pub pending : List PendingLoad
-
-abbrev pub no_loads : UnderWay
-no_loads = record { sent = 0; pending = [] }
 
 -- in terms of a table
 abbrev pub under_way : Loads → UnderWay

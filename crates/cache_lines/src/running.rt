@@ -36,10 +36,7 @@ pub enum LineOutcome {
 fn is_quit(request: &Request) -> bool
     ensures { result ≡ says_quit (said request.now) }
 {
-    match request {
-        Request::Quit => true,
-        _ => false,
-    }
+    matches!(request, Request::Quit)
 }
 
 /// The key of a `LOAD`.

@@ -1,16 +1,18 @@
 -- What a driver answers for to whom a service is lent gives what `run` promises.
-use Rattle.std.proofs.Common.{◌≡◌, ◌≢◌, ℕ, true, false, List, [], ◌∷◌, ◌++◌, Option, None, Some, refl, sym, ap, ◌∙◌, subst, inl, inr}
-use Rattle.std.specs.Prelude.{◌⊎◌, Result, Ok, Err, IfErr, IfOk, IsErrOf, OnOk}
+use Rattle.std.proofs.Common.{◌≡◌, ◌≢◌, ℕ, true, false, List, [], ◌∷◌, ◌++◌, Option, None, Some, refl, sym, ap, ◌∙◌, subst, inl, inr, ◌⊎◌, Result, Ok, Err, IfErr, IfOk, IsErrOf, MatchResult, OnOk}
 use Rattle.std.specs.List.{slice_get}
 use Rattle.std.specs.Io.KnownBytes.{IsAtEnd}
 use Rattle.std.specs.Option.{option_map_or}
 use Rattle.audit_model.specs.declared.event.Event.TheVariants as event
 use Rattle.audit_model.specs.declared.event.Outcome.{Outcome}
 use Rattle.audit_model.specs.declared.input.Conn.{Conn}
+use Rattle.audit_model.specs.declared.input.LoadId.{LoadId}
+use Rattle.audit_laws.specs.Waiting.Keys.{IsKnown}
+use Rattle.std.proofs.lemmas.List.Elements.{All-nil}
 use Rattle.audit_laws.specs.Waiting.Alone.{WaitsAlone}
 use Rattle.cache_run.specs.Devices.Sources.{Askings}
 use Rattle.cache_run.specs.declared.devices.errors.RunError.{RunError}
-use Rattle.cache_run.specs.Driver.Drives.{Drives, DrivesPartly, DrivesWhole, Outside, Rest, Talks, asked_of, late_of, lost_of}
+use Rattle.cache_run.specs.Driver.Drives.{Outside, Rest, Talks, asked_of, late_of, lost_of}
 use Rattle.cache_run.specs.Driver.Exchanges.{Chain, Doing, Exchange, HaveClosed, Outs, askings_in, moments_in, pieces_in, replies_in, told_of}
 use Rattle.cache_spaces.specs.Bares.{BareSpace, bare_tape}
 use Rattle.cache_spaces.specs.Calls.{At, OpensNext}
@@ -33,13 +35,13 @@ use Rattle.cache_run.proofs.Led.{Led, carried-led}
 use Rattle.cache_spaces.proofs.Placing.{at-is, at-map, at-more, at-same, at-unmoved}
 use Rattle.cache_run.specs.declared.devices.errors.RunError.TheVariants.{Read, Write, OutOfMemory, UsedUp, Moment}
 use Rattle.cache_run.specs.declared.devices.watched.Watched.{Watched}
-use Rattle.cache_run.specs.Driver.Causes.{Because}
-use Rattle.cache_run.specs.Driver.Driven.{ClosesAfter, around}
-use Rattle.cache_run.specs.Driver.Ending.{outcome_by}
+use Rattle.cache_run.specs.Driver.Causes.{Because, outcome_by}
+use Rattle.cache_run.specs.Driver.Driven.{ClosesAfter, ComesTo, Finished, Stopped, around}
 use Rattle.cache_run.specs.declared.driver.driving.Progress.{Progress}
 use Rattle.cache_run.specs.declared.driver.driving.Progress.TheVariants.{More, Over}
 use Rattle.cache_run.specs.declared.driver.session.Session.{Session}
 use Rattle.cache_run.proofs.driver.Settled.{because-map}
+use Rattle.cache_run.proofs.driver.Conversing.{asking_then, underway-stopped}
 
 -- what stays undone
 abbrev left_of : Rest → Left
@@ -88,46 +90,56 @@ module _ {C L : Type 0} (reads : C → ℕ → C → Type 0) (loads : L → List
         (λ m u. AreKnown [] m → Led (config_of r.opened) conn.number m u (notices_of r.opened) (notices_of r.left) (pieces_in t.exchanges) (moments_in t.exchanges) (askings_in t.exchanges) (replies_in t.exchanges) (outgoing_of r.opened) (hand ++ outgoing_of r.left) × AreKnown hand u)
         (λ s u. Carried (config_of x) conn.number reads loads (world x s a) (world r.left u b) true false [] (left_of rest)) first leads.goes
         (λ s m u f g.
-        let led = subst (λ k. Led k conn.number m u (notices_of r.opened) (notices_of r.left) (pieces_in t.exchanges) (moments_in t.exchanges) (askings_in t.exchanges) (replies_in t.exchanges) (outgoing_of r.opened) (hand ++ outgoing_of r.left)) first.config (g tt).0 in
+        let led = subst (λ k. Led k conn.number m u (notices_of r.opened) (notices_of r.left) (pieces_in t.exchanges) (moments_in t.exchanges) (askings_in t.exchanges) (replies_in t.exchanges) (outgoing_of r.opened) (hand ++ outgoing_of r.left)) first.config (g (All-nil (λ (o : LoadId × List ℕ). IsKnown o.0.number o.1 m))).0 in
         carried-led reads loads (config_of x) conn.number x r.opened r.left s m u a b (pieces_in t.exchanges) (moments_in t.exchanges) (askings_in t.exchanges) (replies_in t.exchanges) (outgoing_of r.opened) (hand ++ outgoing_of r.left) (left_of rest) t.sent f led
         (subst (λ outs. AreAmong outs (sendings_of (outgoing_of x))) (sym (opens-outgoing x r.opened conn.number r.opens.0 r.opens.1)) (among-own (outgoing_of x))) (λ more among. asked-refused hand (outgoing_of r.left) rest.refused more t.refused among) t.read t.wrote t.replies t.clock t.loader)
 
     closing : Closed conn.number r.left w
     closing = closed-so r.left w conn.number r.closes.sound (record { situation = leads.stands.situation; opened = leads.stands.opened; left = leads.stands.left.0 }) r.closes.closes
 
-  -- a connection that was driven to its end was served whole
-  pub lent-whole : DrivesWhole true OpensAt ComesAt ClosesAt DropsAt reads loads namespace old new a b → At old new namespace (λ was is. ServesWhole reads loads was is a b)
-  lent-whole d =
-      subst (λ k. At old new k (λ was is. ServesWhole reads loads was is a b)) d.opens.0
-      (at-map (Between d.conn d.talks.exchanges []) (λ was is. ServesWhole reads loads was is a b) old new d.conn.namespace (between namespace d.conn old d.opened d.closed new d.talks.exchanges [] d.opens d.talks.chain d.closes)
+  -- a connection that came to its end was served whole
+  lent-whole : (s : Session) (start m : List BareSpace) → OpensAt namespace s.conn old start → Finished true ComesAt ClosesAt reads loads start a s m b → ClosesAt s.conn m new → At old new namespace (λ was is. ServesWhole reads loads was is a b)
+  lent-whole s start m opens f closes =
+      subst (λ k. At old new k (λ was is. ServesWhole reads loads was is a b)) opens.0
+      (at-map (Between s.conn f.talks.exchanges []) (λ was is. ServesWhole reads loads was is a b) old new s.conn.namespace (between namespace s.conn old start f.closed new f.talks.exchanges [] opens f.talks.chain (f.behind new closes))
       (λ x w r.
-      whole-so reads loads d.conn.number a b x r.opened r.left w r.opens.0 r.opens.1 (left_of d.rest) (goes d.conn d.opened d.closed [] d.rest d.talks x w r) (closing d.conn d.opened d.closed [] d.rest d.talks x w r) (ap left_of (d.whole refl))
-      (chain-adds-none d.conn.number r.opened d.talks.exchanges r.left r.closes.sound r.chain (d.done refl) (leads d.conn d.opened d.closed [] d.rest d.talks x w r).accounted) (over x w r d.over)))
+      whole-so reads loads s.conn.number a b x r.opened r.left w r.opens.0 r.opens.1 (left_of f.rest) (goes s.conn start f.closed [] f.rest f.talks x w r) (closing s.conn start f.closed [] f.rest f.talks x w r) (ap left_of (f.whole refl))
+      (chain-adds-none s.conn.number r.opened f.talks.exchanges r.left r.closes.sound r.chain (f.done refl) (leads s.conn start f.closed [] f.rest f.talks x w r).accounted) (over x w r f.over)))
     where
-      over : (x w : BareSpace) (r : Between d.conn d.talks.exchanges [] x w) → IsAtEnd b.remaining ⊎ HaveClosed d.talks.exchanges ⊎ (d.rest.refused ≢ None) → IsAtEnd b.remaining ⊎ (closing_of r.left d.conn.number ≢ None)
+      over : (x w : BareSpace) (r : Between s.conn f.talks.exchanges [] x w) → IsAtEnd b.remaining ⊎ HaveClosed f.talks.exchanges ⊎ (f.rest.refused ≢ None) → IsAtEnd b.remaining ⊎ (closing_of r.left s.conn.number ≢ None)
       over x w r (inl end) = inl end
-      over x w r (inr (inl have)) = inr (chain-closed d.conn.number r.opened [] d.talks.exchanges r.left [] r.chain have)
-      over x w r (inr (inr refused)) = absurd (refused (ap (λ (r : Rest). r.refused) (d.whole refl)))
+      over x w r (inr (inl have)) = inr (chain-closed s.conn.number r.opened [] f.talks.exchanges r.left [] r.chain have)
+      over x w r (inr (inr refused)) = absurd (refused (ap (λ (r : Rest). r.refused) (f.whole refl)))
 
-  -- one that was driven to an error was served partly
-  pub lent-partly : (e : RunError) → DrivesPartly true OpensAt ComesAt ClosesAt DropsAt reads loads namespace old new a b e → At old new namespace (λ was is. ServesPartly reads loads was is a b e)
-  lent-partly e d =
-      let unasked : b.loader ≡ d.asked = subst (λ askings. Askings loads d.asked askings b.loader) d.drops.1 d.loaded in
-      let t = subst (λ (l : L). Talks (ComesAt d.conn) reads loads d.opened d.stopped a (record { remaining = b.remaining; contents = b.contents; clock = b.clock; loader = l }) [] d.hand d.rest) (sym unasked) d.talks in
-      subst (λ k. At old new k (λ was is. ServesPartly reads loads was is a b e)) d.opens.0
-      (at-more (Between d.conn t.exchanges d.hand) (DropsBoth d.conn.number d.hand) (λ was is. ServesPartly reads loads was is a b e) old d.closed new d.conn.namespace
-      (between namespace d.conn old d.opened d.stopped d.closed t.exchanges d.hand d.opens t.chain d.closes) d.drops.0
+  -- one that came to an error was served partly
+  lent-partly : (s : Session) (start m : List BareSpace) (middle : L) (e : RunError) → OpensAt namespace s.conn old start → Stopped true ComesAt ClosesAt reads loads start a s m (asking_then b middle) e → ClosesAfter ClosesAt DropsAt loads (Err e) s m new middle b.loader
+      → At old new namespace (λ was is. ServesPartly reads loads was is a b e)
+  lent-partly s start m middle e opens f closes =
+      let unasked : b.loader ≡ middle = subst (λ askings. Askings loads middle askings b.loader) closes.3.1 closes.4 in
+      let hand = s.taken.items in
+      let t = subst (λ (l : L). Talks (ComesAt s.conn) reads loads start f.stopped a (asking_then b l) [] hand f.rest) (sym unasked) f.talks in
+      subst (λ k. At old new k (λ was is. ServesPartly reads loads was is a b e)) opens.0
+      (at-more (Between s.conn t.exchanges hand) (DropsBoth s.conn.number hand) (λ was is. ServesPartly reads loads was is a b e) old closes.0 new s.conn.namespace
+      (between namespace s.conn old start f.stopped closes.0 t.exchanges hand opens t.chain (f.behind closes.0 closes.2)) closes.3.0
       (λ x w v r p.
-      partly-so reads loads d.conn.number a b x r.opened r.left w r.opens.0 r.opens.1 (left_of d.rest) (goes d.conn d.opened d.stopped d.hand d.rest t x w r) (closing d.conn d.opened d.stopped d.hand d.rest t x w r) v e d.hand
-      (λ is. let l = d.late is in (l.moment, l.late, ap (λ (o : Option Doing). option_map_or told_of o []) l.refused ∙ l.told)) r.closes.behind (leads d.conn d.opened d.stopped d.hand d.rest t x w r).accounted p))
+      partly-so reads loads s.conn.number a b x r.opened r.left w r.opens.0 r.opens.1 (left_of f.rest) (goes s.conn start f.stopped hand f.rest t x w r) (closing s.conn start f.stopped hand f.rest t x w r) v e hand
+      (λ is. let l = f.late is in (l.moment, l.late, ap (λ (o : Option Doing). option_map_or told_of o []) l.refused ∙ l.told)) r.closes.behind (leads s.conn start f.stopped hand f.rest t x w r).accounted p))
+
+  abbrev pub Served : Result (Unit {0}) RunError → Type 0
+  Served outcome = MatchResult outcome (λ done. At old new namespace (λ was is. ServesWhole reads loads was is a b)) (λ e. At old new namespace (λ was is. ServesPartly reads loads was is a b e))
+
+  -- whatever it came to
+  pub lent-served : (s : Session) (start m : List BareSpace) (middle : L) (result : Result Progress RunError) → OpensAt namespace s.conn old start → ComesTo true ComesAt ClosesAt reads loads start a result s m (asking_then b middle)
+      → ClosesAfter ClosesAt DropsAt loads (outcome_by result) s m new middle b.loader → Served (outcome_by result)
+  lent-served s start m middle (Ok More) opens comes closes = lent-partly s start m middle UsedUp opens (underway-stopped true ComesAt ClosesAt reads loads start a s m (asking_then b middle) comes) closes
+  lent-served s start m middle (Ok Over) opens comes closes = lent-whole s start m opens (subst (λ (l : L). Finished true ComesAt ClosesAt reads loads start a s m (asking_then b l)) (sym closes.1) comes) closes.0
+  lent-served s start m middle (Err e) opens comes closes = lent-partly s start m middle e opens comes closes
 
   -- however it ended, no load is under way where none was before
-  pub lent-none : {T : Type 0} (result : Result T RunError) → Drives true OpensAt ComesAt ClosesAt DropsAt reads loads namespace old new a b result → At old new namespace (λ was is. pending_of was ≡ [] → pending_of is ≡ [])
-  lent-none (Ok done) d =
-      at-map (λ was is. ServesWhole reads loads was is a b) (λ was is. pending_of was ≡ [] → pending_of is ≡ []) old new namespace (lent-whole d) (λ x y w none. none-behind x y w.settled none)
+  pub lent-none : (outcome : Result (Unit {0}) RunError) → Served outcome → At old new namespace (λ was is. pending_of was ≡ [] → pending_of is ≡ [])
+  lent-none (Ok done) d = at-map (λ was is. ServesWhole reads loads was is a b) (λ was is. pending_of was ≡ [] → pending_of is ≡ []) old new namespace d (λ x y w none. none-behind x y w.settled none)
   lent-none (Err e) d =
-      at-map (λ was is. ServesPartly reads loads was is a b e) (λ was is. pending_of was ≡ [] → pending_of is ≡ []) old new namespace (lent-partly e d)
-      (λ x y q none. none-behind x y (q.settled (subst (WaitsAlone q.number) (sym none) tt)) none)
+      at-map (λ was is. ServesPartly reads loads was is a b e) (λ was is. pending_of was ≡ [] → pending_of is ≡ []) old new namespace d (λ x y q none. none-behind x y (q.settled (subst (WaitsAlone q.number) (sym none) tt)) none)
 
 -- ---- why it stopped
 
@@ -158,12 +170,13 @@ unasked loads (Err e) s h k loader loader' closes = subst (λ askings. Askings l
 
 module _ {R W C L : Type 0} (remaining : R → Option (List ℕ)) (contents : W → Option (List ℕ)) (reads : C → ℕ → C → Type 0) (loads : L → List ℕ → Option Outcome → L → Type 0) (namespace : ℕ) (old new : List BareSpace)
     (reader reader' : Watched R) (writer writer' : Watched W) (clock clock' : C) (loader loader' : L) where
-  pub runs-whole : (result : Result (Unit {0}) RunError) → Drives true OpensAt ComesAt ClosesAt DropsAt reads loads namespace old new (around remaining contents reader writer clock loader) (around remaining contents reader' writer' clock' loader') result
-      → OnOk result (RunsWhole remaining contents reads loads namespace old new reader reader' writer writer' clock clock' loader loader')
-  runs-whole (Ok done) d = lent-whole reads loads namespace old new (around remaining contents reader writer clock loader) (around remaining contents reader' writer' clock' loader') d
+  abbrev Ran : Result (Unit {0}) RunError → Type 0
+  Ran result = Served reads loads namespace old new (around remaining contents reader writer clock loader) (around remaining contents reader' writer' clock' loader') result
+
+  pub runs-whole : (result : Result (Unit {0}) RunError) → Ran result → OnOk result (RunsWhole remaining contents reads loads namespace old new reader reader' writer writer' clock clock' loader loader')
+  runs-whole (Ok done) d = d
   runs-whole (Err e) d = tt
 
-  pub runs-partly : (result : Result (Unit {0}) RunError) → Drives true OpensAt ComesAt ClosesAt DropsAt reads loads namespace old new (around remaining contents reader writer clock loader) (around remaining contents reader' writer' clock' loader') result
-      → IfErr result (RunsPartly remaining contents reads loads namespace old new reader reader' writer writer' clock clock' loader loader')
+  pub runs-partly : (result : Result (Unit {0}) RunError) → Ran result → IfErr result (RunsPartly remaining contents reads loads namespace old new reader reader' writer writer' clock clock' loader loader')
   runs-partly (Ok done) d = tt
-  runs-partly (Err e) d = inr (lent-partly reads loads namespace old new (around remaining contents reader writer clock loader) (around remaining contents reader' writer' clock' loader') e d)
+  runs-partly (Err e) d = inr d

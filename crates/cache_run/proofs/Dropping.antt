@@ -1,18 +1,19 @@
 -- Loads that are given up behind a closing, and what is under way behind them.
-use Rattle.std.proofs.Common.{◌≡◌, ℕ, suc, ◌≤◌, ◌+◌, Bool, true, false, not, ◌&&◌, ◌||◌, ◌==◌, List, [], ◌∷◌, ◌++◌, length, Some, refl, sym, ap, ◌∙◌, subst, arith, append_assoc, ◌≢◌, nat_lt, nat_le, Option, None, ⊎_elim}
+use Rattle.std.proofs.Common.{◌≡◌, ℕ, suc, ◌≤◌, ◌+◌, Bool, true, false, not, ◌&&◌, ◌||◌, ◌==◌, List, [], ◌∷◌, ◌++◌, length, Some, refl, sym, ap, ◌∙◌, subst, arith, append_assoc, ◌≢◌, Option, None, inl, inr, is_none}
 use Rattle.std.specs.List.{flat_map, list_all}
-use Rattle.std.proofs.lemmas.Bool.{and_parts, eq-eqb, eqb-true, and_from, cases_lt, le-leb, leb-true, ltb-true, not-true, or_cases, or_from}
+use Rattle.std.proofs.lemmas.Bool.{and_parts, cases_Bool, eq-eqb, and_from, cases_lt, ne_eqb, not-true, or_from, or_left, or_right}
+use Rattle.std.proofs.lemmas.List.Elements.{All-cons, All-nil}
 use Rattle.std.proofs.lemmas.List.{append-nil}
 use Rattle.std.proofs.lemmas.Grind.{flat_map-append}
 use Rattle.audit_laws.proofs.Views.{same-true}
-use Rattle.audit_model.specs.Bytewise.{same, is_empty}
+use Rattle.audit_model.specs.Bytewise.{same}
 use Rattle.audit_model.specs.Situation.{Situation, PendingLoad, HeldValue, connection_in}
 use Rattle.audit_model.specs.declared.config.Config.{Config}
 use Rattle.audit_model.specs.declared.transcript.Note.{Note}
 use Rattle.audit_model.specs.declared.transcript.Record.{Record}
 use Rattle.audit_model.specs.declared.input.LoadId.{LoadId}
 use Rattle.cache_commands.specs.Loads.Keys.{agrees_on, are_in_turn, has_its_key, have_their_keys}
-use Rattle.audit_laws.specs.Waiting.Keys.{HasKey}
+use Rattle.audit_laws.specs.Waiting.Keys.{HasKey, IsKnown}
 use Rattle.cache_core.specs.Settling.{giving_up}
 use Rattle.cache_core.specs.Turned.{notes_in}
 use Rattle.cache_spaces.specs.Calls as served
@@ -22,11 +23,11 @@ use Rattle.cache_spaces.specs.Bares.{BareSpace, bare_tape}
 use Rattle.cache_run.specs.Connected.{HasSituation}
 use Rattle.cache_run.specs.Happened.{AreDrops}
 use Rattle.cache_run.specs.Loading.{AreKnown, GivesLoads, OnlyGivesUp, GivesUpLoads, SameButLoads}
-use Rattle.cache_run.proofs.Accounting.{taken-count, accounts-begun, in-turn-has, loads-same, own-loads, sent-under, unfound}
+use Rattle.cache_run.proofs.Accounting.{Accounted, adds-no-loads, loads-same, taken-count, taken-or-left, unfound}
+use Rattle.cache_run.proofs.Gone.{in-turn-next}
 use Rattle.cache_run.proofs.Led.{record-one, records-more}
 use Rattle.cache_run.proofs.Going.{goes-more, goes-same}
 use Rattle.cache_run.proofs.Happening.{goes-by, pending-is, sent-is, stays-closed, listed-is, none-where}
-use Rattle.std.specs.Prelude.{is_none}
 use Rattle.std.proofs.lemmas.List.Folds.{list_any-append}
 use Rattle.audit_model.specs.Belongs.{refusal_of}
 use Rattle.audit_model.specs.declared.input.ServiceError.{ServiceError}
@@ -38,8 +39,8 @@ use Rattle.audit_laws.specs.Waiting.Closed.{NobodyWaits}
 use Rattle.audit_laws.specs.Waiting.Sending.{are_all, is_under_way}
 use Rattle.audit_laws.specs.Waiting.Tidy.{Tidy}
 use Rattle.audit_laws.proofs.waiting.Closed.{closed, given-up}
-use Rattle.audit_laws.proofs.waiting.Sending.{all-but, all-from, all-own, one-of}
-use Rattle.cache_run.specs.Accounts.{Accounts, AddsNoLoads, DropsAll, DropsUnwaited, is_left, has_no_waiting, pending_of}
+use Rattle.audit_laws.proofs.waiting.Sending.{all-but, all-own, one-of}
+use Rattle.cache_run.specs.Accounts.{AddsNoLoads, DropsAll, DropsUnwaited, UnderWay, is_left, pending_of}
 use Rattle.cache_run.specs.Goes.{Goes}
 use Rattle.cache_run.specs.Lent.{Drops, DropsBoth}
 use Rattle.cache_run.proofs.Refusing.{give-up-first}
@@ -76,13 +77,12 @@ key-out out (load ∷ loads) e =
     go false is h = let no : false ≡ true = is in cc
 
 known-taken : (place before : ℕ) (outs : List (LoadId × List ℕ)) (s : Situation) → are_in_turn place before outs ≡ true → before + length outs ≤ s.sent → have_their_keys s.pending outs ≡ true → AreKnown outs s
-known-taken place before [] s turn few have = tt
+known-taken place before [] s turn few have = All-nil (λ (o : LoadId × List ℕ). IsKnown o.0.number o.1 s)
 known-taken place before (out ∷ outs) s turn few have =
-    let parts = and_parts (out.0.namespace == place) (out.0.number == suc before && are_in_turn place (suc before) outs) turn in
-    let ours = and_parts (out.0.number == suc before) (are_in_turn place (suc before) outs) parts.1 in
-    let is = eqb-true out.0.number (suc before) ours.0 in
+    let ours = in-turn-next place before out outs turn in
+    let is = ours.0 in
     let keys = and_parts (has_its_key s.pending out) (have_their_keys s.pending outs) have in
-    ((omega (arith, few, is), key-out out s.pending keys.0), known-taken place (suc before) outs s ours.1 (omega (arith, few)) keys.1)
+    All-cons (λ (o : LoadId × List ℕ). IsKnown o.0.number o.1 s) out outs (omega (arith, few, is), key-out out s.pending keys.0) (known-taken place (suc before) outs s ours.1 (omega (arith, few)) keys.1)
 
 -- loads that are taken have the keys that they come with
 pub known-given : (was is : BareSpace) (loads : List (LoadId × List ℕ)) (s : Situation) → GivesLoads loads was is → StandsFor was s → AreKnown loads s
@@ -121,18 +121,6 @@ drops-one number was is load begun settled = (
 
 -- ---- nobody waits
 
-empty-is : (cs : List ℕ) → is_empty cs ≡ true → cs ≡ []
-empty-is [] e = refl
-empty-is (c ∷ cs) e = let no : false ≡ true = e in cc
-
-nobody-each : (loads : List PendingLoad) → has_no_waiting loads ≡ true → NobodyWaits loads
-nobody-each [] e = tt
-nobody-each (load ∷ loads) e = let parts = and_parts (is_empty load.waiting) (has_no_waiting loads) e in (empty-is load.waiting parts.0, nobody-each loads parts.1)
-
-nobody-all : (loads : List PendingLoad) → NobodyWaits loads → has_no_waiting loads ≡ true
-nobody-all [] none = refl
-nobody-all (load ∷ loads) none = and_from (is_empty load.waiting) (has_no_waiting loads) (ap is_empty none.0) (nobody-all loads none.1)
-
 not-none : {A : Type 0} (o : Option A) → o ≢ None → is_none o ≡ false
 not-none None some = absurd (some refl)
 not-none (Some x) some = refl
@@ -143,104 +131,72 @@ tidy-with x held t = record { once = t.once; keys = t.keys }
 
 -- where no other connection waits, and this one has closed, nobody does
 pub nobody-behind : (number : ℕ) (x w : BareSpace) (F : Situation → Situation → Type 0) → HasSituation x → IsSound bare_tape w → IsOpened w number → Goes number x w F → closing_of w number ≢ None → WaitsAlone number (pending_of x)
-    → has_no_waiting (pending_of w) ≡ true
+    → NobodyWaits (pending_of w)
 nobody-behind number x w F before after opened goes closes alone =
     let g = goes.each before.some before.stands (subst (WaitsAlone number) (sym (pending-is x before.some before.stands)) alone) in
     let tidy = subst (Tidy []) (sym g.stands.is) (tidy-with w g.stands.held after.order.tidy) in
     let gone = none-where (connection_in number g.next) (listed-is w g.next number after g.stands opened ∙ not-none (closing_of w number) closes) in
-    ap has_no_waiting (sym (pending-is w g.next g.stands)) ∙ nobody-all g.next.pending (closed g.next number tidy g.alone gone)
+    subst NobodyWaits (pending-is w g.next g.stands) (closed g.next number tidy g.alone gone)
 
 -- ---- one load is given up
 
 drops-settled : (was is : BareSpace) (load : ℕ) → HasSituation was → served.Settled bare_tape was is (giving_up load 0) → DropsUnwaited (λ n. n == load) was is
 drops-settled was is load begun settled none =
-    let x = settled.turned begun.some begun.stands in
-    let law = given-up (config_of was) begun.some x.2.next x.0 load _ x.1 x.2.follows (nobody-each begun.some.pending (ap has_no_waiting (pending-is was begun.some begun.stands) ∙ none)) in
-    let p : ℕ → Bool = λ n. is_under_way n (pending_of was) && not (n == load) in
-    let own : are_all (λ n. n == load || p n) (pending_of was) ≡ true = all-own (λ n. n == load || p n) (pending_of was) (λ n under. own-or n load (is_under_way n (pending_of was)) under) in
+    let s = begun.some in
+    let x = settled.turned s begun.stands in
+    let law = given-up (config_of was) s x.2.next x.0 load _ x.1 x.2.follows (subst NobodyWaits (sym (pending-is was s begun.stands)) none) in
+    let p : ℕ → Bool = λ n. is_under_way n s.pending && not (n == load) in
+    let own : are_all (λ n. n == load || p n) s.pending ≡ true = all-own (λ n. n == load || p n) s.pending
+    (λ n under. elim (cases_Bool (n == load)) [ inl is ↦ or_left (n == load) (p n) is | inr other ↦ or_right (n == load) (p n) (and_from (is_under_way n s.pending) (not (n == load)) under (ap not other)) ]) in
     record {
       taken = settled.stays.taken;
-      nobody = ap has_no_waiting (sym (pending-is is x.2.next x.2.stands)) ∙ nobody-all x.2.next.pending law.2;
-      loads = ap (are_all p) (sym (pending-is is x.2.next x.2.stands) ∙ ap (λ (t : Situation). t.pending) law.1) ∙ all-but p load begun.some.pending (ap (are_all (λ n. n == load || p n)) (pending-is was begun.some begun.stands) ∙ own);
+      nobody = subst NobodyWaits (pending-is is x.2.next x.2.stands) law.2;
+      loads = λ n under.
+          let left = ap (λ (t : Situation). t.pending) (sym law.1) ∙ pending-is is x.2.next x.2.stands in
+          let parts = and_parts (is_under_way n s.pending) (not (n == load)) (one-of p n (pending_of is) (ap (are_all p) (sym left) ∙ all-but p load s.pending own) under) in
+          (ap (is_under_way n) (sym (pending-is was s begun.stands)) ∙ parts.0, not-true (n == load) parts.1);
     }
-  where
-    own-or : (n m : ℕ) (under : Bool) → under ≡ true → (n == m || (under && not (n == m))) ≡ true
-    own-or n m under e = ap (λ u. n == m || (u && not (n == m))) e ∙ either (n == m)
-      where
-        either : (b : Bool) → (b || (true && not b)) ≡ true
-        either true = refl
-        either false = refl
 
 -- ---- several loads are given up
 
-drops-more : (f g h : ℕ → Bool) (x y z : BareSpace) → ((n : ℕ) → not (f n) ≡ true → not (g n) ≡ true → not (h n) ≡ true) → DropsUnwaited f x y → DropsUnwaited g y z → DropsUnwaited h x z
+drops-more : (f g h : ℕ → Bool) (x y z : BareSpace) → ((n : ℕ) → f n ≡ false → g n ≡ false → h n ≡ false) → DropsUnwaited f x y → DropsUnwaited g y z → DropsUnwaited h x z
 drops-more f g h x y z both p q none =
     let a = p none in
     let b = q a.nobody in
-    let u : ℕ → Bool = λ n. is_under_way n (pending_of x) && not (f n) in
-    let v : ℕ → Bool = λ n. is_under_way n (pending_of y) && not (g n) in
     record {
       taken = b.taken ∙ a.taken;
       nobody = b.nobody;
-      loads = all-from v v (λ n. is_under_way n (pending_of x) && not (h n)) (pending_of z)
-          (λ n here again.
-          let parts = and_parts (is_under_way n (pending_of y)) (not (g n)) here in
-          let before = and_parts (is_under_way n (pending_of x)) (not (f n)) (one-of u n (pending_of y) a.loads parts.0) in
-          and_from (is_under_way n (pending_of x)) (not (h n)) before.0 (both n before.1 parts.1))
-          b.loads b.loads;
+      loads = λ n under. let later = b.loads n under in let before = a.loads n later.0 in (before.0, both n before.1 later.1);
     }
 
 -- the next of them
-not-left : (outs : List (LoadId × List ℕ)) (out : LoadId × List ℕ) (n : ℕ) → not (is_left n outs) ≡ true → not (n == out.0.number) ≡ true → not (is_left n (outs ++ out ∷ [])) ≡ true
+not-left : (outs : List (LoadId × List ℕ)) (out : LoadId × List ℕ) (n : ℕ) → is_left n outs ≡ false → (n == out.0.number) ≡ false → is_left n (outs ++ out ∷ []) ≡ false
 not-left outs out n a b =
-    let turned : (out.0.number == n) ≡ false = go (out.0.number == n) refl in
-    ap not (list_any-append (λ (o : LoadId × List ℕ). o.0.number == n) outs (out ∷ []) ∙ or_from (is_left n outs) (out.0.number == n || false) (not-true (is_left n outs) a) (or_from (out.0.number == n) false turned refl))
-  where
-    go : (c : Bool) → (out.0.number == n) ≡ c → c ≡ false
-    go true is = let no : false ≡ true = sym (ap not (eq-eqb n out.0.number (sym (eqb-true out.0.number n is)))) ∙ b in cc
-    go false is = refl
+    let turned : (out.0.number == n) ≡ false = ne_eqb out.0.number n (λ e. let no : true ≡ false = sym (eq-eqb n out.0.number (sym e)) ∙ b in cc) in
+    list_any-append (λ (o : LoadId × List ℕ). o.0.number == n) outs (out ∷ []) ∙ or_from (is_left n outs) (out.0.number == n || false) a (or_from (out.0.number == n) false turned refl)
 
 -- those that were taken are given up, then the rest are taken and given up
 drops-all : (outs loads : List (LoadId × List ℕ)) (x y z w : BareSpace) → IsSound bare_tape y → DropsUnwaited (λ n. is_left n outs) x y → TakesLoads y z loads → DropsUnwaited (λ n. is_left n loads) z w → DropsAll outs x w
-drops-all outs loads x y z w sound p t q none =
+drops-all outs loads x y z w sound p t q none n under =
     let a = p none in
-    let u : ℕ → Bool = λ n. is_under_way n (pending_of y) in
-    let b = q (ap has_no_waiting (loads-same y z loads t) ∙ a.nobody) in
-    let same : are_all u (pending_of z) ≡ true = ap (are_all u) (loads-same y z loads t) ∙ own-loads (pending_of y) in
-    let before : ℕ → Bool = λ n. is_under_way n (pending_of x) && not (is_left n outs) in
-    let behind : ℕ → Bool = λ n. is_under_way n (pending_of z) && not (is_left n loads) in
-    let wanted : ℕ → Bool = λ n. is_under_way n (pending_of x) && (not (is_left n outs) && nat_le n (taken_of x)) in
-    let count = taken-count y z loads sound t in
-    let taken = a.taken in
-    all-from behind behind wanted (pending_of w)
-    (λ n here again.
-    let parts = and_parts (is_under_way n (pending_of z)) (not (is_left n loads)) here in
-    let under = one-of u n (pending_of z) same parts.0 in
-    let few = sent-under y n sound under in
-    let was = and_parts (is_under_way n (pending_of x)) (not (is_left n outs)) (one-of before n (pending_of y) a.loads under) in
-    and_from (is_under_way n (pending_of x)) (not (is_left n outs) && nat_le n (taken_of x)) was.0
-    (and_from (not (is_left n outs)) (nat_le n (taken_of x)) was.1
-    (⊎_elim
-    (λ above. let left = in-turn-has (place_of y) (taken_of y) loads n t.in_turn (omega (arith, above, taken)) (omega (arith, few, count)) in let no : false ≡ true = sym (ap not left) ∙ parts.1 in cc)
-    (λ most. le-leb n (taken_of x) most) (cases_lt (taken_of x) n))))
-    b.loads b.loads
+    let b = q (subst NobodyWaits (sym (loads-same y z loads t)) a.nobody) in
+    let last = b.loads n under in
+    let middle = ap (is_under_way n) (sym (loads-same y z loads t)) ∙ last.0 in
+    let first = a.loads n middle in
+    let taken = a.taken in (
+      first.0,
+      first.1,
+      elim (cases_lt (taken_of x) n) [ inl above ↦ (let no : true ≡ false = sym (taken-or-left y z loads n sound t middle (omega (arith, above, taken))) ∙ last.1 in cc) | inr most ↦ most ],
+    )
 
 -- each that is under way was kept
-pub kept-behind : (x w v : BareSpace) (outs : List (LoadId × List ℕ)) → Accounts x w [] outs → DropsAll outs w v → has_no_waiting (pending_of w) ≡ true → AddsNoLoads x v
+pub kept-behind : (x w v : BareSpace) (outs : List (LoadId × List ℕ)) → Accounted x w outs → DropsAll outs w v → NobodyWaits (pending_of w) → AddsNoLoads x v
 kept-behind x w v outs a d none =
-    let p : ℕ → Bool = λ n. is_under_way n (pending_of x) in
-    let q : ℕ → Bool = λ n. p n || (is_left n outs || nat_lt (taken_of w) n) in
-    let r : ℕ → Bool = λ n. is_under_way n (pending_of w) && (not (is_left n outs) && nat_le n (taken_of w)) in
-    all-from r r p (pending_of v)
-    (λ n here again.
-    let parts = and_parts (is_under_way n (pending_of w)) (not (is_left n outs) && nat_le n (taken_of w)) here in
-    let more = and_parts (not (is_left n outs)) (nat_le n (taken_of w)) parts.1 in
-    let few = leb-true n (taken_of w) more.1 in
-    ⊎_elim (λ kept. kept)
-    (λ rest.
-    ⊎_elim (λ left. let no : false ≡ true = sym (ap not left) ∙ more.0 in cc) (λ lt. let above = ltb-true (taken_of w) n lt in absurd (omega (arith, above, few))) (or_cases (is_left n outs) (nat_lt (taken_of w) n) rest))
-    (or_cases (p n) (is_left n outs || nat_lt (taken_of w) n) (one-of q n (pending_of w) (accounts-begun x w [] outs refl a) parts.0)))
-    (d none) (d none)
+    adds-no-loads x v
+    (λ n under.
+    let left = d none n under in
+    let few = left.2 in
+    elim (a.loads n left.0) [ inl before ↦ before | inr (inl in_hand) ↦ (let no : true ≡ false = sym in_hand ∙ left.1 in cc) | inr (inr above) ↦ absurd (omega (arith, above, few)) ])
 
 -- where none was under way, none is
 pub none-behind : (x v : BareSpace) → AddsNoLoads x v → pending_of x ≡ [] → pending_of v ≡ []
@@ -259,25 +215,24 @@ module _ (number : ℕ) where
 
   -- it is not under way
   pub dropped-unknown : (x : BareSpace) (load : ℕ) (e : ServiceError) → refusal_of (config_of x) (known_of x) (giving_up load 0) ≡ Some e → Drops number (λ n. n == load) x x
-  dropped-unknown x load e refused =
-      let u : ℕ → Bool = λ n. is_under_way n (pending_of x) in
-      let q : ℕ → Bool = λ n. not (n == load) in
-      let unknown = give-up-first (config_of x) (known_of x) load e refused in
-      let loads = all-from u q (λ n. u n && q n) (pending_of x) (λ n a b. and_from (u n) (q n) a b) (own-loads (pending_of x)) (unfound load (pending_of x) unknown) in
-      record { gives = drops-none number x x refl; gone = λ none. record { taken = refl; nobody = none; loads = loads } }
+  dropped-unknown x load e refused = record {
+    gives = drops-none number x x refl;
+    gone = λ none. record {
+      taken = refl;
+      nobody = none;
+      loads = λ n under. (under, ne_eqb n load (λ e. unfound load (pending_of x) (give-up-first (config_of x) (known_of x) load _ refused) (subst (UnderWay x) e under)));
+    };
+  }
 
   -- none was
   pub dropped-none : (x : BareSpace) → Drops number (λ n. is_left n []) x x
-  dropped-none x =
-      let u : ℕ → Bool = λ n. is_under_way n (pending_of x) in
-      let loads = all-from u u (λ n. u n && true) (pending_of x) (λ n a b. and_from (u n) true a refl) (own-loads (pending_of x)) (own-loads (pending_of x)) in
-      record { gives = drops-none number x x refl; gone = λ none. record { taken = refl; nobody = none; loads = loads } }
+  dropped-none x = record { gives = drops-none number x x refl; gone = λ none. record { taken = refl; nobody = none; loads = λ n under. (under, refl) } }
 
   -- the next of them
   pub dropped-next : (outs all : List (LoadId × List ℕ)) (out : LoadId × List ℕ) (load : ℕ) (x y z : BareSpace) → all ≡ outs ++ out ∷ [] → load ≡ out.0.number → Drops number (λ n. is_left n outs) x y → Drops number (λ n. n == load) y z → Drops number (λ n. is_left n all) x z
   dropped-next outs all out load x y z whole is p q = record {
     gives = drops-again number x y z p.gives q.gives;
-    gone = drops-more (λ n. is_left n outs) (λ n. n == load) (λ n. is_left n all) x y z (λ n a b. ap (λ l. not (is_left n l)) whole ∙ not-left outs out n a (ap (λ m. not (n == m)) (sym is) ∙ b)) p.gone q.gone;
+    gone = drops-more (λ n. is_left n outs) (λ n. n == load) (λ n. is_left n all) x y z (λ n a b. ap (is_left n) whole ∙ not-left outs out n a (ap (λ m. n == m) (sym is) ∙ b)) p.gone q.gone;
   }
 
   -- those in hand, and then those that had gone out

@@ -1,6 +1,5 @@
 -- One connection, from its opening to its closing.
-use Rattle.std.proofs.Common.{◌≡◌, ◌≢◌, ℕ, ◌≤◌, ◌^◌, ◌||◌, not, nat_lt, nat_le, Bool, true, false, List, [], ◌∷◌, length, Option, Some, None, is_some, if◌then◌else◌, refl, sym, ap, ◌∙◌, subst, arith, inl, inr}
-use Rattle.std.specs.Prelude.{◌++◌, ◌⊎◌, is_none}
+use Rattle.std.proofs.Common.{◌≡◌, ◌≢◌, ℕ, ◌≤◌, ◌^◌, ◌||◌, not, nat_lt, nat_le, Bool, true, false, List, [], ◌∷◌, length, Option, Some, None, is_some, if◌then◌else◌, refl, sym, ap, ◌∙◌, subst, arith, inl, inr, ◌++◌, ◌⊎◌, is_none}
 use Rattle.std.specs.List.{flat_map}
 use Rattle.std.specs.Option.{option_or}
 use Rattle.std.specs.Io.KnownBytes.{IsAtEnd}
@@ -32,7 +31,6 @@ use Rattle.cache_spaces.specs.Spaces.{closing_of, config_of, known_of, notices_o
 use Rattle.cache_run.specs.declared.devices.errors.RunError.{RunError}
 use Rattle.cache_run.specs.declared.devices.errors.RunError.TheVariants.{Moment}
 use Rattle.cache_run.specs.Driver.Drives.{Outside}
-use Rattle.cache_run.specs.Accounts.{Accounts, AddsNoLoads, KeepsLoads}
 use Rattle.cache_run.specs.Carried.{Broken, Carried, Left, nothing_left}
 use Rattle.cache_run.specs.Connected.{HasTakenReplies, IsEnded, IsFed, IsOpenOrEnded}
 use Rattle.cache_run.specs.Goes.{Goes}
@@ -41,7 +39,7 @@ use Rattle.cache_run.specs.Lent.{DropsBoth, IsClosedBefore}
 use Rattle.cache_run.specs.Loading.{OnlyGivesUp}
 use Rattle.cache_run.specs.Runs.{Closes, EndsRun, Quiet, ServesPartly, ServesWhole, Unfed}
 use Rattle.cache_run.specs.Worlds.{world}
-use Rattle.cache_run.proofs.Accounting.{accounts-later, accounts-more, adds-more, keeps-quiet, keeps-same, later-kept}
+use Rattle.cache_run.proofs.Accounting.{Accounts, AddsNone, KeepsLoads, accounted-none, accounts-later, adds-no-loads, keeps-quiet, later-kept}
 use Rattle.cache_run.proofs.Led.{carried-close, carried-drops, carried-still}
 use Rattle.cache_run.proofs.Going.{goes-more, goes-still}
 use Rattle.cache_run.proofs.Dropping.{kept-behind, nobody-behind}
@@ -188,7 +186,7 @@ module _ (was is : BareSpace) (number : ℕ) (sound : IsSound bare_tape was) (s 
       subst (Closed number was) (sym refused.0)
       (record {
         closes = inr (closed-before refused.1 refused.2, refl, goes-still number was (λ s t. Unfed s t (notices_of was) (notices_of was)) (λ s stands. record { same = refl; notices = refl }));
-        keeps = keeps-same was;
+        keeps = record { taken = refl; adds = λ n under. under };
         opened = s.opened;
       })
 
@@ -230,14 +228,14 @@ module _ {C L : Type 0} (reads : C → ℕ → C → Type 0) (loads : L → List
     ended = carried-ended x z w left goes closing.closes
 
     -- none of them stays undone
-    pub whole-so : left ≡ nothing_left → AddsNoLoads y z → IsAtEnd after.remaining ⊎ (closing_of z number ≢ None) → ServesWhole reads loads x w before after
+    pub whole-so : left ≡ nothing_left → AddsNone y z → IsAtEnd after.remaining ⊎ (closing_of z number ≢ None) → ServesWhole reads loads x w before after
     whole-so none adds over = record {
       number = number;
       next = opens.1;
       closes = ended.closes;
       goes = subst (λ l. Goes number x w (λ s t. Carried (config_of x) number reads loads (world x s before) (world w t after) true ended.closes [] l)) none ended.goes;
       ends = ended.ends over;
-      settled = adds-more x z w (adds-more x y z (opens-keeps x y number sound opens).loads adds) closing.keeps.loads;
+      settled = adds-no-loads x w (λ n under. (opens-keeps x y number sound opens).adds n (adds n (closing.keeps.adds n under)));
     }
 
     -- loads were dropped then
@@ -262,7 +260,7 @@ module _ {C L : Type 0} (reads : C → ℕ → C → Type 0) (loads : L → List
           why = why.0;
           closed = why.1;
           settled = λ alone. kept-behind x w v hand
-              (accounts-more x y w [] [] hand (accounts-later x y [] (later-kept x y (opens-keeps x y number sound opens))) (accounts-more y z w [] hand hand accounted (accounts-later z w hand (later-kept z w closing.keeps)))) dropped.gone
+              (accounts-later z w hand (later-kept z w closing.keeps) x (accounted x (accounts-later x y [] (later-kept x y (opens-keeps x y number sound opens)) x (accounted-none x)))) dropped.gone
               (nobody-behind number x w (λ s t. Carried (config_of x) number reads loads (world x s before) (world w t after) true ended.closes [] left) (situation-of x sound) behind closing.opened ended.goes ended.closed alone);
         }
       where

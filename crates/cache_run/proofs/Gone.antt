@@ -1,10 +1,11 @@
 -- Loads that went out are among those that were sent.
-use Rattle.std.proofs.Common.{◌≡◌, ℕ, suc, ◌≤◌, true, false, ◌&&◌, ◌==◌, List, [], ◌∷◌, ◌++◌, Option, Some, None, sym, ap, ◌∙◌, subst, arith, nat_lt, refl}
-use Rattle.std.specs.Prelude.{IfSome}
-use Rattle.std.specs.List.{find, list_all}
+use Rattle.std.proofs.Common.{◌≡◌, ℕ, suc, ◌≤◌, true, false, ◌&&◌, ◌==◌, List, [], ◌∷◌, ◌++◌, Option, Some, None, sym, ap, ◌∙◌, subst, arith, nat_lt, refl, IfSome}
+use Rattle.std.specs.List.{find, list_all, slice_index_or}
 use Rattle.std.specs.Option.{option_map, option_map_or}
 use Rattle.std.proofs.lemmas.Bool.{and_parts, and_from, eq-eqb, eqb-true, lt-ltb, or_left, or_right}
 use Rattle.std.proofs.lemmas.List.{append-nil}
+use Rattle.std.proofs.lemmas.List.Elements.{All-append, All-cons, All-head, All-nil, All-tail}
+use Rattle.std.proofs.lemmas.List.Folds.{list_any_at}
 use Rattle.std.proofs.lemmas.Option.{same_Some}
 use Rattle.audit_laws.proofs.HeldStep.{same-refl}
 use Rattle.audit_model.specs.Bytewise.{same}
@@ -21,29 +22,27 @@ use Rattle.cache_spaces.specs.Spaces.{StandsFor, config_of, outgoing_of}
 use Rattle.cache_spaces.specs.Stores.{shown_of}
 use Rattle.cache_run.specs.Driver.Drives.{IsOfHand}
 use Rattle.cache_run.specs.Driver.Exchanges as did
-use Rattle.cache_run.specs.Driver.Exchanges.{Doing, IsLastOf, Keeps, Leaves, Outs, asks_of}
+use Rattle.cache_run.specs.Driver.Exchanges.{Doing, EachOut, Keeps, Outs, asks_of, load_number, settling_asking}
 use Rattle.cache_run.specs.Happened.{AskForSent, Sendings, sendings_of, sendings_until}
 use Rattle.cache_run.specs.Lent.{MayGiveLoads}
 use Rattle.cache_run.proofs.Happening.{pending-is, sent-is}
+use Rattle.cache_run.proofs.driver.Settled.{each-last}
 
 -- each of these loads was sent
 abbrev pub AreAmong : Outs → Sendings → Type 0
-AreAmong [] sent = Unit {0}
-AreAmong (out ∷ outs) sent = (sent out.0.number out.1 ≡ true) × AreAmong outs sent
-
--- ---- lists of them
+AreAmong outs sent = EachOut (λ load key. sent load key ≡ true) outs
 
 among-by : (outs : Outs) (sent more : Sendings) → ((load : ℕ) (key : List ℕ) → sent load key ≡ true → more load key ≡ true) → AreAmong outs sent → AreAmong outs more
-among-by [] sent more f among = tt
-among-by (out ∷ outs) sent more f among = (f out.0.number out.1 among.0, among-by outs sent more f among.1)
+among-by outs sent more f among = λ k d within. f _ _ (among k d within)
 
 pub among-more : (xs ys : Outs) (sent : Sendings) → AreAmong xs sent → AreAmong ys sent → AreAmong (xs ++ ys) sent
-among-more [] ys sent a b = b
-among-more (x ∷ xs) ys sent a b = (a.0, among-more xs ys sent a.1 b)
+among-more xs ys sent a b = All-append (λ (out : LoadId × List ℕ). sent out.0.number out.1 ≡ true) xs ys a b
 
 pub among-parts : (xs ys : Outs) (sent : Sendings) → AreAmong (xs ++ ys) sent → AreAmong xs sent × AreAmong ys sent
-among-parts [] ys sent a = (tt, a)
-among-parts (x ∷ xs) ys sent a = let parts = among-parts xs ys sent a.1 in ((a.0, parts.0), parts.1)
+among-parts [] ys sent a = (All-nil (λ (out : LoadId × List ℕ). sent out.0.number out.1 ≡ true), a)
+among-parts (x ∷ xs) ys sent a =
+    let Fact : LoadId × List ℕ → Type 0 = λ out. sent out.0.number out.1 ≡ true in
+    let parts = among-parts xs ys sent (All-tail Fact x (xs ++ ys) a) in (All-cons Fact x xs (All-head Fact x (xs ++ ys) a) parts.0, parts.1)
 
 -- those that were sent stay so
 pub among-later : (outs : Outs) (s t : Situation) (sent : Sendings) → AreAmong outs sent → AreAmong outs (sendings_until s t sent)
@@ -51,11 +50,16 @@ among-later outs s t sent among =
     among-by outs sent (sendings_until s t sent) (λ load key e. or_left (sent load key) (nat_lt s.sent load && option_map_or (λ k. same k key) (key_in load t) false) e) among
 
 pub among-own : (outs : Outs) → AreAmong outs (sendings_of outs)
-among-own [] = tt
-among-own (out ∷ outs) = (
-  or_left (out.0.number == out.0.number && same out.1 out.1) (sendings_of outs out.0.number out.1) (and_from (out.0.number == out.0.number) (same out.1 out.1) (eq-eqb out.0.number out.0.number refl) (same-refl out.1)),
-  among-by outs (sendings_of outs) (sendings_of (out ∷ outs)) (λ load key e. or_right (out.0.number == load && same out.1 key) (sendings_of outs load key) e) (among-own outs),
-)
+among-own outs = λ k d within.
+    let out = slice_index_or outs k d in
+    list_any_at (λ (o : LoadId × List ℕ). o.0.number == out.0.number && same o.1 out.1) outs k d within
+    (and_from (out.0.number == out.0.number) (same out.1 out.1) (eq-eqb out.0.number out.0.number refl) (same-refl out.1))
+
+-- loads in turn begin with the next one
+pub in-turn-next : (place before : ℕ) (out : LoadId × List ℕ) (outs : Outs) → are_in_turn place before (out ∷ outs) ≡ true → (out.0.number ≡ suc before) × (are_in_turn place (suc before) outs ≡ true)
+in-turn-next place before out outs turn =
+    let parts = and_parts (out.0.namespace == place) (out.0.number == suc before && are_in_turn place (suc before) outs) turn in
+    let ours = and_parts (out.0.number == suc before) (are_in_turn place (suc before) outs) parts.1 in (eqb-true out.0.number (suc before) ours.0, ours.1)
 
 -- ---- an event
 
@@ -67,16 +71,15 @@ key-there out t e = go (find (λ load. load.number == out.0.number) t.pending) e
     go (Some load) h = h
 
 among-next : (place before : ℕ) (outs : Outs) (s t : Situation) (sent : Sendings) → are_in_turn place before outs ≡ true → s.sent ≤ before → list_all (is_sent t.pending) outs ≡ true → AreAmong outs (sendings_until s t sent)
-among-next place before [] s t sent turn few keys = tt
+among-next place before [] s t sent turn few keys = All-nil (λ (o : LoadId × List ℕ). sendings_until s t sent o.0.number o.1 ≡ true)
 among-next place before (out ∷ outs) s t sent turn few keys =
-    let parts = and_parts (out.0.namespace == place) (out.0.number == suc before && are_in_turn place (suc before) outs) turn in
-    let ours = and_parts (out.0.number == suc before) (are_in_turn place (suc before) outs) parts.1 in
-    let is = eqb-true out.0.number (suc before) ours.0 in
+    let ours = in-turn-next place before out outs turn in
+    let is = ours.0 in
     let there = and_parts (is_sent t.pending out) (list_all (is_sent t.pending) outs) keys in
-    let key = option_map_or (λ k. same k out.1) (key_in out.0.number t) false in (
-      or_right (sent out.0.number out.1) (nat_lt s.sent out.0.number && key) (and_from (nat_lt s.sent out.0.number) key (lt-ltb s.sent out.0.number (omega (arith, is, few))) (key-there out t there.0)),
-      among-next place (suc before) outs s t sent ours.1 (omega (arith, few)) there.1,
-    )
+    let key = option_map_or (λ k. same k out.1) (key_in out.0.number t) false in
+    All-cons (λ (o : LoadId × List ℕ). sendings_until s t sent o.0.number o.1 ≡ true) out outs
+    (or_right (sent out.0.number out.1) (nat_lt s.sent out.0.number && key) (and_from (nat_lt s.sent out.0.number) key (lt-ltb s.sent out.0.number (omega (arith, is, few))) (key-there out t there.0)))
+    (among-next place (suc before) outs s t sent ours.1 (omega (arith, few)) there.1)
 
 -- where those in hand and those that are there to be taken were sent, so were those behind an event
 pub among-behind : (was is : BareSpace) (happened : Event) (s t : Situation) (entry : Record) (hand rest : Outs) (sent : Sendings) → served.Settled bare_tape was is happened → Turned shown_of bare_tape was is s entry → Follows (config_of was) s entry t
@@ -94,25 +97,13 @@ among-behind was is happened s t entry hand rest sent settled turned follows sta
 
 -- ---- the hand
 
--- the load that is settled was sent with the key for which the loader was asked, and so were the others
-pub among-last : (hand : Outs) (load : ℕ) (key : List ℕ) (rest : Outs) (sent : Sendings) → IsLastOf hand load key rest → AreAmong hand sent → AreAmong rest sent × (sent load key ≡ true)
-among-last hand load key rest sent last among =
-    let parts = among-parts rest ((last.0, key) ∷ []) sent (subst (λ outs. AreAmong outs sent) last.2 among) in (parts.0, subst (λ n. sent n key ≡ true) last.1 parts.1.0)
-
-asked-last : (hand : Outs) (load : ℕ) (key : List ℕ) (rest : Outs) (sent : Sendings) → IsLastOf hand load key rest → AreAmong hand sent → (n : ℕ) × (sent n key ≡ true)
-asked-last hand load key rest sent last among = (load, (among-last hand load key rest sent last among).1)
-
-asked-of : (hand rest : Outs) (doing : Doing) (sent : Sendings) → Leaves doing hand rest → AreAmong hand sent → AskForSent (asks_of doing) sent
-asked-of hand rest (did.Fed piece moment held) sent leaves among = tt
-asked-of hand rest (did.Answered load key outcome moment) sent leaves among = (asked-last hand load key rest sent leaves among, tt)
-asked-of hand rest (did.GivenUp load asking moment) sent leaves among = (asked-last hand load asking.key rest sent leaves among, tt)
-asked-of hand rest (did.Dropped load asking moment) sent leaves among = (asked-last hand load asking.key rest sent leaves among, tt)
-asked-of hand rest did.Looked sent leaves among = tt
-
 -- for what was refused the loader was asked by the key of a load in hand
 pub asked-refused : (hand outs : Outs) (refused : Option Doing) (sent : Sendings) → IfSome refused (IsOfHand hand) → AreAmong (hand ++ outs) sent → AskForSent (option_map_or asks_of refused []) sent
 asked-refused hand outs None sent of among = tt
-asked-refused hand outs (Some doing) sent of among = asked-of hand of.0 doing sent of.1 (among-parts hand outs sent among).0
+asked-refused hand outs (Some (did.Fed piece moment held)) sent of among = tt
+asked-refused hand outs (Some (did.Settled settling moment)) sent of among =
+    ((load_number settling, (each-last (λ load key. sent load key ≡ true) hand (load_number settling) (settling_asking settling).key of.0 of.1 (among-parts hand outs sent among).0).1), tt)
+asked-refused hand outs (Some did.Looked) sent of among = tt
 
 -- ---- loads are taken
 

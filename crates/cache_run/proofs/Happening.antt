@@ -1,6 +1,5 @@
 -- What an event and its record do to a namespace that keeps no journal.
-use Rattle.std.proofs.Common.{◌≡◌, ℕ, ◌≤◌, max, Bool, true, false, not, ◌&&◌, ◌==◌, cond, List, [], ◌∷◌, ◌++◌, Option, Some, None, if◌then◌else◌, refl, sym, ap, ◌∙◌, subst, arith, ◌≢◌, zero, suc, ◌<◌, ◌||◌, nat_lt, nat_le, length, is_some, inl, inr}
-use Rattle.std.specs.Prelude.{is_none, unwrap_or}
+use Rattle.std.proofs.Common.{◌≡◌, ℕ, ◌≤◌, max, Bool, true, false, not, ◌&&◌, ◌==◌, cond, List, [], ◌∷◌, ◌++◌, Option, Some, None, if◌then◌else◌, refl, sym, ap, ◌∙◌, subst, arith, ◌≢◌, zero, suc, ◌<◌, ◌||◌, nat_lt, nat_le, length, is_some, inl, inr, is_none, unwrap_or}
 use Rattle.std.specs.List.{find, filter, flat_map, slice_get}
 use Rattle.std.specs.Option.{option_map_or}
 use Rattle.std.proofs.lemmas.Bool.{and_parts, and_from, eq-eqb, le-leb, leb-true, ne_eqb}

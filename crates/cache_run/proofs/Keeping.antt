@@ -1,9 +1,10 @@
 -- What is kept, done and given in the calls of a lent service.
-use Rattle.std.proofs.Common.{◌≡◌, ℕ, Bool, true, false, List, Some, refl, sym, ◌∙◌, subst, Option, is_some, inl, inr}
+use Rattle.std.proofs.Common.{◌≡◌, ℕ, Bool, true, false, List, Some, refl, sym, ◌∙◌, subst, Option, is_some, ap, inl, inr, Result, Ok, Err, OnErr, OnOk}
 use Rattle.std.specs.List.{slice_get}
 use Rattle.cache_spaces.specs.Bares.{BareSpace, bare_tape}
 use Rattle.audit_model.specs.declared.input.ServiceError.{ServiceError}
-use Rattle.cache_spaces.specs.Calls.{At, InSpace, IsOpened, IsUnknown, OpensNext, ServesEvent, Settled, TakesOutput}
+use Rattle.cache_spaces.specs.Calls as served
+use Rattle.cache_spaces.specs.Calls.{At, InSpace, IsOpened, IsUnknown, OpensNext, ServesEvent, TakesOutput}
 use Rattle.audit_model.specs.declared.event.Event.{Event}
 use Rattle.cache_run.specs.Loading.{GivesLoads}
 use Rattle.cache_run.proofs.Dropping.{taken-same}
@@ -11,13 +12,12 @@ use Rattle.cache_spaces.specs.Sound.{IsSound}
 use Rattle.cache_run.proofs.Ending.{opens-stands}
 use Rattle.cache_run.proofs.Happening.{IsSoundAt, happened-so, situation-of, stays-opened, none-where}
 use Rattle.cache_spaces.proofs.Placing.{at-is, at-map, at-was, at-same, at-more}
-use Rattle.cache_run.specs.Driver.Exchanges.{Outs, Answered, Doing, Dropped, GivenUp}
-use Rattle.std.specs.Prelude.{Result, Ok, Err, OnErr, OnOk}
+use Rattle.cache_run.specs.Driver.Exchanges.{Outs, Answered, Doing, Dropped, GivenUp, Settled}
 use Rattle.std.specs.Option.{option_map}
 use Rattle.std.proofs.lemmas.Option.{same_Some}
 use Rattle.audit_model.specs.declared.event.Outcome.{Outcome}
 use Rattle.audit_model.specs.declared.input.Conn.{Conn}
-use Rattle.cache_spaces.specs.Spaces.{closing_of, config_of}
+use Rattle.cache_spaces.specs.Spaces.{closing_of, config_of, known_of}
 use Rattle.cache_run.specs.Driver.Hosting.{SettlesBy, Suits, exchange_of}
 use Rattle.cache_run.specs.declared.driver.host.Given.{Given}
 use Rattle.cache_run.specs.Happened.{IsGivenUpFor}
@@ -41,13 +41,13 @@ pub known-given : (old new : List BareSpace) (n number : ℕ) (loads : Outs) →
 known-given old new n number loads a i = known-by (GivesLoads loads) old new n number a (λ x y at t opened. subst (λ z. IsOpened z number) (sym (taken-same x y loads t.1)) opened) i
 
 -- behind an event
-pub known-settled : (old new : List BareSpace) (n number : ℕ) (happened : Event) → IsSoundAt old n → At old new n (λ was is. Settled bare_tape was is happened) → InSpace old n (λ space. IsOpened space number) → InSpace new n (λ space. IsOpened space number)
+pub known-settled : (old new : List BareSpace) (n number : ℕ) (happened : Event) → IsSoundAt old n → At old new n (λ was is. served.Settled bare_tape was is happened) → InSpace old n (λ space. IsOpened space number) → InSpace new n (λ space. IsOpened space number)
 known-settled old new n number happened sound a i =
-    known-by (λ was is. Settled bare_tape was is happened) old new n number a (λ x y at h opened. stays-opened x y happened h number (situation-of x (sound x at)) opened) i
+    known-by (λ was is. served.Settled bare_tape was is happened) old new n number a (λ x y at h opened. stays-opened x y happened h number (situation-of x (sound x at)) opened) i
 
 pub known-served : (old new : List BareSpace) (n number : ℕ) (happened : Event) (held : Bool) → IsSoundAt old n → At old new n (λ was is. ServesEvent bare_tape was is happened held) → InSpace old n (λ space. IsOpened space number) → InSpace new n (λ space. IsOpened space number)
 known-served old new n number happened held sound a i =
-    known-settled old new n number happened sound (at-map (λ was is. ServesEvent bare_tape was is happened held) (λ was is. Settled bare_tape was is happened) old new n a (λ x y h. happened-so x y happened held h)) i
+    known-settled old new n number happened sound (at-map (λ was is. ServesEvent bare_tape was is happened held) (λ was is. served.Settled bare_tape was is happened) old new n a (λ x y h. happened-so x y happened held h)) i
 
 -- one that was opened is there
 pub known-opened : (old new : List BareSpace) (n m number : ℕ) → m ≡ n → At old new n (λ was is. IsSound bare_tape was × OpensNext bare_tape was is number) → InSpace new m (λ space. IsOpened space number)
@@ -92,21 +92,38 @@ at-comes old mid new n number doing given a b =
 
 -- ---- what settled a load
 
+-- it was not under way
+settled-unknown : {F : BareSpace → BareSpace → Type 0} (conn : Conn) (load moment : ℕ) (said : Option Outcome) (key : List ℕ) (old new : List BareSpace) (a : At old new conn.namespace F) → (a.is ≡ a.was) × ((known_of a.was).is_under_way load ≡ false)
+    → (doing : Doing) × SettlesBy load moment (record { key = key; answer = said }) doing × At old new conn.namespace (Does conn.number doing)
+settled-unknown conn load moment said key old new a unknown = (
+  Settled (Dropped load (record { key = key; answer = said })) moment,
+  record { settling = Dropped load (record { key = key; answer = said }); of = refl; numbered = refl; done = refl },
+  record { was = a.was; is = a.is; at = a.at; set = a.set; fact = unknown },
+)
+
 -- with the outcome that was said
 pub by-answer : (conn : Conn) (load : ℕ) (outcome : Outcome) (moment : ℕ) (said : Option Outcome) (old new : List BareSpace) → said ≡ Some outcome → At old new conn.namespace (AnswersOr load outcome moment) → SettlesAt conn load said moment old new
 by-answer conn load outcome moment said old new is a key = go a.fact
   where
     go : AnswersOr load outcome moment a.was a.is → (doing : Doing) × SettlesBy load moment (record { key = key; answer = said }) doing × At old new conn.namespace (Does conn.number doing)
-    go (inl h) = (Answered load key outcome moment, inl (outcome, is, refl), record { was = a.was; is = a.is; at = a.at; set = a.set; fact = h })
-    go (inr h) = (Dropped load (record { key = key; answer = said }) moment, inr (inr refl), record { was = a.was; is = a.is; at = a.at; set = a.set; fact = h })
+    go (inl h) = (
+      Settled (Answered load key outcome) moment,
+      record { settling = Answered load key outcome; of = ap (λ (o : Option Outcome). record { key = key; answer = o }) (sym is); numbered = refl; done = refl },
+      record { was = a.was; is = a.is; at = a.at; set = a.set; fact = h },
+    )
+    go (inr h) = settled-unknown conn load moment said key old new a h
 
 -- by a give-up, where that may be
 pub by-give-up : (conn : Conn) (load moment : ℕ) (said : Option Outcome) (old new : List BareSpace) → ((x : BareSpace) → slice_get old conn.namespace ≡ Some x → IsGivenUpFor (config_of x) said) → At old new conn.namespace (GivesUpOr load moment) → SettlesAt conn load said moment old new
 by-give-up conn load moment said old new may a key = go a.fact
   where
     go : GivesUpOr load moment a.was a.is → (doing : Doing) × SettlesBy load moment (record { key = key; answer = said }) doing × At old new conn.namespace (Does conn.number doing)
-    go (inl h) = (GivenUp load (record { key = key; answer = said }) moment, inr (inl refl), record { was = a.was; is = a.is; at = a.at; set = a.set; fact = (h, may a.was a.at) })
-    go (inr h) = (Dropped load (record { key = key; answer = said }) moment, inr (inr refl), record { was = a.was; is = a.is; at = a.at; set = a.set; fact = h })
+    go (inl h) = (
+      Settled (GivenUp load (record { key = key; answer = said })) moment,
+      record { settling = GivenUp load (record { key = key; answer = said }); of = refl; numbered = refl; done = refl },
+      record { was = a.was; is = a.is; at = a.at; set = a.set; fact = (h, may a.was a.at) },
+    )
+    go (inr h) = settled-unknown conn load moment said key old new a h
 
 -- ---- what a call answered
 

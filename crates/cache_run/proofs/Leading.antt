@@ -1,5 +1,5 @@
 -- What a chain of exchanges comes to in a namespace.
-use Rattle.std.proofs.Common.{◌≡◌, ℕ, false, List, [], ◌∷◌, ◌++◌, Option, None, Some, refl, sym, ap, ◌∙◌, subst, inl, inr, ◌≢◌}
+use Rattle.std.proofs.Common.{◌≡◌, ℕ, true, false, List, [], ◌∷◌, ◌++◌, Option, None, Some, refl, sym, ap, ◌∙◌, subst, inl, inr, ◌≢◌, MatchOption, unwrap_or}
 use Rattle.std.proofs.lemmas.List.{append-nil}
 use Rattle.audit_model.specs.Follows.{Follows}
 use Rattle.audit_model.specs.Situation.{Situation, key_in}
@@ -12,14 +12,14 @@ use Rattle.audit_laws.specs.Waiting.Keys.{IsKnown}
 use Rattle.cache_core.specs.State.{situation_with}
 use Rattle.cache_core.specs.Turned.{notes_in, replies_to, feeding}
 use Rattle.cache_spaces.specs.Calls as served
-use Rattle.cache_spaces.specs.Calls.{At, TakesOutput, IsOpened}
+use Rattle.cache_spaces.specs.Calls.{TakesOutput, IsOpened}
 use Rattle.cache_spaces.specs.Spaces.{StandsFor, config_of, known_of, notices_of, untaken_output, closing_of, outgoing_of}
 use Rattle.cache_spaces.specs.Stores.{shown_of}
 use Rattle.cache_spaces.specs.Bares.{BareSpace, bare_tape}
 use Rattle.cache_run.specs.Goes.{Goes}
 use Rattle.cache_run.specs.Devices.Sources.{Asking}
-use Rattle.cache_run.specs.Happened.{Dropped, IsKeyOf, IsSettledBy, Settled, record_replies, asking_of}
-use Rattle.cache_run.proofs.Gone.{AreAmong, among-behind, among-last, among-later, among-more, among-parts, gone-same}
+use Rattle.cache_run.specs.Happened.{Dropped, IsKeyOf, IsSettledBy, Settled, record_replies}
+use Rattle.cache_run.proofs.Gone.{AreAmong, among-behind, among-later, among-more, among-parts, gone-same}
 use Rattle.cache_run.proofs.Led.{record-one, Led, led-turn, led-known, led-more, led-none}
 use Rattle.cache_run.proofs.Going.{goes-still, output-none, output-stands, still-stands, fed-turn, goes-more, goes-output, goes-same}
 use Rattle.cache_run.proofs.Happening.{goes-by, own-replies, happened-so, situation-behind, stays-fed, stays-opened, none-where}
@@ -29,14 +29,13 @@ use Rattle.cache_run.proofs.Dropping.{taken-same, known-given}
 use Rattle.cache_run.specs.Driver.Exchanges as did
 use Rattle.cache_run.specs.Driver.Exchanges.{Doing, Exchange, Outs, AreDone, Chain, Hands, HaveClosed, Keeps, Leaves, LeavesNothing, asks_of, askings_in, bytes_of, moments_in, pieces_in, replies_in, told_of}
 use Rattle.cache_run.specs.Lent.{Comes, Does, MayGiveLoads}
-use Rattle.std.specs.Prelude.{MatchOption, unwrap_or}
 use Rattle.std.specs.List.{last_or}
 use Rattle.std.proofs.lemmas.Option.{none-some, same_Some}
 use Rattle.audit_laws.proofs.waiting.Keys.{answered-key, given-up-key}
 use Rattle.cache_spaces.specs.Sound.{IsSound}
-use Rattle.cache_run.specs.Accounts.{Accounts, AddsNoLoads, pending_of}
 use Rattle.cache_run.specs.Loading.{AreKnown, GivesLoads}
-use Rattle.cache_run.proofs.Accounting.{accounts-later, accounts-more, adds-none, later-same, own-loads, accounts-behind, known-of, known-rest}
+use Rattle.cache_run.proofs.Accounting.{Accounts, AddsNone, accounted-none, accounts-behind, adds-none}
+use Rattle.cache_run.proofs.driver.Settled.{each-last, each-rest}
 
 -- ---- how the namespace goes on
 
@@ -52,9 +51,9 @@ settled-goes number was is happened asking hand rest load moment after text none
     goes-by was is happened settled number (settling (config_of was) asking moment happened said number)
     (λ s t. AreKnown hand s → Led (config_of was) number s t (notices_of was) after [] (moment ∷ []) (asking ∷ []) text (hand ++ outgoing_of was) (rest ++ outgoing_of is))
     (λ s t entry event turned follows own stands known.
-    let placed = keyed s t entry follows event (known-of hand load asking.key rest s last known).1 in
+    let placed = keyed s t entry follows event (each-last (λ n key. IsKnown n key s) hand load asking.key rest last known).1 in
     led-turn (config_of was) number s t (notices_of was) after (Settled asking moment entry) text (hand ++ outgoing_of was) (rest ++ outgoing_of is) (subst (IsSettledBy (config_of was) asking.answer moment) (sym event) said)
-    (λ sent among. (placed, among-behind was is happened s t entry hand rest sent settled turned follows stands (λ each. (among-last hand load asking.key rest sent last each).0) among)) (record-one (config_of was) s entry t follows)
+    (λ sent among. (placed, among-behind was is happened s t entry hand rest sent settled turned follows stands (λ each. (each-last (λ n key. sent n key ≡ true) hand load asking.key rest last each).0) among)) (record-one (config_of was) s entry t follows)
     (notes ∙ turned.notes ∙ ap (λ l. notices_of was ++ l) (sym (append-nil (notes_in entry))))
     (texts ∙ turned.outputs number ∙ ap (λ o. o ++ replies_to number entry.steps) none ∙ own-replies number entry.steps own ∙ sym (append-nil (record_replies entry))))
 
@@ -71,7 +70,7 @@ dropped-goes number x asking hand rest load moment after text none texts notes l
     led-turn (config_of x) number s s (notices_of x) after (Dropped asking moment load) text (hand ++ outgoing_of x) (rest ++ outgoing_of x) tt
     (λ sent among.
     let parts = among-parts hand (outgoing_of x) sent among in
-    let own = among-last hand load asking.key rest sent last parts.0 in
+    let own = each-last (λ n key. sent n key ≡ true) hand load asking.key rest last parts.0 in
     ((unknown-there x s load stands unknown, own.1), among-later (rest ++ outgoing_of x) s s sent (among-more rest (outgoing_of x) sent own.0 parts.1))) refl (notes ∙ sym (append-nil (notices_of x))) (texts ∙ none))
 
 -- ---- how the connection stands
@@ -96,9 +95,9 @@ stands-still number was is same s = subst (Stands IsFed number) (sym same) (reco
 -- behind what was done
 pub stands-done : (number : ℕ) (was is : BareSpace) (doing : Doing) → Does number doing was is → Stands HasTakenReplies number was → Stands IsFed number is
 stands-done number was is (did.Fed piece moment held) d s = stands-by number number was is (feeding number piece moment) refl s (happened-so was is (feeding number piece moment) held d)
-stands-done number was is (did.Answered load key outcome moment) d s = stands-by number number was is (answering load outcome moment) tt s d
-stands-done number was is (did.GivenUp load asking moment) d s = stands-by number number was is (giving_up load moment) tt s d.0
-stands-done number was is (did.Dropped load asking moment) d s = stands-still number was is d.0 s
+stands-done number was is (did.Settled (did.Answered load key outcome) moment) d s = stands-by number number was is (answering load outcome moment) tt s d
+stands-done number was is (did.Settled (did.GivenUp load asking) moment) d s = stands-by number number was is (giving_up load moment) tt s d.0
+stands-done number was is (did.Settled (did.Dropped load asking) moment) d s = stands-still number was is d.0 s
 stands-done number was is did.Looked d s = stands-still number was is d s
 
 -- where replies were taken
@@ -138,13 +137,13 @@ does-led number was is (did.Fed piece moment held) hand rest after text none tex
     fed-turn (config_of was) number piece moment entry s t (notices_of was) after text (hand ++ outgoing_of was) (rest ++ outgoing_of is) follows event
     (λ sent among. among-behind was is (feeding number piece moment) s t entry hand rest sent settled turned follows stands (λ each. subst (λ outs. AreAmong outs sent) (sym leaves) each) among) (notes ∙ turned.notes)
     (texts ∙ turned.outputs number ∙ ap (λ o. o ++ replies_to number entry.steps) none ∙ own-replies number entry.steps own))
-does-led number was is (did.Answered load key outcome moment) hand rest after text none texts notes leaves d =
-    settled-goes number was is (answering load outcome moment) (asking_of key (Some outcome)) hand rest load moment after text none texts notes leaves (inl (load, outcome, refl, refl))
+does-led number was is (did.Settled (did.Answered load key outcome) moment) hand rest after text none texts notes leaves d =
+    settled-goes number was is (answering load outcome moment) (record { key = key; answer = Some outcome }) hand rest load moment after text none texts notes leaves (inl (load, outcome, refl, refl))
     (λ s t entry follows event known. subst (λ h. IsKeyOf s h key) (sym event) (answered-key (config_of was) s t entry load outcome _ key follows event known.1)) d
-does-led number was is (did.GivenUp load asking moment) hand rest after text none texts notes leaves d =
+does-led number was is (did.Settled (did.GivenUp load asking) moment) hand rest after text none texts notes leaves d =
     settled-goes number was is (giving_up load moment) asking hand rest load moment after text none texts notes leaves (inr (load, refl, d.1))
     (λ s t entry follows event known. subst (λ h. IsKeyOf s h asking.key) (sym event) (given-up-key (config_of was) s t entry load _ asking.key follows event known.1)) d.0
-does-led number was is (did.Dropped load asking moment) hand rest after text none texts notes leaves d =
+does-led number was is (did.Settled (did.Dropped load asking) moment) hand rest after text none texts notes leaves d =
     subst (λ y. Goes number was y (λ s t. AreKnown hand s → Led (config_of was) number s t (notices_of was) after [] (moment ∷ []) (asking ∷ []) text (hand ++ outgoing_of was) (rest ++ outgoing_of y))) (sym d.0)
     (dropped-goes number was asking hand rest load moment after text none (texts ∙ ap (λ y. untaken_output y number) d.0) (notes ∙ ap notices_of d.0) leaves d.1)
 does-led number was is did.Looked hand rest after text none texts notes leaves d =
@@ -185,7 +184,7 @@ pub leads-none : (number : ℕ) (x : BareSpace) (hand : Outs) → Stands HasTake
 leads-none number x hand stands = record {
   goes = goes-still number x (λ s t. AreKnown hand s → Led (config_of x) number s t (notices_of x) (notices_of x) [] [] [] [] (hand ++ outgoing_of x) (hand ++ outgoing_of x) × AreKnown hand t)
       (λ s stands known. (led-none (config_of x) number s (notices_of x) (notices_of x) [] (hand ++ outgoing_of x) (hand ++ outgoing_of x) refl refl refl, known));
-  accounted = accounts-later x x hand (later-same x);
+  accounted = λ first known. known;
   stands = stands;
 }
 
@@ -209,7 +208,7 @@ leads-more number was mid is hand between after exchange exchanges s c h l =
     (goes-output number was c.done c.told c.text (λ s t. AreKnown hand s → Step s t (h.rest ++ outgoing_of c.done)) c.replies done) (goes-given number c.told mid exchange.loads h.rest between c.gives h.keeps)
     (λ s t u led g known.
     let f = led known in
-    let knows = led-known (config_of was) number s t (notices_of was) (notices_of mid) (bytes_of doing) (told_of doing) (asks_of doing) text gone (h.rest ++ outgoing_of c.done) h.rest f (known-rest doing hand h.rest s h.leaves known) in
+    let knows = led-known (config_of was) number s t (notices_of was) (notices_of mid) (bytes_of doing) (told_of doing) (asks_of doing) text gone (h.rest ++ outgoing_of c.done) h.rest f (each-rest (λ n key. IsKnown n key s) doing hand h.rest h.leaves known) in
     (subst (λ m. Step s m halfway) g.0 (subst (λ outs. Step s t outs) (sym same) f), g.1 knows)) in
     let More : Config → Situation → Situation → Type 0 = λ k s t. Led k number s t (notices_of mid) (notices_of is) (pieces_in exchanges) (moments_in exchanges) (askings_in exchanges) (replies_in exchanges) halfway behind in
     record {
@@ -223,7 +222,7 @@ leads-more number was mid is hand between after exchange exchanges s c h l =
                 (subst (λ k. More k t u) one.config second.0),
             second.1,
           ));
-      accounted = accounts-more was mid is hand between after (accounts-behind number was mid exchange hand between s.situation c h) l.accounted;
+      accounted = λ first known. l.accounted first (accounts-behind number was mid exchange hand between s.situation c h first known);
       stands = l.stands;
     }
 
@@ -259,15 +258,15 @@ chain-unmoved number was hand (x ∷ xs) is after c last = let h = has-last x xs
     has-last x (y ∷ ys) e = has-last y ys e
 
 -- where each load was taken and none is left, each that is under way was so before
-pub chain-adds-none : (number : ℕ) (was : BareSpace) (exchanges : List Exchange) (is : BareSpace) → IsSound bare_tape is → Chain (Comes number) was [] exchanges is [] → AreDone exchanges → Accounts was is [] [] → AddsNoLoads was is
+pub chain-adds-none : (number : ℕ) (was : BareSpace) (exchanges : List Exchange) (is : BareSpace) → IsSound bare_tape is → Chain (Comes number) was [] exchanges is [] → AreDone exchanges → Accounts was is [] [] → AddsNone was is
 chain-adds-none number was exchanges is sound c settled accounted = go (last_or None exchanges) refl settled
   where
-    go : (o : Option Exchange) → last_or None exchanges ≡ o → MatchOption o (Unit {0}) LeavesNothing → AddsNoLoads was is
-    go None e done = subst (λ y. AddsNoLoads was y) (sym (chain-unmoved number was [] exchanges is [] c e)) (own-loads (pending_of was))
+    go : (o : Option Exchange) → last_or None exchanges ≡ o → MatchOption o (Unit {0}) LeavesNothing → AddsNone was is
+    go None e done = subst (AddsNone was) (sym (chain-unmoved number was [] exchanges is [] c e)) (λ n under. under)
     go (Some x) e done =
         let last = chain-last number was [] None exchanges is [] x (λ e no. absurd (none-some e no)) c e in
         let gives : GivesLoads [] last.told is = subst (λ loads. MayGiveLoads loads last.told is) done.none last.gives in
-        adds-none was is [] [] sound refl refl (ap outgoing_of gives.1.rest) accounted
+        adds-none was is sound (ap outgoing_of gives.1.rest) (accounted was (accounted-none was))
 
 -- it had closed
 pub chain-closed : (number : ℕ) (was : BareSpace) (hand : Outs) (exchanges : List Exchange) (is : BareSpace) (after : Outs) → Chain (Comes number) was hand exchanges is after → HaveClosed exchanges → closing_of is number ≢ None

@@ -19,7 +19,6 @@ use Rattle.cache_core.specs.Turned.{notes_in}
 use Rattle.cache_run.specs.Carried.{Carried, Left, close_records, open_records, records_of}
 use Rattle.cache_run.specs.Worlds.{World, world}
 use Rattle.std.specs.Io.KnownBytes.{Appends, Consumes}
-use Rattle.audit_model.specs.declared.input.LoadId.{LoadId}
 use Rattle.audit_laws.specs.Waiting.Keys.{IsKnown}
 use Rattle.audit_laws.proofs.waiting.Keys.{keeps}
 use Rattle.cache_run.specs.Devices.Sources.{Asking, Askings, Readings}
@@ -183,14 +182,10 @@ known-records config n key s (x ∷ xs) t e known = go (λ m h knows. known-reco
     go next None is h = absurd (none-some t h)
     go next (Some m) is h = next m h (keeps config s m x n key is known)
 
-known-outs : (outs : List (LoadId × List ℕ)) (s t : Situation) → ((n : ℕ) (key : List ℕ) → IsKnown n key s → IsKnown n key t) → AreKnown outs s → AreKnown outs t
-known-outs [] s t keep known = tt
-known-outs (out ∷ outs) s t keep known = (keep out.0.number out.1 known.0, known-outs outs s t keep known.1)
-
 -- what was known of them is known behind the turns
 pub led-known : (config : Config) (number : ℕ) (s t : Situation) (before after : List Note) (pieces moments : List ℕ) (asks : List Asking) (text : List ℕ) (gone behind outs : Outs)
     → Led config number s t before after pieces moments asks text gone behind → AreKnown outs s → AreKnown outs t
-led-known config number s t before after pieces moments asks text gone behind outs l known = known-outs outs s t (λ n key knows. known-records config n key s (flat_map (records_in number) l.turns) t l.follows knows) known
+led-known config number s t before after pieces moments asks text gone behind outs l known = λ k d within. known-records config _ _ s (flat_map (records_in number) l.turns) t l.follows (known k d within)
 
 -- ---- what is carried
 

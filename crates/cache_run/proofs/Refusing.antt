@@ -1,6 +1,5 @@
 -- Why a load is not settled.
-use Rattle.std.proofs.Common.{◌≡◌, ◌≢◌, ℕ, ◌≤◌, ◌^◌, Bool, true, false, not, nat_le, nat_lt, Option, None, Some, is_some, refl, sym, ap, length, arith, inl, inr, ⊎_elim}
-use Rattle.std.specs.Prelude.{◌⊎◌, ◌||◌, MatchOption}
+use Rattle.std.proofs.Common.{◌≡◌, ◌≢◌, ℕ, ◌≤◌, ◌^◌, Bool, true, false, not, nat_le, nat_lt, Option, None, Some, is_some, refl, sym, ap, length, arith, inl, inr, ⊎_elim, ◌⊎◌, ◌||◌, MatchOption}
 use Rattle.std.specs.Option.{option_or}
 use Rattle.std.proofs.lemmas.Bool.{leb-true}
 use Rattle.std.proofs.lemmas.Option.{none-some, same_Some}

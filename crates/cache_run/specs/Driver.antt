@@ -1,9 +1,6 @@
 pub mod Causes
 pub mod Driven
 pub mod Drives
-pub mod Ending
 pub mod Exchanges
-pub mod Footings
-pub mod Handed
 pub mod Hosting
 pub mod Reading

@@ -64,10 +64,6 @@ replies_in number turn = flat_map record_replies (records_in number turn)
 abbrev pub turn_notes : ℕ → Turn → List Note
 turn_notes number turn = flat_map notes_in (records_in number turn)
 
--- the request to the loader, and its result
-abbrev pub asking_of : List ℕ → Option Outcome → Asking
-asking_of key answer = record { key = key; answer = answer }
-
 -- a load is given up only if the loader returned nothing, or an outcome that is refused for its bytes or its time
 abbrev pub IsGivenUpFor : Config → Option Outcome → Type 0
 IsGivenUpFor config answer =

@@ -13,6 +13,7 @@ use Rattle.cache_spaces.specs.Calls.{At, InSpace, IsOpened, OpensNext, ServesEve
 use Rattle.cache_spaces.specs.Sound.{IsSound}
 use Rattle.cache_spaces.specs.Spaces.{closing_of, config_of, known_of}
 use Rattle.cache_run.specs.Devices.Sources.{Asking}
+use Rattle.cache_run.specs.Driver.Exchanges as did
 use Rattle.cache_run.specs.Driver.Exchanges.{Answered, Doing, Dropped, Exchange, Fed, GivenUp, Looked, Outs}
 use Rattle.cache_run.specs.Driver.Hosting.{SettlesBy}
 use Rattle.cache_run.specs.declared.driver.host.Given.{Given}
@@ -39,11 +40,11 @@ AnswersOr load outcome moment was is =
 abbrev pub Does : ℕ → Doing → BareSpace → BareSpace → Type 0
 Does number (Fed piece moment held) was is =
     ServesEvent bare_tape was is (feeding number piece moment) held
-Does number (Answered load key outcome moment) was is =
+Does number (did.Settled (Answered load key outcome) moment) was is =
     Settled bare_tape was is (answering load outcome moment)
-Does number (GivenUp load asking moment) was is =
+Does number (did.Settled (GivenUp load asking) moment) was is =
     Settled bare_tape was is (giving_up load moment) × IsGivenUpFor (config_of was) asking.answer
-Does number (Dropped load asking moment) was is =
+Does number (did.Settled (Dropped load asking) moment) was is =
     (is ≡ was) × ((known_of was).is_under_way load ≡ false)
 Does number Looked was is = is ≡ was
 

@@ -1,5 +1,5 @@
 -- The loads of a connection's namespace, and what giving them up does.
-use Rattle.std.specs.Prelude.{◌≡◌, ◌≢◌, ℕ, List, [], ◌∷◌, ◌++◌, Some, None}
+use Rattle.std.specs.Prelude.{◌≡◌, ◌≢◌, ℕ, List, ◌++◌, Some, None}
 use Rattle.std.specs.List.{flat_map}
 use Rattle.audit_model.specs.Follows.{after_records}
 use Rattle.audit_model.specs.Situation.{Situation}
@@ -13,6 +13,7 @@ use Rattle.cache_spaces.specs.Bares.{BareSpace, bare_tape}
 use Rattle.cache_spaces.specs.Calls.{TakesLoads}
 use Rattle.cache_spaces.specs.Sound.{IsSound}
 use Rattle.cache_spaces.specs.Spaces.{closing_of, config_of, notices_of}
+use Rattle.cache_run.specs.Driver.Exchanges.{EachOut}
 use Rattle.cache_run.specs.Goes.{Goes}
 use Rattle.cache_run.specs.Happened.{AreDrops}
 
@@ -26,8 +27,7 @@ GivesLoads loads was is = IsSound bare_tape was × TakesLoads was is loads
 
 -- each of the loads that were taken was sent, and if it is under way it has the key that it was taken with
 abbrev pub AreKnown : List (LoadId × List ℕ) → Situation → Type 0
-AreKnown [] s = Unit {0}
-AreKnown (out ∷ outs) s = IsKnown out.0.number out.1 s × AreKnown outs s
+AreKnown outs s = EachOut (λ number key. IsKnown number key s) outs
 
 -- loads were given up at moment 0, and nothing else happened
 pub record OnlyGivesUp (config : Config) (s t : Situation) (before after : List Note) : Type 0 where

@@ -56,10 +56,9 @@ impl Host for Lent {
         conn: Conn,
         piece: &[u8],
         moment: u64,
-        wants_loads: bool,
     ) -> Result<Option<Given>, RunError> {
         match feed_piece(place, conn, piece, moment) {
-            Ok(held) => Ok(Some(give(place, conn, held, wants_loads))),
+            Ok(held) => Ok(Some(give(place, conn, held, true))),
             Err(error) => Err(error),
         }
     }
@@ -79,12 +78,9 @@ impl Host for Lent {
         }
     }
 
-    fn look(&mut self, place: &mut Service, conn: Conn, wants_loads: bool) -> Given {
-        give(place, conn, false, wants_loads)
-    }
-
-    fn await_ready(&mut self, place: &Service, conn: Conn) {
+    fn await_owed(&mut self, place: &mut Service, conn: Conn) -> Given {
         // No `LOAD` waits for others.
+        give(place, conn, false, true)
     }
 
     fn close(&mut self, place: &mut Service, conn: Conn) {

@@ -1,10 +1,11 @@
 -- What is asked, one after another.
-use Rattle.std.proofs.Common.{◌≡◌, ℕ, Bool, true, List, [], ◌∷◌, ◌++◌, map, Vec, Global, refl, sym, ap, ◌∙◌, append_assoc}
+use Rattle.std.proofs.Common.{◌≡◌, ◌≤◌, ℕ, Bool, true, List, arith, length, [], ◌∷◌, ◌++◌, map, Vec, Global, refl, sym, ap, ◌∙◌, append_assoc}
 use Rattle.std.proofs.lemmas.List.{append-nil, map-append}
 use Rattle.audit_model.specs.declared.input.Input.{Input}
 use Rattle.audit_laws.specs.declared.receipts.output.Output.{Output}
 use Rattle.audit_laws.specs.declared.receipts.receipt.Receipt.{Receipt}
-use Rattle.cache_serve.specs.Asked.{Asks, Grows}
+use Rattle.cache_run.specs.Driver.Exchanges.{Answered, Dropped, GivenUp, Settling}
+use Rattle.cache_serve.specs.Asked.{Asks, Grows, settling_inputs}
 use Rattle.cache_shared.specs.Seats.{Counts, SameReceipts, receipt_for, receipts_at}
 use Rattle.cache_spaces.specs.Inputs.{namespace_of}
 
@@ -36,3 +37,9 @@ asks-more n a b c xs ys p q = record {
 -- an input that was taken, by a step or a turn
 pub asks-counted : {keeps : Bool} {i : Input} {output : Output} {count later : ℕ} {a b : Lists} → Counts keeps i output count later a b → keeps ≡ true → Asks (namespace_of i) a b (i ∷ [])
 asks-counted {i = i} {output = output} counts kept = let g = counts.receipt kept in record { added = receipt_for i output g.0 ∷ []; grows = record { own = g.1.own; others = g.1.others }; asked = refl }
+
+-- one input at most for a load
+pub settling-one : (namespace moment : ℕ) (settling : Settling) → length (settling_inputs namespace moment settling) ≤ 1
+settling-one namespace moment (Answered number key outcome) = omega arith
+settling-one namespace moment (GivenUp number asking) = omega arith
+settling-one namespace moment (Dropped number asking) = omega arith

@@ -1,5 +1,5 @@
 -- The lines of a piece that was looked through up to a place.
-use Rattle.std.proofs.Common.{◌≡◌, ◌≢◌, ◌⊎◌, ◌<◌, ◌≤◌, ◌+◌, ◌-◌, ℕ, List, take, drop, length, false, slice_index, arith, ap, sym, ◌∙◌, inl, inr, refl, subst₂}
+use Rattle.std.proofs.Common.{◌≡◌, ◌≢◌, ◌⊎◌, ◌<◌, ◌≤◌, ◌+◌, ◌-◌, ℕ, List, take, drop, length, false, slice_index, arith, ap, sym, ◌∙◌, inl, inr, subst₂}
 use Rattle.std.proofs.lemmas.Bool.{cases_lt, false≢true}
 use Rattle.std.proofs.lemmas.List.{get_or-take, length-take-le, take-append-le, take-append-drop, drop-take}
 use Rattle.cache_serve.specs.Cutting.{IsLine, IsQuickToItsEnd, may_take_long}
@@ -105,12 +105,3 @@ module _ (xs : List ℕ) (start place : ℕ) (scanned : IsScanned xs start place
     ];
     quick = scanned.quick;
   }
-
--- nothing was looked at
-pub none-scanned : (xs : List ℕ) → IsScanned xs 0 0
-none-scanned xs = record {
-  begun = omega arith;
-  behind = inl refl;
-  none = λ k above under e. absurd (omega (arith, above, under));
-  quick = λ i j line under. absurd (omega (arith, under));
-}

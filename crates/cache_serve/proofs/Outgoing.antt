@@ -1,6 +1,5 @@
 -- What a connection is owed, given by a seat's host.
-use Rattle.std.proofs.Common.{ℕ, List, Some, None, refl}
-use Rattle.std.specs.Prelude.{Option, IfSome, Vec}
+use Rattle.std.proofs.Common.{ℕ, List, Some, None, refl, Option, IfSome, Vec}
 use Rattle.std.specs.List.{slice_index_or}
 use Rattle.std.specs.Option.{option_map}
 use Rattle.std.specs.declared.alloc.Global.{Global}

@@ -1,13 +1,13 @@
 -- What a driver answers for who has a seat gives what `serve` promises.
-use Rattle.std.proofs.Common.{◌≡◌, ℕ, ◌+◌, ◌≤◌, Bool, true, false, List, [], ◌∷◌, ◌++◌, length, map, Option, None, Some, refl, sym, ap, ◌∙◌, subst, arith, append_assoc, length-append, inl, inr}
-use Rattle.std.specs.Prelude.{◌≢◌, ◌⊎◌, IfErr, IfSome, MatchResult, Result, Ok, Err, Vec}
+use Rattle.std.proofs.Common.{◌≡◌, ℕ, ◌+◌, ◌≤◌, Bool, true, false, List, [], ◌∷◌, ◌++◌, length, map, Option, None, Some, refl, sym, ap, ◌∙◌, subst, arith, append_assoc, length-append, inl, inr, ◌≢◌, ◌⊎◌, IfErr, IfSome, MatchResult, Result, Ok, Err, Vec}
 use Rattle.std.specs.List.{All, flat_map}
 use Rattle.std.specs.Option.{option_map_or}
 use Rattle.std.specs.declared.alloc.Global.{Global}
 use Rattle.std.specs.Io.KnownBytes.{Consumes}
 use Rattle.std.proofs.lemmas.Grind.{flat_map-append}
-use Rattle.std.proofs.lemmas.List.{append-nil, length-map, map-append}
+use Rattle.std.proofs.lemmas.List.{append-nil, length-map}
 use Rattle.std.proofs.lemmas.List.Elements.{All-append, All-cons, All-nil}
+use Rattle.std.proofs.lemmas.List.Folds.{flat_map-map}
 use Rattle.audit_model.specs.declared.event.Outcome.{Outcome}
 use Rattle.audit_model.specs.declared.input.Conn.{Conn}
 use Rattle.audit_model.specs.declared.input.Input.TheVariants as input
@@ -18,49 +18,47 @@ use Rattle.cache_run.specs.declared.devices.errors.RunError.{RunError}
 use Rattle.cache_run.specs.declared.devices.watched.Watched.{Watched}
 use Rattle.cache_run.proofs.devices.Reading.{askings_more}
 use Rattle.cache_run.proofs.devices.Sending.{same_appends}
-use Rattle.cache_run.specs.Driver.Drives as driven
-use Rattle.cache_run.specs.Driver.Drives.{IsOfHand, Rest, Talks, asked_of, late_of, lost_of}
-use Rattle.cache_run.proofs.driver.Settled.{because-map}
-use Rattle.cache_run.proofs.driver.Whole.{comes-drives}
-use Rattle.cache_run.specs.Driver.Causes.{Because}
-use Rattle.cache_run.specs.Driver.Driven.{ClosesAfter, ComesTo, around}
-use Rattle.cache_run.specs.Driver.Ending.{outcome_by}
+use Rattle.cache_run.specs.Driver.Drives.{IsOfHand, Outside, Rest, Talks, asked_of, late_of, lost_of}
+use Rattle.cache_run.proofs.driver.Settled.{because-map, each-last}
+use Rattle.cache_run.proofs.driver.Conversing.{asking_then, underway-stopped}
+use Rattle.cache_run.specs.Driver.Causes.{Because, outcome_by}
+use Rattle.cache_run.specs.Driver.Driven.{ClosesAfter, ComesTo, Finished, Stopped, around}
+use Rattle.cache_run.specs.declared.devices.errors.RunError.TheVariants.{UsedUp}
 use Rattle.cache_run.specs.declared.driver.driving.Progress.{Progress}
 use Rattle.cache_run.specs.declared.driver.driving.Progress.TheVariants.{More, Over}
 use Rattle.cache_run.specs.declared.driver.session.Session.{Session}
 use Rattle.cache_run.specs.Driver.Exchanges as did
-use Rattle.cache_run.specs.Driver.Exchanges.{Chain, Doing, Exchange, Outs, askings_in, moments_in, pieces_in, replies_in, untaken_in}
-use Rattle.cache_serve.specs.Asked as asked
-use Rattle.cache_serve.specs.Asked.{Asks, AsksOrNot, HasAskedSome, IsOfLoad, IsShort, MayBeGivenUp, Opens, ServedInput, ServesConnection, ServesConnectionOrNot, Settling, clock_reading, closing_inputs, inputs_of, piece_bytes, settling_asking, settling_inputs, settlings_of}
+use Rattle.cache_run.specs.Driver.Exchanges.{Doing, EachOut, Exchange, Outs, Settling, askings_in, load_number, moments_in, pieces_in, settling_asking}
+use Rattle.cache_serve.specs.Asked.{Asks, AsksOrNot, HasAskedSome, IsOfLoad, IsShort, MayBeGivenUp, Opens, ServesConnection, ServesConnectionOrNot, closing_inputs, inputs_of, settling_inputs, settlings_of}
 use Rattle.cache_serve.specs.Out.{HadGoneOut}
 use Rattle.cache_serve.specs.Served.{AsksAll, BeginsOrIdles, BeginsWith, WritesAll}
 use Rattle.cache_serve.specs.Sitting as sitting
 use Rattle.cache_serve.specs.Sitting.{SeatRests, tally}
-use Rattle.cache_serve.specs.Unfit.{IsUnfit}
-use Rattle.cache_serve.specs.Written.{Serves, WritesTexts}
+use Rattle.cache_shared.specs.Events.{IsUnfit}
+use Rattle.cache_serve.specs.Written.{Serves}
 use Rattle.cache_shared.specs.declared.seat.Seat.{Seat}
 use Rattle.cache_shared.specs.declared.seat.Seating.{Ghosts as Ledgers}
 use Rattle.cache_shared.specs.Untaken.{WereUntaken}
 use Rattle.cache_spaces.specs.Spaces.{Shown}
 use Rattle.cache_serve.proofs.Asking.{asks-more, asks-none, grows-more}
-use Rattle.cache_serve.specs.Seated.{SeatCloses, SeatComes, SeatDrops, SeatOpens, Tally, WentAllOut}
-use Rattle.cache_serve.proofs.Passing.{Passed, askings-same, chain-passed, deeds_in, moments-same, of-last, pieces-same, texts-same, texts_in}
+use Rattle.cache_serve.specs.Seated.{SeatCloses, SeatComes, SeatDrops, SeatOpens, Tally}
+use Rattle.cache_serve.proofs.Passing.{Passed, chain-passed, deeds_in, texts-same, texts_in}
 
 -- ---- what was refused: a load for which the loader was asked, and nothing was asked of the service; or a piece, for which the clock told late
 
-module _ (keeps : Bool) (WentOut : ℕ → ℕ → List ℕ → Type 0) (Unfit : ℕ → Outcome → Type 0) (IsTaken : Conn → List ℕ → Type 0) (conn : Conn) where
+module _ (keeps : Bool) (WentOut : ℕ → ℕ → List ℕ → Type 0) (Unfit : Outcome → Type 0) (IsTaken : Conn → List ℕ → Type 0) (conn : Conn) where
   -- deeds at which nothing was asked, and what the clock told besides
   record Refused (moments : List ℕ) (askings : List Asking) : Type 0 where
-    deeds : List ServedInput
+    deeds : List Doing
     late : List ℕ
     inputs : flat_map (inputs_of conn) deeds ≡ []
-    bytes : flat_map piece_bytes deeds ≡ []
-    told : map clock_reading deeds ++ late ≡ moments
-    asks : flat_map asked.asks_of deeds ≡ askings
+    bytes : flat_map did.bytes_of deeds ≡ []
+    told : flat_map did.told_of deeds ++ late ≡ moments
+    asks : flat_map did.asks_of deeds ≡ askings
     few : length late ≤ 1
     short : All IsShort deeds
     out : All (IsOfLoad WentOut conn.namespace) (flat_map settlings_of deeds)
-    fit : All (MayBeGivenUp Unfit conn.namespace) (flat_map settlings_of deeds)
+    fit : All (MayBeGivenUp Unfit) (flat_map settlings_of deeds)
 
   refused-none : (late : List ℕ) → length late ≤ 1 → Refused late []
   refused-none late few = record {
@@ -73,30 +71,29 @@ module _ (keeps : Bool) (WentOut : ℕ → ℕ → List ℕ → Type 0) (Unfit :
     few = few;
     short = All-nil IsShort;
     out = All-nil (IsOfLoad WentOut conn.namespace);
-    fit = All-nil (MayBeGivenUp Unfit conn.namespace);
+    fit = All-nil (MayBeGivenUp Unfit);
   }
 
   refused-load : (load : ℕ) (asking : Asking) (moment : ℕ) → WentOut conn.namespace load asking.key → Refused (moment ∷ []) (asking ∷ [])
-  refused-load load asking moment of = let settling = asked.Dropped load asking in record {
-    deeds = asked.Settled settling moment ∷ [];
+  refused-load load asking moment of = let settling = did.Dropped load asking in record {
+    deeds = did.Settled settling moment ∷ [];
     late = [];
     inputs = refl;
     bytes = refl;
     told = refl;
     asks = refl;
     few = omega arith;
-    short = All-cons IsShort (asked.Settled settling moment) [] tt (All-nil IsShort);
+    short = All-cons IsShort (did.Settled settling moment) [] tt (All-nil IsShort);
     out = All-cons (IsOfLoad WentOut conn.namespace) settling [] of (All-nil (IsOfLoad WentOut conn.namespace));
-    fit = All-cons (MayBeGivenUp Unfit conn.namespace) settling [] tt (All-nil (MayBeGivenUp Unfit conn.namespace));
+    fit = All-cons (MayBeGivenUp Unfit) settling [] tt (All-nil (MayBeGivenUp Unfit));
   }
 
   -- it was of the last load in hand
-  refused-any : (o : Option Doing) (hand : Outs) → IfSome o (IsOfHand hand) → WentAllOut keeps WentOut Unfit IsTaken conn.namespace hand → Refused (option_map_or did.told_of o []) (option_map_or did.asks_of o [])
+  refused-any : (o : Option Doing) (hand : Outs) → IfSome o (IsOfHand hand) → EachOut (WentOut conn.namespace) hand → Refused (option_map_or did.told_of o []) (option_map_or did.asks_of o [])
   refused-any None hand of out = refused-none [] (omega arith)
   refused-any (Some (did.Fed piece moment held)) hand of out = refused-none (moment ∷ []) (omega arith)
-  refused-any (Some (did.Answered load key outcome moment)) hand of out = refused-load load (record { key = key; answer = Some outcome }) moment (of-last keeps WentOut Unfit IsTaken conn hand load key of.0 of.1 out).1
-  refused-any (Some (did.GivenUp load asking moment)) hand of out = refused-load load asking moment (of-last keeps WentOut Unfit IsTaken conn hand load asking.key of.0 of.1 out).1
-  refused-any (Some (did.Dropped load asking moment)) hand of out = refused-load load asking moment (of-last keeps WentOut Unfit IsTaken conn hand load asking.key of.0 of.1 out).1
+  refused-any (Some (did.Settled settling moment)) hand of out =
+      refused-load (load_number settling) (settling_asking settling) moment (each-last (WentOut conn.namespace) hand (load_number settling) (settling_asking settling).key of.0 of.1 out).1
   refused-any (Some did.Looked) hand of out = refused-none [] (omega arith)
 
 -- a closing came, or none
@@ -106,7 +103,7 @@ closing-some conn a b (inr one) = (true, one)
 
 -- ---- a connection, from its opening to what was dropped behind its closing
 
-module _ {H C D : Type 0} (keeps : Bool) (WentOut : ℕ → ℕ → List ℕ → Type 0) (Unfit : ℕ → Outcome → Type 0) (IsTaken : Conn → List ℕ → Type 0) (tally : H → Tally) (reads : C → ℕ → C → Type 0) (loads : D → List ℕ → Option Outcome → D → Type 0) (namespace : ℕ) (h k : H) (a b : driven.Outside C D) where
+module _ {H C D : Type 0} (keeps : Bool) (WentOut : ℕ → ℕ → List ℕ → Type 0) (Unfit : Outcome → Type 0) (IsTaken : Conn → List ℕ → Type 0) (tally : H → Tally) (reads : C → ℕ → C → Type 0) (loads : D → List ℕ → Option Outcome → D → Type 0) (namespace : ℕ) (h k : H) (a b : Outside C D) where
   abbrev Opened : ℕ → Conn → H → H → Type 0
   Opened n conn p q = SeatOpens keeps WentOut Unfit IsTaken n conn (tally p) (tally q)
 
@@ -134,52 +131,56 @@ module _ {H C D : Type 0} (keeps : Bool) (WentOut : ℕ → ℕ → List ℕ →
     closes : Closed conn stopped closed
     asks : keeps ≡ true → Asks conn.namespace (tally closed).receipts (tally k).receipts (flat_map (settling_inputs conn.namespace 0) drops)
     loaded : Askings loads asked (map settling_asking drops) b.loader
-    out : WentAllOut keeps WentOut Unfit IsTaken conn.namespace hand → All (IsOfLoad WentOut conn.namespace) drops
+    out : EachOut (WentOut conn.namespace) hand → All (IsOfLoad WentOut conn.namespace) drops
     counts : (tally k).count ≤ (tally closed).count + length drops
 
-  abbrev DroveWhole : Type 0
-  DroveWhole = driven.DrivesWhole false Opened Came Closed Dropped reads loads namespace h k a b
-
-  abbrev DrovePartly : RunError → Type 0
-  DrovePartly e = driven.DrivesPartly false Opened Came Closed Dropped reads loads namespace h k a b e
-
-  abbrev drove-whole : DroveWhole → Drove []
-  drove-whole d = let none = d.sent.1 in record {
-    conn = d.conn;
-    opened = d.opened;
-    stopped = d.closed;
+  abbrev drove-whole : (s : Session) (start m : H) → Opened namespace s.conn h start → Finished false Came Closed reads loads start a s m b → Closed s.conn m k → Drove []
+  drove-whole s start m opens f closes = let none = f.sent.1 in record {
+    conn = s.conn;
+    opened = start;
+    stopped = f.closed;
     closed = k;
-    opens = d.opens;
+    opens = opens;
     hand = [];
-    rest = d.rest;
+    rest = f.rest;
     asked = b.loader;
-    talks = d.talks;
+    talks = f.talks;
     few = omega (arith, none);
-    closes = d.closes;
-    asks = λ kept. asks-none d.conn.namespace (tally k).receipts (tally k).receipts (λ n. refl);
+    closes = f.behind k closes;
+    asks = λ kept. asks-none s.conn.namespace (tally k).receipts (tally k).receipts (λ n. refl);
     loaded = refl;
-    out = λ out. All-nil (IsOfLoad WentOut d.conn.namespace);
+    out = λ out. All-nil (IsOfLoad WentOut s.conn.namespace);
     counts = omega arith;
   }
 
-  abbrev drove-partly : (e : RunError) (d : DrovePartly e) → Drove d.drops.drops
-  drove-partly e d = record {
-    conn = d.conn;
-    opened = d.opened;
-    stopped = d.stopped;
-    closed = d.closed;
-    opens = d.opens;
-    hand = d.hand;
-    rest = d.rest;
-    asked = d.asked;
-    talks = d.talks;
-    few = d.few;
-    closes = d.closes;
-    asks = d.drops.asks;
-    loaded = subst (λ askings. Askings loads d.asked askings b.loader) d.drops.loaded d.loaded;
-    out = d.drops.out;
-    counts = d.drops.few;
+  abbrev drove-partly : (s : Session) (start m : H) (middle : D) (e : RunError) → Opened namespace s.conn h start → Stopped false Came Closed reads loads start a s m (asking_then b middle) e → (closes : ClosesAfter Closed Dropped loads (Err e) s m k middle b.loader) → Drove closes.3.drops
+  drove-partly s start m middle e opens f closes = record {
+    conn = s.conn;
+    opened = start;
+    stopped = f.stopped;
+    closed = closes.0;
+    opens = opens;
+    hand = s.taken.items;
+    rest = f.rest;
+    asked = middle;
+    talks = f.talks;
+    few = f.few;
+    closes = f.behind closes.0 closes.2;
+    asks = closes.3.asks;
+    loaded = subst (λ askings. Askings loads middle askings b.loader) closes.3.loaded closes.4;
+    out = closes.3.out;
+    counts = closes.3.few;
   }
+
+  -- whatever it came to
+  abbrev Driven : Result (Unit {0}) RunError → Type 0
+  Driven outcome = MatchResult outcome (λ x. (d : Drove []) × (d.rest.unsent ≡ [])) (λ e. (drops : List Settling) × Drove drops)
+
+  driven : (s : Session) (start m : H) (middle : D) (result : Result Progress RunError) → Opened namespace s.conn h start → ComesTo false Came Closed reads loads start a result s m (asking_then b middle) → ClosesAfter Closed Dropped loads (outcome_by result) s m k middle b.loader → Driven (outcome_by result)
+  driven s start m middle (Ok More) opens comes closes = (closes.3.drops, drove-partly s start m middle UsedUp opens (underway-stopped false Came Closed reads loads start a s m (asking_then b middle) comes) closes)
+  driven s start m middle (Ok Over) opens comes closes =
+      let f = subst (λ (l : D). Finished false Came Closed reads loads start a s m (asking_then b l)) (sym closes.1) comes in (drove-whole s start m opens f closes.0, f.sent.0)
+  driven s start m middle (Err e) opens comes closes = (closes.3.drops, drove-partly s start m middle e opens comes closes)
 
   module _ (drops : List Settling) (d : Drove drops) where
     passed : Passed keeps WentOut Unfit IsTaken d.conn (tally d.opened) d.talks.exchanges (tally d.stopped) d.hand
@@ -188,25 +189,26 @@ module _ {H C D : Type 0} (keeps : Bool) (WentOut : ℕ → ℕ → List ℕ →
     refused : Refused keeps WentOut Unfit IsTaken d.conn (late_of d.rest) (asked_of d.rest)
     refused = refused-any keeps WentOut Unfit IsTaken d.conn d.rest.refused d.hand d.talks.refused passed.hand
 
-    abbrev own : List ServedInput
+    abbrev own : List Doing
     own = deeds_in d.talks.exchanges
 
-    abbrev deeds : List ServedInput
+    abbrev deeds : List Doing
     deeds = own ++ refused.deeds
 
-    deeds-read : flat_map piece_bytes deeds ++ lost_of d.rest ≡ pieces_in d.talks.exchanges ++ lost_of d.rest
-    deeds-read =
-        ap (λ l. l ++ lost_of d.rest)
-        (flat_map-append piece_bytes own refused.deeds ∙ ap (λ l. flat_map piece_bytes own ++ l) refused.bytes ∙ append-nil (flat_map piece_bytes own) ∙ pieces-same d.talks.exchanges)
+    -- what is read of them off the exchanges, and what was refused
+    deeds-in : {A : Type 0} (f : Doing → List A) → flat_map f deeds ≡ flat_map (λ (x : Exchange). f x.doing) d.talks.exchanges ++ flat_map f refused.deeds
+    deeds-in f = flat_map-append f own refused.deeds ∙ ap (λ l. l ++ flat_map f refused.deeds) (flat_map-map f (λ (x : Exchange). x.doing) d.talks.exchanges)
 
-    deeds-told : map clock_reading deeds ++ refused.late ≡ moments_in d.talks.exchanges ++ late_of d.rest
+    deeds-read : flat_map did.bytes_of deeds ++ lost_of d.rest ≡ pieces_in d.talks.exchanges ++ lost_of d.rest
+    deeds-read = ap (λ l. l ++ lost_of d.rest) (deeds-in did.bytes_of ∙ ap (λ l. pieces_in d.talks.exchanges ++ l) refused.bytes ∙ append-nil (pieces_in d.talks.exchanges))
+
+    deeds-told : flat_map did.told_of deeds ++ refused.late ≡ moments_in d.talks.exchanges ++ late_of d.rest
     deeds-told =
-        ap (λ l. l ++ refused.late) (map-append clock_reading own refused.deeds) ∙ append_assoc (map clock_reading own) (map clock_reading refused.deeds) refused.late
-        ∙ ap (λ l. l ++ (map clock_reading refused.deeds ++ refused.late)) (moments-same d.talks.exchanges) ∙ ap (λ l. moments_in d.talks.exchanges ++ l) refused.told
+        ap (λ l. l ++ refused.late) (deeds-in did.told_of) ∙ append_assoc (moments_in d.talks.exchanges) (flat_map did.told_of refused.deeds) refused.late
+        ∙ ap (λ l. moments_in d.talks.exchanges ++ l) refused.told
 
-    deeds-asked : flat_map asked.asks_of deeds ≡ askings_in d.talks.exchanges ++ asked_of d.rest
-    deeds-asked =
-        flat_map-append asked.asks_of own refused.deeds ∙ ap (λ l. l ++ flat_map asked.asks_of refused.deeds) (askings-same d.talks.exchanges) ∙ ap (λ l. askings_in d.talks.exchanges ++ l) refused.asks
+    deeds-asked : flat_map did.asks_of deeds ≡ askings_in d.talks.exchanges ++ asked_of d.rest
+    deeds-asked = deeds-in did.asks_of ∙ ap (λ l. askings_in d.talks.exchanges ++ l) refused.asks
 
     deeds-inputs : flat_map (inputs_of d.conn) own ≡ flat_map (inputs_of d.conn) deeds
     deeds-inputs = sym (flat_map-append (inputs_of d.conn) own refused.deeds ∙ ap (λ l. flat_map (inputs_of d.conn) own ++ l) refused.inputs ∙ append-nil (flat_map (inputs_of d.conn) own))
@@ -253,9 +255,9 @@ module _ {H C D : Type 0} (keeps : Bool) (WentOut : ℕ → ℕ → List ℕ →
           read = subst (Consumes a.remaining b.remaining) (sym deeds-read) d.talks.read;
           told = subst (λ ts. Readings reads a.clock ts b.clock) (sym deeds-told) d.talks.clock;
           few = refused.few;
-          loaded = askings_more loads a.loader (flat_map asked.asks_of deeds) d.asked (map settling_asking drops) b.loader (subst (λ ks. Askings loads a.loader ks d.asked) (sym deeds-asked) d.talks.loader) d.loaded;
+          loaded = askings_more loads a.loader (flat_map did.asks_of deeds) d.asked (map settling_asking drops) b.loader (subst (λ ks. Askings loads a.loader ks d.asked) (sym deeds-asked) d.talks.loader) d.loaded;
           out = All-append (IsOfLoad WentOut n) (flat_map settlings_of deeds) drops (deeds-all (IsOfLoad WentOut n) passed.out refused.out) (d.out passed.hand);
-          fit = deeds-all (MayBeGivenUp Unfit n) passed.fit refused.fit;
+          fit = deeds-all (MayBeGivenUp Unfit) passed.fit refused.fit;
         })
 
     -- its receipts begin with that of the opening
@@ -263,15 +265,6 @@ module _ {H C D : Type 0} (keeps : Bool) (WentOut : ℕ → ℕ → List ℕ →
     begins-with kept =
         let all = asked-behind kept in
         subst (λ n. BeginsWith n (tally h).receipts (tally k).receipts d.conn) d.opens.here (record { between = (tally d.opened).receipts; opens = opened-there kept; rest = all.1.added; grows = all.1.grows })
-
-    -- the texts were the connection's replies, and were written but for the rest
-    writes-texts : WritesTexts (IsTaken d.conn) (length (texts_in d.talks.exchanges)) a.contents b.contents d.rest.unsent
-    writes-texts = record {
-      texts = texts_in d.talks.exchanges;
-      number = refl;
-      taken = passed.taken;
-      sent = record { sent = d.talks.sent; whole = d.talks.replies ∙ sym (texts-same d.talks.exchanges); wrote = d.talks.wrote };
-    }
 
     -- there is one for each input that is counted, but for those that are spared
     counted : (tally k).count ≤ (tally h).count + length (texts_in d.talks.exchanges) + (length drops + 3)
@@ -294,20 +287,20 @@ module _ {H C D : Type 0} (keeps : Bool) (WentOut : ℕ → ℕ → List ℕ →
   -- ---- the theorems
 
   -- what was asked, where receipts are kept
-  drove-asked : {X : Type 0} (result : Result X RunError) → MatchResult result (λ x. DroveWhole) DrovePartly → keeps ≡ true
-      → MatchResult result (λ x. (conn : Conn) × ServesConnection WentOut Unfit reads loads (tally h).receipts (tally k).receipts a.remaining b.remaining a.clock b.clock a.loader b.loader namespace conn [])
+  drove-asked : (outcome : Result (Unit {0}) RunError) → Driven outcome → keeps ≡ true
+      → MatchResult outcome (λ x. (conn : Conn) × ServesConnection WentOut Unfit reads loads (tally h).receipts (tally k).receipts a.remaining b.remaining a.clock b.clock a.loader b.loader namespace conn [])
       (λ e. (conn : Conn) × ServesConnectionOrNot WentOut Unfit reads loads (tally h).receipts (tally k).receipts a.remaining b.remaining a.clock b.clock a.loader b.loader namespace conn)
-  drove-asked (Ok x) d kept = (d.conn, serves-connection [] (drove-whole d) kept)
-  drove-asked (Err e) d kept = (d.conn, inl (d.drops.drops, serves-connection d.drops.drops (drove-partly e d) kept))
+  drove-asked (Ok x) d kept = (d.0.conn, serves-connection [] d.0 kept)
+  drove-asked (Err e) d kept = (d.1.conn, inl (d.0, serves-connection d.0 d.1 kept))
 
   -- what the loader was asked
-  drove-loaded : {X : Type 0} (result : Result X RunError) → MatchResult result (λ x. DroveWhole) DrovePartly → HasAskedSome loads a.loader b.loader
-  drove-loaded (Ok x) d = let all = asked-all [] (drove-whole d) in (all.0, all.1)
-  drove-loaded (Err e) d = let all = asked-all d.drops.drops (drove-partly e d) in (all.0, all.1)
+  drove-loaded : (outcome : Result (Unit {0}) RunError) → Driven outcome → HasAskedSome loads a.loader b.loader
+  drove-loaded (Ok x) d = let all = asked-all [] d.0 in (all.0, all.1)
+  drove-loaded (Err e) d = let all = asked-all d.0 d.1 in (all.0, all.1)
 
 -- what was written
-module _ {H C D X : Type 0} (keeps : Bool) (WentOut : ℕ → ℕ → List ℕ → Type 0) (Unfit : ℕ → Outcome → Type 0) (spaces : X → List Shown) (untaken : X → Conn → List ℕ) (tally : H → Tally) (reads : C → ℕ → C → Type 0) (loads : D → List ℕ → Option Outcome → D → Type 0)
-    (namespace : ℕ) (h k : H) (a b : driven.Outside C D) where
+module _ {H C D X : Type 0} (keeps : Bool) (WentOut : ℕ → ℕ → List ℕ → Type 0) (Unfit : Outcome → Type 0) (spaces : X → List Shown) (untaken : X → Conn → List ℕ) (tally : H → Tally) (reads : C → ℕ → C → Type 0) (loads : D → List ℕ → Option Outcome → D → Type 0)
+    (namespace : ℕ) (h k : H) (a b : Outside C D) where
   abbrev IsReply : Conn → List ℕ → Type 0
   IsReply conn text = ∥ WereUntaken spaces untaken conn text ∥₁
 
@@ -319,18 +312,18 @@ module _ {H C D X : Type 0} (keeps : Bool) (WentOut : ℕ → ℕ → List ℕ �
     conn = d.conn;
     here = d.opens.here;
     asked = λ kept. inl (begins-with keeps WentOut Unfit IsReply tally reads loads namespace h k a b drops d kept);
-    count = length (texts_in d.talks.exchanges);
+    texts = texts_in d.talks.exchanges;
+    taken = (passed keeps WentOut Unfit IsReply tally reads loads namespace h k a b drops d).taken;
     counted = omega (arith, few, most);
-    writes = writes-texts keeps WentOut Unfit IsReply tally reads loads namespace h k a b drops d;
+    sent = record { sent = d.talks.sent; whole = d.talks.replies ∙ sym (texts-same d.talks.exchanges); wrote = d.talks.wrote };
   }
 
-  drove-wrote : {Y : Type 0} (result : Result Y RunError) → MatchResult result (λ x. DroveWhole keeps WentOut Unfit IsReply tally reads loads namespace h k a b) (DrovePartly keeps WentOut Unfit IsReply tally reads loads namespace h k a b)
-      → MatchResult result (λ x. Wrote 3 []) (λ e. (rest : List ℕ) × (asks : List Asking) × Askings loads a.loader asks b.loader × Wrote (length asks + 3) rest)
-  drove-wrote (Ok x) d = subst (Wrote 3) d.sent.0 (wrote [] (drove-whole keeps WentOut Unfit IsReply tally reads loads namespace h k a b d) 3 (omega arith))
+  drove-wrote : (outcome : Result (Unit {0}) RunError) → Driven keeps WentOut Unfit IsReply tally reads loads namespace h k a b outcome
+      → MatchResult outcome (λ x. Wrote 3 []) (λ e. (rest : List ℕ) × (asks : List Asking) × Askings loads a.loader asks b.loader × Wrote (length asks + 3) rest)
+  drove-wrote (Ok x) d = subst (Wrote 3) d.1 (wrote [] d.0 3 (omega arith))
   drove-wrote (Err e) d =
-      let p = drove-partly keeps WentOut Unfit IsReply tally reads loads namespace h k a b e d in
-      let all = asked-all keeps WentOut Unfit IsReply tally reads loads namespace h k a b d.drops.drops p in
-      let often = all.2 in (d.rest.unsent, all.0, all.1, wrote d.drops.drops p (length all.0 + 3) (omega (arith, often)))
+      let all = asked-all keeps WentOut Unfit IsReply tally reads loads namespace h k a b d.0 d.1 in
+      let often = all.2 in (d.1.rest.unsent, all.0, all.1, wrote d.0 d.1 (length all.0 + 3) (omega (arith, often)))
 
 -- none was opened
 pub rested : {L : Type 0} {G : Ledgers L} (p q : Seat L G) → (q ≡ p) ⊎ SeatRests (tally p) (tally q) → SeatRests (tally p) (tally q)
@@ -344,9 +337,10 @@ rested-wrote keeps spaces untaken namespace h k contents rests = let same = rest
   conn = record { namespace = namespace; number = 0 };
   here = refl;
   asked = λ kept. inr rests.same;
-  count = 0;
+  texts = [];
+  taken = All-nil _;
   counted = omega (arith, same);
-  writes = record { texts = []; number = refl; taken = tt; sent = record { sent = []; whole = refl; wrote = same_appends contents } };
+  sent = record { sent = []; whole = refl; wrote = same_appends contents };
 }
 
 -- ---- what serving a connection promises
@@ -365,8 +359,7 @@ module _ {C L R W K D : Type 0} {G : Ledgers L} (spaces : C → List Shown) (unt
   attended s t start m middle ended outcome result opened same comes is closes so =
       let a = around remaining contents reader writer clock loader in
       let b = around remaining contents reader' writer' clock' loader' in
-      let drives = comes-drives false (sitting.Opens spaces untaken keeps) (sitting.Comes spaces untaken keeps) (sitting.Closes spaces untaken keeps) (sitting.Drops spaces untaken keeps) reads loads namespace p start m q a
-      (around remaining contents reader' writer' clock' middle) loader' t (subst (λ conn. sitting.Opens spaces untaken keeps namespace conn p start) (sym same) opened) ended comes
+      let drives = driven keeps (HadGoneOut spaces) IsUnfit (sitting.IsReply spaces untaken) tally reads loads namespace p q a b t start m middle ended (subst (λ conn. sitting.Opens spaces untaken keeps namespace conn p start) (sym same) opened) comes
       (subst (λ (o : Result (Unit {0}) RunError). ClosesAfter (sitting.Closes spaces untaken keeps) (sitting.Drops spaces untaken keeps) loads o t m q middle loader') is closes) in
       subst Promises (sym (so ∙ is)) (record {
         wrote = drove-wrote keeps (HadGoneOut spaces) IsUnfit spaces untaken tally reads loads namespace p q a b (outcome_by ended) drives;

@@ -1,6 +1,5 @@
 -- What a seat answers for, input by input.
-use Rattle.std.proofs.Common.{◌≡◌, ℕ, ◌+◌, ◌≤◌, Bool, true, false, List, [], ◌∷◌, ◌++◌, length, length-append, map, Option, Some, None, Result, Ok, Err, refl, sym, ap, ◌∙◌, subst, arith, inl, inr}
-use Rattle.std.specs.Prelude.{◌<◌, IfOk, IfSome, OnErr}
+use Rattle.std.proofs.Common.{◌≡◌, ℕ, Bool, true, false, List, [], ◌∷◌, ◌++◌, length, length-append, map, Option, Some, None, Result, Ok, Err, refl, sym, ap, ◌∙◌, subst, arith, inl, inr, ◌<◌, IfOk, IfSome, OnErr}
 use Rattle.std.specs.List.{flat_map, slice_index_or}
 use Rattle.std.proofs.lemmas.Grind.{flat_map-append}
 use Rattle.std.proofs.lemmas.List.{append-nil, map-append}
@@ -13,17 +12,15 @@ use Rattle.audit_model.specs.declared.input.LoadId.{LoadId}
 use Rattle.audit_laws.specs.declared.receipts.output.Output.{Output}
 use Rattle.cache_run.proofs.devices.Reading.{askings_more}
 use Rattle.cache_run.specs.Devices.Sources.{Asking, Askings}
-use Rattle.cache_run.specs.Driver.Exchanges as did
-use Rattle.cache_run.specs.Driver.Exchanges.{Doing, Outs}
+use Rattle.cache_run.specs.Driver.Exchanges.{Answered, Doing, Dropped, EachOut, GivenUp, Outs, Settled, Settling, load_number, settling_asking}
 use Rattle.cache_run.specs.Driver.Hosting.{SettlesBy, Suits, exchange_of}
 use Rattle.cache_run.specs.declared.driver.host.Given.{Given}
-use Rattle.cache_serve.specs.Asked as asked
-use Rattle.cache_serve.specs.Asked.{Asks, IsOfLoad, IsShort, MayBeGivenUp, Settling, answer_input, give_up_input, load_number, settling_asking, settling_inputs}
+use Rattle.cache_serve.specs.Asked.{Asks, IsOfLoad, MayBeGivenUp, answer_input, give_up_input, settling_inputs}
 use Rattle.cache_serve.specs.Out.{HadGoneOut}
-use Rattle.cache_serve.specs.Seated.{SeatCloses, SeatComes, SeatDrops, SeatSettles, Tally, WentAllOut}
+use Rattle.cache_serve.specs.Seated.{SeatCloses, SeatComes, SeatDrops, SeatSettles, Tally}
 use Rattle.cache_serve.specs.Sitting.{Gives, IsReply, SeatRests, SeatTakes, TakesIfGiven, asks-behind}
-use Rattle.cache_serve.specs.Unfit.{IsUnfit}
-use Rattle.cache_serve.proofs.Asking.{asks-counted, asks-more, asks-none}
+use Rattle.cache_shared.specs.Events.{IsUnfit}
+use Rattle.cache_serve.proofs.Asking.{asks-counted, asks-more, asks-none, settling-one}
 use Rattle.cache_shared.specs.Seats.{Counts, SameReceipts}
 use Rattle.cache_spaces.specs.Spaces.{Shown}
 
@@ -40,21 +37,21 @@ pub if-some-any : (o : Option Outcome) → IfSome o (λ outcome. Unit {0})
 if-some-any None = tt
 if-some-any (Some outcome) = tt
 
-fits-anyhow : (Unfit : ℕ → Outcome → Type 0) (n : ℕ) (s : Settling) → MayBeGivenUp Unfit n s → MayBeGivenUp (λ m outcome. Unit {0}) n s
-fits-anyhow Unfit n (asked.Answered number key outcome) fit = tt
-fits-anyhow Unfit n (asked.GivenUp number asking) fit = if-some-any asking.answer
-fits-anyhow Unfit n (asked.Dropped number asking) fit = tt
+fits-anyhow : (s : Settling) → MayBeGivenUp (λ outcome. Unit {0}) s
+fits-anyhow (Answered number key outcome) = tt
+fits-anyhow (GivenUp number asking) = if-some-any asking.answer
+fits-anyhow (Dropped number asking) = tt
 
-module _ {keeps : Bool} {WentOut : ℕ → ℕ → List ℕ → Type 0} {Unfit : ℕ → Outcome → Type 0} {IsTaken : Conn → List ℕ → Type 0} where
+module _ {keeps : Bool} {WentOut : ℕ → ℕ → List ℕ → Type 0} {Unfit : Outcome → Type 0} {IsTaken : Conn → List ℕ → Type 0} where
   -- an answer was taken
   pub settles-answer : {n moment number : ℕ} {h k : Tally} (key : List ℕ) {outcome : Outcome} → SeatTakes keeps (answer_input n moment number outcome) h k
       → SeatSettles keeps WentOut Unfit IsTaken n moment number (record { key = key; answer = Some outcome }) h k
-  settles-answer {n} {moment} {number} key {outcome} takes = record { settling = asked.Answered number key outcome; of = refl; numbered = refl; asks = takes.asks; counts = takes.one; fit = tt }
+  settles-answer {n} {moment} {number} key {outcome} takes = record { settling = Answered number key outcome; of = refl; numbered = refl; asks = takes.asks; counts = takes.one; fit = tt }
 
   -- nothing was taken
   pub settles-none : {n moment number : ℕ} {h k : Tally} (asking : Asking) → SeatRests h k → SeatSettles keeps WentOut Unfit IsTaken n moment number asking h k
   settles-none {n} {moment} {number} {h} {k} asking rests = let same = rests.count in record {
-    settling = asked.Dropped number asking;
+    settling = Dropped number asking;
     of = refl;
     numbered = refl;
     asks = λ kept. asks-none n h.receipts k.receipts rests.same;
@@ -63,9 +60,9 @@ module _ {keeps : Bool} {WentOut : ℕ → ℕ → List ℕ → Type 0} {Unfit :
   }
 
   -- a give-up was taken, or nothing
-  pub settles-give-up : {X E : Type 0} {n moment number : ℕ} {h k : Tally} (r : Result (Option X) E) (asking : Asking) → IfSome asking.answer (Unfit n) → TakesIfGiven keeps (give_up_input n moment number) r h k
+  pub settles-give-up : {X E : Type 0} {n moment number : ℕ} {h k : Tally} (r : Result (Option X) E) (asking : Asking) → IfSome asking.answer Unfit → TakesIfGiven keeps (give_up_input n moment number) r h k
       → SeatSettles keeps WentOut Unfit IsTaken n moment number asking h k
-  settles-give-up {number = number} (Ok (Some x)) asking unfit takes = record { settling = asked.GivenUp number asking; of = refl; numbered = refl; asks = takes.asks; counts = takes.one; fit = unfit }
+  settles-give-up {number = number} (Ok (Some x)) asking unfit takes = record { settling = GivenUp number asking; of = refl; numbered = refl; asks = takes.asks; counts = takes.one; fit = unfit }
   settles-give-up (Ok None) asking unfit takes = settles-none asking takes
   settles-give-up (Err e) asking unfit takes = settles-none asking takes
 
@@ -75,8 +72,8 @@ module _ {keeps : Bool} {WentOut : ℕ → ℕ → List ℕ → Type 0} {Unfit :
   settles-said {n} {moment} {number} {h} {k} {key} is s = subst (λ (o : Option Outcome). SeatSettles keeps WentOut Unfit IsTaken n moment number (record { key = key; answer = o }) h k) (sym is) s
 
   -- whatever the service refuses
-  pub settles-anyhow : {n moment number : ℕ} {h k : Tally} {asking : Asking} → SeatSettles keeps WentOut Unfit IsTaken n moment number asking h k → SeatSettles keeps WentOut (λ m outcome. Unit {0}) IsTaken n moment number asking h k
-  settles-anyhow {n} s = record { settling = s.settling; of = s.of; numbered = s.numbered; asks = s.asks; counts = s.counts; fit = fits-anyhow Unfit n s.settling s.fit }
+  pub settles-anyhow : {n moment number : ℕ} {h k : Tally} {asking : Asking} → SeatSettles keeps WentOut Unfit IsTaken n moment number asking h k → SeatSettles keeps WentOut (λ outcome. Unit {0}) IsTaken n moment number asking h k
+  settles-anyhow {n} s = record { settling = s.settling; of = s.of; numbered = s.numbered; asks = s.asks; counts = s.counts; fit = fits-anyhow s.settling }
 
   -- ---- loads that are dropped
 
@@ -84,15 +81,15 @@ module _ {keeps : Bool} {WentOut : ℕ → ℕ → List ℕ → Type 0} {Unfit :
   drops-none conn hand h = record { drops = []; asks = λ kept. asks-none conn.namespace h.receipts h.receipts (λ n. refl); loaded = refl; out = λ all. All-nil (IsOfLoad WentOut conn.namespace); few = omega arith; rises = omega arith }
 
   -- one more, of the loads in hand
-  pub drops-settled : {Unfit' : ℕ → Outcome → Type 0} (conn : Conn) (hand : Outs) (h m k : Tally) (askings : List Asking) (number : ℕ) (asking : Asking) → SeatDrops keeps WentOut Unfit IsTaken conn hand h askings m
-      → SeatSettles keeps WentOut Unfit' IsTaken conn.namespace 0 number asking m k → (WentAllOut keeps WentOut Unfit IsTaken conn.namespace hand → WentOut conn.namespace number asking.key)
+  pub drops-settled : {Unfit' : Outcome → Type 0} (conn : Conn) (hand : Outs) (h m k : Tally) (askings : List Asking) (number : ℕ) (asking : Asking) → SeatDrops keeps WentOut Unfit IsTaken conn hand h askings m
+      → SeatSettles keeps WentOut Unfit' IsTaken conn.namespace 0 number asking m k → (EachOut (WentOut conn.namespace) hand → WentOut conn.namespace number asking.key)
       → SeatDrops keeps WentOut Unfit IsTaken conn hand h (askings ++ asking ∷ []) k
   drops-settled conn hand h m k askings number asking d s out =
       let n = conn.namespace in
       let this = s.settling in
       let inputs = flat_map (settling_inputs n 0) d.drops in
       let all : flat_map (settling_inputs n 0) (d.drops ++ this ∷ []) ≡ inputs ++ settling_inputs n 0 this = flat_map-append (settling_inputs n 0) d.drops (this ∷ []) ∙ ap (λ l. inputs ++ l) (append-nil (settling_inputs n 0 this)) in
-      let most = settling-one n this in
+      let most = settling-one n 0 this in
       let lengths = length-append d.drops (this ∷ []) in
       let few = d.few in
       let rises = d.rises in
@@ -106,14 +103,9 @@ module _ {keeps : Bool} {WentOut : ℕ → ℕ → List ℕ → Type 0} {Unfit :
         few = omega (arith, few, counts, most, lengths);
         rises = omega (arith, rises, counts);
       }
-    where
-      settling-one : (n : ℕ) (s : Settling) → length (settling_inputs n 0 s) ≤ 1
-      settling-one n (asked.Answered number key outcome) = omega arith
-      settling-one n (asked.GivenUp number asking) = omega arith
-      settling-one n (asked.Dropped number asking) = omega arith
 
   -- several more, that had gone out
-  pub drops-more : (conn : Conn) (hand more : Outs) (h m k : Tally) (xs ys : List Asking) → SeatDrops keeps WentOut Unfit IsTaken conn hand h xs m → SeatDrops keeps WentOut Unfit IsTaken conn more m ys k → WentAllOut keeps WentOut Unfit IsTaken conn.namespace more
+  pub drops-more : (conn : Conn) (hand more : Outs) (h m k : Tally) (xs ys : List Asking) → SeatDrops keeps WentOut Unfit IsTaken conn hand h xs m → SeatDrops keeps WentOut Unfit IsTaken conn more m ys k → EachOut (WentOut conn.namespace) more
       → SeatDrops keeps WentOut Unfit IsTaken conn hand h (xs ++ ys) k
   drops-more conn hand more h m k xs ys d e out =
       let n = conn.namespace in
@@ -134,20 +126,20 @@ module _ {keeps : Bool} {WentOut : ℕ → ℕ → List ℕ → Type 0} {Unfit :
 
   module _ {D : Type 0} (loads : D → List ℕ → Option Outcome → D → Type 0) where
     -- a loader was asked for the one more
-    pub drops-each : {Unfit' : ℕ → Outcome → Type 0} (conn : Conn) (hand : Outs) (h m k : Tally) (a b d : D) (place : ℕ) (load : LoadId × List ℕ) (key : List ℕ) → place < length hand → load ≡ slice_index_or hand place load → key ≡ load.1
+    pub drops-each : {Unfit' : Outcome → Type 0} (conn : Conn) (hand : Outs) (h m k : Tally) (a b d : D) (place : ℕ) (load : LoadId × List ℕ) (key : List ℕ) → place < length hand → load ≡ slice_index_or hand place load → key ≡ load.1
         → (askings : List Asking) × SeatDrops keeps WentOut Unfit IsTaken conn hand h askings m × Askings loads a askings b
         → (said : Option Outcome) × ((key : List ℕ) → SeatSettles keeps WentOut Unfit' IsTaken conn.namespace 0 load.0.number (record { key = key; answer = said }) m k) × loads b key said d
         → (askings : List Asking) × SeatDrops keeps WentOut Unfit IsTaken conn hand h askings k × Askings loads a askings d
     drops-each conn hand h m k a b d place load key within at same dropped one =
         let asking : Asking = record { key = key; answer = one.0 } in
-        let here : WentAllOut keeps WentOut Unfit IsTaken conn.namespace hand → WentOut conn.namespace load.0.number load.1 = λ all. subst (λ (x : LoadId × List ℕ). WentOut conn.namespace x.0.number x.1) (sym at) (all place load within) in (
+        let here : EachOut (WentOut conn.namespace) hand → WentOut conn.namespace load.0.number load.1 = λ all. subst (λ (x : LoadId × List ℕ). WentOut conn.namespace x.0.number x.1) (sym at) (all place load within) in (
           dropped.0 ++ asking ∷ [],
           drops-settled conn hand h m k dropped.0 load.0.number asking dropped.1 (one.1 key) (λ all. subst (λ (x : List ℕ). WentOut conn.namespace load.0.number x) (sym same) (here all)),
           askings_more loads a dropped.0 b (asking ∷ []) d dropped.2 (d, one.2, refl),
         )
 
     -- it was asked for several more, that had gone out
-    pub drops-then : (conn : Conn) (hand more : Outs) (h m k : Tally) (a b d : D) → WentAllOut keeps WentOut Unfit IsTaken conn.namespace more
+    pub drops-then : (conn : Conn) (hand more : Outs) (h m k : Tally) (a b d : D) → EachOut (WentOut conn.namespace) more
         → (askings : List Asking) × SeatDrops keeps WentOut Unfit IsTaken conn hand h askings m × Askings loads a askings b
         → (askings : List Asking) × SeatDrops keeps WentOut Unfit IsTaken conn more m askings k × Askings loads b askings d
         → (askings : List Asking) × SeatDrops keeps WentOut Unfit IsTaken conn hand h askings k × Askings loads a askings d
@@ -155,7 +147,7 @@ module _ {keeps : Bool} {WentOut : ℕ → ℕ → List ℕ → Type 0} {Unfit :
 
 -- ---- openings and closings
 
-module _ {keeps : Bool} {WentOut : ℕ → ℕ → List ℕ → Type 0} {Unfit : ℕ → Outcome → Type 0} {IsTaken : Conn → List ℕ → Type 0} where
+module _ {keeps : Bool} {WentOut : ℕ → ℕ → List ℕ → Type 0} {Unfit : Outcome → Type 0} {IsTaken : Conn → List ℕ → Type 0} where
   -- behind what rested
   pub closes-so : {E : Type 0} (conn : Conn) {h m k : Tally} (r : Result Output E) → SeatRests h m → IfOk r (λ output. Counts keeps (input.Close conn) output m.count k.count m.receipts k.receipts) → OnErr r ((k.count ≡ m.count) × SameReceipts m.receipts k.receipts)
       → SeatCloses keeps WentOut Unfit IsTaken conn h k
@@ -172,58 +164,15 @@ module _ {keeps : Bool} {WentOut : ℕ → ℕ → List ℕ → Type 0} {Unfit :
 
 -- ---- exchanges
 
--- what a driver did where a load was settled
-abbrev done_of : ℕ → Settling → Doing
-done_of moment (asked.Answered number key outcome) = did.Answered number key outcome moment
-done_of moment (asked.GivenUp number asking) = did.GivenUp number asking moment
-done_of moment (asked.Dropped number asking) = did.Dropped number asking moment
-
-settles-by : (load moment : ℕ) (asking : Asking) (s : Settling) → settling_asking s ≡ asking → load_number s ≡ load → SettlesBy load moment asking (done_of moment s)
-settles-by load moment asking (asked.Answered number key outcome) of numbered =
-    inl (outcome, ap (λ (x : Asking). x.answer) (sym of), ap (λ n. did.Answered n key outcome moment) numbered ∙ ap (λ (x : Asking). did.Answered load x.key outcome moment) of)
-settles-by load moment asking (asked.GivenUp number said) of numbered = inr (inl (ap (λ n. did.GivenUp n said moment) numbered ∙ ap (λ x. did.GivenUp load x moment) of))
-settles-by load moment asking (asked.Dropped number said) of numbered = inr (inr (ap (λ n. did.Dropped n said moment) numbered ∙ ap (λ x. did.Dropped load x moment) of))
-
 module _ {C : Type 0} {spaces : C → List Shown} {untaken : C → Conn → List ℕ} {keeps : Bool} where
-  comes-done : {conn : Conn} {wants : Bool} {given : Given} {h k : Tally} (moment : ℕ) (s : Settling) → (keeps ≡ true → Asks conn.namespace h.receipts k.receipts (settling_inputs conn.namespace moment s)) → k.count ≡ h.count + length (settling_inputs conn.namespace moment s)
-      → MayBeGivenUp IsUnfit conn.namespace s → Gives spaces untaken conn wants given
-      → SeatComes keeps (HadGoneOut spaces) IsUnfit (IsReply spaces untaken) conn h (exchange_of (done_of moment s) given) k
-  comes-done {conn} moment (asked.Answered number key outcome) asks counts fit gives = record {
-    asks = asks;
-    counts = counts;
-    short = All-cons IsShort (asked.Settled (asked.Answered number key outcome) moment) [] tt (All-nil IsShort);
-    fit = All-cons (MayBeGivenUp IsUnfit conn.namespace) (asked.Answered number key outcome) [] fit (All-nil (MayBeGivenUp IsUnfit conn.namespace));
-    text = gives.text;
-    out = gives.out;
-  }
-  comes-done {conn} moment (asked.GivenUp number asking) asks counts fit gives = record {
-    asks = asks;
-    counts = counts;
-    short = All-cons IsShort (asked.Settled (asked.GivenUp number asking) moment) [] tt (All-nil IsShort);
-    fit = All-cons (MayBeGivenUp IsUnfit conn.namespace) (asked.GivenUp number asking) [] fit (All-nil (MayBeGivenUp IsUnfit conn.namespace));
-    text = gives.text;
-    out = gives.out;
-  }
-  comes-done {conn} moment (asked.Dropped number asking) asks counts fit gives = record {
-    asks = asks;
-    counts = counts;
-    short = All-cons IsShort (asked.Settled (asked.Dropped number asking) moment) [] tt (All-nil IsShort);
-    fit = All-cons (MayBeGivenUp IsUnfit conn.namespace) (asked.Dropped number asking) [] fit (All-nil (MayBeGivenUp IsUnfit conn.namespace));
-    text = gives.text;
-    out = gives.out;
-  }
-
   -- a load was settled
-  comes-settled : {conn : Conn} {wants : Bool} {given : Given} {h k : Tally} (load moment : ℕ) (asking : Asking) → SeatSettles keeps (HadGoneOut spaces) IsUnfit (IsReply spaces untaken) conn.namespace moment load asking h k → Gives spaces untaken conn wants given
+  pub comes-settled : {conn : Conn} {wants : Bool} {given : Given} {h k : Tally} (load moment : ℕ) (asking : Asking) → SeatSettles keeps (HadGoneOut spaces) IsUnfit (IsReply spaces untaken) conn.namespace moment load asking h k → Gives spaces untaken conn wants given
       → (doing : Doing) × SettlesBy load moment asking doing × SeatComes keeps (HadGoneOut spaces) IsUnfit (IsReply spaces untaken) conn h (exchange_of doing given) k
-  comes-settled load moment asking s gives = (done_of moment s.settling, settles-by load moment asking s.settling s.of s.numbered, comes-done moment s.settling s.asks s.counts s.fit gives)
-
-  -- so it was, if no error came
-  pub came-settled : {E : Type 0} (conn : Conn) (wants : Bool) (said : Option Outcome) (h k : Tally) (load moment : ℕ) (r : Result Given E)
-      → ((key : List ℕ) → SeatSettles keeps (HadGoneOut spaces) IsUnfit (IsReply spaces untaken) conn.namespace moment load (record { key = key; answer = said }) h k) → IfOk r (Gives spaces untaken conn wants)
-      → IfOk r (λ given. (key : List ℕ) → (doing : Doing) × SettlesBy load moment (record { key = key; answer = said }) doing × SeatComes keeps (HadGoneOut spaces) IsUnfit (IsReply spaces untaken) conn h (exchange_of doing given) k)
-  came-settled conn wants said h k load moment (Ok given) settled gives = λ key. comes-settled load moment (record { key = key; answer = said }) (settled key) gives
-  came-settled conn wants said h k load moment (Err e) settled gives = tt
+  comes-settled load moment asking s gives = (
+    Settled s.settling moment,
+    record { settling = s.settling; of = s.of; numbered = s.numbered; done = refl },
+    record { asks = s.asks; counts = s.counts; short = tt; fit = All-cons (MayBeGivenUp IsUnfit) s.settling [] s.fit (All-nil (MayBeGivenUp IsUnfit)); text = gives.text; out = gives.out },
+  )
 
 -- loads come only where they were wanted, where the service is shared
 pub suits-shared : {wants : Bool} {given : Given} → (wants ≡ false → given.loads ≡ None) → Suits false wants given

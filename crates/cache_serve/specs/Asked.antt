@@ -1,5 +1,5 @@
 -- The inputs that a seat passes to a shared service for one connection, and the requests to its loader.
-use Rattle.std.specs.Prelude.{◌≡◌, ◌≢◌, ℕ, ◌≤◌, Bool, true, List, [], ◌∷◌, ◌++◌, length, map, Option, Some, Vec, ◌⊎◌, IfSome, if◌then◌else◌}
+use Rattle.std.specs.Prelude.{◌≡◌, ◌≢◌, ℕ, ◌≤◌, Bool, List, [], ◌∷◌, ◌++◌, length, map, Option, Vec, ◌⊎◌, IfSome, if◌then◌else◌}
 use Rattle.std.specs.Io.KnownBytes.{Consumes}
 use Rattle.std.specs.List.{All, flat_map}
 use Rattle.std.specs.declared.alloc.Global.{Global}
@@ -11,28 +11,12 @@ use Rattle.audit_model.specs.declared.input.LoadId.{LoadId}
 use Rattle.audit_laws.specs.declared.receipts.output.Output.TheVariants.{Opened}
 use Rattle.audit_laws.specs.declared.receipts.receipt.Receipt.{Receipt}
 use Rattle.cache_run.specs.Devices.Sources.{Asking, Askings, Readings}
+use Rattle.cache_run.specs.Driver.Exchanges.{Answered, Doing, Dropped, Fed, GivenUp, Looked, Settled, Settling, asks_of, bytes_of, load_number, settling_asking, told_of}
 use Rattle.cache_serve.specs.Cutting.{IsShortPiece}
 use Rattle.cache_shared.specs.Seats.{SameReceipts, receipts_at}
 
--- a piece of a connection's bytes, and the moment at which it was read
-pub record Piece : Type 0 where
-  pub bytes : List ℕ
-  pub moment : ℕ
-
--- The loader was asked for the load with this number. The load was answered with what the loader returned, or given up; or nothing was
--- asked of the service, or the service refused.
-pub data Settling : Type 0 where
-  Answered : (number : ℕ) → (key : List ℕ) → (outcome : Outcome) → Settling
-  GivenUp : (number : ℕ) → (asking : Asking) → Settling
-  Dropped : (number : ℕ) → (asking : Asking) → Settling
-
--- a piece was fed, or a load was settled, when the clock read this moment
-pub data ServedInput : Type 0 where
-  Fed : (piece : Piece) → ServedInput
-  Settled : (settling : Settling) → (moment : ℕ) → ServedInput
-
-abbrev pub feed_input : Conn → Piece → Input
-feed_input conn piece = input.Feed conn piece.bytes (record { nanos = piece.moment })
+abbrev pub feed_input : Conn → List ℕ → ℕ → Input
+feed_input conn piece moment = input.Feed conn piece (record { nanos = moment })
 
 -- a load of a namespace
 abbrev pub load_id : ℕ → ℕ → LoadId
@@ -46,28 +30,16 @@ abbrev pub give_up_input : ℕ → ℕ → ℕ → Input
 give_up_input namespace moment number =
     input.GiveUp (load_id namespace number) (record { nanos = moment })
 
--- the key that the loader was asked for, and what it returned
-abbrev pub settling_asking : Settling → Asking
-settling_asking (Answered number key outcome) = record { key = key; answer = Some outcome }
-settling_asking (GivenUp number asking) = asking
-settling_asking (Dropped number asking) = asking
-
--- the load for which the loader was asked
-abbrev pub load_number : Settling → ℕ
-load_number (Answered number key outcome) = number
-load_number (GivenUp number asking) = number
-load_number (Dropped number asking) = number
-
 -- it is of a load of this namespace that had been sent, and the loader was asked for the key of that load
 abbrev pub IsOfLoad : (ℕ → ℕ → List ℕ → Type 0) → ℕ → Settling → Type 0
 IsOfLoad WentOut namespace settling =
     WentOut namespace (load_number settling) (settling_asking settling).key
 
 -- it is given up only if the loader returned nothing, or an outcome that is refused for its bytes or its time
-abbrev pub MayBeGivenUp : (ℕ → Outcome → Type 0) → ℕ → Settling → Type 0
-MayBeGivenUp Unfit namespace (Answered number key outcome) = Unit {0}
-MayBeGivenUp Unfit namespace (GivenUp number asking) = IfSome asking.answer (Unfit namespace)
-MayBeGivenUp Unfit namespace (Dropped number asking) = Unit {0}
+abbrev pub MayBeGivenUp : (Outcome → Type 0) → Settling → Type 0
+MayBeGivenUp Unfit (Answered number key outcome) = Unit {0}
+MayBeGivenUp Unfit (GivenUp number asking) = IfSome asking.answer Unfit
+MayBeGivenUp Unfit (Dropped number asking) = Unit {0}
 
 -- the inputs at a moment for a load of a namespace
 abbrev pub settling_inputs : ℕ → ℕ → Settling → List Input
@@ -77,35 +49,23 @@ settling_inputs namespace moment (GivenUp number asking) =
     give_up_input namespace moment number ∷ []
 settling_inputs namespace moment (Dropped number asking) = []
 
--- the bytes that were read for it
-abbrev pub piece_bytes : ServedInput → List ℕ
-piece_bytes (Fed piece) = piece.bytes
-piece_bytes (Settled settling moment) = []
-
 -- a piece that was fed has at most 64 lines, of which only the last may take long
-abbrev pub IsShort : ServedInput → Type 0
-IsShort (Fed piece) = IsShortPiece piece.bytes
+abbrev pub IsShort : Doing → Type 0
+IsShort (Fed piece moment held) = IsShortPiece piece
 IsShort (Settled settling moment) = Unit {0}
-
--- the clock's reading
-abbrev pub clock_reading : ServedInput → ℕ
-clock_reading (Fed piece) = piece.moment
-clock_reading (Settled settling moment) = moment
-
--- what the loader was asked
-abbrev pub asks_of : ServedInput → List Asking
-asks_of (Fed piece) = []
-asks_of (Settled settling moment) = settling_asking settling ∷ []
+IsShort Looked = Unit {0}
 
 -- the load that was settled
-abbrev pub settlings_of : ServedInput → List Settling
-settlings_of (Fed piece) = []
+abbrev pub settlings_of : Doing → List Settling
+settlings_of (Fed piece moment held) = []
 settlings_of (Settled settling moment) = settling ∷ []
+settlings_of Looked = []
 
 -- the inputs
-abbrev pub inputs_of : Conn → ServedInput → List Input
-inputs_of conn (Fed piece) = feed_input conn piece ∷ []
+abbrev pub inputs_of : Conn → Doing → List Input
+inputs_of conn (Fed piece moment held) = feed_input conn piece moment ∷ []
 inputs_of conn (Settled settling moment) = settling_inputs conn.namespace moment settling
+inputs_of conn Looked = []
 
 -- a closing, or nothing
 abbrev pub closing_inputs : Conn → Bool → List Input
@@ -139,16 +99,7 @@ module _ (namespace : ℕ) (before after : List (Vec Receipt Global)) where
     pub opened : first.output ≡ Opened conn
     pub grows : Grows (first ∷ [])
 
-  -- By the inputs at this moment for the load with this number, after this request to the loader; the load is given up only if it may be.
-  pub record Settles (keeps : Bool) (Unfit : ℕ → Outcome → Type 0) (moment number : ℕ)
-      (asking : Asking) : Type 0 where
-    pub settling : Settling
-    pub of : settling_asking settling ≡ asking
-    pub numbered : load_number settling ≡ number
-    pub asks : keeps ≡ true → Asks (settling_inputs namespace moment settling)
-    pub fit : MayBeGivenUp Unfit namespace settling
-
-module _ {K D : Type 0} (WentOut : ℕ → ℕ → List ℕ → Type 0) (Unfit : ℕ → Outcome → Type 0) (reads : K → ℕ → K → Type 0) (loads : D → List ℕ → Option Outcome → D → Type 0) (before after : List (Vec Receipt Global)) (remaining later : Option (List ℕ)) (k l : K) (d e : D) where
+module _ {K D : Type 0} (WentOut : ℕ → ℕ → List ℕ → Type 0) (Unfit : Outcome → Type 0) (reads : K → ℕ → K → Type 0) (loads : D → List ℕ → Option Outcome → D → Type 0) (before after : List (Vec Receipt Global)) (remaining later : Option (List ℕ)) (k l : K) (d e : D) where
   -- A connection of this namespace was opened, fed with what was read, except perhaps for what was read last, and closed or not. Between
   -- its pieces loads of the namespace were settled, and after the closing those of `drops`. Each of them had been sent, and the loader was
   -- asked for its key. One between the pieces is given up only if it may be. There were no other inputs.
@@ -158,7 +109,7 @@ module _ {K D : Type 0} (WentOut : ℕ → ℕ → List ℕ → Type 0) (Unfit :
     pub opened : first.output ≡ Opened conn
     pub rest : List Receipt
     pub grows : Grows namespace before after (first ∷ rest)
-    pub deeds : List ServedInput
+    pub deeds : List Doing
     pub short : All IsShort deeds
     pub closes : Bool
     pub asked : map (λ receipt. receipt.input) rest
@@ -166,12 +117,12 @@ module _ {K D : Type 0} (WentOut : ℕ → ℕ → List ℕ → Type 0) (Unfit :
         ++ flat_map (settling_inputs namespace 0) drops
     pub lost : List ℕ
     pub late : List ℕ
-    pub read : Consumes remaining later (flat_map piece_bytes deeds ++ lost)
-    pub told : Readings reads k (map clock_reading deeds ++ late) l
+    pub read : Consumes remaining later (flat_map bytes_of deeds ++ lost)
+    pub told : Readings reads k (flat_map told_of deeds ++ late) l
     pub few : length late ≤ 1
     pub loaded : Askings loads d (flat_map asks_of deeds ++ map settling_asking drops) e
     pub out : All (IsOfLoad WentOut namespace) (flat_map settlings_of deeds ++ drops)
-    pub fit : All (MayBeGivenUp Unfit namespace) (flat_map settlings_of deeds)
+    pub fit : All (MayBeGivenUp Unfit) (flat_map settlings_of deeds)
 
   -- there were no inputs, reads, readings or requests
   pub record Idles : Type 0 where

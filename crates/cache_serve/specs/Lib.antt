@@ -1,6 +1,5 @@
 pub mod Out
 pub mod Served
-pub mod Unfit
 pub mod Cutting
 pub mod Asked
 pub mod Seated

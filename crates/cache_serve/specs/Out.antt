@@ -1,7 +1,8 @@
 -- Loads that had been sent, with their keys.
 use Rattle.std.specs.Prelude.{◌≡◌, ℕ, List}
-use Rattle.std.specs.List.{All, Contains}
+use Rattle.std.specs.List.{Contains}
 use Rattle.audit_model.specs.declared.input.LoadId.{LoadId}
+use Rattle.cache_run.specs.Driver.Exchanges.{EachOut}
 use Rattle.cache_shared.specs.Untaken.{WereOut}
 use Rattle.cache_spaces.specs.Spaces.{Shown}
 
@@ -20,5 +21,4 @@ HadGoneOut spaces namespace number key = ∥ WasOut spaces namespace number key 
 
 -- each of these loads had been sent
 abbrev pub AreOut : {C : Type 0} → (C → List Shown) → ℕ → List (LoadId × List ℕ) → Type 0
-AreOut spaces namespace loads =
-    All (λ (pair : LoadId × List ℕ). HadGoneOut spaces namespace pair.0.number pair.1) loads
+AreOut spaces namespace loads = EachOut (HadGoneOut spaces namespace) loads

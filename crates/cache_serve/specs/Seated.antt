@@ -1,37 +1,21 @@
 -- What an exchange of the driver does if its host is a seat of a shared service, in terms of `serve`.
-use Rattle.std.specs.Prelude.{◌≡◌, ℕ, ◌+◌, ◌≤◌, Bool, true, List, [], ◌∷◌, length, map, IfSome, Vec}
+use Rattle.std.specs.Prelude.{◌≡◌, ℕ, ◌+◌, ◌≤◌, Bool, true, List, length, map, IfSome, Vec}
 use Rattle.std.specs.List.{All, flat_map}
 use Rattle.std.specs.declared.alloc.Global.{Global}
 use Rattle.audit_model.specs.declared.event.Outcome.{Outcome}
 use Rattle.audit_model.specs.declared.input.Conn.{Conn}
 use Rattle.audit_model.specs.declared.input.Input.TheVariants as input
-use Rattle.audit_model.specs.declared.input.LoadId.{LoadId}
 use Rattle.audit_laws.specs.declared.receipts.receipt.Receipt.{Receipt}
 use Rattle.cache_run.specs.Devices.Sources.{Asking}
-use Rattle.cache_run.specs.Driver.Exchanges.{Answered, Doing, Dropped, Exchange, Fed, GivenUp, Looked, Outs}
-use Rattle.cache_serve.specs.Asked as asked
-use Rattle.cache_serve.specs.Asked.{Asks, AsksOrNot, IsOfLoad, IsShort, MayBeGivenUp, Opens, ServedInput, Settling, inputs_of, load_number, settling_asking, settling_inputs, settlings_of}
+use Rattle.cache_run.specs.Driver.Exchanges.{EachOut, Exchange, Outs, Settling, load_number, settling_asking}
+use Rattle.cache_serve.specs.Asked.{Asks, AsksOrNot, IsOfLoad, IsShort, MayBeGivenUp, Opens, inputs_of, settling_inputs, settlings_of}
 
 -- how many inputs a seat has counted, and its receipts
 pub record Tally : Type 0 where
   pub count : ℕ
   pub receipts : List (Vec Receipt Global)
 
--- what was fed, or settled
-abbrev pub served_of : Doing → List ServedInput
-served_of (Fed piece moment held) = asked.Fed (record { bytes = piece; moment = moment }) ∷ []
-served_of (Answered load key outcome moment) =
-    asked.Settled (asked.Answered load key outcome) moment ∷ []
-served_of (GivenUp load asking moment) = asked.Settled (asked.GivenUp load asking) moment ∷ []
-served_of (Dropped load asking moment) = asked.Settled (asked.Dropped load asking) moment ∷ []
-served_of Looked = []
-
-module _ (keeps : Bool) (WentOut : ℕ → ℕ → List ℕ → Type 0) (Unfit : ℕ → Outcome → Type 0) (IsTaken : Conn → List ℕ → Type 0) where
-  -- each of these loads of a namespace had been sent, with this key
-  abbrev pub WentAllOut : ℕ → Outs → Type 0
-  WentAllOut namespace outs =
-      All (λ (out : LoadId × List ℕ). WentOut namespace out.0.number out.1) outs
-
+module _ (keeps : Bool) (WentOut : ℕ → ℕ → List ℕ → Type 0) (Unfit : Outcome → Type 0) (IsTaken : Conn → List ℕ → Type 0) where
   -- a connection was opened, and the seat counts this
   pub record SeatOpens (namespace : ℕ) (conn : Conn) (h k : Tally) : Type 0 where
     pub here : conn.namespace ≡ namespace
@@ -42,13 +26,12 @@ module _ (keeps : Bool) (WentOut : ℕ → ℕ → List ℕ → Type 0) (Unfit :
   -- the connection's replies, and the loads had been sent.
   pub record SeatComes (conn : Conn) (h : Tally) (exchange : Exchange) (k : Tally) : Type 0 where
     pub asks : keeps ≡ true → Asks conn.namespace h.receipts k.receipts
-        (flat_map (inputs_of conn) (served_of exchange.doing))
-    pub counts : k.count ≡ h.count + length (flat_map (inputs_of conn) (served_of exchange.doing))
-    pub short : All IsShort (served_of exchange.doing)
-    pub fit : All (MayBeGivenUp Unfit conn.namespace)
-        (flat_map settlings_of (served_of exchange.doing))
+        (inputs_of conn exchange.doing)
+    pub counts : k.count ≡ h.count + length (inputs_of conn exchange.doing)
+    pub short : IsShort exchange.doing
+    pub fit : All (MayBeGivenUp Unfit) (settlings_of exchange.doing)
     pub text : IfSome exchange.text (IsTaken conn)
-    pub out : IfSome exchange.loads (WentAllOut conn.namespace)
+    pub out : IfSome exchange.loads (EachOut (WentOut conn.namespace))
 
   -- At this moment the load with this number was answered with what the loader returned, or given up if it may be; or nothing was asked of
   -- the service.
@@ -60,7 +43,7 @@ module _ (keeps : Bool) (WentOut : ℕ → ℕ → List ℕ → Type 0) (Unfit :
       pub asks : keeps ≡ true
           → Asks namespace h.receipts k.receipts (settling_inputs namespace moment settling)
       pub counts : k.count ≡ h.count + length (settling_inputs namespace moment settling)
-      pub fit : MayBeGivenUp Unfit namespace settling
+      pub fit : MayBeGivenUp Unfit settling
 
   -- a closing was requested, or was refused
   pub record SeatCloses (conn : Conn) (h k : Tally) : Type 0 where
@@ -76,6 +59,6 @@ module _ (keeps : Bool) (WentOut : ℕ → ℕ → List ℕ → Type 0) (Unfit :
     pub asks : keeps ≡ true → Asks conn.namespace h.receipts k.receipts
         (flat_map (settling_inputs conn.namespace 0) drops)
     pub loaded : askings ≡ map settling_asking drops
-    pub out : WentAllOut conn.namespace hand → All (IsOfLoad WentOut conn.namespace) drops
+    pub out : EachOut (WentOut conn.namespace) hand → All (IsOfLoad WentOut conn.namespace) drops
     pub few : k.count ≤ h.count + length drops
     pub rises : h.count ≤ k.count

@@ -9,7 +9,7 @@ use Rattle.cache_run.specs.Devices.Watched.{device}
 use Rattle.cache_run.specs.declared.devices.watched.Watched.{Watched}
 use Rattle.cache_serve.specs.Asked.{Grows, Opens, ServesConnection, ServesConnectionOrNot}
 use Rattle.cache_serve.specs.Out.{HadGoneOut}
-use Rattle.cache_serve.specs.Unfit.{IsUnfit}
+use Rattle.cache_shared.specs.Events.{IsUnfit}
 use Rattle.cache_serve.specs.Written.{Serves}
 use Rattle.cache_shared.specs.Seats.{SameReceipts}
 use Rattle.cache_shared.specs.declared.seat.Seat.{Seat}

@@ -1,6 +1,6 @@
 -- What the host of a connection of a shared service guarantees, by its seat.
 use Rattle.std.proofs.Common.{◌∙◌, ap, arith, inl, inr}
-use Rattle.std.specs.Prelude.{◌≡◌, ℕ, ◌+◌, ◌≤◌, Bool, true, false, List, [], ◌∷◌, ◌++◌, Option, Some, None, IfSome, Result, Ok, Err, Vec}
+use Rattle.std.specs.Prelude.{◌≡◌, ℕ, ◌+◌, Bool, true, false, List, [], ◌∷◌, ◌++◌, Option, Some, None, IfSome, Result, Ok, Err, Vec}
 use Rattle.std.specs.Option.{option_map}
 use Rattle.std.specs.declared.alloc.Global.{Global}
 use Rattle.audit_model.specs.declared.event.Outcome.{Outcome}
@@ -16,7 +16,7 @@ use Rattle.cache_serve.specs.Asked.{Asks, AsksOrNot}
 use Rattle.cache_serve.specs.Cutting.{IsShortPiece}
 use Rattle.cache_serve.specs.Out.{AreOut, HadGoneOut}
 use Rattle.cache_serve.specs.Seated.{SeatCloses, SeatComes, SeatDrops, SeatOpens, SeatSettles, Tally}
-use Rattle.cache_serve.specs.Unfit.{IsUnfit}
+use Rattle.cache_shared.specs.Events.{IsUnfit}
 use Rattle.cache_shared.specs.Seats.{SameReceipts}
 use Rattle.cache_shared.specs.Untaken.{WereUntaken}
 use Rattle.cache_shared.specs.declared.seat.Seat.{Seat}
@@ -86,7 +86,7 @@ module _ {C : Type 0} (spaces : C → List Shown) (untaken : C → Conn → List
     -- this happened at moment 0, whatever the service refuses
     abbrev pub SettlesLate : ℕ → ℕ → Option Outcome → Seat L G → Seat L G → Type 0
     SettlesLate namespace load said p q =
-        (key : List ℕ) → SeatSettles keeps (HadGoneOut spaces) (λ n outcome. Unit {0}) IsReply namespace 0 load (record { key = key; answer = said }) (tally p) (tally q)
+        (key : List ℕ) → SeatSettles keeps (HadGoneOut spaces) (λ outcome. Unit {0}) IsReply namespace 0 load (record { key = key; answer = said }) (tally p) (tally q)
 
     -- a loader was asked for the load by this key, and it was settled like this
     abbrev pub DropsOne : {D : Type 0} → (D → List ℕ → Option Outcome → D → Type 0) → ℕ → ℕ → List ℕ
@@ -121,7 +121,7 @@ or-behind n a b c i same (inr one) = inr (asks-behind same one)
 
 -- a closing after an exchange without input
 pub closes-behind : {keeps : Bool} {WentOut : ℕ → ℕ → List ℕ → Type 0}
-    {Unfit : ℕ → Outcome → Type 0} {IsTaken : Conn → List ℕ → Type 0} (conn : Conn) (h m k : Tally)
+    {Unfit : Outcome → Type 0} {IsTaken : Conn → List ℕ → Type 0} (conn : Conn) (h m k : Tally)
     → SeatRests h m → SeatCloses keeps WentOut Unfit IsTaken conn m k
     → SeatCloses keeps WentOut Unfit IsTaken conn h k
 closes-behind conn h m k rests closes =

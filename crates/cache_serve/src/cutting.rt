@@ -8,36 +8,12 @@ const MOST_LINES: usize = 64;
 /// After more reply bytes than this, only one line is passed on.
 const MANY_BYTES: usize = 65536;
 
-/// How many reply bytes were sent since something was passed on.
-#[derive(Drop)]
-pub struct Pace {
-    replied: usize,
-}
-
-impl Pace {
-    /// No bytes were sent.
-    pub fn new() -> Pace {
-        Pace { replied: 0 }
-    }
-
-    /// Counts reply bytes that were sent.
-    pub fn note(&mut self, sent: usize) {
-        self.replied = self.replied.saturating_add(sent);
-    }
-
-    /// Returns how many lines are passed on next at most; from then on reply bytes are counted from 0 again.
-    pub fn next_lines(&mut self) -> usize
-        ensures some { 0 < result }
-        ensures few { result ≤ 64 }
-    {
-        let lines = if self.replied > MANY_BYTES {
-            1
-        } else {
-            MOST_LINES
-        };
-        self.replied = 0;
-        lines
-    }
+/// Returns how many lines are passed on next at most, after this many reply bytes.
+pub fn lines_after(replied: usize) -> usize
+    ensures some { 0 < result }
+    ensures few { result ≤ 64 }
+{
+    if replied > MANY_BYTES { 1 } else { MOST_LINES }
 }
 
 /// Whether a line may go over all values: a `KEYS`, `SYNC`, `CLEAR` or `DROPIF`.

@@ -1,9 +1,9 @@
 //! A thread for each connection.
 
-use crate::devices::{Devices, Teller};
+use crate::devices::Devices;
 use crate::serving::serve_and_tell;
 use crate::workers::Workers;
-use cache_run::{Clock, Loader, Watched};
+use cache_run::Watched;
 use cache_shared::{Seat, Seating, Shareable, SharedService};
 use std::alloc::Global;
 use std::net::{TcpListener, TcpStream};
@@ -20,43 +20,6 @@ pub struct Hosted<L: Seating> {
     /// Whether it ended early: an accept failed while nobody was connected, and not for lack of descriptors or memory, or there was no
     /// memory to begin with.
     pub failed: bool,
-}
-
-/// What one connection is served with.
-#[derive(Drop)]
-struct Work<L: Seating, C: Shareable, K: Clock + Drop, D: Loader + Drop, T: Teller> {
-    shared: SharedService<L, C>,
-    seat: Seat<L>,
-    namespace: u64,
-    devices: (K, D, T),
-    stream: TcpStream,
-}
-
-impl<L: Seating, C: Shareable, K: Clock + Drop, D: Loader + Drop, T: Teller> Work<L, C, K, D, T> {
-    /// Serves the connection, and returns the seat.
-    fn attend(self, rt: &impl Wait, alloc: Global) -> Seat<L> {
-        let Work {
-            shared,
-            mut seat,
-            namespace,
-            devices,
-            stream,
-        } = self;
-        let (mut clock, mut loader, mut teller) = devices;
-        let _ = serve_and_tell(
-            rt,
-            alloc,
-            &shared,
-            &mut seat,
-            namespace,
-            &mut Watched::new(&stream),
-            &mut Watched::new(&stream),
-            &mut clock,
-            &mut loader,
-            &mut teller,
-        );
-        seat
-    }
 }
 
 /// Serves the connections that a listener accepts as connections of this namespace, by `serve_and_tell`, each on a thread of its own with
@@ -133,15 +96,21 @@ where
     let Some(seat) = workers.take_seat(&rt, &shared) else {
         return;
     };
-    let work = Work {
-        shared,
-        seat,
-        namespace,
-        devices,
-        stream,
-    };
     let spawned = thread::spawn(&rt, move || {
-        let seat = work.attend(&rt, alloc);
+        let (mut clock, mut loader, mut teller) = devices;
+        let mut seat = seat;
+        let _ = serve_and_tell(
+            &rt,
+            alloc,
+            &shared,
+            &mut seat,
+            namespace,
+            &mut Watched::new(&stream),
+            &mut Watched::new(&stream),
+            &mut clock,
+            &mut loader,
+            &mut teller,
+        );
         done.tell(&rt, place);
         seat
     });

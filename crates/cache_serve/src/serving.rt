@@ -8,21 +8,11 @@ ghost use Rattle.cache_serve.specs.Served.{AsksAll, WritesAll};
 
 use crate::devices::{Teller, Untold};
 use crate::sitting::Sitting;
-use audit_model::Note;
 use cache_run::{Clock, Loader, Progress, RunError, Watched, close, converse, open, outcome_of};
 use cache_shared::{Seat, Seating, Shareable, SharedService};
-use std::alloc::{AllocError, Global};
+use std::alloc::Global;
 use std::io::{Read, Write};
 use std::sync::Wait;
-
-/// The maximum number of notes that are taken at once.
-const NOTES_AT_ONCE: usize = 64;
-
-/// Room for the notes that are taken at once; none if none are reported.
-fn room_for_notes<T: Teller>(alloc: Global, teller: &T) -> Result<Vec<Note>, AllocError> {
-    let room = if teller.is_told() { NOTES_AT_ONCE } else { 0 };
-    Vec::with_capacity(alloc, room)
-}
 
 /// Whether a driver's turns were used up, so that it is called again.
 fn is_more(ended: &Result<Progress, RunError>) -> bool
@@ -126,11 +116,10 @@ pub fn serve_and_tell<
     ensures moment { IsErrOf result RunError.Moment → HasToldLate K.reads clock.new }
     ensures loader { HasAskedSome D.loads loader.old loader.new }
 {
-    let notes = match room_for_notes(alloc, teller) {
-        Ok(notes) => notes,
+    let mut sitting = match Sitting::new(rt, alloc, shared, teller) {
+        Ok(sitting) => sitting,
         Err(_) => return Err(RunError::OutOfMemory),
     };
-    let mut sitting = Sitting::new(rt, alloc, shared, teller, notes);
     let mut session = match open(&mut sitting, seat, alloc, namespace) {
         Ok(session) => session,
         Err(error) => return Err(error),

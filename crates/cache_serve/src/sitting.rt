@@ -1,16 +1,14 @@
 //! The host of a connection that has a seat of a shared service.
 ghost use Rattle.std.specs.Prelude.{◌≡◌, ◌≤◌, ◌^◌, true, false, IfOk, IfErr, IfSome, OnOk, OnErr};
-ghost use Rattle.std.specs.Option.{option_map};
 ghost use Rattle.audit_model.specs.declared.input.Conn.{Conn};
 ghost use Rattle.cache_run.specs.Driver.Hosting.{Stops};
-ghost use Rattle.cache_serve.specs.Asked.{feed_input, give_up_input};
-ghost use Rattle.cache_serve.specs.Out.{AreOut};
+ghost use Rattle.cache_serve.specs.Asked.{give_up_input};
 ghost use Rattle.cache_serve.specs.Cutting.{IsShortPiece};
-ghost use Rattle.cache_serve.specs.Sitting.{Closes, Comes, Drops, DropsBy, DropsOne, Gives, Opens, SeatRests, SeatTakes, Settles, SettlesLate, TakesIfGiven, closes-behind, none-short, tally};
+ghost use Rattle.cache_serve.specs.Sitting.{Closes, Comes, Drops, DropsBy, DropsOne, Gives, Opens, SeatRests, SeatTakes, Settles, TakesIfGiven, closes-behind, none-short, tally};
 ghost use Rattle.cache_shared.specs.Events.{IsLate, IsUnfitAnswer, is_of_outcome};
 ghost use Rattle.cache_shared.specs.Looked.{Owes};
 
-use crate::cutting::{Pace, length_of_cut};
+use crate::cutting::{length_of_cut, lines_after};
 use crate::devices::Teller;
 use crate::errors::error_of_refusal;
 use crate::pausing::pause;
@@ -18,10 +16,14 @@ use audit_model::{Bytes, Conn, Input, Instant, LoadId, Note, Outcome, Seq, Servi
 use cache_run::{Given, Host, Loader, RunError};
 use cache_shared::{Owed, Seat, Seating, Shareable, SharedService, Turn};
 use cache_spaces::{Output, Refusal};
-use std::alloc::Global;
+use std::alloc::{AllocError, Global};
 use std::sync::Wait;
 
-/// What a connection is served with, apart from its seat: the service, who receives notes, and room for them.
+/// The maximum number of notes that are taken at once.
+const NOTES_AT_ONCE: usize = 64;
+
+/// What a connection is served with, apart from its seat: the service, who receives notes, and room for them; and how many reply bytes were
+/// sent since something was passed on.
 #[derive(Drop)]
 pub struct Sitting<'a, L: Seating, C: Shareable, T: Teller, R: Wait> {
     rt: &'a R,
@@ -29,26 +31,27 @@ pub struct Sitting<'a, L: Seating, C: Shareable, T: Teller, R: Wait> {
     shared: &'a SharedService<L, C>,
     teller: &'a mut T,
     notes: Vec<Note>,
-    pace: Pace,
+    replied: usize,
 }
 
 impl<'a, L: Seating, C: Shareable, T: Teller, R: Wait> Sitting<'a, L, C, T, R> {
-    /// What a connection is served with, with room for notes.
+    /// What a connection is served with, with room for notes if they are received.
     pub fn new(
         rt: &'a R,
         alloc: Global,
         shared: &'a SharedService<L, C>,
         teller: &'a mut T,
-        notes: Vec<Note>,
-    ) -> Self {
-        Sitting {
+    ) -> Result<Self, AllocError> {
+        let room = if teller.is_told() { NOTES_AT_ONCE } else { 0 };
+        let notes = Vec::with_capacity(alloc, room)?;
+        Ok(Sitting {
             rt,
             alloc,
             shared,
             teller,
             notes,
-            pace: Pace::new(),
-        }
+            replied: 0,
+        })
     }
 }
 
@@ -82,9 +85,8 @@ impl<L: Seating, C: Shareable, T: Teller, R: Wait> Sitting<'_, L, C, T, R> {
             closing,
             waits,
         } = owed;
-        match &replies {
-            Some(text) => self.pace.note(text.len()),
-            None => {}
+        if let Some(text) = &replies {
+            self.replied = self.replied.saturating_add(text.len());
         }
         Given {
             held,
@@ -118,11 +120,7 @@ impl<L: Seating, C: Shareable, T: Teller, R: Wait> Sitting<'_, L, C, T, R> {
         };
         self.tell_notes(conn.namespace);
         let Turn { output, owed } = turn;
-        let held = match output {
-            Output::Held => true,
-            _ => false,
-        };
-        Ok(self.give(owed, held, wants_loads))
+        Ok(self.give(owed, matches!(output, Output::Held), wants_loads))
     }
 
     /// What a connection is owed; notes are reported.
@@ -217,20 +215,8 @@ impl<L: Seating, C: Shareable, T: Teller, R: Wait> Sitting<'_, L, C, T, R> {
         }
     }
 
-    /// Settles a load of a connection that has closed, at moment 0, which counts as the latest. An answer that is refused is followed by a
-    /// give-up.
-    fn settle_late(&mut self, seat: &mut Seat<L>, conn: Conn, load: u64, said: Option<Outcome>)
-        ensures { SettlesLate C.spaces C.untaken C.KEEPS conn.namespace load said seat.old
-            seat.new }
-    {
-        match self.settle_load(seat, conn, load, said, 0, false) {
-            Ok(_) => return,
-            Err(_) => {}
-        }
-        let _ = self.give_up(seat, conn, load, 0, false);
-    }
-
-    /// Asks the loader for a load of a connection that has closed, and settles it.
+    /// Asks the loader for a load of a connection that has closed, and settles it at moment 0, which counts as the latest. An answer that is
+    /// refused is followed by a give-up.
     fn drop_load<D: Loader>(
         &mut self,
         seat: &mut Seat<L>,
@@ -243,7 +229,11 @@ impl<L: Seating, C: Shareable, T: Teller, R: Wait> Sitting<'_, L, C, T, R> {
             seat.old seat.new loader.old loader.new }
     {
         let said = loader.load(key);
-        self.settle_late(seat, conn, load, said);
+        match self.settle_load(seat, conn, load, said, 0, false) {
+            Ok(_) => return,
+            Err(_) => {}
+        }
+        let _ = self.give_up(seat, conn, load, 0, false);
     }
 
     /// Asks the loader for loads of a connection that has closed, the last first, and settles them.
@@ -260,123 +250,6 @@ impl<L: Seating, C: Shareable, T: Teller, R: Wait> Sitting<'_, L, C, T, R> {
         for place in 0..loads.len() {
             let (load, key) = &loads[loads.len() - 1 - place];
             self.drop_load(seat, conn, load.number, key.as_slice(), loader);
-        }
-    }
-
-    /// Takes the loads of a connection's namespace that have gone out.
-    fn take_loads(&mut self, conn: Conn) -> Option<Vec<(LoadId, Bytes)>>
-        ensures { IfSome (option_map (λ loads. loads.items) result)
-            (AreOut C.spaces conn.namespace) }
-    {
-        let Given { loads, .. } = self.take_owed(conn, true);
-        loads
-    }
-
-    /// Opens a connection of a namespace.
-    fn open_connection(&mut self, seat: &mut Seat<L>, namespace: u64) -> Result<Conn, RunError>
-        ensures opens { IfOk result
-            (λ conn. Opens C.spaces C.untaken C.KEEPS namespace conn seat.old seat.new) }
-        ensures rests { OnErr result (SeatRests (tally seat.old) (tally seat.new)) }
-        ensures why { IfErr result (Stops (Unit {0}) ⊥) }
-    {
-        match self.shared.step(self.rt, seat, Input::Open { namespace }) {
-            Ok(Output::Opened { conn }) => Ok(conn),
-            Ok(_) => unreachable!(),
-            Err(Refusal { error, .. }) => Err(error_of_refusal(error)),
-        }
-    }
-
-    /// Feeds a piece. `None` if the connection had closed.
-    fn feed_piece(
-        &mut self,
-        seat: &mut Seat<L>,
-        conn: Conn,
-        piece: &[u8],
-        moment: u64,
-        wants_loads: bool,
-    ) -> Result<Option<Given>, RunError>
-        ensures taken { TakesIfGiven C.KEEPS
-            (feed_input conn (record { bytes = piece.now; moment = moment })) result
-            (tally seat.old) (tally seat.new) }
-        ensures given { IfOk result
-            (λ given. IfSome given (Gives C.spaces C.untaken conn wants_loads)) }
-        ensures why { IfErr result (Stops (Unit {0}) (2 ^ 63 ≤ moment)) }
-    {
-        let Ok(copy) = Vec::from_slice(self.alloc, piece) else {
-            return Err(RunError::OutOfMemory);
-        };
-        let input = Input::Feed {
-            conn,
-            piece: Seq::from_vec(copy),
-            moment: Instant { nanos: moment },
-        };
-        match self.ask(seat, conn, input, wants_loads) {
-            Ok(given) => Ok(Some(given)),
-            Err(ServiceError::Closed) => Ok(None),
-            Err(error) => Err(error_of_refusal(error)),
-        }
-    }
-
-    /// Settles a load by what the loader returned, and gives what the connection is owed then.
-    fn settle_and_look(
-        &mut self,
-        seat: &mut Seat<L>,
-        conn: Conn,
-        load: u64,
-        said: Option<Outcome>,
-        moment: u64,
-        wants_loads: bool,
-    ) -> Result<Given, RunError>
-        ensures settled { Settles C.spaces C.untaken C.KEEPS conn.namespace load said
-            moment seat.old seat.new }
-        ensures rests { OnErr result (SeatRests (tally seat.old) (tally seat.new)) }
-        ensures given { IfOk result (Gives C.spaces C.untaken conn wants_loads) }
-        ensures why { IfErr result (Stops (Unit {0}) (2 ^ 63 ≤ moment)) }
-    {
-        match self.settle_load(seat, conn, load, said, moment, wants_loads) {
-            Ok(Some(given)) => Ok(given),
-            Ok(None) => Ok(self.take_owed(conn, wants_loads)),
-            Err(error) => Err(error),
-        }
-    }
-
-    /// Closes a connection, unless it has closed. If that is refused for memory, it is tried again.
-    fn close_if_open(&mut self, seat: &mut Seat<L>, conn: Conn)
-        ensures { Closes C.spaces C.untaken C.KEEPS conn seat.old seat.new }
-    {
-        for _try in 0..u64::MAX {
-            match self.shared.step(self.rt, seat, Input::Close { conn }) {
-                Err(
-                    Refusal {
-                        error: ServiceError::OutOfMemory,
-                        ..
-                    },
-                ) => pause(self.rt),
-                _ => return,
-            }
-        }
-    }
-
-    /// Drops the loads in hand of a connection that has closed, and those that go out in the meantime.
-    fn drop_all<D: Loader>(
-        &mut self,
-        seat: &mut Seat<L>,
-        conn: Conn,
-        hand: &[(LoadId, Bytes)],
-        loader: &mut D,
-    )
-        ensures { DropsBy C.spaces C.untaken C.KEEPS D.loads conn hand.now seat.old
-            seat.new loader.old loader.new }
-    {
-        self.drop_each(seat, conn, hand, loader);
-        for _turn in 0..u64::MAX {
-            let Some(loads) = self.take_loads(conn) else {
-                return;
-            };
-            if loads.is_empty() {
-                return;
-            }
-            self.drop_each(seat, conn, loads.as_slice(), loader);
         }
     }
 }
@@ -405,11 +278,17 @@ impl<L: Seating, C: Shareable, T: Teller, R: Wait> Host for Sitting<'_, L, C, T,
     ghost drops = { Drops C.spaces C.untaken C.KEEPS };
 
     fn open(&mut self, place: &mut Seat<L>, namespace: u64) -> Result<Conn, RunError> {
-        self.open_connection(place, namespace)
+        match self.shared.step(self.rt, place, Input::Open { namespace }) {
+            Ok(Output::Opened { conn }) => Ok(conn),
+            Ok(_) => unreachable!(),
+            Err(Refusal { error, .. }) => Err(error_of_refusal(error)),
+        }
     }
 
     fn cut(&mut self, bytes: &[u8]) -> usize {
-        length_of_cut(bytes, self.pace.next_lines())
+        let lines = lines_after(self.replied);
+        self.replied = 0;
+        length_of_cut(bytes, lines)
     }
 
     fn feed(
@@ -418,9 +297,20 @@ impl<L: Seating, C: Shareable, T: Teller, R: Wait> Host for Sitting<'_, L, C, T,
         conn: Conn,
         piece: &[u8],
         moment: u64,
-        wants_loads: bool,
     ) -> Result<Option<Given>, RunError> {
-        self.feed_piece(place, conn, piece, moment, wants_loads)
+        let Ok(copy) = Vec::from_slice(self.alloc, piece) else {
+            return Err(RunError::OutOfMemory);
+        };
+        let input = Input::Feed {
+            conn,
+            piece: Seq::from_vec(copy),
+            moment: Instant { nanos: moment },
+        };
+        match self.ask(place, conn, input, true) {
+            Ok(given) => Ok(Some(given)),
+            Err(ServiceError::Closed) => Ok(None),
+            Err(error) => Err(error_of_refusal(error)),
+        }
     }
 
     fn settle(
@@ -432,19 +322,30 @@ impl<L: Seating, C: Shareable, T: Teller, R: Wait> Host for Sitting<'_, L, C, T,
         moment: u64,
         wants_loads: bool,
     ) -> Result<Given, RunError> {
-        self.settle_and_look(place, conn, load, said, moment, wants_loads)
+        match self.settle_load(place, conn, load, said, moment, wants_loads)? {
+            Some(given) => Ok(given),
+            None => Ok(self.take_owed(conn, wants_loads)),
+        }
     }
 
-    fn look(&mut self, place: &mut Seat<L>, conn: Conn, wants_loads: bool) -> Given {
-        self.take_owed(conn, wants_loads)
-    }
-
-    fn await_ready(&mut self, place: &Seat<L>, conn: Conn) {
+    fn await_owed(&mut self, place: &mut Seat<L>, conn: Conn) -> Given {
         self.shared.await_ready(self.rt, place, conn);
+        self.take_owed(conn, true)
     }
 
     fn close(&mut self, place: &mut Seat<L>, conn: Conn) {
-        self.close_if_open(place, conn);
+        // A closing that is refused for memory is tried again.
+        for _try in 0..u64::MAX {
+            match self.shared.step(self.rt, place, Input::Close { conn }) {
+                Err(
+                    Refusal {
+                        error: ServiceError::OutOfMemory,
+                        ..
+                    },
+                ) => pause(self.rt),
+                _ => return,
+            }
+        }
     }
 
     fn drop_loads<D: Loader>(
@@ -454,7 +355,17 @@ impl<L: Seating, C: Shareable, T: Teller, R: Wait> Host for Sitting<'_, L, C, T,
         hand: &[(LoadId, Bytes)],
         loader: &mut D,
     ) {
-        self.drop_all(place, conn, hand, loader);
+        self.drop_each(place, conn, hand, loader);
+        for _turn in 0..u64::MAX {
+            let Given { loads, .. } = self.take_owed(conn, true);
+            let Some(loads) = loads else {
+                return;
+            };
+            if loads.is_empty() {
+                return;
+            }
+            self.drop_each(place, conn, loads.as_slice(), loader);
+        }
     }
 
     ghost fits_none = { none-short };

@@ -75,10 +75,7 @@ fn is_of_client(kind: ErrorKind) -> bool {
 /// Whether an accept failed for lack of memory (12, 105) or of descriptors, of the process or of the machine (24, 23), by the numbers of
 /// Linux.
 fn is_of_want(error: &io::Error) -> bool {
-    match error.raw_os_error() {
-        Some(code) => code == 12 || code == 23 || code == 24 || code == 105,
-        None => false,
-    }
+    matches!(error.raw_os_error(), Some(12 | 23 | 24 | 105))
 }
 
 /// Threads that serve a connection each, by their places, and the seats that no thread has.
@@ -115,10 +112,7 @@ impl<L: Seating + Send + Sync + 'static> Workers<L> {
         rt: &impl Wait,
         shared: &SharedService<L, C>,
     ) -> Option<Seat<L>> {
-        match self.seats.pop() {
-            Some(seat) => Some(seat),
-            None => shared.seat(rt).ok(),
-        }
+        self.seats.pop().or_else(|| shared.seat(rt).ok())
     }
 
     /// Adds a thread, at the place that `reserve` returned last.

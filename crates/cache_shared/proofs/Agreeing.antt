@@ -1,11 +1,29 @@
--- One namespace more.
-use Rattle.std.proofs.Common.{◌≡◌, ◌⊎◌, inl, inr, ℕ, ◌+◌, ◌<◌, ◌≤◌, List, length, Some, Vec, Global, arith, subst, sym, ap, ◌∙◌}
+-- Receipts that stand in the journals, each of whose records has one.
+use Rattle.std.proofs.Common.{◌≡◌, ℕ, ◌+◌, ◌<◌, List, Bool, arith, ap, cond, subst, ◌⊎◌, inl, inr, ◌≤◌, length, Some, Vec, Global, sym, ◌∙◌}
+use Rattle.audit_laws.specs.declared.receipts.receipt.Receipt.{Receipt}
+use Rattle.cache_shared.specs.Marks.{marks, AllMarked}
+use Rattle.cache_shared.specs.Seats.{holders, EachOnce, Agree, AgreeBelow, AgreeAll, receipts_at}
 use Rattle.std.specs.List.{slice_get}
 use Rattle.std.proofs.Math.Nat.{eq-or-lt_of_le}
 use Rattle.std.proofs.lemmas.Option.{slice_get_within, same_Some}
 use Rattle.audit_model.specs.declared.transcript.Transcript.{Transcript}
-use Rattle.audit_laws.specs.declared.receipts.receipt.Receipt.{Receipt}
-use Rattle.cache_shared.specs.Seats.{Agree, AgreeBelow, AgreeAll, receipts_at}
+
+module _ {X : Type 0} where
+  -- where each place is marked once, each number stands in one receipt
+  pub once_of : (own : X → List Receipt) (n : ℕ) (seats : List X) (old new : List Bool) → ((k : ℕ) → k < n → marks old k ≡ 0)
+      → ((k : ℕ) → k < n → marks new k ≡ marks old k + holders own (k + 1) seats) → AllMarked new n → EachOnce own n seats
+  once_of own n seats old new zero sum all = record {
+    at = λ k lt.
+        let z = zero k lt in
+        let s = sum k lt in
+        let one : marks new k ≡ 1 = ap (λ b. cond b 1 0) (all k lt) in
+        omega (arith, z, s, one);
+  }
+
+  pub once_count : (own : X → List Receipt) (n m : ℕ) (seats : List X) → n ≡ m → EachOnce own n seats → EachOnce own m seats
+  once_count own n m seats e once = subst (λ k. EachOnce own k seats) e once
+
+-- ---- one namespace more
 
 module _ {X : Type 0} where
   pub agree-more : (n : ℕ) (journals : List Transcript) (lists : X → List (Vec Receipt Global)) (seats : List X) (journal : Transcript)

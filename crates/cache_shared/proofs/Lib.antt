@@ -1,11 +1,5 @@
-pub mod Coming
-pub mod Agreeing
-mod Counted
 pub mod Keeping
-pub mod Looking
-pub mod Marked
+pub mod Agreeing
 mod Moving
 pub mod Performing
-mod Recording
-mod Standing
-mod Unfitting
+mod Stepping

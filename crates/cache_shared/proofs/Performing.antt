@@ -1,48 +1,43 @@
--- What a service does with an input, as its namespaces are seen whatever their tapes are.
-use Rattle.std.proofs.Common.{◌≡◌, ℕ, ◌+◌, ◌≤◌, Bool, true, false, List, [], length, length-append, map, Option, Some, eqb, refl, sym, ap, ◌∙◌, subst, arith, rules, inl, inr, Vec, Global}
-use Rattle.std.specs.Prelude.{slice_set, Result, Ok, Err, OnOk, OnErr, IfOk, IfErr, if◌then◌else◌}
-use Rattle.std.specs.Option.{option_map_or}
+-- What a service does with an input and with what is taken of it, as its namespaces are seen whatever their tapes are.
+use Rattle.std.proofs.Common.{◌≡◌, ℕ, ◌+◌, ◌≤◌, Bool, true, false, List, [], length, length-append, map, Option, Some, refl, sym, ap, ◌∙◌, subst, arith, inl, inr, Vec, Global, ◌++◌, None}
+use Rattle.std.specs.Prelude.{slice_set, Result, Ok, Err, OnOk, OnErr, IfOk, IfErr, if◌then◌else◌, IsNone}
+use Rattle.std.specs.Option.{option_map_or, option_to_list}
 use Rattle.std.proofs.Math.Logic.{∥∥₁_map}
 use Rattle.std.proofs.lemmas.List.{length-map, map-set}
 use Rattle.std.proofs.lemmas.Option.{same_Some, slice_get_within}
+use Rattle.std.proofs.lemmas.Bool.{eq-eqb}
 use Rattle.audit_model.specs.declared.config.Config.{Config}
 use Rattle.audit_model.specs.declared.event.Instant.{Instant}
 use Rattle.audit_model.specs.declared.input.Input.{Input}
 use Rattle.audit_model.specs.declared.input.LoadId.{LoadId}
 use Rattle.audit_model.specs.declared.input.ServiceError.{ServiceError}
-use Rattle.audit_model.specs.declared.input.ServiceError.TheVariants as error
 use Rattle.audit_model.specs.declared.transcript.Record.{Record}
 use Rattle.audit_model.specs.declared.transcript.Transcript.{Transcript}
 use Rattle.audit_laws.specs.declared.receipts.output.Output.{Output}
 use Rattle.cache_core.proofs.connections.Getting.{found-at, set-same}
-use Rattle.cache_spaces.proofs.Counting.{count-empty, count-more}
 use Rattle.cache_spaces.proofs.Journaling.{journal-at, mapped}
 use Rattle.cache_spaces.proofs.Placing.{at-is}
-use Rattle.cache_spaces.proofs.Reaching.{reached-none, reached-shown}
+use Rattle.cache_spaces.proofs.Reaching.{count-empty, count-more, reached-none, reached-shown}
 use Rattle.cache_spaces.proofs.Showing.{at-shown, in-shown, performs-shown, refused-shown, refuses-shown}
 use Rattle.cache_shared.specs.Untaken.{RefusesCopy}
 use Rattle.cache_spaces.specs.Bares.{BareSpace, bare_tape}
-use Rattle.cache_spaces.specs.Calls.{At, InSpace, IsOpened, IsUnknown, Refuses, TakesLoads}
+use Rattle.cache_spaces.specs.Calls.{At, InSpace, IsOpened, IsUnknown, Refuses, TakesLoads, TakesNotice, TakesOutput}
 use Rattle.cache_spaces.specs.Inputs.{Performs, RefusedInput, namespace_of}
 use Rattle.cache_spaces.specs.Journals.{journals_of, kept_by}
 use Rattle.cache_spaces.specs.Played.{journal_of}
 use Rattle.cache_spaces.specs.Reached.{IsReached, record_count}
 use Rattle.cache_spaces.specs.Recorded.{GainsRecord, Recorded, gained_in, records_in}
 use Rattle.cache_spaces.specs.Services.{AreNew, blank_tape}
-use Rattle.cache_spaces.specs.Spaces.{Shown, Space, shown}
+use Rattle.cache_spaces.specs.Spaces.{Shown, Space, shown, notices_of, untaken_output}
 use Rattle.cache_spaces.specs.declared.stepping.Refusal.{Refusal}
-use Rattle.cache_shared.specs.Events as events
-use Rattle.cache_shared.specs.Bared.{bare_spaces, no_journals}
-use Rattle.cache_shared.specs.Events.{CountsRecord, StandsAfter}
+use Rattle.cache_shared.specs.Bared.{bare_spaces, no_journals, seen_in, untaken_of, untold_of}
+use Rattle.cache_shared.specs.Events.{CountsRecord, StandsAfter, KeepsStanding}
 use Rattle.cache_shared.specs.Recordings.{journals_in, spaces_in}
 use Rattle.cache_lines.specs.Tape.Taped.{Taped}
-
--- namespaces, as they are seen whatever their tapes are
-abbrev pub all-shown : List (Space Taped) → List Shown
-all-shown spaces = map (shown kept_by) spaces
-
-eqb-same : (n : ℕ) → eqb n n ≡ true
-eqb-same n = search rules
+use Rattle.audit_model.specs.declared.input.Conn.{Conn}
+use Rattle.audit_model.specs.declared.transcript.Note.{Note}
+use Rattle.audit_model.specs.declared.input.ServiceError.TheVariants as error
+use Rattle.cache_shared.specs.Events as events
 
 module _ {T : Type 0} (tape : T → Option Taped) where
   pub performs : {E : Type 0} (i : Input) (r : Result Output E) (old new : List (Space T)) → IfOk r (λ output. At old new (namespace_of i) (Performs tape i output)) → IfOk r (λ output. events.Performs i output (map (shown tape) old) (map (shown tape) new))
@@ -65,29 +60,23 @@ module _ {T : Type 0} (tape : T → Option Taped) where
   none-shown n old (Ok a) cause = cause
   none-shown n old (Err e) cause = (cause.0, subst (λ k. k ≤ n) (sym (length-map old (shown tape))) cause.1)
 
-  pub none-or-full : {A : Type 0} (n : ℕ) (old : List (Space T)) (r : Result A ServiceError) → IfErr r (λ e. Refuses old n e (λ space. e ≡ error.OutOfMemory))
-      → IfErr r (λ e. Refuses (map (shown tape) old) n e (λ space. e ≡ error.OutOfMemory))
-  none-or-full n old (Ok a) cause = cause
-  none-or-full n old (Err e) cause = refuses-shown (shown tape) old n e (λ x full. full) cause
-
   pub look-shown : {A : Type 0} (of : Space T → A) (seen : Shown → A) (n number : ℕ) (spaces : List (Space T)) (r : Result A ServiceError) → ((x : Space T) → seen (shown tape x) ≡ of x)
       → IfOk r (λ a. InSpace spaces n (λ space. IsOpened space number × (a ≡ of space))) → IfOk r (λ a. InSpace (map (shown tape) spaces) n (λ space. a ≡ seen space))
   look-shown of seen n number spaces (Ok a) same looked = in-shown (shown tape) spaces n (λ x p. p.1 ∙ sym (same x)) looked
   look-shown of seen n number spaces (Err e) same looked = looked
 
-  pub unknown-shown : {A : Type 0} (n number : ℕ) (spaces : List (Space T)) (r : Result A ServiceError) → IfErr r (λ e. Refuses spaces n e (λ space. IsUnknown space number e))
-      → IfErr r (λ e. Refuses (map (shown tape) spaces) n e (λ space. IsUnknown space number e))
-  unknown-shown n number spaces (Ok a) cause = cause
-  unknown-shown n number spaces (Err e) cause = refuses-shown (shown tape) spaces n e (λ x u. record { unknown = u.unknown; error = u.error }) cause
+  -- a refusal, where its cause is seen whatever the tape is
+  pub cause-shown : {A : Type 0} (Cause : ServiceError → Space T → Type 0) (More : ServiceError → Shown → Type 0) (n : ℕ) (spaces : List (Space T)) (r : Result A ServiceError)
+      → ((e : ServiceError) (x : Space T) → Cause e x → More e (shown tape x)) → IfErr r (λ e. Refuses spaces n e (Cause e)) → IfErr r (λ e. Refuses (map (shown tape) spaces) n e (More e))
+  cause-shown Cause More n spaces (Ok a) more cause = cause
+  cause-shown Cause More n spaces (Err e) more cause = refuses-shown (shown tape) spaces n e (more e) cause
 
-  copy-shown : (x : Space T) (number : ℕ) (e : ServiceError) → RefusesCopy x number e → RefusesCopy (shown tape x) number e
-  copy-shown x number e (inl u) = inl (record { unknown = u.unknown; error = u.error })
-  copy-shown x number e (inr full) = inr full
+  pub unknown-shown : (number : ℕ) (e : ServiceError) (x : Space T) → IsUnknown x number e → IsUnknown (shown tape x) number e
+  unknown-shown number e x u = record { unknown = u.unknown; error = u.error }
 
-  pub unknown-or-full : {A : Type 0} (n number : ℕ) (spaces : List (Space T)) (r : Result A ServiceError) → IfErr r (λ e. Refuses spaces n e (λ space. RefusesCopy space number e))
-      → IfErr r (λ e. Refuses (map (shown tape) spaces) n e (λ space. RefusesCopy space number e))
-  unknown-or-full n number spaces (Ok a) cause = cause
-  unknown-or-full n number spaces (Err e) cause = refuses-shown (shown tape) spaces n e (λ x c. copy-shown x number e c) cause
+  pub copy-shown : (number : ℕ) (e : ServiceError) (x : Space T) → RefusesCopy x number e → RefusesCopy (shown tape x) number e
+  copy-shown number e x (inl u) = inl (unknown-shown number e x u)
+  copy-shown number e x (inr full) = inr full
 
 -- a record that one namespace gains is one record more
 counts-one : (i : Input) (output : Output) (old new : Recorded) → At old.spaces new.spaces (namespace_of i) (Performs kept_by i output) → GainsRecord (namespace_of i) old new
@@ -98,7 +87,7 @@ counts-one i output old new a gains =
     let is-at = journal-at new.spaces k a.is (at-is (Performs kept_by i output) old.spaces new.spaces k a) in
     let was = ap (λ (o : Option Transcript). option_map_or (λ (t : Transcript). t.records) o []) was-at in
     let is = ap (λ (o : Option Transcript). option_map_or (λ (t : Transcript). t.records) o []) is-at in
-    let one : length (gained_in old new k) ≡ 1 = gains.one k ∙ ap (λ (b : Bool). if b then 1 else 0) (eqb-same k) in
+    let one : length (gained_in old new k) ≡ 1 = gains.one k ∙ ap (λ (b : Bool). if b then 1 else 0) (eq-eqb k k refl) in
     let len = ap length (sym is ∙ gains.journals k) ∙ length-append (records_in old k) (gained_in old new k) in
     count-more (journals_of old.spaces) (journals_of new.spaces) k (journal_of a.was) (journal_of a.is) was-at (ap journals_of a.set ∙ map-set journal_of old.spaces k a.is)
     (len ∙ ap (λ n. length (records_in old k) + n) one ∙ ap (λ (l : List Record). length l + 1) was)
@@ -133,11 +122,57 @@ loads-leave n old new (Ok loads) a same =
     ap journals_of a.set ∙ map-set journal_of old n a.is ∙ ap (λ x. slice_set (journals_of old) n (journal_of x)) a.fact.rest ∙ set-same (journals_of old) n (journal_of a.was) (journal-at old n a.was a.at)
 loads-leave n old new (Err e) a same = ap journals_of same
 
--- a namespace that the service does not have has no journal
-pub none-there : {A E : Type 0} (P : E → Type 0) (r : Result A E) (spaces : List (Space Taped)) (k : ℕ) → IfErr r (λ e. P e × (length spaces ≤ k)) → IfErr r (λ e. length (journals_of spaces) ≤ k)
-none-there P (Ok x) spaces k cause = cause
-none-there P (Err e) spaces k cause = subst (λ n. n ≤ k) (sym (length-map spaces journal_of)) cause.1
+-- ---- what is taken of a service that keeps no journal
 
-pub kept-there : {A E : Type 0} (P : E → Type 0) (r : Result A E) (spaces : List (Space Taped)) (k : ℕ) → IfErr r (λ e. P e × (length spaces ≤ k)) → OnErr r (length (all-shown spaces) ≤ k)
-kept-there P (Ok x) spaces k cause = cause
-kept-there P (Err e) spaces k cause = subst (λ n. n ≤ k) (sym (length-map spaces (shown kept_by))) cause.1
+module _ {X : Type 0} (of : BareSpace → List X) {F : BareSpace → BareSpace → Type 0} (old new : List BareSpace) (k : ℕ) (a : At old new k F) where
+  -- what is seen of the namespace of which something was taken
+  seen-before : seen_in of old k ≡ of a.was
+  seen-before = ap (λ o. option_map_or of o []) a.at
+
+  seen-behind : seen_in of new k ≡ of a.is
+  seen-behind = ap (λ o. option_map_or of o []) (at-is F old new k a)
+
+-- ---- replies
+
+pub untaken-taken : (conn : Conn) (old new : List BareSpace) (r : Result (Vec ℕ Global) ServiceError) → IfOk r (λ text. At old new conn.namespace (λ was is. TakesOutput was is conn.number text.items))
+    → IfOk r (λ text. text.items ≡ untaken_of old conn)
+untaken-taken conn old new (Ok text) a = a.fact.taken ∙ sym (seen-before (λ space. untaken_output space conn.number) old new conn.namespace a)
+untaken-taken conn old new (Err e) taken = taken
+
+-- ---- notes
+
+first-note : (note : Option Note) (was is : BareSpace) → TakesNotice was is note → notices_of was ≡ option_to_list note ++ notices_of is
+first-note None was is t = t.taken.0 ∙ sym t.taken.1
+first-note (Some note) was is t = t.taken
+
+no-note : (note : Option Note) (was is : BareSpace) → TakesNotice was is note → IsNone note → notices_of was ≡ []
+no-note None was is t none = t.taken.0
+no-note (Some note) was is t none = absurd (let h : true ≡ false = none in cc)
+
+module _ (n : ℕ) (old new : List BareSpace) where
+  abbrev pub Noted : Result (Option Note) ServiceError → Type 0
+  Noted r = IfOk r (λ note. At old new n (λ was is. TakesNotice was is note))
+
+  pub untold-note : (r : Result (Option Note) ServiceError) → Noted r → IfOk r (λ note. untold_of old n ≡ option_to_list note ++ untold_of new n)
+  untold-note (Ok told) a =
+      seen-before notices_of old new n a ∙ first-note told a.was a.is a.fact ∙ ap (λ l. option_to_list told ++ l) (sym (seen-behind notices_of old new n a))
+  untold-note (Err e) taken = taken
+
+  pub untold-none : (r : Result (Option Note) ServiceError) → Noted r → IfOk r (λ note. IsNone note → untold_of old n ≡ [])
+  untold-none (Ok told) a = λ none. seen-before notices_of old new n a ∙ no-note told a.was a.is a.fact none
+  untold-none (Err e) taken = taken
+
+pub untold-refused : (n : ℕ) (old : List BareSpace) (r : Result (Option Note) ServiceError) → IfErr r (λ e. (e ≡ error.NoNamespace) × (length old ≤ n))
+    → IfErr r (λ e. Refuses (map (shown bare_tape) old) n e (λ space. e ≡ error.OutOfMemory))
+untold-refused n old (Ok told) refused = refused
+untold-refused n old (Err e) refused = inl (refused.0, subst (λ k. k ≤ n) (sym (length-map old (shown bare_tape))) refused.1)
+
+-- ---- what is taken of a recording service
+
+-- where the namespaces are as they were, the service stands where it did
+keeps : (old new : Recorded) → new.spaces ≡ old.spaces → KeepsStanding spaces_in journals_in old new
+keeps old new same = (ap journals_of same, λ n w. subst (λ spaces. ∥ IsReached (map (shown kept_by) spaces) n ∥₁) (sym same) w)
+
+pub keeps-standing : {A E : Type 0} (r : Result A E) (old new : Recorded) → OnOk r (new.spaces ≡ old.spaces) → OnErr r (new ≡ old) → KeepsStanding spaces_in journals_in old new
+keeps-standing (Ok a) old new taken same = keeps old new taken
+keeps-standing (Err e) old new taken same = keeps old new (ap (λ (x : Recorded). x.spaces) same)

@@ -4,7 +4,7 @@ use Rattle.std.specs.Option.{option_to_list}
 use Rattle.audit_model.specs.declared.input.Conn.{Conn}
 use Rattle.audit_model.specs.declared.transcript.Note.{Note}
 use Rattle.cache_shared.specs.Untaken.{WereOut, WereUntaken}
-use Rattle.cache_shared.specs.declared.owed.Owed.{Owed}
+use Rattle.cache_shared.specs.declared.turning.Owed.{Owed}
 use Rattle.cache_spaces.specs.Calls.{InSpace}
 use Rattle.cache_spaces.specs.Reached.{IsReached}
 use Rattle.cache_spaces.specs.Spaces.{Shown, closing_of, is_waiting_for}

@@ -1,18 +1,16 @@
 //! What is under the lock.
-ghost use Rattle.std.specs.Prelude.{◌≡◌, ℕ, ◌+◌, ◌≤◌, ◌<◌, ◌++◌, ◌∷◌, [], true, length, map, sum_by, vec_len, vec_capacity, IfOk, IfErr, OnOk, OnErr};
+ghost use Rattle.std.specs.Prelude.{◌≡◌, ◌+◌, ◌≤◌, [], true, length, map, sum_by, vec_len, vec_capacity, IfOk, IfErr, OnOk, OnErr};
 ghost use Rattle.cache_shared.specs.Events.{IsLastNumber, Performs, RefusesStep, StandsAfter, TakesNothing};
 ghost use Rattle.cache_shared.specs.Looked.{HeldAtSomeMoment, WasOldestNote};
-ghost use Rattle.cache_shared.specs.Seats.{AgreeAll, Counts, GainsReceipt, SameReceipts, receipt_for};
-ghost use Rattle.cache_spaces.specs.Inputs.{namespace_of};
+ghost use Rattle.cache_shared.specs.Seats.{AgreeAll, Counts, GainsReceipt, SameReceipts};
 ghost use Rattle.cache_shared.specs.Untaken.{RefusesCopy, WereOut, WereUntaken};
-ghost use Rattle.cache_spaces.specs.Calls.{InSpace, IsUnknown, Refuses};
-ghost use Rattle.cache_spaces.specs.Spaces.{closing_of, is_waiting_for};
+ghost use Rattle.cache_spaces.specs.Calls.{Refuses};
 
 use crate::judging::agree;
 use crate::seat::{Seat, Seating, make_lists, namespace_of};
 use crate::shareable::Shareable;
 use audit_laws::{Receipt, copy_input};
-use audit_model::{Bytes, Closing, Conn, Input, LoadId, Note, ServiceError};
+use audit_model::{Bytes, Conn, Input, LoadId, Note, ServiceError};
 use cache_spaces::{Output, Refusal};
 use std::alloc::Global;
 use std::sync::ledger::{Blank, Book, Share};
@@ -65,26 +63,16 @@ impl<L: Seating, C: Shareable> BookedService<L, C> {
         ensures core { self.new.core ≡ self.old.core }
         ensures refused { IfErr result (λ e. (e ≡ ServiceError.UsedUp) × (self.old.left ≡ 0)) }
     {
-        if self.left == 0 {
-            return Err(ServiceError::UsedUp);
-        }
-        Ok(self.cut(alloc))
-    }
-
-    /// A seat of one part.
-    fn cut(&mut self, alloc: Global) -> Seat<L>
-        requires { 0 < self.old.left }
-        ensures seat { (result.count ≡ 0) × (result.receipts.items ≡ []) }
-        ensures core { self.new.core ≡ self.old.core }
-    {
         let BookedService { rest, left, .. } = self;
-        let share = rest.split_off(1, 0);
-        *left -= 1;
-        Seat {
-            share,
+        let Some(fewer) = left.checked_sub(1) else {
+            return Err(ServiceError::UsedUp);
+        };
+        *left = fewer;
+        Ok(Seat {
+            share: rest.split_off(1, 0),
             count: 0,
             receipts: Vec::new(alloc),
-        }
+        })
     }
 
     /// Takes an input for a seat. If it is accepted, the seat counts one more, and, if the service keeps journals, has one more receipt,
@@ -114,105 +102,55 @@ impl<L: Seating, C: Shareable> BookedService<L, C> {
             × SameReceipts seat.old.receipts.items seat.new.receipts.items) }
         ensures back { IfErr result (λ refusal. refusal.input ≡ input) }
     {
+        if C::KEEPS {
+            return self.step_kept(alloc, seat, input);
+        }
+        let Seat { share, count, .. } = seat;
+        self.count_one(share, count, input)
+    }
+
+    /// Takes an input for a seat, which counts it and has a receipt of it. The receipt's room and the copy of the input are made first.
+    fn step_kept(
+        &mut self,
+        alloc: Global,
+        seat: &mut Seat<L>,
+        input: Input,
+    ) -> Result<Output, Refusal>
+        requires { C.KEEPS ≡ true }
+        ensures taken { IfOk result
+            (λ output. Performs input output (C.spaces self.old.core) (C.spaces self.new.core)) }
+        ensures count { OnOk result ((self.new.book.total ≡ self.old.book.total + 1)
+            × (seat.new.count ≡ seat.old.count + 1)) }
+        ensures receipt { IfOk result (λ output. GainsReceipt (C.journals self.new.core)
+            seat.old.receipts.items seat.new.receipts.items input output) }
+        ensures refused { IfErr result (λ refusal. RefusesStep input refusal.error seat.old.count
+            (C.spaces self.old.core)) }
+        ensures unchanged { OnErr result
+            (TakesNothing self.old.core self.new.core self.old.book.total self.new.book.total
+            × (seat.new.count ≡ seat.old.count)
+            × SameReceipts seat.old.receipts.items seat.new.receipts.items) }
+        ensures back { IfErr result (λ refusal. refusal.input ≡ input) }
+    {
+        let namespace = namespace_of(&input);
+        if let Err(error) = self.core.journal(namespace) {
+            return Err(Refusal { error, input });
+        }
         let Seat {
             share,
             count,
             receipts,
         } = seat;
-        if C::KEEPS {
-            self.step_kept(alloc, share, count, receipts, input)
-        } else {
-            self.count_one(share, count, input)
-        }
-    }
-
-    /// Takes an input, and counts it on the share, with a receipt in the list of its namespace.
-    fn step_kept(
-        &mut self,
-        alloc: Global,
-        share: &mut Share<L>,
-        count: &mut u64,
-        receipts: &mut Vec<Vec<Receipt>>,
-        input: Input,
-    ) -> Result<Output, Refusal>
-        requires keeps { C.KEEPS ≡ true }
-        requires share { (share.old.parts ≡ 1) × (share.old.amount ≡ count.old) }
-        ensures share { (share.new.parts ≡ 1) × (share.new.amount ≡ count.new) }
-        ensures taken { IfOk result
-            (λ output. Performs input output (C.spaces self.old.core) (C.spaces self.new.core)) }
-        ensures count { OnOk result ((self.new.book.total ≡ self.old.book.total + 1)
-            × (count.new ≡ count.old + 1)) }
-        ensures receipt { IfOk result (λ output. GainsReceipt (C.journals self.new.core)
-            receipts.old.items receipts.new.items input output) }
-        ensures refused { IfErr result (λ refusal. RefusesStep input refusal.error count.old
-            (C.spaces self.old.core)) }
-        ensures unchanged { OnErr result
-            (TakesNothing self.old.core self.new.core self.old.book.total self.new.book.total
-            × (count.new ≡ count.old) × SameReceipts receipts.old.items receipts.new.items) }
-        ensures back { IfErr result (λ refusal. refusal.input ≡ input) }
-    {
-        let namespace = namespace_of(&input);
-        match self.core.journal(namespace) {
-            Ok(_) => {}
-            Err(error) => return Err(Refusal { error, input }),
-        }
-        match make_lists(alloc, receipts, namespace as usize) {
-            Ok(()) => self.keep(
-                alloc,
-                share,
-                count,
-                &mut receipts[namespace as usize],
-                input,
-            ),
-            Err(_) => Err(Refusal {
-                error: ServiceError::OutOfMemory,
-                input,
-            }),
-        }
-    }
-
-    /// Takes an input, and counts it on the share, with a receipt. Its room and the copy are made first.
-    fn keep(
-        &mut self,
-        alloc: Global,
-        share: &mut Share<L>,
-        count: &mut u64,
-        own: &mut Vec<Receipt>,
-        input: Input,
-    ) -> Result<Output, Refusal>
-        requires { (share.old.parts ≡ 1) × (share.old.amount ≡ count.old) }
-        ensures share { (share.new.parts ≡ 1) × (share.new.amount ≡ count.new) }
-        ensures taken { IfOk result
-            (λ output. Performs input output (C.spaces self.old.core) (C.spaces self.new.core)) }
-        ensures count { OnOk result
-            ((self.new.book.total ≡ self.old.book.total + 1) × (count.new ≡ count.old + 1)) }
-        ensures receipt { IfOk result
-            (λ output. (number : ℕ) × IsLastNumber (C.journals self.new.core) (namespace_of input)
-            number × (own.new.items ≡ own.old.items ++ receipt_for input output number ∷ [])) }
-        ensures refused { IfErr result (λ refusal. RefusesStep input refusal.error count.old
-            (C.spaces self.old.core)) }
-        ensures unchanged { OnErr result
-            (TakesNothing self.old.core self.new.core self.old.book.total self.new.book.total
-            × (count.new ≡ count.old) × (own.new.items ≡ own.old.items)) }
-        ensures back { IfErr result (λ refusal. refusal.input ≡ input) }
-    {
-        if own.reserve(1).is_err() {
-            return Err(Refusal {
-                error: ServiceError::OutOfMemory,
-                input,
-            });
-        }
+        let Ok(()) = make_lists(alloc, receipts, namespace as usize) else {
+            return Err(Refusal::new(ServiceError::OutOfMemory, input));
+        };
+        let own = &mut receipts[namespace as usize];
+        let Ok(()) = own.reserve(1) else {
+            return Err(Refusal::new(ServiceError::OutOfMemory, input));
+        };
         let Ok(copy) = copy_input(alloc, &input) else {
-            return Err(Refusal {
-                error: ServiceError::OutOfMemory,
-                input,
-            });
+            return Err(Refusal::new(ServiceError::OutOfMemory, input));
         };
-        let namespace = namespace_of(&input);
-        let output = match self.count_one(share, count, input) {
-            Ok(output) => output,
-            Err(refusal) => return Err(refusal),
-        };
+        let output = self.count_one(share, count, input)?;
         own.push_reserved(Receipt {
             namespace,
             number: self.last_number(namespace),
@@ -254,15 +192,9 @@ impl<L: Seating, C: Shareable> BookedService<L, C> {
     {
         let BookedService { core, book, .. } = self;
         let Some(next) = count.checked_add(1) else {
-            return Err(Refusal {
-                error: ServiceError::UsedUp,
-                input,
-            });
+            return Err(Refusal::new(ServiceError::UsedUp, input));
         };
-        let output = match core.step(input) {
-            Ok(output) => output,
-            Err(refusal) => return Err(refusal),
-        };
+        let output = core.step(input)?;
         book.add(share, 1);
         *count = next;
         Ok(output)
@@ -333,8 +265,7 @@ impl<L: Seating, C: Shareable> BookedService<L, C> {
         ensures refused { IfErr result (λ e. HeldAtSomeMoment C.spaces (λ spaces.
             Refuses spaces conn.namespace e (λ space. RefusesCopy space conn.number e))) }
     {
-        let BookedService { core, .. } = self;
-        core.take_output(conn)
+        self.core.take_output(conn)
     }
 
     /// Returns the loads of a namespace that went out and were not taken, moved out.
@@ -343,8 +274,7 @@ impl<L: Seating, C: Shareable> BookedService<L, C> {
         ensures refused { IfErr result (λ e. HeldAtSomeMoment C.spaces
             (λ spaces. (e ≡ ServiceError.NoNamespace) × (length spaces ≤ namespace))) }
     {
-        let BookedService { core, .. } = self;
-        core.take_loads(namespace)
+        self.core.take_loads(namespace)
     }
 
     /// Returns the oldest note of a namespace that was reported and not taken.
@@ -353,27 +283,6 @@ impl<L: Seating, C: Shareable> BookedService<L, C> {
         ensures refused { IfErr result (λ e. HeldAtSomeMoment C.spaces
             (λ spaces. Refuses spaces namespace e (λ space. e ≡ ServiceError.OutOfMemory))) }
     {
-        let BookedService { core, .. } = self;
-        core.next_notice(namespace)
-    }
-
-    /// Returns why a connection is closed, if it is.
-    pub fn closed(&self, conn: Conn) -> Result<Option<Closing>, ServiceError>
-        ensures closing { IfOk result (λ closing. HeldAtSomeMoment C.spaces (λ spaces.
-            InSpace spaces conn.namespace (λ space. closing ≡ closing_of space conn.number))) }
-        ensures refused { IfErr result (λ e. HeldAtSomeMoment C.spaces
-            (λ spaces. Refuses spaces conn.namespace e (λ space. IsUnknown space conn.number e))) }
-    {
-        self.core.closed(conn)
-    }
-
-    /// Returns whether a `LOAD` of a connection waits for its load.
-    pub fn waiting(&self, conn: Conn) -> Result<bool, ServiceError>
-        ensures waits { IfOk result (λ waits. HeldAtSomeMoment C.spaces (λ spaces.
-            InSpace spaces conn.namespace (λ space. waits ≡ is_waiting_for space conn.number))) }
-        ensures refused { IfErr result (λ e. HeldAtSomeMoment C.spaces
-            (λ spaces. Refuses spaces conn.namespace e (λ space. IsUnknown space conn.number e))) }
-    {
-        self.core.waiting(conn)
+        self.core.next_notice(namespace)
     }
 }

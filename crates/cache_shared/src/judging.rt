@@ -59,10 +59,7 @@ fn judge<L: Seating>(seen: &mut [bool], namespace: u64, seats: &[Seat<L>]) -> bo
     ensures { result ≡ true
         → EachOnce (λ seat. receipts_at seat.receipts.items namespace) (length seen.old) seats.now }
 {
-    if !mark_all(seen, namespace, seats) {
-        return false;
-    }
-    all_marked(seen)
+    mark_all(seen, namespace, seats) && all_marked(seen)
 }
 
 /// Marks the numbers of all receipts of the namespace. Returns `false` if one has no place, or was already marked.

@@ -4,8 +4,6 @@
 mod bare;
 mod booked;
 mod judging;
-mod notices;
-mod owed;
 mod recorded;
 mod seat;
 mod shareable;
@@ -13,8 +11,7 @@ mod shared;
 mod turning;
 
 pub use booked::{BookedService, Finished};
-pub use owed::Owed;
 pub use seat::{Seat, Seating};
 pub use shareable::Shareable;
 pub use shared::SharedService;
-pub use turning::Turn;
+pub use turning::{Owed, Turn};

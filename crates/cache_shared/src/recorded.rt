@@ -63,17 +63,12 @@ fn take_text(recorded: &mut RecordedService, conn: Conn) -> Result<Vec<u8>, Serv
         (λ space. RefusesCopy space conn.number e)) }
     ensures unchanged { OnErr result (recorded.new ≡ recorded.old) }
 {
-    let replies = match recorded.peek_output(conn) {
-        Ok(replies) => replies,
-        Err(error) => return Err(error),
-    };
+    let replies = recorded.peek_output(conn)?;
     let Ok(text) = replies.to_vec(*recorded.allocator()) else {
         return Err(ServiceError::OutOfMemory);
     };
-    match recorded.take_output(conn) {
-        Ok(_) => Ok(text),
-        Err(error) => Err(error),
-    }
+    recorded.take_output(conn)?;
+    Ok(text)
 }
 
 /// Returns a copy of the oldest note of a namespace that was not taken. It is taken only if there is memory for the copy.
@@ -83,17 +78,12 @@ fn take_note(recorded: &mut RecordedService, namespace: u64) -> Result<Option<No
         (λ e. Refuses recorded.old.spaces namespace e (λ space. e ≡ ServiceError.OutOfMemory)) }
     ensures unchanged { OnErr result (recorded.new ≡ recorded.old) }
 {
-    let note = match recorded.peek_notice(namespace) {
-        Ok(note) => note,
-        Err(error) => return Err(error),
-    };
+    let note = recorded.peek_notice(namespace)?;
     let Ok(copy) = copy_if_any(*recorded.allocator(), note) else {
         return Err(ServiceError::OutOfMemory);
     };
-    match recorded.next_notice(namespace) {
-        Ok(_) => Ok(copy),
-        Err(error) => Err(error),
-    }
+    recorded.next_notice(namespace)?;
+    Ok(copy)
 }
 
 /// Returns a copy of a note, if there is one.

@@ -1,5 +1,5 @@
 //! What each thread holds.
-ghost use Rattle.std.specs.Prelude.{◌≡◌, ℕ, ◌+◌, ◌<◌, ◌≤◌, [], vec_len, OnOk};
+ghost use Rattle.std.specs.Prelude.{◌≡◌, ℕ, ◌<◌, [], vec_len, OnOk};
 ghost use Rattle.cache_shared.specs.Seats.{SameReceipts, receipts_at};
 ghost use Rattle.cache_spaces.specs.Inputs.{namespace_of};
 
@@ -59,14 +59,9 @@ pub fn make_lists(
     ensures same { SameReceipts lists.old.items lists.new.items }
     ensures made { OnOk result (namespace < vec_len lists.new) }
 {
-    if namespace < lists.len() {
-        return Ok(());
-    }
-    let missing = namespace - lists.len();
-    for _made in 0..missing {
+    while lists.len() <= namespace {
         lists.push(Vec::new(alloc))?;
     }
-    lists.push(Vec::new(alloc))?;
     Ok(())
 }
 

@@ -9,10 +9,9 @@ ghost use Rattle.cache_spaces.specs.Calls.{InSpace, IsUnknown, Refuses};
 ghost use Rattle.cache_spaces.specs.Spaces.{closing_of, is_waiting_for};
 
 use crate::booked::{BookedService, Finished};
-use crate::owed::Owed;
 use crate::seat::{Seat, Seating};
 use crate::shareable::Shareable;
-use crate::turning::Turn;
+use crate::turning::{Owed, Turn};
 use audit_laws::Receipt;
 use audit_model::{Bytes, Closing, Conn, Input, LoadId, Note, ServiceError};
 use cache_spaces::{Output, RecordedService, Refusal};
@@ -87,9 +86,7 @@ impl<L: Seating, C: Shareable> SharedService<L, C> {
         ensures seat { IfOk result (λ seat. (seat.count ≡ 0) × (seat.receipts.items ≡ [])) }
         ensures refused { IfErr result (λ e. e ≡ ServiceError.UsedUp) }
     {
-        let mut guard = self.inner().booked.lock(rt);
-        let booked = &mut *guard;
-        booked.seat(self.alloc)
+        self.inner().booked.lock(rt).seat(self.alloc)
     }
 
     /// Takes one input for a seat, in one hold of the lock. If it is accepted, the seat counts one more, and, if the service keeps
@@ -110,10 +107,7 @@ impl<L: Seating, C: Shareable> SharedService<L, C> {
             (λ refusal. is_of_outcome refusal.error ≡ true → IsUnfitAnswer input) }
     {
         let inner = self.inner();
-        let mut guard = inner.booked.lock(rt);
-        let booked = &mut *guard;
-        let taken = booked.step(self.alloc, seat, input);
-        drop(guard);
+        let taken = inner.booked.lock(rt).step(self.alloc, seat, input);
         inner.changed.notify_all();
         taken
     }
@@ -158,9 +152,7 @@ impl<L: Seating, C: Shareable> SharedService<L, C> {
         ensures refused { IfErr result (λ e. HeldAtSomeMoment C.spaces (λ spaces.
             Refuses spaces conn.namespace e (λ space. RefusesCopy space conn.number e))) }
     {
-        let mut guard = self.inner().booked.lock(rt);
-        let booked = &mut *guard;
-        booked.take_output(conn)
+        self.inner().booked.lock(rt).take_output(conn)
     }
 
     /// Takes one input for a seat, like `step`, and moves out what a connection is owed afterwards, in the same hold of the lock: its
@@ -193,8 +185,7 @@ impl<L: Seating, C: Shareable> SharedService<L, C> {
     {
         let inner = self.inner();
         let mut guard = inner.booked.lock(rt);
-        let booked = &mut *guard;
-        let turn = booked.turn(self.alloc, seat, conn, input, wants_loads, notes);
+        let turn = guard.turn(self.alloc, seat, conn, input, wants_loads, notes);
         drop(guard);
         inner.changed.notify_all();
         turn
@@ -214,9 +205,10 @@ impl<L: Seating, C: Shareable> SharedService<L, C> {
         ensures moved { WereMoved C.spaces C.untold conn.namespace notes.old.items
             notes.new.items }
     {
-        let mut guard = self.inner().booked.lock(rt);
-        let booked = &mut *guard;
-        booked.take_owed(conn, wants_loads, notes)
+        self.inner()
+            .booked
+            .lock(rt)
+            .take_owed(conn, wants_loads, notes)
     }
 
     /// Appends the oldest notes of a namespace that were reported and not taken, moved out in one hold of the lock, as many as there is
@@ -233,9 +225,7 @@ impl<L: Seating, C: Shareable> SharedService<L, C> {
         ensures refused { IfErr result
             (λ e. (e ≡ ServiceError.OutOfMemory) ⊎ (e ≡ ServiceError.NoNamespace)) }
     {
-        let mut guard = self.inner().booked.lock(rt);
-        let booked = &mut *guard;
-        booked.take_notices(namespace, notes)
+        self.inner().booked.lock(rt).take_notices(namespace, notes)
     }
 
     /// Returns the loads of a namespace that went out and were not taken, with their keys, in the order in which they were sent, moved out,
@@ -249,9 +239,7 @@ impl<L: Seating, C: Shareable> SharedService<L, C> {
         ensures refused { IfErr result (λ e. HeldAtSomeMoment C.spaces
             (λ spaces. (e ≡ ServiceError.NoNamespace) × (length spaces ≤ namespace))) }
     {
-        let mut guard = self.inner().booked.lock(rt);
-        let booked = &mut *guard;
-        booked.take_loads(namespace)
+        self.inner().booked.lock(rt).take_loads(namespace)
     }
 
     /// Returns the oldest note of a namespace that was reported and not taken, or `None`, in one hold of the lock. This is not an event,
@@ -263,9 +251,7 @@ impl<L: Seating, C: Shareable> SharedService<L, C> {
         ensures refused { IfErr result (λ e. HeldAtSomeMoment C.spaces
             (λ spaces. Refuses spaces namespace e (λ space. e ≡ ServiceError.OutOfMemory))) }
     {
-        let mut guard = self.inner().booked.lock(rt);
-        let booked = &mut *guard;
-        booked.next_notice(namespace)
+        self.inner().booked.lock(rt).next_notice(namespace)
     }
 
     /// Returns why a connection is closed, or `None` while it is open, in one hold of the lock. Returns `NoNamespace`, then `NoConnection`.
@@ -275,8 +261,7 @@ impl<L: Seating, C: Shareable> SharedService<L, C> {
         ensures refused { IfErr result (λ e. HeldAtSomeMoment C.spaces
             (λ spaces. Refuses spaces conn.namespace e (λ space. IsUnknown space conn.number e))) }
     {
-        let guard = self.inner().booked.lock(rt);
-        guard.closed(conn)
+        self.inner().booked.lock(rt).core.closed(conn)
     }
 
     /// Returns whether a `LOAD` of a connection waits for its load, in one hold of the lock. Returns `NoNamespace`, then `NoConnection`.
@@ -286,8 +271,7 @@ impl<L: Seating, C: Shareable> SharedService<L, C> {
         ensures refused { IfErr result (λ e. HeldAtSomeMoment C.spaces
             (λ spaces. Refuses spaces conn.namespace e (λ space. IsUnknown space conn.number e))) }
     {
-        let guard = self.inner().booked.lock(rt);
-        guard.waiting(conn)
+        self.inner().booked.lock(rt).core.waiting(conn)
     }
 
     /// Waits until no `LOAD` of a connection waits for its load. Each step of a seat lets those that wait look again. Nothing is promised
@@ -296,7 +280,7 @@ impl<L: Seating, C: Shareable> SharedService<L, C> {
         let inner = self.inner();
         let mut guard = inner.booked.lock(rt);
         for _ in rt.forever() {
-            match guard.waiting(conn) {
+            match guard.core.waiting(conn) {
                 Ok(true) => guard = inner.changed.wait(rt, guard),
                 _ => return,
             }
@@ -321,10 +305,9 @@ fn close_if_all<L: Seating, C: Shareable>(
     ensures back { IfErr result (λ back. back ≡ seats) }
     ensures full { OnErr result (IsSome slot.new) }
 {
-    let mut receipts = Vec::new(alloc);
-    if receipts.reserve(seats.len()).is_err() {
+    let Ok(receipts) = Vec::with_capacity(alloc, seats.len()) else {
         return Err(seats);
-    }
+    };
     let Some(inner) = slot.take() else {
         unreachable!()
     };

@@ -1,19 +1,28 @@
 //! Turns: an input, and everything that its connection is owed afterwards, in one hold of the lock.
-ghost use Rattle.std.specs.Prelude.{◌≡◌, ◌⊎◌, true, Some, IfOk, IfErr, IfSome, OnErr};
+ghost use Rattle.std.specs.Prelude.{◌≡◌, ◌⊎◌, true, IfOk, IfErr, OnErr};
 ghost use Rattle.cache_shared.specs.Events.{IsLate, IsUnfitAnswer, is_of_outcome};
-ghost use Rattle.cache_shared.specs.Looked.{HeldAtSomeMoment, Owes, WereMoved};
+ghost use Rattle.cache_shared.specs.Looked.{Owes, WereMoved};
 ghost use Rattle.cache_shared.specs.Seats.{Counts, SameReceipts};
-ghost use Rattle.cache_spaces.specs.Calls.{InSpace};
-ghost use Rattle.cache_spaces.specs.Spaces.{closing_of, is_waiting_for};
 
 use crate::booked::BookedService;
-use crate::notices::take_notices;
-use crate::owed::Owed;
 use crate::seat::{Seat, Seating};
 use crate::shareable::Shareable;
-use audit_model::{Closing, Conn, Input, Note, ServiceError};
+use audit_model::{Bytes, Closing, Conn, Input, LoadId, Note, ServiceError};
 use cache_spaces::{Output, Refusal};
 use std::alloc::Global;
+
+/// What a connection is owed, all moved out in one hold of the lock.
+#[derive(Drop)]
+pub struct Owed {
+    /// Its replies that were not taken; `None` if there was not enough memory for a copy. Then they come when replies are next taken.
+    pub replies: Option<Vec<u8>>,
+    /// The loads of its namespace that had gone out and were not taken, if they were requested.
+    pub loads: Option<Vec<(LoadId, Bytes)>>,
+    /// Why it is closed, if it is.
+    pub closing: Option<Closing>,
+    /// Whether a `LOAD` of it waits for its load.
+    pub waits: bool,
+}
 
 /// The result of a turn.
 #[derive(Drop)]
@@ -50,13 +59,9 @@ impl<L: Seating, C: Shareable> BookedService<L, C> {
         ensures moved { WereMoved C.spaces C.untold conn.namespace notes.old.items
             notes.new.items }
     {
-        match self.step(alloc, seat, input) {
-            Ok(output) => {
-                let owed = self.take_owed(conn, wants_loads, notes);
-                Ok(Turn { output, owed })
-            }
-            Err(refusal) => Err(refusal),
-        }
+        let output = self.step(alloc, seat, input)?;
+        let owed = self.take_owed(conn, wants_loads, notes);
+        Ok(Turn { output, owed })
     }
 
     /// Returns what a connection is owed, and appends its namespace's oldest notes, as many as there is room for, moved out; nothing if it
@@ -73,38 +78,16 @@ impl<L: Seating, C: Shareable> BookedService<L, C> {
         } else {
             None
         };
-        let replies = self.take_output(conn).ok();
         Owed {
-            replies,
+            replies: self.take_output(conn).ok(),
             loads,
-            closing: self.closing_of(conn),
-            waits: self.is_waiting(conn),
+            closing: self.core.closed(conn).unwrap_or(None),
+            waits: self.core.waiting(conn).unwrap_or(false),
         }
     }
 
-    /// Why a connection is closed; `None` if it is open or unknown.
-    fn closing_of(&self, conn: Conn) -> Option<Closing>
-        ensures { IfSome result (λ closing. HeldAtSomeMoment C.spaces (λ spaces.
-            InSpace spaces conn.namespace (λ space. closing_of space conn.number ≡ Some closing))) }
-    {
-        match self.closed(conn) {
-            Ok(closing) => closing,
-            Err(_) => None,
-        }
-    }
-
-    /// Whether a `LOAD` of a connection waits; false if it is unknown.
-    fn is_waiting(&self, conn: Conn) -> bool
-        ensures { result ≡ true → HeldAtSomeMoment C.spaces (λ spaces.
-            InSpace spaces conn.namespace (λ space. is_waiting_for space conn.number ≡ true)) }
-    {
-        match self.waiting(conn) {
-            Ok(waits) => waits,
-            Err(_) => false,
-        }
-    }
-
-    /// Appends the oldest notes of a namespace that were reported and not taken, moved out, as many as there is room for.
+    /// Appends the oldest notes of a namespace that were reported and not taken, moved out, as many as there is room for. If one is
+    /// refused, those before it were taken.
     pub fn take_notices(
         &mut self,
         namespace: u64,
@@ -114,7 +97,13 @@ impl<L: Seating, C: Shareable> BookedService<L, C> {
         ensures refused { IfErr result
             (λ e. (e ≡ ServiceError.OutOfMemory) ⊎ (e ≡ ServiceError.NoNamespace)) }
     {
-        let BookedService { core, .. } = self;
-        take_notices(core, namespace, notes)
+        let room = notes.capacity() - notes.len();
+        for _place in 0..room {
+            match self.core.next_notice(namespace)? {
+                Some(note) => notes.push_reserved(note),
+                None => return Ok(()),
+            }
+        }
+        Ok(())
     }
 }

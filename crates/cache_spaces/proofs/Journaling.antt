@@ -1,12 +1,11 @@
 -- What namespaces and their journals are, input by input.
-use Rattle.std.proofs.Common.{◌≡◌, ◌≢◌, ℕ, zero, suc, ◌<◌, ◌+◌, ◌≤◌, List, [], ◌∷◌, ◌++◌, length, map, Some, refl, sym, ap, ◌∙◌, subst, inl, inr, arith, get_or, take}
-use Rattle.std.specs.Prelude.{◌⊎◌, Result, Ok, Err, OnErr, IfOk, IsTrue}
+use Rattle.std.proofs.Common.{◌≡◌, ◌≢◌, ℕ, zero, suc, ◌<◌, ◌+◌, ◌≤◌, List, [], ◌∷◌, ◌++◌, length, map, Some, refl, sym, ap, ◌∙◌, subst, inl, inr, arith, get_or, take, ◌⊎◌, Result, Ok, Err, OnErr, IfOk, IsTrue}
 use Rattle.std.proofs.Math.Logic.{∥∥₁_elim, ∥∥₁_map}
 use Rattle.std.proofs.Math.Seq.{take-suc}
 use Rattle.std.proofs.Props.{props}
 use Rattle.std.specs.List.{list_all, slice_get}
 use Rattle.std.proofs.lemmas.Bool.{cases_eq}
-use Rattle.std.proofs.lemmas.List.{take_all}
+use Rattle.std.proofs.lemmas.List.{length-map, take_all}
 use Rattle.std.proofs.lemmas.Option.{none-some, same_Some, slice_get_within}
 use Rattle.audit_laws.proofs.Belonging.{belongs_on, belongs_step_by_step}
 use Rattle.audit_laws.proofs.Journals.{leads_by-more, obeys-led}
@@ -34,9 +33,8 @@ use Rattle.cache_spaces.specs.Played.{ArePlayed, HasPlayed, HavePlayed, Plays, W
 use Rattle.cache_spaces.specs.Services.{AreNew, blank_tape}
 use Rattle.cache_spaces.specs.Spaces.{HasItsParts, Space, config_of, part_in, recency_of}
 use Rattle.cache_spaces.specs.Throughout.{HasExactKeys, HaveKeysFrom, are_bounded_from, are_timely_from, are_timely_in, is_bounded_throughout, is_timely_throughout, order_at_end}
-use Rattle.cache_spaces.proofs.Chaining.{keys-one-more, order-at-end-more, so-of-one-more}
-use Rattle.cache_spaces.proofs.Listing.{keeps-list}
-use Rattle.cache_spaces.proofs.Putting.{at-it, at-length, at-others}
+use Rattle.cache_spaces.proofs.Throughout.{keys-one-more, order-at-end-more, so-of-one-more, keeps-list}
+use Rattle.cache_spaces.proofs.Placing.{at-it, at-length, at-others}
 use Rattle.cache_store.specs.Recency.{IsPlainLru}
 use Rattle.cache_store.specs.Running.{is_bounded}
 use Rattle.cache_lines.specs.Tape.Taped.{Taped, with_entry}
@@ -220,13 +218,9 @@ played-one config k moment inputs space h =
       recent = λ places plain. keeps-list config places transcript (exact places plain);
     }
 
-length-map : {X Y : Type 0} (f : X → Y) (xs : List X) → length (map f xs) ≡ length xs
-length-map f [] = refl
-length-map f (x ∷ xs) = ap suc (length-map f xs)
-
 pub played-all : (configs : List Config) (moment : Instant) (inputs : List Input) (spaces : List (Space Taped)) → HavePlayed configs moment inputs spaces → ArePlayed configs moment inputs (journals_of spaces)
 played-all configs moment inputs spaces played = record {
-  count = length-map journal_of spaces ∙ played.count;
+  count = length-map spaces journal_of ∙ played.count;
   each = λ k config transcript c t.
       let x = mapped journal_of spaces k transcript t in
       subst (Plays config k moment inputs) x.2 (played-one config k moment inputs x.0 (played.each k config x.0 c x.1));

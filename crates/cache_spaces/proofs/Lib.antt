@@ -1,16 +1,10 @@
-pub mod Placing
-pub mod Putting
-mod Beginning
-pub mod Chaining
-pub mod Listing
+pub mod Throughout
 pub mod Performing
 pub mod Journaling
-pub mod Counting
 pub mod Reaching
 pub mod Newly
 pub mod Showing
 mod Noting
 pub mod Reading
-mod Opening
-mod Taking
+pub mod Placing
 mod Gaining

@@ -1,26 +1,19 @@
 -- Notes in lists of records.
-use Rattle.std.proofs.Common.{◌≡◌, ℕ, zero, suc, ◌+◌, ◌<◌, ◌≤◌, List, [], ◌∷◌, ◌++◌, length, get_or, take, drop, map, Some, None, refl, sym, ap, ◌∙◌, inl, inr, arith, add-one}
-use Rattle.std.specs.Prelude.{◌⊎◌}
+use Rattle.std.proofs.Common.{◌≡◌, ℕ, zero, suc, ◌+◌, ◌<◌, ◌≤◌, List, [], ◌∷◌, ◌++◌, length, get_or, take, drop, Some, refl, sym, ap, ◌∙◌, inl, inr, arith, add-one, ◌⊎◌}
 use Rattle.std.specs.List.{slice_get}
+use Rattle.std.specs.Option.{option_map_or}
 use Rattle.std.proofs.Math.ListN.{drop_of_length-le}
 use Rattle.std.proofs.Math.Seq.{drop-append_seam, drop-nil}
 use Rattle.std.proofs.lemmas.Bool.{cases_lt}
-use Rattle.std.proofs.lemmas.List.{append_assoc, append_cancel_right, drop-append-le, length-append, take-append-drop}
+use Rattle.std.proofs.lemmas.List.{append_assoc, append_cancel_right, drop-append-le, length-append, take-append-drop, get_or_past}
 use Rattle.std.proofs.lemmas.List.Concat.{flat_map-append}
-use Rattle.std.proofs.lemmas.Option.{none-some, same_Some}
+use Rattle.std.proofs.lemmas.Option.{slice_get_past}
 use Rattle.audit_model.specs.declared.transcript.Note.{Note}
 use Rattle.audit_model.specs.declared.transcript.Record.{Record}
-use Rattle.audit_model.specs.declared.transcript.Step.{Step}
 use Rattle.cache_spaces.specs.Notes.{IsPlaceIn, before_in, lists_joined, lists_of, notes_before, notes_of_records, rest_in, lists_at, notes_from}
 use Rattle.cache_spaces.specs.declared.told.Told.{Told}
 
 module _ {X : Type 0} where
-  get-over : (lists : List (List X)) (k : ℕ) → length lists ≤ k → get_or lists k [] ≡ []
-  get-over [] zero h = refl
-  get-over [] (suc k) h = refl
-  get-over (x ∷ xs) zero h = absurd (omega arith)
-  get-over (x ∷ xs) (suc k) h = get-over xs k (omega arith)
-
   joined-from : (lists : List (List X)) (k : ℕ) → lists_joined (drop k lists) ≡ get_or lists k [] ++ lists_joined (drop (suc k) lists)
   joined-from [] zero = refl
   joined-from [] (suc k) = refl
@@ -37,13 +30,8 @@ module _ {X : Type 0} where
   -- there is no such list
   pub no-list : (lists : List (List X)) (k n : ℕ) → length lists ≤ k → rest_in lists k n ≡ []
   no-list lists k n h =
-      ap (λ l. l ++ lists_joined (drop (k + 1) lists)) (ap (drop n) (get-over lists k h) ∙ drop-nil n)
+      ap (λ l. l ++ lists_joined (drop (k + 1) lists)) (ap (drop n) (get_or_past lists k [] h) ∙ drop-nil n)
       ∙ ap lists_joined (drop_of_length-le lists (omega arith))
-
-  drop-one : (xs : List X) (n : ℕ) (x : X) → slice_get xs n ≡ Some x → drop n xs ≡ x ∷ drop (suc n) xs
-  drop-one [] n x e = absurd (none-some x e)
-  drop-one (y ∷ ys) zero x e = ap (λ z. z ∷ ys) (same_Some y x e)
-  drop-one (y ∷ ys) (suc n) x e = drop-one ys n x e
 
 records-from : (records : List Record) (k : ℕ) → notes_of_records (drop k records) ≡ rest_in (lists_at records k) 0 0 ++ notes_of_records (drop (suc k) records)
 records-from [] zero = refl
@@ -59,10 +47,7 @@ next-record records k l n e =
     ∙ ap (λ m. rest_in (lists_at records (k + 1)) 0 0 ++ notes_of_records (drop m records)) (sym (add-one (k + 1)))
 
 lists-over : (records : List Record) (k : ℕ) → length records ≤ k → lists_at records k ≡ []
-lists-over [] zero h = refl
-lists-over [] (suc k) h = refl
-lists-over (x ∷ xs) zero h = absurd (omega arith)
-lists-over (x ∷ xs) (suc k) h = lists-over xs k (omega arith)
+lists-over records k h = ap (λ o. option_map_or lists_of o []) (slice_get_past records k h)
 
 -- there is no such record
 pub no-record : (records : List Record) (told : Told) → length records ≤ told.entry → notes_from records told ≡ []
@@ -72,9 +57,7 @@ no-record records told h =
 
 -- the lists of the record that stands there
 pub lists-there : (records : List Record) (k : ℕ) (entry : Record) → slice_get records k ≡ Some entry → lists_at records k ≡ lists_of entry
-lists-there [] k entry e = absurd (none-some entry e)
-lists-there (x ∷ xs) zero entry e = ap lists_of (same_Some x entry e)
-lists-there (x ∷ xs) (suc k) entry e = lists-there xs k entry e
+lists-there records k entry e = ap (λ o. option_map_or lists_of o []) e
 
 -- ---- what was taken, and what was not
 
@@ -121,11 +104,7 @@ notes-behind : (records : List Record) (k : ℕ) → notes_from records (record 
 notes-behind records k = ap (λ m. rest_in (lists_at records k) 0 0 ++ notes_of_records (drop m records)) (add-one k) ∙ sym (records-from records k)
 
 same-told : (told : Told) (k : ℕ) → told.entry ≡ k → told.list ≡ 0 → told.note ≡ 0 → told ≡ record { entry = k; list = 0; note = 0 }
-same-told told k e f g =
-    let first : told ≡ record { entry = k; list = told.list; note = told.note } = ap (λ n. record { entry = n; list = told.list; note = told.note }) e in
-    let second : record { entry = k; list = told.list; note = told.note } ≡ record { entry = k; list = 0; note = told.note } = ap (λ n. record { entry = k; list = n; note = told.note }) f in
-    let third : record { entry = k; list = 0; note = told.note } ≡ record { entry = k; list = 0; note = 0 } = ap (λ n. record { entry = k; list = 0; note = n }) g in
-    first ∙ second ∙ third
+same-told told k e f g = rw (e, f, g)
 
 -- those from a place on, and then the added records'
 pub notes-added : (records added : List Record) (told : Told) → IsPlaceIn records told → notes_from (records ++ added) told ≡ notes_from records told ++ notes_of_records added

@@ -1,36 +1,68 @@
 -- Journals lead to where a service stands, whether or not it keeps them.
-use Rattle.std.proofs.Common.{◌≡◌, ◌≢◌, ◌∙◌, ℕ, zero, suc, ◌+◌, List, [], ◌∷◌, ◌++◌, length, length-append, Option, Some, Vec, Global, refl, sym, ap, subst, inl, inr, arith}
-use Rattle.std.specs.Prelude.{◌⊎◌, slice_set, map, Result, Ok, Err, IfErr, IfOk, OnErr, OnOk}
+use Rattle.std.proofs.Common.{◌≡◌, ℕ, zero, suc, ◌+◌, List, [], ◌∷◌, length, Some, refl, ap, ◌∙◌, arith, ◌≢◌, ◌<◌, get_or, ◌++◌, length-append, Option, Vec, Global, sym, subst, inl, inr, slice_set, sum_by, ◌⊎◌, map, Result, Ok, Err, IfErr, IfOk, OnErr, OnOk}
 use Rattle.std.specs.List.{slice_get}
+use Rattle.std.proofs.lemmas.List.Sums.{sum_by-cons}
+use Rattle.std.proofs.lemmas.Option.{none-some, same_Some, slice_get_within}
+use Rattle.audit_model.specs.declared.transcript.Transcript.{Transcript}
+use Rattle.audit_model.specs.declared.event.Instant.{Instant}
+use Rattle.cache_spaces.specs.Reached.{record_count, IsJournal, IsOneFurther, IsReached, IsWhereItWas}
 use Rattle.std.proofs.Math.Logic.{∥∥₁_map}
 use Rattle.std.proofs.lemmas.Bool.{cases_eq}
 use Rattle.std.proofs.lemmas.List.{length-map, length-set}
-use Rattle.std.proofs.lemmas.Option.{slice_get_within, none-some, same_Some}
 use Rattle.audit_laws.proofs.Journals.{leads_by-more, obeys-led}
 use Rattle.audit_laws.specs.Leading.{LeadsBy, LeadsTo}
 use Rattle.audit_model.specs.Situation.{Situation, empty_situation}
 use Rattle.audit_model.specs.declared.config.Config.{Config}
-use Rattle.audit_model.specs.declared.event.Instant.{Instant}
 use Rattle.audit_model.specs.declared.input.Input.{Input}
 use Rattle.audit_model.specs.declared.input.LoadId.{LoadId}
 use Rattle.audit_model.specs.declared.input.ServiceError.{ServiceError}
-use Rattle.audit_model.specs.declared.input.ServiceError.TheVariants as error
-use Rattle.audit_model.specs.declared.transcript.Transcript.{Transcript}
 use Rattle.audit_laws.specs.declared.receipts.output.Output.{Output}
 use Rattle.cache_core.proofs.connections.Getting.{at-mapped, found-at, set-same}
-use Rattle.cache_spaces.proofs.Counting.{count-empty, count-more}
 use Rattle.cache_spaces.proofs.Journaling.{mapped}
-use Rattle.cache_spaces.proofs.Putting.{at-it, at-length, at-others, put-at}
+use Rattle.cache_spaces.proofs.Placing.{at-it, at-length, at-others, put-at}
 use Rattle.cache_spaces.proofs.Showing.{stands-hidden, stands-shown}
 use Rattle.cache_spaces.specs.Calls.{At, TakesLoads, TakesOutput}
 use Rattle.cache_spaces.specs.Inputs.{Performs, namespace_of}
 use Rattle.cache_spaces.specs.Journals.{LeadsSo}
-use Rattle.cache_spaces.specs.Reached.{IsJournal, IsOneFurther, IsReached, IsWhereItWas, record_count}
 use Rattle.cache_spaces.specs.Services.{AreNew}
 use Rattle.cache_spaces.specs.Spaces.{Space, StandsFor, config_of, part_in, shown}
 use Rattle.cache_spaces.specs.Stores.{shown_of}
 use Rattle.cache_store.specs.Values.{GivesNote}
 use Rattle.cache_lines.specs.Tape.Taped.{Taped}
+use Rattle.audit_model.specs.declared.input.ServiceError.TheVariants as error
+
+-- ---- how many records they have
+
+-- where one of the summands is greater by one, so is the sum
+sum-set : {X : Type 0} (f : X → ℕ) (xs : List X) (k : ℕ) (was is : X) → slice_get xs k ≡ Some was → f is ≡ f was + 1 → sum_by f (slice_set xs k is) ≡ sum_by f xs + 1
+sum-set f [] k was is at e = absurd (none-some was at)
+sum-set f (x ∷ xs) zero was is at e =
+    let s : f x ≡ f was = ap f (same_Some x was at) in
+    omega (arith, s, e, sum_by-cons f is xs, sum_by-cons f x xs)
+sum-set f (x ∷ xs) (suc k) was is at e =
+    let h = sum-set f xs k was is at e in
+    omega (arith, h, sum_by-cons f x (slice_set xs k is), sum_by-cons f x xs)
+
+pub count-more : (old new : List Transcript) (k : ℕ) (was is : Transcript) → slice_get old k ≡ Some was → new ≡ slice_set old k is → length is.records ≡ length was.records + 1 → record_count new ≡ record_count old + 1
+count-more old new k was is at set e = ap record_count set ∙ sum-set (λ journal. length journal.records) old k was is at e
+
+-- transcripts that begin at this moment, without records
+abbrev pub AreEmpty : Instant → List Transcript → Type 0
+AreEmpty made transcripts =
+    (namespace : ℕ) (transcript : Transcript) → slice_get transcripts namespace ≡ Some transcript → transcript ≡ record {
+      made = made;
+      records = [];
+    }
+
+-- journals that have just begun have no records
+pub count-empty : (made : Instant) (journals : List Transcript) → AreEmpty made journals → record_count journals ≡ 0
+count-empty made [] empty = refl
+count-empty made (t ∷ ts) empty =
+    let h = count-empty made ts (λ k u at. empty (suc k) u at) in
+    let z : length t.records ≡ 0 = ap (λ (u : Transcript). length u.records) (empty zero t refl) in
+    omega (arith, h, z, sum_by-cons (λ (journal : Transcript). length journal.records) t ts)
+
+-- ---- where they lead
 
 -- journals of that moment without records
 empties : {X : Type 0} → Instant → List X → List Transcript
@@ -125,8 +157,8 @@ module _ {T : Type 0} where
   still-output was is number (Err e) t same = subst (IsStill was) (sym same.1) (record { stands = λ s x. x; config = refl; part_of = refl })
 
   -- one that stands for the same was put in the place of another
-  pub put-still : (seen xs : List (Space T)) (e : xs ≡ seen) (k : ℕ) (was is : Space T) → slice_get xs k ≡ Some was → IsStill was is → IsWhereItWas seen (slice_set xs k is)
-  put-still seen xs e k was is at still = λ n w. ∥∥₁_map w (reached-still IsStill k seen (slice_set xs k is) n (λ x y s. s) (put-at seen xs e k was at IsStill is still))
+  pub put-still : (seen xs : List (Space T)) (e : xs ≡ seen) (k : ℕ) (was : Space T) (lt : k < length xs) (here : was ≡ get_or xs k was) (is : Space T) → IsStill was is → IsWhereItWas seen (slice_set xs k is)
+  put-still seen xs e k was lt here is still = λ n w. ∥∥₁_map w (reached-still IsStill k seen (slice_set xs k is) n (λ x y s. s) (put-at seen xs e k was lt here IsStill is still))
 
   -- loads were taken, or were not
   pub reached-loads : (k : ℕ) (old new : List (Space T)) (r : Result (Vec (LoadId × List ℕ) Global) ServiceError) → IfOk r (λ loads. At old new k (λ was is. TakesLoads was is loads.items)) → OnErr r (new ≡ old) → IsWhereItWas old new

@@ -1,8 +1,7 @@
 -- How far journals were read.
-use Rattle.std.proofs.Common.{◌≡◌, ◌≢◌, ℕ, zero, suc, ◌+◌, ◌<◌, ◌≤◌, List, [], ◌∷◌, ◌++◌, length, get_or, drop, map, slice_set, Option, Some, true, false, Vec, Global, refl, sym, ap, ◌∙◌, subst, inl, inr, arith}
-use Rattle.std.specs.Prelude.{◌⊎◌, IsNone}
+use Rattle.std.proofs.Common.{◌≡◌, ◌≢◌, ℕ, zero, suc, ◌+◌, ◌<◌, ◌≤◌, List, [], ◌∷◌, ◌++◌, length, get_or, drop, map, slice_set, Option, Some, true, false, Vec, Global, refl, sym, ap, ◌∙◌, subst, inl, inr, arith, ◌⊎◌, IsNone}
 use Rattle.std.specs.List.{slice_get}
-use Rattle.std.specs.Option.{option_map_or, option_to_list}
+use Rattle.std.specs.Option.{option_to_list}
 use Rattle.std.proofs.Math.ListN.{drop_of_length-le}
 use Rattle.std.proofs.Math.Seq.{map-set_same}
 use Rattle.std.proofs.lemmas.Bool.{cases_eq}
@@ -10,7 +9,7 @@ use Rattle.std.proofs.lemmas.List.{get_or-map, get_or-set_other, get_or-set_same
 use Rattle.std.proofs.lemmas.Option.{none-some}
 use Rattle.audit_model.specs.declared.input.Conn.{Conn}
 use Rattle.audit_model.specs.declared.transcript.Note.{Note}
-use Rattle.audit_model.specs.declared.transcript.Transcript.{Transcript}
+use Rattle.audit_model.specs.declared.transcript.Record.{Record}
 use Rattle.cache_core.proofs.connections.Getting.{front-or-end}
 use Rattle.cache_core.specs.State.{at_number}
 use Rattle.cache_spaces.specs.Calls.{InSpace, IsOpened}
@@ -18,7 +17,7 @@ use Rattle.cache_spaces.specs.Cursors.{Cursor, cursor_at_start, cursor_of, taken
 use Rattle.cache_spaces.specs.Journals.{journals_of}
 use Rattle.cache_spaces.specs.Notes.{IsPlaceIn, TakesFrom, notes_before, notes_from}
 use Rattle.cache_spaces.specs.Recorded.{AreAtStart, IsUnread, ReadsJournals, ReadsWithin, Recorded, TakesNote, TakesReplies, cursor_in, records_in, recorded_of, untaken_in, untold_in}
-use Rattle.cache_spaces.specs.Replies.{replies_for}
+use Rattle.cache_spaces.specs.Replies.{records_at, replies_for}
 use Rattle.cache_spaces.specs.Spaces.{Space}
 use Rattle.cache_spaces.specs.declared.cursors.Cursors.{Cursors}
 use Rattle.cache_spaces.proofs.Noting.{all-notes, told-grows}
@@ -26,10 +25,7 @@ use Rattle.cache_lines.specs.Tape.Taped.{Taped}
 
 -- connections of one namespace and number are one
 pub same-conn : (a b : Conn) → a.namespace ≡ b.namespace → a.number ≡ b.number → a ≡ b
-same-conn a b e f =
-    let first : record { namespace = a.namespace; number = a.number } ≡ record { namespace = b.namespace; number = a.number } = ap (λ n. record { namespace = n; number = a.number }) e in
-    let second : record { namespace = b.namespace; number = a.number } ≡ record { namespace = b.namespace; number = b.number } = ap (λ n. record { namespace = b.namespace; number = n }) f in
-    first ∙ second
+same-conn a b e f = rw (e, f)
 
 module _ (spaces : List (Space Taped)) (read : List Cursors) (namespace : ℕ) (here is : Cursors) (lt : namespace < length read) (at : here ≡ get_or read namespace here) where
   pub was-there : cursor_in (recorded_of spaces read) namespace ≡ cursor_of here
@@ -56,115 +52,97 @@ module _ (spaces : List (Space Taped)) (read : List Cursors) (namespace : ℕ) (
           ∙ sym (ap (λ n. f (cursor_in (recorded_of spaces read) n)) here-is)
       go (inr ne) = ap f (is-elsewhere other ne)
 
-  module _ (journal : Transcript) (stands : slice_get (journals_of spaces) namespace ≡ Some journal) where
-    abbrev was : Recorded
-    was = recorded_of spaces read
+  abbrev was : Recorded
+  was = recorded_of spaces read
 
-    abbrev now : Recorded
-    now = recorded_of spaces (slice_set read namespace is)
+  abbrev now : Recorded
+  now = recorded_of spaces (slice_set read namespace is)
 
-    records-are : records_in was namespace ≡ journal.records
-    records-are = ap (λ o. option_map_or (λ (j : Transcript). j.records) o []) stands
+  abbrev records : List Record
+  records = records_at (journals_of spaces) namespace
 
-    -- the notes that were not taken
-    pub untold-is : untold_in was namespace ≡ notes_from journal.records here.notes
-    untold-is = ap (λ rs. notes_from rs (cursor_in was namespace).notes) records-are ∙ ap (λ (c : Cursor). notes_from journal.records c.notes) was-there
+  -- the notes that were not taken
+  pub untold-is : untold_in was namespace ≡ notes_from records here.notes
+  untold-is = ap (λ (c : Cursor). notes_from records c.notes) was-there
 
-    -- what a taking of replies leaves
-    pub takes-replies : (number : ℕ)
-        → InSpace spaces namespace (λ space. IsOpened space number)
-        → taken_through (cursor_of is) number ≡ length journal.records
-        → ((other : ℕ) → other ≢ number → taken_through (cursor_of is) other ≡ taken_through (cursor_of here) other)
-        → is.notes ≡ here.notes
-        → TakesReplies was now (record { namespace = namespace; number = number }) (untaken_in was (record { namespace = namespace; number = number }))
-    takes-replies number opened cursor others notes = record {
-      known = opened;
-      text_is = refl;
-      none = ap (λ rs. replies_for number (drop (taken_through (cursor_in now namespace) number) rs)) records-are
-          ∙ ap (λ (c : Cursor). replies_for number (drop (taken_through c number) journal.records)) is-there
-          ∙ ap (λ n. replies_for number (drop n journal.records)) cursor
-          ∙ ap (replies_for number) (drop_of_length-le journal.records (omega arith));
-      reached = ap (λ (c : Cursor). taken_through c number) is-there ∙ cursor ∙ ap length (sym records-are);
-      others = λ other ne. other-replies other ne (cases_eq other.namespace namespace);
-      notes = λ n. let e = same-seen (λ c. c.notes) notes n in (ap (notes_before (records_in was n)) e, ap (notes_from (records_in was n)) e);
-      spaces = refl;
-    }
-      where
-        other-replies : (other : Conn) → other ≢ record { namespace = namespace; number = number } → (other.namespace ≡ namespace) ⊎ (other.namespace ≢ namespace)
-            → untaken_in now other ≡ untaken_in was other
-        other-replies other ne (inr elsewhere) =
-            ap (λ (c : Cursor). replies_for other.number (drop (taken_through c other.number) (records_in was other.namespace))) (is-elsewhere other.namespace elsewhere)
-        other-replies other ne (inl same) =
-            let numbers = others other.number (λ e. ne (same-conn other (record { namespace = namespace; number = number }) same e)) in
-            ap (λ k. replies_for other.number (drop k (records_in was other.namespace)))
-            (ap (λ n. taken_through (cursor_in now n) other.number) same ∙ ap (λ (c : Cursor). taken_through c other.number) is-there ∙ numbers
-            ∙ sym (ap (λ (c : Cursor). taken_through c other.number) was-there) ∙ sym (ap (λ n. taken_through (cursor_in was n) other.number) same))
+  -- what a taking of replies leaves
+  pub takes-replies : (number : ℕ)
+      → InSpace spaces namespace (λ space. IsOpened space number)
+      → taken_through (cursor_of is) number ≡ length records
+      → ((other : ℕ) → other ≢ number → taken_through (cursor_of is) other ≡ taken_through (cursor_of here) other)
+      → is.notes ≡ here.notes
+      → TakesReplies was now (record { namespace = namespace; number = number }) (untaken_in was (record { namespace = namespace; number = number }))
+  takes-replies number opened cursor others notes = record {
+    known = opened;
+    text_is = refl;
+    none = ap (λ (c : Cursor). replies_for number (drop (taken_through c number) records)) is-there ∙ ap (λ n. replies_for number (drop n records)) cursor
+        ∙ ap (replies_for number) (drop_of_length-le records (omega arith));
+    reached = ap (λ (c : Cursor). taken_through c number) is-there ∙ cursor;
+    others = λ other ne. other-replies other ne (cases_eq other.namespace namespace);
+    notes = λ n. let e = same-seen (λ c. c.notes) notes n in (ap (notes_before (records_in was n)) e, ap (notes_from (records_in was n)) e);
+    spaces = refl;
+  }
+    where
+      other-replies : (other : Conn) → other ≢ record { namespace = namespace; number = number } → (other.namespace ≡ namespace) ⊎ (other.namespace ≢ namespace)
+          → untaken_in now other ≡ untaken_in was other
+      other-replies other ne (inr elsewhere) =
+          ap (λ (c : Cursor). replies_for other.number (drop (taken_through c other.number) (records_in was other.namespace))) (is-elsewhere other.namespace elsewhere)
+      other-replies other ne (inl same) =
+          let numbers = others other.number (λ e. ne (same-conn other (record { namespace = namespace; number = number }) same e)) in
+          ap (λ k. replies_for other.number (drop k (records_in was other.namespace))) (same-seen (λ c. taken_through c other.number) numbers other.namespace)
 
-    -- what a taking of a note leaves
-    pub takes-note : (note : Option Note) → TakesFrom journal.records here.notes is.notes note → (IsNone note → notes_from journal.records here.notes ≡ [])
-        → IsPlaceIn journal.records is.notes → is.replies ≡ here.replies → TakesNote was now namespace note
-    takes-note note takes none place replies =
-        let before : (r : Cursors) (c : Cursor) → c ≡ cursor_of r → notes_before (records_in was namespace) c.notes ≡ notes_before journal.records r.notes =
-        λ r c e. ap (λ rs. notes_before rs c.notes) records-are ∙ ap (λ (d : Cursor). notes_before journal.records d.notes) e in
-        let from : (r : Cursors) (c : Cursor) → c ≡ cursor_of r → notes_from (records_in was namespace) c.notes ≡ notes_from journal.records r.notes =
-        λ r c e. ap (λ rs. notes_from rs c.notes) records-are ∙ ap (λ (d : Cursor). notes_from journal.records d.notes) e in
-        record {
-          grows = before is (cursor_in now namespace) is-there ∙ told-grows journal.records here.notes is.notes (option_to_list note) takes
-              ∙ ap (λ l. l ++ option_to_list note) (sym (before here (cursor_in was namespace) was-there));
-          left = from here (cursor_in was namespace) was-there ∙ takes ∙ ap (λ l. option_to_list note ++ l) (sym (from is (cursor_in now namespace) is-there));
-          none = λ no. from here (cursor_in was namespace) was-there ∙ none no;
-          place = subst (λ rs. IsPlaceIn rs (cursor_in now namespace).notes) (sym records-are) (subst (λ (c : Cursor). IsPlaceIn journal.records c.notes) (sym is-there) place);
-          all = all-notes (records_in now namespace) (cursor_in now namespace).notes;
-          others = λ other ne. let e = is-elsewhere other ne in (ap (λ (c : Cursor). notes_before (records_in was other) c.notes) e, ap (λ (c : Cursor). notes_from (records_in was other) c.notes) e);
-          replies = λ conn.
-              let same = same-seen (λ c. taken_through c conn.number) (ap (λ (v : Vec ℕ Global). at_number 0 v.items conn.number) replies) conn.namespace in
-              ap (λ k. replies_for conn.number (drop k (records_in was conn.namespace))) same;
-          spaces = refl;
-        }
+  -- what a taking of a note leaves
+  pub takes-note : (note : Option Note) → TakesFrom records here.notes is.notes note → (IsNone note → notes_from records here.notes ≡ [])
+      → IsPlaceIn records is.notes → is.replies ≡ here.replies → TakesNote was now namespace note
+  takes-note note takes none place replies = record {
+    grows = ap (λ (c : Cursor). notes_before records c.notes) is-there ∙ told-grows records here.notes is.notes (option_to_list note) takes
+        ∙ ap (λ (c : Cursor). notes_before records c.notes ++ option_to_list note) (sym was-there);
+    left = untold-is ∙ takes ∙ ap (λ (c : Cursor). option_to_list note ++ notes_from records c.notes) (sym is-there);
+    none = λ no. untold-is ∙ none no;
+    place = subst (λ (c : Cursor). IsPlaceIn records c.notes) (sym is-there) place;
+    all = all-notes records (cursor_in now namespace).notes;
+    others = λ other ne. let e = is-elsewhere other ne in (ap (λ (c : Cursor). notes_before (records_in was other) c.notes) e, ap (λ (c : Cursor). notes_from (records_in was other) c.notes) e);
+    replies = λ conn.
+        let same = same-seen (λ c. taken_through c conn.number) (ap (λ (v : Vec ℕ Global). at_number 0 v.items conn.number) replies) conn.namespace in
+        ap (λ k. replies_for conn.number (drop k (records_in was conn.namespace))) same;
+    spaces = refl;
+  }
 
-    -- what is read stands in the journals, where what is read of this one does
-    reads-here : ReadsJournals was → ReadsWithin journal.records (cursor_of here)
-    reads-here reads = subst (λ rs. ReadsWithin rs (cursor_of here)) records-are (subst (ReadsWithin (records_in was namespace)) was-there (reads namespace))
+  -- what is read stands in the journals, where what is read of this one does
+  reads-here : ReadsJournals was → ReadsWithin records (cursor_of here)
+  reads-here reads = subst (ReadsWithin records) was-there (reads namespace)
 
-    reads-now : ReadsJournals was → ReadsWithin journal.records (cursor_of is) → ReadsJournals now
-    reads-now reads within other = go (cases_eq other namespace)
-      where
-        go : (other ≡ namespace) ⊎ (other ≢ namespace) → ReadsWithin (records_in now other) (cursor_in now other)
-        go (inl same) =
-            subst (λ n. ReadsWithin (records_in now n) (cursor_in now n)) (sym same)
-            (subst (λ rs. ReadsWithin rs (cursor_in now namespace)) (sym records-are) (subst (ReadsWithin journal.records) (sym is-there) within))
-        go (inr ne) = subst (ReadsWithin (records_in was other)) (sym (is-elsewhere other ne)) (reads other)
+  reads-now : ReadsJournals was → ReadsWithin records (cursor_of is) → ReadsJournals now
+  reads-now reads within other = go (cases_eq other namespace)
+    where
+      go : (other ≡ namespace) ⊎ (other ≢ namespace) → ReadsWithin (records_in now other) (cursor_in now other)
+      go (inl same) = subst (λ n. ReadsWithin (records_in now n) (cursor_in now n)) (sym same) (subst (ReadsWithin records) (sym is-there) within)
+      go (inr ne) = subst (ReadsWithin (records_in was other)) (sym (is-elsewhere other ne)) (reads other)
 
-    -- after a taking of replies
-    pub replies-read : (number : ℕ) → taken_through (cursor_of is) number ≡ length journal.records
-        → ((other : ℕ) → other ≢ number → taken_through (cursor_of is) other ≡ taken_through (cursor_of here) other)
-        → is.notes ≡ here.notes → ReadsJournals was → ReadsJournals now
-    replies-read number cursor others notes reads = reads-now reads (record {
-      replies = λ other. go other (cases_eq other number);
-      notes = subst (IsPlaceIn journal.records) (sym notes) before.notes;
-    })
-      where
-        before : ReadsWithin journal.records (cursor_of here)
-        before = reads-here reads
+  -- after a taking of replies
+  pub replies-read : (number : ℕ) → taken_through (cursor_of is) number ≡ length records
+      → ((other : ℕ) → other ≢ number → taken_through (cursor_of is) other ≡ taken_through (cursor_of here) other)
+      → is.notes ≡ here.notes → ReadsJournals was → ReadsJournals now
+  replies-read number cursor others notes reads = reads-now reads (record {
+    replies = λ other. go other (cases_eq other number);
+    notes = subst (IsPlaceIn records) (sym notes) (reads-here reads).notes;
+  })
+    where
+      go : (other : ℕ) → (other ≡ number) ⊎ (other ≢ number) → taken_through (cursor_of is) other ≤ length records
+      go other (inl e) = let at : taken_through (cursor_of is) other ≡ length records = ap (taken_through (cursor_of is)) e ∙ cursor in omega (arith, at)
+      go other (inr ne) = subst (λ n. n ≤ length records) (sym (others other ne)) ((reads-here reads).replies other)
 
-        go : (other : ℕ) → (other ≡ number) ⊎ (other ≢ number) → taken_through (cursor_of is) other ≤ length journal.records
-        go other (inl e) = let at : taken_through (cursor_of is) other ≡ length journal.records = ap (taken_through (cursor_of is)) e ∙ cursor in omega (arith, at)
-        go other (inr ne) = subst (λ n. n ≤ length journal.records) (sym (others other ne)) (before.replies other)
-
-    -- after a taking of a note
-    pub notes-read : IsPlaceIn journal.records is.notes → is.replies ≡ here.replies → ReadsJournals was → ReadsJournals now
-    notes-read place replies reads = reads-now reads (record {
-      replies = λ other. subst (λ (v : Vec ℕ Global). at_number 0 v.items other ≤ length journal.records) (sym replies) ((reads-here reads).replies other);
-      notes = place;
-    })
+  -- after a taking of a note
+  pub notes-read : IsPlaceIn records is.notes → is.replies ≡ here.replies → ReadsJournals was → ReadsJournals now
+  notes-read place replies reads = reads-now reads (record {
+    replies = λ other. subst (λ (v : Vec ℕ Global). at_number 0 v.items other ≤ length records) (sym replies) ((reads-here reads).replies other);
+    notes = place;
+  })
 
 -- ---- a call that is refused
 
 cursor-same : (a b : Cursors) → a.replies.items ≡ b.replies.items → a.notes ≡ b.notes → cursor_of a ≡ cursor_of b
-cursor-same a b e f =
-    let first : cursor_of a ≡ record { replies = b.replies.items; notes = a.notes } = ap (λ l. record { replies = l; notes = a.notes }) e in
-    let second : record { replies = b.replies.items; notes = a.notes } ≡ cursor_of b = ap (λ n. record { replies = b.replies.items; notes = n }) f in
-    first ∙ second
+cursor-same a b e f = rw (e, f)
 
 -- one that is seen as the one before it, in its place
 pub same-read : (spaces : List (Space Taped)) (read : List Cursors) (k : ℕ) (here is : Cursors) → here ≡ get_or read k here → is.replies.items ≡ here.replies.items → is.notes ≡ here.notes
@@ -183,15 +161,6 @@ pub first-none : {X : Type 0} (xs : List X) → IsNone (slice_get xs 0) → xs �
 first-none [] none = refl
 first-none (x ∷ xs) none = absurd (let h : true ≡ false = none in cc)
 
--- where there is a journal it was read from somewhere
-pub read-there : (spaces : List (Space Taped)) (read : List Cursors) (k : ℕ) (journal : Transcript) → slice_get (journals_of spaces) k ≡ Some journal → length read ≡ length spaces → k < length read
-read-there spaces read k journal at count = subst (λ n. k < n) (sym count) (go spaces k at)
-  where
-    go : (ss : List (Space Taped)) (j : ℕ) → slice_get (journals_of ss) j ≡ Some journal → j < length ss
-    go [] j e = absurd (none-some journal e)
-    go (s ∷ ss) zero e = omega arith
-    go (s ∷ ss) (suc j) e = let lt = go ss j e in omega (arith, lt)
-
 -- ---- at the start
 
 -- no namespace
@@ -207,10 +176,7 @@ start-more read fresh count s replies notes = record {
 
 -- a cursor at the start
 fresh-cursor : (c : Cursors) → c.replies.items ≡ [] → c.notes ≡ record { entry = 0; list = 0; note = 0 } → cursor_of c ≡ cursor_at_start
-fresh-cursor c e f =
-    let first : cursor_of c ≡ record { replies = []; notes = c.notes } = ap (λ l. record { replies = l; notes = c.notes }) e in
-    let second : record { replies = []; notes = c.notes } ≡ cursor_at_start = ap (λ n. record { replies = []; notes = n }) f in
-    first ∙ second
+fresh-cursor c e f = rw (e, f)
 
 -- nothing was read
 pub start-unread : (spaces : List (Space Taped)) (read : List Cursors) (count : ℕ) → AreAtStart read count → IsUnread (recorded_of spaces read)

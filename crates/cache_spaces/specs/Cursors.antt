@@ -1,5 +1,5 @@
 -- How far a namespace was read.
-use Rattle.std.specs.Prelude.{◌≡◌, ℕ, List, []}
+use Rattle.std.specs.Prelude.{ℕ, List, []}
 use Rattle.cache_core.specs.State.{at_number}
 use Rattle.cache_spaces.specs.declared.cursors.Cursors.{Cursors}
 use Rattle.cache_spaces.specs.declared.told.Told.{Told}

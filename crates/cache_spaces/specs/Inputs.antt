@@ -1,8 +1,11 @@
 -- What inputs do to a service.
-use Rattle.std.specs.Prelude.{◌≡◌, ℕ, Bool, false, length, Option, Some}
+use Rattle.std.specs.Prelude.{◌≡◌, ◌≢◌, ℕ, Bool, false, length, Option, Some}
 use Rattle.audit_model.specs.Belongs.{event_in}
 use Rattle.audit_model.specs.Situation.{Situation}
 use Rattle.audit_model.specs.declared.event.Event.{Event}
+use Rattle.audit_model.specs.declared.event.Instant.{Instant}
+use Rattle.audit_model.specs.declared.event.Outcome.{Outcome}
+use Rattle.audit_model.specs.declared.input.LoadId.{LoadId}
 use Rattle.audit_model.specs.declared.input.Input.{Input}
 use Rattle.audit_model.specs.declared.input.Input.TheVariants as input
 use Rattle.audit_model.specs.declared.input.ServiceError.{ServiceError}
@@ -22,6 +25,11 @@ namespace_of (input.Close conn) = conn.namespace
 namespace_of (input.Feed conn piece moment) = conn.namespace
 namespace_of (input.Answer load outcome moment) = load.namespace
 namespace_of (input.GiveUp load moment) = load.namespace
+
+-- it is not an answer
+abbrev pub IsNoAnswer : Input → Type 0
+IsNoAnswer i =
+    (load : LoadId) (outcome : Outcome) (moment : Instant) → i ≢ input.Answer load outcome moment
 
 module _ {T : Type 0} where
   -- a command is held back on the connection that the input feeds

@@ -110,11 +110,10 @@ pub record TakesNote (was is : Recorded) (namespace : ℕ) (note : Option Note) 
   pub replies : (conn : Conn) → untaken_in is conn ≡ untaken_in was conn
   pub spaces : is.spaces ≡ was.spaces
 
--- a connection has a cursor if it was opened
+-- in each namespace there are as many cursors as connections were opened
 abbrev pub HaveCursors : List (Space Taped) → List Cursors → Type 0
-HaveCursors spaces read = (namespace : ℕ) (space : Space Taped) (cursors : Cursors)
-    → slice_get spaces namespace ≡ Some space → slice_get read namespace ≡ Some cursors
-    → length cursors.replies.items ≡ length space.closings
+HaveCursors spaces read =
+    map (λ cursors. length cursors.replies.items) read ≡ map (λ space. length space.closings) spaces
 
 -- what was lent was taken; or nothing changed
 abbrev pub LendsReplies : Recorded → Conn → Result LentReplies ServiceError → Recorded → Type 0

@@ -12,7 +12,7 @@ use Rattle.cache_core.specs.State.{State}
 use Rattle.cache_core.specs.Turned as turned
 use Rattle.cache_front.specs.declared.entries.hasher.KeyedHasher.{KeyedHasher}
 use Rattle.cache_front.specs.declared.entries.hasher.WordBuilder.{WordBuilder}
-use Rattle.cache_front.specs.Store.Data.{StoreData}
+use Rattle.cache_front.specs.Data.{StoreData}
 use Rattle.cache_spaces.specs.Stores.{shown_of}
 use Rattle.cache_lines.specs.Drawing.{Identifiers, identifiers_in}
 use Rattle.cache_lines.specs.Tape.Taped.{Taped}

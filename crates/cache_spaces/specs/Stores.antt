@@ -5,9 +5,9 @@ use Rattle.std.specs.declared.hash.DefaultHasher.{DefaultHasher}
 use Rattle.cache_front.specs.declared.entries.hasher.KeyedHasher.{KeyedHasher}
 use Rattle.cache_front.specs.declared.entries.hasher.WordBuilder.{WordBuilder}
 use Rattle.cache_front.specs.declared.entries.hasher.WordHasher.{WordHasher}
-use Rattle.cache_front.specs.Store.Data.{StoreData, data_of, parted_by}
-use Rattle.cache_front.specs.Store.State.{hash_by}
-use Rattle.cache_front.specs.Store.View.{view}
+use Rattle.cache_front.specs.Data.{StoreData, data_of, parted_by}
+use Rattle.cache_front.specs.State.{hash_by}
+use Rattle.cache_front.specs.View.{view}
 use Rattle.cache_store.specs.Values.{Values}
 use Rattle.rand_core.specs.Steps.{stream_of, steps_u64_high}
 use Rattle.rand_xoshiro.specs.Xoshiro256.{plus_plus}

@@ -13,7 +13,7 @@ ghost use Rattle.cache_spaces.specs.Lent.{lent_replies};
 ghost use Rattle.cache_spaces.specs.Notes.{notes_from};
 ghost use Rattle.cache_spaces.specs.Played.{WerePlayed};
 ghost use Rattle.cache_spaces.specs.Recorded.{AreAtStart, GainsRecord, IsUnread, KeepsTaken, LendsNote, LendsReplies, TakesNote, TakesReplies, cursor_in, records_in, untaken_in, untold_in};
-ghost use Rattle.cache_spaces.specs.Replies.{replies_for};
+ghost use Rattle.cache_spaces.specs.Replies.{records_at, replies_for};
 ghost use Rattle.cache_spaces.specs.Services.{AreNew, are_taken, blank_tape};
 
 use crate::cursors::Cursors;
@@ -22,7 +22,9 @@ use crate::service::Core;
 use crate::stepping::Refusal;
 use crate::told::{Told, find_note};
 use audit_laws::Output;
-use audit_model::{Bytes, Config, Conn, Input, Instant, LoadId, Note, ServiceError, Transcript};
+use audit_model::{
+    Bytes, Config, Conn, Input, Instant, LoadId, Note, Record, ServiceError, Transcript,
+};
 use cache_lines::Kept;
 use rand_xoshiro::Xoshiro256PlusPlus;
 use std::alloc::{AllocError, Global};
@@ -78,10 +80,7 @@ impl RecordedService {
         ensures memory { IfErr result (λ e. (e ≡ ServiceError.Moment) ⊎ (e ≡ ServiceError.Config)
             ⊎ (e ≡ ServiceError.OutOfMemory)) }
     {
-        let core = match Core::new(alloc, configs, generator, moment) {
-            Ok(core) => core,
-            Err(error) => return Err(error),
-        };
+        let core = Core::new(alloc, configs, generator, moment)?;
         let Ok(room) = Vec::with_capacity(alloc, configs.len()) else {
             return Err(ServiceError::OutOfMemory);
         };
@@ -129,13 +128,11 @@ impl RecordedService {
         ensures journals { IsSoOfEach IsJournalOf self.new.spaces }
     {
         let RecordedService { core, read, .. } = self;
-        match read.get_mut(namespace as usize) {
-            Some(cursors) => open_in(core, &mut cursors.replies, namespace),
-            None => Err(Refusal {
-                error: ServiceError::NoNamespace,
-                input: Input::Open { namespace },
-            }),
-        }
+        let Some(cursors) = read.get_mut(namespace as usize) else {
+            let input = Input::Open { namespace };
+            return Err(Refusal::new(ServiceError::NoNamespace, input));
+        };
+        open_in(core, &mut cursors.replies, namespace)
     }
 
     /// Returns the journal of a namespace: a record for each input that it took, in order. It obeys, and leads to where the namespace
@@ -147,7 +144,7 @@ impl RecordedService {
         ensures refused { IfErr result
             (λ e. (e ≡ ServiceError.NoNamespace) × (length self.now.spaces ≤ namespace)) }
     {
-        journal_in(&self.core, namespace)
+        self.core.journal(namespace)
     }
 
     /// Returns the namespaces under the journals, for inspection: closings, waiting connections, loads under way. Their output and notes
@@ -174,10 +171,8 @@ impl RecordedService {
         ensures refused { IfErr result (λ e.
             Refuses self.now.spaces conn.namespace e (λ space. IsUnknown space conn.number e)) }
     {
-        match self.replies_taken(conn) {
-            Ok(count) => Ok(self.replies_from(conn, count)),
-            Err(error) => Err(error),
-        }
+        let count = self.replies_taken(conn)?;
+        Ok(self.replies_from(conn, count))
     }
 
     /// Returns the replies of a connection since they were last taken, lent from the journal, even after it closed. Each comes once. This is
@@ -191,10 +186,7 @@ impl RecordedService {
         ensures refused { IfErr result (λ e.
             Refuses self.old.spaces conn.namespace e (λ space. IsUnknown space conn.number e)) }
     {
-        let count = match self.replies_taken(conn) {
-            Ok(count) => count,
-            Err(error) => return Err(error),
-        };
+        let count = self.replies_taken(conn)?;
         self.pass_replies(conn);
         Ok(self.replies_from(conn, count))
     }
@@ -208,13 +200,9 @@ impl RecordedService {
         ensures refused { IfErr result (λ e.
             Refuses self.now.spaces conn.namespace e (λ space. IsUnknown space conn.number e)) }
     {
-        match self.core.closed(conn) {
-            Ok(_) => {
-                let cursors = &self.read[conn.namespace as usize];
-                Ok(cursors.replies_taken(conn.number))
-            }
-            Err(error) => Err(error),
-        }
+        self.core.closed(conn)?;
+        let cursors = &self.read[conn.namespace as usize];
+        Ok(cursors.replies_taken(conn.number))
     }
 
     /// Moves the cursor of a connection to the journal's end.
@@ -222,25 +210,17 @@ impl RecordedService {
         requires { InSpace self.old.spaces conn.namespace (λ space. IsOpened space conn.number) }
         ensures { TakesReplies self.old self.new conn (untaken_in self.old conn) }
     {
-        let RecordedService { core, read, .. } = self;
-        let Ok(journal) = journal_in(core, conn.namespace) else {
-            unreachable!();
-        };
-        let cursors = &mut read[conn.namespace as usize];
-        cursors.pass_replies(conn.number, journal.records.len() as u64);
+        let count = self.core.records(conn.namespace).len() as u64;
+        self.read[conn.namespace as usize].pass_replies(conn.number, count);
     }
 
     /// The replies of a connection in its namespace's records from this place on.
     fn replies_from(&self, conn: Conn, place: u64) -> LentReplies<'_>
-        requires { conn.namespace < length self.now.spaces }
         ensures { lent_replies result
             ≡ replies_for conn.number (drop place (records_in self.now conn.namespace)) }
     {
-        let Ok(journal) = journal_in(&self.core, conn.namespace) else {
-            unreachable!();
-        };
         LentReplies {
-            records: records_from(journal.records.as_slice(), place),
+            records: records_from(self.core.records(conn.namespace), place),
             number: conn.number,
         }
     }
@@ -283,10 +263,8 @@ impl RecordedService {
         ensures refused { IfErr result
             (λ e. (e ≡ ServiceError.NoNamespace) × (length self.old.spaces ≤ namespace)) }
     {
-        match self.pass_note(namespace) {
-            Ok(told) => Ok(self.note_from(namespace, told)),
-            Err(error) => Err(error),
-        }
+        let told = self.pass_note(namespace)?;
+        Ok(self.note_from(namespace, told))
     }
 
     /// Moves behind the first note of a namespace that was not taken, and returns the place from which it is the first. Returns
@@ -295,30 +273,23 @@ impl RecordedService {
         ensures told { IfOk result (λ told. told ≡ (cursor_in self.old namespace).notes) }
         ensures passed { OnOk result
             (TakesNote self.old self.new namespace (slice_get (untold_in self.old namespace) 0)) }
-        ensures there { OnOk result (namespace < length self.old.spaces) }
         ensures refused { IfErr result
             (λ e. (e ≡ ServiceError.NoNamespace) × (length self.old.spaces ≤ namespace)) }
         ensures unchanged { OnErr result (self.new ≡ self.old) }
     {
         let RecordedService { core, read, .. } = self;
-        let journal = match journal_in(core, namespace) {
-            Ok(journal) => journal,
-            Err(error) => return Err(error),
+        let Some(cursors) = read.get_mut(namespace as usize) else {
+            return Err(ServiceError::NoNamespace);
         };
-        let cursors = &mut read[namespace as usize];
-        Ok(cursors.pass_note(journal.records.as_slice()))
+        Ok(cursors.pass_note(core.records(namespace)))
     }
 
     /// The first note in a namespace's records from this place on.
     fn note_from(&self, namespace: u64, told: Told) -> Option<&Note>
-        requires { namespace < length self.now.spaces }
         ensures { option_copied result
             ≡ slice_get (notes_from (records_in self.now namespace) told) 0 }
     {
-        let Ok(journal) = journal_in(&self.core, namespace) else {
-            unreachable!();
-        };
-        match find_note(journal.records.as_slice(), told) {
+        match find_note(self.core.records(namespace), told) {
             Some((note, _)) => Some(note),
             None => None,
         }
@@ -336,6 +307,30 @@ impl RecordedService {
             journals.push_reserved(space.into_tape().into_journal());
         }
         journals
+    }
+}
+
+impl Core<Kept> {
+    /// The journal of a namespace, or `NoNamespace`.
+    fn journal(&self, namespace: u64) -> Result<&Transcript, ServiceError>
+        ensures journal { IfOk result
+            (λ journal. slice_get (journals_of self.now) namespace ≡ Some journal.now) }
+        ensures refused { IfErr result
+            (λ e. (e ≡ ServiceError.NoNamespace) × (length self.now ≤ namespace)) }
+    {
+        let space = self.space(namespace)?;
+        space.sound();
+        Ok(space.tape().journal())
+    }
+
+    /// The records of a namespace's journal; none if there is no such namespace.
+    fn records(&self, namespace: u64) -> &[Record]
+        ensures { result.now ≡ records_at (journals_of self.now) namespace }
+    {
+        match self.journal(namespace) {
+            Ok(journal) => journal.records.as_slice(),
+            Err(_) => &[],
+        }
     }
 }
 
@@ -363,33 +358,10 @@ fn open_in(core: &mut Core<Kept>, replies: &mut Vec<u64>, namespace: u64) -> Res
     ensures kept { OnErr result (replies.new.items ≡ replies.old.items) }
 {
     let input = Input::Open { namespace };
-    let Ok(()) = replies.try_reserve(1) else {
-        return Err(Refusal {
-            error: ServiceError::OutOfMemory,
-            input,
-        });
-    };
-    match core.step(input) {
-        Ok(output) => {
-            replies.push_reserved(0);
-            Ok(output)
-        }
-        Err(refusal) => Err(refusal),
+    if replies.try_reserve(1).is_err() {
+        return Err(Refusal::new(ServiceError::OutOfMemory, input));
     }
-}
-
-/// The journal of a namespace, or `NoNamespace`.
-fn journal_in(core: &Core<Kept>, namespace: u64) -> Result<&Transcript, ServiceError>
-    ensures journal { IfOk result
-        (λ journal. slice_get (journals_of core.now) namespace ≡ Some journal.now) }
-    ensures refused { IfErr result
-        (λ e. (e ≡ ServiceError.NoNamespace) × (length core.now ≤ namespace)) }
-{
-    match core.spaces.get(namespace as usize) {
-        Some(space) => {
-            space.sound();
-            Ok(space.tape().journal())
-        }
-        None => Err(ServiceError::NoNamespace),
-    }
+    let output = core.step(input)?;
+    replies.push_reserved(0);
+    Ok(output)
 }

@@ -7,7 +7,6 @@ mod making;
 mod playing;
 mod replies;
 mod service;
-mod sound;
 mod stepping;
 mod tapes;
 mod told;

@@ -24,10 +24,7 @@ const SECRET: usize = 16;
 pub fn are_taken(configs: &[Config]) -> bool
     ensures { result ≡ are_taken configs.now }
 {
-    if configs.is_empty() || configs.len() > MOST {
-        return false;
-    }
-    are_served(configs)
+    !configs.is_empty() && configs.len() <= MOST && are_served(configs)
 }
 
 /// Whether each of the configurations is in range.

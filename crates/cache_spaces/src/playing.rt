@@ -35,10 +35,7 @@ pub fn play(
     ensures memory { IfErr result (λ e. (e ≡ ServiceError.Moment) ⊎ (e ≡ ServiceError.Config)
         ⊎ (e ≡ ServiceError.OutOfMemory)) }
 {
-    let mut recorded = match RecordedService::new(alloc, configs, generator, moment) {
-        Ok(recorded) => recorded,
-        Err(error) => return Err(error),
-    };
+    let mut recorded = RecordedService::new(alloc, configs, generator, moment)?;
     for input in inputs {
         let _ = hand_in(alloc, &mut recorded, input);
     }
@@ -58,8 +55,5 @@ fn hand_in(
     let Ok(copy) = copy_input(alloc, input) else {
         return Err(ServiceError::OutOfMemory);
     };
-    match recorded.step(copy) {
-        Ok(output) => Ok(output),
-        Err(refusal) => Err(refusal.error),
-    }
+    Ok(recorded.step(copy)?)
 }

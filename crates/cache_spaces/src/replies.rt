@@ -22,13 +22,11 @@ impl LentReplies<'_> {
         ensures unchanged { OnErr result (text.new.items ≡ text.old.items) }
     {
         let len = text.len();
-        match add_all(self.records, self.number, text) {
-            Ok(()) => Ok(()),
-            Err(error) => {
-                text.truncate(len);
-                Err(error)
-            }
+        let done = add_all(self.records, self.number, text);
+        if done.is_err() {
+            text.truncate(len);
         }
+        done
     }
 
     /// Returns a copy of the replies, with their line ends.
@@ -81,11 +79,8 @@ fn add_reply(step: &Step, number: u64, text: &mut Vec<u8>) -> Result<(), AllocEr
     ensures added { OnOk result (text.new.items ≡ text.old.items ++ reply_for number step.now) }
     ensures unchanged { OnErr result (text.new.items ≡ text.old.items) }
 {
-    if step.conn != number {
-        return Ok(());
-    }
     match &step.reply {
-        Some(reply) => text.extend_from_slice(reply.as_slice()),
-        None => Ok(()),
+        Some(reply) if step.conn == number => text.extend_from_slice(reply.as_slice()),
+        _ => Ok(()),
     }
 }

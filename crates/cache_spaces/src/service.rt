@@ -4,10 +4,12 @@ ghost use Rattle.audit_model.specs.Belongs.{refusal_of};
 ghost use Rattle.audit_model.specs.declared.event.Event.TheVariants as event;
 ghost use Rattle.cache_core.specs.Settling.{answering, giving_up};
 ghost use Rattle.cache_core.specs.Turned.{feeding};
-ghost use Rattle.cache_spaces.specs.Calls.{At, InSpace, IsUnknown, OpensNext, RefusedFor, Refuses, ServesEvent, Settled, TakesLoads, TakesNotice, TakesOutput, IsOpened, is_held_in};
+ghost use Rattle.cache_spaces.specs.Calls.{At, InSpace, IsUnknown, OpensNext, RefusedFor, Refuses, ServesEvent, Settled, TakesLoads, TakesNotice, TakesOutput, IsOpened, IsSpace, is_held_in};
 ghost use Rattle.cache_spaces.specs.Reached.{IsReached, IsWhereItWas};
 ghost use Rattle.cache_spaces.specs.Services.{AreNew, are_taken, feed_is_held};
-ghost use Rattle.cache_spaces.specs.Spaces.{closing_of, config_of, is_waiting_for, known_of};
+ghost use Rattle.cache_spaces.specs.Sound.{IsSound};
+ghost use Rattle.cache_spaces.specs.Spaces.{Space, closing_of, config_of, is_waiting_for, known_of};
+ghost use Rattle.std.specs.List.{slice_get};
 
 use crate::making::{are_taken, new_spaces};
 use crate::tapes::NewTape;
@@ -308,10 +310,7 @@ impl<T: Tape> Core<T> {
         ensures refused { IfErr result
             (λ e. Refuses self.now conn.namespace e (λ space. IsUnknown space conn.number e)) }
     {
-        match self.spaces.get(conn.namespace as usize) {
-            Some(space) => space.closed(conn.number),
-            None => Err(ServiceError::NoNamespace),
-        }
+        self.space(conn.namespace)?.closed(conn.number)
     }
 
     /// Returns whether a connection is open and its first line is a `LOAD` that waits for its load, so that no later line runs. This
@@ -322,10 +321,7 @@ impl<T: Tape> Core<T> {
         ensures refused { IfErr result
             (λ e. Refuses self.now conn.namespace e (λ space. IsUnknown space conn.number e)) }
     {
-        match self.spaces.get(conn.namespace as usize) {
-            Some(space) => space.waiting(conn.number),
-            None => Err(ServiceError::NoNamespace),
-        }
+        self.space(conn.namespace)?.waiting(conn.number)
     }
 
     /// Returns how many loads of a namespace are under way: sent, and neither answered nor given up, whether they were taken or not. This
@@ -336,8 +332,29 @@ impl<T: Tape> Core<T> {
         ensures refused { IfErr result
             (λ e. (e ≡ ServiceError.NoNamespace) × (length self.now ≤ namespace)) }
     {
+        Ok(self.space(namespace)?.loads_open())
+    }
+
+    /// Does nothing. Its contract says what is true of a namespace, if it exists: it stands for a situation, it is in order, and its parts
+    /// agree with each other.
+    pub fn sound(&self, namespace: u64)
+        ensures { (space : Space T) → slice_get self.now namespace ≡ Some space
+            → IsSound T.view space }
+    {
+        match self.space(namespace) {
+            Ok(space) => space.sound(),
+            Err(_) => {}
+        }
+    }
+
+    /// The namespace with this number, or `NoNamespace`.
+    pub(crate) fn space(&self, namespace: u64) -> Result<&Namespace<SpaceStore, T>, ServiceError>
+        ensures space { IfOk result (λ space. IsSpace self.now namespace space.now) }
+        ensures refused { IfErr result
+            (λ e. (e ≡ ServiceError.NoNamespace) × (length self.now ≤ namespace)) }
+    {
         match self.spaces.get(namespace as usize) {
-            Some(space) => Ok(space.loads_open()),
+            Some(space) => Ok(space),
             None => Err(ServiceError::NoNamespace),
         }
     }

@@ -2,12 +2,12 @@
 ghost use Rattle.std.specs.Prelude.{◌≡◌, IfOk, IfErr, OnErr, OnOk};
 ghost use Rattle.audit_model.specs.declared.input.Input.TheVariants as input;
 ghost use Rattle.cache_spaces.specs.Calls.{At, Refuses};
-ghost use Rattle.cache_spaces.specs.Inputs.{Performs, RefusedInput, namespace_of};
+ghost use Rattle.cache_spaces.specs.Inputs.{IsNoAnswer, Performs, RefusedInput, namespace_of};
 ghost use Rattle.cache_spaces.specs.Reached.{IsOneFurther};
 
 use crate::service::{AnswerError, Core, Fed};
 use audit_laws::Output;
-use audit_model::{Bytes, Conn, Input, Instant, LoadId, Outcome, ServiceError};
+use audit_model::{Input, Instant, LoadId, Outcome, ServiceError};
 use cache_lines::Tape;
 use thiserror::Error;
 
@@ -19,6 +19,15 @@ pub struct Refusal {
     pub error: ServiceError,
     /// The input, unchanged.
     pub input: Input,
+}
+
+impl Refusal {
+    /// The refusal of an input, for this reason.
+    pub fn new(error: ServiceError, input: Input) -> Refusal
+        ensures { result ≡ record { error = error; input = input } }
+    {
+        Refusal { error, input }
+    }
 }
 
 impl From<Refusal> for ServiceError {
@@ -45,78 +54,49 @@ impl<T: Tape> Core<T> {
         ensures reached { OnOk result (IsOneFurther self.old self.new) }
     {
         match input {
-            Input::Open { namespace } => self.step_open(namespace),
-            Input::Close { conn } => self.step_close(conn),
-            Input::Feed {
-                conn,
-                piece,
-                moment,
-            } => self.step_feed(conn, piece, moment),
             Input::Answer {
                 load,
                 outcome,
                 moment,
             } => self.step_answer(load, outcome, moment),
-            Input::GiveUp { load, moment } => self.step_give_up(load, moment),
+            other => match self.perform(&other) {
+                Ok(output) => Ok(output),
+                Err(error) => Err(Refusal::new(error, other)),
+            },
         }
     }
 
-    /// Opens a connection.
-    fn step_open(&mut self, namespace: u64) -> Result<Output, Refusal>
+    /// Takes an input other than an answer, whose outcome has to be moved.
+    fn perform(&mut self, input: &Input) -> Result<Output, ServiceError>
+        requires { IsNoAnswer input.now }
         ensures performed { IfOk result (λ output.
-            At self.old self.new namespace (Performs T.view (input.Open namespace) output)) }
-        ensures refused { IfErr result (λ refusal. Refuses self.old namespace refusal.error
-            (RefusedInput (input.Open namespace) refusal.error)) }
-        ensures back { IfErr result (λ refusal. refusal.input ≡ input.Open namespace) }
+            At self.old self.new (namespace_of input.now) (Performs T.view input.now output)) }
+        ensures refused { IfErr result
+            (λ e. Refuses self.old (namespace_of input.now) e (RefusedInput input.now e)) }
         ensures unchanged { OnErr result (self.new ≡ self.old) }
     {
-        match self.open(namespace) {
-            Ok(conn) => Ok(Output::Opened { conn }),
-            Err(error) => Err(Refusal {
-                error,
-                input: Input::Open { namespace },
-            }),
-        }
-    }
-
-    /// Closes a connection.
-    fn step_close(&mut self, conn: Conn) -> Result<Output, Refusal>
-        ensures performed { IfOk result (λ output.
-            At self.old self.new conn.namespace (Performs T.view (input.Close conn) output)) }
-        ensures refused { IfErr result (λ refusal. Refuses self.old conn.namespace refusal.error
-            (RefusedInput (input.Close conn) refusal.error)) }
-        ensures back { IfErr result (λ refusal. refusal.input ≡ input.Close conn) }
-        ensures unchanged { OnErr result (self.new ≡ self.old) }
-    {
-        match self.close(conn) {
-            Ok(()) => Ok(Output::Done),
-            Err(error) => Err(Refusal {
-                error,
-                input: Input::Close { conn },
-            }),
-        }
-    }
-
-    /// Takes a piece of a connection's bytes.
-    fn step_feed(&mut self, conn: Conn, piece: Bytes, moment: Instant) -> Result<Output, Refusal>
-        ensures performed { IfOk result (λ output. At self.old self.new conn.namespace
-            (Performs T.view (input.Feed conn piece moment) output)) }
-        ensures refused { IfErr result (λ refusal. Refuses self.old conn.namespace refusal.error
-            (RefusedInput (input.Feed conn piece moment) refusal.error)) }
-        ensures back { IfErr result (λ refusal. refusal.input ≡ input.Feed conn piece moment) }
-        ensures unchanged { OnErr result (self.new ≡ self.old) }
-    {
-        match self.feed(conn, piece.as_slice(), moment) {
-            Ok(Fed::All) => Ok(Output::All),
-            Ok(Fed::Held) => Ok(Output::Held),
-            Err(error) => Err(Refusal {
-                error,
-                input: Input::Feed {
-                    conn,
-                    piece,
-                    moment,
-                },
-            }),
+        match input {
+            Input::Open { namespace } => {
+                let conn = self.open(*namespace)?;
+                Ok(Output::Opened { conn })
+            }
+            Input::Close { conn } => {
+                self.close(*conn)?;
+                Ok(Output::Done)
+            }
+            Input::Feed {
+                conn,
+                piece,
+                moment,
+            } => match self.feed(*conn, piece.as_slice(), *moment)? {
+                Fed::All => Ok(Output::All),
+                Fed::Held => Ok(Output::Held),
+            },
+            Input::GiveUp { load, moment } => {
+                self.give_up(*load, *moment)?;
+                Ok(Output::Done)
+            }
+            Input::Answer { .. } => unreachable!(),
         }
     }
 
@@ -136,32 +116,14 @@ impl<T: Tape> Core<T> {
     {
         match self.answer(load, outcome, moment) {
             Ok(()) => Ok(Output::Done),
-            Err(AnswerError { error, outcome }) => Err(Refusal {
-                error,
-                input: Input::Answer {
+            Err(AnswerError { error, outcome }) => {
+                let input = Input::Answer {
                     load,
                     outcome,
                     moment,
-                },
-            }),
-        }
-    }
-
-    /// Gives a load up.
-    fn step_give_up(&mut self, load: LoadId, moment: Instant) -> Result<Output, Refusal>
-        ensures performed { IfOk result (λ output. At self.old self.new load.namespace
-            (Performs T.view (input.GiveUp load moment) output)) }
-        ensures refused { IfErr result (λ refusal. Refuses self.old load.namespace refusal.error
-            (RefusedInput (input.GiveUp load moment) refusal.error)) }
-        ensures back { IfErr result (λ refusal. refusal.input ≡ input.GiveUp load moment) }
-        ensures unchanged { OnErr result (self.new ≡ self.old) }
-    {
-        match self.give_up(load, moment) {
-            Ok(()) => Ok(Output::Done),
-            Err(error) => Err(Refusal {
-                error,
-                input: Input::GiveUp { load, moment },
-            }),
+                };
+                Err(Refusal { error, input })
+            }
         }
     }
 }

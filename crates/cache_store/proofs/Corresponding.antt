@@ -25,44 +25,17 @@ left-append (n ∷ xs) ys items = left-append xs ys (without n.key items)
 
 value_at-other : (key q : List ℕ) (items : List HeldValue) → same q key ≡ false → value_at (without key items) q ≡ value_at items q
 value_at-other key q [] other = refl
-value_at-other key q (h ∷ items) other = go (same key h.value.key) refl (value_at-other key q items other)
-  where
-    go : (b : Bool) → same key h.value.key ≡ b → value_at (without key items) q ≡ value_at items q → value_at (cond b items (h ∷ without key items)) q ≡ value_at (h ∷ items) q
-    go true is next = ap (λ b. cond b (Some h) (value_at items q)) (sym (same_along q key h.value.key is ∙ other))
-    go false is next = ap (cond (same q h.value.key) (Some h)) next
+value_at-other key q (h ∷ items) other = grind (arith, value_at-other key q items other, same_along q key h.value.key)
 
 pub value_at-without : (key q : List ℕ) (items : List HeldValue) → are_apart items ≡ true → value_at (without key items) q ≡ cond (same q key) None (value_at items q)
-value_at-without key q items a = go (same q key) refl
-  where
-    go : (b : Bool) → same q key ≡ b → value_at (without key items) q ≡ cond b None (value_at items q)
-    go true is = none_from_absent q (without key items) (subst (λ k. is_absent k (without key items) ≡ true) (sym (equal_from_same q key is)) (absent-without key items a))
-    go false is = value_at-other key q items is
+value_at-without key q items a = grind (arith, none_from_absent q (without key items), equal_from_same q key, absent-without key items a, value_at-other key q items)
 
 plain-cond : (b : Bool) (o : Option HeldValue) → option_map plain (cond b None o) ≡ cond b None (option_map plain o)
 plain-cond true o = refl
 plain-cond false o = refl
 
 pub corresponds-without : (key : List ℕ) (items held : List HeldValue) → are_apart items ≡ true → Corresponds items held → Corresponds (without key items) (without key held)
-corresponds-without key items held a c = record {
-  found = λ q.
-      ap (option_map plain) (value_at-without key q held c.apart)
-      ∙ plain-cond (same q key) (value_at held q)
-      ∙ ap (cond (same q key) None) (c.found q)
-      ∙ sym (value_at-without key q items a);
-  number = numbers (value_at held key) refl;
-  apart = apart-without key held c.apart;
-}
-  where
-    numbers : (o : Option HeldValue) → value_at held key ≡ o → length (without key held) ≡ length (without key items)
-    numbers None e =
-        ap length (without-absent key held (absent_from_none key held e))
-        ∙ c.number
-        ∙ sym (ap length (without-absent key items (absent_from_none key items (sym (c.found key) ∙ ap (option_map plain) e))))
-    numbers (Some h) e =
-        let one = length-without key held h e in
-        let other = length-without key items (plain h) (sym (c.found key) ∙ ap (option_map plain) e) in
-        let both : length held ≡ length items = c.number in
-        omega arith
+corresponds-without key items held a c = grind (arith, value_at-without key, plain-cond, apart-without key held c.apart, without-absent key held, absent_from_none key held, without-absent key items, absent_from_none key items, length-without key held, length-without key items)
 
 pub corresponds-left : (notes : List Note) (items held : List HeldValue) → are_apart items ≡ true → Corresponds items held → Corresponds (left notes items) (left notes held)
 corresponds-left [] items held a c = c
@@ -77,11 +50,7 @@ apart-left (n ∷ notes) items a = apart-left notes (without n.key items) (apart
 pub value_at-map : (f : HeldValue → HeldValue) (items : List HeldValue) (key : List ℕ) → ((h : HeldValue) → (f h).value.key ≡ h.value.key)
     → value_at (map f items) key ≡ option_map f (value_at items key)
 value_at-map f [] key e = refl
-value_at-map f (h ∷ items) key e = ap (λ k. cond (same key k) (Some (f h)) (value_at (map f items) key)) (e h) ∙ go (same key h.value.key) (value_at-map f items key e)
-  where
-    go : (b : Bool) → value_at (map f items) key ≡ option_map f (value_at items key) → cond b (Some (f h)) (value_at (map f items) key) ≡ option_map f (cond b (Some h) (value_at items key))
-    go true next = refl
-    go false next = next
+value_at-map f (h ∷ items) key e = grind (arith, value_at-map f items key e)
 
 pub absent-map : (f : HeldValue → HeldValue) (items : List HeldValue) (key : List ℕ) → ((h : HeldValue) → (f h).value.key ≡ h.value.key) → is_absent key (map f items) ≡ is_absent key items
 absent-map f [] key e = refl
@@ -89,41 +58,18 @@ absent-map f (h ∷ items) key e = ap (λ k. not (same key k) && is_absent key (
 
 pub apart-map : (f : HeldValue → HeldValue) (items : List HeldValue) → ((h : HeldValue) → (f h).value.key ≡ h.value.key) → are_apart (map f items) ≡ are_apart items
 apart-map f [] e = refl
-apart-map f (h ∷ items) e =
-    ap (λ k. is_absent k (map f items) && are_apart (map f items)) (e h)
-    ∙ ap (λ b. b && are_apart (map f items)) (absent-map f items h.value.key e)
-    ∙ ap (λ b. is_absent h.value.key items && b) (apart-map f items e)
+apart-map f (h ∷ items) e = grind (arith, absent-map f items h.value.key e, apart-map f items e)
 
 -- ---- one more
 
 pub apart-append : (held : List HeldValue) (n : HeldValue) → are_apart held ≡ true → is_absent n.value.key held ≡ true → are_apart (held ++ n ∷ []) ≡ true
 apart-append [] n a absent = refl
-apart-append (h ∷ held) n a absent =
-    let parts = and_parts (is_absent h.value.key held) (are_apart held) a in
-    let others = and_parts (not (same n.value.key h.value.key)) (is_absent n.value.key held) absent in
-    let other : same h.value.key n.value.key ≡ false = same-flip_false n.value.key h.value.key (not-true (same n.value.key h.value.key) others.0) in
-    and_from _ _
-    (list_all-append (λ (g : HeldValue). not (same h.value.key g.value.key)) held (n ∷ [])
-    ∙ and_from _ _ parts.0 (and_from _ _ (not_from_false (same h.value.key n.value.key) other) refl))
-    (apart-append held n parts.1 others.1)
+apart-append (h ∷ held) n a absent = grind (arith, and_parts (is_absent h.value.key held) (are_apart held) a, and_parts (not (same n.value.key h.value.key)) (is_absent n.value.key held) absent, same-flip_false n.value.key h.value.key, not-true (same n.value.key h.value.key), and_from, list_all-append (λ (g : HeldValue). not (same h.value.key g.value.key)) held (n ∷ []), not_from_false (same h.value.key n.value.key), apart-append held n)
 
 pub value_at-append : (held : List HeldValue) (n : HeldValue) (q : List ℕ) → is_absent n.value.key held ≡ true
     → value_at (held ++ n ∷ []) q ≡ cond (same q n.value.key) (Some n) (value_at held q)
 value_at-append [] n q absent = refl
-value_at-append (h ∷ held) n q absent =
-    let others = and_parts (not (same n.value.key h.value.key)) (is_absent n.value.key held) absent in
-    ap (cond (same q h.value.key) (Some h)) (value_at-append held n q others.1)
-    ∙ in_turn (same q h.value.key) (same q n.value.key) refl refl (not-true (same n.value.key h.value.key) others.0)
-  where
-    in_turn : (b c : Bool) → same q h.value.key ≡ b → same q n.value.key ≡ c → same n.value.key h.value.key ≡ false
-        → cond b (Some h) (cond c (Some n) (value_at held q)) ≡ cond c (Some n) (cond b (Some h) (value_at held q))
-    in_turn true true e f g = cc-free
-      where
-        cc-free : Some h ≡ Some n
-        cc-free = let same_key : same n.value.key h.value.key ≡ true = ap (λ k. same k h.value.key) (sym (equal_from_same q n.value.key f)) ∙ e in let no : true ≡ false = sym same_key ∙ g in cc
-    in_turn true false e f g = refl
-    in_turn false true e f g = refl
-    in_turn false false e f g = refl
+value_at-append (h ∷ held) n q absent = grind (arith, and_parts (not (same n.value.key h.value.key)) (is_absent n.value.key held) absent, value_at-append held n q, not-true (same n.value.key h.value.key), equal_from_same q n.value.key)
 
 -- ---- permutations
 
@@ -132,14 +78,7 @@ swap_two x y xs = IsPermutation-middle (x ∷ []) y xs
 
 pub taken : (key : List ℕ) (held : List HeldValue) (h : HeldValue) → value_at held key ≡ Some h → IsPermutation held (h ∷ without key held)
 taken key [] h e = absurd (none-some h e)
-taken key (g ∷ held) h e = go (same key g.value.key) (λ (e : value_at held key ≡ Some h). taken key held h e) e
-  where
-    go : (b : Bool) → (value_at held key ≡ Some h → IsPermutation held (h ∷ without key held)) → cond b (Some g) (value_at held key) ≡ Some h
-        → IsPermutation (g ∷ held) (h ∷ cond b held (g ∷ without key held))
-    go true next e = let is_one : g ≡ h = cc in subst (λ x. IsPermutation (g ∷ held) (x ∷ held)) is_one (IsPermutation-refl (g ∷ held))
-    go false next e =
-        IsPermutation-trans (g ∷ held) (g ∷ h ∷ without key held) (h ∷ g ∷ without key held)
-        (IsPermutation-cons g held (h ∷ without key held) (next e)) (swap_two g h (without key held))
+taken key (g ∷ held) h e = grind (arith, taken key held h, IsPermutation-refl (g ∷ held), IsPermutation-trans (g ∷ held) (g ∷ h ∷ without key held) (h ∷ g ∷ without key held), IsPermutation-cons g held (h ∷ without key held), swap_two g h (without key held))
 
 pub permutation : (items held : List HeldValue) → are_apart items ≡ true → Corresponds items held → IsPermutation (map plain held) items
 permutation [] [] a c = IsPermutation-refl []

@@ -4,7 +4,7 @@ use Rattle.audit_model.specs.Situation.{HeldValue, is_live_at}
 use Rattle.audit_model.specs.declared.config.Config.{Config}
 use Rattle.cache_store.specs.Held.{if_live, live_in, plain, Corresponds, value_at, is_absent, are_apart}
 use Rattle.cache_store.proofs.Keys.{equal_from_same}
-use Rattle.std.proofs.Common.{◌≡◌, ℕ, Bool, cond, true, false, not, ◌&&◌, List, [], ◌∷◌, Option, option_map, Some, None, if◌then◌else◌, refl, sym, ap, ◌∙◌, subst}
+use Rattle.std.proofs.Common.{◌≡◌, ℕ, Bool, cond, true, false, not, ◌&&◌, List, [], ◌∷◌, Option, option_map, Some, None, if◌then◌else◌, refl, sym, ap, ◌∙◌, subst, arith}
 use Rattle.std.proofs.lemmas.Bool.{and_parts, not-true}
 use Rattle.std.specs.List.{find}
 
@@ -34,11 +34,7 @@ find_live config now key (h ∷ held) a =
 
 if_live-plain : (config : Config) (now : ℕ) (o : Option HeldValue) → option_map plain (if_live config now o) ≡ if_live config now (option_map plain o)
 if_live-plain config now None = refl
-if_live-plain config now (Some h) = go (is_live_at config now h)
-  where
-    go : (b : Bool) → option_map plain (if b then Some h else None) ≡ (if b then Some (plain h) else None)
-    go true = refl
-    go false = refl
+if_live-plain config now (Some h) = grind arith
 
 -- it is the live item
 pub live_is : (config : Config) (now : ℕ) (key : List ℕ) (items held : List HeldValue) → Corresponds items held

@@ -1,5 +1,5 @@
 -- The live keys in byte order are those of any list that has each of them once.
-use Rattle.std.proofs.Common.{◌≡◌, refl, ap, ◌∙◌, sym, ℕ, Bool, true, false, true≢false, cond, not, ◌&&◌, ◌||◌, List, [], ◌∷◌, Some}
+use Rattle.std.proofs.Common.{◌≡◌, refl, ap, ◌∙◌, sym, ℕ, Bool, true, false, true≢false, cond, not, ◌&&◌, ◌||◌, List, [], ◌∷◌, Some, arith}
 use Rattle.std.specs.Option.{option_map_or}
 use Rattle.std.proofs.lemmas.Bool.{and_from, and_parts, not-true}
 use Rattle.audit_model.specs.Bytewise.{same}
@@ -17,57 +17,22 @@ use Rattle.cache_store.proofs.Sorting.{live-cons, put_either, put_if}
 
 -- which keys are among the others
 among-without : (key q : List ℕ) (keys : List (List ℕ)) → is_among q (keys_without key keys) ≡ (not (same q key) && is_among q keys)
-among-without key q [] = no (same q key)
-  where
-    no : (b : Bool) → false ≡ (not b && false)
-    no true = refl
-    no false = refl
-among-without key q (k ∷ keys) = go (same k key) refl (same q key) refl (among-without key q keys)
-  where
-    go : (c : Bool) → same k key ≡ c → (b : Bool) → same q key ≡ b → is_among q (keys_without key keys) ≡ (not (same q key) && is_among q keys)
-        → is_among q (cond (not c) (k ∷ keys_without key keys) (keys_without key keys)) ≡ (not (same q key) && (same q k || is_among q keys))
-    go true e true f later = later ∙ ap (λ x. not x && is_among q keys) f ∙ sym (ap (λ x. not x && (same q k || is_among q keys)) f)
-    go true e false f later =
-        let other : same q k ≡ false = ap (same q) (equal_from_same k key e) ∙ f in
-        later ∙ sym (ap (λ x. not (same q key) && (x || is_among q keys)) other)
-    go false e true f later =
-        let is : q ≡ key = equal_from_same q key f in
-        let other : same q k ≡ false = ap (λ x. same x k) is ∙ same-flip_false k key e in
-        ap (λ x. x || is_among q (keys_without key keys)) other ∙ later ∙ ap (λ x. not x && is_among q keys) f ∙ sym (ap (λ x. not x && (same q k || is_among q keys)) f)
-    go false e false f later = ap (λ x. same q k || x) (later ∙ ap (λ x. not x && is_among q keys) f) ∙ sym (ap (λ x. not x && (same q k || is_among q keys)) f)
+among-without key q [] = grind arith
+among-without key q (k ∷ keys) = grind (arith, among-without key q keys, equal_from_same k key, equal_from_same q key, same-flip_false k key)
 
 distinct-without : (key : List ℕ) (keys : List (List ℕ)) → are_distinct keys ≡ true → are_distinct (keys_without key keys) ≡ true
 distinct-without key [] d = refl
-distinct-without key (k ∷ keys) d = let parts = and_parts (not (is_among k keys)) (are_distinct keys) d in go (same k key) refl parts.0 (distinct-without key keys parts.1)
-  where
-    go : (c : Bool) → same k key ≡ c → not (is_among k keys) ≡ true → are_distinct (keys_without key keys) ≡ true → are_distinct (cond (not c) (k ∷ keys_without key keys) (keys_without key keys)) ≡ true
-    go true e new later = later
-    go false e new later = and_from _ _ (ap not (among-without key k keys ∙ ap (λ x. not x && is_among k keys) e) ∙ new) later
+distinct-without key (k ∷ keys) d = grind (arith, and_parts (not (is_among k keys)) (are_distinct keys) d, distinct-without key keys, and_from, among-without key k keys)
 
 -- where it is not there the others are all
 without-none : (key : List ℕ) (keys : List (List ℕ)) → is_among key keys ≡ false → keys_without key keys ≡ keys
 without-none key [] e = refl
-without-none key (k ∷ keys) e = go (same key k) refl e (λ h. without-none key keys h)
-  where
-    go : (b : Bool) → same key k ≡ b → (b || is_among key keys) ≡ false → (is_among key keys ≡ false → keys_without key keys ≡ keys) → cond (not (same k key)) (k ∷ keys_without key keys) (keys_without key keys) ≡ k ∷ keys
-    go true e h later = absurd (true≢false h)
-    go false e h later = ap (λ c. cond (not c) (k ∷ keys_without key keys) (keys_without key keys)) (same-flip_false key k e) ∙ ap (λ ks. k ∷ ks) (later h)
+without-none key (k ∷ keys) e = grind (arith, without-none key keys, true≢false, same-flip_false key k)
 
 -- a key that is there may be put last
 sorted-taken : (key : List ℕ) (keys : List (List ℕ)) → are_distinct keys ≡ true → is_among key keys ≡ true → sorted keys ≡ put_sorted key (sorted (keys_without key keys))
 sorted-taken key [] d there = absurd (true≢false (sym there))
-sorted-taken key (k ∷ keys) d there = let parts = and_parts (not (is_among k keys)) (are_distinct keys) d in go (same key k) refl there parts.0 (λ h. sorted-taken key keys parts.1 h)
-  where
-    go : (b : Bool) → same key k ≡ b → (b || is_among key keys) ≡ true → not (is_among k keys) ≡ true → (is_among key keys ≡ true → sorted keys ≡ put_sorted key (sorted (keys_without key keys)))
-        → put_sorted k (sorted keys) ≡ put_sorted key (sorted (cond (not (same k key)) (k ∷ keys_without key keys) (keys_without key keys)))
-    go true e h new later =
-        let is : key ≡ k = equal_from_same key k e in
-        let rest : keys_without key keys ≡ keys = without-none key keys (ap (λ x. is_among x keys) is ∙ not-true (is_among k keys) new) in
-        ap (λ x. put_sorted x (sorted keys)) (sym is) ∙ ap (λ ks. put_sorted key (sorted ks)) (sym rest)
-        ∙ ap (λ c. put_sorted key (sorted (cond (not c) (k ∷ keys_without key keys) (keys_without key keys)))) (sym (same_from_equal k key (sym is)))
-    go false e h new later =
-        ap (put_sorted k) (later h) ∙ put_either k key (sorted (keys_without key keys))
-        ∙ ap (λ c. put_sorted key (sorted (cond (not c) (k ∷ keys_without key keys) (keys_without key keys)))) (sym (same-flip_false key k e))
+sorted-taken key (k ∷ keys) d there = grind (arith, and_parts (not (is_among k keys)) (are_distinct keys) d, sorted-taken key keys, equal_from_same key k, without-none key keys, not-true (is_among k keys), same_from_equal k key, put_either k key (sorted (keys_without key keys)), same-flip_false key k)
 
 -- ---- the live keys
 

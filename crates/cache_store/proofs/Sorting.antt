@@ -1,6 +1,5 @@
 -- Keys in byte order, and which of them are live.
-use Rattle.std.proofs.Common.{◌≡◌, ℕ, suc, Bool, cond, true, false, List, [], ◌∷◌, ◌++◌, map, length, Option, option_map, Some, None, if◌then◌else◌, refl, sym, ap, ◌∙◌, subst, arith}
-use Rattle.std.specs.List.{filter}
+use Rattle.std.proofs.Common.{◌≡◌, ℕ, suc, Bool, cond, true, false, List, [], ◌∷◌, ◌++◌, length, Some, if◌then◌else◌, refl, sym, ap, ◌∙◌, subst, arith}
 use Rattle.std.proofs.lemmas.Cmp.{nat_list_cmp_total}
 use Rattle.std.specs.Cmp.Lexicographic.{slice_cmp}
 use Rattle.std.specs.Ordering.{nat_cmp, is_lt, is_eq, ordering_reverse}
@@ -13,7 +12,7 @@ use Rattle.audit_model.specs.Bytewise.{same, is_before}
 use Rattle.audit_model.specs.Situation.{HeldValue, is_live_at, live_keys_at}
 use Rattle.audit_model.specs.Values.{put_sorted, sorted}
 use Rattle.audit_model.specs.declared.config.Config.{Config}
-use Rattle.cache_store.specs.Held.{value_at, without, is_absent, are_apart, plain, Corresponds}
+use Rattle.cache_store.specs.Held.{value_at, without, is_absent, are_apart, Corresponds}
 use Rattle.cache_store.proofs.Keys.{equal_from_same, same-refl}
 use Rattle.cache_store.proofs.Corresponding.{corresponds-without}
 
@@ -38,12 +37,7 @@ stand a b = go (order a b) refl
     go Greater e = Behind (ap is_lt e) (ap is_lt (flip_order ∙ ap ordering_reverse e))
 
 less_from : (a b : List ℕ) → is_before a b ≡ true → order a b ≡ Less
-less_from a b e = go (order a b) refl
-  where
-    go : (o : Ordering) → order a b ≡ o → order a b ≡ Less
-    go Less f = f
-    go Equal f = let no : true ≡ false = sym e ∙ ap is_lt f in cc
-    go Greater f = let no : true ≡ false = sym e ∙ ap is_lt f in cc
+less_from a b e = grind arith
 
 before_trans : (a b c : List ℕ) → is_before a b ≡ true → is_before b c ≡ true → is_before a c ≡ true
 before_trans a b c e f = ap is_lt (nat_list_cmp_total.trans a b c (less_from a b e) (less_from b c f))
@@ -55,47 +49,12 @@ pub put_behind : (a x : List ℕ) (xs : List (List ℕ)) → is_before a x ≡ f
 put_behind a x xs e = ap (λ b. if b then a ∷ x ∷ xs else x ∷ put_sorted a xs) e
 
 two : (a b : List ℕ) (rest : List (List ℕ)) → put_sorted a rest ≡ a ∷ rest → put_sorted b rest ≡ b ∷ rest → put_sorted a (b ∷ rest) ≡ put_sorted b (a ∷ rest)
-two a b rest e f = go (stand a b)
-  where
-    go : Stand a b → put_sorted a (b ∷ rest) ≡ put_sorted b (a ∷ rest)
-    go (Before g h) = put_before a b rest g ∙ sym (ap (λ xs. a ∷ xs) f) ∙ sym (put_behind b a rest h)
-    go (Same g) = subst (λ c. put_sorted a (c ∷ rest) ≡ put_sorted c (a ∷ rest)) g refl
-    go (Behind g h) = put_behind a b rest g ∙ ap (λ xs. b ∷ xs) e ∙ sym (put_before b a rest h)
+two a b rest e f = grind (arith, stand a b, put_before a b rest, put_behind b a rest, put_behind a b rest, put_before b a rest)
 
 -- two keys may be put in either order
 pub put_either : (a b : List ℕ) (xs : List (List ℕ)) → put_sorted a (put_sorted b xs) ≡ put_sorted b (put_sorted a xs)
 put_either a b [] = two a b [] refl refl
-put_either a b (x ∷ xs) = go (is_before a x) (is_before b x) refl refl (put_either a b xs)
-  where
-    not_first : is_before a x ≡ true → is_before b x ≡ false → is_before b a ≡ false
-    not_first e f = by_stand (stand b a)
-      where
-        by_stand : Stand b a → is_before b a ≡ false
-        by_stand (Before g h) = let no : true ≡ false = sym (before_trans b a x g e) ∙ f in cc
-        by_stand (Same g) = let no : true ≡ false = sym e ∙ ap (λ k. is_before k x) (sym g) ∙ f in cc
-        by_stand (Behind g h) = g
-
-    not_second : is_before a x ≡ false → is_before b x ≡ true → is_before a b ≡ false
-    not_second e f = by_stand (stand a b)
-      where
-        by_stand : Stand a b → is_before a b ≡ false
-        by_stand (Before g h) = let no : true ≡ false = sym (before_trans a b x g f) ∙ e in cc
-        by_stand (Same g) = let no : true ≡ false = sym f ∙ ap (λ k. is_before k x) (sym g) ∙ e in cc
-        by_stand (Behind g h) = g
-
-    go : (p q : Bool) → is_before a x ≡ p → is_before b x ≡ q → put_sorted a (put_sorted b xs) ≡ put_sorted b (put_sorted a xs)
-        → put_sorted a (put_sorted b (x ∷ xs)) ≡ put_sorted b (put_sorted a (x ∷ xs))
-    go true true e f next =
-        ap (put_sorted a) (put_before b x xs f) ∙ two a b (x ∷ xs) (put_before a x xs e) (put_before b x xs f) ∙ sym (ap (put_sorted b) (put_before a x xs e))
-    go true false e f next =
-        ap (put_sorted a) (put_behind b x xs f) ∙ put_before a x (put_sorted b xs) e
-        ∙ sym (ap (put_sorted b) (put_before a x xs e) ∙ put_behind b a (x ∷ xs) (not_first e f) ∙ ap (λ ys. a ∷ ys) (put_behind b x xs f))
-    go false true e f next =
-        ap (put_sorted a) (put_before b x xs f) ∙ put_behind a b (x ∷ xs) (not_second e f) ∙ ap (λ ys. b ∷ ys) (put_behind a x xs e)
-        ∙ sym (ap (put_sorted b) (put_behind a x xs e) ∙ put_before b x (put_sorted a xs) f)
-    go false false e f next =
-        ap (put_sorted a) (put_behind b x xs f) ∙ put_behind a x (put_sorted b xs) e ∙ ap (λ ys. x ∷ ys) next
-        ∙ sym (ap (put_sorted b) (put_behind a x xs e) ∙ put_behind b x (put_sorted a xs) f)
+put_either a b (x ∷ xs) = grind (arith, put_either a b xs, stand b a, before_trans b a x, stand a b, before_trans a b x, put_before b x xs, two a b (x ∷ xs), put_before a x xs, put_behind b x xs, put_before a x (put_sorted b xs), put_behind b a (x ∷ xs), put_behind a b (x ∷ xs), put_behind a x xs, put_before b x (put_sorted a xs), put_behind a x (put_sorted b xs), put_behind b x (put_sorted a xs))
 
 -- a key at the end
 pub sorted-push : (xs : List (List ℕ)) (k : List ℕ) → sorted (xs ++ k ∷ []) ≡ put_sorted k (sorted xs)
@@ -104,11 +63,7 @@ sorted-push (x ∷ xs) k = ap (put_sorted x) (sorted-push xs k) ∙ put_either x
 
 length-put : (k : List ℕ) (xs : List (List ℕ)) → length (put_sorted k xs) ≡ suc (length xs)
 length-put k [] = refl
-length-put k (x ∷ xs) = go (is_before k x) (length-put k xs)
-  where
-    go : (b : Bool) → length (put_sorted k xs) ≡ suc (length xs) → length (if b then k ∷ x ∷ xs else x ∷ put_sorted k xs) ≡ suc (suc (length xs))
-    go true next = refl
-    go false next = ap suc next
+length-put k (x ∷ xs) = grind (arith, length-put k xs)
 
 pub length-sorted : (xs : List (List ℕ)) → length (sorted xs) ≡ length xs
 length-sorted [] = refl
@@ -120,12 +75,7 @@ abbrev pub put_if : Bool → List ℕ → List (List ℕ) → List (List ℕ)
 put_if live key keys = if live then put_sorted key keys else keys
 
 pub live-cons : (config : Config) (now : ℕ) (h : HeldValue) (items : List HeldValue) → live_keys_at config now (h ∷ items) ≡ put_if (is_live_at config now h) h.value.key (live_keys_at config now items)
-live-cons config now h items = go (is_live_at config now h)
-  where
-    go : (b : Bool) → sorted (map (λ (g : HeldValue). g.value.key) (cond b (h ∷ filter (is_live_at config now) items) (filter (is_live_at config now) items)))
-        ≡ put_if b h.value.key (live_keys_at config now items)
-    go true = refl
-    go false = refl
+live-cons config now h items = grind arith
 
 pub put_if-either : (b c : Bool) (k l : List ℕ) (xs : List (List ℕ)) → put_if b k (put_if c l xs) ≡ put_if c l (put_if b k xs)
 put_if-either true true k l xs = put_either k l xs
@@ -152,24 +102,4 @@ live-taken config now key (g ∷ held) h e = go (same key g.value.key) (λ (e : 
 pub live_keys_are : (config : Config) (now : ℕ) (items held : List HeldValue) → are_apart items ≡ true → Corresponds items held → live_keys_at config now held ≡ live_keys_at config now items
 live_keys_are config now [] [] a c = refl
 live_keys_are config now [] (h ∷ held) a c = absurd (let n : suc (length held) ≡ 0 = c.number in omega arith)
-live_keys_are config now (t ∷ items) held a c =
-    go (value_at held t.value.key) refl
-    (live_keys_are config now items (without t.value.key held) (and_parts (is_absent t.value.key items) (are_apart items) a).1
-    (subst (λ xs. Corresponds xs (without t.value.key held)) rest (corresponds-without t.value.key (t ∷ items) held a c)))
-  where
-    first : value_at (t ∷ items) t.value.key ≡ Some t
-    first = ap (λ b. cond b (Some t) (value_at items t.value.key)) (same-refl t.value.key)
-
-    rest : without t.value.key (t ∷ items) ≡ items
-    rest = ap (λ b. cond b items (t ∷ without t.value.key items)) (same-refl t.value.key)
-
-    go : (o : Option HeldValue) → value_at held t.value.key ≡ o → live_keys_at config now (without t.value.key held) ≡ live_keys_at config now items
-        → live_keys_at config now held ≡ live_keys_at config now (t ∷ items)
-    go None e next = absurd (none-some t (ap (option_map plain) (sym e) ∙ c.found t.value.key ∙ first))
-    go (Some h) e next =
-        let both : Some (plain h) ≡ Some t = ap (option_map plain) (sym e) ∙ c.found t.value.key ∙ first in
-        let is : plain h ≡ t = cc in
-        live-taken config now t.value.key held h e
-        ∙ ap (put_if (is_live_at config now h) h.value.key) next
-        ∙ ap (λ (x : HeldValue). put_if (is_live_at config now x) x.value.key (live_keys_at config now items)) is
-        ∙ sym (live-cons config now t items)
+live_keys_are config now (t ∷ items) held a c = grind (arith, live_keys_are config now items (without t.value.key held) (and_parts (is_absent t.value.key items) (are_apart items) a).1, and_parts (is_absent t.value.key items) (are_apart items) a, corresponds-without t.value.key (t ∷ items) held a c, same-refl t.value.key, none-some t, live-taken config now t.value.key held, live-cons config now t items)

@@ -1,6 +1,6 @@
 -- What a step leaves, and that its notes are true.
 use Rattle.audit_model.specs.Changes.{held_after, use_after}
-use Rattle.audit_model.specs.Commands.{Deed, Covering, Nothing, covers_key}
+use Rattle.audit_model.specs.Commands.{Deed, Covering, Nothing}
 use Rattle.audit_model.specs.History.{Value}
 use Rattle.audit_model.specs.Notes.{are_true_notes, candidates_of, is_succeeded}
 use Rattle.audit_model.specs.Situation.{HeldValue, candidate_at}
@@ -9,7 +9,7 @@ use Rattle.audit_model.specs.declared.transcript.Note.{Note}
 use Rattle.cache_store.specs.Promises.{no_deed}
 use Rattle.cache_store.proofs.Corresponding.{value_at-map, apart-map}
 use Rattle.cache_store.specs.Held.{plain, Corresponds, value_at}
-use Rattle.std.proofs.Common.{◌≡◌, ℕ, suc, Bool, true, false, not, ◌||◌, List, [], ◌∷◌, map, length, Option, option_map, Some, None, refl, ap, ◌∙◌}
+use Rattle.std.proofs.Common.{◌≡◌, ℕ, suc, Bool, true, false, not, ◌||◌, List, [], ◌∷◌, map, length, Option, option_map, Some, None, refl, ap, ◌∙◌, arith}
 use Rattle.std.proofs.lemmas.List.{append-nil}
 use Rattle.std.specs.List.{list_all}
 
@@ -22,10 +22,7 @@ or_no false = refl
 module _ (config : Config) (now : ℕ) (held : List HeldValue) (deed : Deed) (notes : List Note) where
   -- a value that is neither used nor covered stays as it is
   pub after_plain : (values : List Value) → deed.covers ≡ Nothing → (h : HeldValue) → use_after config now deed h ≡ h.last_use → plain (held_after config now held deed notes values h) ≡ plain h
-  after_plain values none h used =
-      ap (λ u. record (plain h) { last_use = u; covered = h.covered || covers_key h.value.key deed.covers }) used
-      ∙ ap (λ c. record (plain h) { covered = h.covered || covers_key h.value.key c }) none
-      ∙ ap (λ b. record (plain h) { covered = b }) (or_no h.covered)
+  after_plain values none h used = grind (arith, or_no h.covered)
 
 same-none : (f : HeldValue → HeldValue) (o : Option HeldValue) → ((h : HeldValue) → o ≡ Some h → plain (f h) ≡ plain h) → option_map plain (option_map f o) ≡ option_map plain o
 same-none f None e = refl
@@ -55,6 +52,4 @@ none_succeeded config now used covers synced (h ∷ held) = none_succeeded confi
 pub right_to_tell_none : (config : Config) (now : ℕ) (used : Option (List ℕ)) (covers : Covering) (synced : Bool) (held : List HeldValue)
     → let deed = record no_deed { uses = used; covers = covers; syncs = synced } in
     are_true_notes config (map (candidate_at config now) held) deed (candidates_of config (map (candidate_at config now) held) deed) [] ≡ true
-right_to_tell_none config now used covers synced held =
-    ap (list_all (λ c. not (is_succeeded (record no_deed { uses = used; covers = covers; syncs = synced }) c))) (append-nil (map (candidate_at config now) held))
-    ∙ none_succeeded config now used covers synced held
+right_to_tell_none config now used covers synced held = grind (arith, append-nil (map (candidate_at config now) held), none_succeeded config now used covers synced held)

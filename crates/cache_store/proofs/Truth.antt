@@ -10,7 +10,7 @@ use Rattle.audit_model.specs.declared.transcript.RemovalCause.TheVariants.{Expir
 use Rattle.cache_store.specs.Promises.{accepting, deleting}
 use Rattle.cache_store.specs.Held.{plain, Corresponds, cause_of_replaced, cause_of_deleted, value_at, without}
 use Rattle.cache_store.proofs.Keys.{same-refl, same_from_equal, equal_from_same}
-use Rattle.std.proofs.Common.{◌≡◌, ℕ, Bool, cond, true, false, not, ◌&&◌, ◌||◌, List, [], ◌∷◌, map, Option, option_map, Some, None, is_none, if◌then◌else◌, refl, sym, ap, ◌∙◌}
+use Rattle.std.proofs.Common.{◌≡◌, ℕ, Bool, true, false, not, ◌&&◌, ◌||◌, List, [], ◌∷◌, map, Option, option_map, Some, None, is_none, if◌then◌else◌, refl, sym, ap, arith}
 use Rattle.std.proofs.lemmas.Bool.{and_from}
 use Rattle.std.proofs.lemmas.Option.{none-some}
 
@@ -19,24 +19,11 @@ use Rattle.std.proofs.lemmas.Option.{none-some}
 module _ (cand : HeldValue → Candidate) (same_value : (h : HeldValue) → (cand h).value ≡ h.value) where
   pub first_of-map : (key : List ℕ) (held : List HeldValue) → first_of key (map cand held) ≡ option_map cand (value_at held key)
   first_of-map key [] = refl
-  first_of-map key (h ∷ held) =
-      ap (λ (v : Value). cond (same key v.key) (Some (cand h)) (first_of key (map cand held))) (same_value h) ∙ go (same key h.value.key) (first_of-map key held)
-    where
-      go : (b : Bool) → first_of key (map cand held) ≡ option_map cand (value_at held key)
-          → cond b (Some (cand h)) (first_of key (map cand held)) ≡ option_map cand (cond b (Some h) (value_at held key))
-      go true next = refl
-      go false next = next
+  first_of-map key (h ∷ held) = grind (arith, first_of-map key held)
 
   pub without-map : (key : List ℕ) (held : List HeldValue) → without_key (λ (c : Candidate). c.value.key) key (map cand held) ≡ map cand (without key held)
   without-map key [] = refl
-  without-map key (h ∷ held) =
-      ap (λ (v : Value). cond (same key v.key) (map cand held) (cand h ∷ without_key (λ (c : Candidate). c.value.key) key (map cand held))) (same_value h)
-      ∙ go (same key h.value.key) (without-map key held)
-    where
-      go : (b : Bool) → without_key (λ (c : Candidate). c.value.key) key (map cand held) ≡ map cand (without key held)
-          → cond b (map cand held) (cand h ∷ without_key (λ (c : Candidate). c.value.key) key (map cand held)) ≡ map cand (cond b held (h ∷ without key held))
-      go true next = refl
-      go false next = ap (λ cs. cand h ∷ cs) next
+  without-map key (h ∷ held) = grind (arith, without-map key held)
 
   -- the value held that is this item
   pub record Stood (held : List HeldValue) (key : List ℕ) (item : HeldValue) : Type 0 where
@@ -45,11 +32,7 @@ module _ (cand : HeldValue → Candidate) (same_value : (h : HeldValue) → (can
     pub is : plain value ≡ item
 
   pub stood : (items held : List HeldValue) (key : List ℕ) (item : HeldValue) → Corresponds items held → value_at items key ≡ Some item → Stood held key item
-  stood items held key item c e = go (value_at held key) refl
-    where
-      go : (o : Option HeldValue) → value_at held key ≡ o → Stood held key item
-      go None f = absurd (none-some item (ap (option_map plain) (sym f) ∙ c.found key ∙ e))
-      go (Some h) f = let both : Some (plain h) ≡ Some item = ap (option_map plain) (sym f) ∙ c.found key ∙ e in record { value = h; found = f; is = cc }
+  stood items held key item c e = grind (arith, none-some item)
 
 -- ---- a value whose key is written or deleted
 
@@ -70,8 +53,7 @@ replaced_by config before value v evictable false false (Some key) k true e = ap
 pub replaced_truly : (config : Config) (before : List Candidate) (value v : Value) (evictable dead covered : Bool) (used : Option (List ℕ)) → same v.key value.key ≡ true
     → is_true_note config before (accepting used value) (record { cause = cause_of_replaced dead covered; key = v.key; value = v.bytes })
     (Some (record { value = v; dead = dead; covered = covered; evictable = evictable; new = false })) ≡ true
-replaced_truly config before value v evictable dead covered used k =
-    and_from _ _ (same-refl v.bytes) (replaced_by config before value v evictable dead covered used k (same v.key value.key) k)
+replaced_truly config before value v evictable dead covered used k = grind (arith, and_from, same-refl v.bytes, replaced_by config before value v evictable dead covered used k (same v.key value.key) k)
 
 deleted_by : (dead covered b : Bool) → b ≡ true
     → (if b && true then same_cause (cause_of_deleted dead) (if dead then Expired else (if covered || (b && not dead) then Explicit else Replaced)) else true) ≡ true
@@ -84,11 +66,4 @@ deleted_by false false true e = refl
 pub deleted_truly : (config : Config) (before : List Candidate) (key : List ℕ) (v : Value) (evictable dead covered : Bool) → same v.key key ≡ true
     → is_true_note config before (deleting key) (record { cause = cause_of_deleted dead; key = v.key; value = v.bytes })
     (Some (record { value = v; dead = dead; covered = covered; evictable = evictable; new = false })) ≡ true
-deleted_truly config before key v evictable dead covered k = and_from _ _ (same-refl v.bytes) (go (same key v.key) (same_from_equal key v.key (sym (equal_from_same v.key key k))))
-  where
-    go : (b : Bool) → b ≡ true
-        → (if b && true
-        then same_cause (cause_of_deleted dead) (if dead then Expired else (if covered || (b && not dead) then Explicit else Replaced))
-        else is_true_cause config before (deleting key) (record { value = v; dead = dead; covered = covered; evictable = evictable; new = false }) (cause_of_deleted dead)) ≡ true
-    go false e = cc
-    go true e = deleted_by dead covered true refl
+deleted_truly config before key v evictable dead covered k = grind (arith, and_from, same-refl v.bytes, same_from_equal key v.key (sym (equal_from_same v.key key k)), equal_from_same v.key key k, deleted_by dead covered true refl)

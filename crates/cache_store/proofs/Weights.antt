@@ -35,11 +35,7 @@ sum-plain part (h ∷ held) = sum_by-cons (adds part) (plain h) (map plain held)
 
 -- the values held weigh what the items do
 pub same_weight : (part : ℕ) (items held : List HeldValue) → are_apart items ≡ true → Corresponds items held → weight_in part held ≡ weight_in part items
-same_weight part items held a c =
-    weight_in-sum part held
-    ∙ sym (sum-plain part held)
-    ∙ sym (sum_by-IsPermutation (adds part) (map plain held) items (permutation items held a c))
-    ∙ sym (weight_in-sum part items)
+same_weight part items held a c = grind (arith, weight_in-sum part held, sum-plain part held, sum_by-IsPermutation (adds part) (map plain held) items (permutation items held a c), permutation items held a c, weight_in-sum part items)
 
 -- as values
 pub weight-values : (part : ℕ) (held : List HeldValue)
@@ -62,7 +58,4 @@ over-from (Some capacity) config part values weight e = ap (nat_lt (share config
 -- a part is over its share where its items weigh more than that
 pub over_is : (config : Config) (part : ℕ) (items held : List HeldValue) → are_apart items ≡ true → Corresponds items held
     → is_over config part (map (λ h. h.value) held) ≡ exceeds (option_map (share config) config.capacity) (weight_in part items)
-over_is config part items held a c =
-    over-from config.capacity config part (map (λ (h : HeldValue). h.value) held) (weight_in part items) (weight-values part held ∙ same_weight part items held a c)
-
--- ---- all parts
+over_is config part items held a c = grind (arith, over-from config.capacity config part (map (λ (h : HeldValue). h.value) held) (weight_in part items) (weight-values part held ∙ same_weight part items held a c), weight-values part held, same_weight part items held a c)

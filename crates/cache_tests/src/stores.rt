@@ -1,6 +1,6 @@
 //! Namespaces over a store of a chosen generator and hasher, and what such a store does.
 ghost use Rattle.std.specs.Prelude.{◌≡◌, ◌≤◌, ℕ, [], true, Some};
-ghost use Rattle.cache_parts.specs.Parts.{IsBrief};
+ghost use Rattle.cache_front.specs.Parts.{IsBrief};
 
 mod generators;
 mod keeping;

@@ -9,11 +9,7 @@ use std::{env, io};
 
 /// The program's words.
 fn gather_words<R: Env + Alloc>(rt: &R) -> io::Result<Vec<String<R::A>, R::A>> {
-    let mut words = Vec::new(rt.alloc());
-    for word in env::args(rt)? {
-        words.push(word)?;
-    }
-    Ok(words)
+    Ok(env::args(rt)?.collect(rt.alloc())?)
 }
 
 fn main(rt: HostRuntime) -> ExitCode {

@@ -12,10 +12,8 @@ use std::{env, fs, io};
 fn check<R: Files + Print + AllocGlobal>(rt: &R, path: &str) -> io::Result<u8> {
     let text = match fs::read_to_string(rt, path) {
         Ok(text) => text,
-        Err(error) => {
-            if error.kind() == ErrorKind::OutOfMemory {
-                return Err(error);
-            }
+        Err(error) if error.kind() == ErrorKind::OutOfMemory => return Err(error),
+        Err(_) => {
             println!(rt; "{path}: cannot be read")?;
             return Ok(1);
         }

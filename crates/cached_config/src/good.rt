@@ -1,5 +1,5 @@
 //! What a file may say.
-ghost use Rattle.std.specs.Prelude.{◌≡◌, true, take, drop};
+ghost use Rattle.std.specs.Prelude.{◌≡◌};
 ghost use Rattle.std.specs.List.{list_all};
 ghost use Rattle.audit_model.specs.Grammar.{is_value};
 ghost use Rattle.cached_config.specs.Good.{are_distinct, are_good, is_apart, is_good_namespace, is_loadable, is_name, is_name_byte};
@@ -7,10 +7,10 @@ ghost use Rattle.cached_config.specs.Good.{are_distinct, are_good, is_apart, is_
 use crate::listed::{HostedNamespace, Listed};
 
 /// The most namespaces.
-const MOST: usize = 16;
+pub const MOST: usize = 16;
 
 /// The most bytes of a value that is loaded.
-const MOST_BYTES: usize = 8192;
+pub const MOST_BYTES: usize = 8192;
 
 /// Whether a file may have these namespaces: 1 to 16, each valid, all names and all ports different.
 pub fn are_good(spaces: &[HostedNamespace]) -> bool
@@ -23,12 +23,7 @@ pub fn are_good(spaces: &[HostedNamespace]) -> bool
 fn are_all_good(spaces: &[HostedNamespace]) -> bool
     ensures { result ≡ list_all is_good_namespace spaces.now }
 {
-    for space in spaces {
-        if !is_good(space) {
-            return false;
-        }
-    }
-    true
+    spaces.iter().all(|space| is_good(space))
 }
 
 /// Whether no two have the same name or the same port.
@@ -37,7 +32,7 @@ fn are_distinct(spaces: &[HostedNamespace]) -> bool
 {
     let mut rest = spaces;
     while let [space, others @ ..] = rest {
-        if !is_apart(space, others) {
+        if !is_apart_from(space, others) {
             return false;
         }
         rest = others;
@@ -46,15 +41,17 @@ fn are_distinct(spaces: &[HostedNamespace]) -> bool
 }
 
 /// Whether none of the others has its name or its port.
-fn is_apart(space: &HostedNamespace, others: &[HostedNamespace]) -> bool
+fn is_apart_from(space: &HostedNamespace, others: &[HostedNamespace]) -> bool
     ensures { result ≡ list_all (is_apart space.now) others.now }
 {
-    for other in others {
-        if other.name.as_slice() == space.name.as_slice() || other.port == space.port {
-            return false;
-        }
-    }
-    true
+    others.iter().all(|other| is_apart(space, other))
+}
+
+/// Whether neither its name nor its port is the other's.
+fn is_apart(space: &HostedNamespace, other: &HostedNamespace) -> bool
+    ensures { result ≡ is_apart space.now other.now }
+{
+    other.name.as_slice() != space.name.as_slice() && other.port != space.port
 }
 
 /// Whether a namespace is valid.
@@ -78,31 +75,21 @@ pub fn is_name(name: &[u8]) -> bool
 fn are_name_bytes(name: &[u8]) -> bool
     ensures { result ≡ list_all is_name_byte name.now }
 {
-    for byte in name {
-        if !is_name_byte(*byte) {
-            return false;
-        }
-    }
-    true
+    name.iter().all(|byte| is_name_byte(*byte))
 }
 
 /// Whether a byte is one of `a` to `z`, `0` to `9`, `-` and `_`.
 fn is_name_byte(byte: u8) -> bool
     ensures { result ≡ is_name_byte byte }
 {
-    (97 <= byte && byte <= 122) || (48 <= byte && byte <= 57) || byte == 45 || byte == 95
+    byte.is_ascii_lowercase() || byte.is_ascii_digit() || byte == b'-' || byte == b'_'
 }
 
 /// Whether each value may be loaded.
 fn are_loadable(loads: &[Listed]) -> bool
     ensures { result ≡ list_all is_loadable loads.now }
 {
-    for listed in loads {
-        if !is_loadable(listed) {
-            return false;
-        }
-    }
-    true
+    loads.iter().all(|listed| is_loadable(listed))
 }
 
 /// Whether a value has no line end, and at most 8192 bytes.
@@ -116,10 +103,5 @@ fn is_loadable(listed: &Listed) -> bool
 pub fn is_value(bytes: &[u8]) -> bool
     ensures { result ≡ is_value bytes.now }
 {
-    for byte in bytes {
-        if *byte == 10 || *byte == 13 {
-            return false;
-        }
-    }
-    true
+    bytes.iter().all(|byte| *byte != b'\n' && *byte != b'\r')
 }

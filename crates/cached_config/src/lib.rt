@@ -1,13 +1,13 @@
 //! The configuration file of a server: which namespaces it has, each with its port and the values that its loads find.
 #![tactic(auto)]
 
-mod checking;
-mod fields;
+mod faults;
 mod good;
 mod listed;
 mod places;
 mod reading;
+mod values;
 
-pub use checking::{ConfigFault, check_config};
+pub use faults::ConfigFault;
 pub use listed::{ConfigError, HostedNamespace, Listed};
-pub use reading::read_config;
+pub use reading::{check_config, read_config};

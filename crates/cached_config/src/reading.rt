@@ -1,19 +1,21 @@
-//! A configuration file, read.
-ghost use Rattle.std.specs.Prelude.{◌≡◌, ◌≢◌, ◌⊎◌, None, IsErr, IsTrue, IfOk, IfErr};
+//! A configuration file, read, with all that is wrong with it.
+ghost use Rattle.std.specs.Prelude.{◌≡◌, ◌≢◌, [], None, IsErr, IsTrue, IfOk};
 ghost use Rattle.toml.specs.Parse.{parse_document};
 ghost use Rattle.cached_config.specs.Good.{are_good};
 
-use crate::fields::{
-    number_at, only, policy_at, switch_at, table_at, tables_at, text_at, weight_at,
-};
-use crate::good::are_good;
+use crate::faults::{ConfigFault, Faults, fault_of};
+use crate::good::{MOST, are_good};
 use crate::listed::{ConfigError, HostedNamespace, Listed};
-use audit_model::{Config, Seq};
-use std::alloc::Global;
+use crate::places::{Part, line_of_header, line_of_key, line_outside};
+use crate::values::{
+    load_in, name_in, number_in, parts_in, policy_in, port_in, time_in, weight_in,
+};
+use audit_model::{Bytes, Config, EvictionPolicy, Seq, Weight};
+use std::alloc::{AllocError, Global};
 use toml::{Table, Value};
 
 /// The keys of a namespace's table.
-pub const KEYS: [&str; 10] = [
+const KEYS: [&str; 10] = [
     "name",
     "port",
     "capacity",
@@ -36,113 +38,261 @@ pub fn read_config(alloc: Global, text: &str) -> Result<Vec<HostedNamespace>, Co
     ensures ok { IfOk result (λ spaces. IsTrue (are_good spaces.items)) }
     ensures text { parse_document text.now ≡ None → IsErr result }
 {
-    let document = match toml::table_from_str(alloc, text) {
-        Ok(document) => document,
-        Err(error) => return Err(error_of(error)),
-    };
-    match read_document(alloc, &document) {
-        Ok(spaces) => judge(spaces),
-        Err(error) => Err(error),
+    match toml::table_from_str(alloc, text) {
+        Ok(document) => {
+            let (spaces, faults) = read_document(alloc, text, &document)?;
+            if faults.is_empty() {
+                Ok(spaces)
+            } else {
+                Err(ConfigError::Bad)
+            }
+        }
+        Err(error) if error.is_memory() => Err(ConfigError::OutOfMemory),
+        Err(_) => Err(ConfigError::Bad),
     }
 }
 
-/// Why a text is no document.
-fn error_of(error: toml::de::Error) -> ConfigError {
-    if error.is_memory() {
-        ConfigError::OutOfMemory
-    } else {
-        ConfigError::Bad
-    }
-}
-
-/// The namespaces, if a file may have them.
-fn judge(spaces: Vec<HostedNamespace>) -> Result<Vec<HostedNamespace>, ConfigError>
-    ensures ok { IfOk result (λ spaces. IsTrue (are_good spaces.items)) }
+/// Returns the faults of the text of a configuration file, in its order; none if `read_config` accepts it.
+///
+/// Of a text that is not TOML only the first fault is reported. A fault of a key is reported with the line of the key, or, if that is not
+/// found (as in a table on one line), with the line of its namespace's header.
+pub fn check_config(alloc: Global, text: &str) -> Result<Vec<ConfigFault>, AllocError>
+    ensures text { parse_document text.now ≡ None → IfOk result (λ faults. faults.items ≢ []) }
 {
-    if are_good(&spaces) {
-        Ok(spaces)
-    } else {
-        Err(ConfigError::Bad)
+    match toml::table_from_str(alloc, text) {
+        Ok(document) => {
+            let (_spaces, faults) = read_document(alloc, text, &document)?;
+            Ok(faults)
+        }
+        Err(error) => fault_of(alloc, text, &error),
     }
 }
 
-/// The namespaces of a document.
-fn read_document(alloc: Global, document: &Table) -> Result<Vec<HostedNamespace>, ConfigError> {
-    only(document, &["namespace"])?;
-    let mut spaces = Vec::new(alloc);
-    for value in tables_at(document, "namespace")? {
-        let space = read_value(alloc, value)?;
-        if spaces.push(space).is_err() {
-            return Err(ConfigError::OutOfMemory);
+/// The namespaces of a document, and its faults. Without faults a file may have these namespaces.
+fn read_document(
+    alloc: Global,
+    text: &str,
+    document: &Table,
+) -> Result<(Vec<HostedNamespace>, Vec<ConfigFault>), AllocError>
+    ensures { IfOk result (λ read. read.1.items ≡ [] → IsTrue (are_good read.0.items)) }
+{
+    let mut reader = Reader {
+        alloc,
+        spaces: Vec::new(alloc),
+        faults: Faults::new(alloc, text),
+    };
+    reader.document(document)?;
+    let Reader {
+        spaces,
+        mut faults,
+        ..
+    } = reader;
+    if faults.found.is_empty() && !are_good(&spaces) {
+        faults.add(1, "bad configuration")?;
+    }
+    Ok((spaces, faults.found))
+}
+
+/// The table of a namespace, with its number.
+#[derive(Clone, Copy)]
+struct At<'a> {
+    place: usize,
+    table: &'a Table,
+}
+
+/// What was read of a file so far.
+#[derive(Drop)]
+struct Reader<'a> {
+    alloc: Global,
+    spaces: Vec<HostedNamespace>,
+    faults: Faults<'a>,
+}
+
+impl<'a> Reader<'a> {
+    /// Reads the document.
+    fn document(&mut self, document: &Table) -> Result<(), AllocError> {
+        for key in document.keys() {
+            if key.as_str() != "namespace" {
+                let line = line_outside(self.faults.text, key.as_str());
+                self.faults.add(line, format_args!("unknown key {key}"))?;
+            }
+        }
+        match document.get("namespace") {
+            Some(value) => self.array(value),
+            None => self.faults.add(1, "there is no [[namespace]]"),
         }
     }
-    Ok(spaces)
-}
 
-/// The namespace of a value, which is a table.
-fn read_value(alloc: Global, value: &Value) -> Result<HostedNamespace, ConfigError> {
-    match value.as_table() {
-        Some(table) => read_space(alloc, table),
-        None => Err(ConfigError::Bad),
-    }
-}
-
-/// The namespace of a table.
-fn read_space(alloc: Global, table: &Table) -> Result<HostedNamespace, ConfigError> {
-    only(table, &KEYS)?;
-    let Some(name) = text_at(table, "name")? else {
-        return Err(ConfigError::Bad);
-    };
-    let port = read_port(table)?;
-    let config = read_limits(table)?;
-    let loads = match table_at(table, "loads")? {
-        Some(listed) => read_loads(alloc, listed)?,
-        None => Vec::new(alloc),
-    };
-    Ok(HostedNamespace {
-        name: Seq::from_vec(Vec::from_slice(alloc, name.as_bytes())?),
-        port,
-        config,
-        loads,
-    })
-}
-
-/// The port, which has to be there.
-fn read_port(table: &Table) -> Result<u16, ConfigError> {
-    let Some(number) = number_at(table, "port")? else {
-        return Err(ConfigError::Bad);
-    };
-    u16::try_from(number).map_err(|_| ConfigError::Bad)
-}
-
-/// The limits of a namespace.
-fn read_limits(table: &Table) -> Result<Config, ConfigError> {
-    let parts = number_at(table, "parts")?.unwrap_or(1);
-    Ok(Config {
-        capacity: number_at(table, "capacity")?,
-        policy: policy_at(table)?,
-        parts: u32::try_from(parts).map_err(|_| ConfigError::Bad)?,
-        weight: weight_at(table)?,
-        live_ms: number_at(table, "live_ms")?,
-        idle_ms: number_at(table, "idle_ms")?,
-        own_deadlines: switch_at(table, "deadlines")?,
-    })
-}
-
-/// What the loads find.
-fn read_loads(alloc: Global, table: &Table) -> Result<Vec<Listed>, ConfigError> {
-    let mut loads = Vec::new(alloc);
-    for (key, value) in table.iter() {
-        let Some(text) = value.as_str() else {
-            return Err(ConfigError::Bad);
+    /// Reads the array of namespaces.
+    fn array(&mut self, value: &Value) -> Result<(), AllocError> {
+        let text = self.faults.text;
+        let Some(values) = value.as_array() else {
+            let line = line_outside(text, "namespace");
+            return self
+                .faults
+                .add(line, "a namespace begins with [[namespace]]");
         };
-        let listed = Listed {
-            key: Seq::from_vec(Vec::from_slice(alloc, key.as_bytes())?),
-            value: Seq::from_vec(Vec::from_slice(alloc, text.as_bytes())?),
-        };
-        if loads.push(listed).is_err() {
-            return Err(ConfigError::OutOfMemory);
+        if values.is_empty() {
+            return self.faults.add(1, "there is no [[namespace]]");
         }
+        if values.len() > MOST {
+            let line = line_of_header(text, MOST);
+            self.faults.add(line, format_args!("there are more than {MOST} namespaces"))?;
+        }
+        for (place, value) in values.iter().enumerate() {
+            self.value(place, value, &values[..place])?;
+        }
+        Ok(())
     }
-    Ok(loads)
+
+    /// Reads a namespace, with those before it.
+    fn value(&mut self, place: usize, value: &Value, before: &[Value]) -> Result<(), AllocError> {
+        let Some(table) = value.as_table() else {
+            let line = line_outside(self.faults.text, "namespace");
+            return self.faults.add(line, "a namespace is a table");
+        };
+        let at = At { place, table };
+        self.known(at)?;
+        let space = self.space(at)?;
+        self.spaces.push(space)?;
+        self.twins(at, before)
+    }
+
+    /// Refuses keys that are not known.
+    fn known(&mut self, at: At<'_>) -> Result<(), AllocError> {
+        for key in at.table.keys() {
+            if !KEYS.contains(&key.as_str()) {
+                let line = line_of_key(self.faults.text, at.place, Part::Own, key.as_str());
+                self.faults.add(line, format_args!("unknown key {key}"))?;
+            }
+        }
+        Ok(())
+    }
+
+    /// Reads the fields of a namespace.
+    fn space(&mut self, at: At<'_>) -> Result<HostedNamespace, AllocError> {
+        let name = "is a text of 1 to 32 of a to z, 0 to 9, - and _";
+        let name = self.needed(at, "name", name, name_in)?;
+        let port = "is a number from 1 to 65535";
+        let port = self.needed(at, "port", port, port_in)?;
+        let config = self.config(at)?;
+        if config.own_deadlines && at.table.contains_key("live_ms") {
+            self.fault(at, "deadlines", "does not go with live_ms")?;
+        }
+        Ok(HostedNamespace {
+            name: bytes_of(self.alloc, name.unwrap_or(""))?,
+            port: port.unwrap_or(0),
+            config,
+            loads: self.loads(at)?,
+        })
+    }
+
+    /// Reads the limits of a namespace.
+    fn config(&mut self, at: At<'_>) -> Result<Config, AllocError> {
+        let any = "is a number from 0 on";
+        let many = "is a number from 1 to 256";
+        let time = "is a number of milliseconds from 1 to 999999999999";
+        let policy = "is \"tinylfu\" or \"lru\"";
+        let weight = "is \"one\" or \"bytes\"";
+        let switch = "is true or false";
+        Ok(Config {
+            capacity: self.field(at, "capacity", any, |value| number_in(value, 0, u64::MAX))?,
+            parts: self.field(at, "parts", many, parts_in)?.unwrap_or(1),
+            live_ms: self.field(at, "live_ms", time, time_in)?,
+            idle_ms: self.field(at, "idle_ms", time, time_in)?,
+            policy: self
+                .field(at, "policy", policy, policy_in)?
+                .unwrap_or(EvictionPolicy::TinyLfu),
+            weight: self
+                .field(at, "weight", weight, weight_in)?
+                .unwrap_or(Weight::One),
+            own_deadlines: self
+                .field(at, "deadlines", switch, |value| value.as_bool())?
+                .unwrap_or(false),
+        })
+    }
+
+    /// Reads what the loads of a namespace find.
+    fn loads(&mut self, at: At<'_>) -> Result<Vec<Listed>, AllocError> {
+        let mut loads = Vec::new(self.alloc);
+        let table = self.field(at, "loads", "is a table of texts", |value| value.as_table())?;
+        if let Some(table) = table {
+            for (key, value) in table.iter() {
+                match load_in(value) {
+                    Ok(text) => loads.push(Listed {
+                        key: bytes_of(self.alloc, key.as_str())?,
+                        value: bytes_of(self.alloc, text)?,
+                    })?,
+                    Err(what) => self
+                        .faults
+                        .add_key(at.place, Part::Loads, key.as_str(), what)?,
+                }
+            }
+        }
+        Ok(loads)
+    }
+
+    /// A fault of a key of a namespace.
+    fn fault(&mut self, at: At<'_>, key: &str, what: &str) -> Result<(), AllocError> {
+        self.faults.add_key(at.place, Part::Own, key, what)
+    }
+
+    /// What a key says, if it is there.
+    fn field<'t, T, F>(
+        &mut self,
+        at: At<'t>,
+        key: &str,
+        what: &str,
+        read: F,
+    ) -> Result<Option<T>, AllocError>
+    where
+        T: Drop,
+        F: Fn(&'t Value) -> Option<T> + Drop,
+        requires { F.IsAlwaysCallable read }
+    {
+        let Some(value) = at.table.get(key) else {
+            return Ok(None);
+        };
+        let said = read(value);
+        if said.is_none() {
+            self.fault(at, key, what)?;
+        }
+        Ok(said)
+    }
+
+    /// What a key says that has to be there.
+    fn needed<'t, T, F>(
+        &mut self,
+        at: At<'t>,
+        key: &str,
+        what: &str,
+        read: F,
+    ) -> Result<Option<T>, AllocError>
+    where
+        T: Drop,
+        F: Fn(&'t Value) -> Option<T> + Drop,
+        requires { F.IsAlwaysCallable read }
+    {
+        if !at.table.contains_key(key) {
+            self.fault(at, key, "is missing")?;
+        }
+        self.field(at, key, what, read)
+    }
+
+    /// Refuses what a namespace before this one has too.
+    fn twins(&mut self, at: At<'_>, before: &[Value]) -> Result<(), AllocError> {
+        for other in before {
+            for key in ["name", "port"] {
+                if at.table.contains_key(key) && at.table.get(key) == other.get(key) {
+                    self.fault(at, key, "is that of another namespace")?;
+                }
+            }
+        }
+        Ok(())
+    }
+}
+
+/// The bytes of a text.
+fn bytes_of(alloc: Global, text: &str) -> Result<Bytes, AllocError> {
+    Ok(Seq::from_vec(Vec::from_slice(alloc, text.as_bytes())?))
 }

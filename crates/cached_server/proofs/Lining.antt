@@ -1,16 +1,23 @@
 -- Lines that are gathered, and written out.
-use Rattle.std.proofs.Common.{◌≡◌, ℕ, ◌+◌, ◌<◌, List, [], ◌∷◌, ◌++◌, length, take, get_or, Option, sym, ap, ◌∙◌, subst}
+use Rattle.std.proofs.Common.{◌≡◌, ℕ, ◌+◌, ◌<◌, List, [], ◌∷◌, ◌++◌, length, take, get_or, Bor, Option, sym, ap, ◌∙◌, subst}
 use Rattle.std.specs.Prelude.{Result, Ok, Err, OnOk}
 use Rattle.std.specs.Io.KnownBytes.{Appends}
-use Rattle.std.proofs.lemmas.List.{append-nil}
+use Rattle.std.proofs.lemmas.Grind.{flat_map-append}
+use Rattle.std.proofs.lemmas.List.{append-nil, take_more}
+use Rattle.cached_server.specs.Lines.{joined}
 use Rattle.cached_server.specs.Script.Gathering.{Gathers}
 use Rattle.cached_server.proofs.script.Gathered.{gathers-more}
 
+-- one text more
+pub joined-more : (texts : List (Bor (List ℕ))) (i : ℕ) (d : Bor (List ℕ)) → i < length texts → joined (take (i + 1) texts) ≡ joined (take i texts) ++ (get_or texts i d).now
+joined-more texts i d within =
+    ap joined (take_more texts i d within) ∙ flat_map-append (λ (text : Bor (List ℕ)). text.now) (take i texts) (get_or texts i d ∷ [])
+    ∙ ap (λ l. joined (take i texts) ++ l) (append-nil (get_or texts i d).now)
+
 -- what was gathered from nothing, and then written out
-pub whole-line : (a b c : Option (List ℕ)) (g h k text : List ℕ) {T E : Type 0} (r : Result T E) → g ≡ [] → Gathers a g text b h → OnOk r (Gathers b h [] c k) → OnOk r (k ≡ [])
-    → OnOk r (Appends a c text)
-whole-line a b c g h k text (Ok u) empty x y none =
-    let all = gathers-more a b c g h k text [] x y in
-    let same : all.sent ≡ text = sym (append-nil all.sent) ∙ ap (λ l. all.sent ++ l) (sym none) ∙ all.whole ∙ ap (λ l. l ++ (text ++ [])) empty ∙ append-nil text in
+pub whole-line : (a b c : Option (List ℕ)) (h k text : List ℕ) {T E : Type 0} (r : Result T E) → Gathers a [] text b h → OnOk r (Gathers b h [] c k) → OnOk r (k ≡ []) → OnOk r (Appends a c text)
+whole-line a b c h k text (Ok u) x y none =
+    let all = gathers-more a b c [] h k text [] x y in
+    let same : all.sent ≡ text = sym (append-nil all.sent) ∙ ap (λ l. all.sent ++ l) (sym none) ∙ all.whole ∙ append-nil text in
     subst (Appends a c) same all.wrote
-whole-line a b c g h k text (Err e) empty x y none = y
+whole-line a b c h k text (Err e) x y none = y

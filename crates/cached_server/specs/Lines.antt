@@ -1,6 +1,8 @@
 -- The lines that a server writes.
 use Rattle.std.specs.Prelude.{ℕ, List, [], ◌∷◌, ◌++◌, codes}
+use Rattle.std.specs.Borrow.{Bor}
 use Rattle.std.specs.Fmt.{decimal}
+use Rattle.std.specs.List.{flat_map}
 use Rattle.audit_model.specs.declared.transcript.Note.{Note}
 use Rattle.audit_model.specs.Notes.{note_text}
 
@@ -16,3 +18,7 @@ listening_line name port =
 -- how many notices were lost
 abbrev pub lost_line : ℕ → List ℕ
 lost_line lost = codes "cached: " ++ decimal lost ++ codes " notices lost\n"
+
+-- texts, one after another
+abbrev pub joined : List (Bor (List ℕ)) → List ℕ
+joined texts = flat_map (λ text. text.now) texts

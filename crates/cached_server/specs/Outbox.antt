@@ -1,5 +1,5 @@
 -- Lines that wait to be written.
-use Rattle.std.specs.Prelude.{◌≡◌, ℕ, ◌+◌, ◌&&◌, ◌==◌, nat_le, not, min, Bool, false, List, [], ◌++◌, length, if◌then◌else◌}
+use Rattle.std.specs.Prelude.{ℕ, ◌+◌, ◌&&◌, ◌==◌, nat_le, not, min, Bool, false, List, [], ◌++◌, length, if◌then◌else◌}
 
 -- the bytes that wait; how many notes found no room; whether nobody reads any more; whether room was waited for in vain; whether no more
 -- will come

@@ -41,28 +41,18 @@ impl Outlet {
         Ok(Arc::new(alloc, outlet)?)
     }
 
-    /// Puts the line of a note, unless it has to wait for room; says whether it had not to.
-    fn put_at_once(&self, rt: &impl Wait, name: &[u8], note: &Note) -> bool {
+    /// Puts the line of a note once there is room, or a second has passed.
+    fn put<R: Wait + time::Clock>(&self, rt: &R, name: &[u8], note: &Note) {
         let mut outbox = self.outbox.lock(rt);
         if outbox.waits_for_room(name, note) {
-            return false;
-        }
-        outbox.put(name, note);
-        true
-    }
-
-    /// Puts the line of a note once there is room, or a second has passed.
-    fn put_in_time<R: Wait + time::Clock>(&self, rt: &R, name: &[u8], note: &Note) {
-        self.filled.notify_one();
-        let patience = Duration::from_secs(PATIENCE);
-        let outbox = self.outbox.lock(rt);
-        let (mut outbox, waited) = self
-            .emptied
-            .wait_timeout_while(rt, outbox, patience, |outbox| {
-                outbox.waits_for_room(name, note)
-            });
-        if waited.timed_out() {
-            outbox.stall();
+            self.filled.notify_one();
+            let waits = |outbox: &mut Outbox| outbox.waits_for_room(name, note);
+            let patience = Duration::from_secs(PATIENCE);
+            let (later, waited) = self.emptied.wait_timeout_while(rt, outbox, patience, waits);
+            outbox = later;
+            if waited.timed_out() {
+                outbox.stall();
+            }
         }
         outbox.put(name, note);
     }
@@ -70,9 +60,7 @@ impl Outlet {
     /// Reports notes of a namespace.
     pub fn tell<R: Wait + time::Clock>(&self, rt: &R, name: &[u8], notes: &[Note]) {
         for note in notes {
-            if !self.put_at_once(rt, name, note) {
-                self.put_in_time(rt, name, note);
-            }
+            self.put(rt, name, note);
         }
         self.filled.notify_one();
     }
@@ -146,15 +134,18 @@ where
     type Teller = Announcer<R>;
 
     fn make(&self, alloc: Global) -> Option<(StartClock<R>, ListLoader, Announcer<R>)> {
+        let clock = StartClock {
+            rt: self.rt,
+            start: self.start,
+            latest: 0,
+        };
         let loads = Arc::try_clone(&self.loads).ok()?;
-        let name = Arc::try_clone(&self.name).ok()?;
-        let outlet = Arc::try_clone(&self.outlet).ok()?;
-        let rt = self.rt;
-        Some((
-            StartClock::new(rt, self.start),
-            ListLoader { alloc, loads },
-            Announcer { rt, name, outlet },
-        ))
+        let announcer = Announcer {
+            rt: self.rt,
+            name: Arc::try_clone(&self.name).ok()?,
+            outlet: Arc::try_clone(&self.outlet).ok()?,
+        };
+        Some((clock, ListLoader { alloc, loads }, announcer))
     }
 }
 

@@ -14,20 +14,10 @@ use std::time::Instant;
 /// A clock that counts the nanoseconds from a start. No reading comes before an earlier one.
 #[derive(Drop)]
 pub struct StartClock<R: time::Clock + Copy> {
-    rt: R,
-    start: Instant,
-    latest: u64,
-}
-
-impl<R: time::Clock + Copy> StartClock<R> {
-    /// A clock from that start.
-    pub fn new(rt: R, start: Instant) -> StartClock<R> {
-        StartClock {
-            rt,
-            start,
-            latest: 0,
-        }
-    }
+    pub rt: R,
+    pub start: Instant,
+    /// The latest reading.
+    pub latest: u64,
 }
 
 impl<R: time::Clock + Copy> Clock for StartClock<R> {
@@ -77,8 +67,6 @@ fn find_listed(alloc: Global, loads: &[Listed], key: &[u8]) -> Option<Outcome>
 fn copy_value(alloc: Global, listed: &Listed) -> Option<Outcome>
     ensures { IfSome result (λ outcome. outcome ≡ Outcome.Value listed.now.value None) }
 {
-    match Vec::from_slice(alloc, listed.value.as_slice()) {
-        Ok(copy) => Some(Outcome::Value(Seq::from_vec(copy), None)),
-        Err(_) => None,
-    }
+    let copy = Vec::from_slice(alloc, listed.value.as_slice()).ok()?;
+    Some(Outcome::Value(Seq::from_vec(copy), None))
 }

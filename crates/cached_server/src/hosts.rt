@@ -4,6 +4,7 @@ ghost use Rattle.cache_shared.specs.Bared.{bare_spaces, no_journals};
 ghost use Rattle.cache_shared.specs.Events.{StandsAfter};
 
 use crate::announcing::{Outlet, Scribe, Site};
+use crate::machine::Machine;
 use crate::script::Fault;
 use audit_model::{Config, Instant};
 use cache_serve::host;
@@ -40,6 +41,18 @@ struct Board {
 }
 
 impl Board {
+    /// No host has ended.
+    fn new() -> Board {
+        let ended = Ended {
+            count: 0,
+            failed: false,
+        };
+        Board {
+            ended: Mutex::new(ended),
+            changed: Condvar::new(),
+        }
+    }
+
     /// Says that a host has ended.
     fn end(&self, rt: &impl Wait, failed: bool) {
         let mut ended = self.ended.lock(rt);
@@ -60,94 +73,58 @@ impl Board {
     }
 }
 
-/// What one namespace is hosted with.
+/// What is served: namespaces at their listeners, by a clock that counts from `begun` on, each until it has served as many connections as
+/// the limit says.
 #[derive(Drop)]
-struct Post<L: Seating, R: time::Clock + Wait + Copy> {
+pub struct Plan<W: Write + Drop, E: Write + Drop> {
+    pub spaces: Vec<HostedNamespace>,
+    pub listeners: Vec<TcpListener>,
+    pub scribe: Scribe<W, E>,
+    pub begun: time::Instant,
+    pub limit: Option<u64>,
+}
+
+/// What the threads of all namespaces share.
+#[derive(Drop)]
+struct Hall<L: Seating, R> {
+    rt: R,
+    alloc: Global,
     shared: SharedService<L, Service>,
-    namespace: u64,
-    listener: TcpListener,
-    site: Site<R>,
-    limit: Option<u64>,
+    outlet: Arc<Outlet>,
     board: Arc<Board>,
-}
-
-impl<L, R> Post<L, R>
-where
-    L: Seating + Send + Sync + 'static,
-    R: time::Clock + Threads + Wait + Copy + Send + Sync + 'static,
-{
-    /// Hosts the namespace, and says when that has ended.
-    fn attend(self, rt: R, alloc: Global) {
-        let Post {
-            shared,
-            namespace,
-            listener,
-            site,
-            limit,
-            board,
-        } = self;
-        let served = host(rt, alloc, &shared, namespace, &listener, &site, limit);
-        board.end(&rt, served.failed);
-    }
-}
-
-/// Starts the thread of a namespace.
-fn start<L, R>(
-    rt: R,
-    alloc: Global,
-    post: Post<L, R>,
-    threads: &mut Vec<JoinHandle<()>>,
-) -> Result<(), Fault>
-where
-    L: Seating + Send + Sync + 'static,
-    R: time::Clock + Threads + Wait + Copy + Send + Sync + 'static,
-    ensures { IfErr result (λ e. e ≡ Fault.OutOfMemory) }
-{
-    if threads.reserve(1).is_err() {
-        return Err(Fault::OutOfMemory);
-    }
-    match thread::spawn(&rt, move || post.attend(rt, alloc)) {
-        Ok(thread) => {
-            threads.push_reserved(thread);
-            Ok(())
-        }
-        Err(_) => Err(Fault::OutOfMemory),
-    }
-}
-
-/// What a namespace is hosted with. None without memory.
-fn make_post<L, R>(
-    rt: R,
-    alloc: Global,
-    shared: &SharedService<L, Service>,
-    namespace: u64,
-    space: HostedNamespace,
-    listener: TcpListener,
-    outlet: &Arc<Outlet>,
-    start: time::Instant,
+    begun: time::Instant,
     limit: Option<u64>,
-    board: &Arc<Board>,
-) -> Option<Post<L, R>>
+}
+
+impl<L, R> Hall<L, R>
 where
     L: Seating + Send + Sync + 'static,
     R: time::Clock + Threads + Wait + Copy + Send + Sync + 'static,
 {
-    let shared: Result<_, _> = shared.clone();
-    let site = Site {
-        rt,
-        start,
-        name: Arc::new(alloc, space.name).ok()?,
-        loads: Arc::new(alloc, space.loads).ok()?,
-        outlet: Arc::try_clone(outlet).ok()?,
-    };
-    Some(Post {
-        shared: shared.ok()?,
-        namespace,
-        listener,
-        site,
-        limit,
-        board: Arc::try_clone(board).ok()?,
-    })
+    /// Hosts a namespace on a thread of its own. None without memory.
+    fn start(
+        &self,
+        namespace: u64,
+        space: HostedNamespace,
+        listener: TcpListener,
+    ) -> Option<JoinHandle<()>> {
+        let (rt, alloc, limit) = (self.rt, self.alloc, self.limit);
+        let site = Site {
+            rt,
+            start: self.begun,
+            name: Arc::new(alloc, space.name).ok()?,
+            loads: Arc::new(alloc, space.loads).ok()?,
+            outlet: Arc::try_clone(&self.outlet).ok()?,
+        };
+        let shared: Result<_, _> = self.shared.clone();
+        let shared = shared.ok()?;
+        let board = Arc::try_clone(&self.board).ok()?;
+        let hosting = move || {
+            let served = host(rt, alloc, &shared, namespace, &listener, &site, limit);
+            board.end(&rt, served.failed);
+        };
+        thread::spawn(&rt, hosting).ok()
+    }
 }
 
 /// Hosts each namespace on a thread of its own. It ends once one of them cannot go on, or each has served as many connections as the
@@ -158,11 +135,7 @@ fn host_all<L, W, E, R>(
     core: Service,
     blank: Blank,
     parts: u64,
-    spaces: Vec<HostedNamespace>,
-    listeners: Vec<TcpListener>,
-    scribe: Scribe<W, E>,
-    begun: time::Instant,
-    limit: Option<u64>,
+    plan: Plan<W, E>,
 ) -> Result<(), Fault>
 where
     L: Seating + Send + Sync + 'static,
@@ -174,56 +147,43 @@ where
     requires parts { (blank.parts ≡ L.parts) × (L.all ≡ L.parts) × (parts ≡ L.parts) }
     ensures { IfErr result (λ e. (e ≡ Fault.CannotListen) ⊎ (e ≡ Fault.OutOfMemory)) }
 {
+    let Plan {
+        spaces,
+        listeners,
+        scribe,
+        begun,
+        limit,
+    } = plan;
     let shared: SharedService<L, Service> = match SharedService::new(alloc, core, blank, parts) {
         Ok(shared) => shared,
         Err(_) => return Err(Fault::OutOfMemory),
     };
-    let Ok(board) = Arc::new(
+    let outlet = Outlet::new(alloc)?;
+    let writing = start_scribe(rt, scribe, &outlet)?;
+    let hall = Hall {
+        rt,
         alloc,
-        Board {
-            ended: Mutex::new(Ended {
-                count: 0,
-                failed: false,
-            }),
-            changed: Condvar::new(),
-        },
-    ) else {
-        return Err(Fault::OutOfMemory);
-    };
-    let Ok(outlet) = Outlet::new(alloc) else {
-        return Err(Fault::OutOfMemory);
-    };
-    let writing = match start_scribe(rt, scribe, &outlet) {
-        Ok(writing) => writing,
-        Err(fault) => return Err(fault),
+        shared,
+        outlet,
+        board: Arc::new(alloc, Board::new())?,
+        begun,
+        limit,
     };
     let all = listeners.len() as u64;
-    let mut threads = Vec::new(alloc);
+    let mut threads = Vec::with_capacity(alloc, listeners.len())?;
     for (namespace, (space, listener)) in spaces.into_iter().zip(listeners).enumerate() {
-        let Some(post) = make_post(
-            rt,
-            alloc,
-            &shared,
-            namespace as u64,
-            space,
-            listener,
-            &outlet,
-            begun,
-            limit,
-            &board,
-        ) else {
+        let Some(thread) = hall.start(namespace as u64, space, listener) else {
             return Err(Fault::OutOfMemory);
         };
-        match start(rt, alloc, post, &mut threads) {
-            Ok(()) => {}
-            Err(fault) => return Err(fault),
-        }
+        threads.push(thread)?;
     }
-    if board.wait(&rt, all) {
+    if hall.board.wait(&rt, all) {
         return Err(Fault::CannotListen);
     }
-    join_all(&rt, threads);
-    outlet.end(&rt);
+    for thread in threads {
+        thread.join(&rt);
+    }
+    hall.outlet.end(&rt);
     writing.join(&rt);
     Ok(())
 }
@@ -240,29 +200,9 @@ where
     R: Threads + Wait + Copy + Send + Sync + 'static,
     ensures { IfErr result (λ e. e ≡ Fault.OutOfMemory) }
 {
-    let Ok(outlet) = Arc::try_clone(outlet) else {
-        return Err(Fault::OutOfMemory);
-    };
-    match thread::spawn(&rt, move || scribe.write_all(&rt, &outlet)) {
-        Ok(writing) => Ok(writing),
-        Err(_) => Err(Fault::OutOfMemory),
-    }
-}
-
-/// Joins the threads.
-fn join_all(rt: &impl Threads, threads: Vec<JoinHandle<()>>) {
-    for thread in threads {
-        thread.join(rt);
-    }
-}
-
-/// The limits of namespaces, in their order.
-fn gather_configs(alloc: Global, spaces: &[HostedNamespace]) -> Option<Vec<Config>> {
-    let mut configs = Vec::with_capacity(alloc, spaces.len()).ok()?;
-    for space in spaces {
-        configs.push(space.config).ok()?;
-    }
-    Some(configs)
+    let outlet = Arc::try_clone(outlet)?;
+    let writing = move || scribe.write_all(&rt, &outlet);
+    thread::spawn(&rt, writing).map_err(|_| Fault::OutOfMemory)
 }
 
 /// A generator that no stranger can foresee: its seed comes from the machine's random source.
@@ -285,49 +225,22 @@ fn make_core(
     ensures empty { IfOk result (StandsAfter false bare_spaces no_journals 0) }
     ensures err { IfErr result (λ e. e ≡ Fault.OutOfMemory) }
 {
-    let Some(configs) = gather_configs(alloc, spaces) else {
-        return Err(Fault::OutOfMemory);
-    };
+    let configs: Vec<Config> = spaces.iter().map(|space| space.config).collect(alloc)?;
     match Service::new(alloc, &configs, generator, Instant { nanos: 0 }) {
         Ok(core) => Ok(core),
         Err(_) => Err(Fault::OutOfMemory),
     }
 }
 
-/// Serves namespaces at their listeners.
-pub fn serve_spaces<W, E, R>(
-    rt: R,
-    alloc: Global,
-    spaces: Vec<HostedNamespace>,
-    listeners: Vec<TcpListener>,
-    scribe: Scribe<W, E>,
-    begun: time::Instant,
-    limit: Option<u64>,
-) -> Result<(), Fault>
+/// Serves what is planned.
+pub fn serve_plan<W, E, R>(rt: R, alloc: Global, plan: Plan<W, E>) -> Result<(), Fault>
 where
     W: Write + Drop + Send + 'static,
     E: Write + Drop + Send + 'static,
-    R: time::Clock + RandomSource + Threads + Wait + Copy + Send + Sync + 'static,
+    R: Machine,
     ensures { IfErr result (λ e. (e ≡ Fault.CannotListen) ⊎ (e ≡ Fault.OutOfMemory)) }
 {
-    let generator = match seeded(&rt) {
-        Ok(generator) => generator,
-        Err(fault) => return Err(fault),
-    };
-    let core = match make_core(alloc, &spaces, generator) {
-        Ok(core) => core,
-        Err(fault) => return Err(fault),
-    };
-    host_all::<Brand, W, E, R>(
-        rt,
-        alloc,
-        core,
-        Blank::new(SEATS),
-        SEATS,
-        spaces,
-        listeners,
-        scribe,
-        begun,
-        limit,
-    )
+    let generator = seeded(&rt)?;
+    let core = make_core(alloc, &plan.spaces, generator)?;
+    host_all::<Brand, W, E, R>(rt, alloc, core, Blank::new(SEATS), SEATS, plan)
 }

@@ -5,14 +5,14 @@ mod announcing;
 mod devices;
 mod hosts;
 mod lines;
-mod listening;
+mod machine;
 mod outbox;
 mod program;
-mod reading;
 pub mod script;
 
 pub use announcing::Outlet;
 pub use lines::Lines;
+pub use machine::Machine;
 pub use outbox::{Outbox, ROOM};
 pub use program::{cached, serve_config, serve_text};
 pub use script::{

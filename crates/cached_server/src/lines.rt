@@ -1,13 +1,11 @@
 //! Whole lines on one writer.
-ghost use Rattle.std.specs.Prelude.{◌≡◌, ◌≤◌, ◌++◌, ◌∷◌, [], true, codes, decimal, IsErr, IfErr, IfOk, OnOk, OnErr, false};
+ghost use Rattle.std.specs.Prelude.{◌≡◌, [], true, IsErr, IfOk, OnOk, OnErr, false};
 ghost use Rattle.std.specs.Io.KnownBytes.{Appends};
-ghost use Rattle.cache_run.specs.Devices.Failures.{HasFailed};
-ghost use Rattle.cache_run.specs.Devices.Watched.{device, failures};
-ghost use Rattle.cached_server.specs.Script.Gathering.{Gathers};
-ghost use Rattle.cached_server.specs.Lines.{listening_line, lost_line};
+ghost use Rattle.cache_run.specs.Devices.Watched.{device};
+ghost use Rattle.cached_server.specs.Lines.{joined, listening_line, lost_line};
 
 use crate::script::{put, write_out};
-use cache_run::{RunError, Watched, send};
+use cache_run::{RunError, Watched};
 use itoa::Buffer;
 use std::alloc::{AllocError, Global};
 use std::io::Write;
@@ -44,16 +42,7 @@ impl<W: Write + Drop> Lines<W> {
         ensures cut { OnErr result (self.new.is_cut ≡ true) }
         ensures still { self.old.is_cut ≡ true → (self.new ≡ self.old) × IsErr result }
     {
-        if self.is_cut {
-            return Err(RunError::Write);
-        }
-        match send(text, &mut self.writer) {
-            Ok(()) => Ok(()),
-            Err(error) => {
-                self.is_cut = true;
-                Err(error)
-            }
-        }
+        self.send_joined(&[text])
     }
 
     /// Writes that a namespace of that name is served at a port, in one piece. This allocates nothing.
@@ -64,27 +53,28 @@ impl<W: Write + Drop> Lines<W> {
         ensures cut { OnErr result (self.new.is_cut ≡ true) }
         ensures still { self.old.is_cut ≡ true → (self.new ≡ self.old) × IsErr result }
     {
-        if self.is_cut {
-            return Err(RunError::Write);
-        }
-        let Lines {
-            gathered,
-            writer,
-            is_cut,
-        } = self;
-        match write_listening_line(name, port, gathered, writer) {
-            Ok(()) => Ok(()),
-            Err(error) => {
-                *is_cut = true;
-                Err(error)
-            }
-        }
+        let mut digits = Buffer::new();
+        let port = digits.format(port).as_bytes();
+        self.send_joined(&[b"listening ", name, b" 127.0.0.1:", port, b"\n"])
     }
 
     /// Writes how many notices were lost, in one piece. This allocates nothing.
     pub fn show_lost(&mut self, lost: u64) -> Result<(), RunError>
         ensures ok { OnOk result (Appends (W.contents (device self.old.writer))
             (W.contents (device self.new.writer)) (lost_line lost)) }
+        ensures whole { OnOk result (self.new.is_cut ≡ self.old.is_cut) }
+        ensures cut { OnErr result (self.new.is_cut ≡ true) }
+        ensures still { self.old.is_cut ≡ true → (self.new ≡ self.old) × IsErr result }
+    {
+        let mut digits = Buffer::new();
+        let lost = digits.format(lost).as_bytes();
+        self.send_joined(&[b"cached: ", lost, b" notices lost\n"])
+    }
+
+    /// Writes texts one after another, which are whole lines.
+    fn send_joined(&mut self, texts: &[&[u8]]) -> Result<(), RunError>
+        ensures ok { OnOk result (Appends (W.contents (device self.old.writer))
+            (W.contents (device self.new.writer)) (joined texts.now)) }
         ensures whole { OnOk result (self.new.is_cut ≡ self.old.is_cut) }
         ensures cut { OnErr result (self.new.is_cut ≡ true) }
         ensures still { self.old.is_cut ≡ true → (self.new ≡ self.old) × IsErr result }
@@ -97,67 +87,24 @@ impl<W: Write + Drop> Lines<W> {
             writer,
             is_cut,
         } = self;
-        match write_lost_line(lost, gathered, writer) {
-            Ok(()) => Ok(()),
-            Err(error) => {
-                *is_cut = true;
-                Err(error)
-            }
-        }
+        let sent = write_joined(texts, gathered, writer);
+        *is_cut = sent.is_err();
+        sent
     }
 }
 
-/// Writes as a line that a namespace is served.
-fn write_listening_line<W: Write>(
-    name: &[u8],
-    port: u16,
+/// Writes texts one after another, in one piece if there is room for it.
+fn write_joined<W: Write>(
+    texts: &[&[u8]],
     gathered: &mut Vec<u8>,
     writer: &mut Watched<W>,
 ) -> Result<(), RunError>
-    ensures ok { OnOk result (Appends (W.contents (device writer.old))
-        (W.contents (device writer.new)) (listening_line name.now port)) }
-    ensures cause { IfErr result
-        (λ e. (e ≡ RunError.Write) × HasFailed (failures writer.old) (failures writer.new)) }
+    ensures { OnOk result (Appends (W.contents (device writer.old)) (W.contents (device writer.new))
+        (joined texts.now)) }
 {
     gathered.clear();
-    put(gathered, b"listening ", writer)?;
-    put(gathered, name, writer)?;
-    put(gathered, b" 127.0.0.1:", writer)?;
-    put_number(port as u64, gathered, writer)?;
-    put(gathered, b"\n", writer)?;
+    for text in texts {
+        put(gathered, text, writer)?;
+    }
     write_out(gathered, writer)
-}
-
-/// Writes as a line how many notices were lost.
-fn write_lost_line<W: Write>(
-    lost: u64,
-    gathered: &mut Vec<u8>,
-    writer: &mut Watched<W>,
-) -> Result<(), RunError>
-    ensures ok { OnOk result (Appends (W.contents (device writer.old))
-        (W.contents (device writer.new)) (lost_line lost)) }
-    ensures cause { IfErr result
-        (λ e. (e ≡ RunError.Write) × HasFailed (failures writer.old) (failures writer.new)) }
-{
-    gathered.clear();
-    put(gathered, b"cached: ", writer)?;
-    put_number(lost, gathered, writer)?;
-    put(gathered, b" notices lost\n", writer)?;
-    write_out(gathered, writer)
-}
-
-/// Gathers a number.
-fn put_number<W: Write>(
-    number: u64,
-    gathered: &mut Vec<u8>,
-    writer: &mut Watched<W>,
-) -> Result<(), RunError>
-    ensures ok { OnOk result (Gathers (W.contents (device writer.old)) gathered.old.items
-        (decimal number) (W.contents (device writer.new)) gathered.new.items) }
-    ensures cause { IfErr result
-        (λ e. (e ≡ RunError.Write) × HasFailed (failures writer.old) (failures writer.new)) }
-    ensures count { failures writer.old ≤ failures writer.new }
-{
-    let mut digits = Buffer::new();
-    put(gathered, digits.format(number).as_bytes(), writer)
 }

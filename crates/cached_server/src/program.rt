@@ -6,22 +6,22 @@ ghost use Rattle.cached_server.specs.Script.Faults.{Tells, fault_message, usage_
 ghost use Rattle.cached_server.specs.Script.Scripts.{ServesStreams};
 
 use crate::announcing::Scribe;
-use crate::hosts::serve_spaces;
+use crate::hosts::{Plan, serve_plan};
 use crate::lines::Lines;
-use crate::listening::{listen, show_all};
-use crate::reading::{read_spaces, read_text};
+use crate::machine::Machine;
 use crate::script::{Chosen, Fault, fail, fail_words, run_script, take_words};
 use cache_run::Watched;
+use cached_config::{HostedNamespace, read_config};
 use std::alloc::Global;
 use std::convert::AsStr;
-use std::io::{Read, Write};
-use std::net::{Net, TcpListener, TcpStream};
+use std::io::{ErrorKind, Read, Write};
+use std::net::{Ipv4Addr, Net, SocketAddr, TcpListener, TcpStream};
 use std::random::RandomSource;
 use std::rt::Files;
 use std::sync::Wait;
 use std::thread::Threads;
-use std::time;
 use std::time::Instant;
+use std::{fs, time};
 
 /// The program, with its arguments and streams. Returns its status: 0 at the end of a script, 1 after an error, 2 if the arguments are
 /// wrong.
@@ -81,17 +81,7 @@ pub fn serve_config<E: Write, W, V, R>(
 where
     W: Write + Drop + Send + 'static,
     V: Write + Drop + Send + 'static,
-    R: Net<Listener = TcpListener, Stream = TcpStream>
-        + Files
-        + AllocGlobal
-        + time::Clock
-        + RandomSource
-        + Threads
-        + Wait
-        + Copy
-        + Send
-        + Sync
-        + 'static,
+    R: Machine + Files + AllocGlobal,
     ensures status { result ≡ 1 }
     ensures told { (fault : Fault) × Tells (fault_message fault) (E.contents (device errors.old))
         (E.contents (device errors.new)) (failures errors.old) (failures errors.new) }
@@ -122,40 +112,63 @@ pub fn serve_text<W, V, R>(
 where
     W: Write + Drop + Send + 'static,
     V: Write + Drop + Send + 'static,
-    R: Net<Listener = TcpListener, Stream = TcpStream>
-        + time::Clock
-        + RandomSource
-        + Threads
-        + Wait
-        + Copy
-        + Send
-        + Sync
-        + 'static,
+    R: Machine,
     ensures text { parse_document text.now ≡ None → IsErr result }
     ensures causes { parse_document text.now ≡ None
         → IfErr result (λ e. (e ≡ Fault.BadConfiguration) ⊎ (e ≡ Fault.OutOfMemory)) }
     ensures faults { IfErr result (λ e. (e ≢ Fault.Read) × (e ≢ Fault.UsedUp)) }
 {
-    let spaces = match read_spaces(alloc, text) {
-        Ok(spaces) => spaces,
-        Err(fault) => return Err(fault),
-    };
-    let listeners = match listen(&rt, alloc, &spaces) {
-        Ok(listeners) => listeners,
-        Err(fault) => return Err(fault),
-    };
+    let spaces = read_config(alloc, text)?;
+    let listeners = listen(&rt, alloc, &spaces)?;
     let (shown, alarms) = shown;
-    let mut lines = match Lines::new(alloc, shown) {
-        Ok(lines) => lines,
-        Err(_) => return Err(Fault::OutOfMemory),
+    let mut lines = Lines::new(alloc, shown)?;
+    show_all(&mut lines, &spaces)?;
+    let scribe = Scribe::new(alloc, lines, alarms)?;
+    let plan = Plan {
+        spaces,
+        listeners,
+        scribe,
+        begun,
+        limit,
     };
-    match show_all(&mut lines, &spaces) {
-        Ok(()) => {}
-        Err(fault) => return Err(fault),
+    serve_plan(rt, alloc, plan)
+}
+
+/// The text of a file. One that cannot be read, or is not text, is a bad configuration.
+fn read_text<R: Files + AllocGlobal>(rt: &R, path: &str) -> Result<String, Fault> {
+    fs::read_to_string(rt, path).map_err(|error| match error.kind() {
+        ErrorKind::OutOfMemory => Fault::OutOfMemory,
+        _ => Fault::BadConfiguration,
+    })
+}
+
+/// A listener on 127.0.0.1 for each namespace, in their order.
+fn listen<R: Machine>(
+    rt: &R,
+    alloc: Global,
+    spaces: &[HostedNamespace],
+) -> Result<Vec<TcpListener>, Fault>
+    ensures { IfErr result (λ e. (e ≡ Fault.CannotListen) ⊎ (e ≡ Fault.OutOfMemory)) }
+{
+    let mut listeners = Vec::with_capacity(alloc, spaces.len())?;
+    for space in spaces {
+        let address = SocketAddr::from((Ipv4Addr::LOCALHOST, space.port));
+        match TcpListener::bind(rt, address) {
+            Ok(listener) => listeners.push(listener)?,
+            Err(_) => return Err(Fault::CannotListen),
+        }
     }
-    let scribe = match Scribe::new(alloc, lines, alarms) {
-        Ok(scribe) => scribe,
-        Err(_) => return Err(Fault::OutOfMemory),
-    };
-    serve_spaces(rt, alloc, spaces, listeners, scribe, begun, limit)
+    Ok(listeners)
+}
+
+/// Writes for each namespace where it is served, in their order.
+fn show_all<W: Write + Drop>(lines: &mut Lines<W>, spaces: &[HostedNamespace]) -> Result<(), Fault>
+    ensures { IfErr result (λ e. e ≡ Fault.Write) }
+{
+    for space in spaces {
+        if lines.show(space.name.as_slice(), space.port).is_err() {
+            return Err(Fault::Write);
+        }
+    }
+    Ok(())
 }

@@ -1,7 +1,8 @@
 //! Clients, good and bad.
+use cached_server::Machine;
 use std::alloc::Global;
 use std::io::{Read, Write};
-use std::net::{Ipv4Addr, Net, SocketAddr, TcpListener, TcpStream};
+use std::net::{Ipv4Addr, SocketAddr, TcpListener, TcpStream};
 use std::time::{Clock, Duration};
 use std::{io, thread};
 
@@ -14,10 +15,7 @@ fn address(port: u16) -> SocketAddr {
 }
 
 /// Connects, if somebody listens. No read of the stream waits longer than 20 seconds.
-fn try_to_connect<R: Net<Listener = TcpListener, Stream = TcpStream>>(
-    rt: &R,
-    port: u16,
-) -> Option<TcpStream> {
+fn try_to_connect<R: Machine>(rt: &R, port: u16) -> Option<TcpStream> {
     match TcpStream::connect(rt, address(port)) {
         Ok(stream) => {
             let _ = stream.set_read_timeout(Some(Duration::from_secs(20)));
@@ -28,10 +26,7 @@ fn try_to_connect<R: Net<Listener = TcpListener, Stream = TcpStream>>(
 }
 
 /// Connects as soon as somebody listens.
-pub fn connect<R: Net<Listener = TcpListener, Stream = TcpStream> + Clock>(
-    rt: &R,
-    port: u16,
-) -> Option<TcpStream> {
+pub fn connect<R: Machine>(rt: &R, port: u16) -> Option<TcpStream> {
     for _try in 0..TRIES {
         if let Some(stream) = try_to_connect(rt, port) {
             return Some(stream);
@@ -42,7 +37,7 @@ pub fn connect<R: Net<Listener = TcpListener, Stream = TcpStream> + Clock>(
 }
 
 /// Uses up connections that a failed test would leave, so that its server ends.
-pub fn use_up<R: Net<Listener = TcpListener, Stream = TcpStream>>(rt: &R, port: u16, count: u32) {
+pub fn use_up<R: Machine>(rt: &R, port: u16, count: u32) {
     for _connection in 0..count {
         let _ = TcpStream::connect(rt, address(port));
     }
@@ -67,11 +62,7 @@ fn read_all(stream: &mut TcpStream, replies: &mut Vec<u8>) {
 }
 
 /// One that sends a text, and reads nothing.
-pub fn send_only<R: Net<Listener = TcpListener, Stream = TcpStream> + Clock>(
-    rt: &R,
-    port: u16,
-    text: &[u8],
-) -> Option<TcpStream> {
+pub fn send_only<R: Machine>(rt: &R, port: u16, text: &[u8]) -> Option<TcpStream> {
     match connect(rt, port) {
         Some(mut stream) => {
             let _ = stream.write_all(text);
@@ -99,7 +90,7 @@ fn is_replied<R: Clock>(
 }
 
 /// One that sends a text, and another one later if there is one. Answers whether it reads these replies.
-pub fn talks<R: Net<Listener = TcpListener, Stream = TcpStream> + Clock>(
+pub fn talks<R: Machine>(
     rt: &R,
     alloc: Global,
     port: u16,
@@ -114,9 +105,7 @@ pub fn talks<R: Net<Listener = TcpListener, Stream = TcpStream> + Clock>(
 }
 
 /// A listener on a port of this machine.
-pub fn take_port<R: Net<Listener = TcpListener, Stream = TcpStream>>(
-    rt: &R,
-) -> io::Result<TcpListener> {
+pub fn take_port<R: Machine>(rt: &R) -> io::Result<TcpListener> {
     TcpListener::bind(rt, address(0))
 }
 
@@ -129,7 +118,7 @@ pub fn port_of(listener: &TcpListener) -> Option<u16> {
 }
 
 /// The port of a listener that was there: nobody listens on it.
-pub fn free_port<R: Net<Listener = TcpListener, Stream = TcpStream>>(rt: &R) -> Option<u16> {
+pub fn free_port<R: Machine>(rt: &R) -> Option<u16> {
     match take_port(rt) {
         Ok(listener) => port_of(&listener),
         Err(_) => None,

@@ -1,4 +1,4 @@
-//! What is read from a configuration.
+//! What is read from a configuration, and what is wrong with one.
 use crate::texts::{Lines, text_of};
 use audit_model::{Config, EvictionPolicy, Weight};
 use cached_config::{ConfigError, ConfigFault, HostedNamespace, Listed, check_config, read_config};
@@ -8,19 +8,8 @@ use std::fmt::Write;
 /// A namespace that is read: its name, its port, its configuration, and the key and the value of its one load, if it has one.
 type Space<'a> = (&'a [u8], u16, Config, Option<(&'a [u8], &'a [u8])>);
 
-/// What a file comes to.
-#[derive(Clone, Copy)]
-enum Judged<'a> {
-    /// It is no configuration.
-    Bad,
-    /// So many namespaces are read.
-    Taken(usize),
-    /// These are read.
-    Read(&'a [Space<'a>]),
-}
-
-/// The lines of a file, and what it comes to.
-type Row<'a> = (&'a [Lines<'a>], Judged<'a>);
+/// The text of a file, and its faults, a line each; a file without faults is read.
+type Row<'a> = (&'a str, &'a str);
 
 /// What no field says.
 const DEFAULT: Config = Config {
@@ -33,18 +22,11 @@ const DEFAULT: Config = Config {
     own_deadlines: false,
 };
 
-/// A namespace of a name and a port alone.
-const A: Lines<'static> = ("[[namespace]]\nname = \"a\"\nport = 1\n", 1, 1);
-
-const ROWS: &[Row<'static>] = &[
-    // A sample.
+/// Files, and the namespaces that are read.
+const READ: &[(&str, &[Space<'static>])] = &[
     (
+        "[[namespace]]\nname = \"main\"\nport = 7411\ncapacity = 1000\n[namespace.loads]\nk = \"v\"\n",
         &[(
-            "[[namespace]]\nname = \"main\"\nport = 7411\ncapacity = 1000\n[namespace.loads]\nk = \"v\"\n",
-            1,
-            1,
-        )],
-        Judged::Read(&[(
             b"main",
             7411,
             Config {
@@ -52,16 +34,11 @@ const ROWS: &[Row<'static>] = &[
                 ..DEFAULT
             },
             Some((b"k", b"v")),
-        )]),
-    ),
-    // Each field.
-    (
-        &[(
-            "[[namespace]]\nname = \"a-b_9\"\nport = 65535\npolicy = \"lru\"\nparts = 256\nweight = \"bytes\"\nlive_ms = 1\nidle_ms = 999999999999\n[[namespace]]\nname = \"b\"\nport = 1\ndeadlines = true\nidle_ms = 5\n",
-            1,
-            1,
         )],
-        Judged::Read(&[
+    ),
+    (
+        "[[namespace]]\nname = \"a-b_9\"\nport = 65535\npolicy = \"lru\"\nparts = 256\nweight = \"bytes\"\nlive_ms = 1\nidle_ms = 999999999999\n[[namespace]]\nname = \"b\"\nport = 1\ndeadlines = true\nidle_ms = 5\n",
+        &[
             (
                 b"a-b_9",
                 65535,
@@ -86,135 +63,148 @@ const ROWS: &[Row<'static>] = &[
                 },
                 None,
             ),
-        ]),
+        ],
     ),
-    // No namespace.
-    (&[("", 1, 1)], Judged::Bad),
-    // No array.
-    (&[("namespace = 3\n", 1, 1)], Judged::Bad),
-    // No table.
-    (&[("namespace = [1]\n", 1, 1)], Judged::Bad),
-    // No name.
-    (&[("[[namespace]]\nport = 1\n", 1, 1)], Judged::Bad),
-    // No port.
-    (&[("[[namespace]]\nname = \"a\"\n", 1, 1)], Judged::Bad),
-    // An empty name.
+];
+
+const FILES: &[Row<'static>] = &[
+    ("", "1: there is no [[namespace]]\n"),
     (
-        &[("[[namespace]]\nname = \"\"\nport = 1\n", 1, 1)],
-        Judged::Bad,
+        "other = 1\n",
+        "1: unknown key other\n1: there is no [[namespace]]\n",
     ),
-    // A capital.
     (
-        &[("[[namespace]]\nname = \"A\"\nport = 1\n", 1, 1)],
-        Judged::Bad,
+        "namespace = 3\n",
+        "1: a namespace begins with [[namespace]]\n",
     ),
-    // 33 bytes.
+    ("namespace = [1]\n", "1: a namespace is a table\n"),
+    ("[[namespace]]\nport = 1\n", "1: name is missing\n"),
+    ("[[namespace]]\nname = \"a\"\n", "1: port is missing\n"),
     (
-        &[(
-            "[[namespace]]\nname = \"abcdefghijabcdefghijabcdefghij123\"\nport = 1\n",
-            1,
-            1,
-        )],
-        Judged::Bad,
+        "[[namespace]]\nname = \"\"\nport = 1\n",
+        "2: name is a text of 1 to 32 of a to z, 0 to 9, - and _\n",
     ),
-    // Port 0.
     (
-        &[("[[namespace]]\nname = \"a\"\nport = 0\n", 1, 1)],
-        Judged::Bad,
+        "[[namespace]]\nname = \"A\"\nport = 1\n",
+        "2: name is a text of 1 to 32 of a to z, 0 to 9, - and _\n",
     ),
-    // Too great a port.
     (
-        &[("[[namespace]]\nname = \"a\"\nport = 65536\n", 1, 1)],
-        Judged::Bad,
+        "[[namespace]]\nname = \"abcdefghijabcdefghijabcdefghij123\"\nport = 1\n",
+        "2: name is a text of 1 to 32 of a to z, 0 to 9, - and _\n",
     ),
-    // A port in quotes.
     (
-        &[("[[namespace]]\nname = \"a\"\nport = \"1\"\n", 1, 1)],
-        Judged::Bad,
+        "[[namespace]]\nname = \"a\"\nport = 0\n",
+        "3: port is a number from 1 to 65535\n",
     ),
-    // Another key.
     (
-        &[("other = 1\n[[namespace]]\nname = \"a\"\nport = 1\n", 1, 1)],
-        Judged::Bad,
+        "[[namespace]]\nname = \"a\"\nport = 65536\n",
+        "3: port is a number from 1 to 65535\n",
     ),
-    // No TOML.
-    (&[("[[namespace\n", 1, 1)], Judged::Bad),
-    // One port.
     (
-        &[A, ("[[namespace]]\nname = \"b\"\nport = 1\n", 1, 1)],
-        Judged::Bad,
+        "[[namespace]]\nname = \"a\"\nport = \"1\"\n",
+        "3: port is a number from 1 to 65535\n",
     ),
-    // One name.
     (
-        &[A, ("[[namespace]]\nname = \"a\"\nport = 2\n", 1, 1)],
-        Judged::Bad,
+        "other = 1\n[[namespace]]\nname = \"a\"\nport = 1\n",
+        "1: unknown key other\n",
     ),
-    (&[A], Judged::Taken(1)),
-    // Another key.
-    (&[A, ("colour = 1\n", 1, 1)], Judged::Bad),
-    // Below 0.
-    (&[A, ("capacity = -1\n", 1, 1)], Judged::Bad),
-    (&[A, ("capacity = 0\n", 1, 1)], Judged::Taken(1)),
-    // No whole number.
-    (&[A, ("capacity = 1.5\n", 1, 1)], Judged::Bad),
-    // Another policy.
-    (&[A, ("policy = \"fifo\"\n", 1, 1)], Judged::Bad),
-    // No parts.
-    (&[A, ("parts = 0\n", 1, 1)], Judged::Bad),
-    // Too many parts.
-    (&[A, ("parts = 257\n", 1, 1)], Judged::Bad),
-    // Another weight.
-    (&[A, ("weight = \"two\"\n", 1, 1)], Judged::Bad),
-    // No time.
-    (&[A, ("live_ms = 0\n", 1, 1)], Judged::Bad),
-    // Too long a time.
-    (&[A, ("idle_ms = 1000000000000\n", 1, 1)], Judged::Bad),
-    // No switch.
-    (&[A, ("deadlines = 1\n", 1, 1)], Judged::Bad),
-    // Deadlines beside a live time.
-    (&[A, ("deadlines = true\nlive_ms = 5\n", 1, 1)], Judged::Bad),
     (
-        &[A, ("deadlines = false\nlive_ms = 5\n", 1, 1)],
-        Judged::Taken(1),
+        "[[namespace]]\nname = \"main\"\ncapacty = 1000\nport = 7411\n",
+        "3: unknown key capacty\n",
     ),
-    // Loads that are no table.
-    (&[A, ("loads = 1\n", 1, 1)], Judged::Bad),
-    // A load that is no text.
-    (&[A, ("loads = { k = 1 }\n", 1, 1)], Judged::Bad),
-    // A line end.
-    (&[A, ("loads = { k = \"a\\nb\" }\n", 1, 1)], Judged::Bad),
-    // A carriage return.
-    (&[A, ("loads = { k = \"a\\rb\" }\n", 1, 1)], Judged::Bad),
-    (&[A, ("loads = { k = \"\" }\n", 1, 1)], Judged::Taken(1)),
-    // At most sixteen.
     (
-        &[("[[namespace]]\nname = \"n#\"\nport = #\n", 1, 16)],
-        Judged::Taken(16),
+        "[[namespace]]\nname = \"A\"\nport = 0\nparts = 257\n",
+        "2: name is a text of 1 to 32 of a to z, 0 to 9, - and _\n3: port is a number from 1 to 65535\n4: parts is a number from 1 to 256\n",
     ),
+];
+
+/// The name and the port of a namespace.
+const BEGUN: Lines<'static> = ("[[namespace]]\nname = \"a\"\nport = 1\n", 1, 1);
+
+/// What stands behind them.
+const REST: &[Row<'static>] = &[
+    ("", ""),
+    ("colour = 1\n", "4: unknown key colour\n"),
+    ("capacity = -1\n", "4: capacity is a number from 0 on\n"),
+    ("capacity = 0\n", ""),
+    ("capacity = 1.5\n", "4: capacity is a number from 0 on\n"),
+    (
+        "policy = \"fifo\"\n",
+        "4: policy is \"tinylfu\" or \"lru\"\n",
+    ),
+    ("parts = 0\n", "4: parts is a number from 1 to 256\n"),
+    ("parts = 257\n", "4: parts is a number from 1 to 256\n"),
+    ("weight = \"two\"\n", "4: weight is \"one\" or \"bytes\"\n"),
+    (
+        "live_ms = 0\n",
+        "4: live_ms is a number of milliseconds from 1 to 999999999999\n",
+    ),
+    (
+        "idle_ms = 1000000000000\n",
+        "4: idle_ms is a number of milliseconds from 1 to 999999999999\n",
+    ),
+    ("deadlines = 1\n", "4: deadlines is true or false\n"),
+    (
+        "deadlines = true\nlive_ms = 5\n",
+        "4: deadlines does not go with live_ms\n",
+    ),
+    ("deadlines = false\nlive_ms = 5\n", ""),
+    ("loads = 1\n", "4: loads is a table of texts\n"),
+    ("loads = { k = 1 }\n", "1: k is a text\n"),
+    ("loads = { k = \"a\\nb\" }\n", "1: k has a line end\n"),
+    ("loads = { k = \"a\\rb\" }\n", "1: k has a line end\n"),
+    ("loads = { k = \"\" }\n", ""),
+    (
+        "[[namespace]]\nname = \"b\"\nport = 1\n",
+        "6: port is that of another namespace\n",
+    ),
+    (
+        "[[namespace]]\nname = \"a\"\nport = 2\n",
+        "5: name is that of another namespace\n",
+    ),
+    (
+        "\n[[namespace]]\nname = \"a\"\nport = 1\n",
+        "6: name is that of another namespace\n7: port is that of another namespace\n",
+    ),
+    (
+        "policy = \"fifo\"\nlive_ms = 5\ndeadlines = true\n",
+        "4: policy is \"tinylfu\" or \"lru\"\n6: deadlines does not go with live_ms\n",
+    ),
+    (
+        "idle_ms = 0\ncapacity = -1\n[namespace.loads]\nk = 1\nl = \"a\\nb\"\n",
+        "5: capacity is a number from 0 on\n4: idle_ms is a number of milliseconds from 1 to 999999999999\n7: k is a text\n8: l has a line end\n",
+    ),
+];
+
+/// Long files, and their faults.
+const LONG: &[(&[Lines<'static>], &str)] = &[
+    (&[("[[namespace]]\nname = \"n#\"\nport = #\n", 1, 16)], ""),
     (
         &[("[[namespace]]\nname = \"n#\"\nport = #\n", 1, 17)],
-        Judged::Bad,
+        "49: there are more than 16 namespaces\n",
     ),
-    // A value that is loaded has at most 8192 bytes.
     (
         &[
-            A,
+            BEGUN,
             ("loads = { k = \"", 1, 1),
             ("x", 1, 8192),
             ("\" }\n", 1, 1),
         ],
-        Judged::Taken(1),
+        "",
     ),
     (
         &[
-            A,
+            BEGUN,
             ("loads = { k = \"", 1, 1),
             ("x", 1, 8193),
             ("\" }\n", 1, 1),
         ],
-        Judged::Bad,
+        "1: k has more than 8192 bytes\n",
     ),
 ];
+
+/// Texts that are no TOML, and the line of their first fault.
+const BROKEN: &[(&str, usize)] = &[("[[namespace\n", 1), ("[[namespace]]\nname = \"a\n", 2)];
 
 /// Whether the loads are the one that is wanted, or none.
 fn are_loads(loads: &[Listed], wanted: Option<(&[u8], &[u8])>) -> bool {
@@ -244,68 +234,26 @@ fn are_spaces(spaces: &[HostedNamespace], wanted: &[Space<'_>]) -> bool {
     spaces.len() == wanted.len()
 }
 
-/// Whether what was read is as it is judged.
-fn is_judged(read: &Result<Vec<HostedNamespace>, ConfigError>, judged: Judged<'_>) -> bool {
-    match (read, judged) {
-        (Err(error), Judged::Bad) => *error == ConfigError::Bad,
-        (Ok(spaces), Judged::Taken(count)) => spaces.len() == count,
-        (Ok(spaces), Judged::Read(wanted)) => are_spaces(spaces.as_slice(), wanted),
-        _ => false,
+/// Whether these namespaces are read from a file.
+fn is_read(alloc: Global, text: &str, wanted: &[Space<'_>]) -> bool {
+    match read_config(alloc, text) {
+        Ok(spaces) => are_spaces(spaces.as_slice(), wanted),
+        Err(_) => false,
     }
 }
 
-/// Whether a file comes to what its row says.
-fn comes_so(alloc: Global, row: Row<'_>) -> bool {
-    match text_of(alloc, row.0) {
-        Some(text) => is_judged(&read_config(alloc, text.as_str()), row.1),
-        None => false,
+/// How many namespaces a text begins.
+fn headers_in(text: &str) -> usize {
+    text.lines().filter(|line| *line == "[[namespace]]").count()
+}
+
+/// Whether a file is read, with each namespace that it begins, or is none.
+fn is_judged(alloc: Global, text: &str, is_good: bool) -> bool {
+    match read_config(alloc, text) {
+        Ok(spaces) => is_good && spaces.len() == headers_in(text),
+        Err(error) => !is_good && error == ConfigError::Bad,
     }
 }
-
-/// Whether each file does, at the second try where memory is refused.
-fn all_come_so(alloc: Global) -> bool {
-    for row in ROWS {
-        if !(comes_so(alloc, *row) || comes_so(alloc, *row)) {
-            return false;
-        }
-    }
-    true
-}
-
-#[test]
-fn files_are_read(rt: HostRuntime) {
-    assert!(rt; all_come_so(rt.alloc()));
-}
-
-/// The text of a file, and its faults, a line each.
-const FAULTS: &[(&str, &str)] = &[
-    ("[[namespace]]\nname = \"a\"\nport = 1\n", ""),
-    (
-        "[[namespace]]\nname = \"main\"\ncapacty = 1000\nport = 7411\n",
-        "3: unknown key capacty\n",
-    ),
-    ("", "1: there is no [[namespace]]\n"),
-    (
-        "other = 1\n",
-        "1: unknown key other\n1: there is no [[namespace]]\n",
-    ),
-    (
-        "[[namespace]]\nname = \"A\"\nport = 0\nparts = 257\n",
-        "2: name is a text of 1 to 32 of a to z, 0 to 9, - and _\n3: port is a number from 1 to 65535\n4: parts is a number from 1 to 256\n",
-    ),
-    (
-        "[[namespace]]\nname = \"a\"\nport = 1\n\n[[namespace]]\nname = \"a\"\nport = 1\n",
-        "6: name is that of another namespace\n7: port is that of another namespace\n",
-    ),
-    (
-        "[[namespace]]\nname = \"a\"\nport = 1\npolicy = \"fifo\"\nlive_ms = 5\ndeadlines = true\n",
-        "4: policy is \"tinylfu\" or \"lru\"\n6: deadlines does not go with live_ms\n",
-    ),
-    (
-        "[[namespace]]\nname = \"a\"\nport = 1\nidle_ms = 0\ncapacity = -1\n[namespace.loads]\nk = 1\nl = \"a\\nb\"\n",
-        "5: capacity is a number from 0 on\n4: idle_ms is a number of milliseconds from 1 to 999999999999\n7: k is a text\n8: l has a line end\n",
-    ),
-];
 
 /// Adds a line for each fault.
 fn add_faults(told: &mut String, faults: &[ConfigFault]) -> Result<(), AllocError> {
@@ -322,32 +270,87 @@ fn are_told(alloc: Global, faults: &[ConfigFault], wanted: &str) -> bool {
 }
 
 /// Whether a file has these faults.
-fn has_faults(alloc: Global, (text, wanted): (&str, &str)) -> bool {
+fn has_faults(alloc: Global, text: &str, wanted: &str) -> bool {
     match check_config(alloc, text) {
         Ok(faults) => are_told(alloc, faults.as_slice(), wanted),
         Err(_) => false,
     }
 }
 
-/// Whether each file has its faults, at the second try where memory is refused.
-fn all_are_told(alloc: Global) -> bool {
-    for row in FAULTS {
-        if !(has_faults(alloc, *row) || has_faults(alloc, *row)) {
+/// Whether a file has these faults, and is read just where it has none.
+fn comes_so(alloc: Global, lines: &[Lines<'_>], faults: &str) -> bool {
+    match text_of(alloc, lines) {
+        Some(text) => has_faults(alloc, text.as_str(), faults)
+            && is_judged(alloc, text.as_str(), faults.is_empty()),
+        None => false,
+    }
+}
+
+/// The same, at the second try where memory is refused.
+fn comes_so_at_last(alloc: Global, lines: &[Lines<'_>], faults: &str) -> bool {
+    comes_so(alloc, lines, faults) || comes_so(alloc, lines, faults)
+}
+
+/// Whether the namespaces of each file are read.
+fn all_are_read(alloc: Global) -> bool {
+    for (text, wanted) in READ {
+        if !(is_read(alloc, text, wanted) || is_read(alloc, text, wanted)) {
             return false;
         }
     }
     true
 }
 
-/// Whether the first fault of a file that is no TOML is in its second line.
-fn is_broken(alloc: Global) -> bool {
-    match check_config(alloc, "[[namespace]]\nname = \"a\n") {
-        Ok(faults) => matches!(faults.as_slice(), [first, ..] if first.line == 2),
+/// Whether each text behind another comes to what its row says.
+fn all_come_so(alloc: Global, first: Lines<'_>, rows: &[Row<'_>]) -> bool {
+    for (text, faults) in rows {
+        if !comes_so_at_last(alloc, &[first, (text, 1, 1)], faults) {
+            return false;
+        }
+    }
+    true
+}
+
+/// Whether each long file does.
+fn all_long_come_so(alloc: Global) -> bool {
+    for (lines, faults) in LONG {
+        if !comes_so_at_last(alloc, lines, faults) {
+            return false;
+        }
+    }
+    true
+}
+
+/// Whether the first fault of a text that is no configuration is in this line.
+fn is_broken(alloc: Global, text: &str, line: usize) -> bool {
+    match check_config(alloc, text) {
+        Ok(faults) => matches!(faults.as_slice(), [first, ..] if first.line == line)
+            && is_judged(alloc, text, false),
         Err(_) => false,
     }
 }
 
+/// Whether each text that is no TOML has its first fault in its line.
+fn all_are_broken(alloc: Global) -> bool {
+    for (text, line) in BROKEN {
+        if !(is_broken(alloc, text, *line) || is_broken(alloc, text, *line)) {
+            return false;
+        }
+    }
+    true
+}
+
+#[test]
+fn namespaces_are_read(rt: HostRuntime) {
+    assert!(rt; all_are_read(rt.alloc()));
+}
+
 #[test]
 fn faults_are_told_by_lines(rt: HostRuntime) {
-    assert!(rt; all_are_told(rt.alloc()) && (is_broken(rt.alloc()) || is_broken(rt.alloc())));
+    assert!(rt; all_come_so(rt.alloc(), ("", 1, 1), FILES) && all_come_so(rt.alloc(), BEGUN, REST));
+}
+
+#[test]
+fn long_files(rt: HostRuntime) {
+    assert!(rt; all_long_come_so(rt.alloc()) && all_are_broken(rt.alloc()));
 }

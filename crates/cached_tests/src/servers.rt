@@ -2,7 +2,7 @@
 use crate::clients::{free_port, port_of, take_port};
 use crate::stages::{Cast, Row, Stage, is_staged_so};
 use crate::texts::{Lines, Talk, Texts, text_by, text_of, texts_of};
-use cached_server::Fault;
+use cached_server::{Fault, Machine};
 use std::alloc::Global;
 use std::net::{Net, TcpListener, TcpStream};
 use std::random::RandomSource;
@@ -27,18 +27,7 @@ pub const NOBODY: Row<'static> = Row {
 };
 
 /// Whether a server on two ports comes to what its row says.
-fn comes_so<R>(rt: R, alloc: Global, row: &Row<'_>, ports: (u16, u16)) -> bool
-where
-    R: Net<Listener = TcpListener, Stream = TcpStream>
-        + Clock
-        + RandomSource
-        + Threads
-        + Wait
-        + Copy
-        + Send
-        + Sync
-        + 'static,
-{
+fn comes_so<R: Machine>(rt: R, alloc: Global, row: &Row<'_>, ports: (u16, u16)) -> bool {
     let numbers = (u32::from(ports.0), u32::from(ports.1));
     match (
         text_by(alloc, row.config, numbers, ""),
@@ -62,41 +51,19 @@ fn keep(listener: TcpListener, is_kept: bool) -> Option<TcpListener> {
 }
 
 /// Whether a server on these ports comes to what its row says, the second of which is that of the listener.
-fn comes_so_beside<R>(
+fn comes_so_beside<R: Machine>(
     rt: R,
     alloc: Global,
     row: &Row<'_>,
     ports: (u16, u16),
     second: TcpListener,
-) -> bool
-where
-    R: Net<Listener = TcpListener, Stream = TcpStream>
-        + Clock
-        + RandomSource
-        + Threads
-        + Wait
-        + Copy
-        + Send
-        + Sync
-        + 'static,
-{
+) -> bool {
     let _taken = keep(second, matches!(row.cast, Cast::Shut));
     comes_so(rt, alloc, row, ports)
 }
 
 /// Whether a server on free ports comes to what its row says.
-fn comes_so_once<R>(rt: R, alloc: Global, row: &Row<'_>) -> bool
-where
-    R: Net<Listener = TcpListener, Stream = TcpStream>
-        + Clock
-        + RandomSource
-        + Threads
-        + Wait
-        + Copy
-        + Send
-        + Sync
-        + 'static,
-{
+fn comes_so_once<R: Machine>(rt: R, alloc: Global, row: &Row<'_>) -> bool {
     match take_port(&rt) {
         Ok(second) => match (free_port(&rt), port_of(&second)) {
             (Some(one), Some(two)) => comes_so_beside(rt, alloc, row, (one, two), second),
@@ -107,18 +74,7 @@ where
 }
 
 /// The same, at the second try where memory is refused.
-fn serves<R>(rt: R, alloc: Global, row: &Row<'_>) -> bool
-where
-    R: Net<Listener = TcpListener, Stream = TcpStream>
-        + Clock
-        + RandomSource
-        + Threads
-        + Wait
-        + Copy
-        + Send
-        + Sync
-        + 'static,
-{
+fn serves<R: Machine>(rt: R, alloc: Global, row: &Row<'_>) -> bool {
     comes_so_once(rt, alloc, row) || comes_so_once(rt, alloc, row)
 }
 
@@ -225,18 +181,12 @@ fn rows_of_servers(rt: HostRuntime) {
 }
 
 /// Whether a server of these namespaces serves a client whose talk has these texts.
-fn serves_texts<'a, R>(rt: R, alloc: Global, config: &'a [&'a str], texts: &'a Texts) -> bool
-where
-    R: Net<Listener = TcpListener, Stream = TcpStream>
-        + Clock
-        + RandomSource
-        + Threads
-        + Wait
-        + Copy
-        + Send
-        + Sync
-        + 'static,
-{
+fn serves_texts<'a, R: Machine>(
+    rt: R,
+    alloc: Global,
+    config: &'a [&'a str],
+    texts: &'a Texts,
+) -> bool {
     let row = Row {
         config,
         cast: Cast::One,
@@ -277,18 +227,7 @@ const DEAF: &[Lines<'static>] = &[
 ];
 
 /// Whether bad clients harm nobody, the first of which sends this.
-fn is_harmless<R>(rt: R, alloc: Global, deaf: &str) -> bool
-where
-    R: Net<Listener = TcpListener, Stream = TcpStream>
-        + Clock
-        + RandomSource
-        + Threads
-        + Wait
-        + Copy
-        + Send
-        + Sync
-        + 'static,
-{
+fn is_harmless<R: Machine>(rt: R, alloc: Global, deaf: &str) -> bool {
     let row = Row {
         config: M,
         cast: Cast::Bad,

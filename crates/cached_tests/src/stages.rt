@@ -2,14 +2,11 @@
 use crate::clients::{connect, send_only, talks, use_up};
 use crate::meetings::Meeting;
 use crate::sinks::{Sink, Written, is_written, make_sink, make_written};
-use cached_server::{Fault, serve_text};
+use cached_server::{Fault, Machine, serve_text};
 use std::alloc::{AllocError, Global};
-use std::net::{Net, TcpListener, TcpStream};
-use std::random::RandomSource;
 use std::sync::Wait;
 use std::thread;
-use std::thread::Threads;
-use std::time::{Clock, Instant};
+use std::time::Instant;
 
 /// Room for all that a server writes.
 const AMPLE: usize = 1_000_000;
@@ -59,22 +56,13 @@ pub struct Stage<'a> {
 }
 
 /// One client on each port, one after the other.
-fn each_talks<R: Net<Listener = TcpListener, Stream = TcpStream> + Clock>(
-    rt: &R,
-    alloc: Global,
-    ports: (u16, u16),
-    row: &Row<'_>,
-) -> bool {
+fn each_talks<R: Machine>(rt: &R, alloc: Global, ports: (u16, u16), row: &Row<'_>) -> bool {
     talks(rt, alloc, ports.0, row.texts.0, b"", row.replies.0)
         && talks(rt, alloc, ports.1, row.texts.1, b"", row.replies.1)
 }
 
 /// One whose line never ends. It is replied nothing.
-fn endless_talks<R: Net<Listener = TcpListener, Stream = TcpStream> + Clock>(
-    rt: &R,
-    alloc: Global,
-    port: u16,
-) -> bool {
+fn endless_talks<R: Machine>(rt: &R, alloc: Global, port: u16) -> bool {
     match vec![in alloc; b'x'; 8193] {
         Ok(line) => talks(rt, alloc, port, &line, b"", b""),
         Err(_) => false,
@@ -82,24 +70,14 @@ fn endless_talks<R: Net<Listener = TcpListener, Stream = TcpStream> + Clock>(
 }
 
 /// One that sends garbage, and then one whose line never ends.
-fn bad_ones_talk<R: Net<Listener = TcpListener, Stream = TcpStream> + Clock>(
-    rt: &R,
-    alloc: Global,
-    port: u16,
-    wanted: &[u8],
-) -> bool {
+fn bad_ones_talk<R: Machine>(rt: &R, alloc: Global, port: u16, wanted: &[u8]) -> bool {
     talks(rt, alloc, port, b"\x00\xff\xfe\nGET\nQUIT\n", b"", wanted)
         && endless_talks(rt, alloc, port)
 }
 
 /// One that sends nothing, one that closes half-way, one that sends garbage, one whose line never ends, one that does not read its replies,
 /// and then a good one, while the first and the fifth are still there. The first replies are what the third reads.
-fn all_talk<R: Net<Listener = TcpListener, Stream = TcpStream> + Clock>(
-    rt: &R,
-    alloc: Global,
-    port: u16,
-    row: &Row<'_>,
-) -> bool {
+fn all_talk<R: Machine>(rt: &R, alloc: Global, port: u16, row: &Row<'_>) -> bool {
     let _silent = connect(rt, port);
     drop(send_only(rt, port, b"SET half - 1"));
     let is_refused = bad_ones_talk(rt, alloc, port, row.replies.0);
@@ -108,12 +86,7 @@ fn all_talk<R: Net<Listener = TcpListener, Stream = TcpStream> + Clock>(
 }
 
 /// The clients' part. Answers whether they read what their row says.
-fn clients_talk<R: Net<Listener = TcpListener, Stream = TcpStream> + Clock>(
-    rt: &R,
-    alloc: Global,
-    ports: (u16, u16),
-    row: &Row<'_>,
-) -> bool {
+fn clients_talk<R: Machine>(rt: &R, alloc: Global, ports: (u16, u16), row: &Row<'_>) -> bool {
     match row.cast {
         Cast::One => talks(rt, alloc, ports.0, row.texts.0, b"", row.replies.0),
         Cast::Pausing => talks(rt, alloc, ports.0, row.texts.0, row.texts.1, row.replies.0),
@@ -134,7 +107,7 @@ fn counts_of(cast: Cast) -> (u32, u32) {
 }
 
 /// The clients' part. Then as many connections are used up as a failed test would leave, so that its server ends.
-fn clients_talk_and_end<R: Net<Listener = TcpListener, Stream = TcpStream> + Clock>(
+fn clients_talk_and_end<R: Machine>(
     rt: &R,
     alloc: Global,
     ports: (u16, u16),
@@ -148,7 +121,7 @@ fn clients_talk_and_end<R: Net<Listener = TcpListener, Stream = TcpStream> + Clo
 }
 
 /// The clients' part, unless the server has given them up.
-fn clients_come<R: Net<Listener = TcpListener, Stream = TcpStream> + Clock>(
+fn clients_come<R: Machine>(
     rt: &R,
     alloc: Global,
     ports: (u16, u16),
@@ -159,24 +132,13 @@ fn clients_come<R: Net<Listener = TcpListener, Stream = TcpStream> + Clock>(
 }
 
 /// Serves what a text configures, each namespace as often as the clients need.
-fn serve_cast<R>(
+fn serve_cast<R: Machine>(
     rt: R,
     alloc: Global,
     config: &str,
     cast: Cast,
     sinks: (Sink<R>, Sink<R>),
-) -> Result<(), Fault>
-where
-    R: Net<Listener = TcpListener, Stream = TcpStream>
-        + Clock
-        + RandomSource
-        + Threads
-        + Wait
-        + Copy
-        + Send
-        + Sync
-        + 'static,
-{
+) -> Result<(), Fault> {
     let limit = u64::from(counts_of(cast).0.max(1));
     match Instant::now(&rt) {
         Ok(begun) => serve_text(rt, alloc, config, begun, sinks, Some(limit)),
@@ -185,25 +147,14 @@ where
 }
 
 /// The same, once the clients are there; `None` if they do not come. Without them the server would wait for them for ever.
-fn serve_them<R>(
+fn serve_them<R: Machine>(
     rt: R,
     alloc: Global,
     config: &str,
     cast: Cast,
     sinks: (Sink<R>, Sink<R>),
     meeting: &Meeting,
-) -> Option<Result<(), Fault>>
-where
-    R: Net<Listener = TcpListener, Stream = TcpStream>
-        + Clock
-        + RandomSource
-        + Threads
-        + Wait
-        + Copy
-        + Send
-        + Sync
-        + 'static,
-{
+) -> Option<Result<(), Fault>> {
     if meeting.meets(&rt) {
         Some(serve_cast(rt, alloc, config, cast, sinks))
     } else {
@@ -212,24 +163,13 @@ where
 }
 
 /// Whether a server that writes to these ends as its row says, and its clients read what it says.
-fn is_served<R>(
+fn is_served<R: Machine>(
     rt: R,
     alloc: Global,
     row: &Row<'_>,
     stage: Stage<'_>,
     sinks: (Sink<R>, Sink<R>),
-) -> bool
-where
-    R: Net<Listener = TcpListener, Stream = TcpStream>
-        + Clock
-        + RandomSource
-        + Threads
-        + Wait
-        + Copy
-        + Send
-        + Sync
-        + 'static,
-{
+) -> bool {
     let lent = &rt;
     let meeting = &Meeting::new();
     let (is_read, ended) = thread::join(
@@ -254,24 +194,13 @@ fn make_sinks<R: Wait + Copy>(
 }
 
 /// The same of a server that writes there, and whether it wrote what it should.
-fn is_shown<R>(
+fn is_shown<R: Machine>(
     rt: R,
     alloc: Global,
     row: &Row<'_>,
     stage: Stage<'_>,
     written: &(Written, Written),
-) -> bool
-where
-    R: Net<Listener = TcpListener, Stream = TcpStream>
-        + Clock
-        + RandomSource
-        + Threads
-        + Wait
-        + Copy
-        + Send
-        + Sync
-        + 'static,
-{
+) -> bool {
     match make_sinks(rt, row, stage, written) {
         Ok(sinks) => {
             is_served(rt, alloc, row, stage, sinks)
@@ -283,18 +212,7 @@ where
 }
 
 /// Whether a server, and its clients, come to what the row says.
-pub fn is_staged_so<R>(rt: R, alloc: Global, row: &Row<'_>, stage: Stage<'_>) -> bool
-where
-    R: Net<Listener = TcpListener, Stream = TcpStream>
-        + Clock
-        + RandomSource
-        + Threads
-        + Wait
-        + Copy
-        + Send
-        + Sync
-        + 'static,
-{
+pub fn is_staged_so<R: Machine>(rt: R, alloc: Global, row: &Row<'_>, stage: Stage<'_>) -> bool {
     match (make_written(alloc), make_written(alloc)) {
         (Some(shown), Some(alarm)) => is_shown(rt, alloc, row, stage, &(shown, alarm)),
         _ => false,

@@ -1,7 +1,7 @@
 //! The program over its words.
 use crate::sinks::{Sink, Written, is_written, make_sink, make_written};
 use cache_run::Watched;
-use cached_server::cached;
+use cached_server::{Machine, cached};
 use std::alloc::{AllocError, Global};
 use std::env::Env;
 use std::net::{Net, TcpListener, TcpStream};
@@ -17,55 +17,29 @@ const USAGE: &[u8] = b"usage: cached --script | --config FILE\n";
 
 const BAD: &[u8] = b"cached: bad configuration\n";
 
-/// Words, what lies in the file of the last of them, if anything does, and the status, the output and the errors of the program.
+/// Words, and the status, the output and the errors of the program over them.
 type Row<'a> = (&'a [&'a str], u8, &'a [u8], &'a [u8]);
 
 /// Runs the program over words and these writers, and answers its status.
-fn run<R>(
+fn run<R: Machine + Files + AllocGlobal>(
     rt: R,
     alloc: Global,
     words: &[&str],
     writer: &mut Watched<Vec<u8>>,
     told: &mut Watched<Vec<u8>>,
     shown: (Sink<R>, Sink<R>),
-) -> u8
-where
-    R: Net<Listener = TcpListener, Stream = TcpStream>
-        + Files
-        + AllocGlobal
-        + Clock
-        + RandomSource
-        + Threads
-        + Wait
-        + Copy
-        + Send
-        + Sync
-        + 'static,
-{
+) -> u8 {
     let mut reader = Watched::new(b"SET a - 1\nDEL a\n".as_slice());
     cached(rt, alloc, words, &mut reader, writer, told, shown)
 }
 
 /// Whether the program over words comes to what the row says, with these writers for what it shows.
-fn runs_so<R>(
+fn runs_so<R: Machine + Files + AllocGlobal>(
     rt: R,
     alloc: Global,
     (words, status, output, errors): Row<'_>,
     shown: (Sink<R>, Sink<R>),
-) -> bool
-where
-    R: Net<Listener = TcpListener, Stream = TcpStream>
-        + Files
-        + AllocGlobal
-        + Clock
-        + RandomSource
-        + Threads
-        + Wait
-        + Copy
-        + Send
-        + Sync
-        + 'static,
-{
+) -> bool {
     let mut writer = Watched::new(Vec::new(alloc));
     let mut told = Watched::new(Vec::new(alloc));
     run(rt, alloc, words, &mut writer, &mut told, shown) == status
@@ -81,20 +55,12 @@ fn make_sinks<R: Wait + Copy>(rt: R, written: &Written) -> Result<(Sink<R>, Sink
 }
 
 /// Whether the program over words comes to what the row says, and shows nothing there.
-fn shows_nothing<R>(rt: R, alloc: Global, row: Row<'_>, written: &Written) -> bool
-where
-    R: Net<Listener = TcpListener, Stream = TcpStream>
-        + Files
-        + AllocGlobal
-        + Clock
-        + RandomSource
-        + Threads
-        + Wait
-        + Copy
-        + Send
-        + Sync
-        + 'static,
-{
+fn shows_nothing<R: Machine + Files + AllocGlobal>(
+    rt: R,
+    alloc: Global,
+    row: Row<'_>,
+    written: &Written,
+) -> bool {
     match make_sinks(rt, written) {
         Ok(shown) => runs_so(rt, alloc, row, shown) && is_written(&rt, written, b""),
         Err(_) => false,
@@ -102,20 +68,7 @@ where
 }
 
 /// Whether the program over words comes to what the row says, and shows nothing.
-fn comes_so<R>(rt: R, alloc: Global, row: Row<'_>) -> bool
-where
-    R: Net<Listener = TcpListener, Stream = TcpStream>
-        + Files
-        + AllocGlobal
-        + Clock
-        + RandomSource
-        + Threads
-        + Wait
-        + Copy
-        + Send
-        + Sync
-        + 'static,
-{
+fn comes_so<R: Machine + Files + AllocGlobal>(rt: R, alloc: Global, row: Row<'_>) -> bool {
     match make_written(alloc) {
         Some(written) => shows_nothing(rt, alloc, row, &written),
         None => false,
@@ -175,40 +128,14 @@ where
 }
 
 /// Whether a file of a text, written to that path and removed behind it, is a bad configuration of the program.
-fn is_bad<R>(rt: R, alloc: Global, path: &str, text: &str) -> bool
-where
-    R: Net<Listener = TcpListener, Stream = TcpStream>
-        + Files
-        + AllocGlobal
-        + Clock
-        + RandomSource
-        + Threads
-        + Wait
-        + Copy
-        + Send
-        + Sync
-        + 'static,
-{
+fn is_bad<R: Machine + Files + AllocGlobal>(rt: R, alloc: Global, path: &str, text: &str) -> bool {
     let is_written = fs::write(&rt, path, text).is_ok();
     let came = comes_so(rt, alloc, (&["cached", "--config", path], 1, b"", BAD));
     fs::remove_file(&rt, path).is_ok() && is_written && came
 }
 
 /// Whether each file is.
-fn are_bad<R>(rt: R, alloc: Global, path: &str) -> bool
-where
-    R: Net<Listener = TcpListener, Stream = TcpStream>
-        + Files
-        + AllocGlobal
-        + Clock
-        + RandomSource
-        + Threads
-        + Wait
-        + Copy
-        + Send
-        + Sync
-        + 'static,
-{
+fn are_bad<R: Machine + Files + AllocGlobal>(rt: R, alloc: Global, path: &str) -> bool {
     for text in FILES {
         if !is_bad(rt, alloc, path, text) {
             return false;

@@ -1,20 +1,18 @@
 -- Loads found by key and by connection: what a look-up finds, and that each number found stays one of a load under way.
-use Rattle.std.proofs.Common.{◌≡◌, ℕ, ◌<◌, ◌≤◌, Bool, true, false, not, ◌==◌, cond, List, [], ◌∷◌, map, Option, option_map, Some, None, refl, sym, ap, ◌∙◌, subst, arith, true≢false}
-use Rattle.std.specs.Prelude.{nat_lt, is_some, All}
-use Rattle.std.specs.List.{AllByRecursion, filter}
+use Rattle.std.proofs.Common.{◌<◌, cond, refl, sym, ap, ◌∙◌, subst, arith, true≢false, ◌≡◌, ℕ, ◌≤◌, Bool, true, false, not, ◌==◌, List, [], ◌∷◌, map, Option, Some, None, nat_lt, is_some, All}
 use Rattle.std.proofs.lemmas.Bool.{and_from, eq-eqb, eqb-true}
 use Rattle.std.proofs.lemmas.Bool.Decides.{nat_tests}
 use Rattle.std.proofs.lemmas.Option.{none-some, same_Some}
+use Rattle.std.specs.List.{AllByRecursion, filter}
+use Rattle.std.specs.Option.{option_map}
+use Rattle.audit_loads.proofs.Waiting.{below, keyed-of, of-none, of-number}
+use Rattle.audit_loads.specs.Underway.{Keys, Joined, IsKeyed, KeepsNumbers, has_number, number_at}
 use Rattle.audit_model.specs.Bytewise.{same}
 use Rattle.audit_model.specs.Situation.{PendingLoad}
-use Rattle.audit_loads.specs.Underway.{Keys, Joined, IsKeyed, KeepsNumbers, has_number, number_at}
-use Rattle.audit_loads.proofs.Waiting.{below, keyed-of, of-none, of-number}
 use Rattle.cache_commands.specs.Loads.Keys.{pending_load}
-use Rattle.cache_commands.specs.declared.loads.load.Load.{Load}
 use Rattle.cache_commands.specs.Loads.Numbers.{AreUnderWay, are_below, load_numbered, load_with_key}
-
-abbrev number_of : PendingLoad → ℕ
-number_of load = load.number
+use Rattle.cache_commands.specs.declared.loads.load.Load.{Load}
+use Rattle.cache_commands.proofs.loads.Numbers.{number_of}
 
 -- a load that is found has the number
 pub found-number : (n : ℕ) (ps : List PendingLoad) (p : PendingLoad) → load_numbered n ps ≡ Some p → p.number ≡ n

@@ -1,16 +1,16 @@
 -- What is known of the numbers and the keys of loads, when one is sent and as they change.
-use Rattle.std.proofs.Common.{◌≡◌, ℕ, suc, ◌+◌, ◌-◌, ◌≤◌, Bool, true, false, not, ◌==◌, ◌&&◌, ◌||◌, cond, List, [], ◌∷◌, ◌++◌, length, map, refl, sym, ap, ◌∙◌, arith}
-use Rattle.std.specs.Prelude.{Err, IfOk, Ok, OnErr, Result, nat_le, if◌then◌else◌}
-use Rattle.std.specs.List.{filter, list_all}
+use Rattle.std.proofs.Common.{cond, refl, sym, ap, ◌∙◌, arith, Err, OnErr, Result, ◌≡◌, ℕ, suc, ◌+◌, ◌-◌, ◌≤◌, Bool, true, false, not, ◌==◌, ◌&&◌, ◌||◌, List, [], ◌∷◌, ◌++◌, length, map, IfOk, Ok, nat_le, if◌then◌else◌}
 use Rattle.std.proofs.lemmas.Bool.{and_from, and_parts, eq-eqb, eqb-true, le-leb, leb-true}
+use Rattle.std.proofs.lemmas.Bool.Decides.{nat_tests}
 use Rattle.std.proofs.lemmas.List.{length-append}
-use Rattle.std.proofs.lemmas.List.Folds.{list_all-append}
-use Rattle.std.proofs.lemmas.Slice.Eq.{bytes_eq-Decides}
+use Rattle.std.specs.List.{filter, list_all}
 use Rattle.audit_model.specs.Bytewise.{same}
 use Rattle.audit_model.specs.Situation.{PendingLoad, with_waiting}
 use Rattle.audit_model.specs.declared.input.LoadId.{LoadId}
 use Rattle.cache_commands.specs.Loads.Keys.{agrees_on, are_in_turn, has_its_key, have_their_keys, were_sent}
 use Rattle.cache_commands.specs.Loads.Numbers.{SentLoads}
+use Rattle.std.proofs.lemmas.List.Folds.{list_all-append}
+use Rattle.std.proofs.lemmas.Slice.Eq.{bytes_eq-Decides}
 
 -- ---- lists
 
@@ -44,11 +44,7 @@ all-mapped p f same_of (x ∷ xs) = ap (λ b. b && list_all p (map f xs)) (same_
 
 -- a number that is higher is another one
 other-number : (n m b : ℕ) → n ≡ suc b → m ≤ b → (n == m) ≡ false
-other-number n m b is few = go (n == m) refl
-  where
-    go : (t : Bool) → (n == m) ≡ t → t ≡ false
-    go true e = let h = eqb-true n m e in absurd (omega arith)
-    go false e = refl
+other-number n m b is few = grind (arith, nat_tests)
 
 -- one more behind them
 pub in-turn-more : (ns before n : ℕ) (outs : List (LoadId × List ℕ)) (id : LoadId) (key : List ℕ) → are_in_turn ns before outs ≡ true → n ≡ before + length outs → id.namespace ≡ ns → id.number ≡ suc n
@@ -94,11 +90,7 @@ keys-behind b out loads is all =
     all-on (λ (l : PendingLoad). nat_le l.number b) (agrees_on out) (λ l few. let h = leb-true l.number b few in agrees-other out l (lower l.number out.0.number is h)) loads all
   where
     lower : (n m : ℕ) → m ≡ suc b → n ≤ b → (n == m) ≡ false
-    lower n m e le = go (n == m) refl
-      where
-        go : (t : Bool) → (n == m) ≡ t → t ≡ false
-        go true same_is = let h = eqb-true n m same_is in absurd (omega arith)
-        go false same_is = refl
+    lower n m e le = grind (arith, nat_tests)
 
 pub keys-more : (ns before b : ℕ) (load : PendingLoad) (loads : List PendingLoad) (outs : List (LoadId × List ℕ)) (out : LoadId × List ℕ) → are_in_turn ns before outs ≡ true → before + length outs ≤ b → were_sent b loads ≡ true
     → load.number ≡ suc b → out.0.number ≡ suc b → same load.key out.1 ≡ true → have_their_keys loads outs ≡ true → have_their_keys (load ∷ loads) (outs ++ out ∷ []) ≡ true
@@ -167,18 +159,17 @@ same-refl key = (bytes_eq-Decides key key).1 refl
 
 -- ---- a load that is sent
 
-pub send-turn : (ns sent n : ℕ) (outs front last : List (LoadId × List ℕ)) (id : LoadId) (key : List ℕ) → n ≡ suc sent → last ≡ front ++ (id, key) ∷ [] → front ≡ outs → id.namespace ≡ ns → id.number ≡ n → length outs ≤ sent → are_in_turn ns (sent - length outs) outs ≡ true
+pub send-turn : (ns sent n : ℕ) (outs last : List (LoadId × List ℕ)) (id : LoadId) (key : List ℕ) → n ≡ suc sent → last ≡ outs ++ (id, key) ∷ [] → id.namespace ≡ ns → id.number ≡ n → length outs ≤ sent → are_in_turn ns (sent - length outs) outs ≡ true
     → are_in_turn ns (n - length last) last ≡ true
-send-turn ns sent n outs front last id key e put same_front is number few turn =
-    let whole : last ≡ outs ++ (id, key) ∷ [] = put ∙ ap (λ xs. xs ++ (id, key) ∷ []) same_front in
+send-turn ns sent n outs last id key e put is number few turn =
     let count = length-append outs ((id, key) ∷ []) in
     let left : n - length (outs ++ (id, key) ∷ []) ≡ sent - length outs = omega arith in
-    ap (λ xs. are_in_turn ns (n - length xs) xs) whole ∙ ap (λ k. are_in_turn ns k (outs ++ (id, key) ∷ [])) left
+    ap (λ xs. are_in_turn ns (n - length xs) xs) put ∙ ap (λ k. are_in_turn ns k (outs ++ (id, key) ∷ [])) left
     ∙ in-turn-more ns (sent - length outs) sent outs id key turn (omega arith) is (number ∙ e)
 
-pub send-keyed : (ns : ℕ) (old new : SentLoads) (load : PendingLoad) (outs front last : List (LoadId × List ℕ)) (id : LoadId) (key : List ℕ) → new ≡ record { sent = suc old.sent; pending = load ∷ old.pending } → last ≡ front ++ (id, key) ∷ [] → front ≡ outs
+pub send-keyed : (ns : ℕ) (old new : SentLoads) (load : PendingLoad) (outs last : List (LoadId × List ℕ)) (id : LoadId) (key : List ℕ) → new ≡ record { sent = suc old.sent; pending = load ∷ old.pending } → last ≡ outs ++ (id, key) ∷ []
     → length outs ≤ old.sent → are_in_turn ns (old.sent - length outs) outs ≡ true → were_sent old.sent old.pending ≡ true → load.number ≡ suc old.sent → id.number ≡ suc old.sent → load.key ≡ key → have_their_keys old.pending outs ≡ true
     → have_their_keys new.pending last ≡ true
-send-keyed ns old new load outs front last id key is put_last same_front few turn all number out keyed have =
-    ap (λ (t : SentLoads). have_their_keys t.pending last) is ∙ ap (λ xs. have_their_keys (load ∷ old.pending) xs) (put_last ∙ ap (λ xs. xs ++ (id, key) ∷ []) same_front)
+send-keyed ns old new load outs last id key is put few turn all number out keyed have =
+    ap (λ (t : SentLoads). have_their_keys t.pending last) is ∙ ap (λ xs. have_their_keys (load ∷ old.pending) xs) put
     ∙ keys-more ns (old.sent - length outs) old.sent load old.pending outs (id, key) turn (omega arith) all number out (ap (λ k. same load.key k) (sym keyed) ∙ same-refl load.key) have

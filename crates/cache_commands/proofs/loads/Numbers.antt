@@ -1,28 +1,28 @@
 -- Loads by number: what a look-up finds there, and what a change leaves.
-use Rattle.std.proofs.Common.{◌≡◌, ℕ, Bool, true, false, not, ◌==◌, ◌&&◌, cond, List, [], ◌∷◌, ◌++◌, map, Option, option_map, Some, None, Result, Ok, Err, OnOk, OnErr, Bor, if◌then◌else◌, refl, sym, ap, ◌∙◌, arith}
-use Rattle.std.specs.Prelude.{nat_lt, ⊤}
-use Rattle.std.specs.List.{filter}
-use Rattle.std.specs.Map.{lookup, remove_entry, set_value}
-use Rattle.std.specs.BTreeMap.{insert_entry}
-use Rattle.std.specs.Option.{option_copied}
-use Rattle.std.specs.Ordering.{nat_cmp, is_eq, match_ordering}
-use Rattle.std.specs.declared.cmp.Ordering.{Ordering}
-use Rattle.std.specs.declared.cmp.Ordering.TheVariants.{Less, Equal, Greater}
-use Rattle.std.specs.declared.cmp.Reverse.{Reverse}
+use Rattle.std.specs.Prelude.{◌≡◌, ℕ, Bool, true, false, not, ◌==◌, ◌&&◌, List, [], ◌∷◌, ◌++◌, map, Option, Some, None, Ok, if◌then◌else◌, nat_lt, ⊤}
+use Rattle.std.proofs.Common.{cond, Result, Err, OnOk, OnErr, Bor, refl, sym, ap, ◌∙◌, arith}
 use Rattle.std.proofs.lemmas.Bool.{and_from, and_parts, eq-eqb, eqb-true}
 use Rattle.std.proofs.lemmas.Bool.Decides.{nat_tests}
 use Rattle.std.proofs.lemmas.Option.{none-some, same_Some}
-use Rattle.audit_model.specs.Situation.{PendingLoad}
-use Rattle.audit_loads.specs.Numbered.{changed_at}
+use Rattle.std.specs.BTreeMap.{insert_entry}
+use Rattle.std.specs.List.{filter}
+use Rattle.std.specs.Option.{option_map, option_copied}
+use Rattle.std.specs.declared.cmp.Reverse.{Reverse}
 use Rattle.audit_loads.proofs.Waiting.{at-number}
+use Rattle.audit_loads.specs.Numbered.{changed_at}
+use Rattle.audit_model.specs.Situation.{PendingLoad}
 use Rattle.cache_commands.specs.Loads.Keys.{pending_load}
 use Rattle.cache_commands.specs.Loads.Numbers.{Entries, are_below, are_falling, have_own_numbers, load_numbered, loads_of}
 use Rattle.cache_commands.specs.declared.loads.load.Load.{Load}
+use Rattle.std.specs.Map.{lookup, remove_entry, set_value}
+use Rattle.std.specs.Ordering.{nat_cmp, is_eq, match_ordering}
+use Rattle.std.specs.declared.cmp.Ordering.{Ordering}
+use Rattle.std.specs.declared.cmp.Ordering.TheVariants.{Less, Equal, Greater}
 use Rattle.cache_commands.proofs.loads.Keys.{all-filter, all-mapped}
 
 -- ---- lists of loads that fall
 
-abbrev number_of : PendingLoad → ℕ
+abbrev pub number_of : PendingLoad → ℕ
 number_of load = load.number
 
 -- a lower number is another one
@@ -195,16 +195,6 @@ pub joined-kept : {A E : Type 0} (r : Result A E) (n conn : ℕ) (es new : Entri
     → OnOk r (pending_load is ≡ with_one conn (pending_load was)) → OnErr r (pending_load is ≡ pending_load was) → (have_own_numbers new ≡ true) × ((are_falling (loads_of new) ≡ true) × ⊤)
 joined-kept (Ok x) n conn es new was is own falls found set ok err = changed-kept n (with_one conn) (λ p. refl) es new was is own falls found set ok
 joined-kept (Err e) n conn es new was is own falls found set ok err = changed-kept n (λ p. p) (λ p. refl) es new was is own falls found set err
-
--- where a call went well, what follows from what it left
-pub follows : {A E P Q : Type 0} (r : Result A E) → (P → Q) → OnOk r P → OnOk r Q
-follows (Ok x) f p = f p
-follows (Err e) f p = tt
-
--- where it failed, the same
-pub fails : {A E P Q : Type 0} (r : Result A E) → (P → Q) → OnErr r P → OnErr r Q
-fails (Ok x) f p = tt
-fails (Err e) f p = f p
 
 -- ---- a load added
 

@@ -1,5 +1,5 @@
 //! The loads of one namespace.
-ghost use Rattle.std.specs.Prelude.{◌≡◌, ℕ, suc, ◌+◌, ◌-◌, ◌<◌, ◌≤◌, IsTrue, ◌++◌, ◌∷◌, ◌==◌, [], not, map, Some, None, IfOk, OnOk, OnErr, length, vec_len, vec_capacity};
+ghost use Rattle.std.specs.Prelude.{◌≡◌, ℕ, suc, ◌-◌, ◌≤◌, IsTrue, ◌++◌, ◌∷◌, ◌==◌, [], not, map, Some, None, IfOk, OnOk, OnErr, length};
 ghost use Rattle.std.specs.List.{filter};
 ghost use Rattle.std.specs.Option.{option_map};
 ghost use Rattle.audit_model.specs.Situation.{with_waiting, without_waiting};
@@ -22,16 +22,6 @@ pub struct Loads {
         (are_in_turn namespace (under_way.sent - length outgoing.items) outgoing.items) },
     ghost sent_before: { IsTrue (were_sent under_way.sent under_way.pending) },
     ghost keyed: { IsTrue (have_their_keys under_way.pending outgoing.items) },
-}
-
-/// Adds what goes out behind the others; there is room for it.
-fn put_last(outgoing: &mut Vec<(LoadId, Bytes)>, id: LoadId, key: Bytes)
-    requires { vec_len outgoing.old < vec_capacity outgoing.old }
-    ensures { outgoing.new.items ≡ outgoing.old.items ++ (id, key) ∷ [] }
-{
-    let Ok(()) = outgoing.push((id, key)) else {
-        unreachable!();
-    };
 }
 
 impl Loads {
@@ -87,14 +77,10 @@ impl Loads {
         ensures goes { SameTaken self.old self.new }
         ensures same { OnErr result (SameLoads self.old self.new) }
     {
-        match self.under_way.join(key, conn) {
-            Ok(true) => Ok(None),
-            Ok(false) => match self.send(alloc, key, conn) {
-                Ok(number) => Ok(Some(number)),
-                Err(error) => Err(error),
-            },
-            Err(error) => Err(error),
+        if self.under_way.join(key, conn)? {
+            return Ok(None);
         }
+        Ok(Some(self.send(alloc, key, conn)?))
     }
 
     /// Sends a load of a key that has none, for which the connection waits, and returns its number. An `Err` changes nothing.
@@ -116,7 +102,7 @@ impl Loads {
             namespace: self.namespace,
             number,
         };
-        put_last(&mut self.outgoing, id, copy);
+        self.outgoing.push((id, copy)).unwrap();
         Ok(number)
     }
 

@@ -17,20 +17,12 @@ pub enum Standing {
 pub fn is_holding(standing: Standing) -> bool
     ensures { result ≡ holds_line standing }
 {
-    match standing {
-        Standing::Ready => false,
-        Standing::Held => true,
-        Standing::Waiting => false,
-    }
+    matches!(standing, Standing::Held)
 }
 
 /// Whether a `LOAD` waits.
 pub fn is_waiting(standing: Standing) -> bool
     ensures { result ≡ waits_for_load standing }
 {
-    match standing {
-        Standing::Ready => false,
-        Standing::Held => false,
-        Standing::Waiting => true,
-    }
+    matches!(standing, Standing::Waiting)
 }

@@ -1,5 +1,5 @@
 -- A piece for a connection, as its lines run.
-use Rattle.std.proofs.Common.{◌≡◌, ℕ, ◌+◌, Bool, true, false, not, ◌||◌, ◌≤◌, List, [], ◌∷◌, ◌++◌, Option, Some, None, if◌then◌else◌, refl, sym, ap, ◌∙◌, subst, inr}
+use Rattle.std.proofs.Common.{refl, sym, ap, ◌∙◌, subst, inr, ◌≡◌, ℕ, ◌+◌, Bool, true, false, not, ◌||◌, ◌≤◌, List, [], ◌∷◌, ◌++◌, Option, Some, None, if◌then◌else◌}
 use Rattle.audit_model.specs.Bytewise.{is_empty}
 use Rattle.audit_model.specs.Grammar.{reading}
 use Rattle.audit_model.specs.Places.{tasks_to_feed}
@@ -7,14 +7,18 @@ use Rattle.audit_model.specs.Situation.{HeldValue, Situation, live_at}
 use Rattle.audit_model.specs.Steps.{RunLines, Task, action_by}
 use Rattle.audit_model.specs.Stream.{behind_lines}
 use Rattle.audit_model.specs.declared.command.Closing.{Closing}
-use Rattle.audit_model.specs.declared.command.Closing.TheVariants as by
 use Rattle.cache_commands.specs.Answered.{Agrees}
 use Rattle.cache_commands.specs.Loading.{step_silent}
 use Rattle.cache_commands.specs.Loads.Standings.{holds_line, keeps_line, waits_for_load}
 use Rattle.cache_commands.specs.Right.{KeepsFrame, held_when_run, step_saying}
 use Rattle.cache_commands.specs.declared.loads.standing.Standing.{Standing}
-use Rattle.cache_commands.specs.declared.loads.standing.Standing.TheVariants as now
-use Rattle.cache_store.specs.Values.{IsSoundStore, Values}
+use Rattle.cache_core.specs.Connection.Fed.{FedRan, LinesLeft, LooksAsBefore, TakesWaiting, closing_by, unread_behind}
+use Rattle.cache_core.specs.Connection.Fits.{ClosesFor, Fits, RunsOn}
+use Rattle.cache_core.specs.Connection.Parts.{put_parts, standing_as}
+use Rattle.cache_core.specs.Connection.Shown.{put_in, shown, with_piece}
+use Rattle.cache_lines.proofs.Drawn.{spends-same}
+use Rattle.cache_lines.proofs.LineRuns.{fresh-gather, gather-none}
+use Rattle.cache_lines.proofs.WholeLines.{behind-more, held-more}
 use Rattle.cache_lines.specs.Bases.{Seen}
 use Rattle.cache_lines.specs.Drawing.{identifiers_in}
 use Rattle.cache_lines.specs.Ended.{RanReady, RanTasks, RunsReady, held_with}
@@ -22,21 +26,18 @@ use Rattle.cache_lines.specs.Gathered.{IsFresh, Stage, gather, gathered, stage}
 use Rattle.cache_lines.specs.Lines.{IsThere, ready, set_in, situation_behind, with_drops}
 use Rattle.cache_lines.specs.Making.{Making, making_of}
 use Rattle.cache_lines.specs.Ran.{RanLine, WaitsLine}
-use Rattle.cache_lines.specs.Stops.{ends_by_quit, holds_back, waits_now}
 use Rattle.cache_lines.specs.Waiting.{load_sent_for, loads_in, waiting, when_waiting, with_under_way}
 use Rattle.cache_lines.specs.Whole.{has_line, held_line}
-use Rattle.cache_lines.proofs.Drawn.{spends-same}
+use Rattle.cache_store.specs.Values.{IsSoundStore, Values}
+use Rattle.audit_model.specs.declared.command.Closing.TheVariants as by
+use Rattle.cache_commands.specs.declared.loads.standing.Standing.TheVariants as now
+use Rattle.cache_lines.specs.Stops.{holds_back, waits_now, ends_by_quit}
 use Rattle.cache_lines.proofs.HeldFeeds.{feeds-held, feeds-quit, feeds-waits}
-use Rattle.cache_lines.proofs.LineRuns.{fresh-gather, gather-none}
 use Rattle.cache_lines.proofs.LoadWaits.{stops-waiting}
 use Rattle.cache_lines.proofs.ReadyEnds.{idle-by, joined}
 use Rattle.cache_lines.proofs.Rounds.{frames-more}
-use Rattle.cache_lines.proofs.WholeLines.{behind-more, held-more}
-use Rattle.cache_core.specs.Connection.Fed.{FedRan, LinesLeft, LooksAsBefore, TakesWaiting, closing_by, unread_behind}
-use Rattle.cache_core.specs.Connection.Fits.{ClosesFor, Fits, RunsOn}
-use Rattle.cache_core.specs.Connection.Parts.{put_parts, standing_as}
-use Rattle.cache_core.specs.Connection.Shown.{put_in, shown, with_piece}
 use Rattle.cache_core.specs.declared.connection.connection.Connection.{Connection}
+use Rattle.cache_lines.proofs.Knowing.{due_if}
 
 -- ---- a connection whose `LOAD` waits, or that holds a line back
 
@@ -207,16 +208,11 @@ fed-waits now_is number old new piece times was is e whole sound in_time fresh w
 
 -- ---- a `LOAD` of the connection waited
 
--- the tasks that are due while lines may run or not
-abbrev due_if : Bool → ℕ → List Task
-due_if may number = if may then RunLines number ∷ [] else []
-
 -- a `LOAD` of the connection waited, and no line ran
 pub fed-waiting : (now_is number : ℕ) (old new : Connection) (piece : List ℕ) (was : Seen)
     → old.standing ≡ now.Waiting → TakesWaiting old piece new → was.stage.values.frame.latest ≤ now_is → IsFresh (gathered was.stage)
     → FedRan now_is number old piece new false was was
 fed-waiting now_is number old new piece was e took in_time fresh =
-    let dropped = was.stage.values.frame.dropped in
     fed-so now_is number old new piece false false false was was now.Waiting e
     (λ s agrees there loads.
     let start = set_in s s.held (with_piece piece (standing_as number now.Waiting old.waited old.unread.bytes)) in
@@ -229,7 +225,7 @@ fed-waiting now_is number old new piece was e took in_time fresh =
           ∙ ap (λ st. Some (set_in s s.held (with_piece piece (standing_as number st old.waited old.unread.bytes)))) (sym e)
           ∙ ap Some (took.put s s.held number)
           ∙ ap (λ d. Some (put_in (with_drops d s) s.held number new)) agrees.dropped
-          ∙ ap (λ u. Some (put_in (with_under_way u (with_drops dropped s)) s.held number new)) loads;
+          ∙ ap (λ u. Some (put_in (with_under_way u (with_drops was.stage.values.frame.dropped s)) s.held number new)) loads;
       parted = refl;
       timely = refl;
       ends = refl;

@@ -1,13 +1,13 @@
 -- A connection as its lines leave it.
-use Rattle.std.proofs.Common.{◌≡◌, ℕ, ◌≤◌, Bool, true, false, List, Option, None, Some, if◌then◌else◌, refl, sym, subst, arith, nat_lt}
+use Rattle.std.proofs.Common.{refl, sym, subst, arith, ◌≡◌, ℕ, ◌≤◌, Bool, true, false, List, Option, None, Some, if◌then◌else◌, nat_lt}
 use Rattle.std.proofs.lemmas.Bool.{ltb-true}
 use Rattle.audit_model.specs.declared.command.Closing.{Closing}
-use Rattle.audit_model.specs.declared.command.Closing.TheVariants as by
-use Rattle.cache_lines.specs.Whole.{has_line, is_near}
-use Rattle.cache_lines.specs.declared.looping.End.TheVariants as at
 use Rattle.cache_commands.specs.declared.loads.standing.Standing.{Standing}
-use Rattle.cache_commands.specs.declared.loads.standing.Standing.TheVariants as now
 use Rattle.cache_core.specs.Connection.Fits.{Fits, ended_closing}
+use Rattle.cache_lines.specs.Whole.{has_line, is_near}
+use Rattle.audit_model.specs.declared.command.Closing.TheVariants as by
+use Rattle.cache_lines.specs.declared.looping.End.TheVariants as at
+use Rattle.cache_commands.specs.declared.loads.standing.Standing.TheVariants as now
 
 pub not-above : (n : ℕ) → n ≤ 8192 → nat_lt 8192 n ≡ false
 not-above n le = go (nat_lt 8192 n) refl

@@ -1,56 +1,55 @@
 -- A given-up `LOAD` that runs again.
-use Rattle.std.proofs.Common.{◌≡◌, ℕ, suc, ◌<◌, ◌≤◌, Bool, true, false, not, ◌||◌, List, [], ◌∷◌, ◌++◌, Option, Some, None, if◌then◌else◌, refl, sym, ap, ◌∙◌, subst, arith, nat_le, length, ⊎_elim}
-use Rattle.std.specs.Prelude.{Ok, codes, is_none, is_some}
-use Rattle.std.specs.Option.{option_map}
-use Rattle.std.proofs.lemmas.Bool.{leb-true}
-use Rattle.std.proofs.lemmas.Bool.Decides.{eqb_tells}
-use Rattle.std.proofs.lemmas.List.{append-nil}
+use Rattle.std.proofs.Common.{refl, sym, ap, ◌∙◌, subst, arith, ⊎_elim, ◌≡◌, ℕ, suc, ◌<◌, ◌≤◌, Bool, true, false, not, ◌||◌, List, [], ◌∷◌, ◌++◌, Option, Some, None, if◌then◌else◌, nat_le, length, Ok, codes, is_none, is_some}
 use Rattle.std.proofs.Math.Bool.{or-false}
+use Rattle.std.proofs.lemmas.Bool.{leb-true}
+use Rattle.std.proofs.lemmas.List.{append-nil}
+use Rattle.std.specs.Option.{option_map}
+use Rattle.audit_model.specs.Bytewise.{cut_at}
 use Rattle.audit_model.specs.Changes.{all_held_after}
 use Rattle.audit_model.specs.Grammar.{Reading, reading}
 use Rattle.audit_model.specs.History.{Running}
 use Rattle.audit_model.specs.Replies.{outcome_text}
-use Rattle.audit_model.specs.Situation as model
-use Rattle.audit_model.specs.Bytewise.{cut_at}
 use Rattle.audit_model.specs.Situation.{HeldValue, Situation, connection_in, live_at, without_connection}
 use Rattle.audit_model.specs.Steps.{Deliver, RunAgain, Task, action_by}
 use Rattle.audit_model.specs.Stream.{behind_lines}
-use Rattle.audit_lines.proofs.Cuts.{Cut, cut_at-here, cut_at-other}
 use Rattle.audit_model.specs.declared.command.Closing.{Closing}
-use Rattle.audit_model.specs.declared.command.Command.TheVariants as says
 use Rattle.audit_model.specs.declared.config.Config.{Config}
 use Rattle.audit_model.specs.declared.event.Outcome.{Outcome}
 use Rattle.audit_model.specs.declared.transcript.Accepted.{Accepted}
 use Rattle.audit_model.specs.declared.transcript.Note.{Note}
 use Rattle.audit_model.specs.declared.transcript.Step.{Step}
-use Rattle.cache_commands.proofs.LoadSteps.{abandons, delivers, waits}
 use Rattle.cache_commands.specs.Loading.{step_silent, step_waiting}
-use Rattle.cache_commands.specs.Order.{Order, Unknown, order_by}
-use Rattle.cache_commands.specs.Right.{DoesRight, dropped_when_run, held_when_run, step_saying}
-use Rattle.cache_lines.specs.Leads.Leads.{TasksLead}
-use Rattle.cache_lines.proofs.leads.Turns.{abandoned, answered, delivered, held_back, waits_again}
-use Rattle.cache_lines.specs.Bases.{Seen}
-use Rattle.cache_lines.specs.Drawing.{Identifiers, StepDraws, identifiers_in}
-use Rattle.cache_lines.specs.Gathered.{IsFresh, gather, gathered, stage}
-use Rattle.cache_lines.specs.Lines.{ready, says_quit, set_in, with_drops}
-use Rattle.cache_lines.specs.Making.{Making, making_of}
-use Rattle.cache_lines.specs.Ordered.{order_behind_step}
-use Rattle.cache_lines.specs.Ran.{IsMiss, RanLine}
-use Rattle.cache_lines.specs.Waiting.{UnderWay, holding_load, is_load, load_sent_for, loads_in, waiting, when_waiting, with_under_way}
-use Rattle.cache_lines.specs.Whole.{held_line, is_long_line, is_near}
-use Rattle.cache_lines.proofs.Drawn.{draws-first}
-use Rattle.cache_lines.proofs.LineRuns.{fresh-gather}
 use Rattle.cache_commands.specs.Loads.Pending.{number_to_send}
 use Rattle.cache_commands.specs.Loads.Standings.{waits_for_load}
+use Rattle.cache_commands.specs.Order.{Order, Unknown, order_by}
+use Rattle.cache_commands.specs.Right.{DoesRight, dropped_when_run, held_when_run, step_saying}
 use Rattle.cache_commands.specs.declared.loads.standing.Standing.{Standing}
-use Rattle.cache_commands.specs.declared.loads.standing.Standing.TheVariants as now
-use Rattle.cache_store.specs.Promises.{no_deed}
-use Rattle.cache_store.specs.Values.{IsSoundStore, Values}
-use Rattle.cache_lines.specs.Tape.Taped.{Taped, spends, step_held, text_left}
 use Rattle.cache_core.specs.Connection.Again.{EndsCalm, StepRan}
 use Rattle.cache_core.specs.Connection.Fits.{Fits}
 use Rattle.cache_core.specs.Connection.Parts.{standing_as}
 use Rattle.cache_core.specs.Connection.Shown.{put_in, shown}
+use Rattle.cache_lines.proofs.Drawn.{draws-first}
+use Rattle.cache_lines.proofs.LineRuns.{fresh-gather}
+use Rattle.cache_lines.proofs.leads.Turns.{abandoned, answered, delivered, held_back, waits_again}
+use Rattle.cache_lines.specs.Bases.{Seen}
+use Rattle.cache_lines.specs.Drawing.{Identifiers, StepDraws, identifiers_in}
+use Rattle.cache_lines.specs.Gathered.{IsFresh, gather, gathered, stage}
+use Rattle.cache_lines.specs.Leads.Leads.{TasksLead}
+use Rattle.cache_lines.specs.Lines.{ready, says_quit, set_in, with_drops}
+use Rattle.cache_lines.specs.Making.{Making, making_of}
+use Rattle.cache_lines.specs.Ordered.{order_behind_step}
+use Rattle.cache_lines.specs.Ran.{IsMiss, RanLine}
+use Rattle.cache_lines.specs.Tape.Taped.{Taped, spends, step_held, text_left}
+use Rattle.cache_lines.specs.Waiting.{UnderWay, holding_load, is_load, load_sent_for, loads_in, waiting, when_waiting, with_under_way}
+use Rattle.cache_lines.specs.Whole.{held_line, is_long_line, is_near}
+use Rattle.cache_store.specs.Promises.{no_deed}
+use Rattle.cache_store.specs.Values.{IsSoundStore, Values}
+use Rattle.std.proofs.lemmas.Bool.Decides.{eqb_tells}
+use Rattle.audit_model.specs.Situation as model
+use Rattle.audit_lines.proofs.Cuts.{Cut, cut_at-here, cut_at-other}
+use Rattle.audit_model.specs.declared.command.Command.TheVariants as says
+use Rattle.cache_commands.proofs.LoadSteps.{abandons, delivers, waits}
+use Rattle.cache_commands.specs.declared.loads.standing.Standing.TheVariants as now
 use Rattle.cache_core.proofs.connection.Putting.{not-above}
 use Rattle.cache_core.specs.declared.connection.connection.Connection.{Connection}
 

@@ -1,11 +1,10 @@
 -- What stands at a place of a list, before and after it changes.
-use Rattle.std.proofs.Common.{◌≡◌, ◌≢◌, ℕ, zero, suc, ◌<◌, ◌⊎◌, List, [], ◌∷◌, ◌++◌, map, Some, length, refl, sym, ap, ◌∙◌, arith, get_or, inl, inr}
-use Rattle.std.specs.Prelude.{slice_set}
-use Rattle.std.specs.List.{slice_get}
-use Rattle.std.specs.Option.{option_map}
+use Rattle.std.proofs.Common.{refl, sym, ap, ◌∙◌, arith, get_or, inl, inr, ◌≡◌, ◌≢◌, ℕ, zero, suc, ◌<◌, ◌⊎◌, List, [], ◌∷◌, ◌++◌, map, Some, length, slice_set}
 use Rattle.std.proofs.Math.Seq.{map-set_same}
 use Rattle.std.proofs.lemmas.List.{get_or-set_same, length-set, set-get_or}
 use Rattle.std.proofs.lemmas.Option.{get_or_from_slice_get, none-some, same_Some, slice_get-get_or, slice_get-map, slice_get_read}
+use Rattle.std.specs.List.{slice_get}
+use Rattle.std.specs.Option.{option_map}
 
 pub ext-get : {X : Type 0} (xs ys : List X) → ((i : ℕ) → slice_get xs i ≡ slice_get ys i) → xs ≡ ys
 ext-get [] [] h = refl

@@ -1,13 +1,12 @@
 -- What callers list of the connections, where one is put at a place or retired.
-use Rattle.std.proofs.Common.{◌≡◌, ℕ, zero, suc, List, [], ◌∷◌, length, map, Option, Some, None, if◌then◌else◌, refl, sym, ap, ◌∙◌}
-use Rattle.std.specs.Prelude.{is_none, slice_set}
-use Rattle.std.specs.List.{slice_get}
+use Rattle.std.proofs.Common.{refl, sym, ap, ◌∙◌, ◌≡◌, ℕ, zero, suc, List, [], ◌∷◌, map, Option, Some, None, if◌then◌else◌, is_none, slice_set}
 use Rattle.std.proofs.lemmas.List.{map-set, set-set}
 use Rattle.std.proofs.lemmas.Option.{same_Some}
+use Rattle.std.specs.List.{slice_get}
 use Rattle.audit_model.specs.declared.command.Closing.{Closing}
 use Rattle.cache_core.specs.Connection.Shown.{shown}
-use Rattle.cache_core.specs.declared.connection.connection.Connection.{Connection}
 use Rattle.cache_core.specs.Connections.Presence.{Gone, Here, Out, Presence, closing_of, gone_if, open_from, reply_text_of, retired, retired_at}
+use Rattle.cache_core.specs.declared.connection.connection.Connection.{Connection}
 
 -- ---- one that is retired
 
@@ -65,11 +64,6 @@ closings-retired = map-retired closing_of closing-retired
 
 pub texts-retired : (ps : List Presence) (i : ℕ) → map reply_text_of (retired_at ps i) ≡ map reply_text_of ps
 texts-retired = map-retired reply_text_of text-retired
-
-pub length-retired : (ps : List Presence) (i : ℕ) → length (retired_at ps i) ≡ length ps
-length-retired [] i = refl
-length-retired (p ∷ ps) zero = refl
-length-retired (p ∷ ps) (suc i) = ap suc (length-retired ps i)
 
 pub retired-within : (ps : List Presence) (i : ℕ) (p : Presence) → slice_get ps i ≡ Some p → retired_at ps i ≡ slice_set ps i (retired p)
 retired-within [] i p at = refl

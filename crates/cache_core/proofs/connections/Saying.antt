@@ -1,17 +1,16 @@
 -- What the words say, after a resident changes, comes or goes.
-use Rattle.std.proofs.Common.{◌≡◌, ◌≢◌, ℕ, ◌-◌, ◌<◌, ◌≤◌, List, [], ◌∷◌, ◌++◌, length, Option, Some, None, if◌then◌else◌, refl, sym, ap, ◌∙◌, subst, arith, inl, inr, get_or, true, false, lit≤}
-use Rattle.std.specs.Prelude.{slice_set}
-use Rattle.std.specs.List.{slice_get}
-use Rattle.std.specs.Option.{option_map}
+use Rattle.std.proofs.Common.{refl, sym, ap, ◌∙◌, subst, arith, inl, inr, get_or, lit≤, ◌≡◌, ◌≢◌, ℕ, ◌-◌, ◌<◌, ◌≤◌, List, [], ◌∷◌, ◌++◌, length, Option, Some, None, if◌then◌else◌, true, false, slice_set}
 use Rattle.std.proofs.lemmas.Bool.{cases_eq, cases_lt, le-ltb, lt-ltb}
 use Rattle.std.proofs.lemmas.List.{length-append, length-map, length-set, map-append, map-set}
 use Rattle.std.proofs.lemmas.Option.{same_Some, slice_get-get_or, slice_get-map, slice_get_within}
+use Rattle.std.specs.List.{slice_get}
+use Rattle.std.specs.Option.{option_map}
 use Rattle.audit_model.specs.declared.command.Closing.{Closing}
-use Rattle.audit_model.specs.declared.command.Closing.TheVariants as by
-use Rattle.cache_core.specs.declared.connection.connection.Connection.{Connection}
 use Rattle.cache_core.specs.Connections.Presence.{Gone, Here, Out, Presence, is_here}
 use Rattle.cache_core.specs.Connections.Residents.{AreMatched, AreSettled, first_reason, held_or_out, places_of, presence_by, presence_held, presences_of, reason_numbered, reason_word}
 use Rattle.cache_core.specs.declared.connections.residents.Resident.{Resident}
+use Rattle.audit_model.specs.declared.command.Closing.TheVariants as by
+use Rattle.cache_core.specs.declared.connection.connection.Connection.{Connection}
 use Rattle.cache_core.proofs.connections.Getting.{at-end, at-front, at-other, at-replaced, ext-get, map-same}
 use Rattle.cache_core.proofs.connections.Matching.{matched-more, matched-moved, matched-shorter}
 

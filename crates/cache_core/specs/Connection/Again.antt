@@ -9,18 +9,18 @@ use Rattle.audit_model.specs.declared.transcript.Step.{Step}
 use Rattle.cache_commands.specs.Answered.{Agrees}
 use Rattle.cache_commands.specs.Order.{Order, Unknown}
 use Rattle.cache_commands.specs.Right.{KeepsFrame, step_saying}
-use Rattle.cache_lines.specs.Leads.Leads.{TasksLead}
 use Rattle.cache_lines.specs.Bases.{Seen}
 use Rattle.cache_lines.specs.Drawing.{identifiers_in}
 use Rattle.cache_lines.specs.Ended.{ends_silent}
 use Rattle.cache_lines.specs.Gathered.{IsFresh, gather, gathered}
+use Rattle.cache_lines.specs.Leads.Leads.{TasksLead}
 use Rattle.cache_lines.specs.Lines.{ends_quit, with_drops}
 use Rattle.cache_lines.specs.Making.{Making, making_of}
 use Rattle.cache_lines.specs.Ordered.{order_behind_step}
+use Rattle.cache_lines.specs.Tape.Taped.{Taped, spends, text_left}
 use Rattle.cache_lines.specs.Waiting.{loads_in, with_under_way}
 use Rattle.cache_lines.specs.Whole.{held_line}
 use Rattle.cache_commands.specs.declared.loads.standing.Standing.TheVariants as now_is
-use Rattle.cache_lines.specs.Tape.Taped.{Taped, spends, text_left}
 use Rattle.cache_core.specs.Connection.Shown.{put_in, shown}
 use Rattle.cache_core.specs.declared.connection.connection.Connection.{Connection}
 

@@ -4,22 +4,22 @@ use Rattle.audit_model.specs.Places.{tasks_to_feed}
 use Rattle.audit_model.specs.Situation.{HeldValue, Situation}
 use Rattle.audit_model.specs.Stream.{behind_lines}
 use Rattle.audit_model.specs.declared.command.Closing.{Closing}
-use Rattle.audit_model.specs.declared.command.Closing.TheVariants as by
 use Rattle.cache_commands.specs.Answered.{Agrees}
+use Rattle.cache_commands.specs.Loads.Standings.{holds_line, waits_for_load}
 use Rattle.cache_commands.specs.Right.{KeepsFrame}
+use Rattle.cache_commands.specs.declared.loads.standing.Standing.{Standing}
 use Rattle.cache_lines.specs.Bases.{Seen, seen}
 use Rattle.cache_lines.specs.Ended.{RanTasks, RunsReady, left_by}
 use Rattle.cache_lines.specs.Gathered.{IsFresh, gathered}
 use Rattle.cache_lines.specs.Lines.{IsThere, set_in, situation_behind, with_drops}
 use Rattle.cache_lines.specs.Making.{making_of}
-use Rattle.cache_lines.specs.Stops.{ends_by_quit, holds_back, waits_now}
+use Rattle.cache_lines.specs.Tape.Taped.{Taped}
 use Rattle.cache_lines.specs.Waiting.{loads_in, with_under_way}
 use Rattle.cache_lines.specs.declared.base.Base.{Base}
 use Rattle.cache_lines.specs.declared.looping.End.{End}
-use Rattle.cache_commands.specs.Loads.Standings.{holds_line, waits_for_load}
-use Rattle.cache_commands.specs.declared.loads.standing.Standing.{Standing}
 use Rattle.cache_store.specs.Values.{Values}
-use Rattle.cache_lines.specs.Tape.Taped.{Taped}
+use Rattle.audit_model.specs.declared.command.Closing.TheVariants as by
+use Rattle.cache_lines.specs.Stops.{ends_by_quit, holds_back, waits_now}
 use Rattle.cache_core.specs.Connection.Fits.{ClosesFor, RunsOn}
 use Rattle.cache_core.specs.Connection.Shown.{put_in, shown, with_piece}
 use Rattle.cache_core.specs.declared.connection.connection.Connection.{Connection}

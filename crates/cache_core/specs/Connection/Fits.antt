@@ -1,12 +1,12 @@
 -- What is known of a connection.
 use Rattle.std.specs.Prelude.{◌≡◌, ℕ, Bool, false, not, ◌||◌, List, Option, Some, None, ◌⊎◌, IsTrue, is_some, if◌then◌else◌}
 use Rattle.audit_model.specs.declared.command.Closing.{Closing}
-use Rattle.audit_model.specs.declared.command.Closing.TheVariants as by
-use Rattle.cache_lines.specs.Whole.{has_line, is_few, is_long_line, is_near}
-use Rattle.cache_lines.specs.declared.looping.End.{End}
-use Rattle.cache_lines.specs.declared.looping.End.TheVariants as at
 use Rattle.cache_commands.specs.Loads.Standings.{keeps_line, waits_for_load}
 use Rattle.cache_commands.specs.declared.loads.standing.Standing.{Standing}
+use Rattle.cache_lines.specs.Whole.{has_line, is_few, is_long_line, is_near}
+use Rattle.cache_lines.specs.declared.looping.End.{End}
+use Rattle.audit_model.specs.declared.command.Closing.TheVariants as by
+use Rattle.cache_lines.specs.declared.looping.End.TheVariants as at
 use Rattle.cache_commands.specs.declared.loads.standing.Standing.TheVariants as now
 
 -- The line that is held back or waits is there; an open connection has no longer line, and not too many bytes after a `LOAD` that waits;

@@ -1,14 +1,14 @@
 -- A connection, as its parts describe it.
 use Rattle.std.specs.Prelude.{ℕ, List, Option, if◌then◌else◌, is_none}
-use Rattle.audit_model.specs.Situation as model
 use Rattle.audit_model.specs.Situation.{HeldValue, Situation, without_connection}
 use Rattle.audit_model.specs.Stream.{behind_lines}
 use Rattle.audit_model.specs.declared.command.Closing.{Closing}
+use Rattle.cache_commands.specs.Loads.Standings.{keeps_line}
+use Rattle.cache_commands.specs.declared.loads.standing.Standing.{Standing}
 use Rattle.cache_lines.specs.Lines.{set_in}
 use Rattle.cache_lines.specs.Waiting.{waiting}
 use Rattle.cache_lines.specs.Whole.{held_line}
-use Rattle.cache_commands.specs.Loads.Standings.{keeps_line}
-use Rattle.cache_commands.specs.declared.loads.standing.Standing.{Standing}
+use Rattle.audit_model.specs.Situation as model
 use Rattle.cache_commands.specs.declared.loads.standing.Standing.TheVariants as now
 
 -- it runs lines, or waits before this line

@@ -1,7 +1,7 @@
 -- A connection in terms of the definitions.
 use Rattle.std.specs.Prelude.{ℕ, ◌++◌, List}
-use Rattle.audit_model.specs.Situation as model
 use Rattle.audit_model.specs.Situation.{HeldValue, Situation}
+use Rattle.audit_model.specs.Situation as model
 use Rattle.cache_core.specs.Connection.Parts.{put_parts, standing_as}
 use Rattle.cache_core.specs.declared.connection.connection.Connection.{Connection}
 

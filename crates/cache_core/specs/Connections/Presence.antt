@@ -2,8 +2,8 @@
 use Rattle.std.specs.Prelude.{ℕ, zero, suc, Bool, true, false, List, [], ◌∷◌, Option, Some, None, if◌then◌else◌, is_none}
 use Rattle.std.specs.List.{slice_get}
 use Rattle.std.specs.Option.{option_map_or}
-use Rattle.audit_model.specs.Situation as model
 use Rattle.audit_model.specs.declared.command.Closing.{Closing}
+use Rattle.audit_model.specs.Situation as model
 use Rattle.audit_model.specs.declared.command.Closing.TheVariants as by
 use Rattle.cache_core.specs.Connection.Shown.{shown}
 use Rattle.cache_core.specs.declared.connection.connection.Connection.{Connection}

@@ -30,11 +30,9 @@ pub fn ended_standing(end: End) -> Standing
     ensures { result ≡ ended_standing end }
 {
     match end {
-        End::More => Standing::Ready,
-        End::TooLong => Standing::Ready,
+        End::More | End::TooLong | End::Quit => Standing::Ready,
         End::Held => Standing::Held,
         End::Waits => Standing::Waiting,
-        End::Quit => Standing::Ready,
     }
 }
 
@@ -43,11 +41,8 @@ pub fn ended_times(end: End) -> u64
     ensures { result ≡ ended_times end }
 {
     match end {
-        End::More => 0,
-        End::TooLong => 0,
-        End::Held => 0,
+        End::More | End::TooLong | End::Held | End::Quit => 0,
         End::Waits => 1,
-        End::Quit => 0,
     }
 }
 
@@ -57,9 +52,8 @@ pub fn ended_closing(end: End, unread: &Buffer) -> Option<Closing>
     ensures { result ≡ ended_closing end unread.now.bytes }
 {
     match end {
-        End::More => None,
+        End::More | End::Held => None,
         End::TooLong => Some(Closing::Long),
-        End::Held => None,
         End::Waits => {
             if behind_first(unread) <= MAX_BEHIND {
                 None

@@ -1,5 +1,5 @@
 -- A store over a front that was just made.
-use Rattle.std.proofs.Common.{◌≡◌, refl, ap, ◌∙◌, sym, subst, ℕ, ◌+◌, ◌-◌, ◌*◌, ◌/◌, ◌^◌, ◌≤◌, ◌<◌, suc, arith, false, List, [], ◌∷◌, length, Option, option_map, Some, None, slice_get}
+use Rattle.std.proofs.Common.{◌≡◌, refl, ap, ◌∙◌, sym, subst, ℕ, ◌+◌, ◌-◌, ◌*◌, ◌/◌, ◌^◌, ◌≤◌, ◌<◌, suc, arith, false, List, ◌∷◌, length, Option, option_map, Some, None, slice_get, []}
 use Rattle.std.proofs.Math.Nat.{div-lt_iff_lt-mul}
 use Rattle.std.proofs.lemmas.Nat.{pow-add, pow_pos}
 use Rattle.rand_core.specs.Stream.{Stream}
@@ -7,18 +7,18 @@ use Rattle.audit_model.specs.History.{part_count}
 use Rattle.audit_model.specs.Situation.{HeldValue}
 use Rattle.audit_model.specs.declared.config.Config.{Config}
 use Rattle.audit_model.specs.declared.config.Weight.{Weight}
-use Rattle.cache_parts.specs.Parts.{IsBrief, Part, settings_of}
+use Rattle.cache_front.specs.Parts.{IsBrief, Part, settings_of}
 use Rattle.cache_store.specs.Promises.{Frame}
-use Rattle.cache_parts_store.specs.View.{StoreOfParts, view}
-use Rattle.cache_parts_store.proofs.Settling.{made, sound}
-use Rattle.cache_parts_store.proofs.parts_kept.Identifying.{released}
-use Rattle.cache_front.specs.Data.State.{IsFit, Lent, store_of}
+use Rattle.cache_front.specs.View.{StoreOfParts, view}
+use Rattle.cache_front.proofs.whole.Settling.{made, sound}
+use Rattle.cache_front.proofs.kept.Identifying.{released}
+use Rattle.cache_front.specs.State.{IsFit, Lent, store_of}
 use Rattle.engine_reference.specs.Calls.{IsNew}
 use Rattle.engine_reference.specs.declared.data.Settings.{Settings}
 use Rattle.front_reference.specs.Fronts.{part_of, share_of}
 use Rattle.front_reference.specs.Keeping.{Common}
 use Rattle.front_state.specs.Making.{IsMadeWith, with_share}
-use Rattle.cache_front.specs.Data.Making.{IsJustMade, whole_settings}
+use Rattle.cache_front.specs.Making.{IsJustMade, whole_settings}
 
 -- the upper bits of a number of 64 bits say one of so many parts
 all-bits : (bits : ℕ) → bits ≤ 16 → 2 ^ 64 ≡ 2 ^ bits * 2 ^ (64 - bits)

@@ -1,6 +1,5 @@
 -- What the calls of a front come to in the store over it.
-use Rattle.std.proofs.Common.{◌≡◌, ◌≢◌, refl, ap, ◌∙◌, sym, subst, ℕ, suc, ◌+◌, ◌≤◌, ◌<◌, ◌^◌, arith, Bool, true, false, List, [], ◌++◌, length, map, Option, option_map, Some, None, slice_get, slice_set, if◌then◌else◌, true≢false, Result, Ok, Err, IfOk, OnErr}
-use Rattle.std.specs.Prelude.{option_to_list}
+use Rattle.std.proofs.Common.{◌≡◌, ◌≢◌, refl, ap, ◌∙◌, sym, subst, ℕ, suc, ◌+◌, ◌≤◌, ◌<◌, ◌^◌, arith, Bool, true, false, List, ◌++◌, length, map, Option, option_map, Some, None, slice_get, slice_set, if◌then◌else◌, true≢false, Result, Ok, Err, IfOk, OnErr, [], option_to_list}
 use Rattle.std.proofs.lemmas.List.{length-append, length-map}
 use Rattle.rand_core.specs.Stream.{Stream}
 use Rattle.audit_model.specs.Bytewise.{same}
@@ -16,7 +15,6 @@ use Rattle.cache_store.specs.Promises.{covering, deleting, syncing, using}
 use Rattle.cache_store.specs.Values.{AcceptsValue, Does, IsAcceptable, IsLive, IsMoment, IsSettled, IsSoundStore, IsSpent, LacksIdentifiers}
 use Rattle.engine_reference.specs.Calls.{cleared_by, removal_rooms}
 use Rattle.engine_reference.specs.Scanning.{NotesLookUp}
-use Rattle.engine_reference.specs.declared.data.Notice.{Notice}
 use Rattle.engine_reference.specs.declared.data.Settings.{Settings}
 use Rattle.front_reference.specs.Fronts.{CallsAll, CallsPart, part_by_hash, part_of, passed as passed_front}
 use Rattle.front_reference.specs.Wholes.{DrawsInVain, RunsPart}
@@ -24,17 +22,17 @@ use Rattle.front_state.specs.Calls.{IsCauseOf, Ways, visible_of}
 use Rattle.front_reference.specs.declared.errors.CacheError.{CacheError}
 use Rattle.front_reference.specs.declared.errors.CacheError.TheVariants as errors
 use Rattle.front_state.specs.Covering.{CoversAll, IsCauseToCover}
-use Rattle.cache_parts.specs.Parts.{Part, Stored, items_of, note_from, service_answers}
-use Rattle.cache_parts_store.specs.View.{ComesTo, IsWhole, StoreOfParts, after, all_drained, over_front, stored, total_number, total_weight, view, waiting}
-use Rattle.cache_parts_store.proofs.Calling.{accept as one_accept, after-is, changed, look_up as one_look_up, peek as one_peek, remove as one_remove}
-use Rattle.cache_parts_store.proofs.Covering.{clear as clear_parts, drop as drop_parts, lacks}
-use Rattle.cache_parts_store.proofs.Settling.{no_steps, no_tickets, run_all as run_parts, sound}
-use Rattle.cache_parts_store.proofs.Standing.{parts_are, some_held, some_stand}
-use Rattle.cache_front.specs.Data.Draining.{drained_at, waiting_at}
-use Rattle.cache_front.specs.Data.State.{IsFit, Lent, settled}
+use Rattle.cache_front.specs.Parts.{Part, Stored, items_of, service_answers}
+use Rattle.cache_front.specs.View.{ComesTo, IsWhole, StoreOfParts, after, all_drained, over_front, stored, total_number, total_weight, view, waiting}
+use Rattle.cache_front.proofs.whole.Covering.{clear as clear_parts, drop as drop_parts, lacks}
+use Rattle.cache_front.proofs.whole.Settling.{no_steps, no_tickets, run_all as run_parts, sound}
+use Rattle.cache_front.proofs.whole.Calling.{accept as one_accept, after-is, changed, look_up as one_look_up, peek as one_peek, remove as one_remove}
+use Rattle.cache_front.proofs.whole.Standing.{parts_are, some_held, some_stand}
+use Rattle.cache_front.specs.Draining.{drained_at, waiting_at}
+use Rattle.cache_front.specs.State.{IsFit, Lent, settled}
 use Rattle.cache_front.proofs.data.Drains.{one_told}
 use Rattle.cache_front.proofs.data.Counting.{counted}
-use Rattle.cache_front.specs.Data.Data.{FrontData, InsertsBy, IsAnswerTo, LackTickets, TakesOutBy, parted_by}
+use Rattle.cache_front.specs.Data.{FrontData, InsertsBy, IsAnswerTo, LackTickets, TakesOutBy, parted_by}
 
 module _ {S : Type 0} (hash : S → List ℕ → ℕ) where
   -- the store when what a call told was taken
@@ -63,14 +61,14 @@ module _ {S : Type 0} (hash : S → List ℕ → ℕ) where
       → number ≡ count + length (option_to_list (option_map newly_held deed.value)) → then_by d d.stream g ≡ b → Does now deed (view (parted_by hash d)) (view b) → Shows b → IsWhole b → Comes d g number Shows
   comes-to d g count room number now deed Shows b f none number_is is does shows whole =
       let c = counted (parted_by hash d) (then_by d d.stream g) now deed f.whole none (subst (λ x. Does now deed (view (parted_by hash d)) (view x)) (sym is) does) in
-      let l = length-append (map note_from d.queue) (waiting g.parts) in
+      let l = length-append d.queue (waiting g.parts) in
       let e = f.counted in
       record { shows = subst Shows (sym is) shows; whole = subst (λ x. IsWhole x) (sym is) whole; number_is = omega (arith, c, l, e, number_is) }
 
   -- and they were taken so
-  pub record Takes (d : FrontData S) (g h : Lent S) (queue : List (Notice (List ℕ) Stored)) : Type 0 where
+  pub record Takes (d : FrontData S) (g h : Lent S) (queue : List Note) : Type 0 where
     pub drained : h ≡ record g { parts = all_drained g.parts }
-    pub queued : map note_from queue ≡ map note_from d.queue ++ waiting g.parts
+    pub queued : queue ≡ d.queue ++ waiting g.parts
 
   -- a call came to one part: what waits there is all that waits
   pub told_there : (d : FrontData S) (g : Lent S) (h now step place : ℕ) (Rel : Part S → Part S → Type 0) → IsWhole (parted_by hash d) → CallsPart h now step Rel d.front g → place ≡ part_of d.front.bits h
@@ -82,37 +80,37 @@ module _ {S : Type 0} (hash : S → List ℕ → ℕ) where
       in
       (subst (λ ps. waiting_at place ps ≡ waiting ps) (sym parts_are) t.0, subst (λ ps. drained_at place ps ≡ all_drained ps) (sym parts_are) t.1)
 
-  pub takes_there : (d : FrontData S) (g h : Lent S) (queue : List (Notice (List ℕ) Stored)) (place : ℕ) → (waiting_at place g.parts ≡ waiting g.parts) × (drained_at place g.parts ≡ all_drained g.parts)
-      → h ≡ record g { parts = drained_at place g.parts } → map note_from queue ≡ map note_from d.queue ++ waiting_at place g.parts → Takes d g h queue
-  takes_there d g h queue place t drained queued = record { drained = drained ∙ ap (λ (ps : List (Part S)). record g { parts = ps }) t.1; queued = queued ∙ ap (λ ns. map note_from d.queue ++ ns) t.0 }
+  pub takes_there : (d : FrontData S) (g h : Lent S) (queue : List Note) (place : ℕ) → (waiting_at place g.parts ≡ waiting g.parts) × (drained_at place g.parts ≡ all_drained g.parts)
+      → h ≡ record g { parts = drained_at place g.parts } → queue ≡ d.queue ++ waiting_at place g.parts → Takes d g h queue
+  takes_there d g h queue place t drained queued = record { drained = drained ∙ ap (λ (ps : List (Part S)). record g { parts = ps }) t.1; queued = queued ∙ ap (λ ns. d.queue ++ ns) t.0 }
 
   -- the data then
-  abbrev pub with_front : FrontData S → List (Notice (List ℕ) Stored) → Lent S → FrontData S
+  abbrev pub with_front : FrontData S → List Note → Lent S → FrontData S
   with_front d queue front = record d { queue = queue; front = front }
 
-  then_is : (d : FrontData S) (g h : Lent S) (queue : List (Notice (List ℕ) Stored)) → Takes d g h queue → parted_by hash (with_front d queue h) ≡ then_by d d.stream g
+  then_is : (d : FrontData S) (g h : Lent S) (queue : List Note) → Takes d g h queue → parted_by hash (with_front d queue h) ≡ then_by d d.stream g
   then_is d g h queue t =
-      ap (λ (x : Lent S). over_front d.config d.made d.dropped (hash x.common.hasher) (map note_from queue) d.stream x) t.drained
+      ap (λ (x : Lent S). over_front d.config d.made d.dropped (hash x.common.hasher) (queue) d.stream x) t.drained
       ∙ ap (λ (ns : List Note). over_front d.config d.made d.dropped (hash g.common.hasher) ns d.stream (record g { parts = all_drained g.parts })) t.queued
 
   -- no more were told than were held
   pub few_told : (d : FrontData S) (g : Lent S) (number : ℕ) (Shows : StoreOfParts S → Type 0) → Comes d g number Shows → length (waiting g.parts) ≤ number
   few_told d g number Shows c = let e = c.number_is in omega (arith, e)
 
-  pub shown : (d : FrontData S) (g h : Lent S) (queue : List (Notice (List ℕ) Stored)) (number : ℕ) (Shows : StoreOfParts S → Type 0) → Comes d g number Shows → Takes d g h queue → Shows (parted_by hash (with_front d queue h))
+  pub shown : (d : FrontData S) (g h : Lent S) (queue : List Note) (number : ℕ) (Shows : StoreOfParts S → Type 0) → Comes d g number Shows → Takes d g h queue → Shows (parted_by hash (with_front d queue h))
   shown d g h queue number Shows c t = subst Shows (sym (then_is d g h queue t)) c.shows
 
-  pub fits : (d : FrontData S) (g h : Lent S) (queue : List (Notice (List ℕ) Stored)) (number count room : ℕ) (Shows : StoreOfParts S → Type 0) → Comes d g number Shows → Takes d g h queue
+  pub fits : (d : FrontData S) (g h : Lent S) (queue : List Note) (number count room : ℕ) (Shows : StoreOfParts S → Type 0) → Comes d g number Shows → Takes d g h queue
       → count + length (waiting g.parts) ≡ number → length d.queue + number ≤ room → IsFit (parted_by hash (with_front d queue h)) count room
   fits d g h queue number count room Shows c t counts has_room = subst (λ (x : StoreOfParts S). IsFit x count room) (sym (then_is d g h queue t)) (record {
     whole = c.whole;
     counted = (let e = c.number_is in omega (arith, e, counts));
-    room = (let e = length-append (map note_from d.queue) (waiting g.parts) in let m = length-map d.queue note_from in omega (arith, e, m, counts, has_room));
+    room = (let e = length-append d.queue (waiting g.parts) in omega (arith, e, counts, has_room));
   })
 
   -- the room that is kept for it
   pub room_for : (d : FrontData S) (count room : ℕ) → IsFit (parted_by hash d) count room → length d.queue + count ≤ room
-  room_for d count room f = let r = f.room in let m = length-map d.queue note_from in omega (arith, r, m)
+  room_for d count room f = let r = f.room in omega (arith, r)
 
   -- ---- calls that tell
 
@@ -175,7 +173,7 @@ module _ {S : Type 0} (hash : S → List ℕ → ℕ) where
       omega (arith, n, l, m)
 
   still_fits : (d e : FrontData S) (count room : ℕ) → IsFit (parted_by hash d) count room → IsWhole (parted_by hash e) → length (items_of 0 e.front.parts) ≡ length (items_of 0 d.front.parts) → e.queue ≡ d.queue → IsFit (parted_by hash e) count room
-  still_fits d e count room f w same_number same_queue = record { whole = w; counted = f.counted ∙ sym same_number; room = (let r = f.room in let q = ap (λ ns. length (map note_from ns)) same_queue in omega (arith, r, q)) }
+  still_fits d e count room f w same_number same_queue = record { whole = w; counted = f.counted ∙ sym same_number; room = (let r = f.room in let q = ap length same_queue in omega (arith, r, q)) }
 
   next : (d : FrontData S) (now : ℕ) → IsMoment (view (parted_by hash d)) now → ComesTo (parted_by hash d) now (suc d.front.step)
   next d now moment = record { moment = moment; rises = omega arith; one = omega arith }

@@ -1,6 +1,5 @@
 -- A call tells each note of another value, so by as many fewer values are held.
-use Rattle.std.proofs.Common.{◌≡◌, refl, ap, ◌∙◌, sym, ℕ, suc, ◌+◌, arith, Bool, cond, true, false, true≢false, ◌&&◌, List, [], ◌∷◌, ◌++◌, length, map, Option, option_map, Some, None}
-use Rattle.std.specs.Prelude.{option_to_list}
+use Rattle.std.proofs.Common.{◌≡◌, refl, ap, ◌∙◌, sym, ℕ, suc, ◌+◌, arith, Bool, cond, true, false, true≢false, ◌&&◌, List, ◌∷◌, ◌++◌, length, map, Option, option_map, Some, None, [], option_to_list}
 use Rattle.std.proofs.lemmas.List.{length-append, length-map}
 use Rattle.std.proofs.lemmas.Option.{none-some}
 use Rattle.audit_model.specs.Bytewise.{same}
@@ -14,9 +13,9 @@ use Rattle.audit_model.specs.View.{Candidate}
 use Rattle.audit_model.specs.declared.config.Config.{Config}
 use Rattle.audit_model.specs.declared.transcript.Note.{Note}
 use Rattle.cache_store.specs.Values.{Does, HandsBy}
-use Rattle.cache_parts.specs.Parts.{items_of}
-use Rattle.cache_parts_store.specs.View.{IsWhole, StoreOfParts, view}
-use Rattle.cache_parts_store.proofs.Standing.{some_held, some_stand}
+use Rattle.cache_front.specs.Parts.{items_of}
+use Rattle.cache_front.specs.View.{IsWhole, StoreOfParts, view}
+use Rattle.cache_front.proofs.whole.Standing.{some_held, some_stand}
 
 first-part : (a b : Bool) → (a && b) ≡ true → a ≡ true
 first-part true b h = refl

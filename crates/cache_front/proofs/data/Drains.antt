@@ -1,28 +1,25 @@
 -- Notices that are taken one by one from a part, and from one part after another.
-use Rattle.std.proofs.Common.{◌≡◌, refl, ap, ◌∙◌, sym, subst, ℕ, zero, suc, ◌+◌, ◌≤◌, arith, List, [], ◌∷◌, ◌++◌, drop, length, map, Some, None, Result, Ok, Err, true≢false, if◌then◌else◌}
-use Rattle.std.specs.Prelude.{slice_get, slice_set}
+use Rattle.std.proofs.Common.{◌≡◌, refl, ap, ◌∙◌, sym, subst, ℕ, zero, suc, ◌+◌, ◌≤◌, arith, List, ◌∷◌, ◌++◌, drop, length, map, Some, None, Result, Ok, Err, true≢false, if◌then◌else◌, [], slice_get, slice_set}
 use Rattle.std.specs.Result.{IsOk, is_ok}
-use Rattle.std.proofs.lemmas.List.{append-nil, append_assoc, length-append, length-map, map-append}
+use Rattle.std.proofs.lemmas.List.{append-nil, append_assoc, length-append}
 use Rattle.std.proofs.lemmas.Option.{none-some}
 use Rattle.audit_model.specs.declared.transcript.Note.{Note}
-use Rattle.cache_front.specs.Data.Draining.{drained_at, waiting_at}
-use Rattle.cache_front.specs.Data.State.{Lent}
-use Rattle.cache_parts.specs.Parts.{Part, Stored, drained, note_from}
-use Rattle.cache_parts_store.specs.View.{all_drained, waiting}
-use Rattle.cache_parts_store.proofs.Changing.{AreTaken, all_drained-none, drained-none, waiting-none}
+use Rattle.cache_front.specs.Draining.{drained_at, waiting_at}
+use Rattle.cache_front.specs.State.{Lent}
+use Rattle.cache_front.specs.Parts.{Part, Stored, drained, note_from}
+use Rattle.cache_front.specs.View.{all_drained, waiting}
+use Rattle.cache_front.proofs.whole.Changing.{AreTaken, all_drained-none, drained-none, waiting-none}
 use Rattle.engine_reference.specs.Calls.{without_notice}
 use Rattle.engine_reference.specs.declared.data.Notice.{Notice}
 use Rattle.front_parts.specs.Places.Told.{told_at, without_told_at}
 use Rattle.front_parts.proofs.wholes.Told.{NoneTold}
 
 -- how many came
-pub how_many : (had queue : List (Notice (List ℕ) Stored)) (told : List Note) → map note_from queue ≡ map note_from had ++ told → length queue ≡ length had + length told
+pub how_many : (had queue : List Note) (told : List Note) → queue ≡ had ++ told → length queue ≡ length had + length told
 how_many had queue told is =
     let e = ap length is in
-    let a = length-append (map note_from had) told in
-    let m = length-map queue note_from in
-    let n = length-map had note_from in
-    omega (arith, e, a, m, n)
+    let a = length-append had told in
+    omega (arith, e, a)
 
 -- what was pushed
 pub pushed_if : {X T E : Type 0} (r : Result T E) (now more old : X) → IsOk r → now ≡ (if is_ok r then more else old) → now ≡ more
@@ -57,28 +54,26 @@ module _ {S : Type 0} where
           ap (map note_from) is ∙ ap (λ y. note_from y ∷ map note_from ns) same ∙ ap (λ xs. note_from n ∷ map note_from (drop 1 xs)) (sym is)
   told-some (suc place) (s ∷ parts) n told = let t = told-some place parts n told in (t.0, ap (λ ps. s ∷ ps) t.1)
 
-module _ {S : Type 0} (place : ℕ) (was : Lent S) (had : List (Notice (List ℕ) Stored)) where
+module _ {S : Type 0} (place : ℕ) (was : Lent S) (had : List Note) where
   -- some were taken from the part, and stand in the queue
-  pub record DrainsAt (front : Lent S) (queue : List (Notice (List ℕ) Stored)) : Type 0 where
+  pub record DrainsAt (front : Lent S) (queue : List Note) : Type 0 where
     pub rest : front ≡ record was { parts = front.parts }
     pub same : drained_at place front.parts ≡ drained_at place was.parts
-    pub queued : map note_from queue ++ waiting_at place front.parts ≡ map note_from had ++ waiting_at place was.parts
+    pub queued : queue ++ waiting_at place front.parts ≡ had ++ waiting_at place was.parts
 
   -- there is room for each
-  pub all_fit : (front : Lent S) (queue : List (Notice (List ℕ) Stored)) (room : ℕ) → DrainsAt front queue → length had + length (waiting_at place was.parts) ≤ room → length queue + length (waiting_at place front.parts) ≤ room
+  pub all_fit : (front : Lent S) (queue : List Note) (room : ℕ) → DrainsAt front queue → length had + length (waiting_at place was.parts) ≤ room → length queue + length (waiting_at place front.parts) ≤ room
   all_fit front queue room d fits =
       let e = ap length d.queued in
-      let a = length-append (map note_from queue) (waiting_at place front.parts) in
-      let b = length-append (map note_from had) (waiting_at place was.parts) in
-      let m = length-map queue note_from in
-      let n = length-map had note_from in
-      omega (arith, e, a, b, m, n, fits)
+      let a = length-append queue (waiting_at place front.parts) in
+      let b = length-append had (waiting_at place was.parts) in
+      omega (arith, e, a, b, fits)
 
   pub fewer : (front : Lent S) (n : Notice (List ℕ) Stored) → told_at place front.parts ≡ Some n → suc (length (waiting_at place (without_told_at place front.parts))) ≡ length (waiting_at place front.parts)
   fewer front n told = sym (ap length (told-some place front.parts n told).0)
 
-  pub one_more : (front later : Lent S) (queue queue_then : List (Notice (List ℕ) Stored)) (n : Notice (List ℕ) Stored) → DrainsAt front queue → told_at place front.parts ≡ Some n
-      → later ≡ record front { parts = without_told_at place front.parts } → queue_then ≡ queue ++ n ∷ [] → DrainsAt later queue_then
+  pub one_more : (front later : Lent S) (queue queue_then : List Note) (n : Notice (List ℕ) Stored) → DrainsAt front queue → told_at place front.parts ≡ Some n
+      → later ≡ record front { parts = without_told_at place front.parts } → queue_then ≡ queue ++ note_from n ∷ [] → DrainsAt later queue_then
   one_more front later queue queue_then n d told is pushed =
       let t = told-some place front.parts n told in
       let rest = waiting_at place (without_told_at place front.parts) in
@@ -87,20 +82,19 @@ module _ {S : Type 0} (place : ℕ) (was : Lent S) (had : List (Notice (List ℕ
         rest = is ∙ ap (λ (x : Lent S). record x { parts = without_told_at place front.parts }) d.rest ∙ ap (λ (ps : List (Part S)). record was { parts = ps }) (sym parts_are);
         same = ap (λ ps. drained_at place ps) parts_are ∙ t.1 ∙ d.same;
         queued =
-            ap (λ (ps : List (Part S)). map note_from queue_then ++ waiting_at place ps) parts_are
-            ∙ ap (λ ns. map note_from ns ++ rest) pushed
-            ∙ ap (λ ns. ns ++ rest) (map-append note_from queue (n ∷ []))
-            ∙ append_assoc (map note_from queue) (note_from n ∷ []) rest
-            ∙ ap (λ ns. map note_from queue ++ ns) (sym t.0)
+            ap (λ (ps : List (Part S)). queue_then ++ waiting_at place ps) parts_are
+            ∙ ap (λ ns. ns ++ rest) pushed
+            ∙ append_assoc queue (note_from n ∷ []) rest
+            ∙ ap (λ ns. queue ++ ns) (sym t.0)
             ∙ d.queued;
       }
 
-  pub all_taken : (front later : Lent S) (queue : List (Notice (List ℕ) Stored)) → DrainsAt front queue → told_at place front.parts ≡ None → later ≡ record front { parts = without_told_at place front.parts }
-      → (later ≡ record was { parts = drained_at place was.parts }) × (map note_from queue ≡ map note_from had ++ waiting_at place was.parts)
+  pub all_taken : (front later : Lent S) (queue : List Note) → DrainsAt front queue → told_at place front.parts ≡ None → later ≡ record front { parts = without_told_at place front.parts }
+      → (later ≡ record was { parts = drained_at place was.parts }) × (queue ≡ had ++ waiting_at place was.parts)
   all_taken front later queue d none is =
       let t = told-none place front.parts none in (
         is ∙ ap (λ (ps : List (Part S)). record front { parts = ps }) t.2 ∙ d.rest ∙ ap (λ (ps : List (Part S)). record was { parts = ps }) (sym t.1 ∙ d.same),
-        sym (append-nil (map note_from queue)) ∙ ap (λ ns. map note_from queue ++ ns) (sym t.0) ∙ d.queued,
+        sym (append-nil queue) ∙ ap (λ ns. queue ++ ns) (sym t.0) ∙ d.queued,
       )
 
 -- ---- one part after another
@@ -134,31 +128,29 @@ module _ {S : Type 0} where
       let t = none-waits place parts (omega arith) none.1 in
       (ap (λ ns. map note_from ns ++ waiting parts) none.0 ∙ t.0, ap (λ y. y ∷ all_drained parts) (drained-none s none.0) ∙ ap (λ ps. s ∷ ps) t.1)
 
-module _ {S : Type 0} (was : Lent S) (had : List (Notice (List ℕ) Stored)) where
+module _ {S : Type 0} (was : Lent S) (had : List Note) where
   -- what so many first parts told was taken, and stands in the queue
-  pub record Drains (count : ℕ) (front : Lent S) (queue : List (Notice (List ℕ) Stored)) : Type 0 where
+  pub record Drains (count : ℕ) (front : Lent S) (queue : List Note) : Type 0 where
     pub rest : front ≡ record was { parts = front.parts }
     pub number : length front.parts ≡ length was.parts
     pub none : NoneTold count front.parts
     pub same : all_drained front.parts ≡ all_drained was.parts
-    pub queued : map note_from queue ++ waiting front.parts ≡ map note_from had ++ waiting was.parts
+    pub queued : queue ++ waiting front.parts ≡ had ++ waiting was.parts
 
   pub none_yet : Drains 0 was had
   none_yet = record { rest = refl; number = refl; none = tt; same = refl; queued = refl }
 
-  pub part_fits : (place : ℕ) (front : Lent S) (queue : List (Notice (List ℕ) Stored)) (room : ℕ) → Drains place front queue → length had + length (waiting was.parts) ≤ room → length queue + length (waiting_at place front.parts) ≤ room
+  pub part_fits : (place : ℕ) (front : Lent S) (queue : List Note) (room : ℕ) → Drains place front queue → length had + length (waiting was.parts) ≤ room → length queue + length (waiting_at place front.parts) ≤ room
   part_fits place front queue room d fits =
       let e = ap length d.queued in
-      let a = length-append (map note_from queue) (waiting front.parts) in
-      let b = length-append (map note_from had) (waiting was.parts) in
+      let a = length-append queue (waiting front.parts) in
+      let b = length-append had (waiting was.parts) in
       let s = ap length (waiting-split place front.parts d.none) in
       let t = length-append (waiting_at place front.parts) (waiting (drained_at place front.parts)) in
-      let m = length-map queue note_from in
-      let n = length-map had note_from in
-      omega (arith, e, a, b, s, t, m, n, fits)
+      omega (arith, e, a, b, s, t, fits)
 
-  pub one_part : (place : ℕ) (front later : Lent S) (queue queue_then : List (Notice (List ℕ) Stored)) → Drains place front queue → later ≡ record front { parts = drained_at place front.parts }
-      → map note_from queue_then ≡ map note_from queue ++ waiting_at place front.parts → Drains (place + 1) later queue_then
+  pub one_part : (place : ℕ) (front later : Lent S) (queue queue_then : List Note) → Drains place front queue → later ≡ record front { parts = drained_at place front.parts }
+      → queue_then ≡ queue ++ waiting_at place front.parts → Drains (place + 1) later queue_then
   one_part place front later queue queue_then d is queued =
       let more : suc place ≡ place + 1 = omega arith in
       let parts_are : later.parts ≡ drained_at place front.parts = ap (λ (x : Lent S). x.parts) is in
@@ -168,20 +160,20 @@ module _ {S : Type 0} (was : Lent S) (had : List (Notice (List ℕ) Stored)) whe
         none = subst (λ ps. NoneTold (place + 1) ps) (sym parts_are) (subst (λ n. NoneTold n (drained_at place front.parts)) more (none-more place front.parts d.none));
         same = ap all_drained parts_are ∙ all_drained-at place front.parts ∙ d.same;
         queued =
-            ap (λ (ps : List (Part S)). map note_from queue_then ++ waiting ps) parts_are
+            ap (λ (ps : List (Part S)). queue_then ++ waiting ps) parts_are
             ∙ ap (λ ns. ns ++ waiting (drained_at place front.parts)) queued
-            ∙ append_assoc (map note_from queue) (waiting_at place front.parts) (waiting (drained_at place front.parts))
-            ∙ ap (λ ns. map note_from queue ++ ns) (sym (waiting-split place front.parts d.none))
+            ∙ append_assoc queue (waiting_at place front.parts) (waiting (drained_at place front.parts))
+            ∙ ap (λ ns. queue ++ ns) (sym (waiting-split place front.parts d.none))
             ∙ d.queued;
       }
 
-  pub each_part : (count : ℕ) (front : Lent S) (queue : List (Notice (List ℕ) Stored)) → Drains count front queue → length was.parts ≤ count
-      → (front ≡ record was { parts = all_drained was.parts }) × (map note_from queue ≡ map note_from had ++ waiting was.parts)
+  pub each_part : (count : ℕ) (front : Lent S) (queue : List Note) → Drains count front queue → length was.parts ≤ count
+      → (front ≡ record was { parts = all_drained was.parts }) × (queue ≡ had ++ waiting was.parts)
   each_part count front queue d past =
       let long = d.number in
       let t = none-waits count front.parts (omega arith) d.none in (
         d.rest ∙ ap (λ (ps : List (Part S)). record was { parts = ps }) (sym t.1 ∙ d.same),
-        sym (append-nil (map note_from queue)) ∙ ap (λ ns. map note_from queue ++ ns) (sym t.0) ∙ d.queued,
+        sym (append-nil queue) ∙ ap (λ ns. queue ++ ns) (sym t.0) ∙ d.queued,
       )
 
 -- ---- a part alone

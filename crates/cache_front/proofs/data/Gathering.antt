@@ -1,10 +1,10 @@
 -- The keys of the first parts.
-use Rattle.std.proofs.Common.{◌≡◌, refl, ap, ◌∙◌, sym, ℕ, zero, suc, ◌+◌, ◌<◌, ◌≤◌, arith, add-one, List, [], ◌∷◌, ◌++◌, length, take, Option, None, slice_get}
+use Rattle.std.proofs.Common.{◌≡◌, refl, ap, ◌∙◌, sym, ℕ, zero, suc, ◌+◌, ◌<◌, ◌≤◌, arith, add-one, List, ◌∷◌, ◌++◌, length, take, Option, None, slice_get, []}
 use Rattle.std.proofs.lemmas.List.{append-nil, append_assoc}
 use Rattle.engine_reference.specs.Scanning.{held_keys}
 use Rattle.front_state.specs.Calls.{keys_of}
-use Rattle.cache_parts.specs.Parts.{Part}
-use Rattle.cache_front.specs.Data.Listing.{held_by_all}
+use Rattle.cache_front.specs.Parts.{Part}
+use Rattle.cache_front.specs.Listing.{held_by_all}
 
 module _ {S : Type 0} where
   past : (parts : List (Part S)) (i : ℕ) → length parts ≤ i → slice_get parts i ≡ None

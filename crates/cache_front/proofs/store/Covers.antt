@@ -5,13 +5,13 @@ use Rattle.audit_model.specs.Commands.{Everything, Prefixed}
 use Rattle.cache_store.specs.Promises.{covering}
 use Rattle.cache_store.specs.Values.{Does, IsMoment, IsSpent, LacksIdentifiers}
 use Rattle.cache_store.specs.declared.error.StoreError.{StoreError}
-use Rattle.cache_front.specs.Data.View.{view}
-use Rattle.cache_front.specs.Data.State.{IsFit, Lent}
+use Rattle.cache_front.specs.View.{view}
+use Rattle.cache_front.specs.State.{IsFit, Lent}
 use Rattle.engine_reference.specs.Calls.{cleared_by}
 use Rattle.front_reference.specs.Fronts.{CallsAll}
 use Rattle.front_reference.specs.Wholes.{DrawsInVain}
-use Rattle.cache_front.specs.Data.Covering.{CoversAll}
-use Rattle.cache_front.specs.Data.Data.{FrontData, LackTickets, parted_by}
+use Rattle.front_state.specs.Covering.{CoversAll}
+use Rattle.cache_front.specs.Data.{FrontData, LackTickets, parted_by}
 use Rattle.cache_front.proofs.data.Calls.{clear, drop, lack, lacks_steps, lacks_tickets}
 
 module _ {S : Type 0} (hash : S → List ℕ → ℕ) (d : FrontData S) (g : Lent S) (count room now : ℕ) (r : Result (Unit {0}) StoreError) (f : IsFit (parted_by hash d) count room) (moment : IsMoment (view (parted_by hash d)) now) (clears : OnOk r (CallsAll now (suc d.front.step) (λ s t. t ≡ cleared_by (suc d.front.step) s) d.front g)) where

@@ -6,10 +6,10 @@ ghost use Rattle.engine_reference.specs.Calls.{cleared_by};
 ghost use Rattle.front_state.specs.Showing.{IsShown};
 ghost use Rattle.front_reference.specs.Fronts.{CallsAll, part_of};
 ghost use Rattle.front_reference.specs.Wholes.{DrawsInVain};
-ghost use Rattle.cache_parts_store.specs.View.{stored};
-ghost use Rattle.cache_front.specs.Data.Data.{hash_with, CoversBy, InsertsBy, IsAnswerTo, LackTickets, TakesOutBy};
+ghost use Rattle.cache_front.specs.View.{stored};
+ghost use Rattle.cache_front.specs.Data.{hash_with, CoversBy, InsertsBy, IsAnswerTo, LackTickets, TakesOutBy};
 
-use crate::data::{Front, Notices};
+use crate::data::{Front, Notes};
 use crate::entries::StoredValue;
 use audit_model::{Bytes, Key, Seq};
 use cache_store::StoreError;
@@ -25,7 +25,7 @@ const MOST_VALUES: usize = 1 << 50;
 /// What is kept of a value, if there may be one more than this many, with room in the queue for a notice of each.
 pub fn prepare(
     alloc: Global,
-    notices: &mut Notices,
+    notes: &mut Notes,
     count: usize,
     bytes: &[u8],
     milliseconds: Option<u64>,
@@ -33,15 +33,15 @@ pub fn prepare(
     requires short { length bytes.now ≤ 8192 }
     ensures value { IfOk result (λ value. value ≡ stored bytes.now milliseconds) }
     ensures few { OnOk result (count < 2 ^ 50) }
-    ensures room { OnOk result (length notices.new.items + suc count ≤ deque_capacity notices.new) }
-    ensures same { notices.new.items ≡ notices.old.items }
-    ensures grows { deque_capacity notices.old ≤ deque_capacity notices.new }
+    ensures room { OnOk result (length notes.new.items + suc count ≤ deque_capacity notes.new) }
+    ensures same { notes.new.items ≡ notes.old.items }
+    ensures grows { deque_capacity notes.old ≤ deque_capacity notes.new }
 {
     if count >= MOST_VALUES {
         return Err(AllocError);
     }
     let bytes = Vec::from_slice(alloc, bytes)?;
-    notices.reserve(count + 1)?;
+    notes.reserve(count + 1)?;
     Ok(StoredValue::new(bytes, milliseconds))
 }
 

@@ -1,61 +1,92 @@
-//! Notices on their way out.
-ghost use Rattle.std.specs.Prelude.{◌≡◌, ◌+◌, ◌++◌, ◌≤◌, length, map};
+//! Notes on their way out.
+ghost use Rattle.std.specs.Prelude.{◌≡◌, ◌+◌, ◌++◌, ◌≤◌, length};
 ghost use Rattle.std.specs.VecDeque.{deque_capacity};
-ghost use Rattle.cache_parts.specs.Parts.{cause_of, note_from};
-ghost use Rattle.cache_parts_store.specs.View.{all_drained, waiting};
-ghost use Rattle.cache_front.specs.Data.Draining.{drained_at, waiting_at};
+ghost use Rattle.cache_front.specs.Parts.{cause_of, note_from};
+ghost use Rattle.cache_front.specs.View.{all_drained, waiting};
+ghost use Rattle.cache_front.specs.Draining.{drained_at, waiting_at};
 
-use crate::data::{Front, Notices};
+use crate::data::{Front, Notes};
 use crate::entries::StoredValue;
 use audit_model::{Key, Note, NoteKey, RemovalCause, Seq};
 use front_parts::ScanningGet;
 use front_reference::Shared;
 use front_state::Notice;
 use std::hash::BuildHasher;
+use std::marker::Model;
+use std::sync::Arc;
 
-/// Takes what the parts of a front told, and puts it behind the notices that wait, for which there is room. Answers how many it were.
-pub fn drain<S: BuildHasher>(front: &mut Front<S>, notices: &mut Notices) -> usize
-    requires { length notices.old.items + length (waiting front.old.parts)
-        ≤ deque_capacity notices.old }
+/// Takes what the parts of a front told, and puts it as notes behind those that wait, for which there is room. Answers how many it were.
+pub fn drain<S: BuildHasher>(front: &mut Front<S>, notes: &mut Notes) -> usize
+    requires { length notes.old.items + length (waiting front.old.parts)
+        ≤ deque_capacity notes.old }
     ensures drained { front.new ≡ record front.old { parts = all_drained front.old.parts } }
-    ensures queued { map note_from notices.new.items ≡ map note_from notices.old.items
-        ++ waiting front.old.parts }
-    ensures room { deque_capacity notices.new ≡ deque_capacity notices.old }
+    ensures queued { notes.new.items ≡ notes.old.items ++ waiting front.old.parts }
+    ensures room { deque_capacity notes.new ≡ deque_capacity notes.old }
     ensures number { result ≡ length (waiting front.old.parts) }
 {
-    let had = notices.len();
+    let had = notes.len();
     for place in 0..front.num_cht_segments() {
-        drain_at(front, place, notices);
+        drain_at(front, place, notes);
     }
-    notices.len() - had
+    notes.len() - had
 }
 
 /// Takes what the part at a place told, and puts it there too. Answers how many it were.
-pub fn drain_at<S: BuildHasher>(front: &mut Front<S>, place: usize, notices: &mut Notices) -> usize
-    requires { length notices.old.items + length (waiting_at place front.old.parts)
-        ≤ deque_capacity notices.old }
+pub fn drain_at<S: BuildHasher>(front: &mut Front<S>, place: usize, notes: &mut Notes) -> usize
+    requires { length notes.old.items + length (waiting_at place front.old.parts)
+        ≤ deque_capacity notes.old }
     ensures drained { front.new ≡ record front.old { parts = drained_at place front.old.parts } }
-    ensures queued { map note_from notices.new.items ≡ map note_from notices.old.items
-        ++ waiting_at place front.old.parts }
-    ensures room { deque_capacity notices.new ≡ deque_capacity notices.old }
+    ensures queued { notes.new.items ≡ notes.old.items ++ waiting_at place front.old.parts }
+    ensures room { deque_capacity notes.new ≡ deque_capacity notes.old }
     ensures number { result ≡ length (waiting_at place front.old.parts) }
 {
-    let before = notices.len();
+    let before = notes.len();
     while let Some(notice) = front.next_notice_of_part(place) {
-        notices.push_back(notice).unwrap();
+        notes.push_back(note_of(notice)).unwrap();
     }
-    notices.len() - before
+    notes.len() - before
 }
 
-/// A notice as the service tells it, for which no memory is taken.
-pub fn note_of(notice: Notice<Shared<Key>, StoredValue>) -> Note
+/// A note that waits, which shares its key with the cache. It takes 24 bytes less than a `Note`, and a place is kept for each value held.
+#[derive(Drop)]
+pub struct WaitingNote {
+    cause: RemovalCause,
+    key: Arc<Key>,
+    value: Vec<u8>,
+}
+
+impl Model for WaitingNote {
+    ghost use Rattle.std.specs.Arc.{arc_value};
+    ghost use Rattle.audit_model.specs.declared.transcript.Note.{Note};
+
+    ghost Value = { Note };
+
+    ghost view = { λ n. record { cause = n.cause; key = arc_value n.key; value = n.value.items } };
+}
+
+impl WaitingNote {
+    /// The note as the service tells it, for which no memory is taken.
+    pub fn into_note(self) -> Note
+        ensures { result ≡ self }
+    {
+        let WaitingNote { cause, key, value } = self;
+        Note {
+            cause,
+            key: NoteKey::from(key),
+            value: Seq::from_vec(value),
+        }
+    }
+}
+
+/// The note of a notice, for which no memory is taken either.
+fn note_of(notice: Notice<Shared<Key>, StoredValue>) -> WaitingNote
     ensures { result ≡ note_from notice }
 {
     let Notice { cause, key, value } = notice;
-    Note {
+    WaitingNote {
         cause: cause_of(cause),
-        key: NoteKey::from(key.into_arc()),
-        value: Seq::from_vec(value.into_vec()),
+        key: key.into_arc(),
+        value: value.into_vec(),
     }
 }
 

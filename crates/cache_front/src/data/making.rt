@@ -1,8 +1,8 @@
 //! What the front of a store is made with.
 ghost use Rattle.std.specs.Prelude.{◌≡◌, ◌≤◌, ◌^◌, ℕ, Some, option_map};
 ghost use Rattle.audit_model.specs.History.{part_count};
-ghost use Rattle.cache_parts.specs.Parts.{IsBrief, nanos, policy_of};
-ghost use Rattle.cache_front.specs.Data.Making.{whole_settings};
+ghost use Rattle.cache_front.specs.Parts.{IsBrief, nanos, policy_of};
+ghost use Rattle.cache_front.specs.Making.{whole_settings};
 
 use audit_model::Config;
 use front_state::{EvictionPolicy, Settings};
@@ -12,31 +12,17 @@ pub fn bits_of(config: &Config) -> u32
     ensures parts { 2 ^ result ≡ part_count config.now }
     ensures few { result ≤ 8 }
 {
-    if config.parts <= 1 {
-        return 0;
+    match config.parts {
+        0..=1 => 0,
+        2 => 1,
+        3..=4 => 2,
+        5..=8 => 3,
+        9..=16 => 4,
+        17..=32 => 5,
+        33..=64 => 6,
+        65..=128 => 7,
+        _ => 8,
     }
-    if config.parts <= 2 {
-        return 1;
-    }
-    if config.parts <= 4 {
-        return 2;
-    }
-    if config.parts <= 8 {
-        return 3;
-    }
-    if config.parts <= 16 {
-        return 4;
-    }
-    if config.parts <= 32 {
-        return 5;
-    }
-    if config.parts <= 64 {
-        return 6;
-    }
-    if config.parts <= 128 {
-        return 7;
-    }
-    8
 }
 
 /// What all parts together are made with.

@@ -1,5 +1,5 @@
 //! The rules of the service.
-ghost use Rattle.cache_parts.specs.Parts.{service_answers};
+ghost use Rattle.cache_front.specs.Parts.{service_answers};
 
 use crate::entries::value::StoredValue;
 use audit_model::{Bytes, Key, Weight};

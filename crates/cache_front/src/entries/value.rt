@@ -2,7 +2,7 @@
 ghost use Rattle.std.specs.Prelude.{◌≡◌, ◌≤◌, length, option_map};
 ghost use Rattle.std.specs.Duration.{as_nanos};
 ghost use Rattle.audit_model.specs.History.{weight_of};
-ghost use Rattle.cache_parts.specs.Parts.{nanos};
+ghost use Rattle.cache_front.specs.Parts.{nanos};
 
 use audit_model::Weight;
 use std::alloc::AllocError;
@@ -18,7 +18,7 @@ pub struct StoredValue {
 
 impl Model for StoredValue {
     ghost use Rattle.std.specs.Prelude.{◌≤◌, length};
-    ghost use Rattle.cache_parts.specs.Parts.{Stored};
+    ghost use Rattle.cache_front.specs.Parts.{Stored};
 
     ghost Value = { Stored };
 

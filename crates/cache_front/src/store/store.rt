@@ -1,28 +1,27 @@
 //! The store over a front.
 ghost use Rattle.std.specs.Prelude.{◌≡◌, ◌<◌, ◌^◌, ◌||◌, IfOk};
-ghost use Rattle.cache_parts.specs.Parts.{IsBrief};
-ghost use Rattle.cache_front.specs.Data.Data.{shown_by, word_of};
-ghost use Rattle.cache_front.specs.Data.Making.{IsJustMade};
+ghost use Rattle.cache_front.specs.Parts.{IsBrief};
+ghost use Rattle.cache_front.specs.Data.{shown_by, word_of};
+ghost use Rattle.cache_front.specs.Making.{IsJustMade};
 
 use crate::data::{
-    LentState, Notice, Segmented, bits_of, bytes_found, clear, cover, drain, drain_at, insert,
-    invalidate, note_of, prepare, read_bytes, settings_of, write_keys,
+    LentState, Notes, Segmented, bits_of, bytes_found, clear, cover, drain, drain_at, insert,
+    invalidate, prepare, read_bytes, settings_of, write_keys,
 };
 use crate::entries::{StoredValue, WordBuilder};
 use audit_model::{Config, Key, Note, Weight};
 use cache_store::{Counts, Store, StoreError};
-use front_reference::{At, Shared};
+use front_reference::At;
 use policy_base::Instant;
 use rand_core::Rng;
 use std::alloc::{AllocError, Global};
-use std::collections::VecDeque;
 use std::hash::BuildHasher;
 use std::marker::Model;
 
 /// The values of a namespace, in the parts of a front.
 ///
 /// Calls come at the step of the last one, except for those that cover, which come at the next. What the front reports is taken after each
-/// call that reports, and waits in one queue, in which a place is kept for each value, so that only an acceptance allocates for it.
+/// call that reports, and waits in one queue as notes. A place in it is kept for each value, so only an acceptance allocates for it.
 #[derive(Drop)]
 pub struct FrontStore<R: Rng + Drop, S: BuildHasher + Drop> {
     alloc: Global,
@@ -31,7 +30,7 @@ pub struct FrontStore<R: Rng + Drop, S: BuildHasher + Drop> {
     // whether a `DROPIF` was accepted
     dropped: bool,
     front: LentState<Key, StoredValue, WordBuilder<S>, Weight, Segmented>,
-    notices: VecDeque<Notice<Shared<Key>, StoredValue>>,
+    notes: Notes,
     // how many values are held
     count: usize,
     generator: R,
@@ -41,8 +40,8 @@ impl<R: Rng + Drop, S: BuildHasher + Drop> Model for FrontStore<R, S> {
     ghost use Rattle.std.specs.Prelude.{◌≡◌};
     ghost use Rattle.std.specs.VecDeque.{deque_capacity};
     ghost use Rattle.cache_front.specs.declared.entries.hasher.WordBuilder.{WordBuilder};
-    ghost use Rattle.cache_front.specs.Data.Data.{StoreData, word_of};
-    ghost use Rattle.cache_front.specs.Data.State.{IsFit, store_of};
+    ghost use Rattle.cache_front.specs.Data.{StoreData, word_of};
+    ghost use Rattle.cache_front.specs.State.{IsFit, store_of};
 
     ghost Value = { StoreData R (WordBuilder S) };
 
@@ -50,14 +49,14 @@ impl<R: Rng + Drop, S: BuildHasher + Drop> Model for FrontStore<R, S> {
       config = s.config;
       made = s.made;
       dropped = s.dropped;
-      queue = s.notices.items;
+      queue = s.notes.items;
       generator = s.generator;
       front = s.front;
     } };
 
     ghost invariant = { λ s. IsFit (store_of (word_of S.BuildHasher S.Hasher.Hasher)
-        s.config s.made s.dropped s.notices.items (R.stream s.generator) s.front) s.count
-        (deque_capacity s.notices) };
+        s.config s.made s.dropped s.notes.items (R.stream s.generator) s.front) s.count
+        (deque_capacity s.notes) };
 }
 
 impl<R: Rng + Drop, S: BuildHasher + Drop> FrontStore<R, S> {
@@ -87,7 +86,7 @@ impl<R: Rng + Drop, S: BuildHasher + Drop> FrontStore<R, S> {
             made,
             dropped: false,
             front,
-            notices: VecDeque::new(alloc),
+            notes: Notes::new(alloc),
             count: 0,
             generator,
         })
@@ -95,7 +94,7 @@ impl<R: Rng + Drop, S: BuildHasher + Drop> FrontStore<R, S> {
 }
 
 impl<R: Rng + Drop, S: BuildHasher + Drop> Store for FrontStore<R, S> {
-    ghost use Rattle.cache_front.specs.Data.Data.{shown_by};
+    ghost use Rattle.cache_front.specs.Data.{shown_by};
 
     ghost view = { λ s. shown_by S.BuildHasher S.Hasher.Hasher R.stream s };
 
@@ -139,7 +138,7 @@ impl<R: Rng + Drop, S: BuildHasher + Drop> Store for FrontStore<R, S> {
                 read_bytes(found, output, read)
             }) {
             Ok(answer) => {
-                let told = drain_at(&mut self.front, part, &mut self.notices);
+                let told = drain_at(&mut self.front, part, &mut self.notes);
                 self.count -= told;
                 Ok(answer)
             }
@@ -155,22 +154,16 @@ impl<R: Rng + Drop, S: BuildHasher + Drop> Store for FrontStore<R, S> {
         looked_up: bool,
         now: u64,
     ) -> Result<u64, StoreError> {
-        let value = prepare(
-            self.alloc,
-            &mut self.notices,
-            self.count,
-            bytes,
-            milliseconds,
-        )?;
+        let value = prepare(self.alloc, &mut self.notes, self.count, bytes, milliseconds)?;
         let part = insert(self.alloc, &mut self.front, key, value, now)?;
-        let told = drain_at(&mut self.front, part, &mut self.notices);
+        let told = drain_at(&mut self.front, part, &mut self.notes);
         self.count = self.count + 1 - told;
         Ok(part as u64)
     }
 
     fn remove(&mut self, key: &Key, now: u64) -> Result<(), StoreError> {
         let part = invalidate(&mut self.front, key, now)?;
-        let told = drain_at(&mut self.front, part, &mut self.notices);
+        let told = drain_at(&mut self.front, part, &mut self.notes);
         self.count -= told;
         Ok(())
     }
@@ -201,14 +194,14 @@ impl<R: Rng + Drop, S: BuildHasher + Drop> Store for FrontStore<R, S> {
             number: self.front.entry_count(),
             weight: self.front.weighted_size(),
         };
-        let told = drain(&mut self.front, &mut self.notices);
+        let told = drain(&mut self.front, &mut self.notes);
         self.count -= told;
         counts
     }
 
     fn next_notice(&mut self) -> Option<Note> {
-        match self.notices.pop_front() {
-            Some(notice) => Some(note_of(notice)),
+        match self.notes.pop_front() {
+            Some(note) => Some(note.into_note()),
             None => None,
         }
     }

@@ -1,12 +1,14 @@
 -- Steps that lead on, whatever comes behind them.
-use Rattle.std.proofs.Common.{◌≡◌, ℕ, Bool, true, false, ◌&&◌, List, [], ◌∷◌, ◌++◌, Option, Some, None, if◌then◌else◌, refl, sym, ap, ◌∙◌, subst}
-use Rattle.std.specs.Option.{option_map_or}
-use Rattle.std.specs.List.{cons_option, list_all}
+use Rattle.std.proofs.Common.{refl, sym, ap, ◌∙◌, subst, append_assoc, ◌≡◌, ℕ, Bool, true, false, ◌&&◌, List, [], ◌∷◌, ◌++◌, Option, Some, None, if◌then◌else◌}
 use Rattle.std.proofs.lemmas.Bool.{and_from, and_parts}
-use Rattle.std.proofs.lemmas.List.{append_assoc}
 use Rattle.std.proofs.lemmas.Option.{same_Some}
+use Rattle.std.specs.List.{cons_option, list_all}
+use Rattle.std.specs.Option.{option_map_or}
+use Rattle.audit_laws.proofs.waiting.Records.{has_no_held, fit-due, no-held-due, no-held-left, told-due, told-left}
+use Rattle.audit_laws.proofs.waiting.Turns.{steps}
 use Rattle.audit_laws.specs.Leading.{is_parted}
 use Rattle.audit_laws.specs.Placing.{placed_steps_in}
+use Rattle.audit_laws.specs.Waiting.Tidy.{SuitsTask, Tidy, told_of_load}
 use Rattle.audit_model.specs.Bytewise.{is_empty}
 use Rattle.audit_model.specs.Changes.{after_step}
 use Rattle.audit_model.specs.Follows.{after_steps, placed_step_in}
@@ -18,14 +20,11 @@ use Rattle.audit_model.specs.Steps.{Task, RunLines, PlacedStep, is_right}
 use Rattle.audit_model.specs.declared.config.Config.{Config}
 use Rattle.audit_model.specs.declared.transcript.Step.{Step}
 use Rattle.cache_lines.specs.Drawing.{Identifiers, StepDraws, StepsDraw}
+use Rattle.cache_lines.specs.Leads.Leads.{TasksLead, still_told}
 use Rattle.cache_lines.specs.Lines.{ArePartedIn, are_timely, has_its_part, is_timely_after}
 use Rattle.cache_lines.specs.Making.{Making}
 use Rattle.cache_lines.proofs.Drawn.{draws-first, spends-more}
 use Rattle.cache_lines.proofs.leads.Framing.{frames, same-due, same-due-placed, same-due-timely}
-use Rattle.audit_laws.specs.Waiting.Tidy.{SuitsTask, Tidy, told_of_load}
-use Rattle.audit_laws.proofs.waiting.Records.{has_no_held, fit-due, no-held-due, no-held-left, told-due, told-left}
-use Rattle.audit_laws.proofs.waiting.Turns.{steps}
-use Rattle.cache_lines.specs.Leads.Leads.{TasksLead, still_told}
 
 pub nothing : (config : Config) (making : Making) (s : Situation) (tasks : List Task) (drawn : Identifiers) → TasksLead config making s tasks [] s tasks drawn drawn
 nothing config making s tasks drawn =
@@ -42,7 +41,7 @@ on config making s t u tasks left last steps more a b c first second = record {
 }
 
 -- one more value in its part
-cons-parted : (part_of : List ℕ → ℕ) (o : Option Value) (values : List Value) → option_map_or (is_parted part_of) o true ≡ true → list_all (is_parted part_of) values ≡ true → list_all (is_parted part_of) (cons_option o values) ≡ true
+pub cons-parted : (part_of : List ℕ → ℕ) (o : Option Value) (values : List Value) → option_map_or (is_parted part_of) o true ≡ true → list_all (is_parted part_of) values ≡ true → list_all (is_parted part_of) (cons_option o values) ≡ true
 cons-parted part_of None values one rest = rest
 cons-parted part_of (Some v) values one rest = and_from (is_parted part_of v) (list_all (is_parted part_of) values) one rest
 

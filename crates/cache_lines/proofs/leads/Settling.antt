@@ -1,9 +1,8 @@
 -- The records of an answer and of a give-up, from their steps.
-use Rattle.std.proofs.Common.{◌≡◌, ℕ, true, ◌&&◌, List, [], ◌∷◌, ◌++◌, map, Option, Some, None, if◌then◌else◌, refl, sym, ap, ◌∙◌, subst}
-use Rattle.std.specs.Prelude.{is_none}
-use Rattle.std.specs.List.{list_all}
+use Rattle.std.proofs.Common.{refl, sym, ap, ◌∙◌, subst, ◌≡◌, ℕ, true, ◌&&◌, List, [], ◌∷◌, ◌++◌, map, Option, Some, None, if◌then◌else◌, is_none}
 use Rattle.std.proofs.Math.Bool.{or-false}
 use Rattle.std.proofs.lemmas.List.{append-nil}
+use Rattle.std.specs.List.{list_all}
 use Rattle.audit_laws.specs.Leading.{is_parted}
 use Rattle.audit_laws.specs.Placing.{placed_steps_in}
 use Rattle.audit_model.specs.Belongs.{refusal_of}
@@ -15,7 +14,6 @@ use Rattle.audit_model.specs.Places.{due, first_due, left_after, steps_of, tasks
 use Rattle.audit_model.specs.Situation.{Situation, key_in, may_run_in, view_in, waiting_in}
 use Rattle.audit_model.specs.Steps.{Task, Store, Deliver, RunLines, effect_in}
 use Rattle.audit_model.specs.declared.config.Config.{Config}
-use Rattle.audit_model.specs.declared.event.Event.TheVariants as event
 use Rattle.audit_model.specs.declared.event.Outcome.{Outcome}
 use Rattle.audit_model.specs.declared.transcript.Accepted.{Accepted}
 use Rattle.audit_model.specs.declared.transcript.Note.{Note}
@@ -25,14 +23,15 @@ use Rattle.cache_commands.specs.Loading.{step_silent}
 use Rattle.cache_commands.specs.Order.{Order}
 use Rattle.cache_commands.specs.Right.{DoesRight, held_when_run}
 use Rattle.cache_lines.specs.Drawing.{Identifiers, StepsDraw}
+use Rattle.cache_lines.specs.Leads.Leads.{BeginsUnknown, TasksLead, LeavesUnknown, SettlingLeads}
 use Rattle.cache_lines.specs.Lines.{are_timely, has_its_part}
 use Rattle.cache_lines.specs.Making.{Making}
 use Rattle.cache_lines.specs.Ordered.{HaveKeys, HasKeys, order_behind}
+use Rattle.audit_model.specs.declared.event.Event.TheVariants as event
 use Rattle.cache_lines.proofs.Drawn.{spends-same}
 use Rattle.cache_lines.proofs.Knowing.{unknown-behind, unknown-keys}
 use Rattle.cache_lines.proofs.LoadWaits.{right-turn}
 use Rattle.cache_lines.specs.Leads.Laws.{record_answered, record_given_up, when_stored}
-use Rattle.cache_lines.specs.Leads.Leads.{BeginsUnknown, TasksLead, LeavesUnknown, SettlingLeads}
 use Rattle.cache_lines.proofs.leads.Leading.{on, one}
 use Rattle.cache_lines.proofs.leads.Turns.{draws-no}
 

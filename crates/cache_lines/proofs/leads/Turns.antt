@@ -1,44 +1,43 @@
 -- Connections that wait, told of their load.
-use Rattle.std.proofs.Common.{◌≡◌, ℕ, suc, ◌+◌, ◌≤◌, Bool, true, false, ◌&&◌, ◌||◌, ◌==◌, List, [], ◌∷◌, ◌++◌, map, Option, Some, None, if◌then◌else◌, refl, sym, ap, ◌∙◌, subst, arith}
-use Rattle.std.specs.Prelude.{Ok, codes, nat_le}
-use Rattle.std.specs.Option.{option_map_or}
-use Rattle.std.proofs.lemmas.Bool.{and_from, eq-eqb}
+use Rattle.std.proofs.Common.{refl, sym, ap, ◌∙◌, subst, arith, ◌≡◌, ℕ, suc, ◌+◌, ◌≤◌, Bool, true, false, ◌&&◌, ◌||◌, ◌==◌, List, [], ◌∷◌, ◌++◌, map, Option, Some, None, if◌then◌else◌, Ok, codes, nat_le}
 use Rattle.std.proofs.Math.Bool.{or-false}
+use Rattle.std.proofs.lemmas.Bool.{and_from, eq-eqb}
 use Rattle.std.proofs.lemmas.List.{append-nil}
-use Rattle.audit_model.specs.Bytewise.{same}
-use Rattle.audit_model.specs.Changes.{after_step, connection_after, join_by}
-use Rattle.audit_model.specs.Follows.{line_in, without_load}
-use Rattle.audit_model.specs.Places.{due, left_after, tasks_to_answer, tasks_to_give_up}
-use Rattle.audit_model.specs.Grammar.{reading}
-use Rattle.audit_model.specs.History.{Action, Running, Holding, Delivering, Abandoning}
-use Rattle.audit_model.specs.Replies.{load_sent_by, outcome_text}
-use Rattle.audit_model.specs.Situation.{Situation, Connection, HeldValue, candidate_at, connection_in, is_waiting_now, key_in, live_at, may_run_in, view_in, waiting_in, with_connection}
-use Rattle.audit_model.specs.Steps.{Task, Deliver, RunAgain, RunLines, action_by, action_in, action_of_line, effect_in, is_in_turn, is_right}
-use Rattle.audit_model.specs.declared.command.Command.TheVariants as says
-use Rattle.audit_model.specs.declared.config.Config.{Config}
-use Rattle.audit_model.specs.declared.event.Outcome.{Outcome}
-use Rattle.audit_model.specs.declared.event.Outcome.TheVariants as came
-use Rattle.audit_model.specs.declared.transcript.Note.{Note}
-use Rattle.audit_model.specs.declared.transcript.Step.{Step}
-use Rattle.cache_commands.specs.Loads.Pending.{number_to_send, when_joined, when_sent}
-use Rattle.cache_commands.proofs.Drawn.{draws-none}
-use Rattle.cache_commands.proofs.Answering.{none_succeeded, same-refl}
-use Rattle.cache_commands.specs.Loading.{step_silent, step_waiting}
-use Rattle.cache_commands.specs.Right.{DoesRight, held_when_run, placed_doing, step_saying}
-use Rattle.cache_lines.specs.Drawing.{Identifiers, StepDraws, refuses_id}
-use Rattle.cache_commands.specs.Answered.{says_drop}
-use Rattle.cache_lines.specs.Lines.{has_its_part, is_timely_after, ready, set_in}
-use Rattle.cache_lines.specs.Tape.Taped.{step_held}
-use Rattle.cache_lines.specs.Making.{Making}
-use Rattle.cache_lines.specs.Waiting.{holding_load, waiting, with_loads}
-use Rattle.cache_lines.proofs.Drawn.{held-draws}
-use Rattle.cache_lines.proofs.LoadWaits.{joins, placed-is, right-turn, sends}
-use Rattle.audit_laws.specs.Waiting.Tidy.{SuitsTask, Tidy}
-use Rattle.audit_laws.proofs.waiting.Counts.{one_if}
+use Rattle.std.specs.Option.{option_map_or}
 use Rattle.audit_laws.proofs.waiting.Records.{settled-tidy, told-again, told-delivers, told-lines}
 use Rattle.audit_laws.proofs.waiting.Standing.{wait_of}
 use Rattle.audit_laws.proofs.waiting.Turns.{found-number}
+use Rattle.audit_laws.specs.Waiting.Tidy.{SuitsTask, Tidy}
+use Rattle.audit_model.specs.Bytewise.{same}
+use Rattle.audit_model.specs.Changes.{after_step, connection_after, join_by}
+use Rattle.audit_model.specs.Follows.{line_in, without_load}
+use Rattle.audit_model.specs.Grammar.{reading}
+use Rattle.audit_model.specs.History.{Action, Running, Holding, Delivering, Abandoning}
+use Rattle.audit_model.specs.Places.{due, left_after, tasks_to_answer, tasks_to_give_up}
+use Rattle.audit_model.specs.Replies.{load_sent_by, outcome_text}
+use Rattle.audit_model.specs.Situation.{Situation, Connection, HeldValue, candidate_at, connection_in, is_waiting_now, key_in, live_at, may_run_in, view_in, waiting_in, with_connection}
+use Rattle.audit_model.specs.Steps.{Task, Deliver, RunAgain, RunLines, action_by, action_in, action_of_line, effect_in, is_in_turn, is_right}
+use Rattle.audit_model.specs.declared.config.Config.{Config}
+use Rattle.audit_model.specs.declared.event.Outcome.{Outcome}
+use Rattle.audit_model.specs.declared.transcript.Note.{Note}
+use Rattle.audit_model.specs.declared.transcript.Step.{Step}
+use Rattle.cache_commands.proofs.Answering.{none_succeeded, same-refl}
+use Rattle.cache_commands.proofs.Drawn.{draws-none}
+use Rattle.cache_commands.specs.Answered.{says_drop}
+use Rattle.cache_commands.specs.Loading.{step_silent, step_waiting}
+use Rattle.cache_commands.specs.Loads.Pending.{number_to_send, when_joined, when_sent}
+use Rattle.cache_commands.specs.Right.{DoesRight, held_when_run, placed_doing, step_saying}
+use Rattle.cache_lines.specs.Drawing.{Identifiers, StepDraws, refuses_id}
 use Rattle.cache_lines.specs.Leads.Leads.{TasksLead, still_told}
+use Rattle.cache_lines.specs.Lines.{has_its_part, is_timely_after, ready, set_in}
+use Rattle.cache_lines.specs.Making.{Making}
+use Rattle.cache_lines.specs.Tape.Taped.{step_held}
+use Rattle.cache_lines.specs.Waiting.{holding_load, waiting, with_loads}
+use Rattle.audit_model.specs.declared.command.Command.TheVariants as says
+use Rattle.audit_model.specs.declared.event.Outcome.TheVariants as came
+use Rattle.cache_lines.proofs.Drawn.{held-draws}
+use Rattle.cache_lines.proofs.LoadWaits.{joins, placed-is, right-turn, sends}
+use Rattle.audit_laws.proofs.waiting.Counts.{one_if}
 use Rattle.cache_lines.proofs.leads.Leading.{one}
 
 -- ---- whose turn it is

@@ -1,10 +1,10 @@
 -- What waits are `LOAD`s, record after record.
-use Rattle.std.proofs.Common.{◌≡◌, ℕ, max, Bool, true, false, not, ◌&&◌, ◌||◌, ◌==◌, cond, List, [], ◌∷◌, ◌++◌, map, Option, Some, None, if◌then◌else◌, refl, sym, ap, ◌∙◌, subst, inl, inr}
-use Rattle.std.specs.Prelude.{Ok, Err, codes, is_none, is_some, nat_le, ◌⊎◌}
-use Rattle.std.specs.List.{find}
-use Rattle.std.specs.Option.{option_eq, option_map_or}
+use Rattle.std.proofs.Common.{max, cond, refl, sym, ap, ◌∙◌, subst, inl, inr, ◌≡◌, ℕ, Bool, true, false, not, ◌&&◌, ◌||◌, ◌==◌, List, [], ◌∷◌, ◌++◌, map, Option, Some, None, if◌then◌else◌, Ok, Err, codes, is_none, is_some, nat_le, ◌⊎◌}
 use Rattle.std.proofs.lemmas.Bool.{and_parts, eqb-true}
 use Rattle.std.proofs.lemmas.Option.{same_Some}
+use Rattle.std.specs.List.{find}
+use Rattle.std.specs.Option.{option_eq, option_map_or}
+use Rattle.audit_laws.proofs.waiting.Standing.{found-left}
 use Rattle.audit_model.specs.Belongs.{refusal_of}
 use Rattle.audit_model.specs.Bytewise.{same, text_line, is_empty}
 use Rattle.audit_model.specs.Changes.{after_step, connection_after, join_by, join_load}
@@ -12,23 +12,22 @@ use Rattle.audit_model.specs.Commands.{quits}
 use Rattle.audit_model.specs.Follows.{Follows, after_event, after_steps, known_in, placed_step_in, tasks_in, without_load}
 use Rattle.audit_model.specs.Grammar.{Reading, reading}
 use Rattle.audit_model.specs.History.{Action, Effect, Running, Faulting, Holding, Delivering, Abandoning, Storing, Value}
-use Rattle.audit_model.specs.Loads.{key_loaded}
 use Rattle.audit_model.specs.Obeys.{has_right_own_value, is_numbered}
 use Rattle.audit_model.specs.Places.{due, first_due, left_after, steps_of}
 use Rattle.audit_model.specs.Replies.{may_refuse, reply_of}
 use Rattle.audit_model.specs.Situation.{Situation, Connection, Standing, Ready, Held, Waiting, connection_in, is_overlong, may_run_in, with_connection, without_number, without_waiting}
 use Rattle.audit_model.specs.Steps.{Task, Store, Deliver, RunAgain, RunHeld, RunLines, action_by, action_in, action_of_line, is_right}
 use Rattle.audit_model.specs.Stream.{is_held, is_waiting}
-use Rattle.audit_model.specs.View.{View}
-use Rattle.audit_model.specs.declared.command.Command.TheVariants as says
 use Rattle.audit_model.specs.declared.config.Config.{Config}
-use Rattle.audit_model.specs.declared.event.Event.{Event}
-use Rattle.audit_model.specs.declared.event.Event.TheVariants as event
 use Rattle.audit_model.specs.declared.transcript.Record.{Record}
 use Rattle.audit_model.specs.declared.transcript.Step.{Step}
 use Rattle.cache_lines.specs.Waiting.{is_load}
+use Rattle.audit_model.specs.Loads.{key_loaded}
+use Rattle.audit_model.specs.View.{View}
+use Rattle.audit_model.specs.declared.command.Command.TheVariants as says
+use Rattle.audit_model.specs.declared.event.Event.{Event}
+use Rattle.audit_model.specs.declared.event.Event.TheVariants as event
 use Rattle.cache_lines.specs.Leads.Waiters.{WaitForLoads}
-use Rattle.audit_laws.proofs.waiting.Standing.{found-left}
 
 -- ---- a step that leaves its connection waiting runs a `LOAD`
 

@@ -1,31 +1,31 @@
 -- What one piece of the record of a settled load leads to, and what all of them lead to.
 use Rattle.std.specs.Prelude.{◌≡◌, ℕ, suc, nat_le, true, false, List, [], ◌∷◌, ◌++◌, map, Option, Some, None, Ok, codes, IsTrue}
-use Rattle.audit_model.specs.Belongs.{refusal_of}
+use Rattle.audit_laws.specs.Waiting.Tidy.{Tidy}
 use Rattle.audit_model.specs.Follows.{after_steps, known_in, without_load}
 use Rattle.audit_model.specs.Grammar.{reading}
 use Rattle.audit_model.specs.History.{Running, Delivering, Abandoning, Storing, Holding}
 use Rattle.audit_model.specs.Obeys.{has_right_own_value}
 use Rattle.audit_model.specs.Places.{tasks_to_answer, tasks_to_give_up}
-use Rattle.audit_model.specs.Replies.{outcome_text}
 use Rattle.audit_model.specs.Situation.{Situation, Connection, connection_in, is_waiting_now, key_in, live_at, may_run_in, view_in, waiting_in}
 use Rattle.audit_model.specs.Steps.{Task, Deliver, RunAgain, RunLines, effect_in}
-use Rattle.audit_model.specs.declared.command.Command.TheVariants as says
 use Rattle.audit_model.specs.declared.config.Config.{Config}
-use Rattle.audit_model.specs.declared.event.Event.TheVariants as event
 use Rattle.audit_model.specs.declared.event.Outcome.{Outcome}
 use Rattle.audit_model.specs.declared.transcript.Accepted.{Accepted}
 use Rattle.audit_model.specs.declared.transcript.Note.{Note}
 use Rattle.audit_model.specs.declared.transcript.Record.{Record}
 use Rattle.audit_model.specs.declared.transcript.Step.{Step}
+use Rattle.cache_commands.specs.Loading.{step_silent, step_waiting}
 use Rattle.cache_commands.specs.Loads.Pending.{number_to_send, when_joined, when_sent}
+use Rattle.cache_commands.specs.Right.{DoesRight, held_when_run, step_saying}
+use Rattle.audit_model.specs.Belongs.{refusal_of}
+use Rattle.audit_model.specs.Replies.{outcome_text}
+use Rattle.audit_model.specs.declared.command.Command.TheVariants as says
+use Rattle.audit_model.specs.declared.event.Event.TheVariants as event
 use Rattle.cache_lines.specs.Drawing.{Identifiers, StepsDraw}
 use Rattle.cache_lines.specs.Lines.{ArePartedIn, are_timely, has_its_part, ready, set_in}
 use Rattle.cache_lines.specs.Tape.Taped.{step_held}
 use Rattle.cache_lines.specs.Making.{Making}
 use Rattle.cache_lines.specs.Waiting.{holding_load, waiting, with_loads}
-use Rattle.cache_commands.specs.Loading.{step_silent, step_waiting}
-use Rattle.cache_commands.specs.Right.{DoesRight, held_when_run, step_saying}
-use Rattle.audit_laws.specs.Waiting.Tidy.{Tidy}
 use Rattle.cache_lines.specs.Leads.Leads.{BeginsUnknown, TasksLead, SettlingLeads, still_told}
 
 -- no step leads nowhere else

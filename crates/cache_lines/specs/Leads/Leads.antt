@@ -3,6 +3,7 @@ use Rattle.std.specs.Prelude.{◌≡◌, ℕ, List, [], ◌∷◌, ◌++◌, IsT
 use Rattle.std.specs.List.{flat_map, list_all}
 use Rattle.audit_laws.specs.Leading.{is_parted}
 use Rattle.audit_laws.specs.Placing.{accepted_in}
+use Rattle.audit_laws.specs.Waiting.Tidy.{Tidy, told_of_load}
 use Rattle.audit_model.specs.Follows.{Follows, after_event, after_steps, tasks_in}
 use Rattle.audit_model.specs.Places.{steps_of}
 use Rattle.audit_model.specs.Situation.{Situation}
@@ -10,12 +11,11 @@ use Rattle.audit_model.specs.Steps.{Task}
 use Rattle.audit_model.specs.declared.config.Config.{Config}
 use Rattle.audit_model.specs.declared.transcript.Record.{Record}
 use Rattle.audit_model.specs.declared.transcript.Step.{Step}
+use Rattle.cache_commands.specs.Order.{Order, Unknown}
 use Rattle.cache_lines.specs.Drawing.{Identifiers, StepsDraw}
 use Rattle.cache_lines.specs.Lines.{ArePartedIn, are_timely}
 use Rattle.cache_lines.specs.Making.{Making}
 use Rattle.cache_lines.specs.Ordered.{HaveKeys, order_behind_step, order_behind}
-use Rattle.cache_commands.specs.Order.{Order, Unknown}
-use Rattle.audit_laws.specs.Waiting.Tidy.{Tidy, told_of_load}
 
 -- those that the tasks still tell of their load
 abbrev pub still_told : List Task → List ℕ

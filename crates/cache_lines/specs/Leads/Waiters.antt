@@ -2,10 +2,10 @@
 use Rattle.std.specs.Prelude.{◌≡◌, ℕ, List, true, Some}
 use Rattle.audit_model.specs.Follows.{Follows}
 use Rattle.audit_model.specs.Grammar.{reading}
-use Rattle.audit_model.specs.Situation as model
 use Rattle.audit_model.specs.Situation.{Situation, connection_in}
 use Rattle.audit_model.specs.declared.config.Config.{Config}
 use Rattle.audit_model.specs.declared.transcript.Record.{Record}
+use Rattle.audit_model.specs.Situation as model
 use Rattle.cache_lines.specs.Waiting.{is_load}
 
 -- the line that waits on each open connection is a `LOAD`

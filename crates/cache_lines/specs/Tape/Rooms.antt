@@ -1,8 +1,8 @@
 -- What room a tape has.
 use Rattle.std.specs.Prelude.{◌≡◌, ℕ, ◌+◌, ◌<◌, ◌≤◌, Bool, true, Option, None, Some, MatchOption, Vec, vec_len, vec_capacity}
-use Rattle.std.specs.declared.alloc.Global.{Global}
 use Rattle.audit_model.specs.declared.transcript.Record.{Record}
 use Rattle.audit_model.specs.declared.transcript.Transcript.{Transcript}
+use Rattle.std.specs.declared.alloc.Global.{Global}
 
 -- the journal: its records are kept apart while one is under way
 abbrev pub journal_in : Transcript → Option (Vec Record Global) → Transcript

@@ -1,11 +1,11 @@
 -- What a tape keeps.
 use Rattle.std.specs.Prelude.{◌≡◌, ℕ, ◌-◌, ◌<◌, ◌++◌, ◌∷◌, Bool, true, false, List, [], Option, Some, None, is_some, unwrap_or, MatchOption, if◌then◌else◌}
-use Rattle.audit_model.specs.declared.event.Event.{Event}
 use Rattle.audit_model.specs.declared.transcript.Accepted.{Accepted}
 use Rattle.audit_model.specs.declared.transcript.Note.{Note}
 use Rattle.audit_model.specs.declared.transcript.Record.{Record}
 use Rattle.audit_model.specs.declared.transcript.Step.{Step}
 use Rattle.audit_model.specs.declared.transcript.Transcript.{Transcript}
+use Rattle.audit_model.specs.declared.event.Event.{Event}
 
 -- The journal, and of the record under way: whether there is one, its steps, how many lines can be added to it without allocating, and the
 -- line of the step for which there is room.
@@ -34,36 +34,17 @@ started spare t =
 
 -- there is room for a step of the line
 abbrev pub drafts : List ℕ → Taped → Taped
-drafts line t =
-    record {
-      journal = t.journal;
-      begun = t.begun;
-      steps = t.steps;
-      spare = t.spare;
-      drafted = Some line;
-    }
+drafts line t = record t { drafted = Some line }
 
 -- the step of the drafted line is added
 abbrev pub ends : (List ℕ → Step) → Taped → Taped
 ends step t =
-    record {
-      journal = t.journal;
-      begun = t.begun;
-      steps = t.steps ++ step (unwrap_or t.drafted []) ∷ [];
-      spare = t.spare;
-      drafted = None;
-    }
+    record t { steps = t.steps ++ step (unwrap_or t.drafted []) ∷ []; drafted = None }
 
 -- a step is added in the room for one line
 abbrev pub spends : Step → Taped → Taped
 spends step t =
-    record {
-      journal = t.journal;
-      begun = t.begun;
-      steps = t.steps ++ step ∷ [];
-      spare = t.spare - 1;
-      drafted = None;
-    }
+    record t { steps = t.steps ++ step ∷ []; spare = t.spare - 1; drafted = None }
 
 -- no record is under way any more
 abbrev pub forgets : Taped → Taped
@@ -72,12 +53,8 @@ forgets t = record { journal = t.journal; begun = false; steps = []; spare = 0; 
 -- the record is added after the others
 abbrev pub finishes : Event → Option Accepted → List Note → Taped → Taped
 finishes event own notices t =
-    record {
+    record (forgets t) {
       journal = with_entry (record { event = event; own = own; notices = notices; steps = t.steps }) t.journal;
-      begun = false;
-      steps = [];
-      spare = 0;
-      drafted = None;
     }
 
 -- a step that holds the line back

@@ -1,6 +1,6 @@
 -- Bytes read, moments told and answers given, over several calls.
 use Rattle.std.proofs.Common.{ℕ, List, [], ◌∷◌, ◌++◌, refl, sym, ap, ◌∙◌, subst, Option, None, Some, append_assoc}
-use Rattle.std.specs.Io.KnownBytes.{Consumes, Keeps}
+use Rattle.std.specs.Io.KnownBytes.{Consumes}
 use Rattle.audit_model.specs.declared.event.Outcome.{Outcome}
 use Rattle.cache_run.specs.Devices.Sources.{Asking, Askings, Readings}
 
@@ -10,12 +10,6 @@ consumes_more None b c xs ys p q = tt
 consumes_more (Some a) None c xs ys p q = absurd p
 consumes_more (Some a) (Some b) None xs ys p q = absurd q
 consumes_more (Some a) (Some b) (Some c) xs ys p q = p ∙ ap (λ z. xs ++ z) q ∙ sym (append_assoc xs ys c)
-
--- what keeps the bytes reads none
-pub consumes_none : (a b : Option (List ℕ)) → Keeps a b → Consumes a b []
-consumes_none None b k = tt
-consumes_none (Some a) None k = absurd k
-consumes_none (Some a) (Some b) k = sym k
 
 -- doing nothing reads none
 pub same_consumes : (a : Option (List ℕ)) → Consumes a a []

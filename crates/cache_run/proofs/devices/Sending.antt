@@ -1,5 +1,5 @@
 -- Known bytes over several writes, and failures over several calls.
-use Rattle.std.proofs.Common.{◌≡◌, ℕ, ◌≤◌, List, [], ◌++◌, take, drop, refl, ap, sym, subst, ◌∙◌, Option, None, Some, append_assoc, ◌-◌, ◌^◌, ⊎_elim, arith}
+use Rattle.std.proofs.Common.{◌≡◌, ℕ, ◌≤◌, List, [], ◌++◌, take, drop, ap, sym, subst, ◌∙◌, Option, None, Some, append_assoc, ◌-◌, ◌^◌, ⊎_elim, arith}
 use Rattle.std.proofs.lemmas.Bool.{cases_lt}
 use Rattle.std.proofs.lemmas.List.{append-nil, take-append-drop}
 use Rattle.std.specs.Io.KnownBytes.{Appends, Keeps}
@@ -24,10 +24,6 @@ pub same_appends : (a : Option (List ℕ)) → Appends a a []
 same_appends None = tt
 same_appends (Some a) = sym (append-nil a)
 
--- nothing was sent yet
-pub sent_none : (output : List ℕ) (a : Option (List ℕ)) → SentBut output output a a
-sent_none output a = record { sent = []; whole = refl; wrote = same_appends a }
-
 -- n bytes more were sent
 pub sent_more : (output rest rest' : List ℕ) (a b c : Option (List ℕ)) (n : ℕ) → SentBut rest output a b → Appends b c (take n rest) → rest' ≡ drop n rest → SentBut rest' output a c
 sent_more output rest rest' a b c n s w e =
@@ -41,6 +37,10 @@ sent_more output rest rest' a b c n s w e =
 pub sent_kept : (output rest : List ℕ) (a b c : Option (List ℕ)) → SentBut rest output a b → Keeps b c → SentBut rest output a c
 sent_kept output rest a b c s k =
     record { sent = s.sent; whole = s.whole; wrote = subst (Appends a c) (append-nil s.sent) (appends_more a b c s.sent [] s.wrote (appends_none b c k)) }
+
+-- a text was sent, and the writer flushed
+pub sent_flushed : (a b c : Option (List ℕ)) (text : List ℕ) → Appends a b text → Keeps b c → SentBut [] text a c
+sent_flushed a b c text wrote kept = sent_kept text [] a b c (record { sent = text; whole = append-nil text; wrote = wrote }) kept
 
 -- with no rest, all was sent
 pub sent_all : (output rest : List ℕ) (a b : Option (List ℕ)) → SentBut rest output a b → rest ≡ [] → Appends a b output

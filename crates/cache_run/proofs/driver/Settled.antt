@@ -1,23 +1,21 @@
 -- A load in hand that is settled, and what comes one after another.
-use Rattle.std.proofs.Common.{◌≡◌, ◌≢◌, ℕ, ◌≤◌, ◌==◌, Bool, true, false, List, [], ◌∷◌, ◌++◌, ◌-◌, length, nat_le, take, Option, None, Some, refl, sym, ap, ◌∙◌, subst, arith, inl, inr, suc, zero}
-use Rattle.std.specs.Prelude.{is_some, Result, Ok, Err, IfErr}
+use Rattle.std.proofs.Common.{◌≡◌, ◌≢◌, ℕ, ◌≤◌, ◌==◌, Bool, true, false, List, [], ◌∷◌, ◌++◌, ◌-◌, length, nat_le, take, Option, None, Some, refl, sym, ap, ◌∙◌, subst, arith, suc, zero, is_some, Result, Ok, Err, IfErr, IfSome}
 use Rattle.std.specs.List.{slice_get}
 use Rattle.std.specs.Option.{option_map}
-use Rattle.std.proofs.lemmas.Bool.{eq-eqb, le-leb, ne_eqb}
+use Rattle.std.proofs.lemmas.Bool.{le-leb, ne_eqb}
+use Rattle.std.proofs.lemmas.List.Elements.{All-pop}
 use Rattle.std.proofs.lemmas.Option.{same_Some}
 use Rattle.audit_model.specs.declared.event.Outcome.{Outcome}
 use Rattle.audit_model.specs.declared.input.Conn.{Conn}
 use Rattle.audit_model.specs.declared.input.LoadId.{LoadId}
-use Rattle.cache_run.specs.Devices.Sources.{Asking, Askings, Readings}
+use Rattle.cache_run.specs.Devices.Sources.{Asking, Askings}
 use Rattle.cache_run.specs.declared.devices.errors.RunError.{RunError}
 use Rattle.cache_run.specs.declared.devices.errors.RunError.TheVariants.{Read, Write, OutOfMemory, UsedUp, Moment}
 use Rattle.cache_run.specs.Driver.Causes.{Because, HasAsked}
 use Rattle.cache_run.specs.Driver.Drives.{Rest}
 use Rattle.cache_run.specs.Driver.Driven.{Moves, asks_nobody, Settles, Spot}
-use Rattle.cache_run.specs.Driver.Exchanges.{Answered, Doing, Dropped, Exchange, GivenUp, IsLastOf, Keeps, Leaves, Outs, asks_of, bytes_of, told_of}
-use Rattle.cache_run.specs.Driver.Footings.{footing_by}
-use Rattle.cache_run.specs.Driver.Handed.{HandsOut, text_of}
-use Rattle.cache_run.specs.Driver.Hosting.{SettlesBy, Suits, exchange_of}
+use Rattle.cache_run.specs.Driver.Exchanges.{Doing, EachOut, Exchange, Fed, IsLastOf, Keeps, Leaves, Looked, Outs, Settled, load_number, settling_asking}
+use Rattle.cache_run.specs.Driver.Hosting.{HandsOut, SettlesBy, Suits, exchange_of, footing_by, text_of}
 use Rattle.cache_run.specs.declared.driver.host.Given.{Given}
 use Rattle.cache_run.specs.declared.driver.session.Footing.{Footing}
 use Rattle.cache_run.specs.declared.driver.session.Footing.TheVariants.{Closed, Ready, Waiting}
@@ -31,17 +29,25 @@ pub none-there : {A : Type 0} (hand : List A) (count : ℕ) (empty : Bool) → c
 none-there [] count empty counted is e = refl
 none-there (out ∷ hand) count empty counted is e = let no : false ≡ true = sym (is ∙ ne_eqb count 0 (λ none. absurd (omega (arith, none, counted)))) ∙ e in cc
 
--- one is
-pub some-there : {A : Type 0} (hand : List A) (count : ℕ) (empty : Bool) → count ≡ length hand → empty ≡ (count == 0) → empty ≡ false → hand ≢ []
-some-there hand count empty counted is e none = let no : true ≡ false = sym (is ∙ eq-eqb count 0 (counted ∙ ap length none)) ∙ e in cc
+-- what is true of each
+module _ (Fact : ℕ → List ℕ → Type 0) where
+  -- is true of the last one, which is settled, and of the rest
+  pub each-last : (hand : Outs) (load : ℕ) (key : List ℕ) (rest : Outs) → IsLastOf hand load key rest → EachOut Fact hand → EachOut Fact rest × Fact load key
+  each-last hand load key rest last all =
+      let parts = All-pop (λ (out : LoadId × List ℕ). Fact out.0.number out.1) hand rest (Some (last.0, key)) last.2 all in (parts.0, subst (λ n. Fact n key) last.1 parts.1)
+
+  -- of those that are left, whatever was done
+  pub each-rest : (doing : Doing) (hand rest : Outs) → Leaves doing hand rest → EachOut Fact hand → EachOut Fact rest
+  each-rest (Fed piece moment held) hand rest leaves all = subst (EachOut Fact) (sym leaves) all
+  each-rest (Settled settling moment) hand rest leaves all = (each-last hand (load_number settling) (settling_asking settling).key rest leaves all).0
+  each-rest Looked hand rest leaves all = subst (EachOut Fact) (sym leaves) all
+
+  -- and of those that are taken
+  pub each-kept : (loads : Option Outs) (rest after : Outs) → Keeps loads rest after → IfSome loads (EachOut Fact) → EachOut Fact rest → EachOut Fact after
+  each-kept None rest after keeps given all = subst (EachOut Fact) (sym keeps) all
+  each-kept (Some loads) rest after keeps given all = subst (EachOut Fact) (sym keeps.1) given
 
 -- ---- the last load in hand
-
--- what holds of an answer, and where a load is given up or found not under way, holds of what settles it
-settled-by : (P : Doing → Type 0) {load moment : ℕ} {asking : Asking} {doing : Doing} → SettlesBy load moment asking doing → ((outcome : Outcome) → asking.answer ≡ Some outcome → P (Answered load asking.key outcome moment)) → P (GivenUp load asking moment) → P (Dropped load asking moment) → P doing
-settled-by P (inl s) answered given_up dropped = subst P (sym s.2) (answered s.0 s.1)
-settled-by P (inr (inl s)) answered given_up dropped = subst P (sym s) given_up
-settled-by P (inr (inr s)) answered given_up dropped = subst P (sym s) dropped
 
 last-at : (m : ℕ) (hand : Outs) (out : LoadId × List ℕ) → length hand ≡ suc m → slice_get hand m ≡ Some out → hand ≡ take m hand ++ out ∷ []
 last-at m [] out count at = absurd (omega (arith, count))
@@ -79,10 +85,11 @@ module _ {H K D : Type 0} {Came : Conn → H → Exchange → H → Type 0} {Clo
   pub settle-goes : (wants : Bool) (one : Given) (doing : Doing) → SettlesBy load moment (record { key = key; answer = said }) doing → Came s.conn p.place (exchange_of doing one) q.place → Keeps (option_map (λ loads. loads.items) one.loads) rest t.taken.items → t.footing ≡ footing_by one.closing one.waits
       → Suits lent wants one → (length s.taken.items ≤ 1 → wants ≡ true) → (w : Type 0) (o : Result (Unit {0}) RunError) → HandsOut o (text_of one) p.contents q.contents → IfErr o (Because ⊥ w ⊥ ⊥) → Settles Came Closes reads loads lent o s t p q
   settle-goes wants one doing by came keeps footing suits wanted =
-      one-settles lent s t p q (exchange_of doing one) came
-      (record { rest = rest; leaves = settled-by (λ d. Leaves d s.taken.items rest) by (λ outcome is. last) last last; keeps = keeps }) (settled-by (λ d. s.inbox ≡ bytes_of d ++ t.inbox) by (λ outcome is. sym inbox) (sym inbox) (sym inbox))
-      (settled-by (λ d. Readings reads p.clock (told_of d) q.clock) by (λ outcome is. (q.clock, told, refl)) (q.clock, told, refl) (q.clock, told, refl))
-      (settled-by (λ d. Askings loads p.loader (asks_of d) q.loader) by (λ outcome is. (q.loader, subst (λ o. loads p.loader key o q.loader) is asked, refl)) (q.loader, asked, refl) (q.loader, asked, refl))
+      let asking : Asking = record { key = key; answer = said } in
+      let settling = by.settling in
+      let leaves = subst (λ n. IsLastOf s.taken.items n (settling_asking settling).key rest) (sym by.numbered) (subst (λ (x : Asking). IsLastOf s.taken.items load x.key rest) (sym by.of) last) in
+      one-settles lent s t p q (exchange_of (Settled settling moment) one) (subst (λ d. Came s.conn p.place (exchange_of d one) q.place) by.done came) (record { rest = rest; leaves = leaves; keeps = keeps }) (sym inbox) (q.clock, told, refl)
+      (subst (λ x. Askings loads p.loader (x ∷ []) q.loader) (sym by.of) (q.loader, asked, refl))
       (λ is. footing-closed one.closing one.waits (sym footing ∙ is))
       (λ is none. settled-none wants (option_map (λ loads. loads.items) one.loads) s.taken.items rest t.taken.items load key last wanted (λ want. some-mapped (λ loads. loads.items) one.loads (suits.wanted is want)) keeps none)
 

@@ -1,5 +1,5 @@
 -- Why a driver stops.
-use Rattle.std.specs.Prelude.{◌≤◌, ◌+◌, ◌^◌, ◌-◌, ℕ, List, length, min, Option}
+use Rattle.std.specs.Prelude.{◌≤◌, ◌+◌, ◌^◌, ◌-◌, ℕ, List, length, min, Option, Result, Ok, Err}
 use Rattle.std.specs.Io.KnownBytes.{Consumes}
 use Rattle.audit_model.specs.declared.event.Outcome.{Outcome}
 use Rattle.cache_run.specs.Devices.Failures.{HasFailed}
@@ -8,6 +8,8 @@ use Rattle.cache_run.specs.Devices.Watched.{device, failures}
 use Rattle.cache_run.specs.declared.devices.errors.RunError.{RunError}
 use Rattle.cache_run.specs.declared.devices.errors.RunError.TheVariants.{Read, Write, OutOfMemory, UsedUp, Moment}
 use Rattle.cache_run.specs.declared.devices.watched.Watched.{Watched}
+use Rattle.cache_run.specs.declared.driver.driving.Progress.{Progress}
+use Rattle.cache_run.specs.declared.driver.driving.Progress.TheVariants.{More, Over}
 
 -- each error has its cause: the cause of a failed read, of a failed write, of something used up, and of a moment that is too late
 abbrev pub Because : Type 0 → Type 0 → Type 0 → Type 0 → RunError → Type 0
@@ -44,3 +46,9 @@ RunsOut remaining loads reader reader' loader loader' =
     (bytes : List ℕ) × (askings : List Asking) × Consumes (remaining (device reader))
     (remaining (device reader')) bytes × Askings loads loader askings loader'
     × (2 ^ 64 - 1 ≤ length bytes + length askings + failures reader')
+
+-- how a connection ends that is not continued: turns that were used up are an error
+abbrev pub outcome_by : Result Progress RunError → Result (Unit {0}) RunError
+outcome_by (Ok More) = Err UsedUp
+outcome_by (Ok Over) = Ok tt
+outcome_by (Err e) = Err e

@@ -160,47 +160,27 @@ module _ {H K D : Type 0} (lent : Bool) (Came : Conn → H → Exchange → H �
   ComesTo (Ok Over) s h b = Finished s h b
   ComesTo (Err e) s h b = Stopped s h b e
 
--- a connection that is under way goes on, and nothing more is read
-abbrev pub Turns : {X H K D : Type 0} → Ways X H → (K → ℕ → K → Type 0)
-    → (D → List ℕ → Option Outcome → D → Type 0) → Result Progress RunError → Session → Session
-    → Spot H K D → Spot H K D → Type 0
-Turns {H = H} {K = K} {D = D} ways reads loads result s t p q =
-    (start : H) (a : Outside K D) (remaining : Option (List ℕ)) → Underway ways.LENT ways.came
-    ways.closes reads loads start a s p.place (beside remaining p) → ComesTo ways.LENT ways.came
-    ways.closes reads loads start a result t q.place (beside remaining q)
+module _ {X H K D : Type 0} (ways : Ways X H) (reads : K → ℕ → K → Type 0) (loads : D → List ℕ → Option Outcome → D → Type 0) where
+  -- a connection that is under way goes on: it still is, it is over, or there was an error
+  abbrev pub Continues : Result Progress RunError → Session → Session → H → H → Outside K D
+      → Outside K D → Type 0
+  Continues result s t h k b c =
+      (start : H) (a : Outside K D) → Underway ways.LENT ways.came ways.closes reads loads start a s h b
+      → ComesTo ways.LENT ways.came ways.closes reads loads start a result t k c
 
--- a connection that is under way goes on: its turns are used up, it is over, or there was an error
-abbrev pub Converses : {X H R W K D : Type 0} → Ways X H → (R → Option (List ℕ))
-    → (W → Option (List ℕ)) → (K → ℕ → K → Type 0) → (D → List ℕ → Option Outcome → D → Type 0)
-    → Result Progress RunError → Session → Session → H → H → Watched R → Watched R → Watched W
-    → Watched W → K → K → D → D → Type 0
-Converses {H =
-    H}
-    {K = K}
-    {D = D}
-    ways
-    remaining
-    contents
-    reads
-    loads
-    result
-    s
-    t
-    h
-    k
-    reader
-    reader'
-    writer
-    writer'
-    clock
-    clock'
-    loader
-    loader'
-    =
-    (start : H) (a : Outside K D) → Underway ways.LENT ways.came ways.closes reads
-    loads start a s h (around remaining contents reader writer clock loader)
-    → ComesTo ways.LENT ways.came ways.closes reads loads start a result t k
-    (around remaining contents reader' writer' clock' loader')
+  -- and nothing more is read
+  abbrev pub Turns : Result Progress RunError → Session → Session → Spot H K D → Spot H K D → Type 0
+  Turns result s t p q =
+      (remaining : Option (List ℕ)) → Continues result s t p.place q.place (beside remaining p)
+      (beside remaining q)
+
+  -- over a reader and a writer
+  abbrev pub Converses : {R W : Type 0} → (R → Option (List ℕ)) → (W → Option (List ℕ))
+      → Result Progress RunError → Session → Session → H → H → Watched R → Watched R → Watched W
+      → Watched W → K → K → D → D → Type 0
+  Converses remaining contents result s t h k reader reader' writer writer' clock clock' loader loader' =
+      Continues result s t h k (around remaining contents reader writer clock loader)
+      (around remaining contents reader' writer' clock' loader')
 
 -- nothing was read, and no load is in hand
 pub record IsFresh (session : Session) : Type 0 where

@@ -1,13 +1,10 @@
--- What the driver of a connection guarantees, whatever its host.
-use Rattle.std.specs.Prelude.{◌≡◌, ◌≢◌, ℕ, ◌≤◌, ◌^◌, Bool, true, List, [], ◌∷◌, ◌++◌, Option, None, Some, IfSome, MatchResult, ◌⊎◌, Result}
+-- What passes between a host, a connection's reader and writer, its clock and its loader.
+use Rattle.std.specs.Prelude.{◌≡◌, ℕ, ◌≤◌, ◌^◌, List, [], ◌∷◌, ◌++◌, Option, None, Some, IfSome}
 use Rattle.std.specs.Option.{option_map_or}
-use Rattle.std.specs.Io.KnownBytes.{Appends, Consumes, IsAtEnd}
+use Rattle.std.specs.Io.KnownBytes.{Appends, Consumes}
 use Rattle.audit_model.specs.declared.event.Outcome.{Outcome}
-use Rattle.audit_model.specs.declared.input.Conn.{Conn}
 use Rattle.cache_run.specs.Devices.Sources.{Asking, Askings, Readings}
-use Rattle.cache_run.specs.declared.devices.errors.RunError.{RunError}
-use Rattle.cache_run.specs.declared.devices.errors.RunError.TheVariants.{Moment}
-use Rattle.cache_run.specs.Driver.Exchanges.{AreDone, Chain, Doing, Exchange, HaveClosed, Leaves, Outs, asks_of, askings_in, bytes_of, moments_in, pieces_in, replies_in, told_of, untaken_in}
+use Rattle.cache_run.specs.Driver.Exchanges.{Chain, Doing, Exchange, Leaves, Outs, asks_of, askings_in, bytes_of, moments_in, pieces_in, replies_in, told_of, untaken_in}
 
 -- What is left undone after the last exchange: what the host refused, if it refused anything; the bytes that were read after that and not
 -- fed; the replies that were not written; and after how many exchanges they were not even taken, for lack of memory.
@@ -66,53 +63,3 @@ module _ {H C L : Type 0} (Came : H → Exchange → H → Type 0) (reads : C �
     pub loader : Askings loads a.loader (askings_in exchanges ++ asked_of rest) b.loader
     pub refused : IfSome rest.refused (IsOfHand after)
     pub untaken : untaken_in exchanges ≡ rest.untaken
-
--- A host, as its driver sees it: in which namespace it opens a connection, what an exchange and a closing do, and what happens to the loads
--- in hand if it is closed because of an error, for which a loader may be asked. If it is `lent`, nobody else has it: then each piece is fed
--- whole, and only what the connection is fed closes it.
-module _ {H C L : Type 0} (lent : Bool) (Opens : ℕ → Conn → H → H → Type 0) (Came : Conn → H → Exchange → H → Type 0) (Closes : Conn → H → H → Type 0) (Drops : Conn → Outs → H → List Asking → H → Type 0)
-    (reads : C → ℕ → C → Type 0) (loads : L → List ℕ → Option Outcome → L → Type 0) (namespace : ℕ)
-    (h k : H) (a b : Outside C L) where
-  -- A connection was opened, exchanges took place to the end of the input, or until it had closed or others had closed it; and it was
-  -- closed, if it was open. No load is in hand, and all replies were written. If the host is lent, all that was read was fed, none of the
-  -- loads that went out is left, and nothing is held back.
-  pub record DrivesWhole : Type 0 where
-    pub conn : Conn
-    pub opened : H
-    pub closed : H
-    pub opens : Opens namespace conn h opened
-    pub rest : Rest
-    pub talks : Talks (Came conn) reads loads opened closed a b [] [] rest
-    pub done : lent ≡ true → AreDone talks.exchanges
-    pub over : IsAtEnd b.remaining ⊎ HaveClosed talks.exchanges ⊎ (rest.refused ≢ None)
-    pub whole : lent ≡ true → rest ≡ no_rest
-    pub sent : (rest.unsent ≡ []) × (rest.untaken ≡ 0)
-    pub closes : Closes conn closed k
-
-  -- It stopped because of an error: the connection was closed, if it was open, and then the loads in hand were dropped, and those that had
-  -- gone out.
-  pub record DrivesPartly (e : RunError) : Type 0 where
-    pub conn : Conn
-    pub opened : H
-    pub stopped : H
-    pub closed : H
-    pub opens : Opens namespace conn h opened
-    pub hand : Outs
-    pub rest : Rest
-    pub asked : L
-    pub talks : Talks (Came conn) reads loads opened stopped a (record {
-      remaining = b.remaining;
-      contents = b.contents;
-      clock = b.clock;
-      loader = asked;
-    }) [] hand rest
-    pub few : rest.untaken ≤ 1
-    pub late : e ≡ Moment → IsLate rest
-    pub closes : Closes conn stopped closed
-    pub askings : List Asking
-    pub drops : Drops conn hand closed askings k
-    pub loaded : Askings loads asked askings b.loader
-
-  -- either of the two
-  abbrev pub Drives : {T : Type 0} → Result T RunError → Type 0
-  Drives result = MatchResult result (λ done. DrivesWhole) DrivesPartly

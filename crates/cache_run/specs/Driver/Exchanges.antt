@@ -1,6 +1,6 @@
 -- What the driver of a connection does to its host, what it takes after that, and the loads that it has in hand in the meantime.
 use Rattle.std.specs.Prelude.{◌≡◌, ◌≢◌, ℕ, Bool, false, List, [], ◌∷◌, ◌++◌, Option, None, Some, count_by, is_none, unwrap_or, MatchOption}
-use Rattle.std.specs.List.{flat_map, last_or}
+use Rattle.std.specs.List.{All, flat_map, last_or}
 use Rattle.audit_model.specs.declared.command.Closing.{Closing}
 use Rattle.audit_model.specs.declared.event.Outcome.{Outcome}
 use Rattle.audit_model.specs.declared.input.LoadId.{LoadId}
@@ -10,14 +10,30 @@ use Rattle.cache_run.specs.Devices.Sources.{Asking}
 abbrev pub Outs : Type 0
 Outs = List (LoadId × List ℕ)
 
--- A piece was fed at a moment, and a command of it was held back for lack of memory, or none was. Or the loader was asked for the load with
--- this number, and at this moment the load was answered with what it returned, or given up; or it was not under way, and what the loader
--- returned was dropped. Or nothing was asked of the host.
+-- The loader was asked for the load with this number. The load was answered with what it returned, or given up; or what it returned was
+-- dropped, because the load was not under way, or was refused.
+pub data Settling : Type 0 where
+  Answered : (load : ℕ) → (key : List ℕ) → (outcome : Outcome) → Settling
+  GivenUp : (load : ℕ) → (asking : Asking) → Settling
+  Dropped : (load : ℕ) → (asking : Asking) → Settling
+
+-- the load for which the loader was asked
+abbrev pub load_number : Settling → ℕ
+load_number (Answered load key outcome) = load
+load_number (GivenUp load asking) = load
+load_number (Dropped load asking) = load
+
+-- the key that it was asked for, and what it returned
+abbrev pub settling_asking : Settling → Asking
+settling_asking (Answered load key outcome) = record { key = key; answer = Some outcome }
+settling_asking (GivenUp load asking) = asking
+settling_asking (Dropped load asking) = asking
+
+-- A piece was fed at a moment, and a command of it was held back for lack of memory, or none was; or a load was settled at a moment; or
+-- nothing was asked of the host.
 pub data Doing : Type 0 where
   Fed : (piece : List ℕ) → (moment : ℕ) → (held : Bool) → Doing
-  Answered : (load : ℕ) → (key : List ℕ) → (outcome : Outcome) → (moment : ℕ) → Doing
-  GivenUp : (load : ℕ) → (asking : Asking) → (moment : ℕ) → Doing
-  Dropped : (load : ℕ) → (asking : Asking) → (moment : ℕ) → Doing
+  Settled : (settling : Settling) → (moment : ℕ) → Doing
   Looked : Doing
 
 -- What was done, and what was taken after it: the replies of the connection, unless there was no memory for them; and the loads of its
@@ -31,25 +47,19 @@ pub record Exchange : Type 0 where
 -- the bytes that were fed
 abbrev pub bytes_of : Doing → List ℕ
 bytes_of (Fed piece moment held) = piece
-bytes_of (Answered load key outcome moment) = []
-bytes_of (GivenUp load asking moment) = []
-bytes_of (Dropped load asking moment) = []
+bytes_of (Settled settling moment) = []
 bytes_of Looked = []
 
 -- the clock's reading
 abbrev pub told_of : Doing → List ℕ
 told_of (Fed piece moment held) = moment ∷ []
-told_of (Answered load key outcome moment) = moment ∷ []
-told_of (GivenUp load asking moment) = moment ∷ []
-told_of (Dropped load asking moment) = moment ∷ []
+told_of (Settled settling moment) = moment ∷ []
 told_of Looked = []
 
 -- the request to the loader, and its result
 abbrev pub asks_of : Doing → List Asking
 asks_of (Fed piece moment held) = []
-asks_of (Answered load key outcome moment) = record { key = key; answer = Some outcome } ∷ []
-asks_of (GivenUp load asking moment) = asking ∷ []
-asks_of (Dropped load asking moment) = asking ∷ []
+asks_of (Settled settling moment) = settling_asking settling ∷ []
 asks_of Looked = []
 
 -- the same for several
@@ -71,6 +81,10 @@ untaken_in exchanges = count_by (λ exchange. is_none exchange.text) exchanges
 
 -- ---- the loads in hand
 
+-- this is true of the number and the key of each of these loads
+abbrev pub EachOut : (ℕ → List ℕ → Type 0) → Outs → Type 0
+EachOut Fact outs = All (λ (out : LoadId × List ℕ). Fact out.0.number out.1) outs
+
 -- the last load in hand has this number and this key, and the rest are these
 abbrev pub IsLastOf : Outs → ℕ → List ℕ → Outs → Type 0
 IsLastOf hand load key rest = (id : LoadId) × (id.number ≡ load) × (hand ≡ rest ++ (id, key) ∷ [])
@@ -78,9 +92,8 @@ IsLastOf hand load key rest = (id : LoadId) × (id.number ≡ load) × (hand ≡
 -- the load that is settled or dropped is the last one in hand, and is removed from it; the loader was asked for its key
 abbrev pub Leaves : Doing → Outs → Outs → Type 0
 Leaves (Fed piece moment held) hand rest = rest ≡ hand
-Leaves (Answered load key outcome moment) hand rest = IsLastOf hand load key rest
-Leaves (GivenUp load asking moment) hand rest = IsLastOf hand load asking.key rest
-Leaves (Dropped load asking moment) hand rest = IsLastOf hand load asking.key rest
+Leaves (Settled settling moment) hand rest =
+    IsLastOf hand (load_number settling) (settling_asking settling).key rest
 Leaves Looked hand rest = rest ≡ hand
 
 -- loads that are taken come into the hand, if none was left there

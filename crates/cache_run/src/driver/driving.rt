@@ -2,8 +2,7 @@
 ghost use Rattle.std.specs.Prelude.{◌≡◌, ◌≤◌, ◌⊎◌, [], true, IfErr, IfOk, OnErr};
 ghost use Rattle.cache_run.specs.Devices.Sources.{HasToldLate};
 ghost use Rattle.cache_run.specs.Devices.Watched.{failures};
-ghost use Rattle.cache_run.specs.Driver.Causes.{Because, Fails, RunsFor, RunsOut};
-ghost use Rattle.cache_run.specs.Driver.Ending.{outcome_by};
+ghost use Rattle.cache_run.specs.Driver.Causes.{Because, Fails, RunsFor, RunsOut, outcome_by};
 ghost use Rattle.cache_run.specs.Driver.Driven.{ClosesAfter, Converses, Holds, IsFresh};
 
 use crate::devices::{Clock, Loader, RunError, Watched};
@@ -54,10 +53,13 @@ pub fn open<H: Host>(
         Ok(inbox) => inbox,
         Err(_) => return Err(RunError::OutOfMemory),
     };
-    match host.open(place, namespace) {
-        Ok(conn) => Ok(Session::new(alloc, conn, inbox)),
-        Err(error) => Err(error),
-    }
+    let conn = host.open(place, namespace)?;
+    Ok(Session {
+        conn,
+        taken: Vec::new(alloc),
+        inbox,
+        footing: Footing::Ready,
+    })
 }
 
 /// Settles a load that went out, or waits for others'; if there is none, reads if everything was fed, and feeds a prefix of what was read.
@@ -74,7 +76,7 @@ fn take_turn<H: Host, I: Read, O: Write, K: Clock, D: Loader>(
     requires known { Holds H.LENT H.knows session.old place.old }
     ensures known { Holds H.LENT H.knows session.new place.new
         × (session.new.conn ≡ session.old.conn) }
-    ensures goes { Converses H.Host I.remaining O.contents K.reads D.loads result session.old
+    ensures goes { Converses H.Host K.reads D.loads I.remaining O.contents result session.old
         session.new place.old place.new reader.old reader.new writer.old writer.new clock.old
         clock.new loader.old loader.new }
     ensures why { IfErr result (Because (Fails reader.old reader.new) (Fails writer.old writer.new)
@@ -118,7 +120,7 @@ pub fn converse<H: Host, I: Read, O: Write, K: Clock, D: Loader>(
     requires known { Holds H.LENT H.knows session.old place.old }
     ensures known { Holds H.LENT H.knows session.new place.new
         × (session.new.conn ≡ session.old.conn) }
-    ensures goes { Converses H.Host I.remaining O.contents K.reads D.loads result session.old
+    ensures goes { Converses H.Host K.reads D.loads I.remaining O.contents result session.old
         session.new place.old place.new reader.old reader.new writer.old writer.new clock.old
         clock.new loader.old loader.new }
     ensures why { IfErr result (Because (Fails reader.old reader.new) (Fails writer.old writer.new)

@@ -36,13 +36,8 @@ pub fn feed_piece<H: Host, O: Write, K: Clock>(
         × (H.counted place.old ≤ H.counted place.new) }
 {
     let moment = clock.now();
-    let fed = host.feed(
-        place,
-        session.conn,
-        &session.inbox.as_slice()[..count],
-        moment,
-        true,
-    );
+    let piece = &session.inbox.as_slice()[..count];
+    let fed = host.feed(place, session.conn, piece, moment);
     session.inbox.skip(count);
     let given = match fed {
         Ok(Some(given)) => given,

@@ -5,8 +5,7 @@ ghost use Rattle.cache_run.specs.Devices.Sent.{SentBut};
 ghost use Rattle.cache_run.specs.Devices.Watched.{device, failures};
 ghost use Rattle.cache_run.specs.Driver.Exchanges.{Keeps};
 ghost use Rattle.cache_run.specs.Driver.Causes.{Because, Fails};
-ghost use Rattle.cache_run.specs.Driver.Footings.{footing_by};
-ghost use Rattle.cache_run.specs.Driver.Handed.{HandsOut, text_of};
+ghost use Rattle.cache_run.specs.Driver.Hosting.{HandsOut, footing_by, text_of};
 
 use crate::devices::{RunError, Watched, send};
 use crate::driver::host::Given;
@@ -25,10 +24,7 @@ fn send_whole<W: Write>(text: &[u8], writer: &mut Watched<W>) -> Result<(), RunE
     if text.is_empty() {
         return Ok(());
     }
-    match send(text, writer) {
-        Ok(()) => {}
-        Err(error) => return Err(error),
-    }
+    send(text, writer)?;
     match writer.flush() {
         Ok(()) => Ok(()),
         Err(_) => Err(RunError::Write),

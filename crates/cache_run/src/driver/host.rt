@@ -73,19 +73,18 @@ pub trait Host {
         ensures whole { LENT ≡ true → result ≡ length bytes.now }
         ensures fits { fits (take result bytes.now) };
 
-    /// Feeds a piece. Returns `None` if the connection had closed.
+    /// Feeds a piece, and takes the loads that have gone out. Returns `None` if the connection had closed.
     fn feed(
         &mut self,
         place: &mut Self::Place,
         conn: Conn,
         piece: &[u8],
         moment: u64,
-        wants_loads: bool,
     ) -> Result<Option<Given>, RunError>
         requires known { knows conn place.old }
         requires fits { fits piece.now }
         ensures came { IfOk result (λ given. IfSome given (λ one. came conn place.old (exchange_of
-            (Fed piece.now moment one.held) one) place.new × Suits LENT wants_loads one)) }
+            (Fed piece.now moment one.held) one) place.new × Suits LENT true one)) }
         ensures closed { IfOk result
             (λ given. IsNone given → (LENT ≡ false) × rests place.old place.new) }
         ensures rests { OnErr result (rests place.old place.new) }
@@ -116,16 +115,13 @@ pub trait Host {
         ensures why { IfErr result
             (Stops (exhausts (counted place.old) (counted place.new)) (2 ^ 63 ≤ moment)) };
 
-    /// Returns what the connection is owed now.
-    fn look(&mut self, place: &mut Self::Place, conn: Conn, wants_loads: bool) -> Given
+    /// Waits while a `LOAD` of the connection waits, and returns what it is owed then.
+    fn await_owed(&mut self, place: &mut Self::Place, conn: Conn) -> Given
         requires known { knows conn place.old }
         ensures came { came conn place.old (exchange_of Looked result) place.new }
-        ensures suits { Suits LENT wants_loads result }
+        ensures suits { Suits LENT true result }
         ensures count { counted place.old ≤ counted place.new }
         ensures known { knows conn place.new };
-
-    /// Waits while a `LOAD` of the connection waits.
-    fn await_ready(&mut self, place: &Self::Place, conn: Conn);
 
     /// Closes a connection, unless it has closed.
     fn close(&mut self, place: &mut Self::Place, conn: Conn)

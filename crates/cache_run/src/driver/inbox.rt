@@ -66,10 +66,12 @@ impl Inbox {
 
     /// Reads a piece, if all bytes were fed. Returns whether there may be more: not at the end of the input. After an interrupted read
     /// there is no piece.
-    fn fill<I: Read>(&mut self, reader: &mut Watched<I>) -> Result<bool, RunError>
-        requires { self.old ≡ [] }
+    pub fn refill<I: Read>(&mut self, reader: &mut Watched<I>) -> Result<bool, RunError>
         ensures { Fills I.remaining self.old self.new reader.old reader.new result }
     {
+        if !self.is_empty() {
+            return Ok(true);
+        }
         self.from = 0;
         self.to = 0;
         let count = match reader.read(&mut self.buffer) {
@@ -83,15 +85,5 @@ impl Inbox {
         };
         self.to = count;
         Ok(count != 0)
-    }
-
-    /// Reads a piece, if all bytes were fed. Returns whether there may be more: not at the end of the input.
-    pub fn refill<I: Read>(&mut self, reader: &mut Watched<I>) -> Result<bool, RunError>
-        ensures { Fills I.remaining self.old self.new reader.old reader.new result }
-    {
-        if self.is_empty() {
-            return self.fill(reader);
-        }
-        Ok(true)
     }
 }

@@ -1,10 +1,9 @@
 //! A connection, and what its driver has in hand.
 ghost use Rattle.std.specs.Prelude.{◌≡◌, ◌≢◌, [], true, false};
-ghost use Rattle.cache_run.specs.Driver.Footings.{footing_by};
+ghost use Rattle.cache_run.specs.Driver.Hosting.{footing_by};
 
 use crate::driver::inbox::Inbox;
 use audit_model::{Bytes, Closing, Conn, LoadId};
-use std::alloc::Global;
 
 /// The state of a connection after the last exchange.
 #[derive(Clone, Copy, Debug, PartialEq, Eq, Drop)]
@@ -31,21 +30,6 @@ pub struct Session {
 }
 
 impl Session {
-    /// Creates a session of a connection with nothing in hand.
-    pub fn new(alloc: Global, conn: Conn, inbox: Inbox) -> Session
-        ensures conn { result.conn ≡ conn }
-        ensures taken { result.taken.items ≡ [] }
-        ensures inbox { result.inbox ≡ inbox }
-        ensures footing { result.footing ≡ Footing.Ready }
-    {
-        Session {
-            conn,
-            taken: Vec::new(alloc),
-            inbox,
-            footing: Footing::Ready,
-        }
-    }
-
     /// Returns whether no load is in hand.
     pub fn has_no_load(&self) -> bool
         ensures none { result ≡ true → self.now.taken.items ≡ [] }

@@ -73,8 +73,7 @@ fn settle_one<H: Host, O: Write, K: Clock, D: Loader>(
     ensures asked { H.LENT ≡ true → HasAsked D.loads loader.old 1 loader.new }
 {
     if session.has_no_load() {
-        host.await_ready(place, session.conn);
-        let given = host.look(place, session.conn, true);
+        let given = host.await_owed(place, session.conn);
         return hand_out(session, given, writer);
     }
     settle_last(host, place, session, writer, clock, loader)

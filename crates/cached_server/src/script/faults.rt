@@ -1,10 +1,13 @@
 //! Why the program ends before its time, and what it then writes.
-ghost use Rattle.std.specs.Prelude.{◌≡◌, ◌≢◌, codes};
+ghost use Rattle.std.specs.Prelude.{◌≡◌, ◌≢◌, ◌⊎◌, codes};
 ghost use Rattle.cache_run.specs.Devices.Watched.{device, failures};
+ghost use Rattle.cached_server.specs.declared.script.faults.Fault.TheVariants as fault;
 ghost use Rattle.cached_server.specs.Script.Faults.{EndsTelling, Tells, fault_message, usage_text};
 
 use crate::script::words::WordsError;
 use cache_run::{RunError, Watched, send};
+use cached_config::ConfigError;
+use std::alloc::{AllocError, AllocFailed};
 use std::io::{ErrorKind, Write};
 
 /// Why the program ends with status 1.
@@ -22,6 +25,33 @@ pub enum Fault {
     BadConfiguration,
     /// A listener could not be had, or could not go on.
     CannotListen,
+}
+
+impl From<AllocError> for Fault {
+    ghost from_gives = { λ _ e. e ≡ fault.OutOfMemory };
+
+    fn from(_e: AllocError) -> Fault {
+        Fault::OutOfMemory
+    }
+}
+
+impl<T: Drop> From<AllocFailed<T>> for Fault {
+    ghost from_gives = { λ _ e. e ≡ fault.OutOfMemory };
+
+    fn from(_e: AllocFailed<T>) -> Fault {
+        Fault::OutOfMemory
+    }
+}
+
+impl From<ConfigError> for Fault {
+    ghost from_gives = { λ _ e. (e ≡ fault.BadConfiguration) ⊎ (e ≡ fault.OutOfMemory) };
+
+    fn from(e: ConfigError) -> Fault {
+        match e {
+            ConfigError::Bad => Fault::BadConfiguration,
+            ConfigError::OutOfMemory => Fault::OutOfMemory,
+        }
+    }
 }
 
 const USAGE: &[u8] = b"usage: cached --script | --config FILE\n";

@@ -1,5 +1,5 @@
-use Rattle.std.proofs.Common.{rules, ◌≡◌, ◌++◌, List, ℕ, Bor}
-use Rattle.std.specs.Prelude.{OnOk, option_map}
+use Rattle.std.proofs.Common.{rules, Bor, OnOk, ◌≡◌, ◌++◌, List, ℕ}
+use Rattle.std.specs.Option.{option_map}
 use Rattle.cache_commands.specs.Found.{found_text}
 use Rattle.cache_commands.proofs.Adding.{on-both}
 use Rattle.cache_commands.proofs.Answered.{answered-get}

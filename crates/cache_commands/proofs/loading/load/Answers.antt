@@ -1,5 +1,5 @@
-use Rattle.std.proofs.Common.{rules, ◌≡◌, ◌++◌, List, ℕ, true, Bor}
-use Rattle.std.specs.Prelude.{is_some, option_map}
+use Rattle.std.proofs.Common.{rules, Bor, ◌≡◌, ◌++◌, List, ℕ, true, is_some}
+use Rattle.std.specs.Option.{option_map}
 use Rattle.cache_commands.specs.Found.{found_text}
 use Rattle.cache_commands.proofs.Answered.{answered-get, answered-load}
 use Rattle.cache_commands.proofs.loading.load.Goals as goal

@@ -1,8 +1,8 @@
-use Rattle.std.proofs.Common.{None, sym, ap, ◌∙◌, subst}
+use Rattle.std.proofs.Common.{sym, ap, ◌∙◌, subst, None}
 use Rattle.audit_model.specs.History.{accepts_values}
 use Rattle.audit_model.specs.declared.config.Config.{Config}
-use Rattle.cache_commands.proofs.Answered.{stored-fault, stored-none, stored-off, stored-value}
 use Rattle.cache_commands.specs.Answered.{IsStored}
+use Rattle.cache_commands.proofs.Answered.{stored-fault, stored-none, stored-off, stored-value}
 use Rattle.cache_commands.proofs.loading.store_outcome.Goals as goal
 
 pub returns-then-not-accepts-clause-ok : goal.returns-then-not-accepts-clause-ok

@@ -1,9 +1,9 @@
-use Rattle.std.proofs.Common.{rules, ◌≡◌, ◌++◌, List, ℕ, Some, None, Bor, sym, ap, ◌∙◌, subst, true}
-use Rattle.std.specs.Prelude.{codes, decimal, option_map}
+use Rattle.std.proofs.Common.{rules, Bor, sym, ap, ◌∙◌, subst, ◌≡◌, ◌++◌, List, ℕ, Some, None, true, codes, decimal}
+use Rattle.std.specs.Option.{option_map}
 use Rattle.audit_model.specs.History.{accepts_values}
 use Rattle.audit_model.specs.declared.config.Config.{Config}
-use Rattle.cache_store.specs.Values.{AcceptsValue}
 use Rattle.cache_commands.specs.Sums.{sum_of_bytes}
+use Rattle.cache_store.specs.Values.{AcceptsValue}
 use Rattle.cache_commands.proofs.Answered.{answered-add-off, answered-added, answered-unsummed}
 use Rattle.cache_commands.proofs.sums.add.Goals as goal
 

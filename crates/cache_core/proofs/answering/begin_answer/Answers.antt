@@ -1,8 +1,8 @@
-use Rattle.std.proofs.Common.{◌+◌, ℕ, List, Some, length, refl, ap, sym, subst, arith, ◌∙◌}
+use Rattle.std.proofs.Common.{refl, ap, sym, subst, arith, ◌∙◌, ◌+◌, ℕ, List, Some, length}
 use Rattle.std.specs.Option.{option_map}
 use Rattle.audit_model.specs.Situation.{PendingLoad}
-use Rattle.cache_lines.specs.Waiting.{under_way}
 use Rattle.cache_core.specs.Settling.{BeginsAnswer, HaveReplyRoom, waiting_on}
+use Rattle.cache_lines.specs.Waiting.{under_way}
 use Rattle.cache_core.proofs.Admitted.{few-replied, forgot-started}
 use Rattle.cache_core.proofs.Handed.{begins-answer, waiting-is}
 use Rattle.cache_core.proofs.answering.begin_answer.Goals as goal
@@ -33,10 +33,8 @@ returns-in-Ok-clause-room g c =
 
 pub returns-in-Err-clause-unchanged : goal.returns-in-Err-clause-unchanged
 returns-in-Err-clause-unchanged g c =
-    let tape = g.T.Tape.view in
-    let base = c.args.base.now in
     record {
       store_is = c.in-Err.ensures.unchanged;
-      tape_is = c.abandon.ensures base.tape (forgot-started _ (tape base.tape) c.requires.can_settle.rests ∙ ap (option_map _) (sym c.in_ok-begin_kept.ensures.started));
+      tape_is = c.abandon.ensures c.args.base.now.tape (forgot-started _ (g.T.Tape.view c.args.base.now.tape) c.requires.can_settle.rests ∙ ap (option_map _) (sym c.in_ok-begin_kept.ensures.started));
       loads_are = record { pending = refl; sent = refl; outgoing = refl; namespace = refl };
     }

@@ -1,9 +1,9 @@
-use Rattle.std.proofs.Common.{◌++◌, ℕ, List, length, map, sym, ap, ◌∙◌, subst, arith}
+use Rattle.std.proofs.Common.{sym, ap, ◌∙◌, subst, arith, ◌++◌, ℕ, List, length, map}
 use Rattle.audit_model.specs.Replies.{outcome_text}
 use Rattle.audit_model.specs.Steps.{Deliver, RunLines}
-use Rattle.cache_lines.specs.Waiting.{under_way}
 use Rattle.cache_core.specs.Settled.{Parts}
 use Rattle.cache_core.specs.Settling.{AreWaiting, HaveReplyRoom}
+use Rattle.cache_lines.specs.Waiting.{under_way}
 use Rattle.cache_core.proofs.Amid.{parts-on}
 use Rattle.cache_core.proofs.Handed.{amid-loads, left-but, waiting-is}
 use Rattle.cache_core.proofs.Waiters.{wait-there}
@@ -33,8 +33,7 @@ resume_all-requires-clause-amid g c =
     let l = under_way c.args.base.now.loads in
     let is = c.as_slice-waiting.ensures.value ∙ waiting-is c.args.load l _ c.in-Some.ensures.settled in
     let count = ap length is in
-    let ns = c.as_slice-waiting.result.now in
-    c.tell_all.ensures.amid (length ns) (amid-loads g.S.Store.view g.T.Tape.view c.args.now c.args.base.now c.settle.new.self c.args.connections.now _ _ (omega (arith, count)) c.requires.amid)
+    c.tell_all.ensures.amid (length c.as_slice-waiting.result.now) (amid-loads g.S.Store.view g.T.Tape.view c.args.now c.args.base.now c.settle.new.self c.args.connections.now _ _ (omega (arith, count)) c.requires.amid)
 
 pub resume_all-requires-clause-inside : goal.resume_all-requires-clause-inside
 resume_all-requires-clause-inside g c =

@@ -1,7 +1,7 @@
-use Rattle.std.proofs.Common.{ℕ, List, length, sym, ap, ◌∙◌, subst, arith}
+use Rattle.std.proofs.Common.{sym, ap, ◌∙◌, subst, arith, ℕ, List, length}
 use Rattle.audit_model.specs.Places.{tasks_to_give_up}
-use Rattle.cache_lines.specs.Waiting.{under_way}
 use Rattle.cache_core.specs.Settling.{AreWaiting, PartsUnknown}
+use Rattle.cache_lines.specs.Waiting.{under_way}
 use Rattle.cache_core.proofs.Handed.{amid-loads, left-but, waiting-is}
 use Rattle.cache_core.proofs.giving_up.settle_give_up.Goals as goal
 

@@ -1,8 +1,8 @@
 use Rattle.std.proofs.Common.{subst}
 use Rattle.std.proofs.lemmas.Result.{IfErr-weaker, IfOk-weaker, on_err_weaker}
 use Rattle.cache_commands.specs.Loads.Standings.{holds_line}
-use Rattle.cache_core.specs.declared.connection.connection.Connection.{Connection}
 use Rattle.cache_core.specs.Fed.{FedTurn, ReplacedAt, WantsMemory}
+use Rattle.cache_core.specs.declared.connection.connection.Connection.{Connection}
 use Rattle.cache_core.proofs.At.{moved-there}
 use Rattle.cache_core.proofs.Spots.{here-open, is-here, out-at, put-back, same-here}
 use Rattle.cache_core.proofs.recording.feed_at.Goals as goal

@@ -1,10 +1,10 @@
-use Rattle.std.proofs.Common.{None, ap, ◌∙◌, subst}
+use Rattle.std.proofs.Common.{ap, ◌∙◌, subst, None}
 use Rattle.std.specs.Option.{option_map}
-use Rattle.audit_model.specs.declared.event.Event.TheVariants as event
 use Rattle.cache_lines.specs.Bases.{seen}
+use Rattle.cache_lines.specs.Tape.Taped.{finishes}
 use Rattle.cache_lines.specs.declared.base.Base.{Base}
 use Rattle.cache_store.specs.Values.{IsSoundStore}
-use Rattle.cache_lines.specs.Tape.Taped.{finishes}
+use Rattle.audit_model.specs.declared.event.Event.TheVariants as event
 use Rattle.cache_core.proofs.Records.{fed-begun, fed-started, finish-same}
 use Rattle.cache_core.proofs.recording.feed_recorded.Goals as goal
 

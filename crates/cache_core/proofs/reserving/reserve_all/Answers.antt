@@ -1,4 +1,4 @@
-use Rattle.std.proofs.Common.{sym, subst, take, get_or, arith}
+use Rattle.std.proofs.Common.{sym, subst, get_or, arith, take}
 use Rattle.cache_core.specs.Settling.{HaveReplyRoom}
 use Rattle.cache_core.proofs.Touched.{all-itself, all-on, room-more}
 use Rattle.cache_core.proofs.Waiters.{front-more}
@@ -11,12 +11,11 @@ pub loop-number-preserved : goal.loop-number-preserved
 loop-number-preserved c =
     let at = c.loop-number.number-index in
     let ns = c.args.waiting.now in
-    let mid = c.loop-number.connections in
     let new = c.reserve_at.new.connections in
     record {
-      same = all-on c.args.connections.now mid new c.loop-number.invariant.same c.reserve_at.ensures.same;
+      same = all-on c.args.connections.now c.loop-number.connections new c.loop-number.invariant.same c.reserve_at.ensures.same;
       room = subst (HaveReplyRoom new c.args.size) (sym (front-more ns at c.loop-number-test.true))
-          (room-more mid new c.args.size (get_or ns at 0) (take at ns) c.loop-number.invariant.room c.reserve_at.ensures.others c.in_ok-reserve_at.ensures.room);
+          (room-more c.loop-number.connections new c.args.size (get_or ns at 0) (take at ns) c.loop-number.invariant.room c.reserve_at.ensures.others c.in_ok-reserve_at.ensures.room);
     }
 
 pub loop-number-init : goal.loop-number-init

@@ -1,4 +1,4 @@
-use Rattle.std.proofs.Common.{take}
+use Rattle.std.specs.Prelude.{take}
 use Rattle.cache_core.specs.Settling.{AllLookAsBefore, HaveReplyRoom}
 use Rattle.cache_core.proofs.reserving.reserve_all.Given as goal
 

@@ -1,6 +1,6 @@
-use Rattle.std.proofs.Common.{◌≡◌, ◌∙◌, false, true, ap, sym, arith}
-use Rattle.std.specs.List.{slice_get}
+use Rattle.std.proofs.Common.{◌∙◌, ap, sym, arith, ◌≡◌, false, true}
 use Rattle.std.proofs.lemmas.Option.{slice_get_within}
+use Rattle.std.specs.List.{slice_get}
 use Rattle.cache_core.specs.Connections.Presence.{Here, is_here}
 use Rattle.cache_core.proofs.Spots.{was-none, was-some}
 use Rattle.cache_core.proofs.Touched.{all-itself, all-replaced, leaves-others}
@@ -24,12 +24,10 @@ pub returns-then-index-len-clause-room : goal.returns-then-index-len-clause-room
 returns-then-index-len-clause-room c = λ k at.
     let ps = c.args.connections.now in
     let lt = slice_get_within ps _ (Here k) at in
-    let is = c.saturating_sub-index.ensures in
-    let len = c.len.ensures in
     elim c.then-index-len.branch [
-      | then-index-len-via-then-index-len w ↦ (let above = w.if-index-len.true in absurd (omega (arith, lt, is, above, len)))
+      | then-index-len-via-then-index-len w ↦ (let above = w.if-index-len.true in absurd (omega (arith, lt, c.saturating_sub-index.ensures, above, c.len.ensures)))
       | then-index-len-via-else-index-len+then-is_none w ↦ (
           let away = was-none w.get.result _ _ w.if-is_none.ensures w.get.ensures in
-          let here : is_here (slice_get ps c.saturating_sub-index.result) ≡ true = ap (λ i. is_here (slice_get ps i)) is ∙ ap is_here at in
+          let here : is_here (slice_get ps c.saturating_sub-index.result) ≡ true = ap (λ i. is_here (slice_get ps i)) c.saturating_sub-index.ensures ∙ ap is_here at in
           let no : false ≡ true = sym away ∙ here in cc)
     ]

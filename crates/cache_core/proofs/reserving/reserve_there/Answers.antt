@@ -1,10 +1,9 @@
-use Rattle.std.proofs.Common.{◌+◌, ◌≤◌, ap, ◌∙◌, subst, vec_len}
-use Rattle.std.specs.Prelude.{vec_capacity}
-use Rattle.std.specs.List.{slice_get}
+use Rattle.std.proofs.Common.{ap, ◌∙◌, subst, ◌+◌, ◌≤◌, vec_len, vec_capacity}
 use Rattle.std.proofs.lemmas.Option.{slice_get_within}
 use Rattle.std.proofs.lemmas.Result.{on_ok_weaker}
-use Rattle.cache_core.specs.declared.connection.connection.Connection.{Connection}
+use Rattle.std.specs.List.{slice_get}
 use Rattle.cache_core.specs.Connections.Presence.{Here}
+use Rattle.cache_core.specs.declared.connection.connection.Connection.{Connection}
 use Rattle.cache_core.proofs.connections.Getting.{at-replaced}
 use Rattle.cache_core.proofs.Spots.{out-at, put-back, same-here}
 use Rattle.cache_core.proofs.reserving.reserve_there.Goals as goal

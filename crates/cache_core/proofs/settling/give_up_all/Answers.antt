@@ -1,15 +1,15 @@
-use Rattle.std.proofs.Common.{◌≡◌, ◌+◌, ◌-◌, ◌∷◌, [], ℕ, List, length, take, drop, get_or, refl, sym, ap, ◌∙◌, subst, arith}
+use Rattle.std.proofs.Common.{drop, get_or, refl, sym, ap, ◌∙◌, subst, arith, ◌≡◌, ◌+◌, ◌-◌, ◌∷◌, [], ℕ, List, length, take}
 use Rattle.std.proofs.lemmas.List.{take_all}
 use Rattle.audit_model.specs.Places.{tasks_to_give_up}
 use Rattle.audit_model.specs.Steps.{RunAgain, RunLines, Task}
 use Rattle.audit_model.specs.declared.config.Config.{Config}
-use Rattle.cache_store.specs.Promises.{Frame}
 use Rattle.cache_commands.proofs.Taking.{taken-on, taken-same}
 use Rattle.cache_core.specs.Settled.{IsAmid}
 use Rattle.cache_core.specs.Settling.{AreWaiting, IsWaitingAt, PartsUnknown, Reruns}
+use Rattle.cache_store.specs.Promises.{Frame}
 use Rattle.cache_core.proofs.Amid.{unknown-none, unknown-on}
 use Rattle.cache_core.proofs.Loops.{amid-all, amid-two, give-up-more, there-number}
-use Rattle.cache_core.proofs.Waiters.{first-waits, left-wait, rest-next, waits-above, waits-inside, waits-numbered}
+use Rattle.cache_core.proofs.Waiters.{first-waits, next-waits, left-wait, rest-next, waits-above, waits-inside, waits-numbered}
 use Rattle.cache_core.proofs.settling.give_up_all.Goals as goal
 
 pub loop-number-init : goal.loop-number-init
@@ -23,59 +23,29 @@ loop-number-init g c = record {
 
 pub overflow_sub-index : goal.overflow_sub-index
 overflow_sub-index g c =
-    let ns = c.args.waiting.now in
-    let at = c.loop-number.number-index in
-    let n = get_or ns at 0 in
-    let rest = drop (at + 1) ns in
-    let next = rest-next ns at c.loop-number-test.true in
-    let i = c.loop-number.invariant in
     let config = (g.S.Store.view c.args.base.now.store).frame.config in
-    let mid = c.loop-number.connections in
-    let waits = subst (AreWaiting config mid) next i.waits in
-    let first = first-waits config mid n rest waits in
-    waits-above config mid n first
+    let first = next-waits config c.loop-number.connections c.args.waiting.now c.loop-number.number-index c.loop-number-test.true c.loop-number.invariant.waits in
+    waits-above config c.loop-number.connections _ first
 
 pub give_up_at-requires-clause-inside : goal.give_up_at-requires-clause-inside
 give_up_at-requires-clause-inside g c =
-    let ns = c.args.waiting.now in
-    let at = c.loop-number.number-index in
-    let n = get_or ns at 0 in
-    let rest = drop (at + 1) ns in
-    let next = rest-next ns at c.loop-number-test.true in
-    let i = c.loop-number.invariant in
     let config = (g.S.Store.view c.args.base.now.store).frame.config in
-    let mid = c.loop-number.connections in
-    let waits = subst (AreWaiting config mid) next i.waits in
-    let first = first-waits config mid n rest waits in
-    waits-inside config mid n first
+    let first = next-waits config c.loop-number.connections c.args.waiting.now c.loop-number.number-index c.loop-number-test.true c.loop-number.invariant.waits in
+    waits-inside config c.loop-number.connections _ first
 
 pub give_up_at-requires-clause-amid : goal.give_up_at-requires-clause-amid
 give_up_at-requires-clause-amid g c =
     let ns = c.args.waiting.now in
     let at = c.loop-number.number-index in
-    let n = get_or ns at 0 in
-    let rest = drop (at + 1) ns in
-    let next = rest-next ns at c.loop-number-test.true in
     let i = c.loop-number.invariant in
-    let config = (g.S.Store.view c.args.base.now.store).frame.config in
     let mid = c.loop-number.connections in
-    let waits = subst (AreWaiting config mid) next i.waits in
-    let first = first-waits config mid n rest waits in
     amid-two g.S.Store.view g.T.Tape.view c.args.now c.loop-number.base mid ns at c.loop-number-test.true (amid-all g.S.Store.view g.T.Tape.view c.args.now c.args.base.now c.loop-number.base c.args.connections.now mid (length ns + length ns) (length (drop at ns) + length (drop at ns)) i.amid c.requires.amid)
 
 pub give_up_at-requires-clause-waits : goal.give_up_at-requires-clause-waits
 give_up_at-requires-clause-waits g c =
-    let ns = c.args.waiting.now in
-    let at = c.loop-number.number-index in
-    let n = get_or ns at 0 in
-    let rest = drop (at + 1) ns in
-    let next = rest-next ns at c.loop-number-test.true in
-    let i = c.loop-number.invariant in
     let config = (g.S.Store.view c.args.base.now.store).frame.config in
-    let mid = c.loop-number.connections in
-    let waits = subst (AreWaiting config mid) next i.waits in
-    let first = first-waits config mid n rest waits in
-    subst (λ (k : Config). IsWaitingAt k mid (n - 1 + 1)) (sym (ap (λ (f : Frame). f.config) i.ran.frame.rest)) (waits-numbered config mid n first)
+    let first = next-waits config c.loop-number.connections c.args.waiting.now c.loop-number.number-index c.loop-number-test.true c.loop-number.invariant.waits in
+    subst (λ (k : Config). IsWaitingAt k c.loop-number.connections (get_or c.args.waiting.now c.loop-number.number-index 0 - 1 + 1)) (sym (ap (λ (f : Frame). f.config) c.loop-number.invariant.ran.frame.rest)) (waits-numbered config c.loop-number.connections _ first)
 
 pub loop-number-preserved : goal.loop-number-preserved
 loop-number-preserved g c =

@@ -1,4 +1,4 @@
-use Rattle.std.proofs.Common.{◌≡◌, ◌+◌, ℕ, length, take, drop}
+use Rattle.std.proofs.Common.{drop, ◌≡◌, ◌+◌, ℕ, length, take}
 use Rattle.audit_model.specs.Places.{tasks_to_give_up}
 use Rattle.cache_commands.specs.Loads.Pending.{SameTaken}
 use Rattle.cache_core.specs.Settled.{IsAmid}

@@ -1,11 +1,11 @@
-use Rattle.std.proofs.Common.{◌≡◌, ◌+◌, ◌-◌, ◌∷◌, [], ℕ, List, length, map, take, drop, get_or, refl, sym, ap, ◌∙◌, subst, arith}
+use Rattle.std.proofs.Common.{drop, get_or, refl, sym, ap, ◌∙◌, subst, arith, ◌≡◌, ◌+◌, ◌-◌, ◌∷◌, [], ℕ, List, length, map, take}
 use Rattle.std.proofs.lemmas.List.{take_all}
 use Rattle.audit_model.specs.Steps.{RunLines, Task}
 use Rattle.cache_commands.proofs.Taking.{taken-on, taken-same}
 use Rattle.cache_core.specs.Settled.{IsAmid, Parts}
 use Rattle.cache_core.specs.Settling.{AreThere}
 use Rattle.cache_core.proofs.Amid.{parts-none, parts-on}
-use Rattle.cache_core.proofs.Loops.{amid-all, amid-next, first-there, left-there, mapped-more, there-number}
+use Rattle.cache_core.proofs.Loops.{amid-all, amid-next, first-there, left-there, next-there, mapped-more, there-number}
 use Rattle.cache_core.proofs.Waiters.{once-first, rest-next}
 use Rattle.cache_core.proofs.settling.resume_all.Goals as goal
 
@@ -20,44 +20,20 @@ loop-number-init g c = record {
 
 pub overflow_sub-index : goal.overflow_sub-index
 overflow_sub-index g c =
-    let ns = c.args.waiting.now in
-    let at = c.loop-number.number-index in
-    let n = get_or ns at 0 in
-    let rest = drop (at + 1) ns in
-    let next = rest-next ns at c.loop-number-test.true in
-    let i = c.loop-number.invariant in
-    let config = (g.S.Store.view c.args.base.now.store).frame.config in
-    let mid = c.loop-number.connections in
-    let there = subst (AreThere mid) next i.inside in
-    let first = there n (once-first n rest) in
+    let first = next-there c.loop-number.connections c.args.waiting.now c.loop-number.number-index c.loop-number-test.true c.loop-number.invariant.inside in
     first.0
 
 pub resume_at-requires-clause-inside : goal.resume_at-requires-clause-inside
 resume_at-requires-clause-inside g c =
-    let ns = c.args.waiting.now in
-    let at = c.loop-number.number-index in
-    let n = get_or ns at 0 in
-    let rest = drop (at + 1) ns in
-    let next = rest-next ns at c.loop-number-test.true in
-    let i = c.loop-number.invariant in
-    let config = (g.S.Store.view c.args.base.now.store).frame.config in
-    let mid = c.loop-number.connections in
-    let there = subst (AreThere mid) next i.inside in
-    let first = there n (once-first n rest) in
-    first-there mid n first.0 first.1
+    let first = next-there c.loop-number.connections c.args.waiting.now c.loop-number.number-index c.loop-number-test.true c.loop-number.invariant.inside in
+    first-there c.loop-number.connections (get_or c.args.waiting.now c.loop-number.number-index 0) first.0 first.1
 
 pub resume_at-requires-clause-amid : goal.resume_at-requires-clause-amid
 resume_at-requires-clause-amid g c =
     let ns = c.args.waiting.now in
     let at = c.loop-number.number-index in
-    let n = get_or ns at 0 in
-    let rest = drop (at + 1) ns in
-    let next = rest-next ns at c.loop-number-test.true in
     let i = c.loop-number.invariant in
-    let config = (g.S.Store.view c.args.base.now.store).frame.config in
     let mid = c.loop-number.connections in
-    let there = subst (AreThere mid) next i.inside in
-    let first = there n (once-first n rest) in
     amid-next g.S.Store.view g.T.Tape.view c.args.now c.loop-number.base mid ns at c.loop-number-test.true (amid-all g.S.Store.view g.T.Tape.view c.args.now c.args.base.now c.loop-number.base c.args.connections.now mid (length ns) (length (drop at ns)) i.amid c.requires.amid)
 
 pub loop-number-preserved : goal.loop-number-preserved

@@ -1,11 +1,10 @@
-use Rattle.std.proofs.Common.{◌≡◌, ◌+◌, true, false, suc, refl, sym, ap, ◌∙◌, subst, arith}
-use Rattle.std.specs.Prelude.{is_none}
+use Rattle.std.proofs.Common.{refl, sym, ap, ◌∙◌, subst, arith, ◌≡◌, ◌+◌, true, false, suc, is_none}
 use Rattle.std.specs.List.{slice_get}
 use Rattle.cache_core.specs.Connections.Presence.{closing_at}
-use Rattle.cache_lines.specs.Making.{making_of}
-use Rattle.cache_lines.specs.Waiting.{under_way, when_left}
 use Rattle.cache_core.specs.Settled.{IsAmid}
 use Rattle.cache_core.specs.Settling.{runs_at}
+use Rattle.cache_lines.specs.Making.{making_of}
+use Rattle.cache_lines.specs.Waiting.{under_way, when_left}
 use Rattle.cache_core.proofs.Amid.{amid-behind, amid-least, can-run}
 use Rattle.cache_core.proofs.connections.Getting.{found-at}
 use Rattle.cache_core.proofs.Steps.{piece-idle, piece-lines, runs-is}
@@ -34,15 +33,14 @@ returns-then-not-runs_there-clause-others g c = leaves-all c.args.connections.no
 
 pub returns-clause-ran : goal.returns-clause-ran
 returns-clause-ran g c =
-    let cs = c.args.connections.now in
     let ds = c.resume_there.new.connections in
     let i = c.args.index in
     let r = c.resume_there.ensures.ran in
-    let runs : runs_at (slice_get cs i) ≡ true = sym c.runs_there.ensures ∙ c.if-not-runs_there.false in
+    let runs : runs_at (slice_get c.args.connections.now i) ≡ true = sym c.runs_there.ensures ∙ c.if-not-runs_there.false in
     let so = runs-is _ r.put.was r.put.at runs in
     let leaves = c.leave_closed.ensures.left ∙ ap (λ k. when_left (is_none (closing_at ds i)) k (under_way c.resume_there.new.base.loads)) c.number_at-number.ensures in
     record {
-      ran = λ held stands. piece-lines g.S.Store.view g.T.Tape.view c.args.now c.args.base.now c.resume_there.new.base (i + 1) i cs ds r.put (omega arith) so.1 c.leave_closed.new.loads r.is_held so.0 r.ran leaves held stands;
+      ran = λ held stands. piece-lines g.S.Store.view g.T.Tape.view c.args.now c.args.base.now c.resume_there.new.base (i + 1) i c.args.connections.now ds r.put (omega arith) so.1 c.leave_closed.new.loads r.is_held so.0 r.ran leaves held stands;
       frame = r.ran.frame;
     }
 

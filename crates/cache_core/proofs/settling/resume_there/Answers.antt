@@ -1,4 +1,4 @@
-use Rattle.std.proofs.Common.{[]}
+use Rattle.std.specs.Prelude.{[]}
 use Rattle.cache_core.specs.Connection.Fed.{FedRan}
 use Rattle.cache_core.specs.Fed.{ReplacedAt}
 use Rattle.cache_core.proofs.At.{moved-there}

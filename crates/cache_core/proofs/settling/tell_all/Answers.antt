@@ -1,15 +1,15 @@
-use Rattle.std.proofs.Common.{◌≡◌, ◌+◌, ◌-◌, ◌∷◌, [], ℕ, List, length, map, take, drop, get_or, refl, sym, ap, ◌∙◌, subst, arith}
+use Rattle.std.proofs.Common.{drop, get_or, refl, sym, ap, ◌∙◌, subst, arith, ◌≡◌, ◌+◌, ◌-◌, ◌∷◌, [], ℕ, List, length, map, take}
 use Rattle.std.proofs.lemmas.List.{drop_all, take_all}
 use Rattle.audit_model.specs.Replies.{outcome_text}
 use Rattle.audit_model.specs.Steps.{Deliver, Task}
 use Rattle.audit_model.specs.declared.config.Config.{Config}
-use Rattle.cache_store.specs.Promises.{Frame}
 use Rattle.cache_commands.proofs.Taking.{taken-on, taken-same}
 use Rattle.cache_core.specs.Settled.{IsAmid, Parts}
 use Rattle.cache_core.specs.Settling.{AreWaiting, HaveReplyRoom, IsWaitingAt}
+use Rattle.cache_store.specs.Promises.{Frame}
 use Rattle.cache_core.proofs.Amid.{parts-none, parts-on}
 use Rattle.cache_core.proofs.Loops.{amid-all, amid-next, mapped-more, there-number}
-use Rattle.cache_core.proofs.Waiters.{first-waits, left-room, left-wait, once-first, rest-next, waits-above, waits-inside, waits-numbered}
+use Rattle.cache_core.proofs.Waiters.{first-waits, next-waits, left-room, left-wait, once-first, rest-next, waits-above, waits-inside, waits-numbered}
 use Rattle.cache_core.proofs.settling.tell_all.Goals as goal
 
 pub loop-number-init : goal.loop-number-init
@@ -24,59 +24,29 @@ loop-number-init g c = record {
 
 pub overflow_sub-index : goal.overflow_sub-index
 overflow_sub-index g c =
-    let ns = c.args.waiting.now in
-    let at = c.loop-number.number-index in
-    let n = get_or ns at 0 in
-    let rest = drop (at + 1) ns in
-    let next = rest-next ns at c.loop-number-test.true in
-    let i = c.loop-number.invariant in
     let config = (g.S.Store.view c.args.base.now.store).frame.config in
-    let mid = c.loop-number.connections in
-    let waits = subst (AreWaiting config mid) next i.waits in
-    let first = first-waits config mid n rest waits in
-    waits-above config mid n first
+    let first = next-waits config c.loop-number.connections c.args.waiting.now c.loop-number.number-index c.loop-number-test.true c.loop-number.invariant.waits in
+    waits-above config c.loop-number.connections _ first
 
 pub tell_at-requires-clause-inside : goal.tell_at-requires-clause-inside
 tell_at-requires-clause-inside g c =
-    let ns = c.args.waiting.now in
-    let at = c.loop-number.number-index in
-    let n = get_or ns at 0 in
-    let rest = drop (at + 1) ns in
-    let next = rest-next ns at c.loop-number-test.true in
-    let i = c.loop-number.invariant in
     let config = (g.S.Store.view c.args.base.now.store).frame.config in
-    let mid = c.loop-number.connections in
-    let waits = subst (AreWaiting config mid) next i.waits in
-    let first = first-waits config mid n rest waits in
-    waits-inside config mid n first
+    let first = next-waits config c.loop-number.connections c.args.waiting.now c.loop-number.number-index c.loop-number-test.true c.loop-number.invariant.waits in
+    waits-inside config c.loop-number.connections _ first
 
 pub tell_at-requires-clause-amid : goal.tell_at-requires-clause-amid
 tell_at-requires-clause-amid g c =
     let ns = c.args.waiting.now in
     let at = c.loop-number.number-index in
-    let n = get_or ns at 0 in
-    let rest = drop (at + 1) ns in
-    let next = rest-next ns at c.loop-number-test.true in
     let i = c.loop-number.invariant in
-    let config = (g.S.Store.view c.args.base.now.store).frame.config in
     let mid = c.loop-number.connections in
-    let waits = subst (AreWaiting config mid) next i.waits in
-    let first = first-waits config mid n rest waits in
     amid-next g.S.Store.view g.T.Tape.view c.args.now c.loop-number.base mid ns at c.loop-number-test.true (amid-all g.S.Store.view g.T.Tape.view c.args.now c.args.base.now c.loop-number.base c.args.connections.now mid (length ns) (length (drop at ns)) i.amid c.requires.amid)
 
 pub tell_at-requires-clause-waits : goal.tell_at-requires-clause-waits
 tell_at-requires-clause-waits g c =
-    let ns = c.args.waiting.now in
-    let at = c.loop-number.number-index in
-    let n = get_or ns at 0 in
-    let rest = drop (at + 1) ns in
-    let next = rest-next ns at c.loop-number-test.true in
-    let i = c.loop-number.invariant in
     let config = (g.S.Store.view c.args.base.now.store).frame.config in
-    let mid = c.loop-number.connections in
-    let waits = subst (AreWaiting config mid) next i.waits in
-    let first = first-waits config mid n rest waits in
-    subst (λ (k : Config). IsWaitingAt k mid (n - 1 + 1)) (sym (ap (λ (f : Frame). f.config) i.ran.frame.rest)) (waits-numbered config mid n first)
+    let first = next-waits config c.loop-number.connections c.args.waiting.now c.loop-number.number-index c.loop-number-test.true c.loop-number.invariant.waits in
+    subst (λ (k : Config). IsWaitingAt k c.loop-number.connections (get_or c.args.waiting.now c.loop-number.number-index 0 - 1 + 1)) (sym (ap (λ (f : Frame). f.config) c.loop-number.invariant.ran.frame.rest)) (waits-numbered config c.loop-number.connections _ first)
 
 pub tell_at-requires-clause-room : goal.tell_at-requires-clause-room
 tell_at-requires-clause-room g c =
@@ -85,12 +55,7 @@ tell_at-requires-clause-room g c =
     let n = get_or ns at 0 in
     let rest = drop (at + 1) ns in
     let next = rest-next ns at c.loop-number-test.true in
-    let i = c.loop-number.invariant in
-    let config = (g.S.Store.view c.args.base.now.store).frame.config in
-    let mid = c.loop-number.connections in
-    let waits = subst (AreWaiting config mid) next i.waits in
-    let first = first-waits config mid n rest waits in
-    (subst (HaveReplyRoom mid (length (outcome_text c.args.outcome.now))) next i.room) n (once-first n rest)
+    (subst (HaveReplyRoom c.loop-number.connections (length (outcome_text c.args.outcome.now))) next c.loop-number.invariant.room) n (once-first n rest)
 
 pub loop-number-preserved : goal.loop-number-preserved
 loop-number-preserved g c =
@@ -126,7 +91,5 @@ returns-clause-ran g c =
 
 pub returns-clause-amid : goal.returns-clause-amid
 returns-clause-amid g c = λ lines amid.
-    let at = c.loop-number.number-index in
-    let ns = c.args.waiting.now in
-    let none = ap length (drop_all at ns c.loop-number-test.false) in
+    let none = ap length (drop_all c.loop-number.number-index c.args.waiting.now c.loop-number-test.false) in
     subst (λ k. IsAmid g.S.Store.view g.T.Tape.view c.args.now c.loop-number.base c.loop-number.connections k) (omega (arith, none)) (c.loop-number.invariant.amid lines amid)

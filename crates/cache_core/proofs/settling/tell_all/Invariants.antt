@@ -1,4 +1,4 @@
-use Rattle.std.proofs.Common.{◌≡◌, ◌+◌, ℕ, length, map, take, drop}
+use Rattle.std.proofs.Common.{drop, ◌≡◌, ◌+◌, ℕ, length, map, take}
 use Rattle.audit_model.specs.Replies.{outcome_text}
 use Rattle.audit_model.specs.Steps.{Deliver}
 use Rattle.cache_commands.specs.Loads.Pending.{SameTaken}

@@ -1,4 +1,4 @@
-use Rattle.std.proofs.Common.{◌++◌, refl, ap, ◌∙◌, arith}
+use Rattle.std.proofs.Common.{refl, ap, ◌∙◌, arith, ◌++◌}
 use Rattle.cache_lines.proofs.NotesTaken.{fewer, gives-more, gives-none, taken-next}
 use Rattle.cache_lines.proofs.draining.drain.Goals as goal
 

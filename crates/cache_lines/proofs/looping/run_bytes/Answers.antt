@@ -1,10 +1,9 @@
-use Rattle.std.proofs.Common.{◌+◌, ◌∙◌, ap, arith, drop, length-drop, refl, subst, sym, false}
-use Rattle.std.specs.Prelude.{Err, Ok}
+use Rattle.std.proofs.Common.{◌∙◌, ap, arith, drop, length-drop, refl, subst, sym, ◌+◌, false, Err, Ok}
 use Rattle.std.proofs.lemmas.List.{drop-drop}
-use Rattle.cache_commands.proofs.Taking.{taken-on, taken-same}
 use Rattle.cache_lines.specs.Bases.{seen}
 use Rattle.cache_lines.specs.Making.{making_of}
 use Rattle.cache_lines.specs.Stops.{RunsFirst}
+use Rattle.cache_commands.proofs.Taking.{taken-on, taken-same}
 use Rattle.cache_lines.proofs.Gathering.{has-spare}
 use Rattle.cache_lines.proofs.LineRuns.{ran-none}
 use Rattle.cache_lines.proofs.ReadyEnds.{lines-end}

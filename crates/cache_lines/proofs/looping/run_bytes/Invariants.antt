@@ -1,4 +1,4 @@
-use Rattle.std.proofs.Common.{◌≡◌, ◌≤◌, ◌-◌, length}
+use Rattle.std.specs.Prelude.{◌≡◌, ◌≤◌, ◌-◌, length}
 use Rattle.cache_commands.specs.Loads.Pending.{SameTaken}
 use Rattle.cache_commands.specs.Right.{KeepsFrame}
 use Rattle.cache_lines.specs.Bases.{seen}

@@ -1,12 +1,12 @@
-use Rattle.std.proofs.Common.{◌≡◌, ◌∙◌, ap, refl, subst, sym, true, false}
-use Rattle.audit_lines.specs.Request.{said}
+use Rattle.std.proofs.Common.{◌∙◌, ap, refl, subst, sym, ◌≡◌, true, false}
 use Rattle.audit_model.specs.Grammar.{reading}
 use Rattle.audit_model.specs.declared.config.Config.{Config}
 use Rattle.cache_commands.specs.Answered.{IsAnswered}
 use Rattle.cache_commands.specs.Ran.{MissesLive, RunsRequest, rests}
-use Rattle.cache_commands.specs.declared.running.Ran.TheVariants.{Answered}
 use Rattle.cache_lines.specs.Lines.{says_quit}
 use Rattle.cache_lines.specs.Waiting.{under_way}
+use Rattle.audit_lines.specs.Request.{said}
+use Rattle.cache_commands.specs.declared.running.Ran.TheVariants.{Answered}
 use Rattle.cache_lines.proofs.AnsweredLine.{ran-drafted, waits-drafted}
 use Rattle.cache_lines.proofs.running.run_line.Goals as goal
 

@@ -1,14 +1,12 @@
-use Rattle.std.proofs.Common.{◌≡◌, [], true, refl, sym, ◌∙◌, subst, inl, ⊎_elim}
-use Rattle.std.specs.Prelude.{Err, IfErr}
+use Rattle.std.proofs.Common.{◌≡◌, [], true, refl, sym, ◌∙◌, subst, inl, ⊎_elim, Err, IfErr}
 use Rattle.cache_run.specs.Devices.Sources.{HasToldLate}
 use Rattle.cache_run.specs.declared.devices.errors.RunError.TheVariants.{Moment, Read, UsedUp, Write}
 use Rattle.cache_run.specs.Driver.Causes.{Because, Fails, RunsOut}
 use Rattle.cache_run.specs.Driver.Driven.{ClosesAfter, around}
-use Rattle.cache_run.specs.Driver.Drives.{Drives}
-use Rattle.cache_run.proofs.driver.Whole.{converses-drives}
+use Rattle.cache_run.proofs.driver.Conversing.{fresh-underway}
 use Rattle.cache_run.specs.Accounts.{pending_of}
 use Rattle.cache_run.specs.Lent.{ClosesAt, ComesAt, DropsAt, OpensAt}
-use Rattle.cache_run.proofs.Driving.{lent-none, cause-of, memory-only, runs-partly, runs-whole, stops-for, unasked}
+use Rattle.cache_run.proofs.Driving.{Served, lent-none, lent-served, cause-of, memory-only, runs-partly, runs-whole, stops-for, unasked}
 use Rattle.cache_core.proofs.connections.Getting.{found-at}
 use Rattle.cache_spaces.proofs.Placing.{at-same, at-unmoved}
 use Rattle.cache_run.proofs.serving.run.Goals as goal
@@ -39,9 +37,11 @@ returns g c =
     let is = c.close.ensures.same ∙ c.outcome_of-outcome.ensures in
     let fresh = c.in-Ok.ensures.opens.1 in
     let closes = subst (λ o. ClosesAfter ClosesAt DropsAt loads o ran.new.session ran.new.place c.close.new.place ran.new.loader c.close.new.loader) c.outcome_of-outcome.ensures c.close.ensures.closes in
-    let drives = converses-drives true OpensAt ComesAt ClosesAt DropsAt reads loads remaining contents ran.result c.args.namespace c.in-Ok.session ran.new.session c.args.service.now c.open.new.place ran.new.place c.close.new.place c.args.reader.now ran.new.reader c.args.writer.now ran.new.writer c.args.clock.now ran.new.clock c.args.loader.now ran.new.loader c.close.new.loader
-    c.in-Ok.ensures.opens.0 fresh ran.ensures.known.1 ran.ensures.goes closes in
-    let came = subst (λ o. Drives true OpensAt ComesAt ClosesAt DropsAt reads loads c.args.namespace c.args.service.now c.close.new.place (around remaining contents c.args.reader.now c.args.writer.now c.args.clock.now c.args.loader.now) (around remaining contents ran.new.reader ran.new.writer ran.new.clock c.close.new.loader) o) (sym is) drives in
+    let a = around remaining contents c.args.reader.now c.args.writer.now c.args.clock.now c.args.loader.now in
+    let b = around remaining contents ran.new.reader ran.new.writer ran.new.clock c.close.new.loader in
+    let served = lent-served reads loads c.args.namespace c.args.service.now c.close.new.place a b ran.new.session c.open.new.place ran.new.place ran.new.loader ran.result (subst (λ conn. OpensAt c.args.namespace conn c.args.service.now c.open.new.place) (sym ran.ensures.known.1) c.in-Ok.ensures.opens.0)
+    (ran.ensures.goes c.open.new.place a (fresh-underway true ComesAt ClosesAt reads loads c.open.new.place a c.in-Ok.session fresh)) closes in
+    let came = subst (Served reads loads c.args.namespace c.args.service.now c.close.new.place a b) (sym is) served in
     let Reads = Fails c.args.reader.now ran.new.reader in
     let Writes = Fails c.args.writer.now ran.new.writer in
     let Turns = RunsOut remaining loads c.args.reader.now ran.new.reader c.args.loader.now c.close.new.loader in
@@ -50,7 +50,7 @@ returns g c =
     let why = subst (λ o. IfErr o (Because Reads Writes Turns Late)) (sym is) (stops-for Reads Writes Turns Late (true ≡ true) (c.in-Ok.session.inbox ≡ []) (RunsOut remaining loads c.args.reader.now ran.new.reader c.args.loader.now ran.new.loader) ran.result refl fresh.inbox turns ran.ensures.why ran.ensures.more) in record {
       ok = runs-whole remaining contents reads loads c.args.namespace c.args.service.now c.close.new.place c.args.reader.now ran.new.reader c.args.writer.now ran.new.writer c.args.clock.now ran.new.clock c.args.loader.now c.close.new.loader result came;
       err = runs-partly remaining contents reads loads c.args.namespace c.args.service.now c.close.new.place c.args.reader.now ran.new.reader c.args.writer.now ran.new.writer c.args.clock.now ran.new.clock c.args.loader.now c.close.new.loader result came;
-      none = lent-none reads loads c.args.namespace c.args.service.now c.close.new.place (around remaining contents c.args.reader.now c.args.writer.now c.args.clock.now c.args.loader.now) (around remaining contents ran.new.reader ran.new.writer ran.new.clock c.close.new.loader) result came;
+      none = lent-none reads loads c.args.namespace c.args.service.now c.close.new.place a b result came;
       read = cause-of Reads Writes Turns Late result Read why;
       write = cause-of Reads Writes Turns Late result Write why;
       moment = cause-of Reads Writes Turns Late result Moment why;

@@ -2,9 +2,9 @@ use Rattle.std.proofs.Common.{◌≡◌, ◌≢◌, ◌≤◌, ◌∙◌, true, 
 use Rattle.cache_run.proofs.devices.Sending.{failed_after}
 use Rattle.cache_run.specs.Driver.Driven.{around}
 use Rattle.cache_run.specs.declared.driver.driving.Progress.TheVariants.{More}
-use Rattle.cache_run.proofs.driver.Whole.{fresh-underway}
+use Rattle.cache_run.proofs.driver.Conversing.{fresh-underway}
 use Rattle.cache_run.specs.declared.devices.errors.RunError.TheVariants.{Read, Write, Moment}
-use Rattle.cache_serve.specs.Sitting.{Closes, Comes, Drops, Opens, tally}
+use Rattle.cache_serve.specs.Sitting.{Closes, Comes, tally}
 use Rattle.cache_serve.proofs.Promised.{attended, ended-because, rested, rested-wrote}
 use Rattle.cache_serve.proofs.serving.serve_and_tell.Goals as goal
 
@@ -25,8 +25,7 @@ returns-in-Err-open-clause-asked g c = λ kept. (
 
 pub loop-turn-init : goal.loop-turn-init
 loop-turn-init g c = record {
-  goes = fresh-underway false (Opens g.C.Shareable.spaces g.C.Shareable.untaken g.C.Shareable.KEEPS) (Comes g.C.Shareable.spaces g.C.Shareable.untaken g.C.Shareable.KEEPS)
-      (Closes g.C.Shareable.spaces g.C.Shareable.untaken g.C.Shareable.KEEPS) (Drops g.C.Shareable.spaces g.C.Shareable.untaken g.C.Shareable.KEEPS) g.K.Clock.reads g.D.Loader.loads _ _ c.in-Ok-open.session c.in-Ok-open.ensures.opens.1;
+  goes = fresh-underway false (Comes g.C.Shareable.spaces g.C.Shareable.untaken g.C.Shareable.KEEPS) (Closes g.C.Shareable.spaces g.C.Shareable.untaken g.C.Shareable.KEEPS) g.K.Clock.reads g.D.Loader.loads _ _ c.in-Ok-open.session c.in-Ok-open.ensures.opens.1;
   same = refl;
   reads = omega arith;
   writes = omega arith;

@@ -1,4 +1,4 @@
-use Rattle.cache_shared.proofs.Marked.{once_count}
+use Rattle.cache_shared.proofs.Agreeing.{once_count}
 use Rattle.cache_shared.proofs.judging.agree.Goals as goal
 
 pub returns-then-are_parts : goal.returns-then-are_parts

@@ -1,7 +1,7 @@
 use Rattle.std.proofs.Common.{◌≡◌, rules, length, arith}
 use Rattle.std.proofs.lemmas.List.{get_or-replicate}
 use Rattle.std.proofs.lemmas.Grind.{common_steps}
-use Rattle.cache_shared.proofs.Marked.{once_count}
+use Rattle.cache_shared.proofs.Agreeing.{once_count}
 use Rattle.cache_shared.proofs.judging.are_marked_once.Goals as goal
 
 pub judge-requires : goal.judge-requires

@@ -4,5 +4,5 @@ use Rattle.cache_shared.proofs.recorded.take_note.Goals as goal
 
 pub returns-in_default-clause-refused : goal.returns-in_default-clause-refused
 returns-in_default-clause-refused c =
-    let x = found-at c.args.recorded.now.spaces c.args.namespace c.in-Ok.ensures.there in
+    let x = found-at c.args.recorded.now.spaces c.args.namespace c.in_ok-note.ensures.there in
     inr (record { space = x.0; at = x.1; fact = refl })

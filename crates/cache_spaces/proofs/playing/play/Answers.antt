@@ -6,7 +6,7 @@ use Rattle.cache_spaces.proofs.Journaling.{played-none, played-step, played-to-e
 use Rattle.cache_spaces.proofs.playing.play.Goals as goal
 
 pub loop-input-init : goal.loop-input-init
-loop-input-init c = record { played = played-none c.args.configs.now c.args.generator c.args.moment c.in-Ok.recorded.spaces c.in-Ok.ensures.made }
+loop-input-init c = record { played = played-none c.args.configs.now c.args.generator c.args.moment c.in_ok-recorded.recorded.spaces c.in_ok-recorded.ensures.made }
 
 pub loop-input-preserved : goal.loop-input-preserved
 loop-input-preserved c = record {

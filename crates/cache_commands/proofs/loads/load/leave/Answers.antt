@@ -1,6 +1,6 @@
 use Rattle.std.proofs.Common.{rules, ap, not, ◌==◌}
-use Rattle.std.proofs.lemmas.Fn.{filter_same}
 use Rattle.cache_commands.specs.Loads.Keys.{pending_load}
+use Rattle.std.proofs.lemmas.Fn.{filter_same}
 use Rattle.cache_commands.proofs.loads.load.leave.Goals as goal
 
 pub returns : goal.returns

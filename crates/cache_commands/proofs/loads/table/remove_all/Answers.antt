@@ -1,4 +1,4 @@
-use Rattle.std.proofs.Common.{◌≡◌, ◌==◌, ◌<◌, ◌||◌, ℕ, suc, zero, Bool, true, false, List, [], ◌∷◌, Option, None, cond, drop, length, get_or, refl, ap, ◌∙◌, add-one, arith}
+use Rattle.std.proofs.Common.{◌<◌, zero, cond, drop, get_or, refl, ap, ◌∙◌, add-one, arith, ◌≡◌, ◌==◌, ◌||◌, ℕ, suc, Bool, true, false, List, [], ◌∷◌, Option, None, length}
 use Rattle.std.specs.List.{list_any}
 use Rattle.audit_loads.specs.Underway.{load_of}
 use Rattle.cache_commands.proofs.loads.table.remove_all.Goals as goal

@@ -1,4 +1,4 @@
-use Rattle.std.proofs.Common.{◌≡◌, ◌==◌, ℕ, None, cond, drop}
+use Rattle.std.proofs.Common.{cond, drop, ◌≡◌, ◌==◌, ℕ, None}
 use Rattle.std.specs.List.{list_any}
 use Rattle.audit_loads.specs.Underway.{load_of}
 use Rattle.cache_commands.proofs.loads.table.remove_all.Given as goal

@@ -1,6 +1,5 @@
-use Rattle.std.proofs.Common.{◌≡◌, ◌+◌, false, suc, true, ap, refl, subst, arith, ◌∙◌}
+use Rattle.std.proofs.Common.{ap, refl, subst, arith, ◌∙◌, ◌≡◌, ◌+◌, false, suc, true}
 use Rattle.std.specs.Option.{option_map}
-use Rattle.cache_core.proofs.connection.Reruns.{answered-ran, fits-behind, held-ran, load-key, not-last, waits-ran}
 use Rattle.cache_lines.specs.Bases.{Seen, seen}
 use Rattle.cache_lines.specs.Gathered.{gathered, stage}
 use Rattle.cache_lines.specs.Ran.{RunsAs, begins_to_wait}
@@ -8,6 +7,7 @@ use Rattle.cache_lines.specs.Tape.Taped.{spends, step_held}
 use Rattle.cache_lines.specs.Waiting.{under_way}
 use Rattle.cache_lines.specs.Whole.{held_line}
 use Rattle.cache_lines.specs.declared.running.LineOutcome.TheVariants.{Stays, Quits, Waits}
+use Rattle.cache_core.proofs.connection.Reruns.{answered-ran, fits-behind, held-ran, load-key, not-last, waits-ran}
 use Rattle.cache_lines.proofs.Gathering.{held-gathered, same-under}
 use Rattle.cache_core.proofs.connection.again.load_again.Goals as goal
 

@@ -1,5 +1,4 @@
-use Rattle.std.proofs.Common.{◌∙◌, refl}
-use Rattle.std.specs.Prelude.{codes}
+use Rattle.std.proofs.Common.{◌∙◌, refl, codes}
 use Rattle.std.proofs.lemmas.Bool.{le-leb}
 use Rattle.cache_core.specs.Connection.Fed.{seen_of}
 use Rattle.cache_lines.specs.Bases.{Seen}

@@ -1,8 +1,8 @@
-use Rattle.std.proofs.Common.{List, ℕ, false, sym, subst}
+use Rattle.std.proofs.Common.{sym, subst, List, ℕ, false}
+use Rattle.cache_core.specs.Connection.Fed.{FedRan}
 use Rattle.cache_lines.specs.Bases.{seen}
 use Rattle.cache_lines.specs.Gathered.{stage}
 use Rattle.cache_lines.specs.Waiting.{under_way}
-use Rattle.cache_core.specs.Connection.Fed.{FedRan}
 use Rattle.cache_core.proofs.connection.Pieces.{fed-waiting}
 use Rattle.cache_core.proofs.connection.feeding.feed_connection.Goals as goal
 

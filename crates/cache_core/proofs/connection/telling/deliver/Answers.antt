@@ -1,10 +1,10 @@
 use Rattle.std.proofs.Common.{◌∙◌, refl}
 use Rattle.audit_model.specs.Replies.{outcome_text}
 use Rattle.cache_core.specs.Connection.Fed.{seen_of}
-use Rattle.cache_core.proofs.connection.Reruns.{delivered-ran, load-key, said-gathered}
 use Rattle.cache_lines.specs.Bases.{Seen}
 use Rattle.cache_lines.specs.Gathered.{stage}
 use Rattle.cache_lines.specs.Whole.{held_line}
+use Rattle.cache_core.proofs.connection.Reruns.{delivered-ran, load-key, said-gathered}
 use Rattle.cache_core.proofs.connection.telling.deliver.Goals as goal
 
 pub returns-clause-ran : goal.returns-clause-ran
@@ -14,10 +14,9 @@ returns-clause-ran g c =
     let view = g.S.Store.view in
     let tape = g.T.Tape.view in
     let base = c.args.base.now in
-    let outcome = c.args.outcome.now in
     let was = seen_of view tape base old in
     let is : Seen = record { stage = stage (view base.store) new.output.text.items (tape c.reply_with.new.tape); loads = was.loads } in
     let a = c.reply_with.ensures in
     let k = load-key _ c.requires.load in
-    delivered-ran c.args.now c.args.number old new was is c.requires.waits c.sound.ensures c.requires.can_run.in_time.0 c.requires.can_run.clear outcome k.0 k.1 (a.closing ∙ c.requires.open) a.standing a.bytes
-    (said-gathered (view base.store) old.output.text.items new.output.text.items (outcome_text outcome) (held_line old.unread.bytes) c.args.number (tape base.tape) (tape c.reply_with.new.tape) c.requires.can_run.clear a.said a.text) refl refl
+    delivered-ran c.args.now c.args.number old new was is c.requires.waits c.sound.ensures c.requires.can_run.in_time.0 c.requires.can_run.clear c.args.outcome.now k.0 k.1 (a.closing ∙ c.requires.open) a.standing a.bytes
+    (said-gathered (view base.store) old.output.text.items new.output.text.items (outcome_text c.args.outcome.now) (held_line old.unread.bytes) c.args.number (tape base.tape) (tape c.reply_with.new.tape) c.requires.can_run.clear a.said a.text) refl refl

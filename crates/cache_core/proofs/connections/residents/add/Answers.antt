@@ -1,5 +1,4 @@
-use Rattle.std.proofs.Common.{◌≡◌, ◌<◌, ◌++◌, ◌∷◌, [], Some, sym, ap, ◌∙◌, subst, arith}
-use Rattle.std.specs.Prelude.{length}
+use Rattle.std.proofs.Common.{sym, ap, ◌∙◌, subst, arith, ◌≡◌, ◌<◌, ◌++◌, ◌∷◌, [], Some, length}
 use Rattle.cache_core.specs.Connections.Residents.{AreSettled, first_reason, presences_of}
 use Rattle.cache_core.proofs.connections.Saying.{added, added-settled}
 use Rattle.cache_core.proofs.connections.residents.add.Goals as goal
@@ -11,8 +10,7 @@ returns-clause-settled c =
     let k = c.args.connection in
     let index_is : c.len-index.result ≡ length rs = c.len-index.ensures ∙ c.args.residents.now.ok.0 in
     let place_is : c.len-place.result ≡ length ws = c.len-place.ensures ∙ c.try_reserve-2.ensures.len ∙ c.args.words.now.ok.0 in
-    let below = c.if-index.false in
-    let few : length rs < first_reason = omega (arith, index_is, below) in
+    let few : length rs < first_reason = omega (arith, index_is, c.if-index.false) in
     let residents_are : c.push_within.new.items.items ≡ rs ++ (record { place = length ws; connection = Some k }) ∷ [] =
     c.push_within.ensures.items
     ∙ ap (λ xs. xs ++ (record { place = c.len-place.result; connection = Some k }) ∷ []) c.try_reserve.ensures.items
@@ -28,8 +26,7 @@ returns-clause-added c =
     let k = c.args.connection in
     let index_is : c.len-index.result ≡ length rs = c.len-index.ensures ∙ c.args.residents.now.ok.0 in
     let place_is : c.len-place.result ≡ length ws = c.len-place.ensures ∙ c.try_reserve-2.ensures.len ∙ c.args.words.now.ok.0 in
-    let below = c.if-index.false in
-    let few : length rs < first_reason = omega (arith, index_is, below) in
+    let few : length rs < first_reason = omega (arith, index_is, c.if-index.false) in
     let residents_are : c.push_within.new.items.items ≡ rs ++ (record { place = length ws; connection = Some k }) ∷ [] =
     c.push_within.ensures.items
     ∙ ap (λ xs. xs ++ (record { place = c.len-place.result; connection = Some k }) ∷ []) c.try_reserve.ensures.items

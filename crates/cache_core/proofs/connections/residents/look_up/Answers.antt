@@ -1,11 +1,10 @@
-use Rattle.std.proofs.Common.{◌≡◌, ℕ, List, false, Option, Some, None, sym, ap, ◌∙◌}
-use Rattle.std.specs.Prelude.{slice_index_or, MatchOption}
+use Rattle.std.proofs.Common.{sym, ap, ◌∙◌, ◌≡◌, ℕ, List, false, Option, Some, None, slice_index_or, MatchOption}
 use Rattle.std.specs.List.{slice_get}
 use Rattle.std.specs.Option.{option_map}
-use Rattle.cache_core.specs.declared.connection.connection.Connection.{Connection}
 use Rattle.cache_core.specs.Connections.Presence.{Here, Presence, is_here}
 use Rattle.cache_core.specs.Connections.Residents.{held_or_out}
 use Rattle.cache_core.specs.declared.connections.residents.Resident.{Resident}
+use Rattle.cache_core.specs.declared.connection.connection.Connection.{Connection}
 use Rattle.cache_core.proofs.connections.Getting.{at-place}
 use Rattle.cache_core.proofs.connections.Saying.{held-at, resident-there, word-at}
 use Rattle.cache_core.proofs.connections.residents.look_up.Goals as goal

@@ -1,5 +1,4 @@
-use Rattle.std.proofs.Common.{refl, arith}
-use Rattle.std.specs.Prelude.{slice_index_or}
+use Rattle.std.proofs.Common.{refl, arith, slice_index_or}
 use Rattle.cache_core.specs.Connections.Presence.{Out}
 use Rattle.cache_core.proofs.connections.Getting.{at-place}
 use Rattle.cache_core.proofs.connections.Saying.{changed, changed-settled, index-out, resident-there, within-some, word-at}
@@ -13,8 +12,7 @@ index_mut-resident-requires c =
     let w = slice_index_or ws i 0 in
     let at = word-at ws i (within-some rs ws i Out c.requires.out) in
     let inside = resident-there rs ws i w c.requires.settled at (index-out rs ws i w at c.requires.out) in
-    let count = c.args.residents.now.ok.0 in
-    omega (arith, inside, count)
+    omega (arith, inside, c.args.residents.now.ok.0)
 
 pub returns-clause-settled : goal.returns-clause-settled
 returns-clause-settled c =
@@ -24,9 +22,8 @@ returns-clause-settled c =
     let w = slice_index_or ws i 0 in
     let at = word-at ws i (within-some rs ws i Out c.requires.out) in
     let small = index-out rs ws i w at c.requires.out in
-    let r = c.index_mut-resident.result.now in
-    let there = at-place rs w r (resident-there rs ws i w c.requires.settled at small) c.index_mut-resident.ensures.value in
-    changed-settled rs ws w r _ c.requires.settled there refl
+    let there = at-place rs w c.index_mut-resident.result.now (resident-there rs ws i w c.requires.settled at small) c.index_mut-resident.ensures.value in
+    changed-settled rs ws w c.index_mut-resident.result.now _ c.requires.settled there refl
 
 pub returns-clause-put : goal.returns-clause-put
 returns-clause-put c =

@@ -1,5 +1,4 @@
-use Rattle.std.proofs.Common.{Some, None, sym, ap, ◌∙◌}
-use Rattle.std.specs.Prelude.{slice_index_or}
+use Rattle.std.proofs.Common.{sym, ap, ◌∙◌, Some, None, slice_index_or}
 use Rattle.std.specs.Option.{option_map_or}
 use Rattle.cache_core.specs.Connections.Presence.{closing_of}
 use Rattle.cache_core.specs.Connections.Residents.{held_or_out}
@@ -19,10 +18,9 @@ returns-in-Some c =
     let ws = c.args.words.now in
     let w = slice_index_or ws c.args.index 0 in
     let at = word-at ws c.args.index c.requires.within in
-    let small = c.if-word-ge-FIRST_REASON.false in
     let r = c.index-residents-word.result in
-    let there = at-place rs w r (resident-there rs ws c.args.index w c.requires.settled at small) c.index-residents-word.is in
-    sym (ap (λ o. option_map_or closing_of o None) (held-at rs ws c.args.index w r at small there ∙ ap (λ (x : Resident). Some (held_or_out x.connection)) c.index-residents-word.is ∙ ap (λ o. Some (held_or_out o)) c.in-Some.is))
+    let there = at-place rs w r (resident-there rs ws c.args.index w c.requires.settled at c.if-word-ge-FIRST_REASON.false) c.index-residents-word.is in
+    sym (ap (λ o. option_map_or closing_of o None) (held-at rs ws c.args.index w r at c.if-word-ge-FIRST_REASON.false there ∙ ap (λ (x : Resident). Some (held_or_out x.connection)) c.index-residents-word.is ∙ ap (λ o. Some (held_or_out o)) c.in-Some.is))
 
 pub returns-in-None : goal.returns-in-None
 returns-in-None c =
@@ -30,7 +28,6 @@ returns-in-None c =
     let ws = c.args.words.now in
     let w = slice_index_or ws c.args.index 0 in
     let at = word-at ws c.args.index c.requires.within in
-    let small = c.if-word-ge-FIRST_REASON.false in
     let r = c.index-residents-word.result in
-    let there = at-place rs w r (resident-there rs ws c.args.index w c.requires.settled at small) c.index-residents-word.is in
-    sym (ap (λ o. option_map_or closing_of o None) (held-at rs ws c.args.index w r at small there ∙ ap (λ (x : Resident). Some (held_or_out x.connection)) c.index-residents-word.is ∙ ap (λ o. Some (held_or_out o)) c.in-None.is))
+    let there = at-place rs w r (resident-there rs ws c.args.index w c.requires.settled at c.if-word-ge-FIRST_REASON.false) c.index-residents-word.is in
+    sym (ap (λ o. option_map_or closing_of o None) (held-at rs ws c.args.index w r at c.if-word-ge-FIRST_REASON.false there ∙ ap (λ (x : Resident). Some (held_or_out x.connection)) c.index-residents-word.is ∙ ap (λ o. Some (held_or_out o)) c.in-None.is))

@@ -1,5 +1,4 @@
-use Rattle.std.proofs.Common.{◌<◌, sym, ap, ◌∙◌, subst, arith}
-use Rattle.std.specs.Prelude.{IfSome, length, slice_set}
+use Rattle.std.proofs.Common.{sym, ap, ◌∙◌, subst, arith, ◌<◌, IfSome, length, slice_set}
 use Rattle.cache_core.specs.Connections.Presence.{Gone}
 use Rattle.cache_core.specs.Connections.Residents.{AreSettled, first_reason, presences_of}
 use Rattle.cache_core.proofs.connections.Getting.{at-place}
@@ -8,28 +7,21 @@ use Rattle.cache_core.proofs.connections.residents.remove_at.Goals as goal
 
 pub unreachable-requires : goal.unreachable-requires
 unreachable-requires c =
-    let rs = c.args.residents.now.items in
-    let ws = c.args.words.now.items in
-    let i = c.args.index in
     let w = c.index.result.now in
-    let at = at-place ws i w c.requires.within c.index.ensures in
+    let at = at-place c.args.words.now.items c.args.index w c.requires.within c.index.ensures in
     let small : w < first_reason = subst (λ o. IfSome o (λ word. word < first_reason)) at c.requires.here in
-    let inside = resident-there rs ws i w c.requires.settled at small in
-    let count = c.args.residents.now.ok.0 in
-    let none = c.in_default.ensures.cases.0 in
-    omega (arith, inside, count, none)
+    let inside = resident-there c.args.residents.now.items c.args.words.now.items c.args.index w c.requires.settled at small in
+    omega (arith, inside, c.args.residents.now.ok.0, c.in_default.ensures.cases.0)
 
 pub index_mut-requires-then-gap-len : goal.index_mut-requires-then-gap-len
 index_mut-requires-then-gap-len c =
     let ws = c.args.words.now.items in
-    let i = c.args.index in
     let w = c.index.result.now in
-    let at = at-place ws i w c.requires.within c.index.ensures in
+    let at = at-place ws c.args.index w c.requires.within c.index.ensures in
     let small : w < first_reason = subst (λ o. IfSome o (λ word. word < first_reason)) at c.requires.here in
     let m = subst (λ rs. AreSettled rs ws) c.in-Some.ensures.items c.requires.settled in
-    let there = last-within c.pop.new.self.items c.in-Some.last ws i w c.args.why m at small in
-    let count = c.args.words.now.ok.0 in
-    omega (arith, there, count)
+    let there = last-within c.pop.new.self.items c.in-Some.last ws c.args.index w c.args.why m at small in
+    omega (arith, there, c.args.words.now.ok.0)
 
 pub returns-then-gap-len-clause-settled : goal.returns-then-gap-len-clause-settled
 returns-then-gap-len-clause-settled c =
@@ -41,9 +33,7 @@ returns-then-gap-len-clause-settled c =
     let at = at-place ws i w c.requires.within c.index.ensures in
     let small : w < first_reason = subst (λ o. IfSome o (λ word. word < first_reason)) at c.requires.here in
     let m = subst (λ rs. AreSettled rs ws) c.in-Some.ensures.items c.requires.settled in
-    let count = c.pop.new.self.ok.0 in
-    let below = c.if-gap-len.true in
-    let inside : w < length rs = omega (arith, count, below) in
+    let inside : w < length rs = omega (arith, c.pop.new.self.ok.0, c.if-gap-len.true) in
     subst (λ k. AreSettled (slice_set rs w last) (slice_set (slice_set ws i k) last.place w)) (sym c.word_of.ensures) (moved-settled rs last ws i w c.args.why m at small inside)
 
 pub returns-then-gap-len-clause-gone : goal.returns-then-gap-len-clause-gone
@@ -56,9 +46,7 @@ returns-then-gap-len-clause-gone c =
     let at = at-place ws i w c.requires.within c.index.ensures in
     let small : w < first_reason = subst (λ o. IfSome o (λ word. word < first_reason)) at c.requires.here in
     let m = subst (λ rs. AreSettled rs ws) c.in-Some.ensures.items c.requires.settled in
-    let count = c.pop.new.self.ok.0 in
-    let below = c.if-gap-len.true in
-    let inside : w < length rs = omega (arith, count, below) in
+    let inside : w < length rs = omega (arith, c.pop.new.self.ok.0, c.if-gap-len.true) in
     ap (λ k. presences_of (slice_set rs w last) (slice_set (slice_set ws i k) last.place w)) c.word_of.ensures
     ∙ moved rs last ws i w c.args.why m at small inside
     ∙ ap (λ xs. slice_set (presences_of xs ws) i (Gone c.args.why)) (sym c.in-Some.ensures.items)
@@ -66,29 +54,23 @@ returns-then-gap-len-clause-gone c =
 pub returns-else-gap-len-clause-settled : goal.returns-else-gap-len-clause-settled
 returns-else-gap-len-clause-settled c =
     let rs = c.pop.new.self.items in
-    let last = c.in-Some.last in
     let ws = c.args.words.now.items in
     let i = c.args.index in
     let w = c.index.result.now in
     let at = at-place ws i w c.requires.within c.index.ensures in
     let small : w < first_reason = subst (λ o. IfSome o (λ word. word < first_reason)) at c.requires.here in
     let m = subst (λ rs. AreSettled rs ws) c.in-Some.ensures.items c.requires.settled in
-    let count = c.pop.new.self.ok.0 in
-    let above = c.if-gap-len.false in
-    subst (λ k. AreSettled rs (slice_set ws i k)) (sym c.word_of.ensures) (shorter-settled rs last ws i w c.args.why m at small (omega (arith, count, above)))
+    subst (λ k. AreSettled rs (slice_set ws i k)) (sym c.word_of.ensures) (shorter-settled rs c.in-Some.last ws i w c.args.why m at small (omega (arith, c.pop.new.self.ok.0, c.if-gap-len.false)))
 
 pub returns-else-gap-len-clause-gone : goal.returns-else-gap-len-clause-gone
 returns-else-gap-len-clause-gone c =
     let rs = c.pop.new.self.items in
-    let last = c.in-Some.last in
     let ws = c.args.words.now.items in
     let i = c.args.index in
     let w = c.index.result.now in
     let at = at-place ws i w c.requires.within c.index.ensures in
     let small : w < first_reason = subst (λ o. IfSome o (λ word. word < first_reason)) at c.requires.here in
     let m = subst (λ rs. AreSettled rs ws) c.in-Some.ensures.items c.requires.settled in
-    let count = c.pop.new.self.ok.0 in
-    let above = c.if-gap-len.false in
     ap (λ k. presences_of rs (slice_set ws i k)) c.word_of.ensures
-    ∙ shorter rs last ws i w c.args.why m at small (omega (arith, count, above))
+    ∙ shorter rs c.in-Some.last ws i w c.args.why m at small (omega (arith, c.pop.new.self.ok.0, c.if-gap-len.false))
     ∙ ap (λ xs. slice_set (presences_of xs ws) i (Gone c.args.why)) (sym c.in-Some.ensures.items)

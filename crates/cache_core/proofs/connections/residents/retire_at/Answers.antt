@@ -1,5 +1,4 @@
-use Rattle.std.proofs.Common.{◌<◌, ◌-◌, Some, refl, sym, ap, ◌∙◌, subst, arith}
-use Rattle.std.specs.Prelude.{IfSome, slice_set}
+use Rattle.std.proofs.Common.{refl, sym, ap, ◌∙◌, subst, arith, ◌<◌, ◌-◌, Some, IfSome, slice_set}
 use Rattle.cache_core.specs.Connections.Presence.{Gone}
 use Rattle.cache_core.specs.Connections.Residents.{first_reason, held_or_out, presences_of, reason_numbered}
 use Rattle.cache_core.proofs.connections.Getting.{at-place}
@@ -18,14 +17,9 @@ returns-then-word-ge-FIRST_REASON-clause-retired c =
 
 pub index-requires : goal.index-requires
 index-requires c =
-    let rs = c.args.residents.now.items in
-    let ws = c.args.words.now.items in
-    let i = c.args.index in
-    let w = c.index-word.result.now in
-    let at = at-place ws i w c.requires.within c.index-word.ensures in
-    let inside = resident-there rs ws i w c.requires.settled at c.if-word-ge-FIRST_REASON.false in
-    let count = c.args.residents.now.ok.0 in
-    omega (arith, inside, count)
+    let at = at-place c.args.words.now.items c.args.index c.index-word.result.now c.requires.within c.index-word.ensures in
+    let inside = resident-there c.args.residents.now.items c.args.words.now.items c.args.index c.index-word.result.now c.requires.settled at c.if-word-ge-FIRST_REASON.false in
+    omega (arith, inside, c.args.residents.now.ok.0)
 
 pub remove_at-requires-clause-here : goal.remove_at-requires-clause-here
 remove_at-requires-clause-here c =
@@ -39,11 +33,10 @@ returns-in-Some-clause-retired c =
     let i = c.args.index in
     let w = c.index-word.result.now in
     let at = at-place ws i w c.requires.within c.index-word.ensures in
-    let small = c.if-word-ge-FIRST_REASON.false in
     let r = c.index.result.now in
-    let there = at-place rs w r (resident-there rs ws i w c.requires.settled at small) c.index.ensures in
+    let there = at-place rs w r (resident-there rs ws i w c.requires.settled at c.if-word-ge-FIRST_REASON.false) c.index.ensures in
     c.remove_at.ensures.gone
-    ∙ sym (retired-within (presences_of rs ws) i (held_or_out r.connection) (held-at rs ws i w r at small there) ∙ ap (slice_set (presences_of rs ws) i) c.in-Some.ensures)
+    ∙ sym (retired-within (presences_of rs ws) i (held_or_out r.connection) (held-at rs ws i w r at c.if-word-ge-FIRST_REASON.false there) ∙ ap (slice_set (presences_of rs ws) i) c.in-Some.ensures)
 
 pub returns-in-None-clause-retired : goal.returns-in-None-clause-retired
 returns-in-None-clause-retired c =
@@ -52,7 +45,6 @@ returns-in-None-clause-retired c =
     let i = c.args.index in
     let w = c.index-word.result.now in
     let at = at-place ws i w c.requires.within c.index-word.ensures in
-    let small = c.if-word-ge-FIRST_REASON.false in
     let r = c.index.result.now in
-    let there = at-place rs w r (resident-there rs ws i w c.requires.settled at small) c.index.ensures in
-    sym (retired-same (presences_of rs ws) i (held_or_out r.connection) (held-at rs ws i w r at small there) c.in-None.ensures)
+    let there = at-place rs w r (resident-there rs ws i w c.requires.settled at c.if-word-ge-FIRST_REASON.false) c.index.ensures in
+    sym (retired-same (presences_of rs ws) i (held_or_out r.connection) (held-at rs ws i w r at c.if-word-ge-FIRST_REASON.false there) c.in-None.ensures)

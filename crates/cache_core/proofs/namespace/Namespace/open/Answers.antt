@@ -1,29 +1,26 @@
-use Rattle.std.proofs.Common.{◌≡◌, ◌∙◌, ◌∷◌, [], None, false, suc, length, length-append, ap, sym, subst, arith}
+use Rattle.std.proofs.Common.{◌∙◌, ap, sym, subst, arith, ◌≡◌, ◌∷◌, [], None, false, suc, length}
+use Rattle.std.proofs.lemmas.List.{length-append}
 use Rattle.std.specs.Option.{option_map}
-use Rattle.audit_model.specs.declared.event.Event.TheVariants as event
-use Rattle.cache_lines.specs.Tape.Taped.{finishes}
 use Rattle.cache_core.specs.Connections.Presence.{Here}
 use Rattle.cache_core.specs.State.{IsInOrder, State, state_of}
 use Rattle.cache_core.specs.Turned.{Turns}
+use Rattle.cache_lines.specs.Tape.Taped.{finishes}
+use Rattle.audit_model.specs.declared.event.Event.TheVariants as event
 use Rattle.cache_core.proofs.Opened.{count-open, kept-bare, order-open, turns-open}
 use Rattle.cache_core.proofs.namespace.Namespace.open.Goals as goal
 
 pub invariant_of-self-in-Ok : goal.invariant_of-self-in-Ok
 invariant_of-self-in-Ok g c =
     let inside = c.self.inside in
-    let view = g.S.Store.view in
     let tape = g.T.Tape.view in
-    let cs = inside.connections in
-    let new = c.new_connection.result in
     let made = c.new_connection.ensures in
     let kept = kept-bare (event.Open c.len-number.result) (tape inside.base.tape) (tape c.begin_kept.new.tape) (tape c.finish.new.self) c.self.invariant.rests c.in_ok-begin_kept.ensures.started
     (c.finish.ensures ∙ ap (λ ns. option_map (finishes (event.Open c.len-number.result) None ns) (tape c.begin_kept.new.tape)) c.new.ensures) in
-    let pushed = c.in-Ok.ensures.pushed in
-    let more = ap length pushed in
-    let added = length-append cs (Here new ∷ []) in
-    let number_is : c.len-number.result ≡ suc (length cs) = omega (arith, c.len-number.ensures, more, added) in
-    subst (λ xs. IsInOrder view tape (state_of (record { store = inside.base.store; loads = inside.base.loads; tape = c.finish.new.self }) inside.latest xs)) (sym pushed)
-    (order-open view tape inside.base c.finish.new.self inside.latest c.len-number.result cs new number_is made.standing made.unread made.output made.closing kept c.sound.ensures c.self.invariant)
+    let more = ap length c.in-Ok.ensures.pushed in
+    let added = length-append inside.connections (Here c.new_connection.result ∷ []) in
+    let number_is : c.len-number.result ≡ suc (length inside.connections) = omega (arith, c.len-number.ensures, more, added) in
+    subst (λ xs. IsInOrder g.S.Store.view tape (state_of (record { store = inside.base.store; loads = inside.base.loads; tape = c.finish.new.self }) inside.latest xs)) (sym c.in-Ok.ensures.pushed)
+    (order-open g.S.Store.view tape inside.base c.finish.new.self inside.latest c.len-number.result inside.connections c.new_connection.result number_is made.standing made.unread made.output made.closing kept c.sound.ensures c.self.invariant)
 
 pub returns-in-Ok-clause-turned : goal.returns-in-Ok-clause-turned
 returns-in-Ok-clause-turned g c =
@@ -31,18 +28,17 @@ returns-in-Ok-clause-turned g c =
     let view = g.S.Store.view in
     let tape = g.T.Tape.view in
     let cs = inside.connections in
-    let new = c.new_connection.result in
     let made = c.new_connection.ensures in
     let kept = kept-bare (event.Open c.len-number.result) (tape inside.base.tape) (tape c.begin_kept.new.tape) (tape c.finish.new.self) c.self.invariant.rests c.in_ok-begin_kept.ensures.started
     (c.finish.ensures ∙ ap (λ ns. option_map (finishes (event.Open c.len-number.result) None ns) (tape c.begin_kept.new.tape)) c.new.ensures) in
     let pushed = c.in-Ok.ensures.pushed in
     let more = ap length pushed in
-    let added = length-append cs (Here new ∷ []) in
+    let added = length-append cs (Here c.new_connection.result ∷ []) in
     let number_is : c.len-number.result ≡ suc (length cs) = omega (arith, c.len-number.ensures, more, added) in
     let count = count-open cs in
     let was_count = ap (λ (n : State _ _). length n.closings) c.self.view_is in (
       omega (arith, number_is, count, was_count),
       subst (λ n. Turns view tape n (state_of (record { store = inside.base.store; loads = inside.base.loads; tape = c.finish.new.self }) inside.latest c.push.new.self) (event.Open c.len-number.result) false) c.self.view_is
           (subst (λ xs. Turns view tape (state_of inside.base inside.latest cs) (state_of (record { store = inside.base.store; loads = inside.base.loads; tape = c.finish.new.self }) inside.latest xs) (event.Open c.len-number.result) false) (sym pushed)
-          (turns-open view tape inside.base c.finish.new.self inside.latest c.len-number.result cs new number_is made.standing made.unread made.output made.closing kept c.sound.ensures)),
+          (turns-open view tape inside.base c.finish.new.self inside.latest c.len-number.result cs c.new_connection.result number_is made.standing made.unread made.output made.closing kept c.sound.ensures)),
     )

@@ -6,15 +6,10 @@ use Rattle.cache_core.proofs.namespace.Namespace.sound.Goals as goal
 
 pub returns-clause-stands : goal.returns-clause-stands
 returns-clause-stands g c =
-    let view = g.S.Store.view in
-    let inside = c.self.inside in
-    let sound = c.sound.ensures in
-    subst (λ n. (s : Situation) × StandsFor view n s) c.self.view_is
-    (situation_with view (state_of inside.base inside.latest inside.connections) sound.some, record { held = sound.some; stands = sound.stands; is = refl })
+    subst (λ n. (s : Situation) × StandsFor g.S.Store.view n s) c.self.view_is
+    (situation_with g.S.Store.view (state_of c.self.inside.base c.self.inside.latest c.self.inside.connections) c.sound.ensures.some, record { held = c.sound.ensures.some; stands = c.sound.ensures.stands; is = refl })
 
 pub returns-clause-suits : goal.returns-clause-suits
 returns-clause-suits g c =
-    let view = g.S.Store.view in
     let inside = c.self.inside in
-    let loads = inside.base.loads in
-    subst (λ n. SuitsItself view n) c.self.view_is (record { listed = λ number opened. listed-open inside.connections number opened; counted = counted-all inside.connections; sent = loads.sent_before; fewer = loads.fewer })
+    subst (λ n. SuitsItself g.S.Store.view n) c.self.view_is (record { listed = λ number opened. listed-open inside.connections number opened; counted = counted-all inside.connections; sent = inside.base.loads.sent_before; fewer = inside.base.loads.fewer })

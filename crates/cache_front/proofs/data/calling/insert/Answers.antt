@@ -1,8 +1,8 @@
 use Rattle.std.proofs.Common.{arith, ap, ◌∙◌}
 use Rattle.audit_model.specs.Bytewise.{same}
 use Rattle.front_reference.specs.Fronts.{part_of}
-use Rattle.cache_parts.specs.Parts.{service_answers}
-use Rattle.cache_front.specs.Data.Data.{hash_with}
+use Rattle.cache_front.specs.Parts.{service_answers}
+use Rattle.cache_front.specs.Data.{hash_with}
 use Rattle.cache_front.proofs.data.Calls.{tickets_from}
 use Rattle.cache_front.proofs.data.calling.insert.Goals as goal
 

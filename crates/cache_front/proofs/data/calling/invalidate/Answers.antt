@@ -2,8 +2,8 @@ use Rattle.std.proofs.Common.{ap, ◌∙◌}
 use Rattle.audit_model.specs.Bytewise.{same}
 use Rattle.engine_reference.specs.Calls.{removal_rooms}
 use Rattle.front_reference.specs.Fronts.{part_of}
-use Rattle.cache_parts.specs.Parts.{service_answers}
-use Rattle.cache_front.specs.Data.Data.{hash_with}
+use Rattle.cache_front.specs.Parts.{service_answers}
+use Rattle.cache_front.specs.Data.{hash_with}
 use Rattle.cache_front.proofs.data.Calls.{tickets_from, two_rooms}
 use Rattle.cache_front.proofs.data.calling.invalidate.Goals as goal
 

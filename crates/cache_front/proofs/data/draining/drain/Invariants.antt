@@ -4,4 +4,4 @@ use Rattle.cache_front.proofs.data.Drains.{Drains}
 use Rattle.cache_front.proofs.data.draining.drain.Given as goal
 
 abbrev pub invariant-loop-place : goal.invariant-loop-place
-invariant-loop-place g l = record { drains : Drains l.fn.front l.fn.notices.items l.place l.front l.notices.items; room : deque_capacity l.notices ≡ deque_capacity l.fn.notices }
+invariant-loop-place g l = record { drains : Drains l.fn.front l.fn.notes.items l.place l.front l.notes.items; room : deque_capacity l.notes ≡ deque_capacity l.fn.notes }

@@ -1,5 +1,5 @@
 use Rattle.std.proofs.Common.{subst}
-use Rattle.cache_front.proofs.data.Sorting.{Lined, lined_end, lined_more}
+use Rattle.cache_front.proofs.data.Live.{Lined, lined_end, lined_more}
 use Rattle.cache_front.proofs.data.listing.lines_of.Goals as goal
 
 pub loop-key-preserved : goal.loop-key-preserved

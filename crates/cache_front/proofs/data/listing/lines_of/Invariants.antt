@@ -1,4 +1,4 @@
-use Rattle.cache_front.proofs.data.Sorting.{Lined}
+use Rattle.cache_front.proofs.data.Live.{Lined}
 use Rattle.cache_front.proofs.data.listing.lines_of.Given as goal
 
 abbrev pub invariant-loop-key : goal.invariant-loop-key

@@ -1,7 +1,7 @@
 use Rattle.std.proofs.Common.{◌+◌, ◌<◌, ◌∙◌, sym, subst, arith, ℕ, List, ◌∷◌, drop, length}
-use Rattle.cache_front.specs.Data.Data.{hash_with}
-use Rattle.cache_front.specs.Data.Listing.{is_seen}
-use Rattle.cache_front.proofs.data.Sorting.{Sorts, item_next, sorts_more, sorts_skip}
+use Rattle.cache_front.specs.Data.{hash_with}
+use Rattle.cache_front.specs.Listing.{is_seen}
+use Rattle.cache_front.proofs.data.Live.{Sorts, item_next, sorts_more, sorts_skip}
 use Rattle.cache_front.proofs.data.listing.sorted_keys.Goals as goal
 use Rattle.cache_front.proofs.data.listing.sorted_keys.Goals.{then-contains_key+in_ok-insert, else-contains_key}
 

@@ -1,7 +1,7 @@
 use Rattle.std.proofs.Common.{drop}
-use Rattle.cache_front.specs.Data.Data.{hash_with}
-use Rattle.cache_front.specs.Data.Listing.{is_seen}
-use Rattle.cache_front.proofs.data.Sorting.{Sorts}
+use Rattle.cache_front.specs.Data.{hash_with}
+use Rattle.cache_front.specs.Listing.{is_seen}
+use Rattle.cache_front.proofs.data.Live.{Sorts}
 use Rattle.cache_front.proofs.data.listing.sorted_keys.Given as goal
 
 abbrev pub invariant-loop-key : goal.invariant-loop-key

@@ -1,4 +1,4 @@
-use Rattle.std.proofs.Common.{◌≡◌, vec_len}
+use Rattle.std.specs.Prelude.{◌≡◌, vec_len}
 use Rattle.cache_lines.proofs.tape.spare.new_spares.Given as goal
 
 abbrev pub invariant-loop : goal.invariant-loop

@@ -12,7 +12,7 @@ pub returns-then-not-has_no_load : goal.returns-then-not-has_no_load
 returns-then-not-has_no_load g c =
     let next = c.settle_next.ensures in record {
       known = (next.known, next.same.0);
-      goes = λ start a goes. next.goes start a _ goes;
+      goes = λ start a goes. next.goes _ start a goes;
       why = why-map c.settle_next.result (λ no. absurd no) (λ failed. failed) (λ used. used) (λ late. late) next.why;
       more = ok-all c.settle_next.result (λ progress is lent empty. (next.same.1 ∙ empty, asked-runs g.I.Read.remaining g.D.Loader.loads _ _ _ 1 (next.asked lent)));
       forward = (omega arith, next.forward.0, next.forward.1);

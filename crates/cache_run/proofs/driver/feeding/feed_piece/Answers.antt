@@ -4,8 +4,7 @@ use Rattle.cache_run.specs.declared.devices.errors.RunError.TheVariants.{Moment,
 use Rattle.cache_run.specs.Driver.Driven.{IsSettled}
 use Rattle.cache_run.specs.Driver.Exchanges.{Fed}
 use Rattle.cache_run.specs.Driver.Hosting.{exchange_of}
-use Rattle.cache_run.proofs.driver.Pieces.{fed-cut, footing-closed, holds-none, keeps-none, not-late, one-broke, one-went, some-mapped}
-use Rattle.cache_run.proofs.driver.Stepping.{moves-refused, refused-broke, refused-some}
+use Rattle.cache_run.proofs.driver.Pieces.{fed-cut, footing-closed, holds-none, keeps-none, not-late, one-broke, one-went, some-mapped, moves-refused, refused-broke, refused-some}
 use Rattle.cache_run.proofs.driver.feeding.feed_piece.Goals as goal
 
 pub returns-in-Ok-None-clause-goes : goal.returns-in-Ok-None-clause-goes

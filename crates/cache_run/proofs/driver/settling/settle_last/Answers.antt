@@ -1,13 +1,13 @@
 use Rattle.std.proofs.Common.{length, vec_len, refl, ap, arith}
 use Rattle.std.specs.Option.{option_copied}
-use Rattle.cache_run.specs.Driver.Exchanges.{GivenUp}
+use Rattle.cache_run.specs.Driver.Exchanges.{GivenUp, Settled}
 use Rattle.cache_run.proofs.driver.Settled.{asked-once, hand-last, settle-goes, wanted-by}
-use Rattle.cache_run.proofs.driver.Stepping.{moves-refused, refused-broke}
+use Rattle.cache_run.proofs.driver.Pieces.{moves-refused, refused-broke}
 use Rattle.cache_run.proofs.driver.settling.settle_last.Goals as goal
 
 pub returns-in-Err-clause-goes : goal.returns-in-Err-clause-goes
 returns-in-Err-clause-goes g c =
-    let doing = GivenUp _ (record { key = c.as_slice.result.now; answer = _ }) c.now-moment.result in
+    let doing = Settled (GivenUp _ (record { key = c.as_slice.result.now; answer = _ })) c.now-moment.result in
     moves-refused _ _ _ _ doing refl refl refl (_, c.now-moment.ensures, refl) (_, c.load.ensures, refl)
     (_, hand-last c.args.session.now.taken.items _ _ c.in-Some.field-0.now _ _ c.as_slice.result.now c.deref.ensures.value c.last.ensures.value (ap option_copied c.in-Some.is) c.as_slice.ensures refl refl)
     (λ r closes. g.met.H.Host.closes_behind _ _ _ r c.in-Err.ensures.rests closes) (refused-broke c.in-Err.error _ doing _ refl c.in-Err.ensures.why)

@@ -1,5 +1,4 @@
-use Rattle.std.proofs.Common.{◌≡◌, ◌∙◌, true, false, sym, arith}
-use Rattle.std.specs.Prelude.{Err}
+use Rattle.std.proofs.Common.{◌≡◌, ◌∙◌, true, false, sym, arith, Err}
 use Rattle.cache_run.proofs.devices.Sending.{failed_after}
 use Rattle.cache_run.specs.Driver.Driven.{IsClosed}
 use Rattle.cache_run.proofs.driver.Conversing.{moves-comes, moves-on}
@@ -12,7 +11,7 @@ returns-in-Err g c =
     let settled = c.in-Err.ensures in record {
       same = settled.same;
       known = settled.known;
-      goes = λ start a remaining goes. moves-comes _ _ remaining _ _ settled.same.0 goes.talks (λ is. settled.same.1 ∙ goes.whole is) (Err c.in-Err.error) settled.goes;
+      goes = λ remaining start a goes. moves-comes _ _ remaining _ _ settled.same.0 goes.talks (λ is. settled.same.1 ∙ goes.whole is) (Err c.in-Err.error) settled.goes;
       why = settled.why;
       forward = settled.forward;
       asked = settled.asked;
@@ -25,7 +24,7 @@ returns-then-eq g c =
     let fed = c.feed_piece.ensures in record {
       same = (fed.same.0 ∙ settled.same.0, fed.same.1 ∙ settled.same.1);
       known = fed.known;
-      goes = λ start a remaining goes.
+      goes = λ remaining start a goes.
           let on = moves-on _ _ remaining _ _ settled.same.0 goes.talks IsClosed settled.goes in
           moves-comes _ _ remaining _ _ fed.same.0 on.talks (λ is. fed.same.1 ∙ settled.same.1 ∙ goes.whole is) c.feed_piece.result (moves-beside g.D.Loader.loads c.settle_one.new.loader fed.goes);
       why = why-map c.feed_piece.result (λ no. no) (failed_after _ _ _ settled.forward.0 fed.forward.0)
@@ -39,7 +38,7 @@ returns g c =
     let settled = c.in-Ok.ensures in record {
       same = settled.same;
       known = settled.known;
-      goes = λ start a remaining goes.
+      goes = λ remaining start a goes.
           let on = moves-on _ _ remaining _ _ settled.same.0 goes.talks IsClosed settled.goes in record {
             talks = on.talks;
             stands = record {

@@ -1,20 +1,16 @@
-use Rattle.std.proofs.Common.{refl}
-use Rattle.cache_shared.proofs.Looking.{untold-kept, untold-none, untold-note, untold-refused}
+use Rattle.std.proofs.Common.{List, ap, refl}
+use Rattle.std.proofs.lemmas.Result.{on_err_weaker}
+use Rattle.cache_shared.proofs.Performing.{untold-none, untold-note, untold-refused}
 use Rattle.cache_spaces.proofs.Reaching.{where-shown}
-use Rattle.cache_spaces.specs.Bares.{bare_tape}
+use Rattle.cache_shared.specs.Bared.{untold_of}
+use Rattle.cache_spaces.specs.Bares.{BareSpace, bare_tape}
 use Rattle.cache_shared.proofs.bare.ServiceShareable.next_notice.Goals as goal
 
-pub returns-clause-note : goal.returns-clause-note
-returns-clause-note c = untold-note c.args.namespace c.args.self.now c.next_notice.new.self c.next_notice.result c.next_notice.ensures.taken
-
-pub returns-clause-none : goal.returns-clause-none
-returns-clause-none c = untold-none c.args.namespace c.args.self.now c.next_notice.new.self c.next_notice.result c.next_notice.ensures.taken
-
-pub returns-clause-refused : goal.returns-clause-refused
-returns-clause-refused c = untold-refused c.args.namespace c.args.self.now c.next_notice.result c.next_notice.ensures.refused
-
-pub returns-clause-kept : goal.returns-clause-kept
-returns-clause-kept c = untold-kept c.args.namespace c.args.self.now c.next_notice.new.self c.next_notice.result c.next_notice.ensures.unchanged
-
-pub returns-clause-standing : goal.returns-clause-standing
-returns-clause-standing c = (refl, where-shown bare_tape c.args.self.now c.next_notice.new.self c.next_notice.ensures.reached)
+pub returns : goal.returns
+returns c = record {
+  note = untold-note c.args.namespace c.args.self.now c.next_notice.new.self c.next_notice.result c.next_notice.ensures.taken;
+  none = untold-none c.args.namespace c.args.self.now c.next_notice.new.self c.next_notice.result c.next_notice.ensures.taken;
+  refused = untold-refused c.args.namespace c.args.self.now c.next_notice.result c.next_notice.ensures.refused;
+  kept = on_err_weaker c.next_notice.result (ap (λ (spaces : List BareSpace). untold_of spaces c.args.namespace)) c.next_notice.ensures.unchanged;
+  standing = (refl, where-shown bare_tape c.args.self.now c.next_notice.new.self c.next_notice.ensures.reached);
+}

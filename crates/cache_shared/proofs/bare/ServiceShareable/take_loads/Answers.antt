@@ -4,11 +4,9 @@ use Rattle.cache_spaces.proofs.Reaching.{where-shown}
 use Rattle.cache_spaces.specs.Bares.{bare_tape}
 use Rattle.cache_shared.proofs.bare.ServiceShareable.take_loads.Goals as goal
 
-pub returns-clause-loads : goal.returns-clause-loads
-returns-clause-loads c = loads-shown bare_tape c.args.namespace c.args.self.now c.take_loads.new.self c.take_loads.result c.take_loads.ensures.taken
-
-pub returns-clause-refused : goal.returns-clause-refused
-returns-clause-refused c = none-shown bare_tape c.args.namespace c.args.self.now c.take_loads.result c.take_loads.ensures.refused
-
-pub returns-clause-standing : goal.returns-clause-standing
-returns-clause-standing c = (refl, where-shown bare_tape c.args.self.now c.take_loads.new.self c.take_loads.ensures.reached)
+pub returns : goal.returns
+returns c = record {
+  loads = loads-shown bare_tape c.args.namespace c.args.self.now c.take_loads.new.self c.take_loads.result c.take_loads.ensures.taken;
+  refused = none-shown bare_tape c.args.namespace c.args.self.now c.take_loads.result c.take_loads.ensures.refused;
+  standing = (refl, where-shown bare_tape c.args.self.now c.take_loads.new.self c.take_loads.ensures.reached);
+}

@@ -1,14 +1,13 @@
-use Rattle.std.proofs.Common.{refl, sym, ◌∙◌}
-use Rattle.cache_shared.proofs.Coming.{came-result}
-use Rattle.cache_shared.proofs.Counted.{counts-bare, counts-kept}
+use Rattle.std.proofs.Common.{[], refl, sym, true≢false, ◌∙◌}
+use Rattle.cache_shared.proofs.Stepping.{came-result, counts}
 use Rattle.cache_shared.proofs.booked.BookedService.step.Goals as goal
 
 pub returns-then-KEEPS-clause-counted : goal.returns-then-KEEPS-clause-counted
 returns-then-KEEPS-clause-counted g c =
-    counts-kept _ _ c.args.input c.step_kept.result _ _ _ _ _ (sym c.KEEPS.ensures ∙ c.if-KEEPS.true) c.step_kept.ensures.count c.step_kept.ensures.receipt
+    counts _ _ c.args.input c.step_kept.result _ _ _ _ _ c.step_kept.ensures.count (λ kept. c.step_kept.ensures.receipt) (λ none. absurd (true≢false (sym (sym c.KEEPS.ensures ∙ c.if-KEEPS.true) ∙ none)))
     (came-result c.args.input c.step_kept.result _ _ _ c.args.self.now.stands.reached c.step_kept.ensures.taken)
 
-pub returns-else-KEEPS-clause-counted : goal.returns-else-KEEPS-clause-counted
-returns-else-KEEPS-clause-counted g c =
-    counts-bare _ _ c.args.input c.count_one.result _ _ _ _ (sym c.KEEPS.ensures ∙ c.if-KEEPS.false) c.count_one.ensures.count (λ namespace. refl)
+pub returns-clause-counted : goal.returns-clause-counted
+returns-clause-counted g c =
+    counts _ _ c.args.input c.count_one.result _ _ _ _ [] c.count_one.ensures.count (λ kept. absurd (true≢false (sym kept ∙ sym c.KEEPS.ensures ∙ c.if-KEEPS.false))) (λ none namespace. refl)
     (came-result c.args.input c.count_one.result _ _ _ c.args.self.now.stands.reached c.count_one.ensures.taken)

@@ -1,4 +1,4 @@
-use Rattle.cache_shared.proofs.Unfitting.{unfit_refused}
+use Rattle.cache_shared.proofs.Stepping.{unfit_refused}
 use Rattle.cache_shared.proofs.shared.SharedService.step.Goals as goal
 
 pub returns-clause-unfit : goal.returns-clause-unfit

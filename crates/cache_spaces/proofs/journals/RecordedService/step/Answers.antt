@@ -1,14 +1,12 @@
-use Rattle.std.proofs.Common.{◌≤◌, ◌∙◌, map, refl, subst, sym}
-use Rattle.std.specs.Prelude.{IfErr, IfOk, OnErr, OnOk, vec_capacity, ◌≡◌}
+use Rattle.std.proofs.Common.{◌≤◌, ◌∙◌, map, refl, subst, sym, IfErr, IfOk, OnErr, OnOk, vec_capacity, ◌≡◌}
 use Rattle.std.proofs.Math.Logic.{∥∥₁_map}
 use Rattle.cache_spaces.specs.Calls.{At, Refuses}
 use Rattle.cache_spaces.specs.Cursors.{cursor_of}
 use Rattle.cache_spaces.specs.Inputs.{Performs, RefusedInput, namespace_of}
 use Rattle.cache_spaces.specs.Journals.{kept_by}
 use Rattle.cache_spaces.specs.Recorded.{GainsRecord, KeepsTaken, Recorded, recorded_of}
-use Rattle.cache_spaces.proofs.Gaining.{step-gains, step-reads}
+use Rattle.cache_spaces.proofs.Gaining.{step-gains, step-reads, opens-none, same-step, step-have}
 use Rattle.cache_spaces.proofs.Journaling.{step-length, were-journals, were-on}
-use Rattle.cache_spaces.proofs.Opening.{opens-none, same-step, step-have}
 use Rattle.cache_spaces.proofs.journals.RecordedService.step.Goals as goal
 
 pub invariant_of-self : goal.invariant_of-self

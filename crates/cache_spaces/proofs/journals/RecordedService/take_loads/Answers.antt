@@ -1,11 +1,9 @@
-use Rattle.std.proofs.Common.{◌≤◌, ◌∙◌, map, subst, sym}
-use Rattle.std.specs.Prelude.{vec_capacity}
+use Rattle.std.proofs.Common.{◌≤◌, ◌∙◌, map, subst, sym, vec_capacity}
 use Rattle.std.proofs.Math.Logic.{∥∥₁_map}
 use Rattle.cache_spaces.specs.Calls.{TakesLoads}
 use Rattle.cache_spaces.specs.Cursors.{cursor_of}
-use Rattle.cache_spaces.proofs.Gaining.{loads-reads}
+use Rattle.cache_spaces.proofs.Gaining.{loads-reads, loads-have}
 use Rattle.cache_spaces.proofs.Journaling.{step-length, were-loads}
-use Rattle.cache_spaces.proofs.Opening.{loads-have}
 use Rattle.cache_spaces.proofs.journals.RecordedService.take_loads.Goals as goal
 
 pub invariant_of-self : goal.invariant_of-self

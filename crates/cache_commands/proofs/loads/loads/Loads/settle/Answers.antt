@@ -1,4 +1,4 @@
-use Rattle.std.proofs.Common.{◌≡◌, ◌-◌, ◌==◌, not, length, ap, ◌∙◌, arith}
+use Rattle.std.proofs.Common.{ap, ◌∙◌, arith, ◌≡◌, ◌-◌, ◌==◌, not, length}
 use Rattle.audit_model.specs.Situation.{PendingLoad}
 use Rattle.cache_commands.specs.Loads.Keys.{are_in_turn, have_their_keys, were_sent}
 use Rattle.cache_commands.specs.Loads.Numbers.{SentLoads}

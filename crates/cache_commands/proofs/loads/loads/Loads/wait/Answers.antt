@@ -1,4 +1,4 @@
-use Rattle.std.proofs.Common.{◌≡◌, ◌-◌, length, ap, ◌∙◌, arith}
+use Rattle.std.proofs.Common.{ap, ◌∙◌, arith, ◌≡◌, ◌-◌, length}
 use Rattle.cache_commands.specs.Loads.Keys.{are_in_turn, have_their_keys, were_sent}
 use Rattle.cache_commands.specs.Loads.Numbers.{SentLoads}
 use Rattle.cache_commands.proofs.loads.Keys.{joined-either, joined-keys, joined-sent}

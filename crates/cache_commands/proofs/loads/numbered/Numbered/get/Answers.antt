@@ -1,4 +1,5 @@
-use Rattle.std.proofs.Common.{ap, ◌∙◌, option_map}
+use Rattle.std.proofs.Common.{ap, ◌∙◌}
+use Rattle.std.specs.Option.{option_map}
 use Rattle.cache_commands.specs.Loads.Keys.{pending_load}
 use Rattle.cache_commands.specs.Loads.Numbers.{load_numbered}
 use Rattle.cache_commands.proofs.loads.Numbers.{found-at, shown}

@@ -1,11 +1,12 @@
-use Rattle.std.proofs.Common.{ℕ, sym, ap, ◌∙◌, map}
+use Rattle.std.proofs.Common.{sym, ap, ◌∙◌, ℕ, map}
 use Rattle.std.specs.BTreeMap.{BTreeMap}
 use Rattle.std.specs.declared.cmp.Reverse.{Reverse}
-use Rattle.audit_model.specs.Situation.{PendingLoad}
 use Rattle.audit_loads.specs.Numbered.{changed_at}
+use Rattle.audit_model.specs.Situation.{PendingLoad}
 use Rattle.cache_commands.specs.Loads.Numbers.{loads_of}
 use Rattle.cache_commands.specs.declared.loads.load.Load.{Load}
-use Rattle.cache_commands.proofs.loads.Numbers.{changed-is, fails, follows, joined-kept, same-is, unchanged-is, with_one}
+use Rattle.cache_commands.proofs.Adding.{fails, follows}
+use Rattle.cache_commands.proofs.loads.Numbers.{changed-is, joined-kept, same-is, unchanged-is, with_one}
 use Rattle.cache_commands.proofs.loads.numbered.Numbered.join.Goals as goal
 use Rattle.cache_commands.proofs.loads.numbered.Numbered.join.Goals.{in-Some, in-None}
 

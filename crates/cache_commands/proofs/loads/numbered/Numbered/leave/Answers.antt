@@ -1,8 +1,8 @@
-use Rattle.std.proofs.Common.{ℕ, refl, sym, ap, ◌∙◌, map}
+use Rattle.std.proofs.Common.{refl, sym, ap, ◌∙◌, ℕ, map}
 use Rattle.std.specs.BTreeMap.{BTreeMap}
 use Rattle.std.specs.declared.cmp.Reverse.{Reverse}
-use Rattle.audit_model.specs.Situation.{PendingLoad, without_waiting}
 use Rattle.audit_loads.specs.Numbered.{changed_at}
+use Rattle.audit_model.specs.Situation.{PendingLoad, without_waiting}
 use Rattle.cache_commands.specs.Loads.Numbers.{loads_of}
 use Rattle.cache_commands.specs.declared.loads.load.Load.{Load}
 use Rattle.cache_commands.proofs.loads.Numbers.{changed-is, changed-kept, unchanged-is}

@@ -1,5 +1,6 @@
-use Rattle.std.proofs.Common.{◌==◌, not, ap, ◌∙◌, option_map}
+use Rattle.std.proofs.Common.{ap, ◌∙◌, ◌==◌, not}
 use Rattle.std.specs.List.{filter}
+use Rattle.std.specs.Option.{option_map}
 use Rattle.audit_model.specs.Situation.{PendingLoad}
 use Rattle.cache_commands.specs.Loads.Keys.{pending_load}
 use Rattle.cache_commands.specs.Loads.Numbers.{load_numbered, loads_of}

@@ -1,8 +1,7 @@
-use Rattle.std.proofs.Common.{◌≡◌, List, false, map, refl, sym, ap, ◌∙◌, subst}
-use Rattle.std.specs.Prelude.{is_some}
-use Rattle.audit_model.specs.Situation.{PendingLoad, with_waiting}
-use Rattle.audit_loads.specs.Underway.{KeepsNumbers, load_of}
+use Rattle.std.proofs.Common.{refl, sym, ap, ◌∙◌, subst, ◌≡◌, List, false, map, is_some}
 use Rattle.audit_loads.proofs.Waiting.{joined-keeps, joined_is}
+use Rattle.audit_loads.specs.Underway.{KeepsNumbers, load_of}
+use Rattle.audit_model.specs.Situation.{PendingLoad, with_waiting}
 use Rattle.cache_commands.specs.Loads.Numbers.{SentLoads, load_with_key}
 use Rattle.cache_commands.proofs.loads.Numbers.{changed-number, with_one}
 use Rattle.cache_commands.proofs.loads.Found.{live-mapped, numbered}

@@ -1,7 +1,7 @@
-use Rattle.std.proofs.Common.{◌≡◌, List, map, refl, sym, ap, ◌∙◌, subst}
-use Rattle.audit_model.specs.Situation.{PendingLoad, without_waiting}
-use Rattle.audit_loads.specs.Underway.{KeepsNumbers}
+use Rattle.std.proofs.Common.{refl, sym, ap, ◌∙◌, subst, ◌≡◌, List, map}
 use Rattle.audit_loads.proofs.Waiting.{left-keeps, left_is, unleft_is}
+use Rattle.audit_loads.specs.Underway.{KeepsNumbers}
+use Rattle.audit_model.specs.Situation.{PendingLoad, without_waiting}
 use Rattle.cache_commands.specs.Loads.Numbers.{SentLoads}
 use Rattle.cache_commands.proofs.loads.Found.{live-mapped}
 use Rattle.cache_commands.proofs.loads.table.LoadTable.leave.Goals as goal

@@ -1,10 +1,9 @@
-use Rattle.std.proofs.Common.{◌≡◌, ℕ, ◌+◌, ◌∷◌, [], List, Some, false, cond, refl, sym, ap, ◌∙◌, subst, arith}
-use Rattle.std.specs.Prelude.{is_some}
+use Rattle.std.proofs.Common.{cond, refl, sym, ap, ◌∙◌, subst, arith, ◌≡◌, ℕ, ◌+◌, ◌∷◌, [], List, Some, false, is_some}
 use Rattle.std.proofs.lemmas.Bool.{eq-eqb}
+use Rattle.audit_loads.proofs.Waiting.{joins, more-joined, sent}
+use Rattle.audit_loads.specs.Underway.{KeepsNumbers, load_of, number_at}
 use Rattle.audit_model.specs.Bytewise.{same}
 use Rattle.audit_model.specs.Situation.{PendingLoad}
-use Rattle.audit_loads.specs.Underway.{KeepsNumbers, load_of, number_at}
-use Rattle.audit_loads.proofs.Waiting.{joins, more-joined, sent}
 use Rattle.cache_commands.specs.Loads.Numbers.{SentLoads, are_below, load_with_key}
 use Rattle.cache_commands.proofs.loads.Found.{live-sent, newest, numbered}
 use Rattle.cache_commands.proofs.loads.table.LoadTable.send.Goals as goal

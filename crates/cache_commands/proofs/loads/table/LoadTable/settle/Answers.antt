@@ -1,8 +1,8 @@
-use Rattle.std.proofs.Common.{◌≡◌, ◌==◌, ℕ, List, None, cond, sym, ap, ◌∙◌, subst}
+use Rattle.std.proofs.Common.{cond, sym, ap, ◌∙◌, subst, ◌≡◌, ◌==◌, ℕ, List, None}
 use Rattle.std.specs.List.{list_any}
-use Rattle.audit_model.specs.Bytewise.{same}
-use Rattle.audit_loads.specs.Underway.{KeepsNumbers, load_of, number_at}
 use Rattle.audit_loads.proofs.Waiting.{none-removed, removed-keeps}
+use Rattle.audit_loads.specs.Underway.{KeepsNumbers, load_of, number_at}
+use Rattle.audit_model.specs.Bytewise.{same}
 use Rattle.cache_commands.specs.Loads.Keys.{pending_load}
 use Rattle.cache_commands.proofs.loads.Found.{live-none, live-removed}
 use Rattle.cache_commands.proofs.loads.table.LoadTable.settle.Goals as goal

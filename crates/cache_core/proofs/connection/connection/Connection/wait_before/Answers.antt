@@ -1,7 +1,7 @@
 use Rattle.std.proofs.Common.{ap, arith, refl, ◌∙◌}
 use Rattle.std.proofs.lemmas.Bool.{lt-ltb}
-use Rattle.cache_lines.specs.Whole.{has_line}
 use Rattle.cache_lines.proofs.WholeLines.{has-line-more}
+use Rattle.cache_lines.specs.Whole.{has_line}
 use Rattle.cache_core.proofs.connection.Pieces.{whole-kept}
 use Rattle.cache_core.proofs.connection.Putting.{fits-waiting}
 use Rattle.cache_core.proofs.connection.connection.Connection.wait_before.Goals as goal

@@ -1,6 +1,6 @@
 use Rattle.std.proofs.Common.{arith}
 use Rattle.std.specs.VecDeque.{deque_capacity}
-use Rattle.cache_front.specs.Data.Data.{word_of}
+use Rattle.cache_front.specs.Data.{word_of}
 use Rattle.cache_front.proofs.data.Beginning.{new_over}
 use Rattle.cache_front.proofs.store.store.FrontStore.new.Goals as goal
 

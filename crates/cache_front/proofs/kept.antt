@@ -1,0 +1,3 @@
+pub mod Identifying
+pub mod Keeping
+pub mod Storing

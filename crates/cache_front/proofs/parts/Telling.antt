@@ -1,0 +1,185 @@
+-- What is told of a part's entries is true, if each is told for a cause that is true of the candidate of its key.
+use Rattle.std.proofs.Common.{◌≡◌, ℕ, zero, suc, Bool, cond, true, false, List, [], ◌∷◌, ◌++◌, map, Some, None, slice_get, remove, refl, sym, ap, ◌∙◌, arith, Option, subst, inl, inr, ◌⊎◌, append-nil, ◌<◌, ◌≤◌, true≢false, ◌||◌, option_map}
+use Rattle.std.proofs.lemmas.Bool.{and_from}
+use Rattle.std.proofs.lemmas.Option.{none-some}
+use Rattle.audit_model.specs.Bytewise.{same}
+use Rattle.audit_model.specs.Commands.{Deed}
+use Rattle.audit_model.specs.Notes.{are_true_notes, is_true_note, first_of, is_true_cause, is_told_first, overfills, same_cause, first_cause}
+use Rattle.audit_model.specs.Values.{without_key, untold, earlier_of, after_ms, deadline, has_come}
+use Rattle.audit_model.specs.View.{Candidate}
+use Rattle.audit_model.specs.declared.config.Config.{Config}
+use Rattle.audit_model.specs.declared.transcript.Note.{Note}
+use Rattle.engine_reference.specs.declared.rules.causes.RemovalCause.{RemovalCause}
+use Rattle.engine_reference.specs.declared.data.Entry.{Entry}
+use Rattle.engine_reference.specs.Telling.{Removal, TakesAway, removed_entries, entry_of, AreApart}
+use Rattle.engine_reference.proofs.StayingVisible.{AreApart-remove}
+use Rattle.cache_store.proofs.Keys.{same-refl, equal_from_same, same_along, same_from_equal}
+use Rattle.engine_reference.specs.RunLaws.Just.{EachRemoval, IsJust}
+use Rattle.cache_front.specs.Parts.{Stored, note_of, Part, service_answers, settings_of, nanos, held_of, value_of, IsBrief}
+use Rattle.engine_reference.specs.declared.data.Upsert.{Upsert}
+use Rattle.engine_reference.specs.declared.data.Write.{Write}
+use Rattle.engine_reference.specs.declared.data.Write.TheVariants.{Put}
+use Rattle.engine_reference.specs.Admission.{is_above}
+use Rattle.engine_reference.specs.Soundness.{number_of}
+use Rattle.engine_reference.specs.RunLaws.Points.{NoneOf, HasPoint, IsPointed}
+use Rattle.audit_model.specs.Situation.{is_dead_at}
+use Rattle.engine_reference.specs.declared.rules.causes.RemovalCause.TheVariants as cause
+use Rattle.engine_reference.specs.Times.{end_of, is_reached, has_come as is_past, earlier_of as earliest}
+use Rattle.engine_reference.specs.Visible.{is_covered}
+
+-- ---- entries by their keys
+
+abbrev pub Kept : Type 0
+Kept = Entry (List ℕ) Stored
+
+-- the entry at a place is that of its key
+pub entry_of-at : (es : List Kept) (i : ℕ) (e : Kept) → AreApart same es → slice_get es i ≡ Some e → entry_of same es e.key ≡ Some e
+entry_of-at [] i e a there = absurd (none-some e there)
+entry_of-at (x ∷ es) zero e a there = let is : x ≡ e = cc in ap (λ (y : Kept). cond (same e.key y.key) (Some y) (entry_of same es e.key)) is ∙ ap (λ b. cond b (Some e) (entry_of same es e.key)) (same-refl e.key)
+entry_of-at (x ∷ es) (suc i) e a there = grind (arith, entry_of-at es i e a.1 there, none-some e, equal_from_same e.key x.key)
+
+-- without the one at a place, others stay
+pub entry_of-other : (es : List Kept) (i : ℕ) (e : Kept) (q : List ℕ) → slice_get es i ≡ Some e → same q e.key ≡ false → entry_of same (remove es i) q ≡ entry_of same es q
+entry_of-other [] i e q there other = absurd (none-some e there)
+entry_of-other (x ∷ es) zero e q there other = let is : x ≡ e = cc in sym (ap (λ b. cond b (Some x) (entry_of same es q)) (ap (λ (y : Kept). same q y.key) is ∙ other))
+entry_of-other (x ∷ es) (suc i) e q there other = ap (λ o. cond (same q x.key) (Some x) o) (entry_of-other es i e q there other)
+
+-- its own key has none then
+pub entry_of-gone : (es : List Kept) (i : ℕ) (e : Kept) → AreApart same es → slice_get es i ≡ Some e → entry_of same (remove es i) e.key ≡ None
+entry_of-gone [] i e a there = absurd (none-some e there)
+entry_of-gone (x ∷ es) zero e a there = let is : x ≡ e = cc in ap (λ (y : Kept). entry_of same es y.key) (sym is) ∙ a.0
+entry_of-gone (x ∷ es) (suc i) e a there = grind (arith, entry_of-gone es i e a.1 there, remove es i, none-some e, equal_from_same e.key x.key, entry_of-at es i e a.1 there)
+
+-- ---- candidates
+
+abbrev pub key_of : Candidate → List ℕ
+key_of c = c.value.key
+
+pub first_of-other : (key q : List ℕ) (cs : List Candidate) → same q key ≡ false → first_of q (without_key key_of key cs) ≡ first_of q cs
+first_of-other key q [] other = refl
+first_of-other key q (c ∷ cs) other = grind (arith, first_of-other key q cs other, same_along q key c.value.key)
+
+-- the key's candidate, of which something holds together with the entry
+pub record Fitting (J : Candidate → Kept → Type 0) (cs : List Candidate) (key : List ℕ) (e : Kept) : Type 0 where
+  pub candidate : Candidate
+  pub there : first_of key cs ≡ Some candidate
+  pub is : J candidate e
+
+abbrev pub Fits : (Candidate → Kept → Type 0) → List Candidate → List Kept → Type 0
+Fits J cs es = (key : List ℕ) (e : Kept) → entry_of same es key ≡ Some e → Fitting J cs key e
+
+abbrev pub notes_of : List (Removal (List ℕ) Stored) → List Note
+notes_of removals = map (λ (gone : Removal (List ℕ) Stored). note_of gone.cause gone.entry) removals
+
+module _ (J : Candidate → Kept → Type 0) where
+  pub fits-remove : (cs : List Candidate) (es : List Kept) (i : ℕ) (e : Kept) → AreApart same es → slice_get es i ≡ Some e → Fits J cs es → Fits J (without_key key_of e.key cs) (remove es i)
+  fits-remove cs es i e a there f q x here = go (same q e.key) refl
+    where
+      go : (b : Bool) → same q e.key ≡ b → Fitting J (without_key key_of e.key cs) q x
+      go true t = absurd (none-some x (sym (ap (entry_of same (remove es i)) (equal_from_same q e.key t) ∙ entry_of-gone es i e a there) ∙ here))
+      go false t =
+          let k = f q x (sym (entry_of-other es i e q there t) ∙ here) in
+          record { candidate = k.candidate; there = first_of-other e.key q cs t ∙ k.there; is = k.is }
+
+  module _ (config : Config) (deed : Deed) (before : List Candidate) (Q : RemovalCause → Kept → Type 0)
+      (ok : (why : RemovalCause) (e : Kept) (c : Candidate) → J c e → Q why e → is_true_note config before deed (note_of why e) (Some c) ≡ true) where
+    -- the notes of what is taken away are true, if those that come behind them are
+    pub told_truly : (removals : List (Removal (List ℕ) Stored)) (tail : List Note) (cs : List Candidate) (old new : List Kept) → AreApart same old → Fits J cs old
+        → EachRemoval Q removals → TakesAway (removed_entries removals) old new
+        → are_true_notes config before deed (untold key_of (notes_of removals) cs) tail ≡ true → are_true_notes config before deed cs (notes_of removals ++ tail) ≡ true
+    told_truly [] tail cs old new a f each t rest = rest
+    told_truly (gone ∷ removals) tail cs old new a f each t rest =
+        let k = f gone.entry.key gone.entry (entry_of-at old t.0 gone.entry a t.1) in
+        and_from _ _
+        (ap (is_true_note config before deed (note_of gone.cause gone.entry)) k.there ∙ ok gone.cause gone.entry k.candidate k.is each.0)
+        (told_truly removals tail (without_key key_of gone.entry.key cs) (remove old t.0) new (AreApart-remove same old t.0 a) (fits-remove cs old t.0 gone.entry a t.1 f) each.1 t.2 rest)
+
+-- ---- the marks of a part: what a point says, and how marks are kept
+
+-- ---- where a point stands in a queue that grew
+
+cons_parts : (w v : Write) (ws vs : List Write) → w ∷ ws ≡ v ∷ vs → (w ≡ v) × (ws ≡ vs)
+cons_parts w v ws vs e = (cc, cc)
+
+no_parts : (before : List Write) (w : Write) (after : List Write) → [] ≡ before ++ w ∷ after → ⊥
+no_parts [] w after e = cc
+no_parts (x ∷ before) w after e = cc
+
+-- the last of a queue is that one, or it stands behind it
+pub record IsBehind (queue before : List Write) (w : Write) (after : List Write) (last : Write) : Type 0 where
+  pub rest : List Write
+  pub behind : after ≡ rest ++ last ∷ []
+  pub queued : queue ≡ before ++ w ∷ rest
+
+pub split_last : (queue before : List Write) (w : Write) (after : List Write) (last : Write) → queue ++ last ∷ [] ≡ before ++ w ∷ after → ((w ≡ last) × (after ≡ []) × (queue ≡ before)) ⊎ IsBehind queue before w after last
+split_last [] [] w after last e = let p = cons_parts last w [] after e in inl (sym p.0, sym p.1, refl)
+split_last [] (x ∷ before) w after last e = absurd (no_parts before w after (cons_parts last x [] (before ++ w ∷ after) e).1)
+split_last (q ∷ queue) [] w after last e = grind (arith, cons_parts q w (queue ++ last ∷ []) after e)
+split_last (q ∷ queue) (x ∷ before) w after last e = grind (arith, cons_parts q, split_last queue before w after last)
+
+none_last : (n : ℕ) (ws : List Write) (last : Write) → NoneOf n (ws ++ last ∷ []) → NoneOf n ws × (number_of last ≡ n → ⊥)
+none_last n [] last h = (tt, h.0)
+none_last n (w ∷ ws) last h = let k = none_last n ws last h.1 in ((h.0, k.0), k.1)
+
+-- a point in a queue with one more write, where all is sent: that write itself is above, or the point was there before and the write is another record's
+pub data PointsBack (capacity : Option ℕ) (queue : List Write) (last : Write) (number : ℕ) : Type 0 where
+  itself : (peak : Upsert) → last ≡ Put peak → is_above capacity peak.kept ≡ true → PointsBack capacity queue last number
+  earlier : (number_of last ≡ number → ⊥) → HasPoint capacity queue [] number → PointsBack capacity queue last number
+
+pub points_back : (capacity : Option ℕ) (queue : List Write) (last : Write) (number : ℕ) → HasPoint capacity (queue ++ last ∷ []) [] number → PointsBack capacity queue last number
+points_back capacity queue last number p =
+    elim (split_last queue p.before (Put p.peak) p.after last p.stands) [
+      | inl h ↦ itself p.peak (sym h.0) p.above
+      | inr h ↦
+          let none = none_last number h.rest last (subst (λ ws. NoneOf number ws) (append-nil p.after ∙ h.behind) p.last) in
+          earlier none.1 (record { before = p.before; peak = p.peak; after = h.rest; stands = h.queued; above = p.above; last = subst (λ ws. NoneOf number ws) (sym (append-nil h.rest)) none.0 })
+    ]
+
+-- there is no point where nothing waits
+pub no_point : (capacity : Option ℕ) (unsent : List Write) (number : ℕ) → HasPoint capacity [] unsent number → ⊥
+no_point capacity unsent number p = no_parts p.before (Put p.peak) p.after p.stands
+
+-- ---- why the causes of a run are true causes
+
+-- ---- causes
+
+otherwise : (b x y : Bool) → b ≡ false → y ≡ true → cond b x y ≡ true
+otherwise true x y e f = absurd (true≢false e)
+otherwise false x y e f = f
+
+module _ (config : Config) (deed : Deed) (before : List Candidate) {S : Type 0} (now : ℕ) (t : Part S) where
+  -- what the candidate of an entry's key has to be, so that a run from this state tells it truly
+  pub record Judges (c : Candidate) (e : Kept) : Type 0 where
+    pub bytes : c.value.bytes ≡ e.value.bytes
+    pub later : is_told_first deed c ≡ false
+    pub expired : is_past t.settings now e ≡ true → c.dead ≡ true
+    pub explicit : is_covered service_answers t e ≡ true → c.covered ≡ true
+    pub size : IsPointed t e → (c.evictable || overfills config before deed c.value.part) ≡ true
+
+  or_true : (a b : Bool) → a ≡ true → (a || b) ≡ true
+  or_true true b e = refl
+  or_true false b e = absurd (true≢false (sym e))
+
+  pub judged : (why : RemovalCause) (e : Kept) (c : Candidate) → Judges c e → IsJust service_answers now t why e → is_true_note config before deed (note_of why e) (Some c) ≡ true
+  judged why e c j just = grind (arith, and_from, same_from_equal e.value.bytes c.value.bytes (sym j.bytes), otherwise (is_told_first deed c) (same_cause (note_of why e).cause (first_cause config before deed c)) (is_true_cause config before deed c (note_of why e).cause) j.later, or_true c.covered)
+
+-- ---- deadlines
+
+pub end_is : (since : ℕ) (time : Option ℕ) → since < 9223372036854775808 → ((ms : ℕ) → time ≡ Some ms → ms ≤ 999999999999) → end_of since (option_map nanos time) ≡ option_map (after_ms since) time
+end_is since None lt brief = refl
+end_is since (Some ms) lt brief = ap Some (let b = brief ms refl in omega arith)
+
+earlier_is : (a b : Option ℕ) → earliest a b ≡ earlier_of a b
+earlier_is None b = refl
+earlier_is (Some a) None = refl
+earlier_is (Some a) (Some b) = refl
+
+pub reached_is : (o : Option ℕ) (now : ℕ) → is_reached o now ≡ has_come o now
+reached_is None now = refl
+reached_is (Some moment) now = refl
+
+module _ {S : Type 0} where
+  -- an entry is past its deadline where the value held is dead
+  pub dead_is : (config : Config) (made now part : ℕ) (s : Part S) (e : Kept) → IsBrief config → s.settings ≡ settings_of config made → e.written < 9223372036854775808 → e.used < 9223372036854775808
+      → is_past s.settings now e ≡ is_dead_at config now (held_of part s e)
+  dead_is config made now part s e brief settings written used = grind (arith, end_is e.written config.live_ms written brief.live, end_is e.used config.idle_ms used brief.idle, earlier_is (option_map (after_ms e.written) config.live_ms) (option_map (after_ms e.used) config.idle_ms), earlier_is e.expires (earlier_of (option_map (after_ms e.written) config.live_ms) (option_map (after_ms e.used) config.idle_ms)), reached_is (deadline config (value_of part e) e.used) now)

@@ -1,0 +1,152 @@
+-- What a step of a seat comes to, and for what one is refused.
+use Rattle.std.proofs.Common.{◌≡◌, ℕ, Bool, true, false, List, Some, None, refl, sym, subst, arith, ◌+◌, Vec, Global, ◌∙◌, ap, ◌≢◌, ◌⊎◌, ◌^◌, not, nat_le, Option, is_some, inl, inr}
+use Rattle.std.specs.Prelude.{Result, Ok, Err, IfOk, IsTrue, if◌then◌else◌, OnOk, MatchOption, IfErr}
+use Rattle.std.proofs.Math.Logic.{∥∥₁_elim, ∥∥₁_map}
+use Rattle.std.proofs.Props.{props}
+use Rattle.std.proofs.lemmas.Option.{slice_get_within}
+use Rattle.std.proofs.lemmas.Bool.{eq-eqb}
+use Rattle.audit_model.specs.Belongs.{Known, refusal_of, refusal_of_outcome, refusal_where}
+use Rattle.audit_model.specs.declared.event.Event.{Event}
+use Rattle.audit_model.specs.declared.input.Input.{Input}
+use Rattle.audit_model.specs.declared.transcript.Step.{Step}
+use Rattle.audit_laws.specs.Receipts.Answers.{last_is_held, output_with}
+use Rattle.audit_laws.specs.declared.receipts.output.Output.{Output}
+use Rattle.audit_laws.specs.declared.receipts.output.Output.TheVariants.{All, Held}
+use Rattle.cache_shared.specs.Events.{Performs, is_fed, is_output_for, CountsRecord, StandsAfter, IsUnfitAnswer, RefusesStep, is_of_outcome}
+use Rattle.cache_core.proofs.connections.Getting.{found-at}
+use Rattle.cache_spaces.specs.Inputs.{namespace_of, is_held_for}
+use Rattle.cache_spaces.specs.Reached.{IsReached}
+use Rattle.cache_spaces.specs.Spaces.{Shown, shown_tape, config_of, known_of}
+use Rattle.audit_model.specs.declared.transcript.Transcript.{Transcript}
+use Rattle.audit_laws.specs.declared.receipts.receipt.Receipt.{Receipt}
+use Rattle.cache_shared.specs.Seats.{Counts, GainsReceipt, SameReceipts}
+use Rattle.cache_spaces.proofs.Reaching.{reached-more}
+use Rattle.std.specs.Option.{option_map_or, option_or}
+use Rattle.audit_model.specs.declared.config.Config.{Config}
+use Rattle.audit_model.specs.declared.input.ServiceError.{ServiceError}
+use Rattle.cache_spaces.specs.declared.stepping.Refusal.{Refusal}
+use Rattle.cache_spaces.proofs.Performing.{asked-is, event_of}
+use Rattle.audit_model.specs.declared.input.Input.TheVariants as input
+use Rattle.audit_model.specs.declared.input.ServiceError.TheVariants as error
+
+-- ---- an input that was taken
+
+fed-so : (b : Bool) → IsTrue (is_fed (if b then Held else All))
+fed-so true = refl
+fed-so false = refl
+
+-- the output of an input's event is one that it may have
+fits : (i : Input) (opened : ℕ) (steps : List Step) → IsTrue (is_output_for i (output_with (namespace_of i) (event_of opened i) steps))
+fits (input.Open n) opened steps = eq-eqb n n refl
+fits (input.Close conn) opened steps = refl
+fits (input.Feed conn piece moment) opened steps = fed-so (last_is_held steps)
+fits (input.Answer load outcome moment) opened steps = refl
+fits (input.GiveUp load moment) opened steps = refl
+
+came : (i : Input) (output : Output) (old new : List Shown) (events : ℕ) → IsReached old events → Performs i output old new → IsTrue (is_output_for i output)
+came i output old new events r a =
+    let k = namespace_of i in
+    let lt = slice_get_within old k a.was a.at in
+    let j = found-at r.journals k (let e = r.are.count in omega arith) in
+    let l = (r.are.each k a.was j.0 a.at j.1).leads in
+    let h = a.fact.from l.last l.stands in
+    subst (λ o. IsTrue (is_output_for i o)) (sym h.answers)
+    (subst (λ happened. IsTrue (is_output_for i (output_with k happened h.entry.steps))) (asked-is _ i h.entry.event h.event) (fits i _ h.entry.steps))
+
+pub came-result : {E : Type 0} (i : Input) (r : Result Output E) (old new : List Shown) (events : ℕ) → ∥ IsReached old events ∥₁ → IfOk r (λ output. Performs i output old new) → IfOk r (λ output. IsTrue (is_output_for i output))
+came-result i (Ok output) old new events reached done = ∥∥₁_elim reached (Prim.hlevel props) (λ w. came i output old new events w done)
+came-result i (Err e) old new events reached done = done
+
+-- the seat counts it, and has a receipt of it if the service keeps journals
+pub counts : {E : Type 0} (Event : Type 0) (keeps : Bool) (i : Input) (r : Result Output E) (count later : ℕ) (before after : List (Vec Receipt Global)) (journals : List Transcript)
+    → OnOk r (Event × (later ≡ count + 1)) → (keeps ≡ true → IfOk r (λ output. GainsReceipt journals before after i output)) → (keeps ≡ false → SameReceipts before after)
+    → IfOk r (λ output. IsTrue (is_output_for i output)) → IfOk r (λ output. Counts keeps i output count later before after)
+counts Event keeps i (Ok output) count later before after journals counted gains same fit = record {
+  one = counted.1;
+  receipt = λ kept. let g = gains kept in (g.0, g.2);
+  bare = same;
+  fits = fit;
+}
+counts Event keeps i (Err e) count later before after journals counted gains same fit = tt
+
+-- where the service stands then
+pub one-further : {C : Type 0} (keeps : Bool) (spaces : C → List Shown) (journals : C → List Transcript) (i : Input) (output : Output) (old new : C) (n m : ℕ)
+    → StandsAfter keeps spaces journals n old → Performs i output (spaces old) (spaces new) → (keeps ≡ true → CountsRecord (journals old) (journals new)) → m ≡ n + 1
+    → StandsAfter keeps spaces journals m new
+one-further keeps spaces journals i output old new n m stands taken counts is = subst (λ k. StandsAfter keeps spaces journals k new) (sym is) (record {
+  reached = ∥∥₁_map stands.reached (reached-more shown_tape i output (spaces old) (spaces new) n taken);
+  counted = λ kept. counts kept ∙ ap (λ k. k + 1) (stands.counted kept);
+})
+
+-- ---- one that was refused for its outcome
+
+-- causes of other kinds
+conn-apart : (opened stands : Bool) → option_map_or is_of_outcome (option_or (refusal_where (not opened) error.NoConnection) (refusal_where (not stands) error.Closed)) false ≡ false
+conn-apart false stands = refl
+conn-apart true false = refl
+conn-apart true true = refl
+
+fed-apart : (opened stands late : Bool) → option_map_or is_of_outcome (option_or (option_or (refusal_where (not opened) error.NoConnection) (refusal_where (not stands) error.Closed)) (refusal_where late error.Moment)) false ≡ false
+fed-apart false stands late = refl
+fed-apart true false late = refl
+fed-apart true true false = refl
+fed-apart true true true = refl
+
+load-apart : (under_way late : Bool) → option_map_or is_of_outcome (option_or (refusal_where (not under_way) error.NoLoad) (refusal_where late error.Moment)) false ≡ false
+load-apart false late = refl
+load-apart true false = refl
+load-apart true true = refl
+
+-- an answer's other causes come first
+unfit-where : (under_way late : Bool) (refused : Option ServiceError) → option_map_or is_of_outcome (option_or (refusal_where (not under_way) error.NoLoad) (option_or (refusal_where late error.Moment) refused)) false ≡ true → is_some refused ≡ true
+unfit-where false late refused so = let no : false ≡ true = so in cc
+unfit-where true true refused so = let no : false ≡ true = so in cc
+unfit-where true false None so = let no : false ≡ true = so in cc
+unfit-where true false (Some e) so = refl
+
+module _ (e : ServiceError) (so : is_of_outcome e ≡ true) where
+  other : (x : ServiceError) → is_of_outcome x ≡ false → e ≢ x
+  other x unlike is = let h : false ≡ true = sym unlike ∙ ap is_of_outcome (sym is) ∙ so in cc
+
+  memory : (held : Bool) → (e ≡ error.OutOfMemory) ⊎ ((e ≡ error.HeldAgain) × (held ≡ true)) → ⊥
+  memory held (inl full) = other error.OutOfMemory refl full
+  memory held (inr again) = other error.HeldAgain refl again.0
+
+  -- the refusal has that kind
+  kind : (o : Option ServiceError) (held : Bool) → MatchOption o ((e ≡ error.OutOfMemory) ⊎ ((e ≡ error.HeldAgain) × (held ≡ true))) (λ refused. e ≡ refused) → option_map_or is_of_outcome o false ≡ true
+  kind None held cause = absurd (memory held cause)
+  kind (Some refused) held is = ap is_of_outcome (sym is) ∙ so
+
+  never : (o : Option ServiceError) (held : Bool) → option_map_or is_of_outcome o false ≡ false → MatchOption o ((e ≡ error.OutOfMemory) ⊎ ((e ≡ error.HeldAgain) × (held ≡ true))) (λ refused. e ≡ refused) → ⊥
+  never o held unlike cause = let h : false ≡ true = sym unlike ∙ kind o held cause in cc
+
+  module _ (config : Config) (known : Known) (held : Bool) where
+    abbrev Caused : Event → Type 0
+    Caused happened = MatchOption (refusal_of config known happened) ((e ≡ error.OutOfMemory) ⊎ ((e ≡ error.HeldAgain) × (held ≡ true))) (λ refused. e ≡ refused)
+
+    unfit-input : (i : Input) (opened : ℕ) → Caused (event_of opened i) → IsUnfitAnswer i
+    unfit-input (input.Open n) opened cause = absurd (memory held cause)
+    unfit-input (input.Close conn) opened cause = absurd (never _ held (conn-apart (known.was_opened conn.number) (known.is_open conn.number)) cause)
+    unfit-input (input.Feed conn piece moment) opened cause =
+        absurd (never _ held (fed-apart (known.was_opened conn.number) (known.is_open conn.number) (nat_le (2 ^ 63) moment.nanos)) cause)
+    unfit-input (input.Answer load outcome moment) opened cause = (
+      config,
+      unfit-where (known.is_under_way load.number) (nat_le (2 ^ 63) moment.nanos) (refusal_of_outcome config outcome) (kind _ held cause),
+    )
+    unfit-input (input.GiveUp load moment) opened cause = absurd (never _ held (load-apart (known.is_under_way load.number) (nat_le (2 ^ 63) moment.nanos)) cause)
+
+-- a step that is refused so
+pub unfit_step : (i : Input) (e : ServiceError) (count : ℕ) (spaces : List Shown) → is_of_outcome e ≡ true → RefusesStep i e count spaces → IsUnfitAnswer i
+unfit_step i e count spaces so (inl full) = absurd (other e so error.UsedUp refl full.0)
+unfit_step i e count spaces so (inr (inl full)) = absurd (other e so error.OutOfMemory refl full)
+unfit_step i e count spaces so (inr (inr (inl none))) = absurd (other e so error.NoNamespace refl none.0)
+unfit_step i e count spaces so (inr (inr (inr there))) =
+    let refused = there.fact in
+    let config = config_of there.space in
+    let known = known_of there.space in
+    let held = is_held_for there.space i in
+    unfit-input e so config known held i _ (subst (Caused e so config known held) (sym (asked-is _ i refused.happened refused.event)) refused.refused)
+
+pub unfit_refused : {A : Type 0} (i : Input) (r : Result A Refusal) (count : ℕ) (spaces : List Shown) → IfErr r (λ refusal. RefusesStep i refusal.error count spaces) → IfErr r (λ refusal. is_of_outcome refusal.error ≡ true → IsUnfitAnswer i)
+unfit_refused i (Ok a) count spaces refused = tt
+unfit_refused i (Err refusal) count spaces refused = λ so. unfit_step i refusal.error count spaces so refused
