@@ -4,7 +4,6 @@ use Rattle.engine_reference.specs.declared.rules.causes.RemovalCause.{RemovalCau
 use Rattle.engine_reference.specs.declared.data.Entry.{Entry}
 use Rattle.engine_reference.specs.declared.data.Notice.{Notice}
 use Rattle.engine_reference.specs.declared.data.Record.{Record}
-use Rattle.engine_reference.specs.declared.data.Write.TheVariants.{Removed}
 use Rattle.engine_reference.specs.declared.data.Unsent.{Unsent}
 use Rattle.engine_reference.specs.Calls.{with_put, with_written, with_sent, unsent_at, next_entry, used_entry, with_read}
 use Rattle.engine_reference.specs.declared.data.Read.TheVariants.{Hit}

@@ -63,21 +63,20 @@ pub fn next_entry<K: Eq + Hash, V, S: BuildHasher, R: Rules<K, V>>(
         → result ≡ next_entry R.answers tables.now.state r.entry key value now step }
 {
     let rules = tables.rules();
-    let before = tables.record_in(place).entry.expires;
+    let before = tables.record_in(place).expires();
     let weight = rules.weight(&key, &value);
-    let mut entry = Entry {
+    let moment = now.as_nanos();
+    let left = time_left(tables.settings(), moment, before, moment, moment);
+    let answer = rules.updated_expiration(&key, &value, now, left);
+    Entry {
         key,
         value,
         step,
-        written: now.as_nanos(),
-        used: now.as_nanos(),
-        expires: before,
+        written: moment,
+        used: moment,
+        expires: changed(now, answer, before),
         weight,
-    };
-    let left = time_left(tables.settings(), now.as_nanos(), &entry);
-    let answer = rules.updated_expiration(&entry.key, &entry.value, now, left);
-    entry.expires = changed(now, answer, before);
-    entry
+    }
 }
 
 /// The own expiration of the entry in a place after a look-up that found it.
@@ -92,12 +91,19 @@ pub fn expires_after_use<K: Eq + Hash, V, S: BuildHasher, R: Rules<K, V>>(
     ensures { (r : Record K V) → kept_at tables.now place ≡ Some r
         → result ≡ (used_entry R.answers tables.now.state now r.entry).expires }
 {
-    let entry = &tables.record_in(place).entry;
-    let left = time_left(tables.settings(), now.as_nanos(), entry);
-    let written = Instant::from_nanos(entry.written);
+    let found = tables.record_in(place);
+    let before = found.expires();
+    let left = time_left(
+        tables.settings(),
+        now.as_nanos(),
+        before,
+        found.written(),
+        found.used(),
+    );
+    let written = Instant::from_nanos(found.written());
     let rules = tables.rules();
-    let answer = rules.read_expiration(&entry.key, &entry.value, now, left, written);
-    changed(now, answer, entry.expires)
+    let answer = rules.read_expiration(found.key(), found.value(), now, left, written);
+    changed(now, answer, before)
 }
 
 /// What a write tells of the value in a place that it replaces, where removals are told.
@@ -114,11 +120,11 @@ pub fn cause_of_write<K: Eq + Hash, V, S: BuildHasher, R: Rules<K, V>>(
     if !settings.tells {
         return RemovalCause::Replaced;
     }
-    let entry = &tables.record_in(place).entry;
-    if is_dead(settings, now, entry) {
+    let found = tables.record_in(place);
+    if found.is_dead(settings, now) {
         return RemovalCause::Expired;
     }
-    if tables.is_over(entry) {
+    if tables.is_over(found) {
         return RemovalCause::Explicit;
     }
     RemovalCause::Replaced
@@ -128,7 +134,7 @@ pub fn cause_of_write<K: Eq + Hash, V, S: BuildHasher, R: Rules<K, V>>(
 pub fn cause_of_removal<K, V>(settings: Settings, now: u64, entry: &Entry<K, V>) -> RemovalCause
     ensures { result ≡ (if has_come settings now entry.now then cause.Expired else cause.Explicit) }
 {
-    if is_dead(settings, now, entry) {
+    if is_dead(settings, now, entry.expires, entry.written, entry.used) {
         return RemovalCause::Expired;
     }
     RemovalCause::Explicit
@@ -146,14 +152,14 @@ pub fn entry_of<K: Eq + Hash, V, S: BuildHasher, R: Rules<K, V>>(
         → (key ≡ r.entry.key) × (value ≡ r.entry.value) }
     ensures { (r : Record K V) → kept_at tables.now place ≡ Some r → result ≡ r.entry }
 {
-    let found = &tables.record_in(place).entry;
+    let found = tables.record_in(place);
     Entry {
         key,
         value,
-        step: found.step,
-        written: found.written,
-        used: found.used,
-        expires: found.expires,
-        weight: found.weight,
+        step: found.step(),
+        written: found.written(),
+        used: found.used(),
+        expires: found.expires(),
+        weight: found.weight(),
     }
 }

@@ -8,8 +8,8 @@ ghost use Rattle.engine_reference.specs.Scanning.{past};
 ghost use Rattle.engine_reference.specs.Visible.{is_visible, visible_record};
 ghost use Rattle.engine_reference.specs.declared.data.Record.{Record};
 
-use engine_pending::is_dead;
-use engine_reference::{Hashes, Names, Record, Rules};
+use engine_cells::Cell;
+use engine_reference::{Hashes, Names, Rules};
 use engine_tables::Tables;
 use std::alloc::AllocError;
 use std::hash::{BuildHasher, Hash};
@@ -19,7 +19,7 @@ pub fn held<'a, K: Eq + Hash, V, S: BuildHasher, R: Rules<K, V>, Q: Names<K>>(
     tables: &'a Tables<K, V, S, R>,
     key: &Q,
     hash: u64,
-) -> Option<&'a Record<K, V>>
+) -> Option<&'a Cell<K, V>>
     requires hashed { hash ≡ ⟦<S as Hashes<K>>⟧.hash tables.now.state.hasher (Q.named_key key.now) }
     ensures { option_copied result ≡ held_at K.eq tables.now.state.records (Q.named_key key.now) }
 {
@@ -39,8 +39,8 @@ fn is_seen_at<K: Eq + Hash, V, S: BuildHasher, R: Rules<K, V>>(
     ensures { (r : Record K V) → kept_at tables.now place ≡ Some r
         → result ≡ is_visible R.answers tables.now.state now r.entry }
 {
-    let entry = &tables.record_in(place).entry;
-    !is_dead(tables.settings(), now, entry) && !tables.is_over(entry)
+    let found = tables.record_in(place);
+    !found.is_dead(tables.settings(), now) && !tables.is_over(found)
 }
 
 /// The place of the visible record of a key.
@@ -90,7 +90,7 @@ pub fn look_up<'a, K: Eq + Hash, V, S: BuildHasher, R: Rules<K, V>, Q: Names<K>>
     key: &Q,
     hash: u64,
     now: u64,
-) -> Option<&'a Record<K, V>>
+) -> Option<&'a Cell<K, V>>
     requires hashed { hash ≡ ⟦<S as Hashes<K>>⟧.hash tables.now.state.hasher (Q.named_key key.now) }
     ensures { option_copied result ≡ visible_record R.answers K.eq tables.now.state now
         (Q.named_key key.now) }
@@ -102,14 +102,14 @@ pub fn look_up<'a, K: Eq + Hash, V, S: BuildHasher, R: Rules<K, V>, Q: Names<K>>
 }
 
 /// A clone of a record's value, if there is one.
-pub fn clone_value<K, V: Clone>(found: Option<&Record<K, V>>) -> Result<Option<V>, AllocError>
+pub fn clone_value<K, V: Clone>(found: Option<&Cell<K, V>>) -> Result<Option<V>, AllocError>
     requires exact { (x y : V) → V.is_clone x y → y ≡ x }
     ensures { IfOk result
         (λ value. value ≡ option_map (λ r. r.entry.value) (option_copied found.entry)) }
 {
     match found {
         Some(found) => {
-            let value = found.entry.value.clone()?;
+            let value = found.value().clone()?;
             Ok(Some(value))
         }
         None => Ok(None),
@@ -117,13 +117,13 @@ pub fn clone_value<K, V: Clone>(found: Option<&Record<K, V>>) -> Result<Option<V
 }
 
 /// A clone of a record's key, if there is one.
-pub fn clone_key<K: Clone, V>(found: Option<&Record<K, V>>) -> Result<Option<K>, AllocError>
+pub fn clone_key<K: Clone, V>(found: Option<&Cell<K, V>>) -> Result<Option<K>, AllocError>
     requires exact_key { (x y : K) → K.is_clone x y → y ≡ x }
     ensures { IfOk result (λ key. key ≡ option_map (λ r. r.entry.key) (option_copied found.entry)) }
 {
     match found {
         Some(found) => {
-            let key = found.entry.key.clone()?;
+            let key = found.key().clone()?;
             Ok(Some(key))
         }
         None => Ok(None),
@@ -142,7 +142,7 @@ pub fn clone_found<K: Eq + Hash, V: Clone, S: BuildHasher, R: Rules<K, V>>(
 {
     match place {
         Some(place) => {
-            let value = tables.record_in(place).entry.value.clone()?;
+            let value = tables.record_in(place).value().clone()?;
             Ok(Some(value))
         }
         None => Ok(None),
@@ -169,7 +169,7 @@ fn is_ignored<K: Eq + Hash, V, S: BuildHasher, R: Rules<K, V>, F: FnOnce(&V) -> 
         → FnOnceReturnsAt F.FnOnce ignore_if r.entry.value result }
 {
     let found = tables.record_in(place);
-    says_of(ignore_if, &found.entry.value)
+    says_of(ignore_if, found.value())
 }
 
 /// The place of what was found, unless it is to be passed over. The test is called only if something was found.

@@ -1,10 +1,10 @@
 //! Deadlines.
-ghost use Rattle.std.specs.Prelude.{◌≡◌, option_map};
+ghost use Rattle.std.specs.Prelude.{◌≡◌, ◌-◌, option_map};
 ghost use Rattle.std.specs.Duration.{as_nanos};
 ghost use Rattle.policy_base.specs.Info.{kept_time};
-ghost use Rattle.engine_reference.specs.Times.{end_of, own_expiration, earlier_of, time_left};
+ghost use Rattle.engine_reference.specs.Times.{end_of, own_expiration, earlier_of};
 
-use engine_reference::{Entry, Settings};
+use engine_reference::Settings;
 use policy_base::{Instant, MAX_NANOS};
 use std::time::Duration;
 
@@ -46,15 +46,20 @@ fn earlier_of(a: Option<u64>, b: Option<u64>) -> Option<u64>
     }
 }
 
-/// The time until an entry's deadline: zero if it has passed.
-pub fn time_left<K, V>(settings: Settings, now: u64, entry: &Entry<K, V>) -> Option<Duration>
-    ensures { option_map as_nanos result ≡ time_left settings now entry.now }
+/// The time until the deadline of what expires by itself at a moment, and was written and used at others: zero if it has
+/// passed.
+pub fn time_left(
+    settings: Settings,
+    now: u64,
+    expires: Option<u64>,
+    written: u64,
+    used: u64,
+) -> Option<Duration>
+    ensures { option_map as_nanos result ≡ option_map (λ deadline. deadline - now)
+        (earlier_of expires (earlier_of (end_of written settings.live) (end_of used settings.idle))) }
 {
-    let ends = earlier_of(
-        end_of(entry.written, settings.live),
-        end_of(entry.used, settings.idle),
-    );
-    match earlier_of(entry.expires, ends) {
+    let ends = earlier_of(end_of(written, settings.live), end_of(used, settings.idle));
+    match earlier_of(expires, ends) {
         Some(deadline) => Some(Duration::from_nanos(deadline.saturating_sub(now))),
         None => None,
     }

@@ -11,7 +11,8 @@ ghost use Rattle.engine_reference.specs.declared.data.Record.{Record};
 use crate::entries::{cause_of_removal, cause_of_write, entry_of, first_entry, next_entry};
 use crate::looks::held;
 use crate::settings::rooms_of_removal;
-use engine_reference::{Entry, Hashes, Names, Record, Refusal, Rules};
+use engine_cells::Cell;
+use engine_reference::{Entry, Hashes, Names, Refusal, Rules};
 use engine_tables::Tables;
 use policy_base::Instant;
 use std::alloc::AllocError;
@@ -36,16 +37,7 @@ fn write_first<K: Eq + Hash, V, S: BuildHasher, R: Rules<K, V>>(
 {
     let entry = first_entry(tables, key, value, now, step);
     let number = tables.next_number();
-    let added = Record {
-        number,
-        hash,
-        entry,
-        is_held: true,
-        writes: 1,
-        applied: 0,
-        counts: None,
-    };
-    let _place = tables.add(added, at_once);
+    let _place = tables.add(Cell::new(number, hash, entry), at_once);
 }
 
 /// Writes a value over the one in a place.
@@ -97,13 +89,13 @@ pub fn write<K: Eq + Hash + Drop, V: Drop, S: BuildHasher, R: Rules<K, V>>(
 }
 
 /// Clones of a record's key and value.
-fn clone_parts<K: Clone + Drop, V: Clone>(found: &Record<K, V>) -> Result<(K, V), AllocError>
+fn clone_parts<K: Clone + Drop, V: Clone>(found: &Cell<K, V>) -> Result<(K, V), AllocError>
     requires exact_key { (x y : K) → K.is_clone x y → y ≡ x }
     requires exact { (x y : V) → V.is_clone x y → y ≡ x }
     ensures { IfOk result (λ parts. parts ≡ (found.now.entry.key, found.now.entry.value)) }
 {
-    let key = found.entry.key.clone()?;
-    let value = found.entry.value.clone()?;
+    let key = found.key().clone()?;
+    let value = found.value().clone()?;
     Ok((key, value))
 }
 

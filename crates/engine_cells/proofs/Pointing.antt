@@ -9,7 +9,7 @@ use Rattle.engine_reference.specs.Records.{record_at, without_record, without, m
 use Rattle.engine_reference.specs.declared.data.Record.{Record}
 use Rattle.engine_reference.specs.declared.data.Entry.{Entry}
 use Rattle.engine_reference.specs.declared.data.Notice.{Notice}
-use Rattle.engine_reference.specs.Visible.{told}
+use Rattle.engine_reference.specs.Visible.{notice_of, told}
 use Rattle.engine_reference.specs.declared.rules.causes.RemovalCause.{RemovalCause}
 use Rattle.engine_reference.specs.Runs.{after_hit, after_removal}
 use Rattle.engine_reference.specs.State.{State}
@@ -64,9 +64,9 @@ kept-sent {K} {V} {P} {S} {R} records access order next numbers t p q e =
     ∙ ap (λ s. record (kept_with records access order next numbers p) { state = s }) ((pending_agrees K V Noted PlacedWrite P S R read_of write_of records access order next).sent t p)
 
 -- an entry that is told or not
-pub told-same : {K V O W P S R : Type 0} (b : Bool) (why : RemovalCause) (e : Entry K V) (p : Pending K V O W P S R) → told_if b why e p ≡ record p { notices = told b why e p.notices; notice_room = cond b (p.notice_room - 1) p.notice_room }
-told-same true why e p = refl
-told-same false why e p = refl
+pub told-same : {K V O W P S R : Type 0} (b : Bool) (why : RemovalCause) (e : Entry K V) (n : Notice K V) (p : Pending K V O W P S R) → n ≡ notice_of why e → told_if b n p ≡ record p { notices = told b why e p.notices; notice_room = cond b (p.notice_room - 1) p.notice_room }
+told-same true why e n p is = ap (λ m. record p { notices = p.notices ++ m ∷ []; notice_room = p.notice_room - 1 }) is
+told-same false why e n p is = refl
 
 pub told-parts : {K V : Type 0} (a b : Bool) (why : RemovalCause) (e : Entry K V) (ns : List (Notice K V)) → told (a && b) why e ns ≡ cond a (told b why e ns) ns
 told-parts true b why e ns = refl

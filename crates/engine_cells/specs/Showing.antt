@@ -8,7 +8,7 @@ module _ {K V O W P S R : Type 0} (covers : R → P → K → V → Bool) (p : P
   -- a record is held, its deadline is after the moment, and nothing covers its entry
   abbrev pub shows_value : Record K V → Bool
   shows_value r =
-      r.is_held && (not (has_come p.settings now r.entry) && not (stands_over covers p r.entry))
+      r.is_held && (not (has_come p.settings now r.entry) && not (stands_over covers p r.entry.step r.entry.key r.entry.value))
 
   -- what it counts for among those that do
   abbrev pub shown_part : Record K V → ℕ

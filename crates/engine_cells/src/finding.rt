@@ -5,16 +5,17 @@ ghost use Rattle.engine_cells.specs.Keys.Spots.{IsUnder};
 ghost use Rattle.engine_cells.specs.Cells.{cell_at, records_by_number};
 ghost use Rattle.engine_cells.specs.Spotted.{is_match, is_numbered, AreSpotted, HaveHash, IsHeldUnder, LeavesIf};
 
+use crate::cell::Cell;
 use crate::cell_slab::CellSlab;
 use crate::keys::Keys;
-use engine_reference::{Names, Record};
+use engine_reference::Names;
 
 /// Whether the record in a place is held under a key.
-fn is_match<K: Eq, Q: Names<K>, V>(cells: &CellSlab<Record<K, V>>, place: usize, key: &Q) -> bool
+fn is_match<K: Eq, Q: Names<K>, V>(cells: &CellSlab<Cell<K, V>>, place: usize, key: &Q) -> bool
     ensures { result ≡ is_match K.eq (Q.named_key key.now) (cell_at cells.now.slots place) }
 {
     match cells.get(place) {
-        Some(cell) => cell.is_held && key.is_name_of(&cell.entry.key),
+        Some(cell) => cell.is_held() && key.is_name_of(cell.key()),
         None => false,
     }
 }
@@ -31,7 +32,7 @@ pub fn take_if(keys: &mut Keys, goes: bool, hash: u64, place: usize)
 
 /// The place of a key's record, if it is held, by the key's hash.
 pub fn find_held<K: Eq, Q: Names<K>, V>(
-    cells: &CellSlab<Record<K, V>>,
+    cells: &CellSlab<Cell<K, V>>,
     keys: &Keys,
     key: &Q,
     hash: u64,
@@ -50,18 +51,18 @@ pub fn find_held<K: Eq, Q: Names<K>, V>(
 }
 
 /// Whether a place has the record of a number.
-fn is_numbered<K, V>(cells: &CellSlab<Record<K, V>>, place: usize, number: u64) -> bool
+fn is_numbered<K, V>(cells: &CellSlab<Cell<K, V>>, place: usize, number: u64) -> bool
     ensures { result ≡ is_numbered number (cell_at cells.now.slots place) }
 {
     match cells.get(place) {
-        Some(cell) => cell.number == number,
+        Some(cell) => cell.number() == number,
         None => false,
     }
 }
 
 /// The place of the record of a number, if it is there; it is then held under this hash.
 pub fn find_number<K: Eq, V>(
-    cells: &CellSlab<Record<K, V>>,
+    cells: &CellSlab<Cell<K, V>>,
     keys: &Keys,
     number: u64,
     hash: u64,

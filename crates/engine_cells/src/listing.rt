@@ -5,8 +5,8 @@ ghost use Rattle.engine_cells.specs.Cells.{cell_at, records_by_number, HaveOwnNu
 ghost use Rattle.engine_reference.specs.Scanning.{held_keys};
 ghost use Rattle.engine_cells.specs.Listing.{stand_of, stands_from, key_of, keys_in};
 
+use crate::cell::Cell;
 use crate::cell_slab::CellSlab;
-use engine_reference::Record;
 use std::alloc::AllocError;
 
 /// The number of a held record, and its place.
@@ -18,7 +18,7 @@ pub struct Stand {
 
 /// Adds the record in a place, if it is held.
 fn push_held<K, V>(
-    cells: &CellSlab<Record<K, V>>,
+    cells: &CellSlab<Cell<K, V>>,
     place: usize,
     found: &mut Vec<Stand>,
 ) -> Result<(), AllocError>
@@ -26,10 +26,10 @@ fn push_held<K, V>(
         (found.new.items ≡ found.old.items ++ stand_of place (cell_at cells.now.slots place)) }
 {
     if let Some(cell) = cells.get(place)
-        && cell.is_held
+        && cell.is_held()
     {
         found.push(Stand {
-            number: cell.number,
+            number: cell.number(),
             place,
         })?;
     }
@@ -37,7 +37,7 @@ fn push_held<K, V>(
 }
 
 /// Adds all held records, by their places.
-fn push_all<K, V>(cells: &CellSlab<Record<K, V>>, found: &mut Vec<Stand>) -> Result<(), AllocError>
+fn push_all<K, V>(cells: &CellSlab<Cell<K, V>>, found: &mut Vec<Stand>) -> Result<(), AllocError>
     requires { found.old.items ≡ [] }
     ensures { OnOk result (found.new.items ≡ stands_from 0 cells.now.slots) }
 {
@@ -57,7 +57,7 @@ fn sort(found: &mut Vec<Stand>)
 
 /// Adds a clone of the key of the record in a place.
 fn push_key<K: Clone + Drop, V>(
-    cells: &CellSlab<Record<K, V>>,
+    cells: &CellSlab<Cell<K, V>>,
     place: usize,
     keys: &mut Vec<K>,
 ) -> Result<(), AllocError>
@@ -66,7 +66,7 @@ fn push_key<K: Clone + Drop, V>(
         (keys.new.items ≡ keys.old.items ++ key_of (cell_at cells.now.slots place)) }
 {
     if let Some(cell) = cells.get(place) {
-        let key = cell.entry.key.clone()?;
+        let key = cell.key().clone()?;
         keys.push(key)?;
     }
     Ok(())
@@ -74,7 +74,7 @@ fn push_key<K: Clone + Drop, V>(
 
 /// Adds clones of the keys of records, in their order.
 fn push_keys<K: Clone + Drop, V>(
-    cells: &CellSlab<Record<K, V>>,
+    cells: &CellSlab<Cell<K, V>>,
     found: &[Stand],
     keys: &mut Vec<K>,
 ) -> Result<(), AllocError>
@@ -90,7 +90,7 @@ fn push_keys<K: Clone + Drop, V>(
 
 /// Adds clones of the keys of all held records, in the order of their numbers.
 pub fn push_held_keys<K: Clone + Drop, V>(
-    cells: &CellSlab<Record<K, V>>,
+    cells: &CellSlab<Cell<K, V>>,
     mut found: Vec<Stand>,
     keys: &mut Vec<K>,
 ) -> Result<(), AllocError>

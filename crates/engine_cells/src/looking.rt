@@ -6,24 +6,24 @@ ghost use Rattle.engine_cells.specs.Awaiting.{AreAwaited};
 ghost use Rattle.engine_cells.specs.Looking.{is_expired, is_settled_as, HasFirstSettled};
 ghost use Rattle.engine_reference.specs.declared.data.Record.{Record};
 
+use crate::cell::Cell;
 use crate::cell_slab::CellSlab;
 use engine_pending::Expirations;
-use engine_reference::Record;
 use policy_base::{Instant, MAX_NANOS};
 use policy_queue::IndexQueue;
 
 /// Whether a record is held, and its own expiration was reached.
-fn is_expired<K, V>(found: &Record<K, V>, now: u64) -> bool
+fn is_expired<K, V>(found: &Cell<K, V>, now: u64) -> bool
     ensures { result ≡ is_expired now found.now }
 {
-    match found.entry.expires {
-        Some(moment) => found.is_held && moment <= now,
+    match found.expires() {
+        Some(moment) => found.is_held() && moment <= now,
         None => false,
     }
 }
 
 /// Whether a place has a held record whose own expiration was reached.
-fn is_expired_at<K, V>(cells: &CellSlab<Record<K, V>>, place: usize, now: u64) -> bool
+fn is_expired_at<K, V>(cells: &CellSlab<Cell<K, V>>, place: usize, now: u64) -> bool
     ensures due { result ≡ true → (c : Record K V) × (cell_at cells.now.slots place ≡ Some c)
         × (is_expired now c ≡ true) }
     ensures not { result ≡ false → (c : Record K V) → cell_at cells.now.slots place ≡ Some c
@@ -36,7 +36,7 @@ fn is_expired_at<K, V>(cells: &CellSlab<Record<K, V>>, place: usize, now: u64) -
 }
 
 /// The place of a held record whose own expiration was reached, by a look at every record.
-fn first_due<K, V>(cells: &CellSlab<Record<K, V>>, now: u64) -> Option<usize>
+fn first_due<K, V>(cells: &CellSlab<Cell<K, V>>, now: u64) -> Option<usize>
     ensures found { IfSome result
         (λ i. (c : Record K V) × (cell_at cells.now.slots i ≡ Some c) × (is_expired now c ≡ true)) }
     ensures none { IfNone result
@@ -53,7 +53,7 @@ fn first_due<K, V>(cells: &CellSlab<Record<K, V>>, now: u64) -> Option<usize>
 /// The place of a held record whose own expiration was reached, by the first timer. Looks at every record only if there
 /// was no memory for a timer.
 pub fn first_expired<K, V>(
-    cells: &CellSlab<Record<K, V>>,
+    cells: &CellSlab<Cell<K, V>>,
     expirations: &Expirations,
     now: u64,
 ) -> Option<usize>
@@ -83,17 +83,17 @@ pub fn first_expired<K, V>(
 }
 
 /// Whether the record in a place is settled.
-fn is_settled_at<K, V>(cells: &CellSlab<Record<K, V>>, place: usize) -> bool
+fn is_settled_at<K, V>(cells: &CellSlab<Cell<K, V>>, place: usize) -> bool
     ensures { result ≡ is_settled_as (cell_at cells.now.slots place) }
 {
     match cells.get(place) {
-        Some(cell) => cell.writes == cell.applied,
+        Some(cell) => cell.writes() == cell.applied(),
         None => false,
     }
 }
 
 /// The place of the first settled record of a list, whose places are in this queue.
-pub fn first_settled<K, V>(cells: &CellSlab<Record<K, V>>, queue: &IndexQueue) -> Option<usize>
+pub fn first_settled<K, V>(cells: &CellSlab<Cell<K, V>>, queue: &IndexQueue) -> Option<usize>
     requires apart { HaveOwnNumbers cells.now.slots }
     requires listed { AreListed cells.now.slots queue.now.indices }
     ensures found { IfSome result (HasFirstSettled cells.now.slots queue.now.indices) }

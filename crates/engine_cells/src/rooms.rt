@@ -4,15 +4,15 @@ ghost use Rattle.policy_queue.specs.Indices.{OnlyGainsPlaces};
 ghost use Rattle.engine_cells.specs.Keys.Spots.{OnlyGainsSpace};
 ghost use Rattle.engine_cells.specs.Rooms.{OnlyMoreCells, HasRooms};
 
+use crate::cell::Cell;
 use crate::cell_slab::CellSlab;
 use crate::keys::Keys;
-use engine_reference::Record;
 use policy_queue::IndexQueue;
 
 /// Makes room for `more` records, if `waiting` of those that are there are in no queue. Returns whether there was memory
 /// for it.
 pub fn grow<K, V>(
-    cells: &mut CellSlab<Record<K, V>>,
+    cells: &mut CellSlab<Cell<K, V>>,
     access: &mut IndexQueue,
     order: &mut IndexQueue,
     keys: &mut Keys,

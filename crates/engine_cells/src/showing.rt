@@ -4,27 +4,28 @@ ghost use Rattle.engine_cells.specs.Cells.{cell_at};
 ghost use Rattle.engine_cells.specs.Showing.{shows_value, shown_in, shown_part};
 ghost use Rattle.engine_cells.specs.Tallying.{sum_over};
 
+use crate::cell::Cell;
 use crate::cell_slab::CellSlab;
 use crate::noting::{Noted, PlacedWrite};
-use engine_pending::{Backlog, is_dead};
-use engine_reference::{Record, Rules};
+use engine_pending::Backlog;
+use engine_reference::Rules;
 
 /// Whether a record is held and alive, and its entry is not covered.
 fn shows_value<K, V, S, R: Rules<K, V>>(
-    found: &Record<K, V>,
+    found: &Cell<K, V>,
     backlog: &Backlog<K, V, Noted, PlacedWrite, S, R>,
     now: u64,
 ) -> bool
     ensures { result ≡ shows_value R.answers.covers backlog.now now found.now }
 {
-    found.is_held
-        && !is_dead(backlog.settings(), now, &found.entry)
-        && !backlog.is_over(&found.entry)
+    found.is_held()
+        && !found.is_dead(backlog.settings(), now)
+        && !backlog.is_over(found.step(), found.key(), found.value())
 }
 
 /// 1 if the record in a place shows a value, otherwise 0.
 fn shown_at<K, V, S, R: Rules<K, V>>(
-    cells: &CellSlab<Record<K, V>>,
+    cells: &CellSlab<Cell<K, V>>,
     place: usize,
     backlog: &Backlog<K, V, Noted, PlacedWrite, S, R>,
     now: u64,
@@ -41,7 +42,7 @@ fn shown_at<K, V, S, R: Rules<K, V>>(
 
 /// How many records show a value, by a look at every one.
 pub fn count_shown<K, V, S, R: Rules<K, V>>(
-    cells: &CellSlab<Record<K, V>>,
+    cells: &CellSlab<Cell<K, V>>,
     backlog: &Backlog<K, V, Noted, PlacedWrite, S, R>,
     now: u64,
 ) -> usize

@@ -3,7 +3,7 @@ ghost use Rattle.std.specs.Prelude.{◌≡◌, ◌+◌, ◌-◌, ◌<◌, ◌≤
 ghost use Rattle.engine_reference.specs.Records.{weight_at};
 ghost use Rattle.engine_cells.specs.Tallying.{held_part, admitted_part};
 
-use engine_reference::Record;
+use crate::cell::Cell;
 
 /// What all that is held weighs, what the admitted records weigh, and how many of these there are.
 #[derive(Clone, Copy)]
@@ -14,17 +14,14 @@ pub struct Tally {
 }
 
 impl Tally {
-    /// With an entry of a weight in the place of a held one.
-    pub fn rewritten(self, before: u32, after: u32) -> Tally
+    /// What is held with an entry of a weight in the place of a held one.
+    pub fn held_with(self, before: u32, after: u32) -> u64
         requires within { before ≤ self.held }
         requires room { self.held + 2 ^ 32 ≤ 2 ^ 64 }
-        ensures is { result ≡ record self { held = self.held - before + after } }
+        ensures is { result ≡ self.held - before + after }
         ensures light { after < 2 ^ 32 }
     {
-        Tally {
-            held: self.held - u64::from(before) + u64::from(after),
-            ..self
-        }
+        self.held - u64::from(before) + u64::from(after)
     }
 
     /// With a record that counts with another weight, or did not count before.
@@ -50,7 +47,7 @@ impl Tally {
     }
 
     /// With one of its records that is no longer held.
-    pub fn unheld<K, V>(self, found: &Record<K, V>) -> Tally
+    pub fn unheld<K, V>(self, found: &Cell<K, V>) -> Tally
         requires { held_part found.now ≤ self.held }
         ensures { result ≡ record self { held = self.held - held_part found.now } }
     {
@@ -61,7 +58,7 @@ impl Tally {
     }
 
     /// Without one of its records.
-    pub fn without<K, V>(self, went: &Record<K, V>) -> Tally
+    pub fn without<K, V>(self, went: &Cell<K, V>) -> Tally
         requires held { held_part went.now ≤ self.held }
         requires weight { weight_at went.now ≤ self.weight }
         requires number { admitted_part went.now ≤ self.number }
@@ -73,15 +70,15 @@ impl Tally {
     {
         Tally {
             held: self.held - u64::from(weight_if_held(went)),
-            weight: self.weight - u64::from(went.counts.unwrap_or(0)),
-            number: self.number - u64::from(went.counts.is_some()),
+            weight: self.weight - u64::from(went.counts().unwrap_or(0)),
+            number: self.number - u64::from(went.counts().is_some()),
         }
     }
 }
 
 /// The weight of a held record, and 0 for another.
-fn weight_if_held<K, V>(found: &Record<K, V>) -> u32
+fn weight_if_held<K, V>(found: &Cell<K, V>) -> u32
     ensures { result ≡ held_part found.now }
 {
-    if found.is_held { found.entry.weight } else { 0 }
+    if found.is_held() { found.weight() } else { 0 }
 }

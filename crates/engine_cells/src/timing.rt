@@ -5,9 +5,9 @@ ghost use Rattle.engine_cells.specs.Awaiting.{AreAwaited};
 ghost use Rattle.engine_cells.specs.Cells.{cell_at};
 ghost use Rattle.engine_reference.specs.declared.data.Record.{Record};
 
+use crate::cell::Cell;
 use crate::cell_slab::CellSlab;
 use engine_pending::Expirations;
-use engine_reference::Record;
 
 /// A place expires at another moment than before, if it does.
 pub fn set_changed(
@@ -26,24 +26,18 @@ pub fn set_changed(
 }
 
 /// When the record in a place expires by itself, if it is held.
-fn expiration_at<K, V>(cells: &CellSlab<Record<K, V>>, place: usize) -> Option<u64>
+fn expiration_at<K, V>(cells: &CellSlab<Cell<K, V>>, place: usize) -> Option<u64>
     ensures { (c : Record K V) → cell_at cells.now.slots place ≡ Some c → c.is_held ≡ true
         → result ≡ c.entry.expires }
 {
     match cells.get(place) {
-        Some(cell) => {
-            if cell.is_held {
-                cell.entry.expires
-            } else {
-                None
-            }
-        }
+        Some(cell) => { if cell.is_held() { cell.expires() } else { None } }
         None => None,
     }
 }
 
 /// A place gets the timer that it is to have.
-fn time_place<K, V>(cells: &CellSlab<Record<K, V>>, place: usize, expirations: &mut Expirations)
+fn time_place<K, V>(cells: &CellSlab<Cell<K, V>>, place: usize, expirations: &mut Expirations)
     ensures others { KeepsOthers place expirations.old.timers expirations.new.timers }
     ensures whole { expirations.new.is_whole ≡ true → expirations.old.is_whole ≡ true }
     ensures set { (c : Record K V) → cell_at cells.now.slots place ≡ Some c → c.is_held ≡ true
@@ -54,7 +48,7 @@ fn time_place<K, V>(cells: &CellSlab<Record<K, V>>, place: usize, expirations: &
 }
 
 /// Each place gets the timer that it is to have, whatever there was memory for before.
-pub fn time_all<K, V>(cells: &CellSlab<Record<K, V>>, expirations: &mut Expirations)
+pub fn time_all<K, V>(cells: &CellSlab<Cell<K, V>>, expirations: &mut Expirations)
     ensures { AreAwaited cells.now.slots expirations.new }
 {
     expirations.start_again();

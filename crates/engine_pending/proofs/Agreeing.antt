@@ -9,7 +9,7 @@ use Rattle.engine_reference.specs.declared.data.Record.{Record}
 use Rattle.engine_reference.specs.declared.data.Write.{Write}
 use Rattle.engine_reference.specs.Calls.{with_sent, unsent_at, without_ticket}
 use Rattle.engine_reference.specs.Times.{end_of, is_reached}
-use Rattle.engine_reference.specs.Visible.{told}
+use Rattle.engine_reference.specs.Visible.{notice_of, told}
 use Rattle.engine_pending.specs.declared.tickets.Ticketed.{Ticketed}
 use Rattle.engine_pending.specs.Pending.{Pending, ticketed_at, without_ticketed, with_sent_of, told_if, with_write}
 use Rattle.engine_pending.specs.Whole.{unsent_of, whole, PendingAgrees}
@@ -41,7 +41,7 @@ module _ {K V O W P S R : Type 0} (read_of : O → Read) (write_of : W → Write
       ap (λ us. record s { unsent = us; writes = map write_of (p.writes ++ w ∷ []) }) (sym (ticket-without write_of t p.unsent))
       ∙ ap (λ ws. record s { unsent = without_ticket t s.unsent; writes = ws }) (map-append write_of p.writes (w ∷ []))
 
-  told-whole : (is_told : Bool) (why : RemovalCause) (e : Entry K V) → whole read_of write_of records access order next (told_if is_told why e p)
+  told-whole : (is_told : Bool) (why : RemovalCause) (e : Entry K V) → whole read_of write_of records access order next (told_if is_told (notice_of why e) p)
       ≡ (let s = whole read_of write_of records access order next p in record s { notices = told is_told why e s.notices })
   told-whole true why e = refl
   told-whole false why e = refl

@@ -4,13 +4,10 @@
 use Rattle.std.specs.Prelude.{◌≡◌, ℕ, ◌+◌, ◌-◌, ◌≤◌, ◌==◌, nat_le, nat_lt, min, Bool, true, false, ◌&&◌, ◌||◌, if◌then◌else◌, List, [], ◌∷◌, ◌++◌, drop, length, Option, Some, None}
 use Rattle.std.specs.List.{list_any}
 use Rattle.policy_base.specs.Counts.{Sketch}
-use Rattle.engine_reference.specs.declared.rules.causes.RemovalCause.{RemovalCause}
-use Rattle.engine_reference.specs.declared.data.Entry.{Entry}
 use Rattle.engine_reference.specs.declared.data.Notice.{Notice}
 use Rattle.engine_reference.specs.declared.data.Registered.{Registered}
 use Rattle.engine_reference.specs.declared.data.Settings.{Settings}
 use Rattle.engine_reference.specs.Times.{end_of, is_reached}
-use Rattle.engine_reference.specs.Visible.{notice_of}
 use Rattle.engine_pending.specs.declared.tickets.Ticketed.{Ticketed}
 
 pub record Pending (K V O W P S R : Type 0) : Type 0 where
@@ -87,11 +84,10 @@ module _ {K V O W P S R : Type 0} where
   abbrev pub ticket_sent : ℕ → Pending K V O W P S R → Pending K V O W P S R
   ticket_sent ticket s = with_sent_of ticket (ticketed_at s.unsent ticket) s
 
-  -- an entry that left is reported, if it has to be
-  abbrev pub told_if : Bool → RemovalCause → Entry K V → Pending K V O W P S R
-      → Pending K V O W P S R
-  told_if is_told why e s = if is_told then record s {
-    notices = s.notices ++ notice_of why e ∷ [];
+  -- what left is reported, if it has to be
+  abbrev pub told_if : Bool → Notice K V → Pending K V O W P S R → Pending K V O W P S R
+  told_if is_told notice s = if is_told then record s {
+    notices = s.notices ++ notice ∷ [];
     notice_room = s.notice_room - 1;
   } else s
 
@@ -102,11 +98,11 @@ module _ {K V O W P S R : Type 0} where
     notice_room = s.notice_room + min 1 (length s.notices);
   }
 
-  -- a clear of a later step than the write, or a predicate that was registered at a later step, covers the entry
-  abbrev pub stands_over : (R → P → K → V → Bool) → Pending K V O W P S R → Entry K V → Bool
-  stands_over covers s e =
-      nat_lt e.step s.cleared || list_any
-      (λ p. nat_lt e.step p.step && covers s.rules p.predicate e.key e.value) s.predicates
+  -- a clear of a later step than the write, or a predicate that was registered at a later step, covers the value
+  abbrev pub stands_over : (R → P → K → V → Bool) → Pending K V O W P S R → ℕ → K → V → Bool
+  stands_over covers s step key value =
+      nat_lt step s.cleared || list_any
+      (λ p. nat_lt step p.step && covers s.rules p.predicate key value) s.predicates
 
   -- 64 writes or 64 reads wait, or the last run is 300 milliseconds old
   abbrev pub is_run_due : Pending K V O W P S R → ℕ → Bool

@@ -9,7 +9,7 @@ use Rattle.engine_reference.specs.declared.data.Write.{Write}
 use Rattle.engine_reference.specs.Calls.{sent, unsent_at, is_full, without_notice}
 use Rattle.engine_reference.specs.Runs.{is_due}
 use Rattle.engine_reference.specs.State.{State, Answers}
-use Rattle.engine_reference.specs.Visible.{is_covered, told}
+use Rattle.engine_reference.specs.Visible.{is_covered, notice_of, told}
 use Rattle.engine_pending.specs.declared.tickets.Ticketed.{Ticketed}
 use Rattle.engine_pending.specs.Pending.{Pending, ticketed_at, with_write, ticket_sent, told_if, notice_taken, stands_over, is_run_due}
 
@@ -73,12 +73,12 @@ module _ (K V O W P S R : Type 0) where
     pub applied : (p : Pending K V O W P S R) → whole read_of write_of records access order next (record p { writes = drop 1 p.writes })
         ≡ (let s = whole read_of write_of records access order next p in record s { writes = drop 1 s.writes })
     pub told : (is_told : Bool) (why : RemovalCause) (e : Entry K V) (p : Pending K V O W P S R)
-        → whole read_of write_of records access order next (told_if is_told why e p)
+        → whole read_of write_of records access order next (told_if is_told (notice_of why e) p)
         ≡ (let s = whole read_of write_of records access order next p in record s { notices = told is_told why e s.notices })
     pub taken : (p : Pending K V O W P S R) → whole read_of write_of records access order next
         (notice_taken p) ≡ without_notice (whole read_of write_of records access order next p)
     pub covered : (answers : Answers K V P R) (e : Entry K V) (p : Pending K V O W P S R)
-        → stands_over answers.covers p e
+        → stands_over answers.covers p e.step e.key e.value
         ≡ is_covered answers (whole read_of write_of records access order next p) e
     pub due : (now : ℕ) (p : Pending K V O W P S R)
         → is_run_due p now ≡ is_due (whole read_of write_of records access order next p) now

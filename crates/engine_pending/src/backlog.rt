@@ -10,7 +10,7 @@ ghost use Rattle.engine_pending.specs.declared.tickets.Ticketed.{Ticketed};
 use crate::covering::is_any_over;
 use crate::tickets::{Ticketed, place_of_ticket, take_ticketed};
 use circular_buffer::HeapCircularBuffer;
-use engine_reference::{Entry, Notice, Refusal, Registered, RemovalCause, Rules, Settings};
+use engine_reference::{Notice, Refusal, Registered, Rules, Settings};
 use policy_base::{FrequencySketch, MAX_NANOS};
 use std::alloc::{AllocError, Global};
 use std::marker::Model;
@@ -255,11 +255,12 @@ impl<K, V, O, W, S, R: Rules<K, V>> Backlog<K, V, O, W, S, R> {
         FLUSH_POINT <= self.writes.len() || FLUSH_POINT <= self.reads.len() || ends <= now
     }
 
-    /// Whether a later clear or predicate stands over an entry.
-    pub fn is_over(&self, entry: &Entry<K, V>) -> bool
-        ensures { result ≡ stands_over R.answers.covers self.now entry.now }
+    /// Whether a later clear or predicate stands over what was written at a step.
+    pub fn is_over(&self, step: u64, key: &K, value: &V) -> bool
+        ensures { result ≡ stands_over R.answers.covers self.now step key.now value.now }
     {
-        entry.step < self.cleared || is_any_over(&self.rules, self.predicates.as_slice(), entry)
+        step < self.cleared
+            || is_any_over(&self.rules, self.predicates.as_slice(), step, key, value)
     }
 
     // ---- clears and predicates
@@ -302,53 +303,44 @@ impl<K, V, O, W, S, R: Rules<K, V>> Backlog<K, V, O, W, S, R> {
         self.notices.pop_front()
     }
 
-    /// Tells an entry that left, where it is to be told and removals are, and there is room for its notice.
-    pub fn tell(&mut self, is_told: bool, cause: RemovalCause, entry: Entry<K, V>)
+    /// Adds the notice of what left, where that is to be told and removals are, and there is room for it.
+    pub fn tell(&mut self, is_told: bool, notice: Notice<K, V>)
     where
         K: Drop,
         V: Drop,
         requires { self.old.settings.tells ≡ true → 0 < self.old.notice_room }
-        ensures { self.new ≡ told_if (is_told && self.old.settings.tells) cause entry self.old }
+        ensures { self.new ≡ told_if (is_told && self.old.settings.tells) notice self.old }
     {
         if is_told && self.settings.tells {
-            self.push_notice(cause, entry);
+            self.push_notice(notice);
         }
     }
 
-    fn push_notice(&mut self, cause: RemovalCause, entry: Entry<K, V>)
+    fn push_notice(&mut self, notice: Notice<K, V>)
     where
         K: Drop,
         V: Drop,
         requires { 0 < self.old.notice_room }
-        ensures { self.new ≡ told_if true cause entry self.old }
+        ensures { self.new ≡ told_if true notice self.old }
     {
-        let Entry {
-            key,
-            value,
-            step: _,
-            written: _,
-            used: _,
-            expires: _,
-            weight: _,
-        } = entry;
-        match self.notices.try_push_back(Notice { cause, key, value }) {
+        match self.notices.try_push_back(notice) {
             Ok(()) => {}
             Err(_) => unreachable!(),
         }
     }
 
-    /// Tells an entry that was removed by its key, in the room that its removal left, where removals are told.
-    pub fn tell_removed(&mut self, cause: RemovalCause, entry: Entry<K, V>)
+    /// Adds the notice of what was removed by its key, in the room that its removal left, where removals are told.
+    pub fn tell_removed(&mut self, notice: Notice<K, V>)
     where
         K: Drop,
         V: Drop,
         requires room { self.old.settings.tells ≡ true → 0 < self.old.notice_room }
         requires reserved { 0 < self.old.reserved }
-        ensures { self.new ≡ told_if self.old.settings.tells cause entry
+        ensures { self.new ≡ told_if self.old.settings.tells notice
             (record self.old { reserved = self.old.reserved - 1 }) }
     {
         self.reserved -= 1;
-        self.tell(true, cause, entry);
+        self.tell(true, notice);
     }
 
     // ---- room

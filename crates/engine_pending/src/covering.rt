@@ -2,19 +2,21 @@
 ghost use Rattle.std.specs.Prelude.{◌≡◌, nat_lt, ◌&&◌};
 ghost use Rattle.std.specs.List.{list_any};
 
-use engine_reference::{Entry, Registered, Rules};
+use engine_reference::{Registered, Rules};
 
-/// Whether a predicate that was registered at a later step covers an entry.
+/// Whether a predicate that was registered at a later step covers a value.
 pub fn is_any_over<K, V, R: Rules<K, V>>(
     rules: &R,
     predicates: &[Registered<R::Predicate>],
-    entry: &Entry<K, V>,
+    step: u64,
+    key: &K,
+    value: &V,
 ) -> bool
-    ensures { result ≡ list_any (λ p. nat_lt entry.now.step p.step
-        && R.answers.covers rules.now p.predicate entry.now.key entry.now.value) predicates.now }
+    ensures { result ≡ list_any (λ p. nat_lt step p.step
+        && R.answers.covers rules.now p.predicate key.now value.now) predicates.now }
 {
     for p in predicates {
-        if entry.step < p.step && rules.is_covered(&p.predicate, &entry.key, &entry.value) {
+        if step < p.step && rules.is_covered(&p.predicate, key, value) {
             return true;
         }
     }

@@ -1,8 +1,8 @@
 //! Deadlines that have come.
 ghost use Rattle.std.specs.Prelude.{◌≡◌};
-ghost use Rattle.engine_reference.specs.Times.{end_of, is_reached, has_come};
+ghost use Rattle.engine_reference.specs.Times.{earlier_of, end_of, is_reached};
 
-use engine_reference::{Entry, Settings};
+use engine_reference::Settings;
 use policy_base::MAX_NANOS;
 
 /// Whether a time that began at a moment has ended.
@@ -25,11 +25,12 @@ fn is_reached(moment: Option<u64>, now: u64) -> bool
     }
 }
 
-/// Whether the deadline of an entry has come.
-pub fn is_dead<K, V>(settings: Settings, now: u64, entry: &Entry<K, V>) -> bool
-    ensures { result ≡ has_come settings now entry.now }
+/// Whether the deadline has come of what expires by itself at a moment, and was written and used at others.
+pub fn is_dead(settings: Settings, now: u64, expires: Option<u64>, written: u64, used: u64) -> bool
+    ensures { result ≡ is_reached (earlier_of expires
+        (earlier_of (end_of written settings.live) (end_of used settings.idle))) now }
 {
-    is_reached(entry.expires, now)
-        || has_ended(settings.live, entry.written, now)
-        || has_ended(settings.idle, entry.used, now)
+    is_reached(expires, now)
+        || has_ended(settings.live, written, now)
+        || has_ended(settings.idle, used, now)
 }

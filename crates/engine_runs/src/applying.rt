@@ -88,7 +88,9 @@ fn apply_at<K: Eq + Hash + Drop, V: Drop, S: BuildHasher, R: Rules<K, V>>(
         × (tables.new.state ≡ after_write w tables.old.state) }
 {
     let oldest = tables.write_at(index);
-    apply_write(tables, oldest.place, oldest.write);
+    let place = oldest.place;
+    let write = oldest.write.to_write();
+    apply_write(tables, place, write);
 }
 
 /// Where no read is left to count, applies all writes, in the order in which they were sent.

@@ -58,12 +58,12 @@ fn past<K: Eq + Hash, V, S: BuildHasher, R: Rules<K, V>>(
         → GoesPast tables.now.state.sketch left ahead r result }
 {
     let found = tables.record_in(place);
-    if found.writes != found.applied {
+    if found.writes() != found.applied() {
         return (left, ahead);
     }
-    let asked = tables.sketch().frequency(found.hash);
+    let asked = tables.sketch().frequency(found.hash());
     (
-        left.saturating_sub(found.counts.unwrap_or(0)),
+        left.saturating_sub(found.counts().unwrap_or(0)),
         ahead.saturating_sub(asked),
     )
 }

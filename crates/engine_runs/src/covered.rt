@@ -21,7 +21,7 @@ fn is_covered_at<K: Eq + Hash, V, S: BuildHasher, R: Rules<K, V>>(
         → result ≡ is_covered_as answers tables.now.state (kept_at tables.now place) }
 {
     match tables.record(place) {
-        Some(found) => found.is_held && tables.is_over(&found.entry),
+        Some(found) => found.is_held() && tables.is_over(found),
         None => false,
     }
 }

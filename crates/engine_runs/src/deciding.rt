@@ -7,7 +7,8 @@ ghost use Rattle.engine_reference.specs.declared.data.Record.{Record};
 ghost use Rattle.engine_runs.specs.Deciding.{decided, decision, refused_as};
 
 use crate::contesting::is_won;
-use engine_reference::{EvictionPolicy, Record, Rules, Upsert};
+use engine_cells::Cell;
+use engine_reference::{EvictionPolicy, Rules, Upsert};
 use engine_tables::Tables;
 use std::hash::{BuildHasher, Hash};
 
@@ -37,10 +38,10 @@ fn is_above(capacity: Option<u64>, weight: u64) -> bool
 }
 
 /// What is done about a refused record.
-fn refused_as<K, V>(found: &Record<K, V>, write: Upsert) -> Decision
+fn refused_as<K, V>(found: &Cell<K, V>, write: Upsert) -> Decision
     ensures { result ≡ refused_as write found.now }
 {
-    if !found.is_held || write.write < found.writes {
+    if !found.is_held() || write.write < found.writes() {
         Decision::PutOff
     } else {
         Decision::Refuse
@@ -50,43 +51,44 @@ fn refused_as<K, V>(found: &Record<K, V>, write: Upsert) -> Decision
 /// What the contest of a newcomer with those that would go for it comes to.
 fn contest<K: Eq + Hash, V, S: BuildHasher, R: Rules<K, V>>(
     tables: &Tables<K, V, S, R>,
+    found: &Cell<K, V>,
     write: Upsert,
-    refused: Decision,
 ) -> Decision
-    ensures { result ≡ decided refused (contest tables.now.state.sketch write.hash (shortest_front
-        write.weight (settled_in tables.now.state.records tables.now.state.access))) }
+    ensures { result ≡ decided (refused_as write found.now)
+        (contest tables.now.state.sketch write.hash (shortest_front write.weight
+        (settled_in tables.now.state.records tables.now.state.access))) }
 {
     let wanted = tables.sketch().frequency(write.hash);
     if is_won(tables, write.weight, wanted) {
         Decision::Displace
     } else {
-        refused
+        refused_as(found, write)
     }
 }
 
 /// What is done about a newcomer for which there is no room, though alone it fits.
 fn decide_full<K: Eq + Hash, V, S: BuildHasher, R: Rules<K, V>>(
     tables: &Tables<K, V, S, R>,
+    found: &Cell<K, V>,
     write: Upsert,
-    refused: Decision,
 ) -> Decision
-    ensures { result
-        ≡ decided refused (verdict_of_full tables.now.state.settings.policy tables.now.state.sketch
-        write (settled_in tables.now.state.records tables.now.state.access)) }
+    ensures { result ≡ decided (refused_as write found.now)
+        (verdict_of_full tables.now.state.settings.policy tables.now.state.sketch write
+        (settled_in tables.now.state.records tables.now.state.access)) }
 {
     match tables.settings().policy {
         EvictionPolicy::Lru => Decision::Count,
-        EvictionPolicy::TinyLfu => contest(tables, write, refused),
+        EvictionPolicy::TinyLfu => contest(tables, found, write),
     }
 }
 
 /// What is done about a newcomer.
 fn judge<K: Eq + Hash, V, S: BuildHasher, R: Rules<K, V>>(
     tables: &Tables<K, V, S, R>,
+    found: &Cell<K, V>,
     write: Upsert,
-    refused: Decision,
 ) -> Decision
-    ensures { result ≡ decided refused (verdict tables.now.state write) }
+    ensures { result ≡ decided (refused_as write found.now) (verdict tables.now.state write) }
 {
     let capacity = tables.settings().capacity;
     let weight = u64::from(write.weight);
@@ -94,27 +96,26 @@ fn judge<K: Eq + Hash, V, S: BuildHasher, R: Rules<K, V>>(
         return Decision::Count;
     }
     if is_above(capacity, weight) {
-        return refused;
+        return refused_as(found, write);
     }
-    decide_full(tables, write, refused)
+    decide_full(tables, found, write)
 }
 
 /// What is done about a pending write of a record.
 fn decide_on<K: Eq + Hash, V, S: BuildHasher, R: Rules<K, V>>(
     tables: &Tables<K, V, S, R>,
-    found: &Record<K, V>,
+    found: &Cell<K, V>,
     write: Upsert,
 ) -> Decision
     ensures { result ≡ decision tables.now.state write found.now }
 {
-    if write.write <= found.applied {
+    if write.write <= found.applied() {
         return Decision::Skip;
     }
-    if found.counts.is_some() {
+    if found.counts().is_some() {
         return Decision::Count;
     }
-    let refused = refused_as(found, write);
-    judge(tables, write, refused)
+    judge(tables, found, write)
 }
 
 /// What is done about a pending write of the record in a place.

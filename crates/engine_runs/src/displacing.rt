@@ -40,7 +40,7 @@ fn displace_one<K: Eq + Hash + Drop, V: Drop, S: BuildHasher, R: Rules<K, V>>(
     ensures fewer { length tables.new.state.records < length tables.old.state.records }
 {
     tables.access_stands();
-    let weight = tables.record_in(place).counts.unwrap_or(0);
+    let weight = tables.record_in(place).counts().unwrap_or(0);
     tables.leave(place, RemovalCause::Size);
     left.saturating_sub(weight)
 }

@@ -6,7 +6,8 @@ ghost use Rattle.engine_reference.specs.Times.{end_of, is_reached, tick_of};
 ghost use Rattle.engine_reference.specs.declared.data.Record.{Record};
 ghost use Rattle.engine_runs.specs.Fronts.{why_written, why_used, MayLeave, IsLight, IsClean};
 
-use engine_reference::{Record, RemovalCause, Rules, Settings};
+use engine_cells::Cell;
+use engine_reference::{RemovalCause, Rules, Settings};
 use engine_tables::Tables;
 use std::hash::{BuildHasher, Hash};
 
@@ -25,30 +26,30 @@ fn has_ended(since: u64, time: Option<u64>, now: u64) -> bool
 
 /// Why a record has to leave, by its last write.
 fn why_written<K, V>(
-    found: &Record<K, V>,
+    found: &Cell<K, V>,
     settings: Settings,
     cleared: u64,
     now: u64,
 ) -> Option<RemovalCause>
     ensures { result ≡ why_written settings.live cleared now found.now }
 {
-    if !found.is_held {
+    if !found.is_held() {
         return None;
     }
-    if has_ended(found.entry.written, settings.live, now) {
+    if has_ended(found.written(), settings.live, now) {
         return Some(RemovalCause::Expired);
     }
-    if found.entry.step < cleared {
+    if found.step() < cleared {
         return Some(RemovalCause::Explicit);
     }
     None
 }
 
 /// Why a record has to leave, by its last use.
-fn why_used<K, V>(found: &Record<K, V>, settings: Settings, now: u64) -> Option<RemovalCause>
+fn why_used<K, V>(found: &Cell<K, V>, settings: Settings, now: u64) -> Option<RemovalCause>
     ensures { result ≡ why_used settings.idle now found.now }
 {
-    if found.is_held && has_ended(found.entry.used, settings.idle, now) {
+    if found.is_held() && has_ended(found.used(), settings.idle, now) {
         Some(RemovalCause::Expired)
     } else {
         None

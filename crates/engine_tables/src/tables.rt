@@ -22,20 +22,18 @@ ghost use Rattle.engine_tables.specs.Changing.{ChangesAt, GoesToBack, IsWrittenO
 ghost use Rattle.engine_cells.specs.Kept.{numbered_at, kept_at, StandsFirst, is_admitted_as, is_removed_as};
 
 use engine_cells::{
-    CellSlab, Keys, Noted, PlacedWrite, Tally, find_held, first_expired, first_settled, grow,
-    set_changed, take_if, time_all,
+    Cell, CellSlab, Keys, Noted, PlacedWrite, Tally, WaitingWrite, find_held, first_expired,
+    first_settled, grow, set_changed, take_if, time_all,
 };
 use engine_pending::{Backlog, Expirations};
 use engine_reference::{
-    Entry, Hashes, Names, Notice, Record, Refusal, Registered, RemovalCause, Rules, Settings,
-    Upsert, Write,
+    Entry, Hashes, Names, Notice, Refusal, Registered, RemovalCause, Rules, Settings,
 };
 use policy_base::FrequencySketch;
 use policy_queue::IndexQueue;
 use std::alloc::{AllocError, Global};
 use std::hash::{BuildHasher, Hash, Hasher};
 use std::marker::Model;
-use std::mem;
 
 mod again;
 
@@ -45,7 +43,7 @@ const SPARE: u64 = 16;
 /// The tables of a cache of one part. Each method that changes them makes one change, for which there is room.
 #[derive(Drop)]
 pub struct Tables<K: Eq + Hash, V, S: BuildHasher, R: Rules<K, V>> {
-    cells: CellSlab<Record<K, V>>,
+    cells: CellSlab<Cell<K, V>>,
     // The places of the admitted records, by their last uses and by their last writes.
     access: IndexQueue,
     order: IndexQueue,
@@ -234,25 +232,26 @@ impl<K: Eq + Hash, V, S: BuildHasher, R: Rules<K, V>> Tables<K, V, S, R> {
         self.backlog.predicates()
     }
 
-    /// Whether a later clear or predicate stands over an entry.
-    pub fn is_over(&self, entry: &Entry<K, V>) -> bool
+    /// Whether a later clear or predicate stands over a record's entry.
+    pub fn is_over(&self, found: &Cell<K, V>) -> bool
         ensures { (answers : Answers K V R.Predicate R) → answers.covers ≡ R.answers.covers
-            → result ≡ is_covered answers self.now.state entry.now }
+            → result ≡ is_covered answers self.now.state found.now.entry }
     {
-        self.backlog.is_over(entry)
+        self.backlog
+            .is_over(found.step(), found.key(), found.value())
     }
 
     // ---- records
 
     /// The record in a place.
-    pub fn record(&self, place: usize) -> Option<&Record<K, V>>
+    pub fn record(&self, place: usize) -> Option<&Cell<K, V>>
         ensures { option_copied result ≡ kept_at self.now place }
     {
         self.cells.get(place)
     }
 
     /// The record in a place that has one.
-    pub fn record_in(&self, place: usize) -> &Record<K, V>
+    pub fn record_in(&self, place: usize) -> &Cell<K, V>
         requires { is_some (kept_at self.now place) ≡ true }
         ensures { kept_at self.now place ≡ Some result.now }
     {
@@ -294,10 +293,9 @@ impl<K: Eq + Hash, V, S: BuildHasher, R: Rules<K, V>> Tables<K, V, S, R> {
         ensures number { (r : Record K V) → kept_at self.old place ≡ Some r → result ≡ r.number }
     {
         let cell = &mut self.cells[place];
-        let number = cell.number;
-        let before = cell.entry.expires;
-        cell.entry.used = used;
-        set_expiration(&mut cell.entry, expires);
+        let number = cell.number();
+        let before = cell.expires();
+        cell.use_at(used, expires);
         set_changed(&mut self.expirations, place, before, expires);
         number
     }
@@ -314,7 +312,7 @@ impl<K: Eq + Hash, V, S: BuildHasher, R: Rules<K, V>> Tables<K, V, S, R> {
 
     /// Adds the record of a new key, and its write, for which there is room: it goes into the queue at once, or waits to be sent. Its place is
     /// answered.
-    pub fn add(&mut self, added: Record<K, V>, at_once: bool) -> usize
+    pub fn add(&mut self, added: Cell<K, V>, at_once: bool) -> usize
         requires room { 0 < self.old.state.reserved }
         requires queue { at_once ≡ true → length self.old.state.writes < 128 }
         requires newcomer { IsNewcomer K.eq
@@ -331,10 +329,11 @@ impl<K: Eq + Hash, V, S: BuildHasher, R: Rules<K, V>> Tables<K, V, S, R> {
             }) }
     {
         let _many = self.cells.capacity();
-        self.tally = self.tally.rewritten(0, added.entry.weight);
-        let write = put_of(&added, self.tally.held);
-        let hash = added.hash;
-        let expires = added.entry.expires;
+        let held = self.tally.held_with(0, added.weight());
+        let write = WaitingWrite::put(&added, held);
+        self.tally.held = held;
+        let hash = added.hash();
+        let expires = added.expires();
         let place = self.cells.insert_reserved(added);
         self.keys.put(hash, place);
         set_changed(&mut self.expirations, place, None, expires);
@@ -368,14 +367,14 @@ impl<K: Eq + Hash, V, S: BuildHasher, R: Rules<K, V>> Tables<K, V, S, R> {
     {
         let _many = self.cells.capacity();
         let cell = &mut self.cells[place];
-        self.tally = self.tally.rewritten(cell.entry.weight, entry.weight);
+        let before = cell.expires();
         let expires = entry.expires;
-        let before = cell.entry.expires;
-        let replaced = mem::replace(&mut cell.entry, entry);
-        cell.writes += 1;
-        let write = put_of(cell, self.tally.held);
+        let held = self.tally.held_with(cell.weight(), entry.weight);
+        let replaced = cell.write_over(entry, cause);
+        let write = WaitingWrite::put(cell, held);
+        self.tally.held = held;
         set_changed(&mut self.expirations, place, before, expires);
-        self.backlog.tell(true, cause, replaced);
+        self.backlog.tell(true, replaced);
         self.backlog
             .add_write(PlacedWrite { place, write }, at_once);
         self.reserved -= 1;
@@ -389,16 +388,15 @@ impl<K: Eq + Hash, V, S: BuildHasher, R: Rules<K, V>> Tables<K, V, S, R> {
         ensures { IsMarkedRemoved place self.old self.new }
     {
         let cell = &mut self.cells[place];
-        let number = cell.number;
-        let hash = cell.hash;
-        let was_held = cell.is_held;
-        let expires = cell.entry.expires;
+        let number = cell.number();
+        let hash = cell.hash();
+        let was_held = cell.is_held();
+        let expires = cell.expires();
         self.tally = self.tally.unheld(cell);
-        cell.is_held = false;
-        cell.writes += 1;
+        cell.mark_removed();
         take_if(&mut self.keys, was_held, hash, place);
         set_changed(&mut self.expirations, place, expires, None);
-        let write = Write::Removed(number);
+        let write = WaitingWrite::removed(number);
         self.backlog.add_write(PlacedWrite { place, write }, false);
         self.reserved -= 1;
     }
@@ -409,7 +407,7 @@ impl<K: Eq + Hash, V, S: BuildHasher, R: Rules<K, V>> Tables<K, V, S, R> {
         ensures { ChangesAt (λ x. record x { applied = write }) place self.old self.new }
     {
         let cell = &mut self.cells[place];
-        cell.applied = write;
+        cell.apply(write);
     }
 
     /// The record in a place, which is not held, goes. It was told when it was removed.
@@ -438,7 +436,11 @@ impl<K: Eq + Hash, V, S: BuildHasher, R: Rules<K, V>> Tables<K, V, S, R> {
           };
         } }
     {
-        self.backlog.tell_removed(cause, entry);
+        self.backlog.tell_removed(Notice {
+            cause,
+            key: entry.key,
+            value: entry.value,
+        });
         self.reserved -= 1;
     }
 
@@ -502,12 +504,13 @@ impl<K: Eq + Hash, V, S: BuildHasher, R: Rules<K, V>> Tables<K, V, S, R> {
         let index = self.cells.index_of(place);
         let gone = self.cells.remove(place);
         self.tally = self.tally.without(&gone);
-        let is_queued = gone.counts.is_some();
+        let is_queued = gone.counts().is_some();
         take_off(&mut self.access, index, is_queued);
         take_off(&mut self.order, index, is_queued);
-        take_if(&mut self.keys, gone.is_held, gone.hash, place);
-        set_changed(&mut self.expirations, place, gone.entry.expires, None);
-        self.backlog.tell(gone.is_held, cause, gone.entry);
+        let was_held = gone.is_held();
+        take_if(&mut self.keys, was_held, gone.hash(), place);
+        set_changed(&mut self.expirations, place, gone.expires(), None);
+        self.backlog.tell(was_held, gone.into_notice(cause));
     }
 
     /// The place of the record used longest ago.
@@ -748,12 +751,13 @@ impl<K: Eq + Hash, V, S: BuildHasher, R: Rules<K, V>> Tables<K, V, S, R> {
     }
 
     /// The write at a place of those that wait to be applied. Only in the place that is told can its record stand.
-    pub fn write_at(&self, index: usize) -> PlacedWrite
+    pub fn write_at(&self, index: usize) -> &PlacedWrite
         requires { index < length self.now.state.writes }
-        ensures is { slice_get self.now.state.writes index ≡ Some (write_of result) }
-        ensures right { AimsOnlyAt self.now.numbers result.place (number_written result.write) }
+        ensures is { slice_get self.now.state.writes index ≡ Some (write_of result.now) }
+        ensures right { AimsOnlyAt self.now.numbers result.now.place
+            (number_written result.now.write) }
     {
-        self.backlog.writes()[index]
+        &self.backlog.writes()[index]
     }
 
     /// No write is left to apply.
@@ -846,7 +850,7 @@ impl<K: Eq + Hash, V, S: BuildHasher, R: Rules<K, V>> Tables<K, V, S, R> {
         ensures gone { result ≡ false → record_at self.now.state.records number ≡ None }
     {
         match self.cells.get(place) {
-            Some(cell) => cell.number == number,
+            Some(cell) => cell.number() == number,
             None => false,
         }
     }
@@ -889,10 +893,10 @@ impl<K: Eq + Hash, V, S: BuildHasher, R: Rules<K, V>> Tables<K, V, S, R> {
         let index = self.cells.index_of(place);
         let _many = self.cells.capacity();
         let cell = &mut self.cells[place];
-        let is_queued = cell.counts.is_some();
-        self.tally = self.tally.counted(cell.counts, weight);
-        cell.applied = write;
-        cell.counts = Some(weight);
+        let before = cell.counts();
+        let is_queued = before.is_some();
+        self.tally = self.tally.counted(before, weight);
+        cell.count(write, weight);
         put_last(&mut self.access, index, is_queued);
         put_last(&mut self.order, index, is_queued);
     }
@@ -912,6 +916,7 @@ fn put_last(queue: &mut IndexQueue, index: u32, is_there: bool)
 }
 
 /// Takes a place out of a queue, if it is there.
+#[inline(always)]
 fn take_off(queue: &mut IndexQueue, index: u32, is_there: bool)
     requires { is_there ≡ has_index index queue.old.indices }
     ensures { StepsOut index queue.old queue.new }
@@ -932,37 +937,15 @@ fn place_at(index: Option<u32>) -> Option<usize>
 }
 
 /// Whether a record has a number, and is not held.
-fn is_removed_as<K, V>(found: &Record<K, V>, number: u64) -> bool
+fn is_removed_as<K, V>(found: &Cell<K, V>, number: u64) -> bool
     ensures { result ≡ is_removed_as number (Some found.now) }
 {
-    found.number == number && !found.is_held
+    found.number() == number && !found.is_held()
 }
 
 /// Whether a record has a number, and is admitted.
-fn is_admitted_as<K, V>(found: &Record<K, V>, number: u64) -> bool
+fn is_admitted_as<K, V>(found: &Cell<K, V>, number: u64) -> bool
     ensures { result ≡ is_admitted_as number (Some found.now) }
 {
-    found.number == number && found.counts.is_some()
-}
-
-/// An entry expires by itself at another moment than before, if it does.
-fn set_expiration<K, V>(entry: &mut Entry<K, V>, expires: Option<u64>)
-    ensures { entry.new ≡ record entry.old { expires = expires } }
-{
-    if entry.expires != expires {
-        entry.expires = expires;
-    }
-}
-
-/// The write of a record as it stands, where so much is held.
-fn put_of<K, V>(written: &Record<K, V>, kept: u64) -> Write
-    ensures { result ≡ put_for written.now kept }
-{
-    Write::Put(Upsert {
-        number: written.number,
-        write: written.writes,
-        weight: written.entry.weight,
-        hash: written.hash,
-        kept: u128::from(kept),
-    })
+    found.number() == number && found.counts().is_some()
 }

@@ -1,5 +1,5 @@
 -- A look-up's second half: what was found before a run is found again after it, or is gone.
-use Rattle.std.proofs.Common.{◌≡◌, refl, ap, sym, ◌∙◌, subst, ℕ, ◌<◌, ◌≤◌, arith, Bool, true, false, List, [], ◌∷◌, Option, Some, None, length}
+use Rattle.std.proofs.Common.{◌≡◌, refl, ap, sym, ◌∙◌, subst, ℕ, ◌<◌, arith, Bool, true, false, [], Option, Some, None, length}
 use Rattle.std.specs.Prelude.{MatchBool, nat_le, ◌||◌}
 use Rattle.std.proofs.lemmas.Bool.{leb-false}
 use Rattle.std.proofs.lemmas.Option.{same_Some}
@@ -10,9 +10,6 @@ use Rattle.engine_reference.specs.Runs.{RunsToEnd, is_due}
 use Rattle.engine_reference.specs.Times.{end_of, is_reached}
 use Rattle.engine_reference.specs.State.{State, Answers}
 use Rattle.engine_reference.proofs.RestKept.{run-rest}
-use Rattle.engine_cells.specs.Kept.{Kept}
-use Rattle.engine_calls.specs.Finding.{IsFoundIn}
-use Rattle.engine_calls.proofs.Finding.{kept-number}
 use Rattle.moka_engine.specs.Keeping.{IsWellKept, NotesRead}
 use Rattle.moka_engine.proofs.Keeping.{run-from, made-before}
 

@@ -25,7 +25,7 @@ fn note_after_run<K: Eq + Hash + Drop, V: Drop, S: BuildHasher, R: Rules<K, V>>(
     ensures { (o : Option (Record K V)) → IsFoundIn tables.old hash o place
         → NotesRead R.answers o hash now tables.old.state tables.new.state }
 {
-    let number = tables.record_in(place).number;
+    let number = tables.record_in(place).number();
     run(tables, now.as_nanos());
     use_found(tables, number, hash, now);
 }

@@ -18,7 +18,7 @@ pub fn value_in<K: Eq + Hash, V, S: BuildHasher, R: Rules<K, V>>(
         → option_map (λ value. value.now) result ≡ option_map (λ r. r.entry.value) o }
 {
     match place {
-        Some(place) => Some(&tables.record_in(place).entry.value),
+        Some(place) => Some(tables.record_in(place).value()),
         None => None,
     }
 }

@@ -62,7 +62,7 @@ impl<K: Eq + Hash, V, S: BuildHasher, R: Rules<K, V>> BaseCache<K, V, S, R> {
             ≡ visible_value R.answers K.eq self.now now (Q.named_key key.now) }
     {
         match look_up(&self.tables, key, hash, now.as_nanos()) {
-            Some(found) => Some(&found.entry.value),
+            Some(found) => Some(found.value()),
             None => None,
         }
     }

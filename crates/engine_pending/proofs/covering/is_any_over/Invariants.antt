@@ -5,5 +5,5 @@ use Rattle.engine_pending.proofs.covering.is_any_over.Given as goal
 
 abbrev pub invariant-loop-p : goal.invariant-loop-p
 invariant-loop-p g l =
-    list_any (λ p. nat_lt l.entry.step p.step && g.R.Rules.answers.covers l.rules p.predicate l.entry.key l.entry.value) (drop l.p-index l.predicates)
-    ≡ list_any (λ p. nat_lt l.entry.step p.step && g.R.Rules.answers.covers l.rules p.predicate l.entry.key l.entry.value) l.predicates
+    list_any (λ p. nat_lt l.step p.step && g.R.Rules.answers.covers l.rules p.predicate l.key l.value) (drop l.p-index l.predicates)
+    ≡ list_any (λ p. nat_lt l.step p.step && g.R.Rules.answers.covers l.rules p.predicate l.key l.value) l.predicates

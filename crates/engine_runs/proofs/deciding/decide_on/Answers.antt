@@ -1,12 +1,10 @@
-use Rattle.std.proofs.Common.{ap, sym, ◌∙◌}
+use Rattle.std.proofs.Common.{ap, sym, ◌∙◌, is_some}
 use Rattle.std.proofs.lemmas.Bool.{lt-ltb}
-use Rattle.engine_reference.specs.Admission.{verdict}
-use Rattle.engine_runs.specs.Deciding.{decided}
 use Rattle.engine_runs.proofs.Contests.{judged_new}
 use Rattle.engine_runs.proofs.deciding.decide_on.Goals as goal
 
 pub returns : goal.returns
 returns g c =
     let found = c.args.found.now in
-    c.judge.ensures ∙ ap (λ d. decided d (verdict c.args.tables.now.state c.args.write)) c.refused_as-refused.ensures
-    ∙ judged_new c.args.tables.now.state c.args.write found (lt-ltb found.applied c.args.write.write c.if-write-found.false) (sym c.is_some.ensures ∙ c.if-is_some.false)
+    c.judge.ensures
+    ∙ judged_new c.args.tables.now.state c.args.write found (lt-ltb found.applied c.args.write.write (rw c.applied.ensures at c.if-write-applied.false)) (sym (c.is_some.ensures ∙ ap (λ o. is_some o) c.counts.ensures) ∙ c.if-is_some.false)

@@ -15,7 +15,7 @@ returns-clause-way g c =
     let after : c.leave.new.self ≡ without_place t c.args.place o.0 = u.2 ∙ ap (λ r. without_place t c.args.place r) same in
     subst (λ x. GivesWay c.args.left c.saturating_sub.result t x) (sym after)
     (next-goes t c.args.left c.saturating_sub.result c.args.place o.0 c.access_stands.ensures.once c.access_stands.ensures.admitted c.requires.front c.requires.some o.1 o.2
-    (c.saturating_sub.ensures ∙ ap (λ n. c.args.left - n) c.unwrap_or-weight.ensures ∙ ap (λ x. c.args.left - weight_at x) seen))
+    (c.saturating_sub.ensures ∙ ap (λ n. c.args.left - n) (rw c.counts.ensures at c.unwrap_or-weight.ensures) ∙ ap (λ x. c.args.left - weight_at x) seen))
 
 pub returns-clause-fewer : goal.returns-clause-fewer
 returns-clause-fewer g c =

@@ -1,7 +1,6 @@
 use Rattle.std.proofs.Common.{◌≡◌, refl, ap, sym, ◌∙◌, subst, Some}
 use Rattle.std.proofs.lemmas.Option.{same_Some}
 use Rattle.engine_calls.proofs.Finding.{kept-number}
-use Rattle.engine_reference.specs.Records.{record_at}
 use Rattle.engine_reference.specs.Runs.{RunsToEnd}
 use Rattle.engine_reference.specs.declared.data.Record.{Record}
 use Rattle.moka_engine.proofs.Keeping.{well-run}
@@ -22,7 +21,7 @@ use_found-requires-clause-made g c =
     let a = g.R.Rules.answers in
     let f = c.requires.found.1 in
     let r = c.record_in.result.now in
-    run-made a c.as_nanos.result _ _ (c.run.ensures.runs a refl) c.requires.kept r.number r (kept-number c.args.tables.now c.args.place r c.record_in.ensures)
+    rw c.number-number.ensures (run-made a c.as_nanos.result _ _ (c.run.ensures.runs a refl) c.requires.kept r.number r (kept-number c.args.tables.now c.args.place r c.record_in.ensures))
 
 pub use_found-requires-clause-held : goal.use_found-requires-clause-held
 use_found-requires-clause-held g c =
@@ -30,8 +29,8 @@ use_found-requires-clause-held g c =
     let f = c.requires.found.1 in
     let r = c.record_in.result.now in
     let same : f.found ≡ r = same_Some _ _ (sym f.there ∙ c.record_in.ensures) in
-    run-holds a c.as_nanos.result _ _ (c.run.ensures.runs a refl) c.requires.kept r.number c.args.hash r (kept-number c.args.tables.now c.args.place r c.record_in.ensures)
-    (ap (λ (x : Record g.row.K.Denot g.row.V.Denot). x.is_held) (sym same) ∙ f.held) (ap (λ (x : Record g.row.K.Denot g.row.V.Denot). x.hash) (sym same) ∙ f.hash_is)
+    rw c.number-number.ensures (run-holds a c.as_nanos.result _ _ (c.run.ensures.runs a refl) c.requires.kept r.number c.args.hash r (kept-number c.args.tables.now c.args.place r c.record_in.ensures)
+    (ap (λ (x : Record g.row.K.Denot g.row.V.Denot). x.is_held) (sym same) ∙ f.held) (ap (λ (x : Record g.row.K.Denot g.row.V.Denot). x.hash) (sym same) ∙ f.hash_is))
 
 pub returns : goal.returns
 returns g c = λ o f.
@@ -40,4 +39,4 @@ returns g c = λ o f.
     let r = c.record_in.result.now in
     let same : f.found ≡ r = same_Some _ _ (sym f.there ∙ c.record_in.ensures) in
     let run = subst (λ n. RunsToEnd a n old c.run.new.tables.state) c.as_nanos.ensures.nanos (c.run.ensures.runs a refl) in
-    noted-after_run a c.args.hash c.args.now old c.run.new.tables.state c.use_found.new.tables.state r o c.requires.due run (f.is ∙ ap (λ (x : Record g.row.K.Denot g.row.V.Denot). Some x) same) (c.use_found.ensures r refl)
+    noted-after_run a c.args.hash c.args.now old c.run.new.tables.state c.use_found.new.tables.state r o c.requires.due run (f.is ∙ ap (λ (x : Record g.row.K.Denot g.row.V.Denot). Some x) same) (c.use_found.ensures r (sym c.number-number.ensures))

@@ -1,4 +1,4 @@
-use Rattle.std.proofs.Common.{◌≡◌, ap, sym, ◌∙◌, is_some, true, false}
+use Rattle.std.proofs.Common.{ap, sym, ◌∙◌, is_some}
 use Rattle.engine_reference.specs.Runs.{is_due}
 use Rattle.moka_engine.proofs.Afterwards.{room-unless-due, noted-at_once}
 use Rattle.moka_engine.proofs.noting.note_hit.Goals as goal

@@ -1,4 +1,4 @@
-use Rattle.std.proofs.Common.{◌≡◌, refl, ap, subst}
+use Rattle.std.proofs.Common.{refl, ap, subst}
 use Rattle.engine_calls.specs.Finding.{WasFound}
 use Rattle.engine_reference.specs.Calls.{MaintainsIfDue}
 use Rattle.moka_engine.proofs.Afterwards.{noted-none}

@@ -37,12 +37,12 @@ put_last-requires-2-clause-room g c =
 
 pub put_last-requires-clause-there : goal.put_last-requires-clause-there
 put_last-requires-clause-there g c =
-    c.is_some-is_queued.ensures
+    c.is_some-is_queued.ensures ∙ ap (λ o. is_some o) c.counts-before.ensures
     ∙ sym (ap (λ k. has_index k c.self.inside.access.indices) c.index_of-index.ensures.is ∙ c.self.invariant.used.listed c.args.place ∙ ap (λ o. has_counts o) c.index_mut-cell.ensures.value)
 
 pub put_last-requires-2-clause-there : goal.put_last-requires-2-clause-there
 put_last-requires-2-clause-there g c =
-    c.is_some-is_queued.ensures
+    c.is_some-is_queued.ensures ∙ ap (λ o. is_some o) c.counts-before.ensures
     ∙ sym (ap (λ k. has_index k c.self.inside.order.indices) c.index_of-index.ensures.is ∙ c.self.invariant.written.listed c.args.place ∙ ap (λ o. has_counts o) c.index_mut-cell.ensures.value)
 
 pub invariant_of-self : goal.invariant_of-self
@@ -55,11 +55,12 @@ invariant_of-self g c =
     let gets = gets-set cells c.args.place y d there in
     let comes = subst (λ k. ComesLast k c.self.inside.access c.put_last.new.queue) c.index_of-index.ensures.is c.put_last.ensures in
     let comes_too = subst (λ k. ComesLast k c.self.inside.order c.put_last-2.new.queue) c.index_of-index.ensures.is c.put_last-2.ensures in
-    let number = number-counted y c.self.inside.tally c.counted-self-inside.result (ap (λ v. v.number) c.counted-self-inside.ensures.is) in
+    let counted = rw c.counts-before.ensures at c.counted-self-inside.ensures.is in
+    let number = number-counted y c.self.inside.tally c.counted-self-inside.result (ap (λ v. v.number) counted) in
     let many = count-set cells c.args.place y d there in
     let long = length-set cells c.args.place (Some d) in
     let places = places-counted c.self.inside.cells (record c.self.inside.cells { slots = new }) c.self.inside.tally.number c.counted-self-inside.result.number c.self.inside.backlog.reserved c.args.place y d in
-    record {
+    rw c.count.ensures (record {
       kept = numbered-set cells new c.self.inside.next_number c.args.place y d c.self.invariant.kept there gets refl;
       used = rw comes.indices (listed-moved cells new c.self.inside.access.indices c.args.place d c.self.invariant.used gets refl);
       written = rw comes_too.indices (listed-moved cells new c.self.inside.order.indices c.args.place d c.self.invariant.written gets refl);
@@ -67,7 +68,7 @@ invariant_of-self g c =
       access = places c.self.inside.access c.put_last.new.queue c.self.invariant.access c.self.invariant.used there refl many long number comes;
       order = places c.self.inside.order c.put_last-2.new.queue c.self.invariant.order c.self.invariant.written there refl many long number comes_too;
       notices = λ tells. subst (λ n. n + c.self.inside.backlog.reserved ≤ c.self.inside.backlog.notice_room) (sym many) (c.self.invariant.notices tells);
-      tallied = tally-counted cells c.args.place y c.args.write c.args.weight c.self.inside.tally c.counted-self-inside.result there c.counted-self-inside.ensures.light c.self.invariant.tallied c.counted-self-inside.ensures.is;
+      tallied = tally-counted cells c.args.place y c.args.write c.args.weight c.self.inside.tally c.counted-self-inside.result there c.counted-self-inside.ensures.light c.self.invariant.tallied counted;
       aimed = pointed-gets_same cells new c.self.inside.next_number c.args.place y d there gets refl c.self.invariant.aimed;
       reserved = c.self.invariant.reserved;
       tickets = c.self.invariant.tickets;
@@ -76,7 +77,7 @@ invariant_of-self g c =
       hashed = hashed-gets g.K.PartialEq.eq cells new c.self.inside.keys c.args.place y d there gets (record { held = refl; hash = refl; key = λ key. refl }) c.self.invariant.spotted _ refl c.self.invariant.hashed;
       keys = c.self.invariant.keys;
       awaited = ∥∥₁_map c.self.invariant.awaited (λ k. awaited-alike cells c.self.inside.expirations c.args.place y d there refl refl k);
-    }
+    })
 
 pub returns : goal.returns
 returns g c =
@@ -91,6 +92,7 @@ returns g c =
       ap (λ t. kept_at t c.args.place) (sym c.self.view_is) ∙ kept-in cells c.args.place c.self.invariant.kept.apart ∙ there,
       rw (
         ← c.self.view_is,
+        c.count.ensures,
         c.put_last.ensures.indices,
         c.put_last-2.ensures.indices,
         c.index_of-index.ensures.is,
@@ -106,4 +108,4 @@ counted-self-inside-requires g c =
     let cells = c.self.inside.cells.slots in
     let has = tally-has cells c.args.place c.index_mut-cell.result.now c.self.inside.tally c.index_mut-cell.ensures.value c.self.invariant.tallied in
     let fits = tally-fits cells c.self.inside.tally c.self.invariant.tallied (omega (arith, c.capacity-many.ensures.holds_all, c.capacity-many.ensures.fits)) in
-    record { within = has.weight; room = fits.weight; number = fits.number }
+    record { within = rw c.counts-before.ensures has.weight; room = fits.weight; number = fits.number }

@@ -20,12 +20,12 @@ index_of-index-requires g c =
 
 pub take_off-requires : goal.take_off-requires
 take_off-requires g c =
-    c.is_some-is_queued.ensures
+    c.is_some-is_queued.ensures ∙ ap (λ o. is_some o) c.counts.ensures
     ∙ sym (ap (λ k. has_index k c.self.inside.access.indices) c.index_of-index.ensures.is ∙ c.self.invariant.used.listed c.args.place ∙ ap (λ o. has_counts o) c.remove-gone.ensures.value)
 
 pub take_off-requires-2 : goal.take_off-requires-2
 take_off-requires-2 g c =
-    c.is_some-is_queued.ensures
+    c.is_some-is_queued.ensures ∙ ap (λ o. is_some o) c.counts.ensures
     ∙ sym (ap (λ k. has_index k c.self.inside.order.indices) c.index_of-index.ensures.is ∙ c.self.invariant.written.listed c.args.place ∙ ap (λ o. has_counts o) c.remove-gone.ensures.value)
 
 pub invariant_of-self : goal.invariant_of-self
@@ -41,10 +41,11 @@ invariant_of-self g c =
     let places = places-left c.self.inside.cells c.remove-gone.new.self c.self.inside.tally.number c.without-self-inside.result.number c.self.inside.backlog.reserved c.args.place x in
     let went = subst (λ k. StepsOut k c.self.inside.access c.take_off.new.queue) c.index_of-index.ensures.is c.take_off.ensures in
     let went_too = subst (λ k. StepsOut k c.self.inside.order c.take_off-2.new.queue) c.index_of-index.ensures.is c.take_off-2.ensures in
+    let left = rw (c.is_held-was_held.ensures, c.hash.ensures) at c.take_if.ensures in
     let unholds = unholds-lost g.K.PartialEq.eq old new c.args.place loses in
-    let space = space-unholds g.K.PartialEq.eq old new c.self.inside.keys c.take_if.new.keys c.args.place x there unholds c.take_if.ensures c.self.invariant.spotted in
+    let space = space-unholds g.K.PartialEq.eq old new c.self.inside.keys c.take_if.new.keys c.args.place x there unholds left c.self.invariant.spotted in
     let is_told = x.is_held && c.self.inside.backlog.settings.tells in
-    let told = c.tell.ensures ∙ told-same is_told c.args.cause x.entry c.self.inside.backlog in
+    let told = (rw c.is_held-was_held.ensures at c.tell.ensures) ∙ told-same is_told c.args.cause x.entry c.into_notice.result c.self.inside.backlog c.into_notice.ensures in
     let less = told-room is_told c.self.inside.backlog.notice_room in
     record {
       kept = numbered-left old new c.self.inside.next_number c.args.place c.self.invariant.kept loses;
@@ -59,8 +60,8 @@ invariant_of-self g c =
       reserved = rw told c.self.invariant.reserved;
       tickets = rw told c.self.invariant.tickets;
       numbers = rw told c.self.invariant.numbers;
-      spotted = spotted-unholds g.K.PartialEq.eq old new c.self.inside.keys c.take_if.new.keys c.args.place x there unholds c.take_if.ensures c.self.invariant.spotted;
-      hashed = rw told (hashed-unholds g.K.PartialEq.eq old new c.self.inside.keys c.take_if.new.keys c.args.place x there unholds c.take_if.ensures c.self.invariant.spotted _ c.self.invariant.hashed);
+      spotted = spotted-unholds g.K.PartialEq.eq old new c.self.inside.keys c.take_if.new.keys c.args.place x there unholds left c.self.invariant.spotted;
+      hashed = rw told (hashed-unholds g.K.PartialEq.eq old new c.self.inside.keys c.take_if.new.keys c.args.place x there unholds left c.self.invariant.spotted _ c.self.invariant.hashed);
       keys = rw told (omega (arith, space, c.self.invariant.keys));
       awaited = ∥∥₁_map c.self.invariant.awaited (λ k. awaited-loses old new c.self.inside.expirations c.set_changed.new.expirations c.args.place loses c.set_changed.ensures.others c.set_changed.ensures.whole k);
     }
@@ -76,7 +77,7 @@ returns g c =
       ap (λ t. kept_at t c.args.place) (sym c.self.view_is) ∙ kept-in old c.args.place c.self.invariant.kept.apart ∙ there,
       rw (
         ← c.self.view_is,
-        c.tell.ensures ∙ told-same (x.is_held && c.self.inside.backlog.settings.tells) c.args.cause x.entry c.self.inside.backlog,
+        (rw c.is_held-was_held.ensures at c.tell.ensures) ∙ told-same (x.is_held && c.self.inside.backlog.settings.tells) c.args.cause x.entry c.into_notice.result c.self.inside.backlog c.into_notice.ensures,
         told-parts x.is_held c.self.inside.backlog.settings.tells c.args.cause x.entry c.self.inside.backlog.notices,
         c.take_off.ensures.indices,
         c.take_off-2.ensures.indices,
@@ -100,4 +101,4 @@ without-self-inside-requires g c =
     record { held = has.held; weight = has.weight; number = has.number }
 
 pub take_if-requires : goal.take_if-requires
-take_if-requires g c held = c.self.invariant.spotted.spotted c.args.place c.remove-gone.result c.remove-gone.ensures.value held
+take_if-requires g c = rw (c.is_held-was_held.ensures, c.hash.ensures) (c.self.invariant.spotted.spotted c.args.place c.remove-gone.result c.remove-gone.ensures.value)

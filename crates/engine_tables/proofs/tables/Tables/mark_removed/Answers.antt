@@ -19,12 +19,10 @@ index_mut-cell-requires g c =
     let seen = ap (λ t. kept_at t c.args.place) (sym c.self.view_is) ∙ kept-in c.self.inside.cells.slots c.args.place c.self.invariant.kept.apart in
     sym (ap (λ o. is_some o) seen) ∙ c.requires.there
 
-pub overflow_add-cell : goal.overflow_add-cell
-overflow_add-cell g c =
-    let x = c.index_mut-cell.result.now in
+pub mark_removed-requires : goal.mark_removed-requires
+mark_removed-requires g c =
     let seen = ap (λ t. kept_at t c.args.place) (sym c.self.view_is) ∙ kept-in c.self.inside.cells.slots c.args.place c.self.invariant.kept.apart ∙ c.index_mut-cell.ensures.value in
-    let less = c.requires.fits x seen in
-    omega (arith, less)
+    c.requires.fits c.index_mut-cell.result.now seen
 
 pub invariant_of-self : goal.invariant_of-self
 invariant_of-self g c =
@@ -40,9 +38,10 @@ invariant_of-self g c =
     let long = length-set cells c.args.place (Some d) in
     let kept = numbered-alike cells (slice_set cells c.args.place (Some d)) c.self.inside.next_number h c.self.invariant.kept in
     let made = c.add_write.ensures in
+    let left = rw (c.is_held-was_held.ensures, c.hash-hash.ensures) at c.take_if.ensures in
     let unholds = unholds-changed g.K.PartialEq.eq cells (slice_set cells c.args.place (Some d)) c.args.place d (gets-set cells c.args.place x d there) refl in
-    let space = space-unholds g.K.PartialEq.eq cells (slice_set cells c.args.place (Some d)) c.self.inside.keys c.take_if.new.keys c.args.place x there unholds c.take_if.ensures c.self.invariant.spotted in
-    record {
+    let space = space-unholds g.K.PartialEq.eq cells (slice_set cells c.args.place (Some d)) c.self.inside.keys c.take_if.new.keys c.args.place x there unholds left c.self.invariant.spotted in
+    rw c.mark_removed.ensures (record {
       kept = kept;
       used = listed-alike cells (slice_set cells c.args.place (Some d)) c.self.inside.access.indices h c.self.invariant.used;
       written = listed-alike cells (slice_set cells c.args.place (Some d)) c.self.inside.order.indices h c.self.invariant.written;
@@ -51,18 +50,18 @@ invariant_of-self g c =
       order = rw made (places c.self.inside.order c.self.invariant.order many long number refl (omega arith));
       notices = rw made (λ tells. let had = c.self.invariant.notices tells in omega arith);
       tallied = tally-unheld cells c.args.place x (x.writes + 1) c.self.inside.tally c.unheld-self-inside.result there c.self.invariant.tallied c.unheld-self-inside.ensures;
-      aimed = rw made
+      aimed = rw (made, c.removed-write.ensures, c.number-number.ensures)
           (aims-made false (slice_set cells c.args.place (Some d)) c.self.inside.next_number c.self.inside.backlog.next_ticket (record { place = c.args.place; write = Write.Removed x.number })
           (aims-there (slice_set cells c.args.place (Some d)) c.self.inside.next_number c.args.place d kept (gets-set cells c.args.place x d there).there)
           (pointed-alike cells (slice_set cells c.args.place (Some d)) c.self.inside.next_number h c.self.invariant.aimed));
       reserved = rw made (omega (arith, c.self.invariant.reserved));
       tickets = rw made (omega arith);
       numbers = rw made (omega arith);
-      spotted = spotted-unholds g.K.PartialEq.eq cells (slice_set cells c.args.place (Some d)) c.self.inside.keys c.take_if.new.keys c.args.place x there unholds c.take_if.ensures c.self.invariant.spotted;
-      hashed = rw made (hashed-unholds g.K.PartialEq.eq cells (slice_set cells c.args.place (Some d)) c.self.inside.keys c.take_if.new.keys c.args.place x there unholds c.take_if.ensures c.self.invariant.spotted _ c.self.invariant.hashed);
+      spotted = spotted-unholds g.K.PartialEq.eq cells (slice_set cells c.args.place (Some d)) c.self.inside.keys c.take_if.new.keys c.args.place x there unholds left c.self.invariant.spotted;
+      hashed = rw made (hashed-unholds g.K.PartialEq.eq cells (slice_set cells c.args.place (Some d)) c.self.inside.keys c.take_if.new.keys c.args.place x there unholds left c.self.invariant.spotted _ c.self.invariant.hashed);
       keys = rw made (omega (arith, space, c.self.invariant.keys));
       awaited = ∥∥₁_map c.self.invariant.awaited (λ k. awaited-gets cells (slice_set cells c.args.place (Some d)) c.self.inside.expirations c.set_changed.new.expirations c.args.place d (gets-set cells c.args.place x d there) c.set_changed.ensures.others c.set_changed.ensures.whole (λ held. absurd (true≢false (sym held))) k);
-    }
+    })
 
 pub returns : goal.returns
 returns g c =
@@ -76,11 +75,14 @@ returns g c =
       ap (λ t. kept_at t c.args.place) (sym c.self.view_is) ∙ kept-in cells c.args.place c.self.invariant.kept.apart ∙ there,
       rw (
         ← c.self.view_is,
+        c.mark_removed.ensures,
         records-set cells c.args.place x d f (λ r. refl) c.self.invariant.kept.apart there refl,
         numbers-alike cells (slice_set cells c.args.place (Some d)) h c.self.inside.access.indices,
         numbers-alike cells (slice_set cells c.args.place (Some d)) h c.self.inside.order.indices,
         numbers_of-set cells c.args.place x d there refl,
         c.add_write.ensures,
+        c.removed-write.ensures,
+        c.number-number.ensures,
         made-unsent false c.self.inside.backlog.unsent c.self.inside.backlog.next_ticket (record { place = c.args.place; write = Write.Removed x.number }),
       ) refl,
     )
@@ -89,4 +91,4 @@ pub unheld-self-inside-requires : goal.unheld-self-inside-requires
 unheld-self-inside-requires g c = (tally-has c.self.inside.cells.slots c.args.place c.index_mut-cell.result.now c.self.inside.tally c.index_mut-cell.ensures.value c.self.invariant.tallied).held
 
 pub take_if-requires : goal.take_if-requires
-take_if-requires g c held = c.self.invariant.spotted.spotted c.args.place c.index_mut-cell.result.now c.index_mut-cell.ensures.value held
+take_if-requires g c = rw (c.is_held-was_held.ensures, c.hash-hash.ensures) (c.self.invariant.spotted.spotted c.args.place c.index_mut-cell.result.now c.index_mut-cell.ensures.value)

@@ -23,7 +23,7 @@ invariant_of-self g c =
     let places = places-alike c.self.inside.cells (record c.self.inside.cells { slots = new }) c.self.inside.tally.number c.self.inside.tally.number c.self.inside.backlog.reserved c.self.inside.backlog.reserved x d in
     let many = count-set cells c.args.place x d there in
     let long = length-set cells c.args.place (Some d) in
-    record {
+    rw c.apply.ensures (record {
       kept = numbered-alike cells new c.self.inside.next_number h c.self.invariant.kept;
       used = listed-alike cells new c.self.inside.access.indices h c.self.invariant.used;
       written = listed-alike cells new c.self.inside.order.indices h c.self.invariant.written;
@@ -40,7 +40,7 @@ invariant_of-self g c =
       hashed = hashed-gets g.K.PartialEq.eq cells new c.self.inside.keys c.args.place x d there (gets-set cells c.args.place x d there) (record { held = refl; hash = refl; key = λ key. refl }) c.self.invariant.spotted _ refl c.self.invariant.hashed;
       keys = c.self.invariant.keys;
       awaited = ∥∥₁_map c.self.invariant.awaited (λ k. awaited-alike cells c.self.inside.expirations c.args.place x d there refl refl k);
-    }
+    })
 
 pub returns : goal.returns
 returns g c =
@@ -52,7 +52,7 @@ returns g c =
     let h = alike-set cells c.args.place x d there refl in (
       x,
       ap (λ t. kept_at t c.args.place) (sym c.self.view_is) ∙ kept-in cells c.args.place c.self.invariant.kept.apart ∙ there,
-      rw (← c.self.view_is, records-set cells c.args.place x d f (λ r. refl) c.self.invariant.kept.apart there refl, numbers-alike cells (slice_set cells c.args.place (Some d)) h c.self.inside.access.indices, numbers-alike cells (slice_set cells c.args.place (Some d)) h c.self.inside.order.indices, numbers_of-set cells c.args.place x d there refl) refl,
+      rw (← c.self.view_is, c.apply.ensures, records-set cells c.args.place x d f (λ r. refl) c.self.invariant.kept.apart there refl, numbers-alike cells (slice_set cells c.args.place (Some d)) h c.self.inside.access.indices, numbers-alike cells (slice_set cells c.args.place (Some d)) h c.self.inside.order.indices, numbers_of-set cells c.args.place x d there refl) refl,
     )
 
 pub index_mut-cell-requires : goal.index_mut-cell-requires

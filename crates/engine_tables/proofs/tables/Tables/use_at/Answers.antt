@@ -11,6 +11,7 @@ use Rattle.engine_cells.proofs.Totals.{tally-set, places-alike}
 use Rattle.std.proofs.Math.Logic.{∥∥₁_map}
 use Rattle.std.proofs.lemmas.Option.{same_Some}
 use Rattle.engine_cells.proofs.Awaits.{awaited-gets}
+use Rattle.engine_pending.specs.Timers.Awaited.{IsSet}
 use Rattle.engine_tables.proofs.tables.Tables.use_at.Goals as goal
 
 pub invariant_of-self : goal.invariant_of-self
@@ -24,7 +25,7 @@ invariant_of-self g c =
     let places = places-alike c.self.inside.cells (record c.self.inside.cells { slots = new }) c.self.inside.tally.number c.self.inside.tally.number c.self.inside.backlog.reserved c.self.inside.backlog.reserved x d in
     let many = count-set cells c.args.place x d there in
     let long = length-set cells c.args.place (Some d) in
-    rw c.set_expiration.ensures (record {
+    rw c.use_at.ensures (record {
       kept = numbered-alike cells new c.self.inside.next_number h c.self.invariant.kept;
       used = listed-alike cells new c.self.inside.access.indices h c.self.invariant.used;
       written = listed-alike cells new c.self.inside.order.indices h c.self.invariant.written;
@@ -40,7 +41,7 @@ invariant_of-self g c =
       spotted = spotted-gets g.K.PartialEq.eq cells new c.self.inside.keys c.args.place x d there (gets-set cells c.args.place x d there) (record { held = refl; hash = refl; key = λ key. refl }) c.self.invariant.spotted;
       hashed = hashed-gets g.K.PartialEq.eq cells new c.self.inside.keys c.args.place x d there (gets-set cells c.args.place x d there) (record { held = refl; hash = refl; key = λ key. refl }) c.self.invariant.spotted _ refl c.self.invariant.hashed;
       keys = c.self.invariant.keys;
-      awaited = ∥∥₁_map c.self.invariant.awaited (λ k. awaited-gets cells new c.self.inside.expirations c.set_changed.new.expirations c.args.place d (gets-set cells c.args.place x d there) c.set_changed.ensures.others c.set_changed.ensures.whole (λ held. c.set_changed.ensures.set (k c.args.place x there held)) k);
+      awaited = ∥∥₁_map c.self.invariant.awaited (λ k. awaited-gets cells new c.self.inside.expirations c.set_changed.new.expirations c.args.place d (gets-set cells c.args.place x d there) c.set_changed.ensures.others c.set_changed.ensures.whole (λ held. c.set_changed.ensures.set (subst (λ e. IsSet c.self.inside.expirations c.args.place e) (sym c.expires-before.ensures) (k c.args.place x there held))) k);
     })
 
 pub returns-clause-changes : goal.returns-clause-changes
@@ -53,7 +54,7 @@ returns-clause-changes g c =
     let h = alike-set cells c.args.place x d there refl in (
       x,
       ap (λ t. kept_at t c.args.place) (sym c.self.view_is) ∙ kept-in cells c.args.place c.self.invariant.kept.apart ∙ there,
-      rw (← c.self.view_is, c.set_expiration.ensures, records-set cells c.args.place x d f (λ r. refl) c.self.invariant.kept.apart there refl, numbers-alike cells (slice_set cells c.args.place (Some d)) h c.self.inside.access.indices, numbers-alike cells (slice_set cells c.args.place (Some d)) h c.self.inside.order.indices, numbers_of-set cells c.args.place x d there refl) refl,
+      rw (← c.self.view_is, c.use_at.ensures, records-set cells c.args.place x d f (λ r. refl) c.self.invariant.kept.apart there refl, numbers-alike cells (slice_set cells c.args.place (Some d)) h c.self.inside.access.indices, numbers-alike cells (slice_set cells c.args.place (Some d)) h c.self.inside.order.indices, numbers_of-set cells c.args.place x d there refl) refl,
     )
 
 pub index_mut-cell-requires : goal.index_mut-cell-requires
@@ -64,4 +65,4 @@ index_mut-cell-requires g c =
 pub returns-clause-number : goal.returns-clause-number
 returns-clause-number g c = λ r kept.
     let seen = ap (λ t. kept_at t c.args.place) (sym c.self.view_is) ∙ kept-in c.self.inside.cells.slots c.args.place c.self.invariant.kept.apart in
-    ap (λ (x : Record g.row.K.Denot g.row.V.Denot). x.number) (same_Some _ _ (sym c.index_mut-cell.ensures.value ∙ sym seen ∙ kept))
+    c.number-number.ensures ∙ ap (λ (x : Record g.row.K.Denot g.row.V.Denot). x.number) (same_Some _ _ (sym c.index_mut-cell.ensures.value ∙ sym seen ∙ kept))

@@ -1,4 +1,3 @@
-use Rattle.std.proofs.Common.{ap}
 use Rattle.moka_engine.proofs.Keeping.{well-as, well-registered}
 use Rattle.moka_engine.proofs.cache.BaseCache.commit_predicate.Goals as goal
 

@@ -1,4 +1,3 @@
-use Rattle.std.proofs.Common.{ap}
 use Rattle.moka_engine.proofs.Keeping.{well-as, well-told}
 use Rattle.moka_engine.proofs.cache.BaseCache.notify_invalidate.Goals as goal
 

@@ -1,6 +1,5 @@
-use Rattle.std.proofs.Common.{◌≡◌, refl, subst, sym, ℕ, ◌≤◌, []}
+use Rattle.std.proofs.Common.{◌≡◌, refl, subst, sym, ◌≤◌, []}
 use Rattle.engine_reference.specs.RunLaws.Sweeping.{IsTimely, LeavesNoneDue}
-use Rattle.engine_reference.specs.Laws.{CountsExactly}
 use Rattle.engine_reference.specs.Runs.{RunsToEnd}
 use Rattle.engine_reference.specs.State.{State}
 use Rattle.moka_engine.proofs.Keeping.{well-run}
