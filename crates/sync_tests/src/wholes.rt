@@ -65,18 +65,16 @@ fn is_new_item(seen: &mut Vec<bool>, item: Result<(Shared<u64>, u64), CacheError
     }
 }
 
-/// How many items come that are such pairs, and how many others.
-fn count_seen<H: Wait>(attached: &Handle<H>, seen: &mut Vec<bool>) -> (usize, usize) {
-    let mut new: usize = 0;
-    let mut others: usize = 0;
+/// How many items come, if each of them is such a pair. (It stops at one that is not: a call that lacks memory would go on for ever.)
+fn count_seen<H: Wait>(attached: &Handle<H>, seen: &mut Vec<bool>) -> Option<usize> {
+    let mut count: usize = 0;
     for item in attached {
-        if is_new_item(seen, item) {
-            new = new.saturating_add(1);
-        } else {
-            others = others.saturating_add(1);
+        if !is_new_item(seen, item) {
+            return None;
         }
+        count = count.saturating_add(1);
     }
-    (new, others)
+    Some(count)
 }
 
 /// The same on a handle that is made of a cache.
@@ -84,7 +82,7 @@ fn count_seen_in<H: Wait + Copy>(
     rt: &H,
     cache: Plain<Segmented>,
     seen: &mut Vec<bool>,
-) -> (usize, usize) {
+) -> Option<usize> {
     let attached = cache.attach(*rt);
     count_seen(&attached, seen)
 }
@@ -97,7 +95,7 @@ fn sees_each_once<H: Wait + Copy>(
     keys: usize,
 ) -> Result<bool, AllocError> {
     let mut seen = vec![in alloc; false; keys]?;
-    Ok(count_seen_in(rt, cache.clone()?, &mut seen) == (keys, 0))
+    Ok(count_seen_in(rt, cache.clone()?, &mut seen) == Some(keys))
 }
 
 /// One of sixteen threads: eight insert, eight go over all.
