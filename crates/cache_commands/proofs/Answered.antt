@@ -29,8 +29,7 @@ use Rattle.cache_store.specs.Running.{is_timely}
 use Rattle.audit_model.specs.declared.command.Command.TheVariants as says
 use Rattle.audit_model.specs.declared.event.Outcome.TheVariants as came
 use Rattle.cache_commands.proofs.Adding.{answers-add, answers-add-error, answers-add-off, sum-found}
-use Rattle.cache_commands.proofs.LoadSteps.{found-load, stores-nothing, stores-off, stores-value}
-use Rattle.cache_commands.proofs.Answering.{answers-get, answers-refused, none_succeeded, said, answers-set, answers-sync, keys-written, no-found, undropped, yes-found, or-false}
+use Rattle.cache_commands.proofs.Answering.{found-load, stores-nothing, stores-off, stores-value, answers-get, answers-refused, none_succeeded, said, answers-set, answers-sync, keys-written, no-found, undropped, yes-found, or-false}
 use Rattle.cache_commands.proofs.Ordering.{moves-add, moves-del, moves-drop, moves-fault, moves-get, moves-has, moves-keys, moves-off, moves-quit, moves-set, moves-sync}
 use Rattle.cache_commands.proofs.Drawn.{draws-alone, draws-kept, draws-none, draws-registers}
 use Rattle.cache_store.proofs.Few.{few}

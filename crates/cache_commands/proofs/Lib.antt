@@ -1,7 +1,6 @@
 pub mod Answering
 pub mod Adding
 pub mod Drawn
-pub mod LoadSteps
 pub mod Ordering
 pub mod Answered
 pub mod Taking

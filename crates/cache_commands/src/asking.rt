@@ -36,13 +36,11 @@ pub fn keys<S: Store>(store: &S, now: u64, output: &mut Vec<u8>) -> Result<(), A
     let start = output.len();
     output.try_reserve(SHORT)?;
     write_number_of_keys(output, store.count_live(now));
-    match store.write_live_keys(now, output) {
-        Ok(()) => Ok(()),
-        Err(error) => {
-            output.truncate(start);
-            Err(error)
-        }
+    if let Err(error) = store.write_live_keys(now, output) {
+        output.truncate(start);
+        return Err(error);
     }
+    Ok(())
 }
 
 /// Writes how many keys there are.

@@ -8,11 +8,8 @@ ghost use Rattle.cache_commands.specs.Ran.{FitsStore, RunsRequest, rests};
 ghost use Rattle.cache_store.specs.Handing.{TakesFirstNote};
 ghost use Rattle.cache_store.specs.Values.{GivesNote, IsMoment, IsSoundStore, IsSpent};
 
-use crate::loading::store_outcome;
-use crate::running::{Ran, run_request};
-use audit_lines::Request;
-use audit_model::{Accepted, Key, Note, Outcome};
-use cache_store::{Store, StoreError};
+use audit_model::{Key, Note};
+use cache_store::Store;
 use std::alloc::{AllocError, Global};
 use std::marker::Model;
 
@@ -22,8 +19,8 @@ const MAX_KEY: usize = 250;
 /// A store with a place for the key of the line that runs, so that look-ups take no memory. Contracts see the store alone.
 #[derive(Drop)]
 pub struct Keyed<S: Store> {
-    store: S,
-    key: Key,
+    pub(crate) store: S,
+    pub(crate) key: Key,
 }
 
 impl<S: Store> Model for Keyed<S> {
@@ -53,46 +50,6 @@ impl<S: Store> Keyed<S> {
         ensures { IsSoundStore (S.view self.now) }
     {
         self.store.sound();
-    }
-
-    /// Runs a request: its reply stands behind `reply`. An `Err` changes nothing.
-    pub fn run(
-        &mut self,
-        request: Request,
-        now: u64,
-        reply: &mut Vec<u8>,
-    ) -> Result<Ran, StoreError>
-        requires in_time { IsMoment (S.view self.old) now }
-        requires fit { FitsStore (S.view self.old).frame.config request }
-        ensures runs { IfOk result (λ ran. RunsRequest now (said request.entry) ran
-            (S.view self.old) (S.view self.new) reply.old.items reply.new.items) }
-        ensures rests { IfOk result (λ ran. rests ran ≡ true → self.new ≡ self.old) }
-        ensures used_up { IsErrOf result StoreError.UsedUp → IsSpent (S.view self.old) }
-        ensures unchanged { OnErr result (self.new ≡ self.old) }
-        ensures unwritten { OnErr result (reply.new.items ≡ reply.old.items) }
-    {
-        run_request(&mut self.store, &mut self.key, request, now, reply)
-    }
-
-    /// Stores the value of a load's outcome under the load's key, and returns which part took it; none at capacity 0, and if the outcome is
-    /// not a value. An `Err` changes nothing.
-    pub fn store_outcome(
-        &mut self,
-        key: &[u8],
-        outcome: &Outcome,
-        now: u64,
-    ) -> Result<Option<Accepted>, StoreError>
-        requires in_time { IsMoment (S.view self.old) now }
-        requires fit { refusal_of_outcome (S.view self.old).frame.config outcome.now ≡ None }
-        ensures ok { IfOk result (λ accepted.
-            IsStored now key.now outcome.now accepted (S.view self.old) (S.view self.new)) }
-        ensures used_up { IsErrOf result StoreError.UsedUp → IsSpent (S.view self.old) }
-        ensures unchanged { OnErr result (self.new ≡ self.old) }
-    {
-        let Ok(()) = self.key.fill(key) else {
-            return Err(StoreError::OutOfMemory);
-        };
-        store_outcome(&mut self.store, &self.key, outcome, now)
     }
 
     /// Takes the note that was reported first.

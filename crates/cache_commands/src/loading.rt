@@ -9,6 +9,7 @@ ghost use Rattle.cache_commands.specs.Found.{found_text};
 ghost use Rattle.cache_store.specs.Values.{IsLive, IsMoment, IsSpent};
 
 use crate::commands::{accepts, write_value};
+use crate::keyed::Keyed;
 use crate::writing::{write, write_line};
 use audit_model::{Accepted, Key, Outcome};
 use cache_store::{Store, StoreError};
@@ -59,38 +60,40 @@ fn write_live(output: &mut Vec<u8>, found: Option<&[u8]>) -> Result<(), Unanswer
     let Some(bytes) = found else {
         return Err(Unanswered::NoneLive);
     };
-    match write_value(output, bytes) {
-        Ok(()) => Ok(()),
-        Err(_error) => Err(Unanswered::OutOfMemory),
-    }
+    write_value(output, bytes).map_err(|_| Unanswered::OutOfMemory)
 }
 
-/// Stores the value of a load's outcome under the load's key, and returns which part took it; none at capacity 0, and if the outcome is not
-/// a value. An `Err` changes nothing.
-pub fn store_outcome<S: Store>(
-    store: &mut S,
-    key: &Key,
-    outcome: &Outcome,
-    now: u64,
-) -> Result<Option<Accepted>, StoreError>
-    requires in_time { IsMoment (S.view store.old) now }
-    requires fit { refusal_of_outcome (S.view store.old).frame.config outcome.now ≡ None }
-    ensures ok { IfOk result (λ accepted. IsStored now key.now outcome.now accepted
-        (S.view store.old) (S.view store.new)) }
-    ensures used_up { IsErrOf result StoreError.UsedUp → IsSpent (S.view store.old) }
-    ensures unchanged { OnErr result (store.new ≡ store.old) }
-{
-    store.sound();
-    match outcome {
-        Outcome::Value(bytes, milliseconds) => {
-            if !accepts(store.config().capacity) {
-                return Ok(None);
+impl<S: Store> Keyed<S> {
+    /// Stores the value of a load's outcome under the load's key, and returns which part took it; none at capacity 0, and if the outcome is
+    /// not a value. An `Err` changes nothing.
+    pub fn store_outcome(
+        &mut self,
+        key: &[u8],
+        outcome: &Outcome,
+        now: u64,
+    ) -> Result<Option<Accepted>, StoreError>
+        requires in_time { IsMoment (S.view self.old) now }
+        requires fit { refusal_of_outcome (S.view self.old).frame.config outcome.now ≡ None }
+        ensures ok { IfOk result (λ accepted.
+            IsStored now key.now outcome.now accepted (S.view self.old) (S.view self.new)) }
+        ensures used_up { IsErrOf result StoreError.UsedUp → IsSpent (S.view self.old) }
+        ensures unchanged { OnErr result (self.new ≡ self.old) }
+    {
+        self.store.sound();
+        match outcome {
+            Outcome::Value(bytes, milliseconds) => {
+                if !accepts(self.store.config().capacity) {
+                    return Ok(None);
+                }
+                self.key.fill(key)?;
+                let part = self
+                    .store
+                    .accept(&self.key, bytes.as_slice(), *milliseconds, false, now)?;
+                Ok(Some(Accepted { part }))
             }
-            let part = store.accept(key, bytes.as_slice(), *milliseconds, false, now)?;
-            Ok(Some(Accepted { part }))
+            Outcome::None => Ok(None),
+            Outcome::Fault(_) => Ok(None),
         }
-        Outcome::None => Ok(None),
-        Outcome::Fault(_) => Ok(None),
     }
 }
 

@@ -3,7 +3,6 @@ mod load;
 mod loads;
 mod numbered;
 mod standing;
-mod table;
 
 pub use load::Load;
 pub use loads::Loads;

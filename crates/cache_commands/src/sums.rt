@@ -78,10 +78,7 @@ fn write_unsummed(output: &mut Vec<u8>, found: Option<&[u8]>, added: u64) -> Res
     if let Some(sum) = sum_of(found, added) {
         return Err(Unused::Sum(sum));
     }
-    match write_short(output, b"ERR number\n") {
-        Ok(()) => Ok(()),
-        Err(_error) => Err(Unused::OutOfMemory),
-    }
+    write_short(output, b"ERR number\n").map_err(|_| Unused::OutOfMemory)
 }
 
 /// The sum of what is found and the number, if what is found is a number and the sum is at most 2^64 - 1.
@@ -89,10 +86,7 @@ fn sum_of(found: Option<&[u8]>, added: u64) -> Option<u64>
     ensures { result ≡ sum_of_bytes (option_map (λ bytes. bytes.now) found.entry) added }
 {
     match found {
-        Some(bytes) => match number(bytes) {
-            Some(held) => held.checked_add(added),
-            None => None,
-        },
+        Some(bytes) => number(bytes)?.checked_add(added),
         None => Some(added),
     }
 }

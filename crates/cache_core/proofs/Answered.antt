@@ -12,17 +12,15 @@ use Rattle.audit_model.specs.Places.{steps_of}
 use Rattle.audit_model.specs.Replies.{value_with}
 use Rattle.audit_model.specs.Situation.{HeldValue, PendingLoad, Situation, view_in}
 use Rattle.audit_model.specs.Steps.{Deliver, RunLines, Task, effect_in}
-use Rattle.audit_model.specs.declared.command.Closing.{Closing}
 use Rattle.audit_model.specs.declared.config.Config.{Config}
 use Rattle.audit_model.specs.declared.event.Event.{Event}
 use Rattle.audit_model.specs.declared.event.Outcome.{Outcome}
-use Rattle.audit_model.specs.declared.input.LoadId.{LoadId}
 use Rattle.audit_model.specs.declared.transcript.Accepted.{Accepted}
 use Rattle.audit_model.specs.declared.transcript.Note.{Note}
 use Rattle.audit_model.specs.declared.transcript.Record.{Record}
 use Rattle.audit_model.specs.declared.transcript.Step.{Step}
 use Rattle.cache_commands.specs.Loading.{step_silent}
-use Rattle.cache_commands.specs.Loads.Pending.{SameTaken, loads_pending, namespace_of_loads, outgoing_loads, sent_of}
+use Rattle.cache_commands.specs.Loads.Pending.{SameTaken, loads_pending}
 use Rattle.cache_commands.specs.Right.{held_when_run}
 use Rattle.cache_core.specs.Connections.Presence.{Presence, closing_of, open_from, reply_text_of}
 use Rattle.cache_core.specs.Fed.{BaseStays}
@@ -50,7 +48,7 @@ use Rattle.audit_model.specs.declared.event.Outcome.TheVariants as came
 use Rattle.cache_commands.proofs.Drawn.{spends-kept}
 use Rattle.cache_core.proofs.Sending.{sends-behind}
 use Rattle.cache_core.proofs.Happening.{closings-moved, orders-lost, settled-kept, started-some}
-use Rattle.cache_core.proofs.Orders.{order-turned}
+use Rattle.cache_core.proofs.Orders.{order-turned, state-alike}
 use Rattle.cache_core.proofs.Touched.{all-closings, all-courses, all-listed, all-texts}
 use Rattle.cache_core.proofs.Turning.{sit}
 
@@ -197,19 +195,4 @@ module _ {S T : Type 0} (view : S → Values) (tape : T → Option Taped) (base 
 -- ---- nothing has changed
 
 pub state-looks : {S T : Type 0} (base new_base : Base S T) (latest : ℕ) (cs ds : List Presence) → BaseStays base new_base → AllLookAsBefore cs ds → state_of new_base latest ds ≡ state_of base latest cs
-state-looks {S} {T} base new_base latest cs ds b looks =
-    let listed = all-listed 1 cs ds looks in
-    let closings : map closing_of ds ≡ map closing_of cs = all-closings cs ds looks in
-    let texts : map reply_text_of ds ≡ map reply_text_of cs = all-texts cs ds looks in
-    let l = b.loads_are in
-    let made : S → T → List model.Connection → List (Option Closing) → List (List ℕ) → ℕ → List PendingLoad → List (LoadId × List ℕ) → ℕ → State S T = λ store tape ks whys outs sent pending outgoing namespace.
-    record { store = store; tape = tape; latest = latest; connections = ks; closings = whys; outputs = outs; sent = sent; pending = pending; outgoing = outgoing; namespace = namespace } in
-    ap (λ x. made x new_base.tape (open_from 1 ds) (map closing_of ds) (map reply_text_of ds) (sent_of new_base.loads) (loads_pending new_base.loads) (outgoing_loads new_base.loads) (namespace_of_loads new_base.loads)) b.store_is
-    ∙ ap (λ x. made base.store x (open_from 1 ds) (map closing_of ds) (map reply_text_of ds) (sent_of new_base.loads) (loads_pending new_base.loads) (outgoing_loads new_base.loads) (namespace_of_loads new_base.loads)) b.tape_is
-    ∙ ap (λ x. made base.store base.tape x (map closing_of ds) (map reply_text_of ds) (sent_of new_base.loads) (loads_pending new_base.loads) (outgoing_loads new_base.loads) (namespace_of_loads new_base.loads)) listed
-    ∙ ap (λ x. made base.store base.tape (open_from 1 cs) x (map reply_text_of ds) (sent_of new_base.loads) (loads_pending new_base.loads) (outgoing_loads new_base.loads) (namespace_of_loads new_base.loads)) closings
-    ∙ ap (λ x. made base.store base.tape (open_from 1 cs) (map closing_of cs) x (sent_of new_base.loads) (loads_pending new_base.loads) (outgoing_loads new_base.loads) (namespace_of_loads new_base.loads)) texts
-    ∙ ap (λ x. made base.store base.tape (open_from 1 cs) (map closing_of cs) (map reply_text_of cs) x (loads_pending new_base.loads) (outgoing_loads new_base.loads) (namespace_of_loads new_base.loads)) l.sent
-    ∙ ap (λ x. made base.store base.tape (open_from 1 cs) (map closing_of cs) (map reply_text_of cs) (sent_of base.loads) x (outgoing_loads new_base.loads) (namespace_of_loads new_base.loads)) l.pending
-    ∙ ap (λ x. made base.store base.tape (open_from 1 cs) (map closing_of cs) (map reply_text_of cs) (sent_of base.loads) (loads_pending base.loads) x (namespace_of_loads new_base.loads)) l.outgoing
-    ∙ ap (λ x. made base.store base.tape (open_from 1 cs) (map closing_of cs) (map reply_text_of cs) (sent_of base.loads) (loads_pending base.loads) (outgoing_loads base.loads) x) l.namespace
+state-looks base new_base latest cs ds b looks = state-alike base new_base latest cs ds b (all-listed 1 cs ds looks) (all-closings cs ds looks) (all-texts cs ds looks)

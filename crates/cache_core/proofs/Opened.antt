@@ -1,6 +1,6 @@
 -- Openings and closings of a namespace, as records that follow.
-use Rattle.std.proofs.Common.{cond, refl, sym, ap, ◌∙◌, arith, subst, inr, ◌≡◌, ℕ, zero, suc, ◌+◌, Bool, true, false, not, ◌&&◌, ◌||◌, ◌==◌, List, [], ◌∷◌, ◌++◌, length, map, Option, Some, None, if◌then◌else◌, is_some, is_none, slice_set}
-use Rattle.std.proofs.lemmas.Bool.{eq-eqb}
+use Rattle.std.proofs.Common.{cond, refl, sym, ap, ◌∙◌, arith, subst, inr, ◌≡◌, ℕ, zero, suc, ◌+◌, Bool, true, false, not, ◌&&◌, ◌||◌, ◌==◌, List, [], ◌∷◌, ◌++◌, length, map, Option, Some, None, if◌then◌else◌, is_some, is_none, slice_set, nat_lt, nat_le}
+use Rattle.std.proofs.lemmas.Bool.{eq-eqb, and_parts, leb-true}
 use Rattle.std.proofs.lemmas.List.{length-append, append-nil, length-map}
 use Rattle.std.proofs.lemmas.Option.{slice_get_within}
 use Rattle.std.specs.List.{find}
@@ -12,33 +12,34 @@ use Rattle.audit_model.specs.declared.command.Closing.{Closing}
 use Rattle.audit_model.specs.declared.config.Config.{Config}
 use Rattle.audit_model.specs.declared.event.Event.{Event}
 use Rattle.audit_model.specs.declared.transcript.Record.{Record}
+use Rattle.cache_store.specs.Values.{IsSoundStore, Values}
 use Rattle.cache_commands.proofs.Taking.{taken-same}
 use Rattle.cache_commands.specs.Loads.Pending.{SameTaken, loads_pending, sent_of}
 use Rattle.cache_commands.specs.declared.loads.loads.Loads.{Loads}
-use Rattle.cache_core.specs.Connection.Parts.{standing_as}
-use Rattle.cache_core.specs.Connection.Shown.{shown}
-use Rattle.cache_core.specs.Connections.Presence.{Here, Presence, closing_of, open_from, reply_text_of}
-use Rattle.cache_core.specs.Fed.{ReplacedAt}
-use Rattle.cache_core.specs.State.{IsInOrder, State, at_number, situation_with, state_of}
-use Rattle.cache_core.specs.Turned.{Turned, Turns, closing_behind, reason_of, with_record}
 use Rattle.cache_lines.proofs.Drawn.{spends-same}
 use Rattle.cache_lines.specs.Drawing.{identifiers_in}
 use Rattle.cache_lines.specs.Lines.{ready}
 use Rattle.cache_lines.specs.Tape.Taped.{IsAtRest, Taped, finishes, started, with_entry}
 use Rattle.cache_lines.specs.Waiting.{under_way, when_left}
 use Rattle.cache_lines.specs.declared.base.Base.{Base}
-use Rattle.cache_store.specs.Values.{IsSoundStore, Values}
+use Rattle.cache_core.proofs.Orders.{order-turned}
+use Rattle.cache_core.proofs.Sending.{sends-behind}
+use Rattle.cache_core.proofs.Spots.{seen-was}
+use Rattle.cache_core.proofs.Table.{dropped-at, opened-last, listed_as, listed_of}
+use Rattle.cache_core.proofs.Turning.{closings-by, known-open, opened-same, sit, found-is}
+use Rattle.cache_core.proofs.connections.Getting.{map-same, found-at}
+use Rattle.cache_core.specs.Connection.Parts.{standing_as}
+use Rattle.cache_core.specs.Connection.Shown.{shown}
+use Rattle.cache_core.specs.Connections.Presence.{Here, Presence, closing_of, open_from, reply_text_of, Gone, Out}
+use Rattle.cache_core.specs.Fed.{ReplacedAt}
+use Rattle.cache_core.specs.State.{IsInOrder, State, at_number, situation_with, state_of}
+use Rattle.cache_core.specs.Turned.{Turned, Turns, closing_behind, reason_of, with_record}
+use Rattle.cache_core.specs.declared.connection.connection.Connection.{Connection}
 use Rattle.audit_model.specs.Situation as model
 use Rattle.audit_model.specs.declared.command.Closing.TheVariants as by
 use Rattle.audit_model.specs.declared.event.Event.TheVariants as event
 use Rattle.audit_model.specs.declared.input.ServiceError.TheVariants as error
 use Rattle.cache_commands.specs.declared.loads.standing.Standing.TheVariants as now
-use Rattle.cache_core.specs.declared.connection.connection.Connection.{Connection}
-use Rattle.cache_core.proofs.Sending.{sends-behind}
-use Rattle.cache_core.proofs.Orders.{order-turned}
-use Rattle.cache_core.proofs.connections.Getting.{map-same}
-use Rattle.cache_core.proofs.Table.{dropped-at, opened-last}
-use Rattle.cache_core.proofs.Turning.{closings-by, known-open, opened-same, sit}
 
 abbrev pub record_of : Event → Record
 record_of happened = record { event = happened; own = None; notices = []; steps = [] }
@@ -215,3 +216,28 @@ left-is loads left n sent pending = ap (λ k. record { sent = k; pending = loads
 -- how many connections there are
 pub count-open : (cs : List Presence) → length (map closing_of cs) ≡ length cs
 count-open cs = length-map cs closing_of
+
+-- How the parts of a namespace suit one another.
+
+-- each has its replies and the reason of its closing
+pub counted-all : (cs : List Presence) → length (map reply_text_of cs) ≡ length (map closing_of cs)
+counted-all cs = length-map cs reply_text_of ∙ sym (count-open cs)
+
+is-listed : (b : Bool) (c : model.Connection) → is_some (listed_as b c) ≡ b
+is-listed true c = refl
+is-listed false c = refl
+
+listed-one : (m : ℕ) (p : Presence) → is_some (listed_of m p) ≡ is_none (closing_of p)
+listed-one m (Here c) = is-listed (is_none c.closing) (shown m c)
+listed-one m Out = refl
+listed-one m (Gone why) = refl
+
+-- a connection that was opened is listed just while it has not closed
+pub listed-open : (cs : List Presence) (number : ℕ) → (nat_lt 0 number && nat_le number (length (map closing_of cs))) ≡ true
+    → is_some (find (λ (k : model.Connection). k.number == number) (open_from 1 cs)) ≡ is_none (at_number None (map closing_of cs) number)
+listed-open cs zero e = let no : false ≡ true = e in cc
+listed-open cs (suc i) e =
+    let few = leb-true (suc i) (length (map closing_of cs)) (and_parts (nat_lt 0 (suc i)) (nat_le (suc i) (length (map closing_of cs))) e).1 in
+    let count = count-open cs in
+    let c = found-at cs i (omega (arith, few, count)) in
+    ap is_some (found-is (suc i) i c.0 cs refl c.1) ∙ listed-one (suc i) c.0 ∙ sym (ap is_none (seen-was closing_of None cs i c.0 c.1))

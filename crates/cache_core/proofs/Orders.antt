@@ -1,46 +1,152 @@
--- A namespace in order, before and behind an event, and how an event is refused.
-use Rattle.std.proofs.Common.{refl, sym, ap, ◌∙◌, arith, subst, inl, ◌≡◌, ℕ, suc, ◌<◌, ◌≤◌, ◌^◌, Bool, true, false, not, List, [], ◌∷◌, ◌++◌, length, map, Option, Some, None, if◌then◌else◌, nat_lt, nat_le, is_some, is_none, ◌⊎◌, MatchOption}
+-- What is taken from a namespace, and what it is asked.
+use Rattle.std.proofs.Common.{refl, sym, ap, ◌∙◌, arith, subst, ◌≡◌, ℕ, zero, suc, ◌+◌, ◌-◌, ◌<◌, Bool, true, false, ◌&&◌, List, [], ◌∷◌, length, map, Option, Some, None, is_none, slice_set, inl, ◌≤◌, ◌^◌, not, ◌++◌, if◌then◌else◌, nat_lt, nat_le, is_some, ◌⊎◌, MatchOption}
 use Rattle.std.proofs.lemmas.Bool.{and_from, le-leb, lt-ltb}
 use Rattle.std.proofs.lemmas.List.{append-nil, length-map}
 use Rattle.std.specs.List.{slice_get}
-use Rattle.std.specs.Option.{option_map, option_map_or, option_or}
-use Rattle.audit_laws.specs.Waiting.Tidy.{Tidy}
+use Rattle.std.specs.Option.{option_map_or, option_map, option_or}
 use Rattle.audit_model.specs.Belongs.{refusal_of, refusal_of_conn, refusal_where}
-use Rattle.audit_model.specs.Situation.{HeldValue, PendingLoad, Situation, is_holding, is_holding_in}
+use Rattle.audit_model.specs.Situation.{is_waiting_now, HeldValue, PendingLoad, Situation, is_holding, is_holding_in}
 use Rattle.audit_model.specs.declared.command.Closing.{Closing}
 use Rattle.audit_model.specs.declared.config.Config.{Config}
 use Rattle.audit_model.specs.declared.input.LoadId.{LoadId}
 use Rattle.audit_model.specs.declared.input.ServiceError.{ServiceError}
 use Rattle.audit_model.specs.declared.transcript.Note.{Note}
 use Rattle.audit_model.specs.declared.transcript.Record.{Record}
+use Rattle.audit_laws.proofs.waiting.Records.{records as records-tidy}
+use Rattle.audit_laws.specs.Waiting.Tidy.{Tidy}
+use Rattle.cache_store.specs.Handing.{TakesFirstNote}
+use Rattle.cache_store.specs.Promises.{Frame}
+use Rattle.cache_store.specs.Values.{Values, GivesNote}
 use Rattle.cache_commands.specs.Loads.Pending.{loads_pending, namespace_of_loads, outgoing_loads, sent_of}
-use Rattle.cache_commands.specs.Loads.Standings.{holds_line}
+use Rattle.cache_commands.specs.Loads.Standings.{waits_for_load, holds_line}
+use Rattle.cache_lines.proofs.leads.Waits.{records-wait}
+use Rattle.cache_lines.specs.Gathered.{gathered, IsFresh, stage}
+use Rattle.cache_lines.specs.Leads.Waiters.{WaitForLoads}
+use Rattle.cache_lines.specs.Tape.Taped.{Taped, IsAtRest}
+use Rattle.cache_lines.specs.declared.base.Base.{Base}
+use Rattle.cache_core.proofs.Spots.{seen-was, here-open}
+use Rattle.cache_core.proofs.Table.{listed_as, listed_of}
+use Rattle.cache_core.proofs.Turning.{found-is, waiting-shown, found-open, holding-shown, known-open, leb-above}
+use Rattle.cache_core.proofs.connections.Getting.{at-mapped, found-at, map-same, set-same}
+use Rattle.cache_core.proofs.connections.Listed.{closings-retired, open-retired, open-same, texts-put, texts-retired}
 use Rattle.cache_core.specs.Connection.Fed.{LooksAsBefore}
 use Rattle.cache_core.specs.Connection.Parts.{standing_as}
 use Rattle.cache_core.specs.Connection.Shown.{shown}
-use Rattle.cache_core.specs.Connections.Presence.{Gone, Here, Out, Presence, closing_at, closing_of, open_from, reply_text_of, text_at}
-use Rattle.cache_core.specs.Fed.{BaseStays, CanTurn, ReplacedAt, WantsMemory, seen_at}
-use Rattle.cache_core.specs.Places.{known_of_all, refusal_at}
-use Rattle.cache_core.specs.State.{IsInOrder, StandsFor, State, known_of, output_in, situation_with, state_of}
-use Rattle.cache_core.specs.Turned.{RefusesBy, Turned, feeding, notes_in, replies_to, with_record}
-use Rattle.cache_lines.specs.Gathered.{gathered, IsFresh, stage}
-use Rattle.cache_lines.specs.Leads.Waiters.{WaitForLoads}
-use Rattle.cache_lines.specs.Tape.Taped.{IsAtRest, Taped}
-use Rattle.cache_lines.specs.declared.base.Base.{Base}
-use Rattle.cache_store.specs.Promises.{Frame}
-use Rattle.cache_store.specs.Values.{GivesNote, Values}
+use Rattle.cache_core.specs.Connections.Presence.{Gone, Here, Out, Presence, closing_at, closing_of, is_here, open_from, reply_text_of, retired_at, text_at}
+use Rattle.cache_core.specs.Fed.{ReplacedAt, BaseStays, CanTurn, WantsMemory, seen_at}
+use Rattle.cache_core.specs.Places.{IsTakenAt, IsTakenFrom, waits_at, waits_in, known_of_all, refusal_at}
+use Rattle.cache_core.specs.State.{IsInOrder, at_number, situation_with, state_of, StandsFor, State, known_of, output_in}
+use Rattle.cache_core.specs.Turned.{is_waiting_in, RefusesBy, Turned, feeding, notes_in, replies_to, with_record}
+use Rattle.cache_core.specs.declared.connection.connection.Connection.{Connection}
 use Rattle.audit_model.specs.Situation as model
 use Rattle.audit_model.specs.declared.event.Event.TheVariants as event
 use Rattle.audit_model.specs.declared.input.ServiceError.TheVariants as error
-use Rattle.audit_laws.proofs.waiting.Records.{records as records-tidy}
-use Rattle.cache_lines.proofs.leads.Waits.{records-wait}
-use Rattle.cache_store.specs.Handing.{TakesFirstNote}
-use Rattle.cache_core.proofs.connections.Listed.{open-same}
-use Rattle.cache_core.specs.declared.connection.connection.Connection.{Connection}
-use Rattle.cache_core.proofs.connections.Getting.{found-at, map-same}
-use Rattle.cache_core.proofs.Spots.{here-open, seen-was}
-use Rattle.cache_core.proofs.Table.{listed_as, listed_of}
-use Rattle.cache_core.proofs.Turning.{found-is, found-open, holding-shown, known-open, leb-above}
+
+-- the reason under a number is the one at its place
+pub closing-number : (cs : List Presence) (i m : ℕ) → m ≡ i + 1 → i < length cs → closing_at cs i ≡ at_number None (map closing_of cs) m
+closing-number cs i m e lt =
+    let c = found-at cs i lt in
+    let is : m ≡ suc i = omega (arith, e) in
+    ap (λ o. option_map_or closing_of o None) c.1 ∙ sym (seen-was closing_of None cs i c.0 c.1) ∙ ap (at_number None (map closing_of cs)) (sym is)
+
+waits-one : (m : ℕ) (p : Presence) → waits_in p ≡ option_map_or (λ (k : model.Connection). is_waiting_now k.standing) (listed_of m p) false
+waits-one m (Here c) = go (is_none c.closing) (waiting-shown m c)
+  where
+    go : (b : Bool) → is_waiting_now (shown m c).standing ≡ waits_for_load c.standing → (b && waits_for_load c.standing) ≡ option_map_or (λ (k : model.Connection). is_waiting_now k.standing) (listed_as b (shown m c)) false
+    go true shows = sym shows
+    go false shows = refl
+waits-one m Out = refl
+waits-one m (Gone why) = refl
+
+-- so is whether a `LOAD` waits
+pub waits-number : {S T : Type 0} (view : S → Values) (base : Base S T) (latest : ℕ) (cs : List Presence) (i m : ℕ) → m ≡ i + 1 → i < length cs → waits_at cs i ≡ is_waiting_in (situation_with view (state_of base latest cs) []) m
+waits-number view base latest cs i m e lt =
+    let c = found-at cs i lt in
+    let is : m ≡ suc i = omega (arith, e) in
+    ap (λ o. option_map_or waits_in o false) c.1
+    ∙ waits-one m c.0
+    ∙ sym (ap (λ o. option_map_or (λ (k : model.Connection). is_waiting_now k.standing) o false) (found-is m i c.0 cs is c.1))
+
+-- and what was written to it
+pub output-number : (cs : List Presence) (i m : ℕ) → m ≡ i + 1 → i < length cs → text_at cs i ≡ at_number [] (map reply_text_of cs) m
+output-number cs i m e lt =
+    let c = found-at cs i lt in
+    let is : m ≡ suc i = omega (arith, e) in
+    ap (λ o. option_map_or reply_text_of o []) c.1 ∙ sym (seen-was reply_text_of [] cs i c.0 c.1) ∙ ap (at_number [] (map reply_text_of cs)) (sym is)
+
+-- ---- what an output leaves that was taken
+
+none-here : (p : Presence) → is_here (Some p) ≡ false → reply_text_of p ≡ []
+none-here (Here c) e = let no : true ≡ false = e in cc
+none-here Out e = refl
+none-here (Gone why) e = refl
+
+-- of one that is not here nothing
+pub taken-none : (cs : List Presence) (i : ℕ) → i < length cs → is_here (slice_get cs i) ≡ false → IsTakenAt cs cs i
+taken-none cs i lt away =
+    let c = found-at cs i lt in
+    let none = none-here c.0 (ap is_here (sym c.1) ∙ away) in
+    record { listed = refl; closings = refl; texts = sym (ap (slice_set (map reply_text_of cs) i) (sym none) ∙ set-same (map reply_text_of cs) i (reply_text_of c.0) (at-mapped reply_text_of cs i c.0 c.1)) }
+
+pub text-none : (cs : List Presence) (i : ℕ) → i < length cs → is_here (slice_get cs i) ≡ false → text_at cs i ≡ []
+text-none cs i lt away =
+    let c = found-at cs i lt in
+    ap (λ o. option_map_or reply_text_of o []) c.1 ∙ none-here c.0 (ap is_here (sym c.1) ∙ away)
+
+-- one that was put back, and then retired
+pub taken-at : (cs ds es : List Presence) (i : ℕ) (p : ReplacedAt cs ds i) → IsTakenFrom p.was p.is → es ≡ retired_at ds i → IsTakenAt cs es i
+taken-at cs ds es i p taken retires =
+    let shows : (k : ℕ) → shown k p.is ≡ shown k p.was =
+    λ k. ap (λ st. standing_as k st p.is.waited p.is.unread.bytes) taken.standing ∙ ap (λ n. standing_as k p.was.standing n p.is.unread.bytes) taken.waited ∙ ap (standing_as k p.was.standing p.was.waited) taken.bytes in
+    record {
+      listed = ap (open_from 1) retires ∙ open-retired 1 ds i ∙ ap (open_from 1) p.set ∙ open-same 1 i p.was p.is cs p.at taken.closing shows;
+      closings = ap (map closing_of) retires ∙ closings-retired ds i ∙ ap (map closing_of) p.set ∙ map-same closing_of cs i (Here p.was) (Here p.is) p.at taken.closing;
+      texts = ap (map reply_text_of) retires ∙ texts-retired ds i ∙ ap (map reply_text_of) p.set ∙ texts-put cs i p.is ∙ ap (λ t. slice_set (map reply_text_of cs) i t) taken.none;
+    }
+
+pub output-taken : {S T : Type 0} (base : Base S T) (latest i m : ℕ) (cs ds : List Presence) → IsTakenAt cs ds i → m ≡ i + 1
+    → state_of base latest ds ≡ record (state_of base latest cs) { outputs = slice_set (state_of base latest cs).outputs (m - 1) [] }
+output-taken {S} {T} base latest i m cs ds taken e =
+    let place : i ≡ m - 1 = omega (arith, e) in
+    let texts : map reply_text_of ds ≡ slice_set (map reply_text_of cs) (m - 1) [] = taken.texts ∙ ap (λ k. slice_set (map reply_text_of cs) k []) place in
+    ap (λ ks. record (state_of base latest ds) { connections = ks }) taken.listed
+    ∙ ap (λ whys. record (state_of base latest ds) { connections = open_from 1 cs; closings = whys }) taken.closings
+    ∙ ap (λ outs. record (state_of base latest cs) { outputs = outs }) texts
+
+none-at : (xs : List (List ℕ)) (i n : ℕ) → at_number [] xs n ≡ [] → at_number [] (slice_set xs i []) n ≡ []
+none-at xs i zero e = refl
+none-at [] i (suc n) e = refl
+none-at (x ∷ xs) zero (suc zero) e = refl
+none-at (x ∷ xs) zero (suc (suc n)) e = e
+none-at (x ∷ xs) (suc i) (suc zero) e = e
+none-at (x ∷ xs) (suc i) (suc (suc n)) e = none-at xs i (suc n) e
+
+pub order-taken : {S T : Type 0} (view : S → Values) (tape : T → Option Taped) (base : Base S T) (latest i : ℕ) (cs ds : List Presence) → IsTakenAt cs ds i → IsInOrder view tape (state_of base latest cs)
+    → IsInOrder view tape (state_of base latest ds)
+order-taken view tape base latest i cs ds taken order =
+    let same = ap (λ n. situation_with view n []) (output-taken base latest i (i + 1) cs ds taken refl) in
+    record {
+      in_time = order.in_time;
+      moment = order.moment;
+      rests = order.rests;
+      untaken = order.untaken;
+      outputs = λ e n. ap (λ xs. at_number [] xs n) taken.texts ∙ none-at (map reply_text_of cs) i n (order.outputs e n);
+      tidy = subst (λ s. Tidy [] s) (sym same) order.tidy;
+      reads = subst (WaitForLoads (view base.store).frame.config) (sym same) order.reads;
+    }
+
+-- ---- of one that is retired, less stays
+
+pub state-retired : {S T : Type 0} (base : Base S T) (latest i : ℕ) (cs ds : List Presence) → ds ≡ retired_at cs i → state_of base latest ds ≡ state_of base latest cs
+state-retired base latest i cs ds e =
+    let listed = ap (open_from 1) e ∙ open-retired 1 cs i in
+    let closings = ap (map closing_of) e ∙ closings-retired cs i in
+    let texts = ap (map reply_text_of) e ∙ texts-retired cs i in
+    ap (λ ks. record (state_of base latest ds) { connections = ks }) listed
+    ∙ ap (λ whys. record (state_of base latest ds) { connections = open_from 1 cs; closings = whys }) closings
+    ∙ ap (λ outs. record (state_of base latest cs) { outputs = outs }) texts
+
+-- A namespace in order, before and behind an event, and how an event is refused.
 
 still-kept : (entry : Record) (t : Option Taped) → is_some (option_map (with_record entry) t) ≡ is_some t
 still-kept entry None = refl
@@ -115,13 +221,9 @@ can-turn view tape base latest now i cs order later low lt = record {
 
 -- ---- nothing has changed
 
-pub state-same : {S T : Type 0} (base new_base : Base S T) (latest i : ℕ) (cs ds : List Presence) → BaseStays base new_base → (p : ReplacedAt cs ds i) → LooksAsBefore p.was p.is → state_of new_base latest ds ≡ state_of base latest cs
-state-same {S} {T} base new_base latest i cs ds b p same =
-    let shows : (k : ℕ) → shown k p.is ≡ shown k p.was =
-    λ k. ap (λ st. standing_as k st p.is.waited p.is.unread.bytes) same.standing ∙ ap (λ n. standing_as k p.was.standing n p.is.unread.bytes) same.waited ∙ ap (standing_as k p.was.standing p.was.waited) same.bytes in
-    let listed : open_from 1 ds ≡ open_from 1 cs = ap (open_from 1) p.set ∙ open-same 1 i p.was p.is cs p.at same.closing shows in
-    let closings : map closing_of ds ≡ map closing_of cs = ap (map closing_of) p.set ∙ map-same closing_of cs i (Here p.was) (Here p.is) p.at same.closing in
-    let texts : map reply_text_of ds ≡ map reply_text_of cs = ap (map reply_text_of) p.set ∙ map-same reply_text_of cs i (Here p.was) (Here p.is) p.at same.text in
+pub state-alike : {S T : Type 0} (base new_base : Base S T) (latest : ℕ) (cs ds : List Presence) → BaseStays base new_base → open_from 1 ds ≡ open_from 1 cs → map closing_of ds ≡ map closing_of cs → map reply_text_of ds ≡ map reply_text_of cs
+    → state_of new_base latest ds ≡ state_of base latest cs
+state-alike {S} {T} base new_base latest cs ds b listed closings texts =
     let l = b.loads_are in
     let made : S → T → List model.Connection → List (Option Closing) → List (List ℕ) → ℕ → List PendingLoad → List (LoadId × List ℕ) → ℕ → State S T = λ store tape ks whys outs sent pending outgoing namespace.
     record { store = store; tape = tape; latest = latest; connections = ks; closings = whys; outputs = outs; sent = sent; pending = pending; outgoing = outgoing; namespace = namespace } in
@@ -134,6 +236,13 @@ state-same {S} {T} base new_base latest i cs ds b p same =
     ∙ ap (λ x. made base.store base.tape (open_from 1 cs) (map closing_of cs) (map reply_text_of cs) (sent_of base.loads) x (outgoing_loads new_base.loads) (namespace_of_loads new_base.loads)) l.pending
     ∙ ap (λ x. made base.store base.tape (open_from 1 cs) (map closing_of cs) (map reply_text_of cs) (sent_of base.loads) (loads_pending base.loads) x (namespace_of_loads new_base.loads)) l.outgoing
     ∙ ap (λ x. made base.store base.tape (open_from 1 cs) (map closing_of cs) (map reply_text_of cs) (sent_of base.loads) (loads_pending base.loads) (outgoing_loads base.loads) x) l.namespace
+
+pub state-same : {S T : Type 0} (base new_base : Base S T) (latest i : ℕ) (cs ds : List Presence) → BaseStays base new_base → (p : ReplacedAt cs ds i) → LooksAsBefore p.was p.is → state_of new_base latest ds ≡ state_of base latest cs
+state-same base new_base latest i cs ds b p same =
+    let shows : (k : ℕ) → shown k p.is ≡ shown k p.was =
+    λ k. ap (λ st. standing_as k st p.is.waited p.is.unread.bytes) same.standing ∙ ap (λ n. standing_as k p.was.standing n p.is.unread.bytes) same.waited ∙ ap (standing_as k p.was.standing p.was.waited) same.bytes in
+    state-alike base new_base latest cs ds b (ap (open_from 1) p.set ∙ open-same 1 i p.was p.is cs p.at same.closing shows) (ap (map closing_of) p.set ∙ map-same closing_of cs i (Here p.was) (Here p.is) p.at same.closing)
+    (ap (map reply_text_of) p.set ∙ map-same reply_text_of cs i (Here p.was) (Here p.is) p.at same.text)
 
 -- ---- refusals
 

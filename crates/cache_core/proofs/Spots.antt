@@ -74,6 +74,10 @@ out-at cs mid i c at rest = ap (λ ps. slice_get ps i) rest ∙ at-replaced cs i
 pub put-back : (cs mid new : List Presence) (i : ℕ) (is : Connection) → mid ≡ slice_set cs i Out → new ≡ slice_set mid i (Here is) → new ≡ slice_set cs i (Here is)
 put-back cs mid new i is rest put = put ∙ ap (λ ps. slice_set ps i (Here is)) rest ∙ put-twice cs i is
 
+-- one was taken out, and another put in its place
+abbrev pub replaced : {cs mid new : List Presence} {i : ℕ} {was : Connection} (is : Connection) → slice_get cs i ≡ Some (Here was) → mid ≡ slice_set cs i Out → new ≡ slice_set mid i (Here is) → ReplacedAt cs new i
+replaced {cs} {mid} {new} {i} {was} is at rest put = record { was = was; is = is; at = at; set = put-back cs mid new i is rest put }
+
 -- what was looked at, and was there or was not
 pub was-none : {X : Type 0} (o : Option X) (Q : Type 0) (P : X → Type 0) → is_some o ≡ false → MatchOption o Q P → Q
 was-none None Q P e m = m

@@ -1,53 +1,248 @@
--- Parts of a record in which one connection has its steps.
-use Rattle.std.proofs.Common.{refl, sym, ap, ◌∙◌, subst, inl, inr, ◌≡◌, ℕ, suc, Bool, true, false, ◌&&◌, ◌==◌, List, [], ◌∷◌, ◌++◌, map, Option, Some, None, if◌then◌else◌, is_none, is_some, slice_set}
-use Rattle.std.proofs.lemmas.Bool.{and_from, eq-eqb}
+-- How a connection goes on, by one list of its steps behind another.
+use Rattle.std.proofs.Common.{cond, refl, sym, ap, ◌∙◌, subst, ◌≡◌, ℕ, Bool, true, false, ◌==◌, List, [], ◌∷◌, ◌++◌, append_assoc, ◌≢◌, suc, map, Option, Some, None, if◌then◌else◌, is_some, slice_set, inl, inr, ◌&&◌, is_none}
+use Rattle.std.proofs.lemmas.Bool.{eq-eqb, eqb-true, and_from}
 use Rattle.std.proofs.lemmas.List.{append-nil, set-get_or}
-use Rattle.std.proofs.lemmas.Option.{get_or_from_slice_get}
+use Rattle.std.proofs.lemmas.Option.{slice_get_within, get_or_from_slice_get}
 use Rattle.std.specs.List.{flat_map, list_all, slice_get}
 use Rattle.std.specs.Option.{option_map, option_map_or}
 use Rattle.audit_model.specs.Bytewise.{is_empty}
 use Rattle.audit_model.specs.Places.{tasks_to_feed}
 use Rattle.audit_model.specs.Situation.{HeldValue, Situation, is_ready, may_run_in, without_connection}
-use Rattle.audit_model.specs.Steps.{RunLines, Task}
+use Rattle.audit_model.specs.Steps.{Task, RunLines}
 use Rattle.audit_model.specs.Stream.{first_line}
 use Rattle.audit_model.specs.declared.command.Closing.{Closing}
 use Rattle.audit_model.specs.declared.config.Config.{Config}
+use Rattle.audit_model.specs.declared.transcript.Note.{Note}
 use Rattle.audit_model.specs.declared.transcript.Step.{Step}
+use Rattle.cache_store.specs.Values.{Values}
 use Rattle.cache_commands.specs.Loads.Standings.{holds_line, waits_for_load}
 use Rattle.cache_commands.specs.declared.loads.loads.Loads.{Loads}
 use Rattle.cache_commands.specs.declared.loads.standing.Standing.{Standing}
-use Rattle.cache_core.specs.Connection.Again.{EndsCalm, StepRan}
-use Rattle.cache_core.specs.Connection.Fed.{FedRan, closing_by}
-use Rattle.cache_core.specs.Connection.Fits.{ClosesFor, RunsOn}
-use Rattle.cache_core.specs.Connection.Parts.{standing_as}
-use Rattle.cache_core.specs.Connection.Shown.{put_in, shown, with_piece}
-use Rattle.cache_core.specs.Connections.Presence.{Gone, Here, Out, Presence, closing_at, is_here, reply_text_of, text_at}
-use Rattle.cache_core.specs.Fed.{ReplacedAt, seen_at}
-use Rattle.cache_core.specs.Settling.{runs_at, runs_with}
-use Rattle.cache_core.specs.State.{at_number}
-use Rattle.cache_core.specs.Turned.{own_steps, replies_to}
-use Rattle.cache_lines.proofs.leads.Leading.{lines, no-lines, nothing}
+use Rattle.cache_lines.proofs.leads.Leading.{on, lines, no-lines, nothing}
 use Rattle.cache_lines.specs.Drawing.{identifiers_in}
-use Rattle.cache_lines.specs.Ended.{RanTasks, ends_silent}
-use Rattle.cache_lines.specs.Gathered.{adds, reply_in, stage, written}
-use Rattle.cache_lines.specs.Leads.Leads.{BeginsUnknown, TasksLead}
+use Rattle.cache_lines.specs.Ended.{ends_silent, RanTasks}
+use Rattle.cache_lines.specs.Gathered.{Gathered, adds, gather, gathered, reply_in, stage, written}
+use Rattle.cache_lines.specs.Leads.Leads.{TasksLead, BeginsUnknown}
 use Rattle.cache_lines.specs.Lines.{ends_quit, set_in, with_drops}
 use Rattle.cache_lines.specs.Making.{Making, making_of}
 use Rattle.cache_lines.specs.Tape.Taped.{Taped}
-use Rattle.cache_lines.specs.Waiting.{UnderWay, under_way, when_left, with_under_way}
+use Rattle.cache_lines.specs.Waiting.{under_way, UnderWay, when_left, with_under_way}
 use Rattle.cache_lines.specs.declared.base.Base.{Base}
-use Rattle.cache_store.specs.Values.{Values}
-use Rattle.audit_model.specs.Situation as model
-use Rattle.cache_core.specs.declared.connection.connection.Connection.{Connection}
-use Rattle.cache_commands.specs.declared.loads.standing.Standing.TheVariants as now_is
-use Rattle.cache_core.specs.Settled.{Running, Moves, Piece, course_at, course_of, closing_of_steps, middle_of}
-use Rattle.cache_core.proofs.Courses.{moves-none}
-use Rattle.cache_core.proofs.Joined.{gathered-apart, moves-by}
 use Rattle.cache_core.proofs.Opened.{none-more}
-use Rattle.cache_core.proofs.Own.{all-own, feed-own}
-use Rattle.cache_core.proofs.Spots.{closing-is, replaced-is, text-is}
+use Rattle.cache_core.proofs.Sending.{own-all, own-none, all-own, feed-own}
+use Rattle.cache_core.proofs.Spots.{seen-at, seen-other, seen-was, closing-is, replaced-is, text-is}
 use Rattle.cache_core.proofs.Table.{listed_as, listed_of}
 use Rattle.cache_core.proofs.Turning.{found-is, found-open, outputs-by, put-situation, sit}
+use Rattle.cache_core.specs.Connection.Fed.{EndsCalm, StepRan, closing_by, FedRan}
+use Rattle.cache_core.specs.Connection.Fits.{ClosesFor, RunsOn}
+use Rattle.cache_core.specs.Connection.Parts.{standing_as}
+use Rattle.cache_core.specs.Connection.Shown.{put_in, shown, with_piece}
+use Rattle.cache_core.specs.Connections.Presence.{Here, Presence, reply_text_of, Gone, Out, closing_at, is_here, text_at}
+use Rattle.cache_core.specs.Fed.{ReplacedAt, seen_at}
+use Rattle.cache_core.specs.Settled.{Running, Absent, Closed, Course, Moves, Resting, closing_of_steps, Piece, course_at, course_in, course_of, middle_of}
+use Rattle.cache_core.specs.Settling.{runs_at, runs_with}
+use Rattle.cache_core.specs.State.{at_number}
+use Rattle.cache_core.specs.Turned.{own_steps, replies_to}
+use Rattle.cache_core.specs.declared.connection.connection.Connection.{Connection}
+use Rattle.audit_model.specs.Situation as model
+use Rattle.cache_commands.specs.declared.loads.standing.Standing.TheVariants as now_is
+
+-- the last of steps is the last of those behind
+quit-behind : (config : Config) (xs ys : List Step) → is_empty ys ≡ false → ends_quit config (xs ++ ys) ≡ ends_quit config ys
+quit-behind config [] ys e = refl
+quit-behind config (x ∷ []) [] e = let no : true ≡ false = e in cc
+quit-behind config (x ∷ []) (y ∷ ys) e = refl
+quit-behind config (x ∷ z ∷ xs) ys e = quit-behind config (z ∷ xs) ys e
+
+silent-behind : (xs ys : List Step) → is_empty ys ≡ false → ends_silent (xs ++ ys) ≡ ends_silent ys
+silent-behind [] ys e = refl
+silent-behind (x ∷ []) [] e = let no : true ≡ false = e in cc
+silent-behind (x ∷ []) (y ∷ ys) e = refl
+silent-behind (x ∷ z ∷ xs) ys e = silent-behind (z ∷ xs) ys e
+
+-- behind some that ended calmly
+quit-calm : (config : Config) (xs ys : List Step) → EndsCalm config xs → ends_quit config (xs ++ ys) ≡ ends_quit config ys
+quit-calm config xs [] calm = ap (ends_quit config) (append-nil xs) ∙ calm.quits
+quit-calm config xs (y ∷ ys) calm = quit-behind config xs (y ∷ ys) refl
+
+silent-calm : (config : Config) (xs ys : List Step) → EndsCalm config xs → ends_silent (xs ++ ys) ≡ ends_silent ys
+silent-calm config xs [] calm = ap ends_silent (append-nil xs) ∙ calm.silent
+silent-calm config xs (y ∷ ys) calm = silent-behind xs (y ∷ ys) refl
+
+empty-behind : (xs ys : List Step) → is_empty ys ≡ false → is_empty (xs ++ ys) ≡ false
+empty-behind [] ys e = e
+empty-behind (x ∷ xs) ys e = refl
+
+empty-before : (xs ys : List Step) → is_empty xs ≡ false → is_empty (xs ++ ys) ≡ false
+empty-before [] ys e = let no : true ≡ false = e in cc
+empty-before (x ∷ xs) ys e = refl
+
+calm-both : (config : Config) (xs ys : List Step) → EndsCalm config xs → EndsCalm config ys → EndsCalm config (xs ++ ys)
+calm-both config xs ys a b = record { quits = quit-calm config xs ys a ∙ b.quits; silent = silent-calm config xs ys a ∙ b.silent }
+
+calm-behind : (config : Config) (xs ys : List Step) → is_empty ys ≡ false → EndsCalm config ys → EndsCalm config (xs ++ ys)
+calm-behind config xs ys e b = record { quits = quit-behind config xs ys e ∙ b.quits; silent = silent-behind xs ys e ∙ b.silent }
+
+why-calm : (config : Config) (xs ys : List Step) (why : Closing) → EndsCalm config xs → why ≡ closing_of_steps config ys → why ≡ closing_of_steps config (xs ++ ys)
+why-calm config xs ys why a e = e ∙ sym (ap (λ b. closing_by false b (ends_silent (xs ++ ys))) (quit-calm config xs ys a) ∙ ap (closing_by false (ends_quit config ys)) (silent-calm config xs ys a))
+
+why-behind : (config : Config) (xs ys : List Step) (why : Closing) → is_empty ys ≡ false → why ≡ closing_of_steps config ys → why ≡ closing_of_steps config (xs ++ ys)
+why-behind config xs ys why some e = e ∙ sym (ap (λ b. closing_by false b (ends_silent (xs ++ ys))) (quit-behind config xs ys some) ∙ ap (closing_by false (ends_quit config ys)) (silent-behind xs ys some))
+
+why-none : (config : Config) (xs ys : List Step) (why : Closing) → why ≡ closing_of_steps config xs → ys ≡ [] → why ≡ closing_of_steps config (xs ++ ys)
+why-none config xs ys why e none = e ∙ sym (ap (closing_of_steps config) (ap (λ zs. xs ++ zs) none ∙ append-nil xs))
+
+pub moves-on : (config : Config) (xs ys : List Step) (k l m : Course) → Moves config xs k l → Moves config ys l m → Moves config (xs ++ ys) k m
+moves-on config xs ys Absent l m a b = subst (λ c. Moves config ys c m → m ≡ Absent) (sym a) (λ h. h) b
+moves-on config xs ys (Closed why) l m a b =
+    let c = subst (λ k. Moves config ys k m) a.0 b in (c.0, ap (λ zs. zs ++ ys) a.1 ∙ c.1)
+moves-on config xs ys Running Absent m a b = absurd a
+moves-on config xs ys Running (Closed why) Absent a b = let no : Absent ≡ Closed why = b.0 in cc
+moves-on config xs ys Running (Closed why) (Closed w) a b = why-none config xs ys w (closed-is b.0 ∙ a) b.1
+  where
+    closed-is : Closed w ≡ Closed why → w ≡ why
+    closed-is e = ap (λ c. closing_in c) e
+      where
+        closing_in : Course → Closing
+        closing_in (Closed x) = x
+        closing_in other = why
+moves-on config xs ys Running (Closed why) Running a b = let no : Running ≡ Closed why = b.0 in cc
+moves-on config xs ys Running (Closed why) Resting a b = let no : Resting ≡ Closed why = b.0 in cc
+moves-on config xs ys Running Running Absent a b = b
+moves-on config xs ys Running Running (Closed w) a b = why-calm config xs ys w a b
+moves-on config xs ys Running Running Running a b = calm-both config xs ys a b
+moves-on config xs ys Running Running Resting a b = tt
+moves-on config xs ys Running Resting Absent a b = b
+moves-on config xs ys Running Resting (Closed w) a b = why-behind config xs ys w b.1 b.0
+moves-on config xs ys Running Resting Running a b = calm-behind config xs ys b.1 b.0
+moves-on config xs ys Running Resting Resting a b = tt
+moves-on config xs ys Resting Absent m a b = absurd a
+moves-on config xs ys Resting (Closed why) Absent a b = let no : Absent ≡ Closed why = b.0 in cc
+moves-on config xs ys Resting (Closed why) (Closed w) a b = (why-none config xs ys w (closed-is b.0 ∙ a.0) b.1, empty-before xs ys a.1)
+  where
+    closed-is : Closed w ≡ Closed why → w ≡ why
+    closed-is e = ap (λ c. closing_in c) e
+      where
+        closing_in : Course → Closing
+        closing_in (Closed x) = x
+        closing_in other = why
+moves-on config xs ys Resting (Closed why) Running a b = let no : Running ≡ Closed why = b.0 in cc
+moves-on config xs ys Resting (Closed why) Resting a b = let no : Resting ≡ Closed why = b.0 in cc
+moves-on config xs ys Resting Running Absent a b = b
+moves-on config xs ys Resting Running (Closed w) a b = (why-calm config xs ys w a.0 b, empty-before xs ys a.1)
+moves-on config xs ys Resting Running Running a b = (calm-both config xs ys a.0 b, empty-before xs ys a.1)
+moves-on config xs ys Resting Running Resting a b = tt
+moves-on config xs ys Resting Resting Absent a b = b
+moves-on config xs ys Resting Resting (Closed w) a b = (why-behind config xs ys w b.1 b.0, empty-behind xs ys b.1)
+moves-on config xs ys Resting Resting Running a b = (calm-behind config xs ys b.1 b.0, empty-behind xs ys b.1)
+moves-on config xs ys Resting Resting Resting a b = tt
+
+-- one that had no step
+pub moves-none : (config : Config) (k : Course) → Moves config [] k k
+moves-none config Absent = refl
+moves-none config (Closed why) = (refl, refl)
+moves-none config Running = record { quits = refl; silent = refl }
+moves-none config Resting = tt
+
+-- a connection's own steps of both
+pub own-both : (n : ℕ) (xs ys : List Step) → own_steps n (xs ++ ys) ≡ own_steps n xs ++ own_steps n ys
+own-both n [] ys = refl
+own-both n (x ∷ xs) ys = go (x.conn == n) (own-both n xs ys)
+  where
+    go : (b : Bool) → own_steps n (xs ++ ys) ≡ own_steps n xs ++ own_steps n ys → cond b (x ∷ own_steps n (xs ++ ys)) (own_steps n (xs ++ ys)) ≡ cond b (x ∷ own_steps n xs) (own_steps n xs) ++ own_steps n ys
+    go true e = ap (λ zs. x ∷ zs) e
+    go false e = e
+
+-- One part of a record behind another.
+
+pub flat-both : {A B : Type 0} (f : A → List B) (xs ys : List A) → flat_map f (xs ++ ys) ≡ flat_map f xs ++ flat_map f ys
+flat-both f [] ys = refl
+flat-both f (x ∷ xs) ys = ap (λ zs. f x ++ zs) (flat-both f xs ys) ∙ sym (append_assoc (f x) (flat_map f xs) (flat_map f ys))
+
+-- what was added twice
+added-both : {B : Type 0} (b : Bool) (text mid last xs ys zs : List B) → mid ≡ text ++ (if b then [] else xs) → last ≡ mid ++ (if b then [] else ys) → zs ≡ xs ++ ys → last ≡ text ++ (if b then [] else zs)
+added-both true text mid last xs ys zs a c e = c ∙ append-nil mid ∙ a
+added-both false text mid last xs ys zs a c e = c ∙ ap (λ t. t ++ ys) a ∙ append_assoc text xs ys ∙ ap (λ t. text ++ t) (sym e)
+
+adds-both : (xs ys : List Step) (t : Option Taped) → option_map (adds ys) (option_map (adds xs) t) ≡ option_map (adds (xs ++ ys)) t
+adds-both xs ys None = refl
+adds-both xs ys (Some t) = ap (λ ss. Some (record { journal = t.journal; begun = t.begun; steps = ss; spare = t.spare; drafted = t.drafted })) (append_assoc t.steps xs ys)
+
+some-map : {A B : Type 0} (f : A → B) (t : Option A) → is_some (option_map f t) ≡ is_some t
+some-map f None = refl
+some-map f (Some t) = refl
+
+module _ {S T : Type 0} (view : S → Values) (tape : T → Option Taped) (making : Making) (now : ℕ) (was mid is : Base S T) (old between new : List Presence) (tasks more : List Task) (held : List HeldValue) where
+  pub still-kept : Piece view tape making now was mid old between tasks held → is_some (tape mid.tape) ≡ is_some (tape was.tape)
+  still-kept p = sym (some-map written (tape mid.tape)) ∙ ap is_some p.kept ∙ some-map (adds p.steps) (option_map written (tape was.tape)) ∙ some-map written (tape was.tape)
+
+  pub piece-on : (p : Piece view tape making now was mid old between tasks held) → Piece view tape making now mid is between new more p.left → Piece view tape making now was is old new (tasks ++ more) held
+  piece-on p q =
+      let some = still-kept p in
+      let steps = p.steps ++ q.steps in
+      let b = is_some (tape was.tape) in
+      record {
+        steps = steps;
+        left = q.left;
+        stands = q.stands;
+        leads = λ rest.
+            let s = middle_of (view was.store) now (under_way was.loads) old held in
+            let t = middle_of (view mid.store) now (under_way mid.loads) between p.left in
+            let u = middle_of (view is.store) now (under_way is.loads) new q.left in
+            subst (λ ts. TasksLead making.config making s ts steps u rest (identifiers_in (view was.store)) (identifiers_in (view is.store))) (sym (append_assoc tasks more rest))
+            (on making.config making s t u (tasks ++ (more ++ rest)) (more ++ rest) rest p.steps q.steps (identifiers_in (view was.store)) (identifiers_in (view mid.store)) (identifiers_in (view is.store)) (p.leads (more ++ rest)) (q.leads rest));
+        outputs = λ n.
+            added-both b _ _ _ (replies_to n p.steps) (replies_to n q.steps) (replies_to n steps) (p.outputs n)
+            (subst (λ k. at_number [] (map reply_text_of new) n ≡ at_number [] (map reply_text_of between) n ++ (if k then [] else replies_to n q.steps)) some (q.outputs n))
+            (ap (flat_map reply_in) (own-both n p.steps q.steps) ∙ flat-both reply_in (own_steps n p.steps) (own_steps n q.steps));
+        kept = q.kept ∙ ap (option_map (adds q.steps)) p.kept ∙ adds-both p.steps q.steps (option_map written (tape was.tape));
+        notes =
+            added-both b _ _ _ (flat_map (λ (step : Step). step.notices) p.steps) (flat_map (λ (step : Step). step.notices) q.steps) (flat_map (λ (step : Step). step.notices) steps) p.notes
+            (subst (λ k. (view is.store).untaken ≡ (view mid.store).untaken ++ (if k then [] else flat_map (λ (step : Step). step.notices) q.steps)) some q.notes) (flat-both (λ (step : Step). step.notices) p.steps q.steps);
+        moves = λ n. subst (λ ss. Moves making.config ss (course_at old n) (course_at new n)) (sym (own-both n p.steps q.steps)) (moves-on making.config (own_steps n p.steps) (own_steps n q.steps) (course_at old n) (course_at between n) (course_at new n) (p.moves n) (q.moves n));
+      }
+
+  -- its steps are those of both
+  pub piece-on-steps : (p : Piece view tape making now was mid old between tasks held) (q : Piece view tape making now mid is between new more p.left) → (piece-on p q).steps ≡ p.steps ++ q.steps
+  unfolding piece-on
+  piece-on-steps p q = refl
+
+-- ---- a part in which one connection had steps
+
+-- what was gathered, apart
+pub record GatheredApart (steps : List Step) (t new_t : Option Taped) (text new_text : List ℕ) (untaken new_untaken : List Note) : Type 0 where
+  pub text_is : new_text ≡ text ++ (if is_some t then [] else flat_map reply_in steps)
+  pub kept : option_map written new_t ≡ option_map (adds steps) (option_map written t)
+  pub untaken_is : new_untaken ≡ untaken ++ (if is_some t then [] else flat_map (λ step. step.notices) steps)
+
+pub gathered-apart : (v w : Values) (steps : List Step) (t new_t : Option Taped) (text new_text : List ℕ) → gathered (stage w new_text new_t) ≡ gather (gathered (stage v text t)) steps
+    → GatheredApart steps t new_t text new_text v.untaken w.untaken
+gathered-apart v w steps None new_t text new_text e = record { text_is = ap (λ (g : Gathered). g.text) e; kept = ap (λ (g : Gathered). g.kept) e; untaken_is = ap (λ (g : Gathered). g.waiting) e }
+gathered-apart v w steps (Some t) new_t text new_text e = record {
+  text_is = ap (λ (g : Gathered). g.text) e ∙ sym (append-nil text);
+  kept = ap (λ (g : Gathered). g.kept) e;
+  untaken_is = ap (λ (g : Gathered). g.waiting) e ∙ sym (append-nil v.untaken);
+}
+
+-- how the connections went on
+pub moves-by : (config : Config) (cs : List Presence) (i : ℕ) (old new : Connection) (steps : List Step) → slice_get cs i ≡ Some (Here old) → list_all (λ step. step.conn == suc i) steps ≡ true
+    → Moves config steps (course_of old.closing old.standing) (course_of new.closing new.standing)
+    → (n : ℕ) → Moves config (own_steps n steps) (course_at cs n) (course_at (slice_set cs i (Here new)) n)
+moves-by config cs i old new steps at own moves n = go (n == suc i) refl
+  where
+    go : (b : Bool) → (n == suc i) ≡ b → Moves config (own_steps n steps) (at_number Absent (map course_in cs) n) (at_number Absent (map course_in (slice_set cs i (Here new))) n)
+    go true e =
+        let is : n ≡ suc i = eqb-true n (suc i) e in
+        subst (λ k. Moves config (own_steps k steps) (at_number Absent (map course_in cs) k) (at_number Absent (map course_in (slice_set cs i (Here new))) k)) (sym is)
+        (subst (λ k. Moves config (own_steps (suc i) steps) k (at_number Absent (map course_in (slice_set cs i (Here new))) (suc i))) (sym (seen-was course_in Absent cs i (Here old) at))
+        (subst (λ k. Moves config (own_steps (suc i) steps) (course_of old.closing old.standing) k) (sym (seen-at course_in Absent cs i (Here new) (slice_get_within cs i (Here old) at)))
+        (subst (λ ss. Moves config ss (course_of old.closing old.standing) (course_of new.closing new.standing)) (sym (own-all (suc i) steps own)) moves)))
+    go false e =
+        let ne : n ≢ suc i = λ h. let no : false ≡ true = sym e ∙ eq-eqb n (suc i) h in cc in
+        subst (λ ss. Moves config ss (at_number Absent (map course_in cs) n) (at_number Absent (map course_in (slice_set cs i (Here new))) n)) (sym (own-none (suc i) n steps own ne))
+        (subst (λ k. Moves config [] (at_number Absent (map course_in cs) n) k) (sym (seen-other course_in Absent cs i n (Here new) ne)) (moves-none config (at_number Absent (map course_in cs) n)))
+
+-- Parts of a record in which one connection has its steps.
 
 -- ---- no step
 

@@ -26,7 +26,7 @@ use Rattle.cache_lines.specs.Whole.{is_long_line}
 use Rattle.audit_model.specs.Situation as model
 use Rattle.cache_commands.specs.declared.loads.standing.Standing.TheVariants as now
 use Rattle.cache_core.specs.declared.connection.connection.Connection.{Connection}
-use Rattle.cache_core.proofs.Own.{own-all, own-none}
+use Rattle.cache_core.proofs.Sending.{own-all, own-none}
 use Rattle.cache_core.proofs.connection.Putting.{not-above}
 use Rattle.cache_core.proofs.connections.Getting.{at-replaced}
 use Rattle.cache_core.proofs.Spots.{seen-at, seen-other, seen-was}

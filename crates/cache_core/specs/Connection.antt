@@ -1,4 +1,3 @@
-pub mod Again
 pub mod Fed
 pub mod Fits
 pub mod Parts

@@ -13,7 +13,7 @@ use Rattle.cache_store.specs.Values.{IsMoment, Values}
 use Rattle.audit_model.specs.declared.event.Event.TheVariants as event
 use Rattle.audit_model.specs.declared.input.ServiceError.TheVariants as error
 use Rattle.cache_core.specs.declared.connection.connection.Connection.{Connection}
-use Rattle.cache_core.specs.Connection.Fed.{FedRan, seen_of}
+use Rattle.cache_core.specs.Connection.Fed.{FedRan}
 use Rattle.cache_core.specs.Connections.Presence.{Here, Presence, text_at}
 
 -- such lines, but where the tape shows that
@@ -29,14 +29,6 @@ pub record FedTurn (now number moment : ℕ) (old : Connection) (piece : List �
   pub ended : is.stage.tape ≡ option_map (finishes (event.Feed number piece (record {
     nanos = moment;
   })) None []) middle
-
--- the same over a base as it was and as it is
-abbrev pub FedTurnOver : {S T : Type 0} → (S → Values) → (T → Option Taped)
-    → (now number moment : ℕ) → (base left : Base S T) → (old : Connection) → (piece : List ℕ)
-    → (new : Connection) → (is_held : Bool) → Type 0
-FedTurnOver view tape now number moment base left old piece new is_held =
-    FedTurn now number moment old piece new is_held (seen_of view tape base old)
-    (seen_of view tape left new)
 
 -- the store, the tape and the loads are the same
 pub record BaseStays {S T : Type 0} (old new : Base S T) : Type 0 where

@@ -22,8 +22,7 @@ use Rattle.cache_lines.specs.declared.base.Base.{Base}
 use Rattle.cache_store.specs.Values.{IsMoment, Values}
 use Rattle.audit_model.specs.declared.command.Closing.TheVariants as by
 use Rattle.cache_commands.specs.declared.loads.standing.Standing.TheVariants as now_is
-use Rattle.cache_core.specs.Connection.Again.{EndsCalm}
-use Rattle.cache_core.specs.Connection.Fed.{closing_by}
+use Rattle.cache_core.specs.Connection.Fed.{EndsCalm, closing_by}
 use Rattle.cache_core.specs.State.{at_number}
 use Rattle.cache_core.specs.Turned.{own_steps, replies_to}
 use Rattle.cache_core.specs.Connections.Presence.{Gone, Here, Out, Presence, closing_of, open_from, reply_text_of}

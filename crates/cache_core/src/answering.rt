@@ -11,13 +11,11 @@ ghost use Rattle.cache_lines.specs.Waiting.{under_way};
 ghost use Rattle.cache_commands.specs.Loads.Pending.{SameTaken, load_numbered, loads_pending};
 ghost use Rattle.cache_store.specs.Values.{IsMoment};
 
-use crate::connections::Connections;
-use crate::recording::begin_kept;
+use crate::interior::Interior;
 use crate::reserving::reserve_all;
-use crate::settling::{resume_all, tell_all};
 use audit_model::{Accepted, Note, Outcome};
 use cache_commands::Keyed;
-use cache_lines::{Base, Tape, drain, most_notes};
+use cache_lines::{Tape, drain, most_notes};
 use cache_store::Store;
 use std::alloc::{AllocError, Global};
 
@@ -86,75 +84,72 @@ fn store_noted<S: Store>(
     Ok(accepted)
 }
 
-/// Makes room for all that an answer cannot do without, stores its value under the load's key, and begins its record.
-pub fn begin_answer<S: Store, T: Tape>(
-    alloc: Global,
-    base: &mut Base<S, T>,
-    now: u64,
-    connections: &mut Connections,
-    load: u64,
-    outcome: &Outcome,
-) -> Result<Stored, AllocError>
-    requires can_settle { CanSettle S.view T.view now base.old }
-    requires fit { refusal_of_outcome (S.view base.old.store).frame.config outcome.now ≡ None }
-    requires under { is_some (load_numbered load (loads_pending base.old.loads)) ≡ true }
-    ensures begins { IfOk result
-        (λ stored. BeginsAnswer S.view T.view now load outcome.now stored.accepted
-        stored.notes.items (lines_for load (under_way base.old.loads)) base.old base.new) }
-    ensures same { AllLookAsBefore connections.old connections.new }
-    ensures room { OnOk result (HaveReplyRoom connections.new (length (outcome_text outcome.now))
-        (waiting_on load (under_way base.old.loads))) }
-    ensures unchanged { OnErr result (BaseStays base.old base.new) }
-{
-    let Some(found) = base.loads.get(load) else {
-        unreachable!();
-    };
-    let waiting = found.waiting.as_slice();
-    reserve_all(connections, waiting, reply_len(outcome))?;
-    let keeps = base.tape.keeps();
-    let mut notes = notes_where(alloc, &base.store, keeps)?;
-    let count = waiting.len();
-    begin_kept(&mut base.tape, count + count)?;
-    match store_noted(
-        &mut base.store,
-        keeps,
-        found.key.as_slice(),
-        outcome,
-        now,
-        &mut notes,
-    ) {
-        Ok(accepted) => Ok(Stored { accepted, notes }),
-        Err(error) => {
-            base.tape.abandon();
-            Err(error)
+impl<S: Store, T: Tape> Interior<S, T> {
+    /// Makes room for all that an answer cannot do without, stores its value under the load's key, and begins its record.
+    pub fn begin_answer(
+        &mut self,
+        alloc: Global,
+        now: u64,
+        load: u64,
+        outcome: &Outcome,
+    ) -> Result<Stored, AllocError>
+        requires can_settle { CanSettle S.view T.view now self.old.base }
+        requires fit { refusal_of_outcome (S.view self.old.base.store).frame.config outcome.now
+            ≡ None }
+        requires under { is_some (load_numbered load (loads_pending self.old.base.loads)) ≡ true }
+        ensures begins { IfOk result (λ stored. BeginsAnswer S.view T.view now load outcome.now
+            stored.accepted stored.notes.items (lines_for load (under_way self.old.base.loads))
+            self.old.base self.new.base) }
+        ensures same { AllLookAsBefore self.old.connections self.new.connections }
+        ensures room { OnOk result (HaveReplyRoom self.new.connections
+            (length (outcome_text outcome.now)) (waiting_on load (under_way self.old.base.loads))) }
+        ensures unchanged { OnErr result (BaseStays self.old.base self.new.base) }
+    {
+        let Some(found) = self.base.loads.get(load) else {
+            unreachable!();
+        };
+        let waiting = found.waiting.as_slice();
+        reserve_all(&mut self.connections, waiting, reply_len(outcome))?;
+        let keeps = self.base.tape.keeps();
+        let mut notes = notes_where(alloc, &self.base.store, keeps)?;
+        let count = waiting.len();
+        self.base.tape.start(count + count)?;
+        match store_noted(
+            &mut self.base.store,
+            keeps,
+            found.key.as_slice(),
+            outcome,
+            now,
+            &mut notes,
+        ) {
+            Ok(accepted) => Ok(Stored { accepted, notes }),
+            Err(error) => {
+                self.base.tape.abandon();
+                Err(error)
+            }
         }
     }
-}
 
-/// Removes the load whose answer was stored: its outcome is delivered to those that wait for it, in order, and then their lines run in the
-/// same order.
-pub fn hand_out<S: Store, T: Tape>(
-    base: &mut Base<S, T>,
-    now: u64,
-    connections: &mut Connections,
-    load: u64,
-    outcome: &Outcome,
-)
-    requires amid { IsAmid S.view T.view now base.old connections.old
-        (lines_for load (under_way base.old.loads)) }
-    requires under { is_some (load_numbered load (loads_pending base.old.loads)) ≡ true }
-    requires waits { AreWaiting (S.view base.old.store).frame.config connections.old
-        (waiting_on load (under_way base.old.loads)) }
-    requires room { HaveReplyRoom connections.old (length (outcome_text outcome.now))
-        (waiting_on load (under_way base.old.loads)) }
-    ensures out { HandsOut S.view T.view now load base.old base.new connections.old connections.new
-        (λ numbers. map (λ conn. Deliver conn outcome.now) numbers ++ map RunLines numbers) }
-    ensures goes { SameTaken base.old.loads base.new.loads }
-{
-    let Some(settled) = base.loads.settle(load) else {
-        unreachable!();
-    };
-    let waiting = settled.waiting.as_slice();
-    tell_all(base, now, connections, waiting, outcome);
-    resume_all(base, now, connections, waiting);
+    /// Removes the load whose answer was stored: its outcome is delivered to those that wait for it, in order, and then their lines run in the
+    /// same order.
+    pub fn hand_out(&mut self, now: u64, load: u64, outcome: &Outcome)
+        requires amid { IsAmid S.view T.view now self.old.base self.old.connections (lines_for load
+            (under_way self.old.base.loads)) }
+        requires under { is_some (load_numbered load (loads_pending self.old.base.loads)) ≡ true }
+        requires waits { AreWaiting (S.view self.old.base.store).frame.config self.old.connections
+            (waiting_on load (under_way self.old.base.loads)) }
+        requires room { HaveReplyRoom self.old.connections (length (outcome_text outcome.now))
+            (waiting_on load (under_way self.old.base.loads)) }
+        ensures out { HandsOut S.view T.view now load self.old.base self.new.base
+            self.old.connections self.new.connections (λ numbers. map (λ conn. Deliver conn
+            outcome.now) numbers ++ map RunLines numbers) }
+        ensures goes { SameTaken self.old.base.loads self.new.base.loads }
+    {
+        let Some(settled) = self.base.loads.settle(load) else {
+            unreachable!();
+        };
+        let waiting = settled.waiting.as_slice();
+        self.tell_all(now, waiting, outcome);
+        self.resume_all(now, waiting);
+    }
 }

@@ -9,9 +9,7 @@ ghost use Rattle.cache_lines.specs.Waiting.{under_way};
 ghost use Rattle.cache_commands.specs.Loads.Pending.{SameTaken, load_numbered, loads_pending};
 ghost use Rattle.cache_lines.specs.Tape.Taped.{IsAtRest, started};
 
-use crate::connections::Connections;
-use crate::recording::begin_kept;
-use crate::settling::give_up_all;
+use crate::interior::Interior;
 use cache_lines::{Base, Tape};
 use cache_store::Store;
 use std::alloc::AllocError;
@@ -30,27 +28,24 @@ pub fn begin_give_up<S: Store, T: Tape>(base: &mut Base<S, T>, load: u64) -> Res
         unreachable!();
     };
     let count = found.waiting.len();
-    begin_kept(&mut base.tape, count + count)
+    base.tape.start(count + count)
 }
 
-/// Takes the load out: those that wait for it run their `LOAD`s again.
-pub fn settle_give_up<S: Store, T: Tape>(
-    base: &mut Base<S, T>,
-    now: u64,
-    connections: &mut Connections,
-    load: u64,
-)
-    requires amid { IsAmid S.view T.view now base.old connections.old
-        (lines_for load (under_way base.old.loads)) }
-    requires under { is_some (load_numbered load (loads_pending base.old.loads)) ≡ true }
-    requires waits { AreWaiting (S.view base.old.store).frame.config connections.old
-        (waiting_on load (under_way base.old.loads)) }
-    ensures ran { RunsAgain S.view T.view now load base.old base.new connections.old connections.new
-        tasks_to_give_up }
-    ensures goes { SameTaken base.old.loads base.new.loads }
-{
-    let Some(settled) = base.loads.settle(load) else {
-        unreachable!();
-    };
-    give_up_all(base, now, connections, settled.waiting.as_slice());
+impl<S: Store, T: Tape> Interior<S, T> {
+    /// Takes the load out: those that wait for it run their `LOAD`s again.
+    pub fn settle_give_up(&mut self, now: u64, load: u64)
+        requires amid { IsAmid S.view T.view now self.old.base self.old.connections (lines_for load
+            (under_way self.old.base.loads)) }
+        requires under { is_some (load_numbered load (loads_pending self.old.base.loads)) ≡ true }
+        requires waits { AreWaiting (S.view self.old.base.store).frame.config self.old.connections
+            (waiting_on load (under_way self.old.base.loads)) }
+        ensures ran { RunsAgain S.view T.view now load self.old.base self.new.base
+            self.old.connections self.new.connections tasks_to_give_up }
+        ensures goes { SameTaken self.old.base.loads self.new.base.loads }
+    {
+        let Some(settled) = self.base.loads.settle(load) else {
+            unreachable!();
+        };
+        self.give_up_all(now, settled.waiting.as_slice());
+    }
 }

@@ -5,6 +5,7 @@ mod answering;
 pub mod connection;
 pub mod connections;
 mod giving_up;
+pub mod interior;
 mod namespace;
 mod places;
 mod recording;
@@ -12,6 +13,4 @@ mod refusing;
 mod reserving;
 mod settling;
 
-pub use connection::{Connection, deliver, feed_connection, feed_ready, new_connection, run_again};
-pub use connections::Connections;
 pub use namespace::Namespace;

@@ -11,13 +11,13 @@ ghost use Rattle.cache_store.specs.Handing.{TakesFirstNote};
 ghost use Rattle.cache_store.specs.Values.{GivesNote};
 ghost use Rattle.cache_lines.specs.Tape.Taped.{IsAtRest};
 
-use crate::answering::{Stored, begin_answer, hand_out};
+use crate::answering::Stored;
 use crate::connection::new_connection;
 use crate::connections::Connections;
-use crate::giving_up::{begin_give_up, settle_give_up};
+use crate::giving_up::begin_give_up;
+use crate::interior::Interior;
 use crate::places::{close_at, find_open, find_opened, leave_closed, take_at, waits_at_place};
-use crate::recording::{begin_kept, feed_at};
-use crate::refusing::{refuse_answer, refuse_load};
+use crate::refusing::MAX_MOMENT;
 use audit_model::{Bytes, Closing, Event, Instant, LoadId, Note, Outcome, Seq, ServiceError};
 use cache_commands::{Keyed, Loads};
 use cache_lines::{Base, Tape};
@@ -25,16 +25,12 @@ use cache_store::Store;
 use std::alloc::{AllocError, Global};
 use std::marker::Model;
 
-/// The latest moment that may be handed in.
-const MAX_MOMENT: u64 = (1 << 63) - 1;
-
 /// A namespace: its store, and its connections in the order in which they were opened.
 #[derive(Drop)]
 pub struct Namespace<S: Store, T: Tape> {
     alloc: Global,
-    base: Base<S, T>,
     latest: u64,
-    connections: Connections,
+    interior: Interior<S, T>,
 }
 
 impl<S: Store, T: Tape> Model for Namespace<S, T> {
@@ -43,9 +39,10 @@ impl<S: Store, T: Tape> Model for Namespace<S, T> {
 
     ghost Value = { State S T };
 
-    ghost view = { λ n. state_of n.base n.latest n.connections };
+    ghost view = { λ n. state_of n.interior.base n.latest n.interior.connections };
 
-    ghost invariant = { λ n. IsInOrder S.view T.view (state_of n.base n.latest n.connections) };
+    ghost invariant = { λ n. IsInOrder S.view T.view
+        (state_of n.interior.base n.latest n.interior.connections) };
 }
 
 impl<S: Store, T: Tape> Namespace<S, T> {
@@ -63,16 +60,18 @@ impl<S: Store, T: Tape> Namespace<S, T> {
         requires untaken { (S.view store).untaken ≡ [] }
         ensures { IfOk result (λ made. made ≡ new_state store tape latest namespace) }
     {
-        let store = Keyed::new(alloc, store)?;
+        let base = Base {
+            store: Keyed::new(alloc, store)?,
+            loads: Loads::new(alloc, namespace),
+            tape,
+        };
         Ok(Namespace {
             alloc,
-            base: Base {
-                store,
-                loads: Loads::new(alloc, namespace),
-                tape,
-            },
             latest,
-            connections: Connections::new(alloc),
+            interior: Interior {
+                base,
+                connections: Connections::new(alloc),
+            },
         })
     }
 
@@ -82,20 +81,17 @@ impl<S: Store, T: Tape> Namespace<S, T> {
             × Turns S.view T.view self.old self.new (event.Open number) false) }
         ensures unchanged { OnErr result (self.new ≡ self.old) }
     {
-        self.base.store.sound();
-        begin_kept(&mut self.base.tape, 0)?;
-        match self.connections.push(new_connection(self.alloc)) {
-            Ok(()) => {
-                let number = self.connections.len() as u64;
-                let event = Event::Open { conn: number };
-                self.base.tape.finish(event, None, Seq::new(self.alloc));
-                Ok(number)
-            }
-            Err(error) => {
-                self.base.tape.abandon();
-                Err(error)
-            }
+        self.interior.base.store.sound();
+        self.interior.base.tape.start(0)?;
+        if let Err(error) = self.interior.connections.push(new_connection(self.alloc)) {
+            self.interior.base.tape.abandon();
+            return Err(error);
         }
+        let number = self.interior.connections.len() as u64;
+        let event = Event::Open { conn: number };
+        let tape = &mut self.interior.base.tape;
+        tape.finish(event, None, Seq::new(self.alloc));
+        Ok(number)
     }
 
     /// Takes a piece of a connection's bytes, and returns whether its last command is held back. An `Err` changes nothing.
@@ -107,24 +103,18 @@ impl<S: Store, T: Tape> Namespace<S, T> {
             (is_holding_in (situation_with S.view self.old []) number)) }
         ensures unchanged { OnErr result (self.new ≡ self.old) }
     {
-        self.base.store.sound();
-        let index = find_open(&self.connections, number)?;
+        self.interior.base.store.sound();
+        let index = find_open(&self.interior.connections, number)?;
         if moment.nanos > MAX_MOMENT {
             return Err(ServiceError::Moment);
         }
         let now = moment.nanos.max(self.latest);
-        match feed_at(
-            &mut self.base,
-            now,
-            &mut self.connections,
-            index,
-            piece,
-            moment,
-        ) {
+        match self.interior.feed_at(now, index, piece, moment) {
             Ok(is_held) => {
-                self.base.store.sound();
-                leave_closed(&mut self.base.loads, number, &self.connections, index);
-                self.connections.retire(index);
+                self.interior.base.store.sound();
+                let Interior { base, connections } = &mut self.interior;
+                leave_closed(&mut base.loads, number, connections, index);
+                connections.retire(index);
                 self.latest = now;
                 Ok(is_held)
             }
@@ -142,16 +132,17 @@ impl<S: Store, T: Tape> Namespace<S, T> {
             (known_of S.view self.old) (event.Close number) ≡ Some e) }
         ensures unchanged { OnErr result (self.new ≡ self.old) }
     {
-        self.base.store.sound();
-        let index = find_open(&self.connections, number)?;
-        let Ok(()) = begin_kept(&mut self.base.tape, 0) else {
+        self.interior.base.store.sound();
+        let index = find_open(&self.interior.connections, number)?;
+        let Ok(()) = self.interior.base.tape.start(0) else {
             return Err(ServiceError::OutOfMemory);
         };
-        close_at(&mut self.connections, index);
-        self.connections.retire(index);
-        self.base.loads.leave(number);
+        close_at(&mut self.interior.connections, index);
+        self.interior.connections.retire(index);
+        self.interior.base.loads.leave(number);
         let event = Event::Close { conn: number };
-        self.base.tape.finish(event, None, Seq::new(self.alloc));
+        let tape = &mut self.interior.base.tape;
+        tape.finish(event, None, Seq::new(self.alloc));
         Ok(())
     }
 
@@ -170,30 +161,22 @@ impl<S: Store, T: Tape> Namespace<S, T> {
         ensures back { IfErr result (λ e. e.1 ≡ outcome) }
         ensures unchanged { OnErr result (self.new ≡ self.old) }
     {
-        self.base.store.sound();
-        let config = self.base.store.store().config();
-        match refuse_answer(config, &self.base.loads, load, &outcome, moment.nanos) {
-            Some(error) => return Err((error, outcome)),
-            None => {}
+        self.interior.base.store.sound();
+        if let Some(error) = self.interior.refuse_answer(load, &outcome, moment.nanos) {
+            return Err((error, outcome));
         }
         let now = moment.nanos.max(self.latest);
-        match begin_answer(
-            self.alloc,
-            &mut self.base,
-            now,
-            &mut self.connections,
-            load,
-            &outcome,
-        ) {
+        match self.interior.begin_answer(self.alloc, now, load, &outcome) {
             Ok(Stored { accepted, notes }) => {
-                hand_out(&mut self.base, now, &mut self.connections, load, &outcome);
+                self.interior.hand_out(now, load, &outcome);
                 let event = Event::Answer {
                     load,
                     outcome,
                     moment,
                 };
-                self.base.tape.finish(event, accepted, Seq::from_vec(notes));
-                self.base.store.sound();
+                let tape = &mut self.interior.base.tape;
+                tape.finish(event, accepted, Seq::from_vec(notes));
+                self.interior.base.store.sound();
                 self.latest = now;
                 Ok(())
             }
@@ -214,20 +197,19 @@ impl<S: Store, T: Tape> Namespace<S, T> {
             (known_of S.view self.old) (giving_up load moment.nanos) ≡ Some e) }
         ensures unchanged { OnErr result (self.new ≡ self.old) }
     {
-        self.base.store.sound();
-        let config = self.base.store.store().config();
-        match refuse_load(config, &self.base.loads, load, moment.nanos) {
-            Some(error) => return Err(error),
-            None => {}
+        self.interior.base.store.sound();
+        if let Some(error) = self.interior.refuse_load(load, moment.nanos) {
+            return Err(error);
         }
-        let Ok(()) = begin_give_up(&mut self.base, load) else {
+        let Ok(()) = begin_give_up(&mut self.interior.base, load) else {
             return Err(ServiceError::OutOfMemory);
         };
         let now = moment.nanos.max(self.latest);
-        settle_give_up(&mut self.base, now, &mut self.connections, load);
+        self.interior.settle_give_up(now, load);
         let event = Event::GiveUp { load, moment };
-        self.base.tape.finish(event, None, Seq::new(self.alloc));
-        self.base.store.sound();
+        let tape = &mut self.interior.base.tape;
+        tape.finish(event, None, Seq::new(self.alloc));
+        self.interior.base.store.sound();
         self.latest = now;
         Ok(())
     }
@@ -240,8 +222,8 @@ impl<S: Store, T: Tape> Namespace<S, T> {
         ensures unchanged { IfErr result
             (λ e. (e ≡ ServiceError.NoConnection) × (self.new ≡ self.old)) }
     {
-        let index = find_opened(&self.connections, number)?;
-        Ok(take_at(self.alloc, &mut self.connections, index))
+        let index = find_opened(&self.interior.connections, number)?;
+        Ok(take_at(self.alloc, &mut self.interior.connections, index))
     }
 
     /// The loads that went out and were not taken, moved out, in the order after those that were taken before. This allocates nothing.
@@ -252,7 +234,7 @@ impl<S: Store, T: Tape> Namespace<S, T> {
             (are_in_turn self.old.namespace (loads_taken_of self.old) result.items) }
         ensures keys { IsTrue (have_their_keys self.old.pending result.items) }
     {
-        self.base.loads.take(self.alloc)
+        self.interior.base.loads.take(self.alloc)
     }
 
     /// The note that was reported first. This allocates nothing.
@@ -262,7 +244,7 @@ impl<S: Store, T: Tape> Namespace<S, T> {
         ensures gives { GivesNote (S.view self.old.store) (S.view self.new.store) }
         ensures rest { self.new ≡ record self.old { store = self.new.store } }
     {
-        self.base.store.next_notice()
+        self.interior.base.store.next_notice()
     }
 
     /// Why a connection is closed, if it is.
@@ -271,8 +253,8 @@ impl<S: Store, T: Tape> Namespace<S, T> {
         ensures refused { IsErr result ↔ (was_opened self.now number ≡ false) }
         ensures error { IfErr result (λ e. e ≡ ServiceError.NoConnection) }
     {
-        let index = find_opened(&self.connections, number)?;
-        Ok(self.connections.closing(index))
+        let index = find_opened(&self.interior.connections, number)?;
+        Ok(self.interior.connections.closing(index))
     }
 
     /// Whether a `LOAD` of a connection waits.
@@ -282,37 +264,36 @@ impl<S: Store, T: Tape> Namespace<S, T> {
         ensures refused { IsErr result ↔ (was_opened self.now number ≡ false) }
         ensures error { IfErr result (λ e. e ≡ ServiceError.NoConnection) }
     {
-        let index = find_opened(&self.connections, number)?;
-        Ok(waits_at_place(&self.connections, index))
+        let index = find_opened(&self.interior.connections, number)?;
+        Ok(waits_at_place(&self.interior.connections, index))
     }
 
     /// How many loads are under way: sent, and neither answered nor given up, whether they were taken or not.
     pub fn loads_open(&self) -> u64
         ensures { result ≡ length self.now.pending }
     {
-        self.base.loads.count() as u64
+        self.interior.base.loads.count() as u64
     }
 
     /// The tape of its records, moved out. This allocates nothing.
     pub fn into_tape(self) -> T
         ensures { result ≡ self.tape }
     {
-        let Namespace { base, .. } = self;
-        base.tape
+        self.interior.base.tape
     }
 
     /// The tape of its records.
     pub fn tape(&self) -> &T
         ensures { result.now ≡ self.now.tape }
     {
-        &self.base.tape
+        &self.interior.base.tape
     }
 
     /// The store.
     pub fn store(&self) -> &S
         ensures { result.now ≡ self.now.store }
     {
-        self.base.store.store()
+        self.interior.base.store.store()
     }
 
     /// What is true of every namespace: it stands for a situation, is in order, and its parts suit one another. It does nothing.
@@ -321,6 +302,6 @@ impl<S: Store, T: Tape> Namespace<S, T> {
         ensures order { IsInOrder S.view T.view self.now }
         ensures suits { SuitsItself S.view self.now }
     {
-        self.base.store.sound();
+        self.interior.base.store.sound();
     }
 }

@@ -31,10 +31,7 @@ pub fn find_open(connections: &Connections, number: u64) -> Result<usize, Servic
     ensures open { IfOk result (λ index. closing_at connections.now index ≡ None) }
     ensures refused { IfErr result (λ e. refusal_at connections.now number ≡ Some e) }
 {
-    if number == 0 || number > connections.len() as u64 {
-        return Err(ServiceError::NoConnection);
-    }
-    let index = (number - 1) as usize;
+    let index = find_opened(connections, number)?;
     if connections.closing(index).is_none() {
         Ok(index)
     } else {

@@ -5,11 +5,13 @@ ghost use Rattle.audit_model.specs.Grammar.{is_value};
 ghost use Rattle.cache_core.specs.Settling.{answering, giving_up, known_of_loads};
 ghost use Rattle.cache_commands.specs.Loads.Pending.{loads_pending};
 
+use crate::interior::Interior;
 use audit_model::{Config, Outcome, ServiceError};
-use cache_commands::Loads;
+use cache_lines::Tape;
+use cache_store::Store;
 
 /// The latest moment that may be handed in, in nanoseconds.
-const MAX_MOMENT: u64 = (1 << 63) - 1;
+pub const MAX_MOMENT: u64 = (1 << 63) - 1;
 
 /// An outcome has at most this many bytes.
 const MAX_BYTES: usize = 8192;
@@ -62,33 +64,30 @@ fn refuse_outcome(config: &Config, outcome: &Outcome) -> Option<ServiceError>
     }
 }
 
-/// Why a load is not settled: it is not under way, or the moment is too late.
-pub fn refuse_load(config: &Config, loads: &Loads, load: u64, moment: u64) -> Option<ServiceError>
-    ensures { result ≡ refusal_of config.now (known_of_loads (loads_pending loads.now))
-        (giving_up load moment) }
-{
-    if loads.get(load).is_none() {
-        return Some(ServiceError::NoLoad);
+impl<S: Store, T: Tape> Interior<S, T> {
+    /// Why a load is not settled: it is not under way, or the moment is too late.
+    pub fn refuse_load(&self, load: u64, moment: u64) -> Option<ServiceError>
+        ensures { result ≡ refusal_of (S.view self.now.base.store).frame.config
+            (known_of_loads (loads_pending self.now.base.loads)) (giving_up load moment) }
+    {
+        if self.base.loads.get(load).is_none() {
+            return Some(ServiceError::NoLoad);
+        }
+        if moment > MAX_MOMENT {
+            return Some(ServiceError::Moment);
+        }
+        None
     }
-    if moment > MAX_MOMENT {
-        return Some(ServiceError::Moment);
-    }
-    None
-}
 
-/// Why a load is not answered, apart from a lack of memory.
-pub fn refuse_answer(
-    config: &Config,
-    loads: &Loads,
-    load: u64,
-    outcome: &Outcome,
-    moment: u64,
-) -> Option<ServiceError>
-    ensures { result ≡ refusal_of config.now (known_of_loads (loads_pending loads.now))
-        (answering load outcome.now moment) }
-{
-    match refuse_load(config, loads, load, moment) {
-        Some(error) => Some(error),
-        None => refuse_outcome(config, outcome),
+    /// Why a load is not answered, apart from a lack of memory.
+    pub fn refuse_answer(&self, load: u64, outcome: &Outcome, moment: u64) -> Option<ServiceError>
+        ensures { result ≡ refusal_of (S.view self.now.base.store).frame.config
+            (known_of_loads (loads_pending self.now.base.loads))
+            (answering load outcome.now moment) }
+    {
+        match self.refuse_load(load, moment) {
+            Some(error) => Some(error),
+            None => refuse_outcome(self.base.store.store().config(), outcome),
+        }
     }
 }

@@ -13,21 +13,12 @@ ghost use Rattle.cache_commands.specs.Loads.Pending.{SameTaken};
 
 use crate::connection::{Connection, deliver, feed_ready, run_again};
 use crate::connections::Connections;
+use crate::interior::Interior;
 use crate::places::{leave_closed, number_at};
 use audit_model::Outcome;
 use cache_commands::Standing;
-use cache_lines::{Base, Tape};
+use cache_lines::Tape;
 use cache_store::Store;
-
-/// Whether the connection is open and runs lines.
-fn runs(connection: &Connection) -> bool
-    ensures { result ≡ runs_with connection.now.closing connection.now.standing }
-{
-    match connection.closing {
-        Some(_) => false,
-        None => matches!(connection.standing, Standing::Ready),
-    }
-}
 
 /// Whether the connection at a place is open and runs lines.
 fn runs_there(connections: &Connections, index: usize) -> bool
@@ -35,187 +26,160 @@ fn runs_there(connections: &Connections, index: usize) -> bool
     ensures { result ≡ runs_at (slice_get connections.now index) }
 {
     match connections.get(index) {
-        Some(connection) => runs(connection),
+        Some(connection) => connection.closing.is_none()
+            && matches!(connection.standing, Standing::Ready),
         None => false,
     }
 }
 
-/// Runs the lines of the connection at a place, which is open and runs lines.
-fn resume_there<S: Store, T: Tape>(
-    base: &mut Base<S, T>,
-    now: u64,
-    connections: &mut Connections,
-    index: usize,
-)
-    requires can_run { CanRun now (seen_at S.view T.view base.old connections.old index) }
-    requires inside { index < length connections.old }
-    requires runs { runs_at (slice_get connections.old index) ≡ true }
-    ensures ran { ResumesAt S.view T.view now index base.old base.new connections.old
-        connections.new }
-    ensures spare { spare_of (T.view base.old.tape) ≤ spare_of (T.view base.new.tape) + 1 }
-    ensures goes { SameTaken base.old.loads base.new.loads }
-{
-    let number = number_at(connections, index);
-    let mut connection = connections.take(index);
-    feed_ready(base, now, number, &mut connection, &[]);
-    connections.put(index, connection);
-}
-
-/// Runs the lines of the connection at a place, if it is open and runs lines.
-pub fn resume_at<S: Store, T: Tape>(
-    base: &mut Base<S, T>,
-    now: u64,
-    connections: &mut Connections,
-    index: usize,
-)
-    requires amid { IsAmid S.view T.view now base.old connections.old 1 }
-    requires inside { index < length connections.old }
-    ensures ran { Parts S.view T.view now base.old base.new connections.old connections.new
-        (RunLines (index + 1) ∷ []) }
-    ensures amid { (lines : ℕ) → IsAmid S.view T.view now base.old connections.old (suc lines)
-        → IsAmid S.view T.view now base.new connections.new lines }
-    ensures others { LeavesOthers connections.old connections.new index }
-    ensures goes { SameTaken base.old.loads base.new.loads }
-{
-    base.store.sound();
-    if !runs_there(connections, index) {
-        return;
+impl<S: Store, T: Tape> Interior<S, T> {
+    /// Runs the lines of the connection at a place, which is open and runs lines.
+    fn resume_there(&mut self, now: u64, index: usize)
+        requires can_run { CanRun now (seen_at S.view T.view self.old.base self.old.connections
+            index) }
+        requires inside { index < length self.old.connections }
+        requires runs { runs_at (slice_get self.old.connections index) ≡ true }
+        ensures ran { ResumesAt S.view T.view now index self.old.base self.new.base
+            self.old.connections self.new.connections }
+        ensures spare { spare_of (T.view self.old.base.tape) ≤ spare_of (T.view self.new.base.tape)
+            + 1 }
+        ensures goes { SameTaken self.old.base.loads self.new.base.loads }
+    {
+        let number = number_at(&self.connections, index);
+        let mut connection = self.connections.take(index);
+        feed_ready(&mut self.base, now, number, &mut connection, &[]);
+        self.connections.put(index, connection);
     }
-    resume_there(base, now, connections, index);
-    let number = number_at(connections, index);
-    leave_closed(&mut base.loads, number, connections, index);
-}
 
-/// Hands the outcome to the connection at a place, whose `LOAD` waits, in reserved room.
-fn tell_at<S: Store, T: Tape>(
-    base: &mut Base<S, T>,
-    now: u64,
-    connections: &mut Connections,
-    index: usize,
-    outcome: &Outcome,
-)
-    requires amid { IsAmid S.view T.view now base.old connections.old 1 }
-    requires inside { index < length connections.old }
-    requires waits { IsWaitingAt (S.view base.old.store).frame.config connections.old (index + 1) }
-    requires room { HasReplyRoomAt connections.old (length (outcome_text outcome.now)) index }
-    ensures ran { Parts S.view T.view now base.old base.new connections.old connections.new
-        (Deliver (index + 1) outcome.now ∷ []) }
-    ensures amid { (lines : ℕ) → IsAmid S.view T.view now base.old connections.old (suc lines)
-        → IsAmid S.view T.view now base.new connections.new lines }
-    ensures others { LeavesOthers connections.old connections.new index }
-    ensures goes { SameTaken base.old.loads base.new.loads }
-{
-    base.store.sound();
-    let number = number_at(connections, index);
-    let mut connection = connections.take(index);
-    deliver(base, now, number, &mut connection, outcome);
-    connections.put(index, connection);
-}
-
-/// Runs the waiting `LOAD` of the connection at a place again.
-fn again_at<S: Store, T: Tape>(
-    base: &mut Base<S, T>,
-    now: u64,
-    connections: &mut Connections,
-    index: usize,
-)
-    requires amid { IsAmid S.view T.view now base.old connections.old 1 }
-    requires inside { index < length connections.old }
-    requires waits { IsWaitingAt (S.view base.old.store).frame.config connections.old (index + 1) }
-    ensures ran { Reruns S.view T.view now base.old base.new connections.old connections.new
-        (RunAgain (index + 1) ∷ []) }
-    ensures amid { (lines : ℕ) → IsAmid S.view T.view now base.old connections.old (suc lines)
-        → IsAmid S.view T.view now base.new connections.new lines }
-    ensures others { LeavesOthers connections.old connections.new index }
-    ensures goes { SameTaken base.old.loads base.new.loads }
-{
-    base.store.sound();
-    let number = number_at(connections, index);
-    let mut connection = connections.take(index);
-    run_again(base, now, number, &mut connection);
-    connections.put(index, connection);
-}
-
-/// Runs the waiting `LOAD` of the connection at a place again, and then its lines.
-fn give_up_at<S: Store, T: Tape>(
-    base: &mut Base<S, T>,
-    now: u64,
-    connections: &mut Connections,
-    index: usize,
-)
-    requires amid { IsAmid S.view T.view now base.old connections.old 2 }
-    requires inside { index < length connections.old }
-    requires waits { IsWaitingAt (S.view base.old.store).frame.config connections.old (index + 1) }
-    ensures ran { Reruns S.view T.view now base.old base.new connections.old connections.new
-        (RunAgain (index + 1) ∷ RunLines (index + 1) ∷ []) }
-    ensures amid { (lines : ℕ) → IsAmid S.view T.view now base.old connections.old (suc (suc lines))
-        → IsAmid S.view T.view now base.new connections.new lines }
-    ensures others { LeavesOthers connections.old connections.new index }
-    ensures goes { SameTaken base.old.loads base.new.loads }
-{
-    again_at(base, now, connections, index);
-    resume_at(base, now, connections, index);
-}
-
-/// Hands the outcome to those connections, one after another, whose `LOAD`s wait; each runs lines then. There is room for each reply.
-pub fn tell_all<S: Store, T: Tape>(
-    base: &mut Base<S, T>,
-    now: u64,
-    connections: &mut Connections,
-    waiting: &[u64],
-    outcome: &Outcome,
-)
-    requires amid { IsAmid S.view T.view now base.old connections.old (length waiting.now) }
-    requires waits { AreWaiting (S.view base.old.store).frame.config connections.old waiting.now }
-    requires room { HaveReplyRoom connections.old (length (outcome_text outcome.now)) waiting.now }
-    ensures ran { Parts S.view T.view now base.old base.new connections.old connections.new
-        (map (λ conn. Deliver conn outcome.now) waiting.now) }
-    ensures amid { (lines : ℕ) → IsAmid S.view T.view now base.old connections.old
-        (length waiting.now + lines) → IsAmid S.view T.view now base.new connections.new lines }
-    ensures count { length connections.new ≡ length connections.old }
-    ensures goes { SameTaken base.old.loads base.new.loads }
-{
-    for number in waiting {
-        let index = (*number - 1) as usize;
-        tell_at(base, now, connections, index, outcome);
+    /// Runs the lines of the connection at a place, if it is open and runs lines.
+    pub fn resume_at(&mut self, now: u64, index: usize)
+        requires amid { IsAmid S.view T.view now self.old.base self.old.connections 1 }
+        requires inside { index < length self.old.connections }
+        ensures ran { Parts S.view T.view now self.old.base self.new.base self.old.connections
+            self.new.connections (RunLines (index + 1) ∷ []) }
+        ensures amid { (lines : ℕ) → IsAmid S.view T.view now self.old.base self.old.connections
+            (suc lines) → IsAmid S.view T.view now self.new.base self.new.connections lines }
+        ensures others { LeavesOthers self.old.connections self.new.connections index }
+        ensures goes { SameTaken self.old.base.loads self.new.base.loads }
+    {
+        self.base.store.sound();
+        if !runs_there(&self.connections, index) {
+            return;
+        }
+        self.resume_there(now, index);
+        let number = number_at(&self.connections, index);
+        leave_closed(&mut self.base.loads, number, &self.connections, index);
     }
-}
 
-/// Runs the lines of those connections, one after another, as far as they are open and run lines.
-pub fn resume_all<S: Store, T: Tape>(
-    base: &mut Base<S, T>,
-    now: u64,
-    connections: &mut Connections,
-    waiting: &[u64],
-)
-    requires amid { IsAmid S.view T.view now base.old connections.old (length waiting.now) }
-    requires inside { AreThere connections.old waiting.now }
-    ensures ran { Parts S.view T.view now base.old base.new connections.old connections.new
-        (map RunLines waiting.now) }
-    ensures goes { SameTaken base.old.loads base.new.loads }
-{
-    for number in waiting {
-        let index = (*number - 1) as usize;
-        resume_at(base, now, connections, index);
+    /// Hands the outcome to the connection at a place, whose `LOAD` waits, in reserved room.
+    fn tell_at(&mut self, now: u64, index: usize, outcome: &Outcome)
+        requires amid { IsAmid S.view T.view now self.old.base self.old.connections 1 }
+        requires inside { index < length self.old.connections }
+        requires waits { IsWaitingAt (S.view self.old.base.store).frame.config self.old.connections
+            (index + 1) }
+        requires room { HasReplyRoomAt self.old.connections (length (outcome_text outcome.now))
+            index }
+        ensures ran { Parts S.view T.view now self.old.base self.new.base self.old.connections
+            self.new.connections (Deliver (index + 1) outcome.now ∷ []) }
+        ensures amid { (lines : ℕ) → IsAmid S.view T.view now self.old.base self.old.connections
+            (suc lines) → IsAmid S.view T.view now self.new.base self.new.connections lines }
+        ensures others { LeavesOthers self.old.connections self.new.connections index }
+        ensures goes { SameTaken self.old.base.loads self.new.base.loads }
+    {
+        self.base.store.sound();
+        let number = number_at(&self.connections, index);
+        let mut connection = self.connections.take(index);
+        deliver(&mut self.base, now, number, &mut connection, outcome);
+        self.connections.put(index, connection);
     }
-}
 
-/// Runs the waiting `LOAD`s of those connections again, one after another, each followed by its connection's lines.
-pub fn give_up_all<S: Store, T: Tape>(
-    base: &mut Base<S, T>,
-    now: u64,
-    connections: &mut Connections,
-    waiting: &[u64],
-)
-    requires amid { IsAmid S.view T.view now base.old connections.old
-        (length waiting.now + length waiting.now) }
-    requires waits { AreWaiting (S.view base.old.store).frame.config connections.old waiting.now }
-    ensures ran { PartsUnknown S.view T.view now base.old base.new connections.old connections.new
-        (tasks_to_give_up waiting.now) }
-    ensures goes { SameTaken base.old.loads base.new.loads }
-{
-    for number in waiting {
-        let index = (*number - 1) as usize;
-        give_up_at(base, now, connections, index);
+    /// Runs the waiting `LOAD` of the connection at a place again.
+    fn again_at(&mut self, now: u64, index: usize)
+        requires amid { IsAmid S.view T.view now self.old.base self.old.connections 1 }
+        requires inside { index < length self.old.connections }
+        requires waits { IsWaitingAt (S.view self.old.base.store).frame.config self.old.connections
+            (index + 1) }
+        ensures ran { Reruns S.view T.view now self.old.base self.new.base self.old.connections
+            self.new.connections (RunAgain (index + 1) ∷ []) }
+        ensures amid { (lines : ℕ) → IsAmid S.view T.view now self.old.base self.old.connections
+            (suc lines) → IsAmid S.view T.view now self.new.base self.new.connections lines }
+        ensures others { LeavesOthers self.old.connections self.new.connections index }
+        ensures goes { SameTaken self.old.base.loads self.new.base.loads }
+    {
+        self.base.store.sound();
+        let number = number_at(&self.connections, index);
+        let mut connection = self.connections.take(index);
+        run_again(&mut self.base, now, number, &mut connection);
+        self.connections.put(index, connection);
+    }
+
+    /// Runs the waiting `LOAD` of the connection at a place again, and then its lines.
+    fn give_up_at(&mut self, now: u64, index: usize)
+        requires amid { IsAmid S.view T.view now self.old.base self.old.connections 2 }
+        requires inside { index < length self.old.connections }
+        requires waits { IsWaitingAt (S.view self.old.base.store).frame.config self.old.connections
+            (index + 1) }
+        ensures ran { Reruns S.view T.view now self.old.base self.new.base self.old.connections
+            self.new.connections (RunAgain (index + 1) ∷ RunLines (index + 1) ∷ []) }
+        ensures amid { (lines : ℕ) → IsAmid S.view T.view now self.old.base self.old.connections
+            (suc (suc lines)) → IsAmid S.view T.view now self.new.base self.new.connections lines }
+        ensures others { LeavesOthers self.old.connections self.new.connections index }
+        ensures goes { SameTaken self.old.base.loads self.new.base.loads }
+    {
+        self.again_at(now, index);
+        self.resume_at(now, index);
+    }
+
+    /// Hands the outcome to those connections, one after another, whose `LOAD`s wait; each runs lines then. There is room for each reply.
+    pub fn tell_all(&mut self, now: u64, waiting: &[u64], outcome: &Outcome)
+        requires amid { IsAmid S.view T.view now self.old.base self.old.connections
+            (length waiting.now) }
+        requires waits { AreWaiting (S.view self.old.base.store).frame.config self.old.connections
+            waiting.now }
+        requires room { HaveReplyRoom self.old.connections (length (outcome_text outcome.now))
+            waiting.now }
+        ensures ran { Parts S.view T.view now self.old.base self.new.base self.old.connections
+            self.new.connections (map (λ conn. Deliver conn outcome.now) waiting.now) }
+        ensures amid { (lines : ℕ) → IsAmid S.view T.view now self.old.base self.old.connections
+            (length waiting.now + lines) → IsAmid S.view T.view now self.new.base
+            self.new.connections lines }
+        ensures count { length self.new.connections ≡ length self.old.connections }
+        ensures goes { SameTaken self.old.base.loads self.new.base.loads }
+    {
+        for number in waiting {
+            let index = (*number - 1) as usize;
+            self.tell_at(now, index, outcome);
+        }
+    }
+
+    /// Runs the lines of those connections, one after another, as far as they are open and run lines.
+    pub fn resume_all(&mut self, now: u64, waiting: &[u64])
+        requires amid { IsAmid S.view T.view now self.old.base self.old.connections
+            (length waiting.now) }
+        requires inside { AreThere self.old.connections waiting.now }
+        ensures ran { Parts S.view T.view now self.old.base self.new.base self.old.connections
+            self.new.connections (map RunLines waiting.now) }
+        ensures goes { SameTaken self.old.base.loads self.new.base.loads }
+    {
+        for number in waiting {
+            let index = (*number - 1) as usize;
+            self.resume_at(now, index);
+        }
+    }
+
+    /// Runs the waiting `LOAD`s of those connections again, one after another, each followed by its connection's lines.
+    pub fn give_up_all(&mut self, now: u64, waiting: &[u64])
+        requires amid { IsAmid S.view T.view now self.old.base self.old.connections
+            (length waiting.now + length waiting.now) }
+        requires waits { AreWaiting (S.view self.old.base.store).frame.config self.old.connections
+            waiting.now }
+        ensures ran { PartsUnknown S.view T.view now self.old.base self.new.base
+            self.old.connections self.new.connections (tasks_to_give_up waiting.now) }
+        ensures goes { SameTaken self.old.base.loads self.new.base.loads }
+    {
+        for number in waiting {
+            let index = (*number - 1) as usize;
+            self.give_up_at(now, index);
+        }
     }
 }

@@ -1,12 +1,9 @@
-pub mod Telling
 pub mod Writing
 pub mod Items
 pub mod Joining
-pub mod Running
 pub mod Accepting
 pub mod Syncing
 pub mod Looking
 pub mod Removing
-pub mod Facts
 pub mod Moving
 pub mod Recency

@@ -1,5 +1,5 @@
 -- What a store over a front contains, and what the front's calls do to it.
-use Rattle.std.specs.Prelude.{◌≡◌, ◌≢◌, ℕ, suc, ◌+◌, ◌%◌, ◌^◌, ◌≤◌, Bool, false, List, Some, Result, MatchResult, slice_get}
+use Rattle.std.specs.Prelude.{◌≡◌, ℕ, suc, ◌+◌, ◌%◌, ◌^◌, ◌≤◌, Bool, List, Some, slice_get}
 use Rattle.std.specs.declared.hash.BuildHasher as builders
 use Rattle.std.specs.declared.hash.Hasher as hashers
 use Rattle.rand_core.specs.Stream.{Stream}
@@ -13,12 +13,8 @@ use Rattle.cache_front.specs.State.{hash_by, store_of}
 use Rattle.cache_front.specs.Parts.{Part, Stored, service_answers}
 use Rattle.cache_front.specs.View.{StoreOfParts, view}
 use Rattle.cache_store.specs.Values.{Values}
-use Rattle.cache_store.specs.declared.error.StoreError.{StoreError}
-use Rattle.cache_store.specs.declared.error.StoreError.TheVariants as refusals
 use Rattle.front_reference.specs.Fronts.{CallsPart, Front}
 use Rattle.front_reference.specs.Parts.{Inserts, TakesOut}
-use Rattle.front_reference.specs.declared.errors.CacheError.{CacheError}
-use Rattle.front_reference.specs.declared.errors.CacheError.TheVariants as errors
 use Rattle.front_state.specs.Covering.{CoversAll}
 
 -- the hash of the bytes of a key, from the traits of a hasher and its builder
@@ -92,12 +88,6 @@ module _ {S : Type 0} where
     now = now;
     step = suc old.step;
   }) drawn left id old new
-
--- a predicate is not accepted: identifiers are lacking, or it is refused
-abbrev pub IsAnswerTo : CacheError → Result Bool StoreError → Type 0
-IsAnswerTo e r =
-    MatchResult r (λ covers. (covers ≡ false) × (e ≡ errors.IdsInUse))
-    (λ refused. (e ≢ errors.IdsInUse) × (refused ≡ refusals.UsedUp → e ≡ errors.UsedUp))
 
 -- what a store with this content shows
 abbrev pub shown_by : {R S H : Type 0} → builders.Ghosts S H → hashers.Ghosts H → (R → Stream)

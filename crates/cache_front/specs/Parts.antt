@@ -1,5 +1,5 @@
 -- A part of the service's cache, and which values these parts hold.
-use Rattle.std.specs.Prelude.{◌≡◌, ℕ, suc, zero, ◌*◌, ◌≤◌, ◌||◌, nat_eq, true, false, List, [], ◌∷◌, ◌++◌, map, length, Option, option_map, Some, None, is_none, IsTrue, slice_get}
+use Rattle.std.specs.Prelude.{◌≡◌, ℕ, suc, ◌*◌, ◌≤◌, ◌||◌, nat_eq, true, false, List, [], ◌∷◌, ◌++◌, map, length, Option, option_map, Some, None, is_none, IsTrue, slice_get}
 use Rattle.std.specs.List.{starts_with}
 use Rattle.audit_model.specs.Bytewise.{same}
 use Rattle.audit_model.specs.History.{Value, weight_of, share}
@@ -150,12 +150,6 @@ module _ {S : Type 0} where
   -- the part after its notices were taken
   abbrev pub drained : Part S → Part S
   drained s = record s { notices = [] }
-
-  -- the parts with one of them replaced
-  abbrev pub with_part : ℕ → Part S → List (Part S) → List (Part S)
-  with_part k t [] = []
-  with_part zero t (x ∷ parts) = t ∷ parts
-  with_part (suc k) t (x ∷ parts) = x ∷ with_part k t parts
 
   -- the values held are the held entries of all parts, and those with a point are marked
   pub record Stands (parts : List (Part S)) (held : List HeldValue) : Type 0 where

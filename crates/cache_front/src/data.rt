@@ -6,7 +6,9 @@ mod making;
 
 use crate::entries::StoredValue;
 use audit_model::{Key, Weight};
-pub use calling::{bytes_found, clear, cover, insert, invalidate, prepare, read_bytes};
+pub use calling::{
+    at_last_step, bytes_found, clear, cover, insert, invalidate, prepare, read_bytes,
+};
 pub use draining::{WaitingNote, drain, drain_at};
 pub use front_state::{LentState, Segmented};
 pub use listing::write_keys;

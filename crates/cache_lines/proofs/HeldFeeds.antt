@@ -34,11 +34,9 @@ use Rattle.cache_lines.specs.Whole.{held_line}
 use Rattle.cache_store.specs.Promises.{no_deed}
 use Rattle.audit_model.specs.declared.command.Command.TheVariants as says
 use Rattle.cache_lines.proofs.Drawn.{draws-first, spends-same}
-use Rattle.cache_lines.proofs.LineRuns.{gather-more, timely-ended}
-use Rattle.cache_lines.proofs.LoadWaits.{after-waits, left_waiting, step_waits, stops-waiting, turn-right, waits-draws, waits-left, waits-right}
+use Rattle.cache_lines.proofs.LineRuns.{gather-more, timely-ended, stops-quit, after-held, right-in-turn}
+use Rattle.cache_lines.proofs.ReadyEnds.{after-waits, left_waiting, step_waits, stops-waiting, turn-right, waits-draws, waits-left, waits-right}
 use Rattle.cache_lines.proofs.Placing.{found-there}
-use Rattle.cache_lines.proofs.ReadyRuns.{stops-quit}
-use Rattle.cache_lines.proofs.Stepping.{after-held, right-in-turn}
 use Rattle.cache_lines.proofs.Knowing.{due_if}
 use Rattle.cache_lines.proofs.leads.Leading.{cons-parted}
 

@@ -9,6 +9,5 @@ pub mod Making
 pub mod Ordered
 pub mod Outputs
 pub mod Ran
-pub mod Stops
 pub mod Waiting
 pub mod Whole

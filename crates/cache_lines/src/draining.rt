@@ -7,7 +7,7 @@ ghost use Rattle.cache_lines.specs.Tape.Taped.{IsDrafted, ends, text_left};
 
 use crate::tape::Tape;
 use audit_model::{Accepted, Note};
-use cache_commands::Keyed;
+use cache_commands::{Keyed, push_within};
 use cache_store::Store;
 
 /// How many notes a line or an answer tells at most.
@@ -16,18 +16,6 @@ pub fn most_notes<S: Store>(store: &Keyed<S>) -> usize
 {
     store.sound();
     store.store().len() + 1
-}
-
-/// Adds a note for which there is room.
-fn push_within(notes: &mut Vec<Note>, note: Note)
-    requires { vec_len notes.old < vec_capacity notes.old }
-    ensures items { notes.new.items ≡ notes.old.items ++ note ∷ [] }
-    ensures len { vec_len notes.new ≡ vec_len notes.old + 1 }
-    ensures capacity { vec_capacity notes.old ≤ vec_capacity notes.new }
-{
-    let Ok(()) = notes.push(note) else {
-        unreachable!();
-    };
 }
 
 /// Takes all notes that the store has, for which there is room; nothing else changes.
@@ -39,22 +27,6 @@ pub fn drain<S: Store>(store: &mut Keyed<S>, notes: &mut Vec<Note>)
 {
     while let Some(note) = store.next_notice() {
         push_within(notes, note);
-    }
-}
-
-/// Takes all notes that the store has, or none.
-fn drain_where<S: Store>(store: &mut Keyed<S>, takes: bool, notes: &mut Vec<Note>)
-    requires { takes ≡ true → vec_len notes.old + length (S.view store.old).untaken
-        ≤ vec_capacity notes.old }
-    ensures drained { notes.new.items
-        ≡ (if takes then notes.old.items ++ (S.view store.old).untaken else notes.old.items) }
-    ensures untaken { (S.view store.new).untaken
-        ≡ (if takes then [] else (S.view store.old).untaken) }
-    ensures gives { GivesNote (S.view store.old) (S.view store.new) }
-{
-    if takes {
-        drain(store, notes);
-        return;
     }
 }
 
@@ -80,6 +52,8 @@ pub fn end_step<S: Store, T: Tape>(
         (T.view tape.old) }
     ensures text { text.new.items ≡ text_left (T.view tape.old) text.old.items }
 {
-    drain_where(store, tape.keeps(), &mut notes);
+    if tape.keeps() {
+        drain(store, &mut notes);
+    }
     tape.end(number, accepted, text, notes);
 }

@@ -2,10 +2,9 @@
 ghost use Rattle.std.specs.Prelude.{◌≡◌, ◌+◌, ◌≤◌, drop, false, true, length, IfErr, OnOk};
 ghost use Rattle.cache_commands.specs.Loads.Pending.{SameTaken};
 ghost use Rattle.cache_lines.specs.Bases.{CanRun, seen};
-ghost use Rattle.cache_lines.specs.Ended.{RunsReady, spare_of};
+ghost use Rattle.cache_lines.specs.Ended.{RunsReady, spare_of, RunsFirst, has_run, waits_now};
 ghost use Rattle.cache_lines.specs.Gathered.{spare_in};
 ghost use Rattle.cache_lines.specs.Outputs.{IsRoomy};
-ghost use Rattle.cache_lines.specs.Stops.{RunsFirst, has_run, waits_now};
 
 use crate::base::Base;
 use crate::output::ReplyBuffer;

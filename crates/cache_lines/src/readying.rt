@@ -2,9 +2,8 @@
 ghost use Rattle.std.specs.Prelude.{◌≡◌, ◌+◌, ◌≤◌, ◌++◌, [], drop, true, length};
 ghost use Rattle.cache_commands.specs.Loads.Pending.{SameTaken};
 ghost use Rattle.cache_lines.specs.Bases.{CanRun, seen};
-ghost use Rattle.cache_lines.specs.Ended.{RunsReady, spare_of};
+ghost use Rattle.cache_lines.specs.Ended.{RunsReady, spare_of, waits_now};
 ghost use Rattle.cache_lines.specs.Outputs.{IsRoomy};
-ghost use Rattle.cache_lines.specs.Stops.{waits_now};
 
 use crate::base::Base;
 use crate::looping::{End, behind, run_bytes};
@@ -23,53 +22,8 @@ fn drop_used(unread: &mut Buffer, used: usize)
     }
 }
 
-/// Runs the lines of a piece for a connection that is ready and has nothing unread, straight from the piece, and keeps what is left.
-fn run_piece<S: Store, T: Tape>(
-    base: &mut Base<S, T>,
-    now: u64,
-    number: u64,
-    unread: &mut Buffer,
-    piece: &[u8],
-    output: &mut ReplyBuffer,
-) -> End
-    requires can_run { CanRun now (seen S.view T.view base.old output.old) }
-    requires fits { (unread.old.bytes ≡ []) × (length piece.now ≤ unread.old.room) }
-    ensures ran { RunsReady now number piece.now unread.new.bytes result
-        (seen S.view T.view base.old output.old) (seen S.view T.view base.new output.new) }
-    ensures room { waits_now result ≡ true → IsRoomy output.new }
-    ensures spare { spare_of (T.view base.old.tape) ≤ spare_of (T.view base.new.tape) + 1 }
-    ensures goes { SameTaken base.old.loads base.new.loads }
-{
-    let (used, end) = run_bytes(base, now, number, piece, output);
-    unread.append(behind(piece, used));
-    end
-}
-
-/// Runs the lines of what is unread and of a piece behind it.
-fn run_joined<S: Store, T: Tape>(
-    base: &mut Base<S, T>,
-    now: u64,
-    number: u64,
-    unread: &mut Buffer,
-    piece: &[u8],
-    output: &mut ReplyBuffer,
-) -> End
-    requires can_run { CanRun now (seen S.view T.view base.old output.old) }
-    requires fits { length piece.now ≤ unread.old.room }
-    ensures ran { RunsReady now number (unread.old.bytes ++ piece.now) unread.new.bytes result
-        (seen S.view T.view base.old output.old) (seen S.view T.view base.new output.new) }
-    ensures room { waits_now result ≡ true → IsRoomy output.new }
-    ensures spare { spare_of (T.view base.old.tape) ≤ spare_of (T.view base.new.tape) + 1 }
-    ensures goes { SameTaken base.old.loads base.new.loads }
-{
-    unread.append(piece);
-    let (used, end) = run_bytes(base, now, number, unread.as_slice(), output);
-    drop_used(unread, used);
-    end
-}
-
-/// Runs the lines of a connection that is ready, and of a piece behind them for which there is room. One for which memory was wanted is held
-/// back, in the room for one that the tape has.
+/// Runs the lines of a connection that is ready, and of a piece behind them for which there is room, straight from the piece where nothing
+/// stands before it; what is left is kept. A line for which memory was wanted is held back, in the room for one that the tape has.
 pub fn run_lines<S: Store, T: Tape>(
     base: &mut Base<S, T>,
     now: u64,
@@ -87,8 +41,12 @@ pub fn run_lines<S: Store, T: Tape>(
     ensures goes { SameTaken base.old.loads base.new.loads }
 {
     if unread.is_empty() {
-        run_piece(base, now, number, unread, piece, output)
-    } else {
-        run_joined(base, now, number, unread, piece, output)
+        let (used, end) = run_bytes(base, now, number, piece, output);
+        unread.append(behind(piece, used));
+        return end;
     }
+    unread.append(piece);
+    let (used, end) = run_bytes(base, now, number, unread.as_slice(), output);
+    drop_used(unread, used);
+    end
 }

@@ -1,29 +1,117 @@
 -- What becomes of the loads of a namespace, call by call, and over an exchange.
-use Rattle.std.proofs.Common.{◌≡◌, ℕ, suc, ◌+◌, ◌-◌, ◌<◌, ◌≤◌, ◌==◌, ◌||◌, not, nat_lt, nat_le, Bool, true, false, List, [], ◌∷◌, length, Some, is_some, cond, refl, sym, ap, ◌∙◌, subst, arith, inl, inr, Option, None, ◌⊎◌}
-use Rattle.std.specs.List.{find}
-use Rattle.std.specs.Option.{option_map}
-use Rattle.std.proofs.lemmas.Bool.{cases_lt, eq-eqb, eqb-true, leb-true, ltb-true, or_cases, or_left, or_right}
-use Rattle.audit_model.specs.Follows.{after_event, tasks_in}
-use Rattle.audit_model.specs.Situation.{Situation, PendingLoad}
+use Rattle.std.proofs.Common.{◌≡◌, ℕ, suc, ◌≤◌, true, false, ◌&&◌, ◌==◌, List, [], ◌∷◌, ◌++◌, Option, Some, None, sym, ap, ◌∙◌, subst, arith, nat_lt, refl, IfSome, ◌+◌, ◌-◌, ◌<◌, ◌||◌, not, nat_le, Bool, length, is_some, inl, inr, ◌⊎◌}
+use Rattle.std.proofs.lemmas.Bool.{and_parts, and_from, eq-eqb, eqb-true, lt-ltb, or_left, or_right, cases_lt, leb-true, ltb-true, or_cases}
+use Rattle.std.proofs.lemmas.List.{append-nil}
+use Rattle.std.proofs.lemmas.List.Elements.{All-append, All-cons, All-head, All-nil, All-tail}
+use Rattle.std.proofs.lemmas.List.Folds.{list_any_at, list_any-append}
+use Rattle.std.proofs.lemmas.Option.{same_Some}
+use Rattle.std.specs.List.{list_all, slice_index_or, find}
+use Rattle.std.specs.Option.{option_map_or, option_map}
+use Rattle.audit_model.specs.Bytewise.{same}
+use Rattle.audit_model.specs.Follows.{Follows, after_event, tasks_in}
+use Rattle.audit_model.specs.Situation.{Situation, key_in, PendingLoad}
 use Rattle.audit_model.specs.declared.event.Event.{Event}
 use Rattle.audit_model.specs.declared.input.LoadId.{LoadId}
-use Rattle.cache_commands.specs.Loads.Keys.{are_in_turn}
-use Rattle.cache_spaces.specs.Calls.{ServesEvent, Settled, TakesLoads, TakesOutput}
-use Rattle.cache_spaces.specs.Sound.{IsSound}
-use Rattle.cache_spaces.specs.Spaces.{config_of, outgoing_of, place_of, taken_of}
-use Rattle.audit_laws.specs.Waiting.Sending.{IsSettlingOf, are_all, is_under_way}
+use Rattle.audit_model.specs.declared.transcript.Record.{Record}
+use Rattle.audit_laws.proofs.HeldStep.{same-refl}
 use Rattle.audit_laws.proofs.waiting.Sending.{all-own, one-of, send-later, settle}
-use Rattle.cache_run.specs.Accounts.{AddsNoLoads, UnderWay, is_left, pending_of}
-use Rattle.cache_run.specs.Connected.{HasSituation}
-use Rattle.cache_spaces.specs.Bares.{BareSpace, bare_tape}
-use Rattle.cache_run.proofs.Gone.{in-turn-next}
-use Rattle.cache_run.proofs.Happening.{IsPlain, quiet-steps, pending-is, sent-is, happened-so}
-use Rattle.std.proofs.lemmas.List.Folds.{list_any-append}
+use Rattle.audit_laws.specs.Waiting.Sending.{IsSettlingOf, are_all, is_under_way}
+use Rattle.cache_commands.specs.Loads.Keys.{are_in_turn}
 use Rattle.cache_core.specs.Settling.{answering, giving_up}
-use Rattle.cache_core.specs.Turned.{feeding}
+use Rattle.cache_core.specs.Turned.{SendsBehind, Turned, is_sent, feeding}
+use Rattle.cache_spaces.specs.Services.{BareSpace, bare_tape, IsSound}
+use Rattle.cache_spaces.specs.Calls.{ServesEvent, Settled, TakesLoads, TakesOutput}
+use Rattle.cache_spaces.specs.Spaces.{StandsFor, config_of, outgoing_of, place_of, taken_of, shown_of}
+use Rattle.cache_run.proofs.Happening.{pending-is, sent-is, IsPlain, quiet-steps, happened-so}
+use Rattle.cache_run.proofs.driver.Exchanges.{each-last}
+use Rattle.cache_run.specs.Loading.{AddsNoLoads, UnderWay, is_left, pending_of}
+use Rattle.cache_run.specs.Connected.{HasSituation}
+use Rattle.cache_run.specs.Driver.Drives.{IsOfHand}
+use Rattle.cache_run.specs.Driver.Exchanges.{Doing, EachOut, Keeps, Outs, asks_of, load_number, settling_asking, Exchange, Hands, IsLastOf, Leaves}
+use Rattle.cache_run.specs.Happened.{AskForSent, Sendings, sendings_of, sendings_until}
+use Rattle.cache_run.specs.Lent.{MayGiveLoads, Comes, Does}
+use Rattle.cache_spaces.specs.Calls as served
 use Rattle.cache_run.specs.Driver.Exchanges as did
-use Rattle.cache_run.specs.Driver.Exchanges.{Doing, Exchange, Hands, IsLastOf, Keeps, Leaves, Outs}
-use Rattle.cache_run.specs.Lent.{Comes, Does, MayGiveLoads}
+
+-- each of these loads was sent
+abbrev pub AreAmong : Outs → Sendings → Type 0
+AreAmong outs sent = EachOut (λ load key. sent load key ≡ true) outs
+
+among-by : (outs : Outs) (sent more : Sendings) → ((load : ℕ) (key : List ℕ) → sent load key ≡ true → more load key ≡ true) → AreAmong outs sent → AreAmong outs more
+among-by outs sent more f among = λ k d within. f _ _ (among k d within)
+
+pub among-more : (xs ys : Outs) (sent : Sendings) → AreAmong xs sent → AreAmong ys sent → AreAmong (xs ++ ys) sent
+among-more xs ys sent a b = All-append (λ (out : LoadId × List ℕ). sent out.0.number out.1 ≡ true) xs ys a b
+
+pub among-parts : (xs ys : Outs) (sent : Sendings) → AreAmong (xs ++ ys) sent → AreAmong xs sent × AreAmong ys sent
+among-parts [] ys sent a = (All-nil (λ (out : LoadId × List ℕ). sent out.0.number out.1 ≡ true), a)
+among-parts (x ∷ xs) ys sent a =
+    let Fact : LoadId × List ℕ → Type 0 = λ out. sent out.0.number out.1 ≡ true in
+    let parts = among-parts xs ys sent (All-tail Fact x (xs ++ ys) a) in (All-cons Fact x xs (All-head Fact x (xs ++ ys) a) parts.0, parts.1)
+
+-- those that were sent stay so
+pub among-later : (outs : Outs) (s t : Situation) (sent : Sendings) → AreAmong outs sent → AreAmong outs (sendings_until s t sent)
+among-later outs s t sent among =
+    among-by outs sent (sendings_until s t sent) (λ load key e. or_left (sent load key) (nat_lt s.sent load && option_map_or (λ k. same k key) (key_in load t) false) e) among
+
+pub among-own : (outs : Outs) → AreAmong outs (sendings_of outs)
+among-own outs = λ k d within.
+    let out = slice_index_or outs k d in
+    list_any_at (λ (o : LoadId × List ℕ). o.0.number == out.0.number && same o.1 out.1) outs k d within
+    (and_from (out.0.number == out.0.number) (same out.1 out.1) (eq-eqb out.0.number out.0.number refl) (same-refl out.1))
+
+-- loads in turn begin with the next one
+pub in-turn-next : (place before : ℕ) (out : LoadId × List ℕ) (outs : Outs) → are_in_turn place before (out ∷ outs) ≡ true → (out.0.number ≡ suc before) × (are_in_turn place (suc before) outs ≡ true)
+in-turn-next place before out outs turn = grind (arith, and_parts, eqb-true)
+
+-- ---- an event
+
+key-there : (out : LoadId × List ℕ) (t : Situation) → is_sent t.pending out ≡ true → option_map_or (λ k. same k out.1) (key_in out.0.number t) false ≡ true
+key-there out t e = grind arith
+
+among-next : (place before : ℕ) (outs : Outs) (s t : Situation) (sent : Sendings) → are_in_turn place before outs ≡ true → s.sent ≤ before → list_all (is_sent t.pending) outs ≡ true → AreAmong outs (sendings_until s t sent)
+among-next place before [] s t sent turn few keys = All-nil (λ (o : LoadId × List ℕ). sendings_until s t sent o.0.number o.1 ≡ true)
+among-next place before (out ∷ outs) s t sent turn few keys =
+    let ours = in-turn-next place before out outs turn in
+    let is = ours.0 in
+    let there = and_parts (is_sent t.pending out) (list_all (is_sent t.pending) outs) keys in
+    let key = option_map_or (λ k. same k out.1) (key_in out.0.number t) false in
+    All-cons (λ (o : LoadId × List ℕ). sendings_until s t sent o.0.number o.1 ≡ true) out outs
+    (or_right (sent out.0.number out.1) (nat_lt s.sent out.0.number && key) (and_from (nat_lt s.sent out.0.number) key (lt-ltb s.sent out.0.number (omega (arith, is, few))) (key-there out t there.0)))
+    (among-next place (suc before) outs s t sent ours.1 (omega (arith, few)) there.1)
+
+-- where those in hand and those that are there to be taken were sent, so were those behind an event
+pub among-behind : (was is : BareSpace) (happened : Event) (s t : Situation) (entry : Record) (hand rest : Outs) (sent : Sendings) → served.Settled bare_tape was is happened → Turned shown_of bare_tape was is s entry → Follows (config_of was) s entry t
+    → StandsFor was s → (AreAmong hand sent → AreAmong rest sent) → AreAmong (hand ++ outgoing_of was) sent → AreAmong (rest ++ outgoing_of is) (sendings_until s t sent)
+among-behind was is happened s t entry hand rest sent settled turned follows stands leaves among =
+    let more = sendings_until s t sent in
+    let sends : SendsBehind was is = settled.stays.sends in
+    let behind = subst (λ u. StandsFor is u) (same_Some turned.next t (sym turned.follows ∙ follows)) turned.stands in
+    let before = sent-is was s stands in
+    let parts = among-parts hand (outgoing_of was) sent among in
+    among-more rest (outgoing_of is) more (among-later rest s t sent (leaves parts.0))
+    (subst (λ outs. AreAmong outs more) (sym sends.behind)
+    (among-more (outgoing_of was) sends.loads more (among-later (outgoing_of was) s t sent parts.1)
+    (among-next was.namespace was.sent sends.loads s t sent sends.in_turn (omega (arith, before)) (ap (λ l. list_all (is_sent l) sends.loads) (pending-is is t behind) ∙ sends.keys))))
+
+-- ---- the hand
+
+-- for what was refused the loader was asked by the key of a load in hand
+pub asked-refused : (hand outs : Outs) (refused : Option Doing) (sent : Sendings) → IfSome refused (IsOfHand hand) → AreAmong (hand ++ outs) sent → AskForSent (option_map_or asks_of refused []) sent
+asked-refused hand outs None sent of among = tt
+asked-refused hand outs (Some (did.Fed piece moment held)) sent of among = tt
+asked-refused hand outs (Some (did.Settled settling moment)) sent of among =
+    ((load_number settling, (each-last (λ load key. sent load key ≡ true) hand (load_number settling) (settling_asking settling).key of.0 of.1 (among-parts hand outs sent among).0).1), tt)
+asked-refused hand outs (Some did.Looked) sent of among = tt
+
+-- ---- loads are taken
+
+-- they come into the hand
+pub gone-same : (was is : BareSpace) (loads : Option Outs) (rest after : Outs) → MayGiveLoads loads was is → Keeps loads rest after → after ++ outgoing_of is ≡ rest ++ outgoing_of was
+gone-same was is None rest after same keeps = ap (λ outs. outs ++ outgoing_of is) keeps ∙ ap (λ y. rest ++ outgoing_of y) same
+gone-same was is (Some loads) rest after t keeps = grind (arith, append-nil)
+
+-- What becomes of the loads of a namespace, call by call, and over an exchange.
 
 -- ---- loads are sent later, or not at all
 
@@ -92,12 +180,7 @@ settles-load number was is happened of begun h = record {
 -- no load of that number is under way
 pub unfound : (number : ℕ) (loads : List PendingLoad) → is_some (option_map (λ (load : PendingLoad). load.key) (find (λ load. load.number == number) loads)) ≡ false → is_under_way number loads ≡ true → ⊥
 unfound number [] none under = let no : false ≡ true = under in cc
-unfound number (load ∷ loads) none under = go (unfound number loads) (load.number == number) none under
-  where
-    go : (is_some (option_map (λ (l : PendingLoad). l.key) (find (λ l. l.number == number) loads)) ≡ false → is_under_way number loads ≡ true → ⊥) → (b : Bool)
-        → is_some (option_map (λ (l : PendingLoad). l.key) (cond b (Some load) (find (λ l. l.number == number) loads))) ≡ false → (b || is_under_way number loads) ≡ true → ⊥
-    go next true some here = let no : true ≡ false = some in cc
-    go next false none there = next none there
+unfound number (load ∷ loads) none under = grind (arith, unfound number loads)
 
 -- ---- what is known of the loads of a namespace
 
@@ -131,23 +214,11 @@ accounts-none was is hand rest same left = subst (λ y. Accounts was y hand rest
 
 in-turn-has : (place before : ℕ) (outs : Outs) (n : ℕ) → are_in_turn place before outs ≡ true → before < n → n ≤ before + length outs → is_left n outs ≡ true
 in-turn-has place before [] n turn above few = absurd (omega (arith, above, few))
-in-turn-has place before (out ∷ outs) n turn above few =
-    let ours = in-turn-next place before out outs turn in
-    let is = ours.0 in
-    elim (cases_lt (suc before) n) [
-      | inl later ↦ or_right (out.0.number == n) (is_left n outs) (in-turn-has place (suc before) outs n ours.1 later (omega (arith, few)))
-      | inr here ↦ or_left (out.0.number == n) (is_left n outs) (eq-eqb out.0.number n (omega (arith, is, above, here)))
-    ]
+in-turn-has place before (out ∷ outs) n turn above few = grind (arith, in-turn-next, cases_lt, or_right, or_left, eq-eqb, in-turn-has place (suc before) outs n)
 
 in-turn-few : (place before : ℕ) (outs : Outs) (n : ℕ) → are_in_turn place before outs ≡ true → is_left n outs ≡ true → n ≤ before + length outs
 in-turn-few place before [] n turn left = let no : false ≡ true = left in cc
-in-turn-few place before (out ∷ outs) n turn left =
-    let ours = in-turn-next place before out outs turn in
-    let is = ours.0 in
-    elim (or_cases (out.0.number == n) (is_left n outs) left) [
-      | inl here ↦ (let it = eqb-true out.0.number n here in omega (arith, is, it))
-      | inr later ↦ (let few = in-turn-few place (suc before) outs n ours.1 later in omega (arith, few))
-    ]
+in-turn-few place before (out ∷ outs) n turn left = grind (arith, in-turn-next, or_cases, eqb-true, in-turn-few place (suc before) outs n)
 
 -- a load under way was sent
 pub sent-under : (x : BareSpace) (n : ℕ) → IsSound bare_tape x → UnderWay x n → n ≤ x.sent
@@ -159,9 +230,7 @@ taken-count was is loads sound t = let count = ap length t.taken in let few = so
 
 -- so one under way was taken before, or is one of them
 pub taken-or-left : (was is : BareSpace) (loads : Outs) (n : ℕ) → IsSound bare_tape was → TakesLoads was is loads → UnderWay was n → taken_of was < n → is_left n loads ≡ true
-taken-or-left was is loads n sound t under above =
-    let count = taken-count was is loads sound t in
-    let few = sent-under was n sound under in in-turn-has (place_of was) (taken_of was) loads n t.in_turn above (omega (arith, few, count))
+taken-or-left was is loads n sound t under above = grind (arith, taken-count, sent-under, in-turn-has)
 
 pub loads-same : (was is : BareSpace) (loads : Outs) → TakesLoads was is loads → pending_of is ≡ pending_of was
 loads-same was is loads t = ap pending_of t.rest
@@ -206,8 +275,7 @@ keeps-quiet was is happened held quiet idle plain begun takes =
 
 -- the last one is in hand, and the rest
 in-hand : (hand : Outs) (load : ℕ) (key : List ℕ) (rest : Outs) (n : ℕ) → IsLastOf hand load key rest → is_left n hand ≡ (is_left n rest || (load == n || false))
-in-hand hand load key rest n last =
-    ap (is_left n) last.2 ∙ list_any-append (λ (o : LoadId × List ℕ). o.0.number == n) rest ((last.0, key) ∷ []) ∙ ap (λ m. is_left n rest || (m == n || false)) last.1
+in-hand hand load key rest n last = grind (arith, list_any-append)
 
 -- the last of them is settled
 accounts-out : (was is : BareSpace) (hand : Outs) (load : ℕ) (key : List ℕ) (rest : Outs) → IsLastOf hand load key rest → SettlesLoad load was is → Accounts was is hand rest

@@ -1,49 +1,139 @@
--- Loads that are given up behind a closing, and what is under way behind them.
-use Rattle.std.proofs.Common.{◌≡◌, ℕ, suc, ◌≤◌, ◌+◌, Bool, true, false, not, ◌&&◌, ◌||◌, ◌==◌, List, [], ◌∷◌, ◌++◌, length, Some, refl, sym, ap, ◌∙◌, subst, arith, append_assoc, ◌≢◌, Option, None, inl, inr, is_none}
-use Rattle.std.specs.List.{flat_map, list_all}
-use Rattle.std.proofs.lemmas.Bool.{and_parts, cases_Bool, eq-eqb, and_from, cases_lt, ne_eqb, not-true, or_from, or_left, or_right}
-use Rattle.std.proofs.lemmas.List.Elements.{All-cons, All-nil}
-use Rattle.std.proofs.lemmas.List.{append-nil}
+-- How a namespace goes on by several calls, and by loads that are given up behind a closing.
+use Rattle.std.proofs.Common.{◌≡◌, ◌≢◌, ℕ, zero, suc, ◌-◌, ◌<◌, nat_lt, nat_le, List, [], ◌∷◌, ◌++◌, length, refl, sym, ap, ◌∙◌, subst, arith, slice_set, unwrap_or, ◌≤◌, ◌+◌, Bool, true, false, not, ◌&&◌, ◌||◌, ◌==◌, Some, append_assoc, Option, None, inl, inr, is_none}
+use Rattle.std.proofs.lemmas.Bool.{and_parts, ltb-true, cases_Bool, eq-eqb, and_from, cases_lt, ne_eqb, not-true, or_from, or_left, or_right}
 use Rattle.std.proofs.lemmas.Grind.{flat_map-append}
-use Rattle.audit_laws.proofs.Views.{same-true}
+use Rattle.std.proofs.lemmas.List.{append-nil}
+use Rattle.std.proofs.lemmas.List.Elements.{All-cons, All-nil}
+use Rattle.std.proofs.lemmas.List.Folds.{list_any-append}
+use Rattle.std.specs.List.{slice_get, flat_map, list_all}
+use Rattle.audit_model.specs.Belongs.{refusal_of}
 use Rattle.audit_model.specs.Bytewise.{same}
+use Rattle.audit_model.specs.Follows.{Follows}
 use Rattle.audit_model.specs.Situation.{Situation, PendingLoad, HeldValue, connection_in}
 use Rattle.audit_model.specs.declared.config.Config.{Config}
+use Rattle.audit_model.specs.declared.input.LoadId.{LoadId}
+use Rattle.audit_model.specs.declared.input.ServiceError.{ServiceError}
 use Rattle.audit_model.specs.declared.transcript.Note.{Note}
 use Rattle.audit_model.specs.declared.transcript.Record.{Record}
-use Rattle.audit_model.specs.declared.input.LoadId.{LoadId}
-use Rattle.cache_commands.specs.Loads.Keys.{agrees_on, are_in_turn, has_its_key, have_their_keys}
-use Rattle.audit_laws.specs.Waiting.Keys.{HasKey, IsKnown}
-use Rattle.cache_core.specs.Settling.{giving_up}
-use Rattle.cache_core.specs.Turned.{notes_in}
-use Rattle.cache_spaces.specs.Calls as served
-use Rattle.cache_spaces.specs.Calls.{TakesLoads, IsOpened}
-use Rattle.cache_spaces.specs.Spaces.{StandsFor, closing_of, config_of, notices_of, outgoing_of, place_of, taken_of, known_of}
-use Rattle.cache_spaces.specs.Bares.{BareSpace, bare_tape}
-use Rattle.cache_run.specs.Connected.{HasSituation}
-use Rattle.cache_run.specs.Happened.{AreDrops}
-use Rattle.cache_run.specs.Loading.{AreKnown, GivesLoads, OnlyGivesUp, GivesUpLoads, SameButLoads}
-use Rattle.cache_run.proofs.Accounting.{Accounted, adds-no-loads, loads-same, taken-count, taken-or-left, unfound}
-use Rattle.cache_run.proofs.Gone.{in-turn-next}
-use Rattle.cache_run.proofs.Led.{record-one, records-more}
-use Rattle.cache_run.proofs.Going.{goes-more, goes-same}
-use Rattle.cache_run.proofs.Happening.{goes-by, pending-is, sent-is, stays-closed, listed-is, none-where}
-use Rattle.std.proofs.lemmas.List.Folds.{list_any-append}
-use Rattle.audit_model.specs.Belongs.{refusal_of}
-use Rattle.audit_model.specs.declared.input.ServiceError.{ServiceError}
-use Rattle.cache_core.specs.State.{situation_with}
-use Rattle.cache_spaces.specs.Sound.{IsSound}
-use Rattle.cache_spaces.specs.Stores.{shown_of}
-use Rattle.audit_laws.specs.Waiting.Alone.{WaitsAlone}
-use Rattle.audit_laws.specs.Waiting.Closed.{NobodyWaits}
-use Rattle.audit_laws.specs.Waiting.Sending.{are_all, is_under_way}
-use Rattle.audit_laws.specs.Waiting.Tidy.{Tidy}
+use Rattle.audit_laws.proofs.Views.{same-true}
 use Rattle.audit_laws.proofs.waiting.Closed.{closed, given-up}
 use Rattle.audit_laws.proofs.waiting.Sending.{all-but, all-own, one-of}
-use Rattle.cache_run.specs.Accounts.{AddsNoLoads, DropsAll, DropsUnwaited, UnderWay, is_left, pending_of}
-use Rattle.cache_run.specs.Goes.{Goes}
+use Rattle.audit_laws.specs.Waiting.Alone.{WaitsAlone}
+use Rattle.audit_laws.specs.Waiting.Closed.{NobodyWaits}
+use Rattle.audit_laws.specs.Waiting.Keys.{HasKey, IsKnown}
+use Rattle.audit_laws.specs.Waiting.Sending.{are_all, is_under_way}
+use Rattle.audit_laws.specs.Waiting.Tidy.{Tidy}
+use Rattle.cache_commands.specs.Loads.Keys.{agrees_on, are_in_turn, has_its_key, have_their_keys}
+use Rattle.cache_lines.specs.Gathered.{reply_in}
+use Rattle.cache_core.proofs.connections.Getting.{at-other}
+use Rattle.cache_core.specs.Settling.{giving_up}
+use Rattle.cache_core.specs.State.{at_number, situation_with}
+use Rattle.cache_core.specs.Turned.{feeding, notes_in}
+use Rattle.cache_spaces.specs.Services.{BareSpace, bare_tape, IsSound}
+use Rattle.cache_spaces.specs.Calls.{IsOpened, TakesOutput, TakesLoads}
+use Rattle.cache_spaces.specs.Spaces.{StandsFor, closing_of, config_of, untaken_output, notices_of, outgoing_of, place_of, taken_of, known_of, shown_of}
+use Rattle.cache_run.proofs.Accounting.{Accounted, adds-no-loads, loads-same, taken-count, taken-or-left, unfound, AreAmong, in-turn-next}
+use Rattle.cache_run.proofs.Happening.{IsPlain, plain-record, goes-by, pending-is, sent-is, stays-closed, listed-is, none-where, give-up-first}
+use Rattle.cache_run.proofs.Led.{record-one, Led, led-turn, records-more}
+use Rattle.cache_run.specs.Loading.{AddsNoLoads, DropsAll, DropsUnwaited, UnderWay, is_left, pending_of, SameButLoads, AreKnown, GivesLoads, OnlyGivesUp, GivesUpLoads}
+use Rattle.cache_run.specs.Connected.{HasSituation}
+use Rattle.cache_run.specs.Driver.Exchanges.{Outs}
+use Rattle.cache_run.specs.Worlds.{Goes}
+use Rattle.cache_run.specs.Happened.{Fed, Sendings, record_of, sendings_until, AreDrops}
 use Rattle.cache_run.specs.Lent.{Drops, DropsBoth}
-use Rattle.cache_run.proofs.Refusing.{give-up-first}
+use Rattle.cache_spaces.specs.Calls as served
+
+-- one after another
+pub goes-more : (number : ℕ) (x y z : BareSpace) (F G H : Situation → Situation → Type 0) → Goes number x y F → Goes number y z G → ((s t u : Situation) → F s t → G t u → H s u) → Goes number x z H
+goes-more number x y z F G H a b h = record {
+  each = λ s stands alone.
+      let first = a.each s stands alone in
+      let second = b.each first.next first.stands first.alone in
+      record {
+        next = second.next;
+        stands = second.stands;
+        alone = second.alone;
+        fact = h s first.next second.next first.fact second.fact;
+        others = λ other ne. let p = first.others other ne in let q = second.others other ne in (q.0 ∙ p.0, q.1 ∙ p.1);
+      };
+  config = b.config ∙ a.config;
+}
+
+-- ---- what is the same
+
+-- a namespace of which only loads were taken stands for the same situations
+pub still-stands : (was is : BareSpace) (s : Situation) → SameButLoads was is → StandsFor was s → StandsFor is s
+still-stands was is s e x = subst (λ y. StandsFor y s) (sym e) (record { held = x.held; stands = x.stands; is = x.is })
+
+-- or of which replies were taken
+pub output-stands : (was is : BareSpace) (number : ℕ) (text : List ℕ) (s : Situation) → TakesOutput was is number text → StandsFor was s → StandsFor is s
+output-stands was is number text s t x = subst (λ y. StandsFor y s) (sym t.rest) (record { held = x.held; stands = x.stands; is = x.is })
+
+set-other : {A : Type 0} (d x : A) (xs : List A) (number other : ℕ) → 0 < number → other ≢ number → at_number d (slice_set xs (number - 1) x) other ≡ at_number d xs other
+set-other d x xs zero other positive ne = absurd (omega (arith, positive))
+set-other d x xs (suc place) zero positive ne = refl
+set-other {A} d x xs (suc place) (suc index) positive ne = grind (arith, at-other)
+
+set-own : (xs : List (List ℕ)) (number : ℕ) → at_number [] (slice_set xs (number - 1) []) number ≡ []
+set-own xs zero = refl
+set-own xs (suc place) =
+    let place_is : suc place - 1 ≡ place = omega arith in
+    ap (λ k. at_number [] (slice_set xs k []) (suc place)) place_is ∙ there xs place
+  where
+    there : (ys : List (List ℕ)) (i : ℕ) → unwrap_or (slice_get (slice_set ys i []) i) [] ≡ []
+    there [] i = refl
+    there (y ∷ ys) zero = refl
+    there (y ∷ ys) (suc i) = there ys i
+
+opened-positive : (space : BareSpace) (number : ℕ) → IsOpened space number → 0 < number
+opened-positive space number opened = ltb-true 0 number (and_parts (nat_lt 0 number) (nat_le number (length space.closings)) opened).0
+
+-- where replies were taken, those of others stay, and each connection is closed as it was
+module _ (was is : BareSpace) (number : ℕ) (text : List ℕ) (t : TakesOutput was is number text) where
+  pub output-others : (other : ℕ) → other ≢ number → (untaken_output is other ≡ untaken_output was other) × (closing_of is other ≡ closing_of was other)
+  output-others other ne = (ap (λ x. untaken_output x other) t.rest ∙ set-other [] [] was.outputs number other (opened-positive was number t.opened) ne, ap (λ x. closing_of x other) t.rest)
+
+  pub output-none : untaken_output is number ≡ []
+  output-none = ap (λ x. untaken_output x number) t.rest ∙ set-own was.outputs number
+
+-- a namespace of which only loads were taken
+pub goes-same : (number : ℕ) (was is : BareSpace) (F : Situation → Situation → Type 0) → SameButLoads was is → ((s : Situation) → StandsFor was s → F s s) → Goes number was is F
+goes-same number was is F same h = record {
+  each = λ s stands alone. record { next = s; stands = still-stands was is s same stands; alone = alone; fact = h s stands; others = λ other ne. (ap (λ x. untaken_output x other) same, ap (λ x. closing_of x other) same) };
+  config = ap config_of same;
+}
+
+-- nothing changed
+pub goes-still : (number : ℕ) (x : BareSpace) (F : Situation → Situation → Type 0) → ((s : Situation) → StandsFor x s → F s s) → Goes number x x F
+goes-still number x F h = goes-same number x x F refl h
+
+-- replies are taken behind it
+pub goes-output : (number : ℕ) (x y z : BareSpace) (text : List ℕ) (F : Situation → Situation → Type 0) → TakesOutput y z number text → Goes number x y F → Goes number x z F
+goes-output number x y z text F taken goes = record {
+  each = λ s stands alone.
+      let first = goes.each s stands alone in
+      record {
+        next = first.next;
+        stands = output-stands y z number text first.next taken first.stands;
+        alone = first.alone;
+        fact = first.fact;
+        others = λ other ne. let p = first.others other ne in let q = output-others y z number text taken other ne in (q.0 ∙ p.0, q.1 ∙ p.1);
+      };
+  config = ap config_of taken.rest ∙ goes.config;
+}
+
+-- ---- a piece
+
+-- the turn of a piece that was fed
+pub fed-turn : (config : Config) (number : ℕ) (piece : List ℕ) (moment : ℕ) (entry : Record) (s t : Situation) (before after : List Note) (text : List ℕ) (gone behind : Outs) → Follows config s entry t → entry.event ≡ feeding number piece moment
+    → ((sent : Sendings) → AreAmong gone sent → AreAmong behind (sendings_until s t sent)) → after ≡ before ++ notes_in entry → text ≡ flat_map reply_in entry.steps → Led config number s t before after piece (moment ∷ []) [] text gone behind
+fed-turn config number piece moment entry s t before after text gone behind follows is among notices replies =
+    let plain = plain-record config s t entry (feeding number piece moment) follows is (subst IsPlain (sym is) tt) in
+    let steps = entry.steps in
+    led-turn config number s t before after (Fed piece moment steps) text gone behind tt (λ sent were. (tt, among sent were)) (record-one config s (record_of (feeding number piece moment) steps) t (subst (λ e. Follows config s e t) plain follows))
+    (notices ∙ ap (λ e. before ++ notes_in e) plain ∙ ap (λ z. before ++ z) (sym (append-nil (flat_map (λ step. step.notices) steps)))) (replies ∙ sym (append-nil (flat_map reply_in steps)))
+
+-- Loads that are given up behind a closing, and what is under way behind them.
 
 pub are-drops-more : (xs ys : List Record) → AreDrops xs → AreDrops ys → AreDrops (xs ++ ys)
 are-drops-more [] ys a b = b
@@ -171,9 +261,7 @@ drops-more f g h x y z both p q none =
 
 -- the next of them
 not-left : (outs : List (LoadId × List ℕ)) (out : LoadId × List ℕ) (n : ℕ) → is_left n outs ≡ false → (n == out.0.number) ≡ false → is_left n (outs ++ out ∷ []) ≡ false
-not-left outs out n a b =
-    let turned : (out.0.number == n) ≡ false = ne_eqb out.0.number n (λ e. let no : true ≡ false = sym (eq-eqb n out.0.number (sym e)) ∙ b in cc) in
-    list_any-append (λ (o : LoadId × List ℕ). o.0.number == n) outs (out ∷ []) ∙ or_from (is_left n outs) (out.0.number == n || false) a (or_from (out.0.number == n) false turned refl)
+not-left outs out n a b = grind (arith, ne_eqb, eq-eqb, list_any-append, or_from)
 
 -- those that were taken are given up, then the rest are taken and given up
 drops-all : (outs loads : List (LoadId × List ℕ)) (x y z w : BareSpace) → IsSound bare_tape y → DropsUnwaited (λ n. is_left n outs) x y → TakesLoads y z loads → DropsUnwaited (λ n. is_left n loads) z w → DropsAll outs x w

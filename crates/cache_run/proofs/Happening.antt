@@ -1,53 +1,49 @@
 -- What an event and its record do to a namespace that keeps no journal.
-use Rattle.std.proofs.Common.{◌≡◌, ℕ, ◌≤◌, max, Bool, true, false, not, ◌&&◌, ◌==◌, cond, List, [], ◌∷◌, ◌++◌, Option, Some, None, if◌then◌else◌, refl, sym, ap, ◌∙◌, subst, arith, ◌≢◌, zero, suc, ◌<◌, ◌||◌, nat_lt, nat_le, length, is_some, inl, inr, is_none, unwrap_or}
-use Rattle.std.specs.List.{find, filter, flat_map, slice_get}
-use Rattle.std.specs.Option.{option_map_or}
+use Rattle.std.proofs.Common.{◌≡◌, ℕ, ◌≤◌, Bool, true, false, not, ◌&&◌, ◌==◌, cond, List, [], ◌∷◌, ◌++◌, Option, Some, None, if◌then◌else◌, refl, sym, ap, ◌∙◌, subst, arith, ◌≢◌, zero, suc, ◌<◌, ◌||◌, nat_lt, nat_le, length, is_some, inl, inr, is_none, unwrap_or, ◌^◌, ⊎_elim, ◌⊎◌, MatchOption}
 use Rattle.std.proofs.lemmas.Bool.{and_parts, and_from, eq-eqb, le-leb, leb-true, ne_eqb}
+use Rattle.std.proofs.lemmas.List.{append-nil}
 use Rattle.std.proofs.lemmas.Option.{none-some, same_Some, slice_get_past}
-use Rattle.audit_model.specs.Belongs.{refusal_of}
+use Rattle.std.specs.List.{find, flat_map, slice_get}
+use Rattle.std.specs.Option.{option_or}
+use Rattle.audit_model.specs.Belongs.{refusal_of, Known, refusal_of_outcome, refusal_where}
 use Rattle.audit_model.specs.Bytewise.{is_empty}
-use Rattle.audit_model.specs.Changes.{after_step, connection_after, join_by, join_load}
-use Rattle.audit_model.specs.Commands.{quits}
-use Rattle.audit_model.specs.Follows.{Follows, after_event, after_steps, known_in, placed_step_in, tasks_in}
-use Rattle.audit_model.specs.History.{Effect}
-use Rattle.audit_model.specs.Loads.{key_loaded}
+use Rattle.audit_model.specs.Follows.{Follows, after_event, after_steps, known_in, tasks_in}
+use Rattle.audit_model.specs.Grammar.{is_value}
 use Rattle.audit_model.specs.Obeys.{has_right_own_value, is_numbered}
-use Rattle.audit_model.specs.Places.{due, first_due, left_after, steps_of}
-use Rattle.audit_model.specs.Situation.{Situation, Connection, connection_in, may_run_in, with_connection, without_number}
-use Rattle.audit_model.specs.Steps.{Task, Store, is_right}
-use Rattle.audit_model.specs.Stream.{is_waiting}
+use Rattle.audit_model.specs.Places.{steps_of}
+use Rattle.audit_model.specs.Situation.{Situation, Connection, connection_in, without_number}
+use Rattle.audit_model.specs.declared.command.Closing.{Closing}
 use Rattle.audit_model.specs.declared.config.Config.{Config}
 use Rattle.audit_model.specs.declared.event.Event.{Event}
-use Rattle.audit_model.specs.declared.event.Event.TheVariants as event
+use Rattle.audit_model.specs.declared.event.Outcome.{Outcome}
+use Rattle.audit_model.specs.declared.input.ServiceError.{ServiceError}
 use Rattle.audit_model.specs.declared.transcript.Accepted.{Accepted}
 use Rattle.audit_model.specs.declared.transcript.Note.{Note}
 use Rattle.audit_model.specs.declared.transcript.Record.{Record}
 use Rattle.audit_model.specs.declared.transcript.Step.{Step}
-use Rattle.cache_run.specs.Happened.{record_of}
-use Rattle.std.proofs.lemmas.List.{append-nil}
-use Rattle.audit_model.specs.declared.command.Closing.{Closing}
-use Rattle.audit_model.specs.declared.command.Closing.TheVariants as by
-use Rattle.audit_laws.specs.Waiting.Alone.{IsTurnOf, StepsOf}
-use Rattle.audit_laws.proofs.waiting.Apart as apart
+use Rattle.audit_laws.proofs.Following.{passed}
 use Rattle.audit_laws.proofs.waiting.Events.{records}
-use Rattle.cache_core.specs.State.{at_number}
-use Rattle.cache_core.specs.Turned.{Turned, closing_behind, is_waiting_in, own_steps, reason_of, replies_to}
+use Rattle.audit_laws.specs.Waiting.Alone.{IsTurnOf, StepsOf}
 use Rattle.cache_lines.specs.Ended.{ends_silent}
 use Rattle.cache_lines.specs.Gathered.{reply_in}
 use Rattle.cache_lines.specs.Lines.{ends_quit}
-use Rattle.cache_spaces.specs.Calls.{IsOpened, ServesEvent, Settled}
-use Rattle.cache_spaces.specs.Sound.{IsSound}
-use Rattle.cache_spaces.specs.Spaces.{StandsFor, closing_of, config_of, untaken_output}
-use Rattle.cache_spaces.specs.Stores.{shown_of}
-use Rattle.cache_spaces.specs.Bares.{BareSpace, bare_tape}
+use Rattle.cache_core.specs.Settling.{answering, giving_up}
+use Rattle.cache_core.specs.State.{at_number}
+use Rattle.cache_core.specs.Turned.{Turned, closing_behind, is_waiting_in, own_steps, reason_of, replies_to}
+use Rattle.cache_spaces.proofs.Gaining.{record-opens}
+use Rattle.cache_spaces.specs.Services.{BareSpace, bare_tape, IsSound}
+use Rattle.cache_spaces.specs.Calls.{IsOpened, ServesEvent, Settled, RefusedFor}
+use Rattle.cache_spaces.specs.Spaces.{StandsFor, closing_of, config_of, untaken_output, known_of, shown_of}
 use Rattle.cache_run.specs.Connected.{HasSituation, IsEnded, IsOpenOrEnded}
-use Rattle.cache_run.specs.Goes.{Goes}
+use Rattle.cache_run.specs.Worlds.{Goes}
+use Rattle.cache_run.specs.Happened.{record_of}
+use Rattle.audit_model.specs.declared.event.Event.TheVariants as event
+use Rattle.audit_model.specs.declared.command.Closing.TheVariants as by
+use Rattle.audit_laws.proofs.waiting.Apart as apart
+use Rattle.audit_model.specs.declared.event.Outcome.TheVariants as came
+use Rattle.audit_model.specs.declared.input.ServiceError.TheVariants as error
 
 -- ---- what a record that follows passes
-
-passed : {A : Type 0} (b : Bool) (o : Option A) (t : A) → (if b then o else None) ≡ Some t → (b ≡ true) × (o ≡ Some t)
-passed true o t e = (refl, e)
-passed false o t e = absurd (none-some t e)
 
 pub none-of : {A : Type 0} (o : Option A) → is_none o ≡ true → o ≡ None
 none-of None e = refl
@@ -59,17 +55,13 @@ none-where (Some x) e = let no : true ≡ false = e in cc
 
 module _ (config : Config) (s t : Situation) (entry : Record) (e : Follows config s entry t) where
   test : (is_none (refusal_of config (known_in s) entry.event) && is_numbered s.opened entry.event && has_right_own_value entry) ≡ true
-  test = (passed (is_none (refusal_of config (known_in s) entry.event) && is_numbered s.opened entry.event && has_right_own_value entry) (after_steps config (after_event entry.event s) (tasks_in s entry.event) (steps_of entry)) t e).0
-
-  -- its event is not refused
-  pub unrefused : refusal_of config (known_in s) entry.event ≡ None
-  unrefused = none-of (refusal_of config (known_in s) entry.event) (and_parts (is_none (refusal_of config (known_in s) entry.event)) (is_numbered s.opened entry.event) (and_parts (is_none (refusal_of config (known_in s) entry.event) && is_numbered s.opened entry.event) (has_right_own_value entry) test).0).0
+  test = (passed (is_none (refusal_of config (known_in s) entry.event) && is_numbered s.opened entry.event && has_right_own_value entry) (after_steps config (after_event entry.event s) (tasks_in s entry.event) (steps_of entry)) t e).test
 
   own-value : has_right_own_value entry ≡ true
   own-value = (and_parts (is_none (refusal_of config (known_in s) entry.event) && is_numbered s.opened entry.event) (has_right_own_value entry) test).1
 
   pub steps-follow : after_steps config (after_event entry.event s) (tasks_in s entry.event) (steps_of entry) ≡ Some t
-  steps-follow = (passed (is_none (refusal_of config (known_in s) entry.event) && is_numbered s.opened entry.event && has_right_own_value entry) (after_steps config (after_event entry.event s) (tasks_in s entry.event) (steps_of entry)) t e).1
+  steps-follow = (passed (is_none (refusal_of config (known_in s) entry.event) && is_numbered s.opened entry.event && has_right_own_value entry) (after_steps config (after_event entry.event s) (tasks_in s entry.event) (steps_of entry)) t e).rest
 
 -- ---- the record of an event that is no answer has no value and no notes of its own
 
@@ -94,8 +86,7 @@ plain-by (event.Answer load outcome moment) own notices steps plain e = absurd p
 plain-by (event.GiveUp load moment) own notices steps plain e = plain-own (event.GiveUp load moment) own notices steps e
 
 pub plain-record : (config : Config) (s t : Situation) (entry : Record) (happened : Event) → Follows config s entry t → entry.event ≡ happened → IsPlain entry.event → entry ≡ record_of happened entry.steps
-plain-record config s t entry happened e is plain =
-    plain-by entry.event entry.own entry.notices entry.steps plain (own-value config s t entry e) ∙ ap (λ h. record_of h entry.steps) is
+plain-record config s t entry happened e is plain = grind (arith, plain-by, own-value)
 
 -- ---- an opening or a closing has no steps
 
@@ -113,65 +104,12 @@ plain-steps (event.GiveUp load moment) steps plain = refl
 -- such a record leads to where its event does
 pub quiet-steps : (config : Config) (s t : Situation) (entry : Record) (happened : Event) → entry.event ≡ happened → ((u : Situation) → tasks_in u happened ≡ []) → IsPlain happened → Follows config s entry t
     → (entry ≡ record_of happened []) × (t ≡ after_event happened s)
-quiet-steps config s t entry happened is idle plain follows =
-    let alike = plain-record config s t entry happened follows is (subst IsPlain (sym is) plain) in
-    let same : Follows config s (record_of happened entry.steps) t = subst (λ e. Follows config s e t) alike follows in
-    let steps = subst (λ l. after_steps config (after_event happened s) (tasks_in s happened) l ≡ Some t) (plain-steps happened entry.steps plain) (steps-follow config s t (record_of happened entry.steps) same) in
-    let none = no-steps config (after_event happened s) t entry.steps (subst (λ tasks. after_steps config (after_event happened s) tasks entry.steps ≡ Some t) (idle s) steps) in
-    (alike ∙ ap (record_of happened) none.0, none.1)
+quiet-steps config s t entry happened is idle plain follows = grind (arith, plain-record, IsPlain, plain-steps, steps-follow, no-steps)
 
 -- ---- the connections that were opened
 
-join-opened : (conn : ℕ) (waits : Bool) (of : Option (List ℕ)) (load : Option ℕ) (s : Situation) → (join_by conn waits of load s).opened ≡ s.opened
-join-opened conn waits None load s = refl
-join-opened conn waits (Some of) (Some number) s = refl
-join-opened conn true (Some of) None s = refl
-join-opened conn false (Some of) None s = refl
-
-own-opened : (task : Option Task) (step : Step) (effect : Effect) (s : Situation) (o : Option Connection)
-    → (option_map_or (λ c. with_connection (quits effect) (connection_after task step effect c) (join_load step.conn effect s)) o s).opened ≡ s.opened
-own-opened task step effect s None = refl
-own-opened task step effect s (Some c) = join-opened step.conn (is_waiting effect) (key_loaded effect.action) effect.load s
-
-step-opened : (config : Config) (s : Situation) (task : Option Task) (step : Step) (effect : Effect) → (after_step config s task step effect).opened ≡ s.opened
-step-opened config s (Some (Store of outcome)) step effect = refl
-step-opened config s task step effect = own-opened task step effect _ (connection_in step.conn s)
-
-steps-opened : (config : Config) (s t : Situation) (tasks : List Task) (more : List Step) → after_steps config s tasks more ≡ Some t → t.opened ≡ s.opened
-steps-opened config s t tasks [] e = go (is_empty (due (may_run_in s) tasks)) e
-  where
-    go : (b : Bool) → (if b then Some s else None) ≡ Some t → t.opened ≡ s.opened
-    go false h = absurd (none-some t h)
-    go true h = ap (λ (u : Situation). u.opened) (sym (same_Some s t h))
-steps-opened config s t tasks (step ∷ more) e =
-    by-right (λ u left h. steps-opened config u t left more h) (due (may_run_in s) tasks) (is_right config (placed_step_in config s (first_due (due (may_run_in s) tasks)) step)) e
-  where
-    Next : Type 0
-    Next = (u : Situation) (left : List Task) → after_steps config u left more ≡ Some t → t.opened ≡ u.opened
-
-    by-right : Next → (now_due : List Task) → (b : Bool)
-        → (if b then after_steps config (after_step config s (first_due now_due) step (placed_step_in config s (first_due now_due) step).effect) (left_after now_due) more else None) ≡ Some t → t.opened ≡ s.opened
-    by-right next now_due false h = absurd (none-some t h)
-    by-right next now_due true h =
-        next (after_step config s (first_due now_due) step (placed_step_in config s (first_due now_due) step).effect) (left_after now_due) h
-        ∙ step-opened config s (first_due now_due) step (placed_step_in config s (first_due now_due) step).effect
-
-fed-opened : (piece : List ℕ) (u : Situation) (o : Option Connection) → (option_map_or (λ c. with_connection false (record c { unread = c.unread ++ piece }) u) o u).opened ≡ u.opened
-fed-opened piece u None = refl
-fed-opened piece u (Some c) = refl
-
-event-opened : (s : Situation) (happened : Event) → s.opened ≤ (after_event happened s).opened
-event-opened s (event.Open c) = omega arith
-event-opened s (event.Close c) = omega arith
-event-opened s (event.Feed c piece moment) = let same = fed-opened piece (record s { latest = max moment.nanos s.latest }) (connection_in c s) in omega (arith, same)
-event-opened s (event.Answer load outcome moment) = omega arith
-event-opened s (event.GiveUp load moment) = omega arith
-
 pub record-opened : (config : Config) (s t : Situation) (entry : Record) → Follows config s entry t → s.opened ≤ t.opened
-record-opened config s t entry e =
-    let same = steps-opened config (after_event entry.event s) t (tasks_in s entry.event) (steps_of entry) (steps-follow config s t entry e) in
-    let first = event-opened s entry.event in
-    omega (arith, same, first)
+record-opened config s t entry e = let more = record-opens config s t entry e in omega (arith, more)
 
 -- ---- one that is listed behind others
 
@@ -182,20 +120,12 @@ found-behind k c (x ∷ xs) ne = ap (λ o. cond (x.number == c) (Some x) o) (fou
 -- one is found where one of that number is listed last
 pub found-last : (k : Connection) (c : ℕ) (ks : List Connection) → (k.number == c) ≡ true → is_none (find (λ x. x.number == c) (ks ++ k ∷ [])) ≡ false
 found-last k c [] is = ap (λ b. is_none (cond b (Some k) None)) is
-found-last k c (x ∷ xs) is = go (found-last k c xs is) (x.number == c)
-  where
-    go : is_none (find (λ (y : Connection). y.number == c) (xs ++ k ∷ [])) ≡ false → (b : Bool) → is_none (cond b (Some x) (find (λ (y : Connection). y.number == c) (xs ++ k ∷ []))) ≡ false
-    go next true = refl
-    go next false = next
+found-last k c (x ∷ xs) is = grind (arith, found-last k c xs is)
 
 -- none is, where those of that number are left out
 pub found-none : (c : ℕ) (ks : List Connection) → find (λ x. x.number == c) (without_number c ks) ≡ None
 found-none c [] = refl
-found-none c (x ∷ xs) = go (found-none c xs) (x.number == c) refl
-  where
-    go : find (λ (y : Connection). y.number == c) (without_number c xs) ≡ None → (b : Bool) → (x.number == c) ≡ b → find (λ (y : Connection). y.number == c) (cond (not b) (x ∷ without_number c xs) (without_number c xs)) ≡ None
-    go next true e = next
-    go next false e = ap (λ b. cond b (Some x) (find (λ (y : Connection). y.number == c) (without_number c xs))) e ∙ next
+found-none c (x ∷ xs) = grind (arith, found-none c xs)
 
 -- ---- what a situation says of a namespace
 
@@ -232,29 +162,16 @@ happened-so was is happened held t = record {
 -- the steps of other connections
 pub no-own-steps : (number other : ℕ) (steps : List Step) → StepsOf number steps → other ≢ number → own_steps other steps ≡ []
 no-own-steps number other [] own ne = refl
-no-own-steps number other (step ∷ steps) own ne = go (no-own-steps number other steps own.1 ne) (step.conn == other) (ne_eqb step.conn other (λ e. ne (sym e ∙ own.0)))
-  where
-    go : own_steps other steps ≡ [] → (b : Bool) → b ≡ false → cond b (step ∷ filter (λ (x : Step). x.conn == other) steps) (filter (λ (x : Step). x.conn == other) steps) ≡ []
-    go next true e = cc
-    go next false e = next
+no-own-steps number other (step ∷ steps) own ne = grind (arith, ne_eqb, no-own-steps number other steps own.1 ne)
 
 pub own-replies : (number : ℕ) (steps : List Step) → StepsOf number steps → replies_to number steps ≡ flat_map reply_in steps
 own-replies number [] own = refl
-own-replies number (step ∷ steps) own = go (own-replies number steps own.1) (step.conn == number) (eq-eqb step.conn number own.0)
-  where
-    go : replies_to number steps ≡ flat_map reply_in steps → (b : Bool) → b ≡ true
-        → flat_map reply_in (cond b (step ∷ filter (λ (x : Step). x.conn == number) steps) (filter (λ (x : Step). x.conn == number) steps)) ≡ reply_in step ++ flat_map reply_in steps
-    go next true e = ap (λ l. reply_in step ++ l) next
-    go next false e = cc
+own-replies number (step ∷ steps) own = grind (arith, eq-eqb, own-replies number steps own.1)
 
 -- a connection that is listed as it was is closed as it was
 pub same-closing : (config : Config) (s next : Situation) (entry : Record) (n : ℕ) (o : Option Closing) → connection_in n next ≡ connection_in n s → closing_behind config s entry next o n ≡ o
 same-closing config s next entry n (Some why) e = refl
-same-closing config s next entry n None e = ap (λ c. if is_some c || not (is_some (connection_in n s)) then None else Some (reason_of config s n entry.event entry.steps)) e ∙ go (is_some (connection_in n s))
-  where
-    go : (b : Bool) → (if b || not b then None else Some (reason_of config s n entry.event entry.steps)) ≡ None
-    go true = refl
-    go false = refl
+same-closing config s next entry n None e = grind arith
 
 -- ---- a feed, or a load that is settled
 
@@ -337,3 +254,98 @@ module _ (was is : BareSpace) (happened : Event) (h : Settled bare_tape was is h
 pub none-past : {A : Type 0} (other : A) (xs : List A) (number : ℕ) → length xs < number → at_number other xs number ≡ other
 none-past other xs zero lt = refl
 none-past {A} other xs (suc place) lt = ap (λ (o : Option A). unwrap_or o other) (slice_get_past xs place (omega (arith, lt)))
+
+-- Why a load is not settled.
+
+-- a give-up is refused only for its load, which is not under way, or for its moment, which is late
+give-up-kinds : (moment : ℕ) (under_way late : Bool) (e : ServiceError) → nat_le (2 ^ 63) moment ≡ late → option_or (refusal_where (not under_way) error.NoLoad) (refusal_where late error.Moment) ≡ Some e
+    → ((e ≡ error.NoLoad) × (under_way ≡ false)) ⊎ ((e ≡ error.Moment) × (2 ^ 63 ≤ moment))
+give-up-kinds moment false late e is r = inl (sym (same_Some error.NoLoad e r), refl)
+give-up-kinds moment true true e is r = inr (sym (same_Some error.Moment e r), leb-true (2 ^ 63) moment is)
+give-up-kinds moment true false e is r = absurd (none-some e r)
+
+pub give-up-late : (config : Config) (known : Known) (load moment : ℕ) → refusal_of config known (giving_up load moment) ≡ Some error.Moment → 2 ^ 63 ≤ moment
+give-up-late config known load moment r = grind (arith, give-up-kinds)
+
+pub give-up-unknown : (config : Config) (known : Known) (load moment : ℕ) (e : ServiceError) → refusal_of config known (giving_up load moment) ≡ Some e → e ≢ error.Moment → known.is_under_way load ≡ false
+give-up-unknown config known load moment e r ne = ⊎_elim (λ p. p.1) (λ p. absurd (ne p.0)) (give-up-kinds moment (known.is_under_way load) (nat_le (2 ^ 63) moment) e refl r)
+
+-- moment 0 is never late
+pub give-up-first : (config : Config) (known : Known) (load : ℕ) (e : ServiceError) → refusal_of config known (giving_up load 0) ≡ Some e → known.is_under_way load ≡ false
+give-up-first config known load e r = grind (arith, give-up-kinds)
+
+-- ---- an answer
+
+-- not what the bytes or the time of an outcome are refused with
+abbrev IsOther : ServiceError → Type 0
+IsOther e = (error.LineEnd ≢ e) × (error.TooLong ≢ e) × (error.Deadline ≢ e)
+
+moment-other : IsOther error.Moment
+moment-other = (λ h. cc, λ h. cc, λ h. cc)
+
+load-other : IsOther error.NoLoad
+load-other = (λ h. cc, λ h. cc, λ h. cc)
+
+bytes-kind : (e : ServiceError) → IsOther e → (line long : Bool) → option_or (refusal_where line error.LineEnd) (refusal_where long error.TooLong) ≢ Some e
+bytes-kind e other true long h = other.0 (same_Some error.LineEnd e h)
+bytes-kind e other false true h = other.1 (same_Some error.TooLong e h)
+bytes-kind e other false false h = none-some e h
+
+value-kind : (e : ServiceError) → IsOther e → (line long ms : Bool) → option_or (option_or (refusal_where line error.LineEnd) (refusal_where long error.TooLong)) (refusal_where ms error.Deadline) ≢ Some e
+value-kind e other true long ms h = other.0 (same_Some error.LineEnd e h)
+value-kind e other false true ms h = other.1 (same_Some error.TooLong e h)
+value-kind e other false false true h = other.2 (same_Some error.Deadline e h)
+value-kind e other false false false h = none-some e h
+
+-- an outcome is refused for its bytes or its time alone
+outcome-kind : (config : Config) (outcome : Outcome) (e : ServiceError) → IsOther e → refusal_of_outcome config outcome ≢ Some e
+outcome-kind config (came.Value bytes None) e other h = value-kind e other (not (is_value bytes)) (nat_lt 8192 (length bytes)) false h
+outcome-kind config (came.Value bytes (Some ms)) e other h = value-kind e other (not (is_value bytes)) (nat_lt 8192 (length bytes)) (not config.own_deadlines || nat_lt 999999999999 ms) h
+outcome-kind config came.None e other h = none-some e h
+outcome-kind config (came.Fault text) e other h = bytes-kind e other (not (is_value text)) (nat_lt 8192 (length text)) h
+
+abbrev Kind : ℕ → Bool → Option ServiceError → ServiceError → Type 0
+Kind moment under_way refused e = ((e ≡ error.NoLoad) × (under_way ≡ false)) ⊎ ((e ≡ error.Moment) × (2 ^ 63 ≤ moment)) ⊎ (refused ≡ Some e) ⊎ (e ≡ error.OutOfMemory)
+
+kinds : (moment : ℕ) (under_way late : Bool) (refused : Option ServiceError) (e : ServiceError) → nat_le (2 ^ 63) moment ≡ late
+    → MatchOption (option_or (refusal_where (not under_way) error.NoLoad) (option_or (refusal_where late error.Moment) refused)) (e ≡ error.OutOfMemory) (λ refusal. e ≡ refusal)
+    → Kind moment under_way refused e
+kinds moment false late refused e is r = inl (r, refl)
+kinds moment true true refused e is r = inr (inl (r, leb-true (2 ^ 63) moment is))
+kinds moment true false None e is r = inr (inr (inr r))
+kinds moment true false (Some refusal) e is r = inr (inr (inl (ap (λ x. Some x) (sym r))))
+
+-- the definition refuses it so, or memory was wanted
+abbrev RefusedAnswer : BareSpace → Event → ServiceError → Type 0
+RefusedAnswer space happened e = RefusedFor space happened false e
+
+unheld : (o : Option ServiceError) (e : ServiceError) → MatchOption o ((e ≡ error.OutOfMemory) ⊎ ((e ≡ error.HeldAgain) × (false ≡ true))) (λ refusal. e ≡ refusal) → MatchOption o (e ≡ error.OutOfMemory) (λ refusal. e ≡ refusal)
+unheld None e (inl memory) = memory
+unheld None e (inr again) = let no : false ≡ true = again.1 in cc
+unheld (Some refusal) e is = is
+
+answer-kinds : (space : BareSpace) (load : ℕ) (outcome : Outcome) (moment : ℕ) (e : ServiceError) → RefusedAnswer space (answering load outcome moment) e → Kind moment ((known_of space).is_under_way load) (refusal_of_outcome (config_of space) outcome) e
+answer-kinds space load outcome moment e r =
+    kinds moment ((known_of space).is_under_way load) (nat_le (2 ^ 63) moment) (refusal_of_outcome (config_of space) outcome) e refl (unheld (refusal_of (config_of space) (known_of space) (answering load outcome moment)) e r)
+
+pub answer-late : (space : BareSpace) (load : ℕ) (outcome : Outcome) (moment : ℕ) → RefusedAnswer space (answering load outcome moment) error.Moment → 2 ^ 63 ≤ moment
+answer-late space load outcome moment r = elim (answer-kinds space load outcome moment error.Moment r) [
+  | inl p ↦ (let h : error.Moment ≡ error.NoLoad = p.0 in cc)
+  | inr (inl p) ↦ p.1
+  | inr (inr (inl refused)) ↦ absurd (outcome-kind (config_of space) outcome error.Moment moment-other refused)
+  | inr (inr (inr e)) ↦ (let h : error.Moment ≡ error.OutOfMemory = e in cc)
+]
+
+-- no load of that number is under way
+pub answer-unknown : (space : BareSpace) (load : ℕ) (outcome : Outcome) (moment : ℕ) → RefusedAnswer space (answering load outcome moment) error.NoLoad → (known_of space).is_under_way load ≡ false
+answer-unknown space load outcome moment r = elim (answer-kinds space load outcome moment error.NoLoad r) [
+  | inl p ↦ p.1
+  | inr (inl p) ↦ (let h : error.NoLoad ≡ error.Moment = p.0 in cc)
+  | inr (inr (inl refused)) ↦ absurd (outcome-kind (config_of space) outcome error.NoLoad load-other refused)
+  | inr (inr (inr e)) ↦ (let h : error.NoLoad ≡ error.OutOfMemory = e in cc)
+]
+
+-- what is refused, and not for the load, the moment or memory, is the outcome
+pub answer-refused : (space : BareSpace) (load : ℕ) (outcome : Outcome) (moment : ℕ) (e : ServiceError) → RefusedAnswer space (answering load outcome moment) e → e ≢ error.NoLoad → e ≢ error.Moment → e ≢ error.OutOfMemory
+    → is_some (refusal_of_outcome (config_of space) outcome) ≡ true
+answer-refused space load outcome moment e r no_load no_moment no_memory = grind (arith, answer-kinds)

@@ -13,29 +13,26 @@ use Rattle.cache_core.specs.State.{situation_with}
 use Rattle.cache_core.specs.Turned.{notes_in, replies_to, feeding}
 use Rattle.cache_spaces.specs.Calls as served
 use Rattle.cache_spaces.specs.Calls.{TakesOutput, IsOpened}
-use Rattle.cache_spaces.specs.Spaces.{StandsFor, config_of, known_of, notices_of, untaken_output, closing_of, outgoing_of}
-use Rattle.cache_spaces.specs.Stores.{shown_of}
-use Rattle.cache_spaces.specs.Bares.{BareSpace, bare_tape}
-use Rattle.cache_run.specs.Goes.{Goes}
+use Rattle.cache_spaces.specs.Spaces.{StandsFor, config_of, known_of, notices_of, untaken_output, closing_of, outgoing_of, shown_of}
+use Rattle.cache_spaces.specs.Services.{BareSpace, bare_tape}
+use Rattle.cache_run.specs.Worlds.{Goes}
 use Rattle.cache_run.specs.Devices.Sources.{Asking}
 use Rattle.cache_run.specs.Happened.{Dropped, IsKeyOf, IsSettledBy, Settled, record_replies}
-use Rattle.cache_run.proofs.Gone.{AreAmong, among-behind, among-later, among-more, among-parts, gone-same}
+use Rattle.cache_run.proofs.Accounting.{AreAmong, among-behind, among-later, among-more, among-parts, gone-same, Accounts, AddsNone, accounted-none, accounts-behind, adds-none}
 use Rattle.cache_run.proofs.Led.{record-one, Led, led-turn, led-known, led-more, led-none}
-use Rattle.cache_run.proofs.Going.{goes-still, output-none, output-stands, still-stands, fed-turn, goes-more, goes-output, goes-same}
+use Rattle.cache_run.proofs.Dropping.{goes-still, output-none, output-stands, still-stands, fed-turn, goes-more, goes-output, goes-same, taken-same, known-given}
 use Rattle.cache_run.proofs.Happening.{goes-by, own-replies, happened-so, situation-behind, stays-fed, stays-opened, none-where}
 use Rattle.cache_core.specs.Settling.{answering, giving_up}
 use Rattle.cache_run.specs.Connected.{HasSituation, HasTakenReplies, IsFed}
-use Rattle.cache_run.proofs.Dropping.{taken-same, known-given}
 use Rattle.cache_run.specs.Driver.Exchanges as did
 use Rattle.cache_run.specs.Driver.Exchanges.{Doing, Exchange, Outs, AreDone, Chain, Hands, HaveClosed, Keeps, Leaves, LeavesNothing, asks_of, askings_in, bytes_of, moments_in, pieces_in, replies_in, told_of}
 use Rattle.cache_run.specs.Lent.{Comes, Does, MayGiveLoads}
 use Rattle.std.specs.List.{last_or}
 use Rattle.std.proofs.lemmas.Option.{none-some, same_Some}
 use Rattle.audit_laws.proofs.waiting.Keys.{answered-key, given-up-key}
-use Rattle.cache_spaces.specs.Sound.{IsSound}
+use Rattle.cache_spaces.specs.Services.{IsSound}
 use Rattle.cache_run.specs.Loading.{AreKnown, GivesLoads}
-use Rattle.cache_run.proofs.Accounting.{Accounts, AddsNone, accounted-none, accounts-behind, adds-none}
-use Rattle.cache_run.proofs.driver.Settled.{each-last, each-rest}
+use Rattle.cache_run.proofs.driver.Exchanges.{each-last, each-rest}
 
 -- ---- how the namespace goes on
 

@@ -14,10 +14,9 @@ use Rattle.audit_model.specs.declared.transcript.Note.{Note}
 use Rattle.audit_model.specs.declared.transcript.Record.{Record}
 use Rattle.cache_run.specs.Happened.{record_of, Turn, AreInPlace, AreRight, AskForSent, Sendings, turn_notes, records_in, IsInPlace, IsRight, asked_in, moment_in, piece_in, replies_in, sendings_of, sendings_until}
 use Rattle.cache_spaces.specs.Spaces.{notices_of, outgoing_of}
-use Rattle.cache_spaces.specs.Bares.{BareSpace}
+use Rattle.cache_spaces.specs.Services.{BareSpace}
 use Rattle.cache_core.specs.Turned.{notes_in}
-use Rattle.cache_run.specs.Carried.{Carried, Left, close_records, open_records, records_of}
-use Rattle.cache_run.specs.Worlds.{World, world}
+use Rattle.cache_run.specs.Worlds.{Carried, Left, close_records, open_records, records_of, World, world}
 use Rattle.std.specs.Io.KnownBytes.{Appends, Consumes}
 use Rattle.audit_laws.specs.Waiting.Keys.{IsKnown}
 use Rattle.audit_laws.proofs.waiting.Keys.{keeps}
@@ -26,7 +25,7 @@ use Rattle.cache_run.specs.Runs.{Quiet}
 use Rattle.cache_run.specs.Loading.{AreKnown}
 use Rattle.cache_run.specs.Driver.Drives.{Outside}
 use Rattle.cache_run.specs.Driver.Exchanges.{Outs}
-use Rattle.cache_run.proofs.Gone.{AreAmong}
+use Rattle.cache_run.proofs.Accounting.{AreAmong}
 
 split-through : (f g : Situation → Option Situation) (o : Option Situation) (t : Situation) (rest : Option Situation) → ((m : Situation) → f m ≡ Some t → g m ≡ rest) → option_and_then f o ≡ Some t → option_and_then g o ≡ rest
 split-through f g None t rest h e = absurd (none-some t e)

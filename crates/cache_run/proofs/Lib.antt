@@ -1,11 +1,6 @@
 pub mod Happening
-pub mod Going
-pub mod Refusing
 pub mod Dropping
 pub mod Accounting
-pub mod Gone
 pub mod Led
 pub mod Leading
-pub mod Ending
-pub mod Keeping
 pub mod Driving

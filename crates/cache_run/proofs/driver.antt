@@ -1,3 +1,1 @@
-pub mod Conversing
-pub mod Pieces
-pub mod Settled
+pub mod Exchanges

@@ -4,7 +4,7 @@ use Rattle.audit_model.specs.Situation.{Situation}
 use Rattle.audit_model.specs.declared.command.Closing.{Closing}
 use Rattle.audit_model.specs.declared.command.Closing.TheVariants as by
 use Rattle.cache_spaces.specs.Spaces.{StandsFor, closing_of, untaken_output}
-use Rattle.cache_spaces.specs.Bares.{BareSpace}
+use Rattle.cache_spaces.specs.Services.{BareSpace}
 
 -- the namespace stands for some situation
 pub record HasSituation (space : BareSpace) : Type 0 where

@@ -3,4 +3,3 @@ pub mod Driven
 pub mod Drives
 pub mod Exchanges
 pub mod Hosting
-pub mod Reading

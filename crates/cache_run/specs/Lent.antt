@@ -8,18 +8,16 @@ use Rattle.audit_model.specs.declared.input.Conn.{Conn}
 use Rattle.audit_model.specs.declared.input.ServiceError.{ServiceError}
 use Rattle.cache_core.specs.Settling.{answering, giving_up}
 use Rattle.cache_core.specs.Turned.{feeding}
-use Rattle.cache_spaces.specs.Bares.{BareSpace, bare_tape}
+use Rattle.cache_spaces.specs.Services.{BareSpace, bare_tape, IsSound}
 use Rattle.cache_spaces.specs.Calls.{At, InSpace, IsOpened, OpensNext, ServesEvent, Settled, TakesOutput}
-use Rattle.cache_spaces.specs.Sound.{IsSound}
 use Rattle.cache_spaces.specs.Spaces.{closing_of, config_of, known_of}
 use Rattle.cache_run.specs.Devices.Sources.{Asking}
 use Rattle.cache_run.specs.Driver.Exchanges as did
 use Rattle.cache_run.specs.Driver.Exchanges.{Answered, Doing, Dropped, Exchange, Fed, GivenUp, Looked, Outs}
 use Rattle.cache_run.specs.Driver.Hosting.{SettlesBy}
 use Rattle.cache_run.specs.declared.driver.host.Given.{Given}
-use Rattle.cache_run.specs.Accounts.{DropsAll, DropsUnwaited}
+use Rattle.cache_run.specs.Loading.{DropsAll, DropsUnwaited, GivesLoads, GivesUpLoads}
 use Rattle.cache_run.specs.Happened.{IsGivenUpFor}
-use Rattle.cache_run.specs.Loading.{GivesLoads, GivesUpLoads}
 
 -- ---- of one namespace
 

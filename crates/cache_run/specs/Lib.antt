@@ -2,10 +2,7 @@ pub mod Devices
 pub mod Driver
 pub mod Worlds
 pub mod Happened
-pub mod Carried
-pub mod Goes
 pub mod Connected
 pub mod Loading
-pub mod Accounts
 pub mod Lent
 pub mod Runs

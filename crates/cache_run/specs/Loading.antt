@@ -1,21 +1,57 @@
--- The loads of a connection's namespace, and what giving them up does.
-use Rattle.std.specs.Prelude.{◌≡◌, ◌≢◌, ℕ, List, ◌++◌, Some, None}
-use Rattle.std.specs.List.{flat_map}
+-- The loads of a connection's namespace: what happens to them, and what giving them up does.
+use Rattle.std.specs.Prelude.{◌≡◌, ℕ, ◌≤◌, ◌==◌, Bool, false, List, IsTrue, ◌≢◌, ◌++◌, Some, None}
+use Rattle.std.specs.List.{list_any, flat_map}
 use Rattle.audit_model.specs.Follows.{after_records}
-use Rattle.audit_model.specs.Situation.{Situation}
+use Rattle.audit_model.specs.Situation.{PendingLoad, Situation}
 use Rattle.audit_model.specs.declared.config.Config.{Config}
+use Rattle.audit_model.specs.declared.input.LoadId.{LoadId}
 use Rattle.audit_model.specs.declared.transcript.Note.{Note}
 use Rattle.audit_model.specs.declared.transcript.Record.{Record}
-use Rattle.audit_model.specs.declared.input.LoadId.{LoadId}
+use Rattle.audit_laws.specs.Waiting.Closed.{NobodyWaits}
 use Rattle.audit_laws.specs.Waiting.Keys.{IsKnown}
+use Rattle.audit_laws.specs.Waiting.Sending.{are_all, is_under_way}
 use Rattle.cache_core.specs.Turned.{notes_in}
-use Rattle.cache_spaces.specs.Bares.{BareSpace, bare_tape}
 use Rattle.cache_spaces.specs.Calls.{TakesLoads}
-use Rattle.cache_spaces.specs.Sound.{IsSound}
-use Rattle.cache_spaces.specs.Spaces.{closing_of, config_of, notices_of}
+use Rattle.cache_spaces.specs.Services.{BareSpace, bare_tape, IsSound}
+use Rattle.cache_spaces.specs.Spaces.{taken_of, closing_of, config_of, notices_of}
 use Rattle.cache_run.specs.Driver.Exchanges.{EachOut}
-use Rattle.cache_run.specs.Goes.{Goes}
+use Rattle.cache_run.specs.Worlds.{Goes}
 use Rattle.cache_run.specs.Happened.{AreDrops}
+
+-- the loads under way
+abbrev pub pending_of : BareSpace → List PendingLoad
+pending_of space = space.pending
+
+-- no load is under way that was not under way before
+abbrev pub AddsNoLoads : BareSpace → BareSpace → Type 0
+AddsNoLoads was is = IsTrue (are_all (λ n. is_under_way n (pending_of was)) (pending_of is))
+
+-- a load with this number is under way
+abbrev pub UnderWay : BareSpace → ℕ → Type 0
+UnderWay space number = IsTrue (is_under_way number (pending_of space))
+
+-- a load with this number is one of those that were taken and are left
+abbrev pub is_left : ℕ → List (LoadId × List ℕ) → Bool
+is_left number outs = list_any (λ out. out.0.number == number) outs
+
+-- nobody waits for a load, none was taken, and each load under way was under way before and was not dropped
+pub record DropsLoads (is_dropped : ℕ → Bool) (was is : BareSpace) : Type 0 where
+  pub taken : taken_of is ≡ taken_of was
+  pub nobody : NobodyWaits (pending_of is)
+  pub loads : (number : ℕ) → UnderWay is number
+      → UnderWay was number × (is_dropped number ≡ false)
+
+-- if nobody waits for a load, these loads are dropped
+abbrev pub DropsUnwaited : (ℕ → Bool) → BareSpace → BareSpace → Type 0
+DropsUnwaited is_dropped was is = NobodyWaits (pending_of was) → DropsLoads is_dropped was is
+
+-- if nobody waits for a load, each load under way was under way before, is none of these, and had been taken
+abbrev pub DropsAll : List (LoadId × List ℕ) → BareSpace → BareSpace → Type 0
+DropsAll outs was is =
+    NobodyWaits (pending_of was) → (number : ℕ) → UnderWay is number
+    → UnderWay was number × (is_left number outs ≡ false) × (number ≤ taken_of was)
+
+-- The loads of a connection's namespace, and what giving them up does.
 
 -- loads may have been taken, and nothing else changed
 abbrev pub SameButLoads : BareSpace → BareSpace → Type 0

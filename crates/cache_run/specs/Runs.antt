@@ -16,14 +16,12 @@ use Rattle.cache_spaces.specs.Calls.{At}
 use Rattle.cache_spaces.specs.Spaces.{closing_of, config_of, notices_of}
 use Rattle.audit_model.specs.declared.event.Outcome.{Outcome}
 use Rattle.audit_laws.specs.Waiting.Alone.{WaitsAlone}
-use Rattle.cache_run.specs.Accounts.{AddsNoLoads, pending_of}
-use Rattle.cache_spaces.specs.Bares.{BareSpace}
-use Rattle.cache_run.specs.Carried.{Broken, Carried, nothing_left}
+use Rattle.cache_run.specs.Loading.{AddsNoLoads, pending_of}
+use Rattle.cache_spaces.specs.Services.{BareSpace}
+use Rattle.cache_run.specs.Worlds.{Broken, Carried, nothing_left, outside, world, Goes}
 use Rattle.cache_run.specs.Connected.{IsEnded}
-use Rattle.cache_run.specs.Goes.{Goes}
 use Rattle.cache_run.specs.Happened.{record_of}
 use Rattle.cache_run.specs.Driver.Drives.{Outside}
-use Rattle.cache_run.specs.Worlds.{outside, world}
 use Rattle.cache_run.specs.declared.devices.errors.RunError.{RunError}
 use Rattle.cache_run.specs.declared.devices.errors.RunError.TheVariants.{OutOfMemory}
 

@@ -1,7 +1,7 @@
 //! A connection's closing, and the loads that are dropped after it.
 ghost use Rattle.std.specs.Prelude.{◌==◌};
 ghost use Rattle.cache_spaces.specs.Calls.{At};
-ghost use Rattle.cache_run.specs.Accounts.{is_left};
+ghost use Rattle.cache_run.specs.Loading.{is_left};
 ghost use Rattle.cache_run.specs.Lent.{ClosesAt, Drops, DropsBoth, IsThere};
 
 use crate::giving::take_sent;

@@ -57,10 +57,8 @@ impl Host for Lent {
         piece: &[u8],
         moment: u64,
     ) -> Result<Option<Given>, RunError> {
-        match feed_piece(place, conn, piece, moment) {
-            Ok(held) => Ok(Some(give(place, conn, held, true))),
-            Err(error) => Err(error),
-        }
+        let held = feed_piece(place, conn, piece, moment)?;
+        Ok(Some(give(place, conn, held, true)))
     }
 
     fn settle(
@@ -72,10 +70,8 @@ impl Host for Lent {
         moment: u64,
         wants_loads: bool,
     ) -> Result<Given, RunError> {
-        match settle(place, conn, load, said, moment) {
-            Ok(()) => Ok(give(place, conn, false, wants_loads)),
-            Err(error) => Err(error),
-        }
+        settle(place, conn, load, said, moment)?;
+        Ok(give(place, conn, false, wants_loads))
     }
 
     fn await_owed(&mut self, place: &mut Service, conn: Conn) -> Given {

@@ -3,7 +3,7 @@ ghost use Rattle.std.specs.Prelude.{◌≡◌, ◌<◌, [], length, IfErr, OnOk,
 ghost use Rattle.cache_run.specs.Devices.Sources.{HasToldLate};
 ghost use Rattle.cache_run.specs.Driver.Causes.{Fails, RunsOut};
 ghost use Rattle.cache_spaces.specs.Calls.{At};
-ghost use Rattle.cache_run.specs.Accounts.{pending_of};
+ghost use Rattle.cache_run.specs.Loading.{pending_of};
 ghost use Rattle.cache_run.specs.Runs.{RunsPartly, RunsWhole};
 
 use crate::devices::{Clock, Loader, RunError, Watched};
@@ -61,10 +61,7 @@ pub fn run<R: Read, W: Write, C: Clock, L: Loader>(
         → RunsOut R.remaining L.loads reader.old reader.new loader.old loader.new }
 {
     let mut host = Lent;
-    let mut session = match open(&mut host, service, alloc, namespace) {
-        Ok(session) => session,
-        Err(error) => return Err(error),
-    };
+    let mut session = open(&mut host, service, alloc, namespace)?;
     let outcome = outcome_of(converse(
         &mut host,
         service,

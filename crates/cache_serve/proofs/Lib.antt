@@ -1,7 +1,5 @@
-mod Asking
 mod Lines
 mod Outgoing
-mod Passing
 mod Refusing
 mod Seating
 mod Promised

@@ -6,9 +6,9 @@ use Rattle.std.specs.declared.alloc.Global.{Global}
 use Rattle.std.proofs.lemmas.List.Elements.{Contains-get_or}
 use Rattle.audit_model.specs.declared.input.Conn.{Conn}
 use Rattle.audit_model.specs.declared.input.LoadId.{LoadId}
-use Rattle.cache_serve.specs.Out.{AreOut}
+use Rattle.cache_serve.specs.Served.{AreOut}
 use Rattle.cache_serve.specs.Sitting.{IsReply}
-use Rattle.cache_shared.specs.Untaken.{WereOut, WereUntaken}
+use Rattle.cache_shared.specs.Looked.{WereOut, WereUntaken}
 use Rattle.cache_spaces.specs.Spaces.{Shown}
 
 module _ {C : Type 0} (spaces : C → List Shown) where

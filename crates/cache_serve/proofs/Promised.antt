@@ -16,11 +16,9 @@ use Rattle.audit_laws.specs.declared.receipts.receipt.Receipt.{Receipt}
 use Rattle.cache_run.specs.Devices.Sources.{Asking, Askings, Readings}
 use Rattle.cache_run.specs.declared.devices.errors.RunError.{RunError}
 use Rattle.cache_run.specs.declared.devices.watched.Watched.{Watched}
-use Rattle.cache_run.proofs.devices.Reading.{askings_more}
-use Rattle.cache_run.proofs.devices.Sending.{same_appends}
+use Rattle.cache_run.proofs.devices.Sending.{askings_more, same_appends}
 use Rattle.cache_run.specs.Driver.Drives.{IsOfHand, Outside, Rest, Talks, asked_of, late_of, lost_of}
-use Rattle.cache_run.proofs.driver.Settled.{because-map, each-last}
-use Rattle.cache_run.proofs.driver.Conversing.{asking_then, underway-stopped}
+use Rattle.cache_run.proofs.driver.Exchanges.{because-map, each-last, asking_then, underway-stopped}
 use Rattle.cache_run.specs.Driver.Causes.{Because, outcome_by}
 use Rattle.cache_run.specs.Driver.Driven.{ClosesAfter, ComesTo, Finished, Stopped, around}
 use Rattle.cache_run.specs.declared.devices.errors.RunError.TheVariants.{UsedUp}
@@ -30,19 +28,17 @@ use Rattle.cache_run.specs.declared.driver.session.Session.{Session}
 use Rattle.cache_run.specs.Driver.Exchanges as did
 use Rattle.cache_run.specs.Driver.Exchanges.{Doing, EachOut, Exchange, Outs, Settling, askings_in, load_number, moments_in, pieces_in, settling_asking}
 use Rattle.cache_serve.specs.Asked.{Asks, AsksOrNot, HasAskedSome, IsOfLoad, IsShort, MayBeGivenUp, Opens, ServesConnection, ServesConnectionOrNot, closing_inputs, inputs_of, settling_inputs, settlings_of}
-use Rattle.cache_serve.specs.Out.{HadGoneOut}
-use Rattle.cache_serve.specs.Served.{AsksAll, BeginsOrIdles, BeginsWith, WritesAll}
+use Rattle.cache_serve.specs.Served.{HadGoneOut, AsksAll, BeginsOrIdles, BeginsWith, WritesAll}
 use Rattle.cache_serve.specs.Sitting as sitting
 use Rattle.cache_serve.specs.Sitting.{SeatRests, tally}
 use Rattle.cache_shared.specs.Events.{IsUnfit}
-use Rattle.cache_serve.specs.Written.{Serves}
+use Rattle.cache_serve.specs.Served.{Serves}
 use Rattle.cache_shared.specs.declared.seat.Seat.{Seat}
 use Rattle.cache_shared.specs.declared.seat.Seating.{Ghosts as Ledgers}
-use Rattle.cache_shared.specs.Untaken.{WereUntaken}
+use Rattle.cache_shared.specs.Looked.{WereUntaken}
 use Rattle.cache_spaces.specs.Spaces.{Shown}
-use Rattle.cache_serve.proofs.Asking.{asks-more, asks-none, grows-more}
-use Rattle.cache_serve.specs.Seated.{SeatCloses, SeatComes, SeatDrops, SeatOpens, Tally}
-use Rattle.cache_serve.proofs.Passing.{Passed, chain-passed, deeds_in, texts-same, texts_in}
+use Rattle.cache_serve.proofs.Seating.{asks-more, asks-none, grows-more, Passed, chain-passed, deeds_in, texts-same, texts_in}
+use Rattle.cache_serve.specs.Asked.{SeatCloses, SeatComes, SeatDrops, SeatOpens, Tally}
 
 -- ---- what was refused: a load for which the loader was asked, and nothing was asked of the service; or a piece, for which the clock told late
 

@@ -1,20 +1,58 @@
--- The result of serving a connection.
-use Rattle.std.specs.Prelude.{◌≡◌, ℕ, ◌+◌, Bool, true, List, [], length, Option, Vec, Result, ◌⊎◌, MatchResult}
+-- The result of serving a connection, and what is written to it.
+use Rattle.std.specs.Prelude.{◌≡◌, ℕ, ◌+◌, ◌≤◌, List, length, Option, Bool, true, [], Vec, Result, ◌⊎◌, MatchResult}
+use Rattle.std.specs.List.{All, concat, Contains}
 use Rattle.std.specs.declared.alloc.Global.{Global}
 use Rattle.audit_model.specs.declared.event.Outcome.{Outcome}
 use Rattle.audit_model.specs.declared.input.Conn.{Conn}
+use Rattle.audit_model.specs.declared.input.LoadId.{LoadId}
 use Rattle.audit_laws.specs.declared.receipts.receipt.Receipt.{Receipt}
+use Rattle.cache_spaces.specs.Spaces.{Shown}
+use Rattle.cache_run.specs.Devices.Sent.{SentBut}
 use Rattle.cache_run.specs.Devices.Sources.{Asking, Askings}
 use Rattle.cache_run.specs.Devices.Watched.{device}
+use Rattle.cache_run.specs.Driver.Exchanges.{EachOut}
 use Rattle.cache_run.specs.declared.devices.watched.Watched.{Watched}
-use Rattle.cache_serve.specs.Asked.{Grows, Opens, ServesConnection, ServesConnectionOrNot}
-use Rattle.cache_serve.specs.Out.{HadGoneOut}
 use Rattle.cache_shared.specs.Events.{IsUnfit}
-use Rattle.cache_serve.specs.Written.{Serves}
+use Rattle.cache_shared.specs.Looked.{WereUntaken, WereOut}
 use Rattle.cache_shared.specs.Seats.{SameReceipts}
 use Rattle.cache_shared.specs.declared.seat.Seat.{Seat}
 use Rattle.cache_shared.specs.declared.seat.Seating.{Ghosts as Ledgers}
-use Rattle.cache_spaces.specs.Spaces.{Shown}
+use Rattle.cache_serve.specs.Asked.{Grows, Opens, ServesConnection, ServesConnectionOrNot}
+
+module _ {C : Type 0} (spaces : C → List Shown) (untaken : C → Conn → List ℕ) where
+  -- Texts were taken, and written one after the other, except for the rest. They are the replies of one connection of this namespace, each
+  -- taken from a service to which some journals that obey lead. There is at least one for each input that the seat counts, less the number
+  -- that is spared. This was asked for the connection.
+  pub record Serves (namespace : ℕ) (Asked : Conn → Type 0) (inputs later spared : ℕ)
+      (before after : Option (List ℕ)) (rest : List ℕ) : Type 0 where
+    pub conn : Conn
+    pub here : conn.namespace ≡ namespace
+    pub asked : Asked conn
+    pub texts : List (List ℕ)
+    pub taken : All (λ text. ∥ WereUntaken spaces untaken conn text ∥₁) texts
+    pub counted : later ≤ inputs + length texts + spared
+    pub sent : SentBut rest (concat texts) before after
+
+-- Loads that had been sent, with their keys.
+
+-- At some moment, in a service to which some journals that obey lead, the load with this number was among those of the namespace that had
+-- been sent and not taken, with this key.
+pub record WasOut {C : Type 0} (spaces : C → List Shown) (namespace number : ℕ)
+    (key : List ℕ) : Type 0 where
+  pub loads : List (LoadId × List ℕ)
+  pub out : WereOut spaces namespace loads
+  pub load : LoadId
+  pub among : Contains loads (load, key)
+  pub same : number ≡ load.number
+
+abbrev pub HadGoneOut : {C : Type 0} → (C → List Shown) → ℕ → ℕ → List ℕ → Type 0
+HadGoneOut spaces namespace number key = ∥ WasOut spaces namespace number key ∥₁
+
+-- each of these loads had been sent
+abbrev pub AreOut : {C : Type 0} → (C → List Shown) → ℕ → List (LoadId × List ℕ) → Type 0
+AreOut spaces namespace loads = EachOut (HadGoneOut spaces namespace) loads
+
+-- The result of serving a connection.
 
 -- the receipts that were gained begin with that of an opening whose output is this connection
 pub record BeginsWith (namespace : ℕ) (before after : List (Vec Receipt Global)) (conn : Conn) :

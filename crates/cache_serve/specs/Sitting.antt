@@ -12,16 +12,15 @@ use Rattle.cache_run.specs.Devices.Sources.{Asking, Askings}
 use Rattle.cache_run.specs.Driver.Exchanges.{Exchange, Outs}
 use Rattle.cache_run.specs.Driver.Hosting.{Suits}
 use Rattle.cache_run.specs.declared.driver.host.Given.{Given}
-use Rattle.cache_serve.specs.Asked.{Asks, AsksOrNot}
+use Rattle.cache_serve.specs.Asked.{Asks, AsksOrNot, SeatCloses, SeatComes, SeatDrops, SeatOpens, SeatSettles, Tally}
 use Rattle.cache_serve.specs.Cutting.{IsShortPiece}
-use Rattle.cache_serve.specs.Out.{AreOut, HadGoneOut}
-use Rattle.cache_serve.specs.Seated.{SeatCloses, SeatComes, SeatDrops, SeatOpens, SeatSettles, Tally}
+use Rattle.cache_serve.specs.Served.{AreOut, HadGoneOut}
 use Rattle.cache_shared.specs.Events.{IsUnfit}
 use Rattle.cache_shared.specs.Seats.{SameReceipts}
-use Rattle.cache_shared.specs.Untaken.{WereUntaken}
+use Rattle.cache_shared.specs.Looked.{WereUntaken}
 use Rattle.cache_shared.specs.declared.seat.Seat.{Seat}
 use Rattle.cache_shared.specs.declared.seat.Seating.{Ghosts as Ledgers}
-use Rattle.cache_spaces.specs.Inputs.{namespace_of}
+use Rattle.cache_spaces.specs.Calls.{namespace_of}
 use Rattle.cache_spaces.specs.Spaces.{Shown}
 
 -- its count and its receipts

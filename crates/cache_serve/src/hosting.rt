@@ -57,15 +57,14 @@ where
             failed = true;
             break;
         };
-        admit(rt, alloc, shared, namespace, devices, stream, &mut workers);
+        let _ = admit(rt, alloc, shared, namespace, devices, stream, &mut workers);
     }
-    Hosted {
-        seats: workers.finish(&rt),
-        failed,
-    }
+    let seats = workers.finish(&rt);
+    Hosted { seats, failed }
 }
 
-/// Serves one connection on a thread of its own, or here if none can be created.
+/// Serves one connection on a thread of its own, or here if none can be created. None, and the connection is closed, if what it needs is
+/// not available.
 fn admit<L, C, D, R>(
     rt: R,
     alloc: Global,
@@ -74,7 +73,7 @@ fn admit<L, C, D, R>(
     devices: &D,
     stream: TcpStream,
     workers: &mut Workers<L>,
-)
+) -> Option<()>
 where
     L: Seating + Send + Sync + 'static,
     C: Shareable + Send + 'static,
@@ -83,19 +82,10 @@ where
 {
     // The replies of a piece go out in several writes, and none of them should wait for the client's acknowledgement.
     let _ = stream.set_nodelay(true);
-    let Ok((place, done)) = workers.reserve(&rt) else {
-        return;
-    };
-    let Some(devices) = devices.make(alloc) else {
-        return;
-    };
-    let theirs: Result<_, _> = shared.clone();
-    let Ok(shared) = theirs else {
-        return;
-    };
-    let Some(seat) = workers.take_seat(&rt, &shared) else {
-        return;
-    };
+    let (place, done) = workers.reserve(&rt).ok()?;
+    let devices = devices.make(alloc)?;
+    let shared = SharedService::clone(shared).ok()?;
+    let seat = workers.take_seat(&rt, &shared)?;
     let spawned = thread::spawn(&rt, move || {
         let (mut clock, mut loader, mut teller) = devices;
         let mut seat = seat;
@@ -116,9 +106,7 @@ where
     });
     match spawned {
         Ok(thread) => workers.add(thread),
-        Err(refused) => {
-            let SpawnError { value } = refused;
-            workers.give_back(&rt, place, value());
-        }
+        Err(SpawnError { value }) => workers.give_back(&rt, place, value()),
     }
+    Some(())
 }

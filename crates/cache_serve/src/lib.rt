@@ -3,7 +3,6 @@
 
 mod cutting;
 mod devices;
-mod errors;
 mod hosting;
 mod pausing;
 mod serving;

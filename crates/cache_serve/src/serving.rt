@@ -116,14 +116,10 @@ pub fn serve_and_tell<
     ensures moment { IsErrOf result RunError.Moment → HasToldLate K.reads clock.new }
     ensures loader { HasAskedSome D.loads loader.old loader.new }
 {
-    let mut sitting = match Sitting::new(rt, alloc, shared, teller) {
-        Ok(sitting) => sitting,
-        Err(_) => return Err(RunError::OutOfMemory),
+    let Ok(mut sitting) = Sitting::new(rt, alloc, shared, teller) else {
+        return Err(RunError::OutOfMemory);
     };
-    let mut session = match open(&mut sitting, seat, alloc, namespace) {
-        Ok(session) => session,
-        Err(error) => return Err(error),
-    };
+    let mut session = open(&mut sitting, seat, alloc, namespace)?;
     for _turn in rt.forever() {
         let ended = converse(
             &mut sitting,

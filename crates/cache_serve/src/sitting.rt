@@ -1,5 +1,5 @@
 //! The host of a connection that has a seat of a shared service.
-ghost use Rattle.std.specs.Prelude.{◌≡◌, ◌≤◌, ◌^◌, true, false, IfOk, IfErr, IfSome, OnOk, OnErr};
+ghost use Rattle.std.specs.Prelude.{◌≡◌, ◌≤◌, ◌⊎◌, ◌^◌, true, false, IfOk, IfErr, IfSome, OnOk, OnErr};
 ghost use Rattle.audit_model.specs.declared.input.Conn.{Conn};
 ghost use Rattle.cache_run.specs.Driver.Hosting.{Stops};
 ghost use Rattle.cache_serve.specs.Asked.{give_up_input};
@@ -10,12 +10,11 @@ ghost use Rattle.cache_shared.specs.Looked.{Owes};
 
 use crate::cutting::{length_of_cut, lines_after};
 use crate::devices::Teller;
-use crate::errors::error_of_refusal;
 use crate::pausing::pause;
 use audit_model::{Bytes, Conn, Input, Instant, LoadId, Note, Outcome, Seq, ServiceError};
 use cache_run::{Given, Host, Loader, RunError};
-use cache_shared::{Owed, Seat, Seating, Shareable, SharedService, Turn};
-use cache_spaces::{Output, Refusal};
+use cache_shared::{Owed, Seat, Seating, Shareable, SharedService};
+use cache_spaces::Output;
 use std::alloc::{AllocError, Global};
 use std::sync::Wait;
 
@@ -43,19 +42,16 @@ impl<'a, L: Seating, C: Shareable, T: Teller, R: Wait> Sitting<'a, L, C, T, R> {
         teller: &'a mut T,
     ) -> Result<Self, AllocError> {
         let room = if teller.is_told() { NOTES_AT_ONCE } else { 0 };
-        let notes = Vec::with_capacity(alloc, room)?;
         Ok(Sitting {
             rt,
             alloc,
             shared,
             teller,
-            notes,
+            notes: Vec::with_capacity(alloc, room)?,
             replied: 0,
         })
     }
-}
 
-impl<L: Seating, C: Shareable, T: Teller, R: Wait> Sitting<'_, L, C, T, R> {
     /// Reports the notes that were taken, and those for which there was no room.
     fn tell_notes(&mut self, namespace: u64) {
         for _turn in 0..u64::MAX {
@@ -68,9 +64,8 @@ impl<L: Seating, C: Shareable, T: Teller, R: Wait> Sitting<'_, L, C, T, R> {
             if !is_full {
                 return;
             }
-            let _ = self
-                .shared
-                .take_notices(self.rt, namespace, &mut self.notes);
+            let notes = &mut self.notes;
+            let _ = self.shared.take_notices(self.rt, namespace, notes);
         }
     }
 
@@ -79,21 +74,15 @@ impl<L: Seating, C: Shareable, T: Teller, R: Wait> Sitting<'_, L, C, T, R> {
         ensures { (conn : Conn) → Owes C.spaces C.untaken conn wants_loads owed
             → Gives C.spaces C.untaken conn wants_loads result }
     {
-        let Owed {
-            replies,
-            loads,
-            closing,
-            waits,
-        } = owed;
-        if let Some(text) = &replies {
+        if let Some(text) = &owed.replies {
             self.replied = self.replied.saturating_add(text.len());
         }
         Given {
             held,
-            replies,
-            loads,
-            closing,
-            waits,
+            replies: owed.replies,
+            loads: owed.loads,
+            closing: owed.closing,
+            waits: owed.waits,
         }
     }
 
@@ -111,25 +100,19 @@ impl<L: Seating, C: Shareable, T: Teller, R: Wait> Sitting<'_, L, C, T, R> {
         ensures late { IfErr result (λ e. e ≡ ServiceError.Moment → IsLate input) }
         ensures unfit { IfErr result (λ e. is_of_outcome e ≡ true → IsUnfitAnswer input) }
     {
-        let turn = match self
-            .shared
-            .turn(self.rt, seat, conn, input, wants_loads, &mut self.notes)
-        {
-            Ok(turn) => turn,
-            Err(Refusal { error, .. }) => return Err(error),
-        };
+        let Sitting { shared, notes, .. } = self;
+        let turn = shared.turn(self.rt, seat, conn, input, wants_loads, notes)?;
         self.tell_notes(conn.namespace);
-        let Turn { output, owed } = turn;
-        Ok(self.give(owed, matches!(output, Output::Held), wants_loads))
+        let is_held = matches!(turn.output, Output::Held);
+        Ok(self.give(turn.owed, is_held, wants_loads))
     }
 
     /// What a connection is owed; notes are reported.
     fn take_owed(&mut self, conn: Conn, wants_loads: bool) -> Given
         ensures { Gives C.spaces C.untaken conn wants_loads result }
     {
-        let owed = self
-            .shared
-            .take_owed(self.rt, conn, wants_loads, &mut self.notes);
+        let notes = &mut self.notes;
+        let owed = self.shared.take_owed(self.rt, conn, wants_loads, notes);
         self.tell_notes(conn.namespace);
         self.give(owed, false, wants_loads)
     }
@@ -229,11 +212,9 @@ impl<L: Seating, C: Shareable, T: Teller, R: Wait> Sitting<'_, L, C, T, R> {
             seat.old seat.new loader.old loader.new }
     {
         let said = loader.load(key);
-        match self.settle_load(seat, conn, load, said, 0, false) {
-            Ok(_) => return,
-            Err(_) => {}
+        if let Err(_) = self.settle_load(seat, conn, load, said, 0, false) {
+            let _ = self.give_up(seat, conn, load, 0, false);
         }
-        let _ = self.give_up(seat, conn, load, 0, false);
     }
 
     /// Asks the loader for loads of a connection that has closed, the last first, and settles them.
@@ -281,7 +262,7 @@ impl<L: Seating, C: Shareable, T: Teller, R: Wait> Host for Sitting<'_, L, C, T,
         match self.shared.step(self.rt, place, Input::Open { namespace }) {
             Ok(Output::Opened { conn }) => Ok(conn),
             Ok(_) => unreachable!(),
-            Err(Refusal { error, .. }) => Err(error_of_refusal(error)),
+            Err(refusal) => Err(error_of_refusal(refusal.error)),
         }
     }
 
@@ -298,9 +279,7 @@ impl<L: Seating, C: Shareable, T: Teller, R: Wait> Host for Sitting<'_, L, C, T,
         piece: &[u8],
         moment: u64,
     ) -> Result<Option<Given>, RunError> {
-        let Ok(copy) = Vec::from_slice(self.alloc, piece) else {
-            return Err(RunError::OutOfMemory);
-        };
+        let copy = Vec::from_slice(self.alloc, piece).map_err(|_| RunError::OutOfMemory)?;
         let input = Input::Feed {
             conn,
             piece: Seq::from_vec(copy),
@@ -337,12 +316,7 @@ impl<L: Seating, C: Shareable, T: Teller, R: Wait> Host for Sitting<'_, L, C, T,
         // A closing that is refused for memory is tried again.
         for _try in 0..u64::MAX {
             match self.shared.step(self.rt, place, Input::Close { conn }) {
-                Err(
-                    Refusal {
-                        error: ServiceError::OutOfMemory,
-                        ..
-                    },
-                ) => pause(self.rt),
+                Err(refusal) if refusal.error == ServiceError::OutOfMemory => pause(self.rt),
                 _ => return,
             }
         }
@@ -358,13 +332,12 @@ impl<L: Seating, C: Shareable, T: Teller, R: Wait> Host for Sitting<'_, L, C, T,
         self.drop_each(place, conn, hand, loader);
         for _turn in 0..u64::MAX {
             let Given { loads, .. } = self.take_owed(conn, true);
-            let Some(loads) = loads else {
-                return;
-            };
-            if loads.is_empty() {
-                return;
+            match loads {
+                Some(loads) if !loads.is_empty() => {
+                    self.drop_each(place, conn, loads.as_slice(), loader);
+                }
+                _ => return,
             }
-            self.drop_each(place, conn, loads.as_slice(), loader);
         }
     }
 
@@ -374,4 +347,17 @@ impl<L: Seating, C: Shareable, T: Teller, R: Wait> Host for Sitting<'_, L, C, T,
 
     ghost closes_behind = { λ conn p q r rests closes.
         closes-behind conn (tally p) (tally q) (tally r) rests closes };
+}
+
+/// Why a connection stops after an input of it was refused.
+fn error_of_refusal(error: ServiceError) -> RunError
+    ensures { (result ≡ RunError.OutOfMemory)
+        ⊎ ((result ≡ RunError.UsedUp) × (error ≡ ServiceError.UsedUp))
+        ⊎ ((result ≡ RunError.Moment) × (error ≡ ServiceError.Moment)) }
+{
+    match error {
+        ServiceError::UsedUp => RunError::UsedUp,
+        ServiceError::Moment => RunError::Moment,
+        _ => RunError::OutOfMemory,
+    }
 }

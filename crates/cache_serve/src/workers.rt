@@ -26,37 +26,16 @@ impl Done {
         }
     }
 
-    /// Makes room for the places of this many threads.
-    fn reserve(&self, rt: &impl Wait, threads: usize) -> Result<(), AllocError> {
-        self.places.lock(rt).reserve(threads)
-    }
-
     /// Notes that the thread of a place is about to end. There must be room for it.
     pub fn tell(&self, rt: &impl Wait, place: usize) {
         let _ = self.places.lock(rt).push(place);
         self.told.notify_one();
     }
 
-    /// Removes a place at which no thread runs.
-    fn forget(&self, rt: &impl Wait, place: usize) {
-        self.places.lock(rt).retain(|told| *told != place);
-    }
-
-    /// Takes a place that was noted.
-    fn take(&self, rt: &impl Wait) -> Option<usize> {
-        self.places.lock(rt).pop()
-    }
-
-    /// Waits for a place that is noted, and takes it.
-    fn wait(&self, rt: &impl Wait) -> usize {
-        let mut guard = self.places.lock(rt);
-        for _ in rt.forever() {
-            match guard.pop() {
-                Some(place) => return place,
-                None => guard = self.told.wait(rt, guard),
-            }
-        }
-        unreachable!()
+    /// Waits until a place is noted.
+    fn wait(&self, rt: &impl Wait) {
+        let places = self.places.lock(rt);
+        let _ = self.told.wait_while(rt, places, |places| places.is_empty());
     }
 }
 
@@ -101,7 +80,7 @@ impl<L: Seating + Send + Sync + 'static> Workers<L> {
         self.running.reserve(1)?;
         let threads = self.running.len().saturating_add(1);
         self.seats.reserve(threads)?;
-        self.done.reserve(rt, threads)?;
+        self.done.places.lock(rt).reserve(threads)?;
         let done = Arc::try_clone(&self.done)?;
         Ok((self.running.vacant_key(), done))
     }
@@ -120,14 +99,10 @@ impl<L: Seating + Send + Sync + 'static> Workers<L> {
         let _ = self.running.insert(thread);
     }
 
-    /// Takes back a seat whose work was done here, although the end of a thread was noted.
+    /// Takes back a seat whose work was done here, although the end of a thread was noted. A seat for which there is not enough memory is
+    /// lost, and `SharedService::finish` then returns everything.
     pub fn give_back(&mut self, rt: &impl Wait, place: usize, seat: Seat<L>) {
-        self.done.forget(rt, place);
-        self.keep(seat);
-    }
-
-    /// Keeps a seat. If there is not enough memory it is lost, and `SharedService::finish` then returns everything.
-    fn keep(&mut self, seat: Seat<L>) {
+        self.done.places.lock(rt).retain(|told| *told != place);
         let _ = self.seats.push(seat);
     }
 
@@ -141,19 +116,12 @@ impl<L: Seating + Send + Sync + 'static> Workers<L> {
     ) -> Option<TcpStream> {
         for _try in rt.forever() {
             self.join_done(rt);
-            let error = match listener.accept() {
+            match listener.accept() {
                 Ok((stream, _)) => return Some(stream),
-                Err(error) => error,
-            };
-            if is_of_client(error.kind()) {
-                continue;
-            }
-            if !self.running.is_empty() {
-                self.join_next(rt);
-            } else if is_of_want(&error) {
-                pause(rt);
-            } else {
-                return None;
+                Err(error) if is_of_client(error.kind()) => {}
+                Err(_) if !self.running.is_empty() => self.done.wait(rt),
+                Err(error) if is_of_want(&error) => pause(rt),
+                Err(_) => return None,
             }
         }
         unreachable!()
@@ -162,36 +130,20 @@ impl<L: Seating + Send + Sync + 'static> Workers<L> {
     /// Joins the threads that are done, without waiting for those that run.
     fn join_done<R: Threads + Wait>(&mut self, rt: &R) {
         for _joined in 0..self.running.len() {
-            match self.done.take(rt) {
-                Some(place) => self.join(rt, place),
-                None => return,
+            let Some(place) = self.done.places.lock(rt).pop() else {
+                return;
+            };
+            if let Some(thread) = self.running.try_remove(place) {
+                let _ = self.seats.push(thread.join(rt));
             }
         }
     }
 
-    /// Waits until a thread is done, and joins it.
-    fn join_next<R: Threads + Wait>(&mut self, rt: &R) {
-        let place = self.done.wait(rt);
-        self.join(rt, place);
-    }
-
-    /// Joins the thread of a place.
-    fn join<R: Threads + Wait>(&mut self, rt: &R, place: usize) {
-        if let Some(thread) = self.running.try_remove(place) {
-            self.keep(thread.join(rt));
-        }
-    }
-
     /// Joins all threads, and returns the seats, in no order.
-    pub fn finish(self, rt: &impl Threads) -> Vec<Seat<L>> {
-        let Workers {
-            mut running,
-            mut seats,
-            done: _,
-        } = self;
-        for thread in running.drain() {
-            let _ = seats.push(thread.join(rt));
+    pub fn finish(mut self, rt: &impl Threads) -> Vec<Seat<L>> {
+        for thread in self.running.drain() {
+            let _ = self.seats.push(thread.join(rt));
         }
-        seats
+        self.seats
     }
 }

@@ -1,8 +1,7 @@
 //! Services, and inputs of them.
 ghost use Rattle.std.specs.Prelude.{true, false, IfSome};
-ghost use Rattle.cache_shared.specs.Bared.{bare_spaces, no_journals};
+ghost use Rattle.cache_shared.specs.Recordings.{bare_spaces, no_journals, journals_in, spaces_in};
 ghost use Rattle.cache_shared.specs.Events.{StandsAfter};
-ghost use Rattle.cache_shared.specs.Recordings.{journals_in, spaces_in};
 
 use audit_model::{
     Bytes, Config, Conn, EvictionPolicy, Input, Instant, LoadId, Outcome, Seq, Weight,

@@ -1,8 +1,7 @@
 //! What is played over a shared service.
 ghost use Rattle.std.specs.Prelude.{◌≡◌, true, false};
-ghost use Rattle.cache_shared.specs.Bared.{bare_spaces, no_journals};
+ghost use Rattle.cache_shared.specs.Recordings.{bare_spaces, no_journals, journals_in, spaces_in};
 ghost use Rattle.cache_shared.specs.Events.{StandsAfter};
-ghost use Rattle.cache_shared.specs.Recordings.{journals_in, spaces_in};
 
 use crate::crews::{Crew, Script, all_work, finish_at_last, follows};
 use crate::hosting::{Visit, is_visit_so};

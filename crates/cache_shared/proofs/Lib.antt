@@ -1,5 +1,2 @@
-pub mod Keeping
-pub mod Agreeing
-mod Moving
 pub mod Performing
-mod Stepping
+pub mod Stepping

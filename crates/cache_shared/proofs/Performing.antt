@@ -17,22 +17,17 @@ use Rattle.audit_laws.specs.declared.receipts.output.Output.{Output}
 use Rattle.cache_core.proofs.connections.Getting.{found-at, set-same}
 use Rattle.cache_spaces.proofs.Journaling.{journal-at, mapped}
 use Rattle.cache_spaces.proofs.Placing.{at-is}
-use Rattle.cache_spaces.proofs.Reaching.{count-empty, count-more, reached-none, reached-shown}
-use Rattle.cache_spaces.proofs.Showing.{at-shown, in-shown, performs-shown, refused-shown, refuses-shown}
-use Rattle.cache_shared.specs.Untaken.{RefusesCopy}
-use Rattle.cache_spaces.specs.Bares.{BareSpace, bare_tape}
-use Rattle.cache_spaces.specs.Calls.{At, InSpace, IsOpened, IsUnknown, Refuses, TakesLoads, TakesNotice, TakesOutput}
-use Rattle.cache_spaces.specs.Inputs.{Performs, RefusedInput, namespace_of}
-use Rattle.cache_spaces.specs.Journals.{journals_of, kept_by}
+use Rattle.cache_spaces.proofs.Reaching.{count-empty, count-more, reached-none, reached-shown, at-shown, in-shown, performs-shown, refused-shown, refuses-shown}
+use Rattle.cache_shared.specs.Looked.{RefusesCopy}
+use Rattle.cache_spaces.specs.Services.{BareSpace, bare_tape, AreNew, blank_tape}
+use Rattle.cache_spaces.specs.Calls.{At, InSpace, IsOpened, IsUnknown, Refuses, TakesLoads, TakesNotice, TakesOutput, Performs, RefusedInput, namespace_of}
+use Rattle.cache_spaces.specs.Journals.{journals_of, kept_by, IsReached, record_count}
 use Rattle.cache_spaces.specs.Played.{journal_of}
-use Rattle.cache_spaces.specs.Reached.{IsReached, record_count}
 use Rattle.cache_spaces.specs.Recorded.{GainsRecord, Recorded, gained_in, records_in}
-use Rattle.cache_spaces.specs.Services.{AreNew, blank_tape}
 use Rattle.cache_spaces.specs.Spaces.{Shown, Space, shown, notices_of, untaken_output}
 use Rattle.cache_spaces.specs.declared.stepping.Refusal.{Refusal}
-use Rattle.cache_shared.specs.Bared.{bare_spaces, no_journals, seen_in, untaken_of, untold_of}
+use Rattle.cache_shared.specs.Recordings.{bare_spaces, no_journals, seen_in, untaken_of, untold_of, journals_in, spaces_in}
 use Rattle.cache_shared.specs.Events.{CountsRecord, StandsAfter, KeepsStanding}
-use Rattle.cache_shared.specs.Recordings.{journals_in, spaces_in}
 use Rattle.cache_lines.specs.Tape.Taped.{Taped}
 use Rattle.audit_model.specs.declared.input.Conn.{Conn}
 use Rattle.audit_model.specs.declared.transcript.Note.{Note}

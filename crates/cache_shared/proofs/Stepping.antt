@@ -1,31 +1,37 @@
--- What a step of a seat comes to, and for what one is refused.
-use Rattle.std.proofs.Common.{◌≡◌, ℕ, Bool, true, false, List, Some, None, refl, sym, subst, arith, ◌+◌, Vec, Global, ◌∙◌, ap, ◌≢◌, ◌⊎◌, ◌^◌, not, nat_le, Option, is_some, inl, inr}
-use Rattle.std.specs.Prelude.{Result, Ok, Err, IfOk, IsTrue, if◌then◌else◌, OnOk, MatchOption, IfErr}
+-- What a step of a seat comes to, and for what one is refused; receipts that grow and that agree.
+use Rattle.std.proofs.Common.{◌≡◌, ℕ, Bool, true, false, List, Some, None, refl, sym, subst, arith, ◌+◌, Vec, Global, ◌∙◌, ap, ◌≢◌, ◌⊎◌, ◌^◌, not, nat_le, Option, is_some, inl, inr, zero, suc, ◌<◌, [], ◌∷◌, ◌++◌, length, get_or, map, cond, ◌≤◌, append_assoc}
 use Rattle.std.proofs.Math.Logic.{∥∥₁_elim, ∥∥₁_map}
+use Rattle.std.proofs.Math.Nat.{eq-or-lt_of_le}
+use Rattle.std.proofs.Math.Seq.{map-set_same}
 use Rattle.std.proofs.Props.{props}
-use Rattle.std.proofs.lemmas.Option.{slice_get_within}
 use Rattle.std.proofs.lemmas.Bool.{eq-eqb}
+use Rattle.std.proofs.lemmas.List.{get_or-map, get_or-set_other, get_or-set_same, length-map, map-set, append-nil}
+use Rattle.std.proofs.lemmas.Option.{slice_get_within, none-some, same_Some}
+use Rattle.std.specs.List.{slice_get}
+use Rattle.std.specs.Option.{option_map_or, option_or}
+use Rattle.std.specs.Prelude.{Result, Ok, Err, IfOk, IsTrue, if◌then◌else◌, OnOk, MatchOption, IfErr, slice_set}
 use Rattle.audit_model.specs.Belongs.{Known, refusal_of, refusal_of_outcome, refusal_where}
+use Rattle.audit_model.specs.declared.config.Config.{Config}
 use Rattle.audit_model.specs.declared.event.Event.{Event}
 use Rattle.audit_model.specs.declared.input.Input.{Input}
+use Rattle.audit_model.specs.declared.input.ServiceError.{ServiceError}
+use Rattle.audit_model.specs.declared.transcript.Note.{Note}
 use Rattle.audit_model.specs.declared.transcript.Step.{Step}
+use Rattle.audit_model.specs.declared.transcript.Transcript.{Transcript}
 use Rattle.audit_laws.specs.Receipts.Answers.{last_is_held, output_with}
 use Rattle.audit_laws.specs.declared.receipts.output.Output.{Output}
 use Rattle.audit_laws.specs.declared.receipts.output.Output.TheVariants.{All, Held}
-use Rattle.cache_shared.specs.Events.{Performs, is_fed, is_output_for, CountsRecord, StandsAfter, IsUnfitAnswer, RefusesStep, is_of_outcome}
-use Rattle.cache_core.proofs.connections.Getting.{found-at}
-use Rattle.cache_spaces.specs.Inputs.{namespace_of, is_held_for}
-use Rattle.cache_spaces.specs.Reached.{IsReached}
-use Rattle.cache_spaces.specs.Spaces.{Shown, shown_tape, config_of, known_of}
-use Rattle.audit_model.specs.declared.transcript.Transcript.{Transcript}
 use Rattle.audit_laws.specs.declared.receipts.receipt.Receipt.{Receipt}
-use Rattle.cache_shared.specs.Seats.{Counts, GainsReceipt, SameReceipts}
-use Rattle.cache_spaces.proofs.Reaching.{reached-more}
-use Rattle.std.specs.Option.{option_map_or, option_or}
-use Rattle.audit_model.specs.declared.config.Config.{Config}
-use Rattle.audit_model.specs.declared.input.ServiceError.{ServiceError}
+use Rattle.cache_core.proofs.connections.Getting.{found-at}
+use Rattle.cache_spaces.proofs.Reaching.{reached-more, asked-is, event_of}
+use Rattle.cache_spaces.specs.Calls.{namespace_of, is_held_for}
+use Rattle.cache_spaces.specs.Journals.{IsReached}
+use Rattle.cache_spaces.specs.Spaces.{Shown, shown_tape, config_of, known_of}
 use Rattle.cache_spaces.specs.declared.stepping.Refusal.{Refusal}
-use Rattle.cache_spaces.proofs.Performing.{asked-is, event_of}
+use Rattle.cache_shared.specs.Events.{Performs, is_fed, is_output_for, CountsRecord, StandsAfter, IsUnfitAnswer, RefusesStep, is_of_outcome, IsLastNumber}
+use Rattle.cache_shared.specs.Looked.{Moves}
+use Rattle.cache_shared.specs.Marks.{marks, AllMarked}
+use Rattle.cache_shared.specs.Seats.{Counts, GainsReceipt, SameReceipts, receipts_at, receipt_for, Gains, holders, EachOnce, Agree, AgreeBelow, AgreeAll}
 use Rattle.audit_model.specs.declared.input.Input.TheVariants as input
 use Rattle.audit_model.specs.declared.input.ServiceError.TheVariants as error
 
@@ -150,3 +156,92 @@ unfit_step i e count spaces so (inr (inr (inr there))) =
 pub unfit_refused : {A : Type 0} (i : Input) (r : Result A Refusal) (count : ℕ) (spaces : List Shown) → IfErr r (λ refusal. RefusesStep i refusal.error count spaces) → IfErr r (λ refusal. is_of_outcome refusal.error ≡ true → IsUnfitAnswer i)
 unfit_refused i (Ok a) count spaces refused = tt
 unfit_refused i (Err refusal) count spaces refused = λ so. unfit_step i refusal.error count spaces so refused
+
+-- Lists of receipts that grow.
+
+-- another list in its place
+set-own : (lists : List (Vec Receipt Global)) (k : ℕ) (list : Vec Receipt Global) → k < length lists → receipts_at (slice_set lists k list) k ≡ list.items
+set-own lists k list lt =
+    ap (λ l. get_or l k []) (map-set (λ v. v.items) lists k list) ∙ get_or-set_same (map (λ v. v.items) lists) k list.items [] (subst (λ n. k < n) (sym (length-map lists (λ (v : Vec Receipt Global). v.items))) lt)
+
+set-others : (lists : List (Vec Receipt Global)) (k j : ℕ) (list : Vec Receipt Global) → j ≢ k → receipts_at (slice_set lists k list) j ≡ receipts_at lists j
+set-others lists k j list ne = ap (λ l. get_or l j []) (map-set (λ v. v.items) lists k list) ∙ get_or-set_other (map (λ v. v.items) lists) k j list.items [] ne
+
+own-there : (lists : List (Vec Receipt Global)) (k : ℕ) (d : Vec Receipt Global) → k < length lists → (get_or lists k d).items ≡ receipts_at lists k
+own-there lists k d lt = sym (get_or-map (λ (v : Vec Receipt Global). v.items) lists k d [] lt)
+
+-- the same receipts in its place
+set-stays : (lists : List (Vec Receipt Global)) (k : ℕ) (d list : Vec Receipt Global) → list.items ≡ (get_or lists k d).items → (j : ℕ) → receipts_at (slice_set lists k list) j ≡ receipts_at lists j
+set-stays lists k d list e j = ap (λ l. get_or l j []) (map-set_same (λ (v : Vec Receipt Global). v.items) lists k list d e)
+
+pub stays : (before mid : List (Vec Receipt Global)) (k : ℕ) (d list : Vec Receipt Global) → SameReceipts before mid → d ≡ get_or mid k d → list.items ≡ d.items → SameReceipts before (slice_set mid k list)
+stays before mid k d list same value e = λ j. set-stays mid k d list (e ∙ ap (λ (v : Vec Receipt Global). v.items) value) j ∙ same j
+
+gains : (before mid : List (Vec Receipt Global)) (k : ℕ) (d list : Vec Receipt Global) (x : Receipt) → SameReceipts before mid → k < length mid → list.items ≡ (get_or mid k d).items ++ x ∷ [] → Gains before (slice_set mid k list) k x
+gains before mid k d list x same lt e = record {
+  own = set-own mid k list lt ∙ e ∙ ap (λ (t : List Receipt). t ++ x ∷ []) (own-there mid k d lt ∙ same k);
+  others = λ j ne. set-others mid k j list ne ∙ same j;
+}
+
+-- the receipt, in the list of its namespace, of an input that was taken
+abbrev receipt_of : ℕ → ℕ → Input → Output → Receipt
+receipt_of namespace number i output = record { namespace = namespace; number = number; input = i; output = output }
+
+pub gains-receipt : (journals : List Transcript) (i copy : Input) (output : Output) (number : ℕ) (before mid : List (Vec Receipt Global)) (k : ℕ) (d roomy list : Vec Receipt Global)
+    → SameReceipts before mid → k < length mid → d ≡ get_or mid k d → roomy.items ≡ d.items → k ≡ namespace_of i → copy ≡ i → IsLastNumber journals k number
+    → list.items ≡ roomy.items ++ receipt_of k number copy output ∷ [] → GainsReceipt journals before (slice_set mid k list) i output
+gains-receipt journals i copy output number before mid k d roomy list same lt value reserved e copied last grown =
+    let receipt : receipt_of k number copy output ≡ receipt_for i output number =
+    ap (λ (n : ℕ). receipt_of n number copy output) e ∙ ap (λ (c : Input). receipt_of (namespace_of i) number c output) copied in
+    let items : list.items ≡ (get_or mid k d).items ++ receipt_for i output number ∷ [] =
+    grown ∙ ap (λ (l : List Receipt). l ++ receipt_of k number copy output ∷ []) (reserved ∙ ap (λ (v : Vec Receipt Global). v.items) value)
+    ∙ ap (λ (r : Receipt). (get_or mid k d).items ++ r ∷ []) receipt in (
+      number,
+      subst (λ n. IsLastNumber journals n number) e last,
+      subst (λ n. Gains before (slice_set mid k list) n (receipt_for i output number)) e (gains before mid k d list (receipt_for i output number) same lt items),
+    )
+
+-- Receipts that stand in the journals, each of whose records has one.
+
+module _ {X : Type 0} where
+  -- where each place is marked once, each number stands in one receipt
+  pub once_of : (own : X → List Receipt) (n : ℕ) (seats : List X) (old new : List Bool) → ((k : ℕ) → k < n → marks old k ≡ 0)
+      → ((k : ℕ) → k < n → marks new k ≡ marks old k + holders own (k + 1) seats) → AllMarked new n → EachOnce own n seats
+  once_of own n seats old new unmarked sum all = record {
+    at = λ k lt.
+        let z = unmarked k lt in
+        let s = sum k lt in
+        let one : marks new k ≡ 1 = ap (λ b. cond b 1 0) (all k lt) in
+        omega (arith, z, s, one);
+  }
+
+  pub once_count : (own : X → List Receipt) (n m : ℕ) (seats : List X) → n ≡ m → EachOnce own n seats → EachOnce own m seats
+  once_count own n m seats e once = subst (λ k. EachOnce own k seats) e once
+
+-- ---- one namespace more
+
+module _ {X : Type 0} where
+  pub agree-more : (n : ℕ) (journals : List Transcript) (lists : X → List (Vec Receipt Global)) (seats : List X) (journal : Transcript)
+      → AgreeBelow n journals lists seats → slice_get journals n ≡ Some journal → Agree n journal.records (λ seat. receipts_at (lists seat) n) seats
+      → AgreeBelow (n + 1) journals lists seats
+  agree-more n journals lists seats journal below here it = λ k other lt at.
+      let c : (k ≡ n) ⊎ (k < n) = eq-or-lt_of_le (omega arith) in
+      elim c [
+        | inl same ↦
+            let e : journal ≡ other = same_Some journal other (sym here ∙ ap (slice_get journals) (sym same) ∙ at) in
+            subst (λ (t : Transcript). Agree k t.records (λ seat. receipts_at (lists seat) k) seats) e
+            (subst (λ m. Agree m journal.records (λ seat. receipts_at (lists seat) m) seats) (sym same) it)
+        | inr less ↦ below k other less at
+      ]
+
+  pub agree-all : (n : ℕ) (journals : List Transcript) (lists : X → List (Vec Receipt Global)) (seats : List X) → AgreeBelow n journals lists seats
+      → length journals ≤ n → AgreeAll journals lists seats
+  agree-all n journals lists seats below few = record {
+    each = λ k journal at. let lt = slice_get_within journals k journal at in below k journal (omega (arith, lt, few)) at;
+  }
+
+-- Notes that are moved.
+
+-- none
+pub moves-none : (behind notes : List Note) → Moves behind behind notes notes
+moves-none behind notes = record { moved = []; gained = sym (append-nil behind); left = refl }

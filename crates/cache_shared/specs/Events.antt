@@ -12,9 +12,9 @@ use Rattle.audit_model.specs.declared.transcript.Transcript.{Transcript}
 use Rattle.audit_laws.specs.declared.receipts.output.Output.{Output}
 use Rattle.audit_laws.specs.declared.receipts.output.Output.TheVariants.{Opened, All, Held, Done}
 use Rattle.cache_spaces.specs.Calls.{At, Refuses}
-use Rattle.cache_spaces.specs.Inputs as inputs
-use Rattle.cache_spaces.specs.Inputs.{RefusedInput, namespace_of}
-use Rattle.cache_spaces.specs.Reached.{IsReached, IsWhereItWas, record_count}
+use Rattle.cache_spaces.specs.Calls as inputs
+use Rattle.cache_spaces.specs.Calls.{RefusedInput, namespace_of}
+use Rattle.cache_spaces.specs.Journals.{IsReached, IsWhereItWas, record_count}
 use Rattle.cache_spaces.specs.Spaces.{Shown, shown_tape}
 
 -- the input's event happened in its namespace

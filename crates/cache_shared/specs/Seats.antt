@@ -9,7 +9,7 @@ use Rattle.audit_laws.specs.Receipts.Receipts.{AreOf, StandFrom}
 use Rattle.audit_laws.specs.declared.receipts.output.Output.{Output}
 use Rattle.audit_laws.specs.declared.receipts.receipt.Receipt.{Receipt}
 use Rattle.cache_shared.specs.Events.{IsLastNumber, is_output_for}
-use Rattle.cache_spaces.specs.Inputs.{namespace_of}
+use Rattle.cache_spaces.specs.Calls.{namespace_of}
 
 -- the receipts of a namespace: a seat keeps a list for each of the first namespaces, and the others have none
 abbrev pub receipts_at : List (Vec Receipt Global) → ℕ → List Receipt

@@ -5,7 +5,7 @@ use cache_spaces::{Output, Refusal, Service};
 
 impl Shareable for Service {
     ghost use Rattle.std.specs.Prelude.{false};
-    ghost use Rattle.cache_shared.specs.Bared.{bare_spaces, no_journals, untaken_of, untold_of};
+    ghost use Rattle.cache_shared.specs.Recordings.{bare_spaces, no_journals, untaken_of, untold_of};
 
     ghost spaces = { bare_spaces };
 

@@ -1,16 +1,15 @@
 //! What is under the lock.
 ghost use Rattle.std.specs.Prelude.{◌≡◌, ◌+◌, ◌≤◌, [], true, length, map, sum_by, vec_len, vec_capacity, IfOk, IfErr, OnOk, OnErr};
 ghost use Rattle.cache_shared.specs.Events.{IsLastNumber, Performs, RefusesStep, StandsAfter, TakesNothing};
-ghost use Rattle.cache_shared.specs.Looked.{HeldAtSomeMoment, WasOldestNote};
+ghost use Rattle.cache_shared.specs.Looked.{HeldAtSomeMoment, RefusesCopy, WereOut, WereUntaken};
 ghost use Rattle.cache_shared.specs.Seats.{AgreeAll, Counts, GainsReceipt, SameReceipts};
-ghost use Rattle.cache_shared.specs.Untaken.{RefusesCopy, WereOut, WereUntaken};
 ghost use Rattle.cache_spaces.specs.Calls.{Refuses};
 
 use crate::judging::agree;
 use crate::seat::{Seat, Seating, make_lists, namespace_of};
 use crate::shareable::Shareable;
 use audit_laws::{Receipt, copy_input};
-use audit_model::{Bytes, Conn, Input, LoadId, Note, ServiceError};
+use audit_model::{Bytes, Conn, Input, LoadId, ServiceError};
 use cache_spaces::{Output, Refusal};
 use std::alloc::Global;
 use std::sync::ledger::{Blank, Book, Share};
@@ -64,10 +63,7 @@ impl<L: Seating, C: Shareable> BookedService<L, C> {
         ensures refused { IfErr result (λ e. (e ≡ ServiceError.UsedUp) × (self.old.left ≡ 0)) }
     {
         let BookedService { rest, left, .. } = self;
-        let Some(fewer) = left.checked_sub(1) else {
-            return Err(ServiceError::UsedUp);
-        };
-        *left = fewer;
+        *left = left.checked_sub(1).ok_or(ServiceError::UsedUp)?;
         Ok(Seat {
             share: rest.split_off(1, 0),
             count: 0,
@@ -164,10 +160,8 @@ impl<L: Seating, C: Shareable> BookedService<L, C> {
     fn last_number(&self, namespace: u64) -> u64
         ensures { IsLastNumber (C.journals self.now.core) namespace result }
     {
-        match self.core.journal(namespace) {
-            Ok(journal) => journal.records.len() as u64,
-            Err(_) => 0,
-        }
+        let journal = self.core.journal(namespace);
+        journal.map_or(0, |journal| journal.records.len() as u64)
     }
 
     /// Takes an input, and counts it on the share.
@@ -244,13 +238,8 @@ impl<L: Seating, C: Shareable> BookedService<L, C> {
             ..
         } = self;
         for seat in seats {
-            let Seat {
-                share,
-                count: _,
-                receipts: own,
-            } = seat;
-            rest.merge(share);
-            receipts.push_reserved(own);
+            rest.merge(seat.share);
+            receipts.push_reserved(seat.receipts);
         }
         book.audit(&mut rest);
         Finished {
@@ -275,14 +264,5 @@ impl<L: Seating, C: Shareable> BookedService<L, C> {
             (λ spaces. (e ≡ ServiceError.NoNamespace) × (length spaces ≤ namespace))) }
     {
         self.core.take_loads(namespace)
-    }
-
-    /// Returns the oldest note of a namespace that was reported and not taken.
-    pub fn next_notice(&mut self, namespace: u64) -> Result<Option<Note>, ServiceError>
-        ensures note { IfOk result (λ note. WasOldestNote C.spaces C.untold namespace note) }
-        ensures refused { IfErr result (λ e. HeldAtSomeMoment C.spaces
-            (λ spaces. Refuses spaces namespace e (λ space. e ≡ ServiceError.OutOfMemory))) }
-    {
-        self.core.next_notice(namespace)
     }
 }

@@ -19,8 +19,13 @@ pub fn agree<L: Seating>(
     ensures { result ≡ true → Agree namespace journal.now.records
         (λ seat. receipts_at seat.receipts.items namespace) seats.now }
 {
-    are_parts(namespace, journal, seats)
-        && are_marked_once(alloc, namespace, journal.records.len(), seats)
+    if !are_parts(namespace, journal, seats) {
+        return false;
+    }
+    match vec![in alloc; false; journal.records.len()] {
+        Ok(mut seen) => judge(&mut seen, namespace, seats),
+        Err(_) => false,
+    }
 }
 
 /// Whether each seat's receipts of a namespace stand in its journal, in their order.
@@ -35,22 +40,6 @@ fn are_parts<L: Seating>(namespace: u64, journal: &Transcript, seats: &[Seat<L>]
         }
     }
     true
-}
-
-/// Whether each number from 1 to `count` is in one receipt of the namespace. If there is not enough memory, `false`.
-fn are_marked_once<L: Seating>(
-    alloc: Global,
-    namespace: u64,
-    count: usize,
-    seats: &[Seat<L>],
-) -> bool
-    ensures { result ≡ true
-        → EachOnce (λ seat. receipts_at seat.receipts.items namespace) count seats.now }
-{
-    match vec![in alloc; false; count] {
-        Ok(mut seen) => judge(&mut seen, namespace, seats),
-        Err(_) => false,
-    }
 }
 
 /// Whether each number from 1 to the number of places is in one receipt, if no place is marked yet.

@@ -1,7 +1,7 @@
 //! The core that keeps its journals.
 ghost use Rattle.std.specs.Prelude.{◌≡◌, IfErr, IfOk, OnErr};
 ghost use Rattle.std.specs.Option.{option_copied};
-ghost use Rattle.cache_shared.specs.Untaken.{RefusesCopy};
+ghost use Rattle.cache_shared.specs.Looked.{RefusesCopy};
 ghost use Rattle.cache_spaces.specs.Calls.{Refuses};
 ghost use Rattle.cache_spaces.specs.Recorded.{TakesNote, TakesReplies};
 
@@ -64,9 +64,8 @@ fn take_text(recorded: &mut RecordedService, conn: Conn) -> Result<Vec<u8>, Serv
     ensures unchanged { OnErr result (recorded.new ≡ recorded.old) }
 {
     let replies = recorded.peek_output(conn)?;
-    let Ok(text) = replies.to_vec(*recorded.allocator()) else {
-        return Err(ServiceError::OutOfMemory);
-    };
+    let text = replies.to_vec(*recorded.allocator());
+    let text = text.map_err(|_| ServiceError::OutOfMemory)?;
     recorded.take_output(conn)?;
     Ok(text)
 }
@@ -90,8 +89,5 @@ fn take_note(recorded: &mut RecordedService, namespace: u64) -> Result<Option<No
 fn copy_if_any(alloc: Global, note: Option<&Note>) -> Result<Option<Note>, AllocError>
     ensures { IfOk result (λ copy. copy ≡ option_copied note.entry) }
 {
-    match note {
-        Some(note) => Ok(Some(copy_note(alloc, note)?)),
-        None => Ok(None),
-    }
+    note.map(|note| copy_note(alloc, note)).transpose()
 }

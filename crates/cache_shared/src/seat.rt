@@ -1,7 +1,7 @@
 //! What each thread holds.
 ghost use Rattle.std.specs.Prelude.{◌≡◌, ℕ, ◌<◌, [], vec_len, OnOk};
 ghost use Rattle.cache_shared.specs.Seats.{SameReceipts, receipts_at};
-ghost use Rattle.cache_spaces.specs.Inputs.{namespace_of};
+ghost use Rattle.cache_spaces.specs.Calls.{namespace_of};
 
 use audit_laws::Receipt;
 use audit_model::Input;
@@ -43,10 +43,8 @@ impl<L: Seating> Seat<L> {
     pub fn receipts(&self, namespace: u64) -> &[Receipt]
         ensures { result.now ≡ receipts_at self.now.receipts.items namespace }
     {
-        match self.receipts.get(namespace as usize) {
-            Some(list) => list.as_slice(),
-            None => &[],
-        }
+        let list = self.receipts.get(namespace as usize);
+        list.map_or(&[], |list| list.as_slice())
     }
 }
 
@@ -71,9 +69,7 @@ pub fn namespace_of(input: &Input) -> u64
 {
     match input {
         Input::Open { namespace } => *namespace,
-        Input::Close { conn } => conn.namespace,
-        Input::Feed { conn, .. } => conn.namespace,
-        Input::Answer { load, .. } => load.namespace,
-        Input::GiveUp { load, .. } => load.namespace,
+        Input::Close { conn } | Input::Feed { conn, .. } => conn.namespace,
+        Input::Answer { load, .. } | Input::GiveUp { load, .. } => load.namespace,
     }
 }

@@ -6,9 +6,8 @@ ghost use Rattle.audit_model.specs.declared.input.Conn.{Conn};
 ghost use Rattle.audit_model.specs.declared.transcript.Note.{Note as Told};
 ghost use Rattle.audit_model.specs.declared.transcript.Transcript.{Transcript};
 ghost use Rattle.cache_shared.specs.Events.{CountsRecord, KeepsStanding, Performs};
-ghost use Rattle.cache_shared.specs.Untaken.{RefusesCopy};
-ghost use Rattle.cache_spaces.specs.Calls.{At, InSpace, IsUnknown, Refuses, TakesLoads};
-ghost use Rattle.cache_spaces.specs.Inputs.{RefusedInput, namespace_of};
+ghost use Rattle.cache_shared.specs.Looked.{RefusesCopy};
+ghost use Rattle.cache_spaces.specs.Calls.{At, InSpace, IsUnknown, Refuses, TakesLoads, RefusedInput, namespace_of};
 ghost use Rattle.cache_spaces.specs.Spaces.{Shown, closing_of, is_waiting_for};
 
 use audit_model::{Bytes, Closing, Conn, Input, LoadId, Note, ServiceError, Transcript};

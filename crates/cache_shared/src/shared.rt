@@ -2,9 +2,8 @@
 ghost use Rattle.std.specs.Prelude.{◌≡◌, ◌≤◌, ◌⊎◌, [], length, map, sum_by, true, IfOk, IfErr, IsSome, OnErr};
 ghost use Rattle.std.specs.Arc.{arc_value};
 ghost use Rattle.cache_shared.specs.Events.{IsLate, IsUnfitAnswer, StandsAfter, is_of_outcome};
-ghost use Rattle.cache_shared.specs.Looked.{HeldAtSomeMoment, Owes, WasOldestNote, WereMoved};
+ghost use Rattle.cache_shared.specs.Looked.{HeldAtSomeMoment, Owes, WasOldestNote, WereMoved, RefusesCopy, WereOut, WereUntaken};
 ghost use Rattle.cache_shared.specs.Seats.{AgreeAll, Counts, SameReceipts};
-ghost use Rattle.cache_shared.specs.Untaken.{RefusesCopy, WereOut, WereUntaken};
 ghost use Rattle.cache_spaces.specs.Calls.{InSpace, IsUnknown, Refuses};
 ghost use Rattle.cache_spaces.specs.Spaces.{closing_of, is_waiting_for};
 
@@ -251,7 +250,7 @@ impl<L: Seating, C: Shareable> SharedService<L, C> {
         ensures refused { IfErr result (λ e. HeldAtSomeMoment C.spaces
             (λ spaces. Refuses spaces namespace e (λ space. e ≡ ServiceError.OutOfMemory))) }
     {
-        self.inner().booked.lock(rt).next_notice(namespace)
+        self.inner().booked.lock(rt).core.next_notice(namespace)
     }
 
     /// Returns why a connection is closed, or `None` while it is open, in one hold of the lock. Returns `NoNamespace`, then `NoConnection`.

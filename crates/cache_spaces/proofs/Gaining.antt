@@ -1,5 +1,5 @@
 -- What a step adds to a journal, the connection that it opens and its cursor, and what is left to be taken then.
-use Rattle.std.proofs.Common.{◌≡◌, ◌≢◌, ℕ, zero, suc, ◌+◌, ◌==◌, List, [], ◌∷◌, ◌++◌, length, get_or, drop, Some, refl, sym, ap, ◌∙◌, subst, inl, inr, arith, ◌<◌, ◌≤◌, Bool, true, false, map, ◌⊎◌, Result, Ok, Err, IfOk, OnErr, OnOk, if◌then◌else◌, nat_le, nat_lt, slice_set, unwrap_or, Option, None}
+use Rattle.std.proofs.Common.{◌≡◌, ◌≢◌, ℕ, zero, suc, ◌+◌, ◌==◌, List, [], ◌∷◌, ◌++◌, length, get_or, drop, Some, refl, sym, ap, ◌∙◌, subst, inl, inr, arith, ◌<◌, ◌≤◌, Bool, true, false, map, ◌⊎◌, Result, Ok, Err, IfOk, OnErr, OnOk, if◌then◌else◌, slice_set, unwrap_or, Option, None}
 use Rattle.std.specs.List.{flat_map, slice_get}
 use Rattle.std.specs.Option.{option_map, option_map_or}
 use Rattle.std.proofs.Math.Logic.{∥∥₁_elim}
@@ -13,17 +13,14 @@ use Rattle.audit_laws.specs.declared.receipts.output.Output.{Output}
 use Rattle.audit_model.specs.declared.input.Input.{Input}
 use Rattle.audit_model.specs.declared.transcript.Record.{Record}
 use Rattle.audit_model.specs.declared.transcript.Transcript.{Transcript}
-use Rattle.cache_spaces.specs.Calls.{At, InSpace, IsOpened}
-use Rattle.cache_spaces.specs.Inputs.{Performs, namespace_of, PerformsFrom}
+use Rattle.cache_spaces.specs.Calls.{At, InSpace, IsOpened, Performs, namespace_of, PerformsFrom}
 use Rattle.cache_spaces.specs.Journals.{journals_of, kept_by}
-use Rattle.cache_spaces.specs.Notes.{notes_from, IsPlaceIn}
+use Rattle.cache_spaces.specs.Cursors.{notes_from, IsPlaceIn, Cursor, taken_through, cursor_of, records_at, replies_for, reply_for}
 use Rattle.cache_spaces.specs.Played.{WerePlayed, journal_of}
-use Rattle.cache_spaces.specs.Cursors.{Cursor, taken_through, cursor_of}
 use Rattle.cache_spaces.specs.Recorded.{GainsRecord, ReadsJournals, ReadsWithin, Recorded, cursor_in, gained_in, records_in, AreAtStart, HaveCursors, KeepsTaken, recorded_of}
-use Rattle.cache_spaces.specs.Replies.{records_at, replies_for, reply_for}
-use Rattle.cache_spaces.specs.Spaces.{Space, StandsFor, config_of}
+use Rattle.cache_spaces.specs.Spaces.{Space, StandsFor}
 use Rattle.cache_spaces.proofs.Journaling.{journal-at, were-at}
-use Rattle.cache_spaces.proofs.Noting.{notes-added, place-added}
+use Rattle.cache_spaces.proofs.Reading.{notes-added, place-added, same-read, same-seen}
 use Rattle.cache_spaces.proofs.Placing.{at-is, at-others}
 use Rattle.cache_lines.specs.Tape.Taped.{Taped, with_entry}
 use Rattle.audit_laws.proofs.Following.{Passed, passed}
@@ -45,8 +42,7 @@ use Rattle.cache_core.specs.State.{at_number}
 use Rattle.cache_core.proofs.connections.Getting.{at-mapped, at-place, found-at, map-same}
 use Rattle.cache_spaces.specs.Services.{AreNew, blank_tape}
 use Rattle.cache_spaces.specs.declared.cursors.Cursors.{Cursors}
-use Rattle.cache_spaces.proofs.Performing.{asked-is, event_of}
-use Rattle.cache_spaces.proofs.Reading.{same-read, same-seen}
+use Rattle.cache_spaces.proofs.Reaching.{asked-is, event_of}
 use Rattle.audit_model.specs.declared.event.Event.TheVariants as event
 use Rattle.audit_model.specs.declared.input.Input.TheVariants as input
 
@@ -155,7 +151,7 @@ loads-reads n old new cursors (Err e) Loads rest taken same reads = subst (λ (s
 
 -- ---- how many connections a record opens
 
-abbrev opens_by : Event → ℕ
+abbrev pub opens_by : Event → ℕ
 opens_by (event.Open conn) = 1
 opens_by happened = 0
 
@@ -178,11 +174,7 @@ event-of-opens opened (input.GiveUp load moment) = refl
 event-opens : (happened : Event) (s : Situation) → (after_event happened s).opened ≡ s.opened + opens_by happened
 event-opens (event.Open conn) s = omega arith
 event-opens (event.Close conn) s = omega arith
-event-opens (event.Feed conn piece moment) s = go _ (connection_in conn s)
-  where
-    go : (t : Situation) (o : Option Connection) → (option_map_or (λ c. with_connection false (record c { unread = c.unread ++ piece }) t) o t).opened ≡ t.opened + 0
-    go t None = omega arith
-    go t (Some c) = omega arith
+event-opens (event.Feed conn piece moment) s = grind arith
 event-opens (event.Answer load outcome moment) s = omega arith
 event-opens (event.GiveUp load moment) s = omega arith
 
@@ -210,7 +202,7 @@ steps-open config (x ∷ steps) s t tasks e =
     let on : Passed (is_right config placed) (after_steps config next (left_after now_due) steps) t = passed (is_right config placed) (after_steps config next (left_after now_due) steps) t e in
     steps-open config steps next t (left_after now_due) on.rest ∙ step-opens config s (first_due now_due) x placed.effect
 
-record-opens : (config : Config) (s t : Situation) (entry : Record) → Follows config s entry t → t.opened ≡ s.opened + opens_by entry.event
+pub record-opens : (config : Config) (s t : Situation) (entry : Record) → Follows config s entry t → t.opened ≡ s.opened + opens_by entry.event
 record-opens config s t entry e =
     steps-open config (steps_of entry) (after_event entry.event s) t (tasks_in s entry.event) (passed _ (after_steps config (after_event entry.event s) (tasks_in s entry.event) (steps_of entry)) t e).rest
     ∙ event-opens entry.event s
@@ -218,12 +210,7 @@ record-opens config s t entry e =
 -- ---- of a namespace
 
 performed-opens : (i : Input) (output : Output) (was is : Space Taped) (s : Situation) → StandsFor was s → PerformsFrom kept_by i output was is s → length is.closings ≡ length was.closings + opened_by i
-performed-opens i output was is s st p =
-    let behind : p.turned.next.opened ≡ length is.closings = ap (λ (u : Situation). u.opened) p.turned.stands.is in
-    let before : s.opened ≡ length was.closings = ap (λ (u : Situation). u.opened) st.is in
-    let more = record-opens (config_of was) s p.turned.next p.entry p.turned.follows in
-    let asked = ap opens_by (sym (asked-is (length was.closings) i p.entry.event p.event)) ∙ event-of-opens (length was.closings) i in
-    omega (arith, behind, before, more, asked)
+performed-opens i output was is s st p = grind (arith, is, was, record-opens, opens_by, asked-is, event-of-opens)
 
 at-opens : (i : Input) (output : Output) (old new : List (Space Taped)) → WerePlayed old → (a : At old new (namespace_of i) (Performs kept_by i output)) → length a.is.closings ≡ length a.was.closings + opened_by i
 at-opens i output old new w a =
@@ -263,11 +250,7 @@ have-more output n old new read here is played a there more have =
 -- a connection that was opened has its own
 pub opened-cursor : (spaces : List (Space Taped)) (read : List Cursors) (n number : ℕ) (here : Cursors) → HaveCursors spaces read → InSpace spaces n (λ space. IsOpened space number) → slice_get read n ≡ Some here
     → (0 < number) × (number ≤ length here.replies.items)
-opened-cursor spaces read n number here have known there =
-    let count = cursors-there spaces read n known.space here have known.at there in
-    let parts = and_parts (nat_lt 0 number) (nat_le number (length known.space.closings)) known.fact in
-    let within = leb-true number (length known.space.closings) parts.1 in
-    (ltb-true 0 number parts.0, omega (arith, within, count))
+opened-cursor spaces read n number here have known there = grind (arith, cursors-there, and_parts, leb-true, ltb-true)
 
 -- none was opened
 same-none : {X Y : Type 0} (f : X → ℕ) (g : Y → ℕ) (xs : List X) (ys : List Y) → length xs ≡ length ys → ((k : ℕ) (x : X) → slice_get xs k ≡ Some x → f x ≡ 0) → ((k : ℕ) (y : Y) → slice_get ys k ≡ Some y → g y ≡ 0)
@@ -319,11 +302,7 @@ module _ {E : Type 0} (n : ℕ) (old new : List (Space Taped)) (read : List Curs
     (performed : IfOk r (λ output. At old new n (Performs kept_by (input.Open n) output))) (unchanged : OnErr r (new ≡ old)) (notes : is.notes ≡ here.notes)
     (added : OnOk r (is.replies.items ≡ here.replies.items ++ 0 ∷ [])) (kept : OnErr r (is.replies.items ≡ here.replies.items)) where
   same-taken : (number : ℕ) → taken_through (cursor_of is) number ≡ taken_through (cursor_of here) number
-  same-taken number = go r added kept
-    where
-      go : (r : Result Output E) → OnOk r (is.replies.items ≡ here.replies.items ++ 0 ∷ []) → OnErr r (is.replies.items ≡ here.replies.items) → taken_through (cursor_of is) number ≡ taken_through (cursor_of here) number
-      go (Ok output) more same = ap (λ l. at_number 0 l number) more ∙ more-number here.replies.items number
-      go (Err e) more same = ap (λ l. at_number 0 l number) same
+  same-taken number = grind (arith, is, more-number)
 
   pub open-keeps : (spaces : List (Space Taped)) → KeepsTaken (recorded_of spaces read) (recorded_of spaces (slice_set read n is))
   open-keeps spaces k = (λ number. same-seen spaces read n here is lt at (λ c. taken_through c number) (same-taken number) k, same-seen spaces read n here is lt at (λ c. c.notes) notes k)

@@ -1,47 +1,114 @@
--- Journals lead to where a service stands, whether or not it keeps them.
-use Rattle.std.proofs.Common.{◌≡◌, ℕ, zero, suc, ◌+◌, List, [], ◌∷◌, length, Some, refl, ap, ◌∙◌, arith, ◌≢◌, ◌<◌, get_or, ◌++◌, length-append, Option, Vec, Global, sym, subst, inl, inr, slice_set, sum_by, ◌⊎◌, map, Result, Ok, Err, IfErr, IfOk, OnErr, OnOk}
-use Rattle.std.specs.List.{slice_get}
+-- Namespaces, shown with what their tapes keep.
+use Rattle.std.proofs.Common.{ℕ, ◌≤◌, List, map, Option, sym, ap, ◌∙◌, subst, inl, inr, ◌≡◌, zero, suc, ◌+◌, [], ◌∷◌, length, Some, refl, arith, ◌≢◌, ◌<◌, get_or, ◌++◌, length-append, Vec, Global, slice_set, sum_by, ◌⊎◌, Result, Ok, Err, IfErr, IfOk, OnErr, OnOk, Bool, None, ◌==◌, if◌then◌else◌}
+use Rattle.std.proofs.Math.Logic.{∥∥₁_map}
+use Rattle.std.proofs.lemmas.Bool.{cases_eq, eq-eqb}
+use Rattle.std.proofs.lemmas.List.{length-map, map-set, length-set}
 use Rattle.std.proofs.lemmas.List.Sums.{sum_by-cons}
 use Rattle.std.proofs.lemmas.Option.{none-some, same_Some, slice_get_within}
-use Rattle.audit_model.specs.declared.transcript.Transcript.{Transcript}
-use Rattle.audit_model.specs.declared.event.Instant.{Instant}
-use Rattle.cache_spaces.specs.Reached.{record_count, IsJournal, IsOneFurther, IsReached, IsWhereItWas}
-use Rattle.std.proofs.Math.Logic.{∥∥₁_map}
-use Rattle.std.proofs.lemmas.Bool.{cases_eq}
-use Rattle.std.proofs.lemmas.List.{length-map, length-set}
-use Rattle.audit_laws.proofs.Journals.{leads_by-more, obeys-led}
-use Rattle.audit_laws.specs.Leading.{LeadsBy, LeadsTo}
+use Rattle.std.specs.List.{slice_get}
+use Rattle.audit_model.specs.Belongs.{event_in}
 use Rattle.audit_model.specs.Situation.{Situation, empty_situation}
 use Rattle.audit_model.specs.declared.config.Config.{Config}
+use Rattle.audit_model.specs.declared.event.Event.{Event}
+use Rattle.audit_model.specs.declared.event.Instant.{Instant}
 use Rattle.audit_model.specs.declared.input.Input.{Input}
 use Rattle.audit_model.specs.declared.input.LoadId.{LoadId}
 use Rattle.audit_model.specs.declared.input.ServiceError.{ServiceError}
+use Rattle.audit_model.specs.declared.transcript.Step.{Step}
+use Rattle.audit_model.specs.declared.transcript.Transcript.{Transcript}
+use Rattle.audit_laws.proofs.Journals.{leads_by-more, obeys-led}
+use Rattle.audit_laws.specs.Leading.{LeadsBy, LeadsTo}
+use Rattle.audit_laws.specs.Receipts.Answers.{last_is_held, output_with}
 use Rattle.audit_laws.specs.declared.receipts.output.Output.{Output}
+use Rattle.audit_laws.specs.declared.receipts.output.Output.TheVariants.{All, Held}
+use Rattle.cache_store.specs.Values.{GivesNote}
+use Rattle.cache_lines.specs.Ended.{ends_held}
+use Rattle.cache_lines.specs.Tape.Taped.{Taped}
 use Rattle.cache_core.proofs.connections.Getting.{at-mapped, found-at, set-same}
+use Rattle.cache_core.specs.Settling.{answering, giving_up}
+use Rattle.cache_core.specs.Turned.{feeding}
 use Rattle.cache_spaces.proofs.Journaling.{mapped}
 use Rattle.cache_spaces.proofs.Placing.{at-it, at-length, at-others, put-at}
-use Rattle.cache_spaces.proofs.Showing.{stands-hidden, stands-shown}
-use Rattle.cache_spaces.specs.Calls.{At, TakesLoads, TakesOutput}
-use Rattle.cache_spaces.specs.Inputs.{Performs, namespace_of}
-use Rattle.cache_spaces.specs.Journals.{LeadsSo}
+use Rattle.cache_spaces.specs.Calls.{At, InSpace, RefusedFor, Refuses, TakesLoads, TakesOutput, ServesEvent, Settled, Performs, RefusedInput, is_held_for, namespace_of}
+use Rattle.cache_spaces.specs.Journals.{LeadsSo, record_count, IsJournal, IsOneFurther, IsReached, IsWhereItWas}
 use Rattle.cache_spaces.specs.Services.{AreNew}
-use Rattle.cache_spaces.specs.Spaces.{Space, StandsFor, config_of, part_in, shown}
-use Rattle.cache_spaces.specs.Stores.{shown_of}
-use Rattle.cache_store.specs.Values.{GivesNote}
-use Rattle.cache_lines.specs.Tape.Taped.{Taped}
+use Rattle.cache_spaces.specs.Spaces.{Space, StandsFor, shown, shown_tape, config_of, part_in, shown_of}
+use Rattle.audit_model.specs.declared.input.Input.TheVariants as input
 use Rattle.audit_model.specs.declared.input.ServiceError.TheVariants as error
+use Rattle.audit_model.specs.declared.event.Event.TheVariants as event
+
+module _ {X Y : Type 0} (f : X → Y) where
+  -- what is true of one and another is true of them as they are shown
+  pub at-shown : {Fact : X → X → Type 0} {More : Y → Y → Type 0} (old new : List X) (i : ℕ) → ((was is : X) → Fact was is → More (f was) (f is)) → At old new i Fact → At (map f old) (map f new) i More
+  at-shown old new i g a = record { was = f a.was; is = f a.is; at = at-mapped f old i a.was a.at; set = ap (map f) a.set ∙ map-set f old i a.is; fact = g a.was a.is a.fact }
+
+  pub in-shown : {Fact : X → Type 0} {More : Y → Type 0} (xs : List X) (i : ℕ) → ((x : X) → Fact x → More (f x)) → InSpace xs i Fact → InSpace (map f xs) i More
+  in-shown xs i g a = record { space = f a.space; at = at-mapped f xs i a.space a.at; fact = g a.space a.fact }
+
+  pub refuses-shown : {Cause : X → Type 0} {More : Y → Type 0} (xs : List X) (i : ℕ) (e : ServiceError) → ((x : X) → Cause x → More (f x)) → Refuses xs i e Cause → Refuses (map f xs) i e More
+  refuses-shown xs i e g (inl none) = inl (none.0, subst (λ n. n ≤ i) (sym (length-map xs f)) none.1)
+  refuses-shown xs i e g (inr a) = inr (in-shown xs i g a)
+
+module _ {T : Type 0} (tape : T → Option Taped) where
+  pub stands-shown : (space : Space T) (s : Situation) → StandsFor space s → StandsFor (shown tape space) s
+  stands-shown space s x = record { held = x.held; stands = x.stands; is = x.is }
+
+  pub stands-hidden : (space : Space T) (s : Situation) → StandsFor (shown tape space) s → StandsFor space s
+  stands-hidden space s x = record { held = x.held; stands = x.stands; is = x.is }
+
+  pub performs-shown : (i : Input) (output : Output) (was is : Space T) → Performs tape i output was is → Performs shown_tape i output (shown tape was) (shown tape is)
+  performs-shown i output was is p = record {
+    from = λ s stands.
+        let x = p.from s (stands-hidden was s stands) in
+        let t = x.turned in
+        record {
+          entry = x.entry;
+          event = x.event;
+          answers = x.answers;
+          turned = record {
+            next = t.next;
+            stands = stands-shown is t.next t.stands;
+            follows = t.follows;
+            kept = t.kept;
+            outputs = t.outputs;
+            notes = t.notes;
+            closings = t.closings;
+            parted = t.parted;
+            timely = t.timely;
+            bounded = t.bounded;
+            draws = t.draws;
+            ordered = t.ordered;
+          };
+        };
+    stays = record {
+      config = p.stays.config;
+      part_of = p.stays.part_of;
+      made = p.stays.made;
+      namespace = p.stays.namespace;
+      taken = p.stays.taken;
+      sends = record { loads = p.stays.sends.loads; behind = p.stays.sends.behind; in_turn = p.stays.sends.in_turn; count = p.stays.sends.count; keys = p.stays.sends.keys };
+    };
+  }
+
+  pub refused-shown : (i : Input) (e : ServiceError) (was : Space T) → RefusedInput i e was → RefusedInput i e (shown tape was)
+  refused-shown i e was r = record { happened = r.happened; event = r.event; refused = same i r }
+    where
+      same : (i : Input) (r : RefusedInput i e was) → RefusedFor (shown tape was) r.happened (is_held_for (shown tape was) i) e
+      same (input.Open namespace) r = r.refused
+      same (input.Close conn) r = r.refused
+      same (input.Feed conn piece moment) r = r.refused
+      same (input.Answer load outcome moment) r = r.refused
+      same (input.GiveUp load moment) r = r.refused
+
+-- Journals lead to where a service stands, whether or not it keeps them.
 
 -- ---- how many records they have
 
 -- where one of the summands is greater by one, so is the sum
 sum-set : {X : Type 0} (f : X → ℕ) (xs : List X) (k : ℕ) (was is : X) → slice_get xs k ≡ Some was → f is ≡ f was + 1 → sum_by f (slice_set xs k is) ≡ sum_by f xs + 1
 sum-set f [] k was is at e = absurd (none-some was at)
-sum-set f (x ∷ xs) zero was is at e =
-    let s : f x ≡ f was = ap f (same_Some x was at) in
-    omega (arith, s, e, sum_by-cons f is xs, sum_by-cons f x xs)
-sum-set f (x ∷ xs) (suc k) was is at e =
-    let h = sum-set f xs k was is at e in
-    omega (arith, h, sum_by-cons f x (slice_set xs k is), sum_by-cons f x xs)
+sum-set f (x ∷ xs) zero was is at e = grind (arith, same_Some, sum_by-cons)
+sum-set f (x ∷ xs) (suc k) was is at e = grind (arith, sum_by-cons, sum-set f xs k was is at e)
 
 pub count-more : (old new : List Transcript) (k : ℕ) (was is : Transcript) → slice_get old k ≡ Some was → new ≡ slice_set old k is → length is.records ≡ length was.records + 1 → record_count new ≡ record_count old + 1
 count-more old new k was is at set e = ap record_count set ∙ sum-set (λ journal. length journal.records) old k was is at e
@@ -70,14 +137,11 @@ empties made spaces = map (λ space. record { made = made; records = [] }) space
 
 empties-at : {X : Type 0} (made : Instant) (spaces : List X) (k : ℕ) (journal : Transcript) → slice_get (empties made spaces) k ≡ Some journal → journal ≡ record { made = made; records = [] }
 unfolding empties
-empties-at made [] k journal at = absurd (none-some journal at)
-empties-at made (x ∷ xs) zero journal at = sym (same_Some _ journal at)
-empties-at made (x ∷ xs) (suc k) journal at = empties-at made xs k journal at
+empties-at made spaces k journal at = sym (mapped (λ space. record { made = made; records = [] }) spaces k journal at).2
 
 empties-count : {X : Type 0} (made : Instant) (spaces : List X) → length (empties made spaces) ≡ length spaces
 unfolding empties
-empties-count made [] = refl
-empties-count made (x ∷ xs) = let e = empties-count made xs in omega (arith, e)
+empties-count made spaces = length-map spaces (λ space. record { made = made; records = [] })
 
 -- a journal in the place of another
 abbrev put-journal : (journals : List Transcript) (k : ℕ) (t u : Transcript) → slice_get journals k ≡ Some t → At journals (slice_set journals k u) k (λ was is. Unit {0})
@@ -234,3 +298,72 @@ module _ {T : Type 0} (tape : T → Option Taped) where
 
   pub where-shown : (old new : List (Space T)) → IsWhereItWas old new → IsWhereItWas (map (shown tape) old) (map (shown tape) new)
   where-shown old new still n w = ∥∥₁_map (still n (∥∥₁_map w (reached-hidden old n))) (reached-shown new n)
+
+-- Calls, and the inputs that they take.
+
+-- a namespace's number is its own
+own-number : (n : ℕ) (o : Option Event) → (if n == n then o else None) ≡ o
+own-number n o = ap (λ b. if b then o else None) (eq-eqb n n refl)
+
+held-last : (steps : List Step) → last_is_held steps ≡ ends_held steps
+held-last [] = refl
+held-last (step ∷ []) = refl
+held-last (step ∷ next ∷ steps) = held-last (next ∷ steps)
+
+-- ---- what the inputs ask for
+
+-- the event of an input, where so many connections were opened
+abbrev pub event_of : ℕ → Input → Event
+event_of opened (input.Open n) = event.Open (suc opened)
+event_of opened (input.Close conn) = event.Close conn.number
+event_of opened (input.Feed conn piece moment) = feeding conn.number piece moment.nanos
+event_of opened (input.Answer load outcome moment) = answering load.number outcome moment.nanos
+event_of opened (input.GiveUp load moment) = giving_up load.number moment.nanos
+
+pub asked : (opened : ℕ) (i : Input) → event_in (namespace_of i) opened i ≡ Some (event_of opened i)
+asked opened (input.Open n) = own-number n _
+asked opened (input.Close conn) = own-number conn.namespace _
+asked opened (input.Feed conn piece moment) = own-number conn.namespace _
+asked opened (input.Answer load outcome moment) = own-number load.namespace _
+asked opened (input.GiveUp load moment) = own-number load.namespace _
+
+-- and there is no other
+pub asked-is : (opened : ℕ) (i : Input) (happened : Event) → event_in (namespace_of i) opened i ≡ Some happened → event_of opened i ≡ happened
+asked-is opened i happened e = same_Some (event_of opened i) happened (sym (asked opened i) ∙ e)
+
+-- ---- what they come to
+
+pub comes-fed : (is_held : Bool) (steps : List Step) → ends_held steps ≡ is_held → (if is_held then Held else All) ≡ (if last_is_held steps then Held else All)
+comes-fed is_held steps e = sym (ap (λ b. if b then Held else All) (held-last steps ∙ e))
+
+module _ {T : Type 0} (tape : T → Option Taped) (i : Input) (was is : Space T) (output : Output) where
+  pub serves-performs : (is_held : Bool) → ((steps : List Step) → ends_held steps ≡ is_held → output ≡ output_with (namespace_of i) (event_of (length was.closings) i) steps)
+      → ServesEvent tape was is (event_of (length was.closings) i) is_held → Performs tape i output was is
+  serves-performs is_held comes t = record {
+    from = λ s stands.
+        let x = t.turned s stands in
+        record {
+          entry = x.0;
+          event = asked (length was.closings) i ∙ ap Some (sym x.1.event_is);
+          answers = comes x.0.steps x.1.ends ∙ sym (ap (λ ev. output_with (namespace_of i) ev x.0.steps) x.1.event_is);
+          turned = x.2;
+        };
+    stays = t.stays;
+  }
+
+  pub settled-performs : ((steps : List Step) → output ≡ output_with (namespace_of i) (event_of (length was.closings) i) steps) → Settled tape was is (event_of (length was.closings) i) → Performs tape i output was is
+  settled-performs comes t = record {
+    from = λ s stands.
+        let x = t.turned s stands in
+        record {
+          entry = x.0;
+          event = asked (length was.closings) i ∙ ap Some (sym x.1);
+          answers = comes x.0.steps ∙ sym (ap (λ ev. output_with (namespace_of i) ev x.0.steps) x.1);
+          turned = x.2;
+        };
+    stays = t.stays;
+  }
+
+-- the input's event is refused so
+pub refused-input : {T : Type 0} (i : Input) (e : ServiceError) (was : Space T) → RefusedFor was (event_of (length was.closings) i) (is_held_for was i) e → RefusedInput i e was
+refused-input i e was refused = record { happened = event_of (length was.closings) i; event = asked (length was.closings) i; refused = refused }

@@ -22,7 +22,7 @@ use Rattle.audit_model.specs.declared.command.Command.{Command}
 use Rattle.audit_model.specs.declared.event.Event.{Event}
 use Rattle.audit_model.specs.declared.transcript.Step.{Step}
 use Rattle.audit_model.specs.declared.transcript.Transcript.{Transcript}
-use Rattle.cache_spaces.specs.Recent.{AreSynced, KeepsList, IsCommand, is_of_list}
+use Rattle.cache_spaces.specs.Played.{AreSynced, KeepsList, IsCommand, is_of_list}
 use Rattle.audit_model.specs.declared.command.Command.TheVariants as says
 use Rattle.audit_model.specs.declared.event.Event.TheVariants as event
 

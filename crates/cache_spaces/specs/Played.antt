@@ -1,22 +1,65 @@
--- What `play` returns.
-use Rattle.std.specs.Prelude.{◌≡◌, ℕ, suc, List, [], length, Some, IsTrue}
-use Rattle.std.specs.List.{slice_get}
-use Rattle.audit_laws.specs.Leading.{LeadsBy, LeadsTo}
+-- What `play` returns, and the keys held after commands that are each followed by a `SYNC`.
+use Rattle.std.specs.Prelude.{◌≡◌, ℕ, suc, Bool, true, false, List, [], ◌∷◌, ◌++◌, Some, Ok, IsTrue, length}
+use Rattle.std.specs.List.{flat_map, slice_get}
 use Rattle.audit_model.specs.Belongs.{Belongs, IsAdmitted}
 use Rattle.audit_model.specs.BelongsIn.{BelongsIn}
+use Rattle.audit_model.specs.Follows.{after_records}
+use Rattle.audit_model.specs.Grammar.{reading}
 use Rattle.audit_model.specs.Obeys.{Obeys}
+use Rattle.audit_model.specs.Places.{steps_of}
+use Rattle.audit_model.specs.Recency.{recency}
 use Rattle.audit_model.specs.Situation.{Situation, empty_situation}
+use Rattle.audit_model.specs.declared.command.Command.{Command}
 use Rattle.audit_model.specs.declared.config.Config.{Config}
 use Rattle.audit_model.specs.declared.event.Instant.{Instant}
 use Rattle.audit_model.specs.declared.input.Input.{Input}
+use Rattle.audit_model.specs.declared.transcript.Record.{Record}
+use Rattle.audit_model.specs.declared.transcript.Step.{Step}
 use Rattle.audit_model.specs.declared.transcript.Transcript.{Transcript}
+use Rattle.audit_laws.specs.Leading.{LeadsBy, LeadsTo}
+use Rattle.cache_store.specs.Recency.{AreKeysOf, IsPlainLru}
 use Rattle.cache_commands.specs.Order.{AgreesWith, Settled}
-use Rattle.cache_store.specs.Recency.{IsPlainLru}
-use Rattle.cache_spaces.specs.Served.{is_served}
-use Rattle.cache_spaces.specs.Recent.{KeepsList}
+use Rattle.cache_lines.specs.Tape.Taped.{Taped}
+use Rattle.cache_spaces.specs.Services.{is_served}
 use Rattle.cache_spaces.specs.Spaces.{HasItsParts, Space, StandsFor, config_of, made_of, part_in, recency_of}
 use Rattle.cache_spaces.specs.Throughout.{HasExactKeys, HaveKeysFrom, are_bounded_from, are_timely_from, is_bounded_throughout, is_timely_throughout, order_at_end}
-use Rattle.cache_lines.specs.Tape.Taped.{Taped}
+use Rattle.audit_model.specs.declared.command.Command.TheVariants as says
+
+-- the step is this command, and is not held back
+pub record IsCommand (config : Config) (step : Step) (command : Command) : Type 0 where
+  pub runs : step.held ≡ false
+  pub says : reading config step.line ≡ Ok command
+
+-- a command of a recency list
+abbrev pub is_of_list : Command → Bool
+is_of_list (says.Set key ms value) = true
+is_of_list (says.Get key) = true
+is_of_list (says.Has key) = true
+is_of_list (says.Del key) = true
+is_of_list says.Keys = true
+is_of_list command = false
+
+-- the steps are these commands of a recency list, each followed at once by a `SYNC`
+abbrev pub AreSynced : Config → List Command → List Step → Type 0
+AreSynced config [] [] = Unit {0}
+AreSynced config [] (step ∷ steps) = ⊥
+AreSynced config (command ∷ commands) [] = ⊥
+AreSynced config (command ∷ commands) (step ∷ []) = ⊥
+AreSynced config (command ∷ commands) (step ∷ next ∷ steps) =
+    IsCommand config step command × IsTrue (is_of_list command) × IsCommand config next says.Sync
+    × AreSynced config commands steps
+
+-- Each front of the transcript's records whose steps are commands of a recency list, each followed at once by a `SYNC`, leads to a
+-- situation in which exactly the keys of that list, cut at `suc number`, are held.
+abbrev pub KeepsList : Config → ℕ → Transcript → Type 0
+KeepsList config number transcript =
+    (front rest : List Record) (commands : List Command) (s : Situation)
+    → transcript.records ≡ front ++ rest
+    → after_records config (empty_situation transcript.made.nanos) front ≡ Some s
+    → AreSynced config commands (flat_map steps_of front)
+    → AreKeysOf s.held (recency (suc number) commands)
+
+-- What `play` returns.
 
 -- the journal of a namespace, which its tape keeps
 abbrev pub journal_of : Space Taped → Transcript

@@ -8,11 +8,8 @@ use Rattle.audit_model.specs.declared.input.ServiceError.{ServiceError}
 use Rattle.audit_model.specs.declared.transcript.Note.{Note}
 use Rattle.audit_model.specs.declared.transcript.Record.{Record}
 use Rattle.cache_spaces.specs.Calls.{InSpace, IsOpened}
-use Rattle.cache_spaces.specs.Cursors.{Cursor, cursor_at_start, cursor_of, taken_through}
+use Rattle.cache_spaces.specs.Cursors.{Cursor, cursor_at_start, cursor_of, taken_through, lent_replies, IsPlaceIn, notes_before, notes_from, notes_of_records, records_at, replies_for}
 use Rattle.cache_spaces.specs.Journals.{journals_of}
-use Rattle.cache_spaces.specs.Lent.{lent_replies}
-use Rattle.cache_spaces.specs.Notes.{IsPlaceIn, notes_before, notes_from, notes_of_records}
-use Rattle.cache_spaces.specs.Replies.{records_at, replies_for}
 use Rattle.cache_spaces.specs.Spaces.{Space}
 use Rattle.cache_spaces.specs.declared.cursors.Cursors.{Cursors}
 use Rattle.cache_spaces.specs.declared.replies.LentReplies.{LentReplies}

@@ -1,17 +1,25 @@
--- What can be seen of a service.
-use Rattle.std.specs.Prelude.{◌≡◌, ℕ, zero, suc, ◌&&◌, nat_le, Bool, true, false, List, [], length, Option, None, Some, IsTrue}
+-- What can be seen of a service, and of which configurations it has namespaces.
+use Rattle.std.specs.Prelude.{Bool, ◌≡◌, ℕ, zero, suc, ◌&&◌, nat_le, true, false, List, [], length, Option, None, Some, IsTrue}
 use Rattle.std.specs.List.{list_all, slice_get}
 use Rattle.rand_core.specs.Steps.{stream_of, steps_u64_high}
 use Rattle.rand_core.specs.Stream.{Stream, fill_bytes}
 use Rattle.rand_xoshiro.specs.Xoshiro256.{of_seed, plus_plus}
-use Rattle.audit_model.specs.Situation.{empty_situation}
+use Rattle.audit_model.specs.Configs.{is_valid}
+use Rattle.audit_model.specs.Situation.{empty_situation, Situation}
 use Rattle.audit_model.specs.declared.config.Config.{Config}
 use Rattle.audit_model.specs.declared.event.Instant.{Instant}
-use Rattle.cache_spaces.specs.Served.{is_served}
-use Rattle.cache_spaces.specs.Spaces.{HasItsParts, Space, StandsFor, config_of, generator_of, identifiers_of, made_of, notices_of, part_in, recency_of}
+use Rattle.cache_lines.specs.Tape.Taped.{Taped}
+use Rattle.cache_lines.specs.declared.tape.bare.Bare.{Bare}
+use Rattle.cache_core.specs.State.{IsInOrder, SuitsItself}
+use Rattle.cache_spaces.specs.Spaces.{HasItsParts, Space, StandsFor, config_of, generator_of, identifiers_of, made_of, notices_of, part_in, recency_of, shown_of}
 use Rattle.cache_spaces.specs.declared.service.Fed.{Fed}
 use Rattle.cache_spaces.specs.declared.service.Fed.TheVariants.{All, Held}
-use Rattle.cache_lines.specs.Tape.Taped.{Taped}
+
+-- a configuration in range
+abbrev pub is_served : Config → Bool
+is_served config = is_valid config
+
+-- What can be seen of a service.
 
 -- the configurations with which a service is created: 1 to 16, each of them in range
 abbrev pub are_taken : List Config → Bool
@@ -80,3 +88,22 @@ module _ {T : Type 0} (tape : T → Option Taped) (blank : Option Taped) where
 abbrev pub feed_is_held : Fed → Bool
 feed_is_held All = false
 feed_is_held Held = true
+
+-- A service that keeps no journal.
+
+-- what such a tape keeps
+abbrev pub bare_tape : Bare → Option Taped
+bare_tape t = None
+
+-- a namespace of such a service
+abbrev pub BareSpace : Type 0
+BareSpace = Space Bare
+
+-- What is true of every namespace of a service.
+
+-- it stands for a situation, it is in order, and its parts agree with each other
+pub record IsSound {T : Type 0} (tape : T → Option Taped) (space : Space T) : Type 0 where
+  pub some : Situation
+  pub stands : StandsFor space some
+  pub order : IsInOrder shown_of tape space
+  pub suits : SuitsItself shown_of space

@@ -1,5 +1,8 @@
--- What can be seen of one namespace of a service.
-use Rattle.std.specs.Prelude.{ℕ, ◌<◌, Bool, List, [], Option}
+-- What can be seen of one namespace of a service, and of its store.
+use Rattle.std.specs.Prelude.{ℕ, ◌%◌, ◌^◌, List, ◌<◌, Bool, [], Option}
+use Rattle.std.specs.declared.hash.DefaultHasher.{DefaultHasher}
+use Rattle.rand_core.specs.Steps.{stream_of, steps_u64_high}
+use Rattle.rand_xoshiro.specs.Xoshiro256.{plus_plus}
 use Rattle.audit_model.specs.Belongs.{Known}
 use Rattle.audit_model.specs.History.{part_count}
 use Rattle.audit_model.specs.Situation.{HeldValue, Situation}
@@ -7,15 +10,30 @@ use Rattle.audit_model.specs.declared.command.Closing.{Closing}
 use Rattle.audit_model.specs.declared.config.Config.{Config}
 use Rattle.audit_model.specs.declared.input.LoadId.{LoadId}
 use Rattle.audit_model.specs.declared.transcript.Note.{Note}
-use Rattle.cache_core.specs.State as state
-use Rattle.cache_core.specs.State.{State}
-use Rattle.cache_core.specs.Turned as turned
-use Rattle.cache_front.specs.declared.entries.hasher.KeyedHasher.{KeyedHasher}
-use Rattle.cache_front.specs.declared.entries.hasher.WordBuilder.{WordBuilder}
-use Rattle.cache_front.specs.Data.{StoreData}
-use Rattle.cache_spaces.specs.Stores.{shown_of}
+use Rattle.cache_store.specs.Values.{Values}
 use Rattle.cache_lines.specs.Drawing.{Identifiers, identifiers_in}
 use Rattle.cache_lines.specs.Tape.Taped.{Taped}
+use Rattle.cache_core.specs.State.{State}
+use Rattle.cache_front.specs.Data.{StoreData, data_of, parted_by}
+use Rattle.cache_front.specs.State.{hash_by}
+use Rattle.cache_front.specs.View.{view}
+use Rattle.cache_front.specs.declared.entries.hasher.KeyedHasher.{KeyedHasher}
+use Rattle.cache_front.specs.declared.entries.hasher.WordBuilder.{WordBuilder}
+use Rattle.cache_front.specs.declared.entries.hasher.WordHasher.{WordHasher}
+use Rattle.std.specs.Hash.DefaultHasher as sip
+use Rattle.cache_core.specs.State as state
+use Rattle.cache_core.specs.Turned as turned
+
+-- the hash of the bytes of a key, by a hasher with a secret
+abbrev pub secret_hash : WordBuilder KeyedHasher → List ℕ → ℕ
+secret_hash hasher =
+    hash_by (λ (x : WordHasher DefaultHasher). sip.finish x.inner % 2 ^ 64) (λ (x : WordHasher DefaultHasher) bytes. record { inner = sip.write x.inner bytes }) (λ (x : WordBuilder KeyedHasher). record { inner = x.inner.start }) hasher
+
+-- what a store shows, over a front whose keys are hashed like this
+abbrev pub shown_of : StoreData (List ℕ) (WordBuilder KeyedHasher) → Values
+shown_of d = view (parted_by secret_hash (data_of (stream_of (steps_u64_high plus_plus)) d))
+
+-- What can be seen of one namespace of a service.
 
 -- a namespace of a service, over such a tape
 abbrev pub Space : Type 0 → Type 0

@@ -1,8 +1,7 @@
 //! How far the replies and notes in journals were taken.
 ghost use Rattle.std.specs.Prelude.{◌≡◌, ◌≢◌, ◌<◌, ◌≤◌, ℕ, [], length};
 ghost use Rattle.std.specs.List.{slice_get};
-ghost use Rattle.cache_spaces.specs.Cursors.{cursor_of, taken_through};
-ghost use Rattle.cache_spaces.specs.Notes.{IsPlaceIn, TakesFrom, notes_from};
+ghost use Rattle.cache_spaces.specs.Cursors.{cursor_of, taken_through, IsPlaceIn, TakesFrom, notes_from};
 
 use crate::told::{Told, find_note};
 use audit_model::Record;
@@ -35,8 +34,7 @@ impl Cursors {
 
     /// Through how many records the replies of a connection were taken.
     pub fn replies_taken(&self, number: u64) -> u64
-        requires from { 0 < number }
-        requires opened { number ≤ length self.now.replies.items }
+        requires { (0 < number) × (number ≤ length self.now.replies.items) }
         ensures { result ≡ taken_through (cursor_of self.now) number }
     {
         self.replies[number as usize - 1]
@@ -44,8 +42,7 @@ impl Cursors {
 
     /// Moves a connection's cursor behind so many records.
     pub fn pass_replies(&mut self, number: u64, count: u64)
-        requires from { 0 < number }
-        requires opened { number ≤ length self.old.replies.items }
+        requires { (0 < number) × (number ≤ length self.old.replies.items) }
         ensures cursor { taken_through (cursor_of self.new) number ≡ count }
         ensures others { (other : ℕ) → other ≢ number → taken_through (cursor_of self.new) other
             ≡ taken_through (cursor_of self.old) other }

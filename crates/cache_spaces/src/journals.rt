@@ -5,15 +5,11 @@ ghost use Rattle.std.specs.Io.BufRead.{Rests};
 ghost use Rattle.std.specs.List.{slice_get};
 ghost use Rattle.std.specs.Option.{option_copied};
 ghost use Rattle.audit_model.specs.declared.input.Input.TheVariants as input;
-ghost use Rattle.cache_spaces.specs.Calls.{At, InSpace, IsOpened, IsUnknown, Refuses, TakesLoads};
-ghost use Rattle.cache_spaces.specs.Cursors.{taken_through};
-ghost use Rattle.cache_spaces.specs.Inputs.{Performs, RefusedInput, namespace_of};
+ghost use Rattle.cache_spaces.specs.Calls.{At, InSpace, IsOpened, IsUnknown, Refuses, TakesLoads, Performs, RefusedInput, namespace_of};
+ghost use Rattle.cache_spaces.specs.Cursors.{taken_through, lent_replies, notes_from, records_at, replies_for};
 ghost use Rattle.cache_spaces.specs.Journals.{IsJournalOf, IsSoOfEach, journals_of, kept_by};
-ghost use Rattle.cache_spaces.specs.Lent.{lent_replies};
-ghost use Rattle.cache_spaces.specs.Notes.{notes_from};
 ghost use Rattle.cache_spaces.specs.Played.{WerePlayed};
 ghost use Rattle.cache_spaces.specs.Recorded.{AreAtStart, GainsRecord, IsUnread, KeepsTaken, LendsNote, LendsReplies, TakesNote, TakesReplies, cursor_in, records_in, untaken_in, untold_in};
-ghost use Rattle.cache_spaces.specs.Replies.{records_at, replies_for};
 ghost use Rattle.cache_spaces.specs.Services.{AreNew, are_taken, blank_tape};
 
 use crate::cursors::Cursors;
@@ -289,10 +285,8 @@ impl RecordedService {
         ensures { option_copied result
             ≡ slice_get (notes_from (records_in self.now namespace) told) 0 }
     {
-        match find_note(self.core.records(namespace), told) {
-            Some((note, _)) => Some(note),
-            None => None,
-        }
+        let (note, _) = find_note(self.core.records(namespace), told)?;
+        Some(note)
     }
 
     /// Returns the journals, in the order of the namespaces, moved out; the service ends. This allocates nothing.

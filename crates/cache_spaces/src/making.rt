@@ -1,8 +1,7 @@
 //! Creating the namespaces of a service.
 ghost use Rattle.std.specs.Prelude.{◌≡◌, ◌<◌, ◌^◌, IfOk, IsTrue};
 ghost use Rattle.std.specs.List.{list_all};
-ghost use Rattle.cache_spaces.specs.Served.{is_served};
-ghost use Rattle.cache_spaces.specs.Services.{AreNew, IsNewNamespace, are_taken};
+ghost use Rattle.cache_spaces.specs.Services.{is_served, AreNew, IsNewNamespace, are_taken};
 
 use crate::service::SpaceStore;
 use crate::tapes::NewTape;

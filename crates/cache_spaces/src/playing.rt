@@ -1,7 +1,6 @@
 //! Playing inputs on a new service.
 ghost use Rattle.std.specs.Prelude.{◌≡◌, ◌≤◌, ◌<◌, ◌^◌, ◌↔◌, ◌⊎◌, false, IfOk, IfErr, IsErrOf, OnErr};
-ghost use Rattle.cache_spaces.specs.Calls.{At};
-ghost use Rattle.cache_spaces.specs.Inputs.{Performs, namespace_of};
+ghost use Rattle.cache_spaces.specs.Calls.{At, Performs, namespace_of};
 ghost use Rattle.cache_spaces.specs.Journals.{kept_by};
 ghost use Rattle.cache_spaces.specs.Played.{ArePlayed};
 ghost use Rattle.cache_spaces.specs.Services.{are_taken};

@@ -1,8 +1,7 @@
 //! The replies that records hold.
 ghost use Rattle.std.specs.Prelude.{◌≡◌, ◌++◌, drop, IfOk, OnErr, OnOk};
 ghost use Rattle.std.specs.List.{flat_map};
-ghost use Rattle.cache_spaces.specs.Lent.{lent_replies};
-ghost use Rattle.cache_spaces.specs.Replies.{Lengthens, replies_for, reply_for};
+ghost use Rattle.cache_spaces.specs.Cursors.{lent_replies, Lengthens, replies_for, reply_for};
 
 use audit_model::{Record, Step};
 use std::alloc::{AllocError, Global};

@@ -5,9 +5,8 @@ ghost use Rattle.audit_model.specs.declared.event.Event.TheVariants as event;
 ghost use Rattle.cache_core.specs.Settling.{answering, giving_up};
 ghost use Rattle.cache_core.specs.Turned.{feeding};
 ghost use Rattle.cache_spaces.specs.Calls.{At, InSpace, IsUnknown, OpensNext, RefusedFor, Refuses, ServesEvent, Settled, TakesLoads, TakesNotice, TakesOutput, IsOpened, IsSpace, is_held_in};
-ghost use Rattle.cache_spaces.specs.Reached.{IsReached, IsWhereItWas};
-ghost use Rattle.cache_spaces.specs.Services.{AreNew, are_taken, feed_is_held};
-ghost use Rattle.cache_spaces.specs.Sound.{IsSound};
+ghost use Rattle.cache_spaces.specs.Journals.{IsReached, IsWhereItWas};
+ghost use Rattle.cache_spaces.specs.Services.{AreNew, are_taken, feed_is_held, IsSound};
 ghost use Rattle.cache_spaces.specs.Spaces.{Space, closing_of, config_of, is_waiting_for, known_of};
 ghost use Rattle.std.specs.List.{slice_get};
 

@@ -1,9 +1,8 @@
 //! Taking inputs one by one.
 ghost use Rattle.std.specs.Prelude.{◌≡◌, IfOk, IfErr, OnErr, OnOk};
 ghost use Rattle.audit_model.specs.declared.input.Input.TheVariants as input;
-ghost use Rattle.cache_spaces.specs.Calls.{At, Refuses};
-ghost use Rattle.cache_spaces.specs.Inputs.{IsNoAnswer, Performs, RefusedInput, namespace_of};
-ghost use Rattle.cache_spaces.specs.Reached.{IsOneFurther};
+ghost use Rattle.cache_spaces.specs.Calls.{At, Refuses, IsNoAnswer, Performs, RefusedInput, namespace_of};
+ghost use Rattle.cache_spaces.specs.Journals.{IsOneFurther};
 
 use crate::service::{AnswerError, Core, Fed};
 use audit_laws::Output;

@@ -1,6 +1,6 @@
 //! Finding notes in records.
 ghost use Rattle.std.specs.Prelude.{◌≡◌, ◌<◌, ◌∷◌, [], get_or, length, IfOk, IfSome, MatchOption};
-ghost use Rattle.cache_spaces.specs.Notes.{lists_of, notes_from, rest_in};
+ghost use Rattle.cache_spaces.specs.Cursors.{lists_of, notes_from, rest_in};
 
 use audit_model::{Note, Record, copy_bytes};
 use std::alloc::{AllocError, Global};
@@ -23,13 +23,11 @@ pub fn find_note(records: &[Record], told: Told) -> Option<(&Note, Told)>
     let mut list = told.list;
     let mut note = told.note;
     for entry in told.entry..records.len() {
-        match find_in(&records[entry], list, note) {
-            Some((found, list, note)) => return Some((found, Told { entry, list, note })),
-            None => {
-                list = 0;
-                note = 0;
-            }
+        if let Some((found, list, note)) = find_in(&records[entry], list, note) {
+            return Some((found, Told { entry, list, note }));
         }
+        list = 0;
+        note = 0;
     }
     None
 }

@@ -1,17 +1,113 @@
--- The live keys in byte order are those of any list that has each of them once.
-use Rattle.std.proofs.Common.{◌≡◌, refl, ap, ◌∙◌, sym, ℕ, Bool, true, false, true≢false, cond, not, ◌&&◌, ◌||◌, List, [], ◌∷◌, Some, arith}
+-- Keys in byte order, and which of them are live.
+use Rattle.std.proofs.Common.{◌≡◌, ℕ, suc, Bool, cond, true, false, List, [], ◌∷◌, ◌++◌, length, Some, if◌then◌else◌, refl, sym, ap, ◌∙◌, subst, arith, true≢false, not, ◌&&◌, ◌||◌}
+use Rattle.std.proofs.lemmas.Bool.{and_parts, and_from, not-true}
+use Rattle.std.proofs.lemmas.Cmp.{nat_list_cmp_total}
+use Rattle.std.proofs.lemmas.Map.Text.{is_eq-slice_cmp}
+use Rattle.std.proofs.lemmas.Option.{none-some}
+use Rattle.std.specs.Cmp.Lexicographic.{slice_cmp}
 use Rattle.std.specs.Option.{option_map_or}
-use Rattle.std.proofs.lemmas.Bool.{and_from, and_parts, not-true}
-use Rattle.audit_model.specs.Bytewise.{same}
+use Rattle.std.specs.Ordering.{nat_cmp, is_lt, is_eq, ordering_reverse}
+use Rattle.std.specs.declared.cmp.Ordering.{Ordering}
+use Rattle.std.specs.declared.cmp.Ordering.TheVariants.{Less, Equal, Greater}
+use Rattle.audit_model.specs.Bytewise.{same, is_before}
 use Rattle.audit_model.specs.Recency.{keys_without}
 use Rattle.audit_model.specs.Situation.{HeldValue, is_live_at, live_keys_at}
 use Rattle.audit_model.specs.Values.{put_sorted, sorted}
 use Rattle.audit_model.specs.declared.config.Config.{Config}
+use Rattle.cache_store.proofs.Held.{corresponds-without, none_from_absent}
+use Rattle.cache_store.proofs.Keys.{equal_from_same, same-refl, same-flip_false, same_from_equal}
 use Rattle.cache_store.specs.Among.{are_distinct, has_live, is_among}
-use Rattle.cache_store.specs.Held.{are_apart, is_absent, value_at}
-use Rattle.cache_store.proofs.Held.{none_from_absent}
-use Rattle.cache_store.proofs.Keys.{equal_from_same, same-flip_false, same-refl, same_from_equal}
-use Rattle.cache_store.proofs.Sorting.{live-cons, put_either, put_if}
+use Rattle.cache_store.specs.Held.{value_at, without, is_absent, are_apart, Corresponds}
+
+abbrev pub order : List ℕ → List ℕ → Ordering
+order a b = slice_cmp nat_cmp a b
+
+-- how two keys stand to one another
+data Stand (a b : List ℕ) : Type 0 where
+  Before : is_before a b ≡ true → is_before b a ≡ false → Stand a b
+  Same : a ≡ b → Stand a b
+  Behind : is_before a b ≡ false → is_before b a ≡ true → Stand a b
+
+stand : (a b : List ℕ) → Stand a b
+stand a b = go (order a b) refl
+  where
+    flip_order : order b a ≡ ordering_reverse (order a b)
+    flip_order = nat_list_cmp_total.antisymm b a
+
+    go : (o : Ordering) → order a b ≡ o → Stand a b
+    go Less e = Before (ap is_lt e) (ap is_lt (flip_order ∙ ap ordering_reverse e))
+    go Equal e = Same (equal_from_same a b (sym (is_eq-slice_cmp a b) ∙ ap is_eq e))
+    go Greater e = Behind (ap is_lt e) (ap is_lt (flip_order ∙ ap ordering_reverse e))
+
+less_from : (a b : List ℕ) → is_before a b ≡ true → order a b ≡ Less
+less_from a b e = grind arith
+
+before_trans : (a b c : List ℕ) → is_before a b ≡ true → is_before b c ≡ true → is_before a c ≡ true
+before_trans a b c e f = ap is_lt (nat_list_cmp_total.trans a b c (less_from a b e) (less_from b c f))
+
+pub put_before : (a x : List ℕ) (xs : List (List ℕ)) → is_before a x ≡ true → put_sorted a (x ∷ xs) ≡ a ∷ x ∷ xs
+put_before a x xs e = ap (λ b. if b then a ∷ x ∷ xs else x ∷ put_sorted a xs) e
+
+pub put_behind : (a x : List ℕ) (xs : List (List ℕ)) → is_before a x ≡ false → put_sorted a (x ∷ xs) ≡ x ∷ put_sorted a xs
+put_behind a x xs e = ap (λ b. if b then a ∷ x ∷ xs else x ∷ put_sorted a xs) e
+
+two : (a b : List ℕ) (rest : List (List ℕ)) → put_sorted a rest ≡ a ∷ rest → put_sorted b rest ≡ b ∷ rest → put_sorted a (b ∷ rest) ≡ put_sorted b (a ∷ rest)
+two a b rest e f = grind (arith, stand a b, put_before a b rest, put_behind b a rest, put_behind a b rest, put_before b a rest)
+
+-- two keys may be put in either order
+pub put_either : (a b : List ℕ) (xs : List (List ℕ)) → put_sorted a (put_sorted b xs) ≡ put_sorted b (put_sorted a xs)
+put_either a b [] = two a b [] refl refl
+put_either a b (x ∷ xs) = grind (arith, put_either a b xs, stand b a, before_trans b a x, stand a b, before_trans a b x, put_before b x xs, two a b (x ∷ xs), put_before a x xs, put_behind b x xs, put_before a x (put_sorted b xs), put_behind b a (x ∷ xs), put_behind a b (x ∷ xs), put_behind a x xs, put_before b x (put_sorted a xs), put_behind a x (put_sorted b xs), put_behind b x (put_sorted a xs))
+
+-- a key at the end
+pub sorted-push : (xs : List (List ℕ)) (k : List ℕ) → sorted (xs ++ k ∷ []) ≡ put_sorted k (sorted xs)
+sorted-push [] k = refl
+sorted-push (x ∷ xs) k = ap (put_sorted x) (sorted-push xs k) ∙ put_either x k (sorted xs)
+
+length-put : (k : List ℕ) (xs : List (List ℕ)) → length (put_sorted k xs) ≡ suc (length xs)
+length-put k [] = refl
+length-put k (x ∷ xs) = grind (arith, length-put k xs)
+
+pub length-sorted : (xs : List (List ℕ)) → length (sorted xs) ≡ length xs
+length-sorted [] = refl
+length-sorted (x ∷ xs) = length-put x (sorted xs) ∙ ap suc (length-sorted xs)
+
+-- ---- live keys
+
+abbrev pub put_if : Bool → List ℕ → List (List ℕ) → List (List ℕ)
+put_if live key keys = if live then put_sorted key keys else keys
+
+pub live-cons : (config : Config) (now : ℕ) (h : HeldValue) (items : List HeldValue) → live_keys_at config now (h ∷ items) ≡ put_if (is_live_at config now h) h.value.key (live_keys_at config now items)
+live-cons config now h items = grind arith
+
+pub put_if-either : (b c : Bool) (k l : List ℕ) (xs : List (List ℕ)) → put_if b k (put_if c l xs) ≡ put_if c l (put_if b k xs)
+put_if-either true true k l xs = put_either k l xs
+put_if-either true false k l xs = refl
+put_if-either false true k l xs = refl
+put_if-either false false k l xs = refl
+
+live-taken : (config : Config) (now : ℕ) (key : List ℕ) (held : List HeldValue) (h : HeldValue) → value_at held key ≡ Some h
+    → live_keys_at config now held ≡ put_if (is_live_at config now h) h.value.key (live_keys_at config now (without key held))
+live-taken config now key [] h e = absurd (none-some h e)
+live-taken config now key (g ∷ held) h e = go (same key g.value.key) (λ (e : value_at held key ≡ Some h). live-taken config now key held h e) e
+  where
+    go : (b : Bool)
+        → (value_at held key ≡ Some h → live_keys_at config now held ≡ put_if (is_live_at config now h) h.value.key (live_keys_at config now (without key held)))
+        → cond b (Some g) (value_at held key) ≡ Some h
+        → live_keys_at config now (g ∷ held) ≡ put_if (is_live_at config now h) h.value.key (live_keys_at config now (cond b held (g ∷ without key held)))
+    go true next e = let is : g ≡ h = cc in subst (λ x. live_keys_at config now (g ∷ held) ≡ put_if (is_live_at config now x) x.value.key (live_keys_at config now held)) is (live-cons config now g held)
+    go false next e =
+        live-cons config now g held ∙ ap (put_if (is_live_at config now g) g.value.key) (next e)
+        ∙ put_if-either (is_live_at config now g) (is_live_at config now h) g.value.key h.value.key (live_keys_at config now (without key held))
+        ∙ sym (ap (put_if (is_live_at config now h) h.value.key) (live-cons config now g (without key held)))
+
+-- the live keys are those of the items
+pub live_keys_are : (config : Config) (now : ℕ) (items held : List HeldValue) → are_apart items ≡ true → Corresponds items held → live_keys_at config now held ≡ live_keys_at config now items
+live_keys_are config now [] [] a c = refl
+live_keys_are config now [] (h ∷ held) a c = absurd (let n : suc (length held) ≡ 0 = c.number in omega arith)
+live_keys_are config now (t ∷ items) held a c = grind (arith, live_keys_are config now items (without t.value.key held) (and_parts (is_absent t.value.key items) (are_apart items) a).1, and_parts (is_absent t.value.key items) (are_apart items) a, corresponds-without t.value.key (t ∷ items) held a c, same-refl t.value.key, none-some t, live-taken config now t.value.key held, live-cons config now t items)
+
+-- The live keys in byte order are those of any list that has each of them once.
 
 -- ---- keys without one
 

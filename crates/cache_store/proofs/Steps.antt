@@ -7,7 +7,7 @@ use Rattle.audit_model.specs.Situation.{HeldValue, candidate_at}
 use Rattle.audit_model.specs.declared.config.Config.{Config}
 use Rattle.audit_model.specs.declared.transcript.Note.{Note}
 use Rattle.cache_store.specs.Promises.{no_deed}
-use Rattle.cache_store.proofs.Corresponding.{value_at-map, apart-map}
+use Rattle.cache_store.proofs.Held.{value_at-map, apart-map}
 use Rattle.cache_store.specs.Held.{plain, Corresponds, value_at}
 use Rattle.std.proofs.Common.{◌≡◌, ℕ, suc, Bool, true, false, not, ◌||◌, List, [], ◌∷◌, map, length, Option, option_map, Some, None, refl, ap, ◌∙◌, arith}
 use Rattle.std.proofs.lemmas.List.{append-nil}

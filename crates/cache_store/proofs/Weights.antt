@@ -4,7 +4,7 @@ use Rattle.audit_model.specs.Notes.{is_over}
 use Rattle.audit_model.specs.Situation.{HeldValue}
 use Rattle.audit_model.specs.declared.config.Config.{Config}
 use Rattle.cache_store.specs.Running.{weight_in}
-use Rattle.cache_store.proofs.Corresponding.{permutation}
+use Rattle.cache_store.proofs.Held.{permutation}
 use Rattle.cache_store.specs.Held.{plain, Corresponds, exceeds, are_apart}
 use Rattle.std.proofs.Common.{◌≡◌, ℕ, ◌+◌, ◌==◌, Bool, cond, true, false, List, [], ◌∷◌, map, Option, Some, None, refl, sym, ap, ◌∙◌, arith, nat_lt, option_map}
 use Rattle.std.proofs.lemmas.List.Sorted.{sum_by-IsPermutation}

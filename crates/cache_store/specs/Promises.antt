@@ -64,10 +64,3 @@ pub record Done (config : Config) (now : ℕ) (deed : Deed) (held : List HeldVal
       (candidates_of config (map (candidate_at config now) held) deed) told)
   pub left : Stands (all_held_after config now held deed told)
   pub handed : Handed told
-
--- nothing has changed
-pub record IsUnchanged (old_stands new_stands : List HeldValue → Type 0)
-    (old_frame new_frame : Frame) (old_untaken new_untaken : List Note) : Type 0 where
-  pub stands : (held : List HeldValue) → old_stands held → new_stands held
-  pub frame : new_frame ≡ old_frame
-  pub untaken : new_untaken ≡ old_untaken

@@ -24,16 +24,14 @@ fn check<R: Files + Print + AllocGlobal>(rt: &R, path: &str) -> io::Result<u8> {
     }
     if faults.is_empty() {
         println!(rt; "{path}: ok")?;
-        return Ok(0);
     }
-    Ok(1)
+    Ok(u8::from(!faults.is_empty()))
 }
 
 /// The program over its words: the file's path.
 fn run<R: Env + Files + Print + Eprint + AllocGlobal>(rt: &R) -> io::Result<u8> {
     let mut words = env::args(rt)?;
-    let _program = words.next();
-    match (words.next(), words.next()) {
+    match (words.nth(1), words.next()) {
         (Some(path), None) => check(rt, path.as_str()),
         _ => {
             eprintln!(rt; "usage: cached_check FILE")?;

@@ -21,6 +21,15 @@ pub struct HostedNamespace {
     pub loads: Vec<Listed>,
 }
 
+/// A fault of a configuration file.
+#[derive(Drop)]
+pub struct ConfigFault {
+    /// Its line, from 1 on.
+    pub line: usize,
+    /// What is wrong there, in words.
+    pub what: String,
+}
+
 /// Why a file is not taken.
 #[derive(Clone, Copy, Debug, PartialEq, Eq, Drop)]
 pub enum ConfigError {

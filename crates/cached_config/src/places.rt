@@ -16,10 +16,8 @@ pub fn line_of_header(text: &str, place: usize) -> usize {
         .lines()
         .enumerate()
         .filter(|(_, line)| line.trim().starts_with("[["));
-    match headers.nth(place) {
-        Some((index, _)) => index.saturating_add(1),
-        None => 1,
-    }
+    let header = headers.nth(place);
+    header.map_or(1, |(index, _)| index.saturating_add(1))
 }
 
 /// The line of a key in the table with this number; the line of the table's header if the key does not begin a line.
@@ -48,18 +46,14 @@ pub fn line_outside(text: &str, key: &str) -> usize {
 /// The line in which the byte of that number stands, from 1 on.
 pub fn line_at(text: &str, byte: usize) -> usize {
     let before = text.as_bytes().iter().take(byte);
-    before
-        .filter(|found| **found == b'\n')
-        .count()
-        .saturating_add(1)
+    let ends = before.filter(|found| **found == b'\n');
+    ends.count().saturating_add(1)
 }
 
 /// Whether a line gives a value to a key, bare or in quotes.
 fn sets(line: &str, key: &str) -> bool {
-    match line.trim().split_once("=") {
-        Some((left, _)) => !left.starts_with("[") && bare(left) == key,
-        None => false,
-    }
+    let parts = line.trim().split_once("=");
+    parts.is_some_and(|(left, _)| !left.starts_with("[") && bare(left) == key)
 }
 
 /// Whether a line begins a table of that name.

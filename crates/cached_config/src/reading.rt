@@ -1,17 +1,17 @@
 //! A configuration file, read, with all that is wrong with it.
-ghost use Rattle.std.specs.Prelude.{◌≡◌, ◌≢◌, [], None, IsErr, IsTrue, IfOk};
+ghost use Rattle.std.specs.Prelude.{◌≡◌, ◌≢◌, [], None, IsErr, IsTrue, IfOk, OnOk};
 ghost use Rattle.toml.specs.Parse.{parse_document};
 ghost use Rattle.cached_config.specs.Good.{are_good};
 
-use crate::faults::{ConfigFault, Faults, fault_of};
 use crate::good::{MOST, are_good};
-use crate::listed::{ConfigError, HostedNamespace, Listed};
-use crate::places::{Part, line_of_header, line_of_key, line_outside};
+use crate::listed::{ConfigError, ConfigFault, HostedNamespace, Listed};
+use crate::places::{Part, line_at, line_of_header, line_of_key, line_outside};
 use crate::values::{
-    load_in, name_in, number_in, parts_in, policy_in, port_in, time_in, weight_in,
+    capacity_in, load_in, name_in, parts_in, policy_in, port_in, time_in, weight_in,
 };
 use audit_model::{Bytes, Config, EvictionPolicy, Seq, Weight};
 use std::alloc::{AllocError, Global};
+use std::fmt::Display;
 use toml::{Table, Value};
 
 /// The keys of a namespace's table.
@@ -38,17 +38,11 @@ pub fn read_config(alloc: Global, text: &str) -> Result<Vec<HostedNamespace>, Co
     ensures ok { IfOk result (λ spaces. IsTrue (are_good spaces.items)) }
     ensures text { parse_document text.now ≡ None → IsErr result }
 {
-    match toml::table_from_str(alloc, text) {
-        Ok(document) => {
-            let (spaces, faults) = read_document(alloc, text, &document)?;
-            if faults.is_empty() {
-                Ok(spaces)
-            } else {
-                Err(ConfigError::Bad)
-            }
-        }
-        Err(error) if error.is_memory() => Err(ConfigError::OutOfMemory),
-        Err(_) => Err(ConfigError::Bad),
+    let Reader { spaces, faults, .. } = read_text(alloc, text)?;
+    if faults.is_empty() {
+        Ok(spaces)
+    } else {
+        Err(ConfigError::Bad)
     }
 }
 
@@ -59,38 +53,33 @@ pub fn read_config(alloc: Global, text: &str) -> Result<Vec<HostedNamespace>, Co
 pub fn check_config(alloc: Global, text: &str) -> Result<Vec<ConfigFault>, AllocError>
     ensures text { parse_document text.now ≡ None → IfOk result (λ faults. faults.items ≢ []) }
 {
-    match toml::table_from_str(alloc, text) {
-        Ok(document) => {
-            let (_spaces, faults) = read_document(alloc, text, &document)?;
-            Ok(faults)
-        }
-        Err(error) => fault_of(alloc, text, &error),
-    }
+    Ok(read_text(alloc, text)?.faults)
 }
 
-/// The namespaces of a document, and its faults. Without faults a file may have these namespaces.
-fn read_document(
-    alloc: Global,
-    text: &str,
-    document: &Table,
-) -> Result<(Vec<HostedNamespace>, Vec<ConfigFault>), AllocError>
-    ensures { IfOk result (λ read. read.1.items ≡ [] → IsTrue (are_good read.0.items)) }
+/// What is read of a text. Without faults a file may have these namespaces.
+fn read_text(alloc: Global, text: &str) -> Result<Reader<'_>, AllocError>
+    ensures good { IfOk result
+        (λ read. read.faults.items ≡ [] → IsTrue (are_good read.spaces.items)) }
+    ensures text { parse_document text.now ≡ None → IfOk result (λ read. read.faults.items ≢ []) }
 {
     let mut reader = Reader {
         alloc,
+        text,
         spaces: Vec::new(alloc),
-        faults: Faults::new(alloc, text),
+        faults: Vec::new(alloc),
     };
-    reader.document(document)?;
-    let Reader {
-        spaces,
-        mut faults,
-        ..
-    } = reader;
-    if faults.found.is_empty() && !are_good(&spaces) {
-        faults.add(1, "bad configuration")?;
+    match toml::table_from_str(alloc, text) {
+        Ok(document) => reader.document(&document)?,
+        Err(error) if error.is_memory() => return Err(AllocError),
+        Err(error) => {
+            let line = error.span().map_or(1, |span| line_at(text, span.start));
+            reader.add(line, error.message())?;
+        }
     }
-    Ok((spaces, faults.found))
+    if reader.faults.is_empty() && !are_good(&reader.spaces) {
+        reader.add(1, "bad configuration")?;
+    }
+    Ok(reader)
 }
 
 /// The table of a namespace, with its number.
@@ -104,40 +93,53 @@ struct At<'a> {
 #[derive(Drop)]
 struct Reader<'a> {
     alloc: Global,
+    text: &'a str,
     spaces: Vec<HostedNamespace>,
-    faults: Faults<'a>,
+    faults: Vec<ConfigFault>,
 }
 
-impl<'a> Reader<'a> {
+impl Reader<'_> {
+    /// Adds a fault of a line.
+    fn add(&mut self, line: usize, what: impl Display + Drop) -> Result<(), AllocError>
+        ensures { OnOk result (self.new.faults.items ≢ []) }
+    {
+        let what = format!(in self.alloc; "{what}")?;
+        self.faults.push(ConfigFault { line, what })?;
+        Ok(())
+    }
+
+    /// Adds a fault of a key of a namespace.
+    fn fault(&mut self, at: At<'_>, part: Part, key: &str, what: &str) -> Result<(), AllocError> {
+        let line = line_of_key(self.text, at.place, part, key);
+        self.add(line, format_args!("{key} {what}"))
+    }
+
     /// Reads the document.
     fn document(&mut self, document: &Table) -> Result<(), AllocError> {
         for key in document.keys() {
             if key.as_str() != "namespace" {
-                let line = line_outside(self.faults.text, key.as_str());
-                self.faults.add(line, format_args!("unknown key {key}"))?;
+                let line = line_outside(self.text, key.as_str());
+                self.add(line, format_args!("unknown key {key}"))?;
             }
         }
         match document.get("namespace") {
             Some(value) => self.array(value),
-            None => self.faults.add(1, "there is no [[namespace]]"),
+            None => self.add(1, "there is no [[namespace]]"),
         }
     }
 
     /// Reads the array of namespaces.
     fn array(&mut self, value: &Value) -> Result<(), AllocError> {
-        let text = self.faults.text;
         let Some(values) = value.as_array() else {
-            let line = line_outside(text, "namespace");
-            return self
-                .faults
-                .add(line, "a namespace begins with [[namespace]]");
+            let line = line_outside(self.text, "namespace");
+            return self.add(line, "a namespace begins with [[namespace]]");
         };
         if values.is_empty() {
-            return self.faults.add(1, "there is no [[namespace]]");
+            return self.add(1, "there is no [[namespace]]");
         }
         if values.len() > MOST {
-            let line = line_of_header(text, MOST);
-            self.faults.add(line, format_args!("there are more than {MOST} namespaces"))?;
+            let line = line_of_header(self.text, MOST);
+            self.add(line, format_args!("there are more than {MOST} namespaces"))?;
         }
         for (place, value) in values.iter().enumerate() {
             self.value(place, value, &values[..place])?;
@@ -148,8 +150,8 @@ impl<'a> Reader<'a> {
     /// Reads a namespace, with those before it.
     fn value(&mut self, place: usize, value: &Value, before: &[Value]) -> Result<(), AllocError> {
         let Some(table) = value.as_table() else {
-            let line = line_outside(self.faults.text, "namespace");
-            return self.faults.add(line, "a namespace is a table");
+            let line = line_outside(self.text, "namespace");
+            return self.add(line, "a namespace is a table");
         };
         let at = At { place, table };
         self.known(at)?;
@@ -162,8 +164,8 @@ impl<'a> Reader<'a> {
     fn known(&mut self, at: At<'_>) -> Result<(), AllocError> {
         for key in at.table.keys() {
             if !KEYS.contains(&key.as_str()) {
-                let line = line_of_key(self.faults.text, at.place, Part::Own, key.as_str());
-                self.faults.add(line, format_args!("unknown key {key}"))?;
+                let line = line_of_key(self.text, at.place, Part::Own, key.as_str());
+                self.add(line, format_args!("unknown key {key}"))?;
             }
         }
         Ok(())
@@ -171,13 +173,14 @@ impl<'a> Reader<'a> {
 
     /// Reads the fields of a namespace.
     fn space(&mut self, at: At<'_>) -> Result<HostedNamespace, AllocError> {
-        let name = "is a text of 1 to 32 of a to z, 0 to 9, - and _";
-        let name = self.needed(at, "name", name, name_in)?;
-        let port = "is a number from 1 to 65535";
-        let port = self.needed(at, "port", port, port_in)?;
+        let letters = "is a text of 1 to 32 of a to z, 0 to 9, - and _";
+        self.require(at, "name")?;
+        let name = self.field(at, "name", letters, name_in)?;
+        self.require(at, "port")?;
+        let port = self.field(at, "port", "is a number from 1 to 65535", port_in)?;
         let config = self.config(at)?;
         if config.own_deadlines && at.table.contains_key("live_ms") {
-            self.fault(at, "deadlines", "does not go with live_ms")?;
+            self.fault(at, Part::Own, "deadlines", "does not go with live_ms")?;
         }
         Ok(HostedNamespace {
             name: bytes_of(self.alloc, name.unwrap_or(""))?,
@@ -189,65 +192,51 @@ impl<'a> Reader<'a> {
 
     /// Reads the limits of a namespace.
     fn config(&mut self, at: At<'_>) -> Result<Config, AllocError> {
-        let any = "is a number from 0 on";
-        let many = "is a number from 1 to 256";
         let time = "is a number of milliseconds from 1 to 999999999999";
-        let policy = "is \"tinylfu\" or \"lru\"";
-        let weight = "is \"one\" or \"bytes\"";
-        let switch = "is true or false";
+        let capacity = self.field(at, "capacity", "is a number from 0 on", capacity_in)?;
+        let parts = self.field(at, "parts", "is a number from 1 to 256", parts_in)?;
+        let live_ms = self.field(at, "live_ms", time, time_in)?;
+        let idle_ms = self.field(at, "idle_ms", time, time_in)?;
+        let policy = self.field(at, "policy", "is \"tinylfu\" or \"lru\"", policy_in)?;
+        let weight = self.field(at, "weight", "is \"one\" or \"bytes\"", weight_in)?;
+        let own_deadlines = self.field(at, "deadlines", "is true or false", Value::as_bool)?;
         Ok(Config {
-            capacity: self.field(at, "capacity", any, |value| number_in(value, 0, u64::MAX))?,
-            parts: self.field(at, "parts", many, parts_in)?.unwrap_or(1),
-            live_ms: self.field(at, "live_ms", time, time_in)?,
-            idle_ms: self.field(at, "idle_ms", time, time_in)?,
-            policy: self
-                .field(at, "policy", policy, policy_in)?
-                .unwrap_or(EvictionPolicy::TinyLfu),
-            weight: self
-                .field(at, "weight", weight, weight_in)?
-                .unwrap_or(Weight::One),
-            own_deadlines: self
-                .field(at, "deadlines", switch, |value| value.as_bool())?
-                .unwrap_or(false),
+            capacity,
+            parts: parts.unwrap_or(1),
+            live_ms,
+            idle_ms,
+            policy: policy.unwrap_or(EvictionPolicy::TinyLfu),
+            weight: weight.unwrap_or(Weight::One),
+            own_deadlines: own_deadlines.unwrap_or(false),
         })
     }
 
     /// Reads what the loads of a namespace find.
     fn loads(&mut self, at: At<'_>) -> Result<Vec<Listed>, AllocError> {
         let mut loads = Vec::new(self.alloc);
-        let table = self.field(at, "loads", "is a table of texts", |value| value.as_table())?;
-        if let Some(table) = table {
-            for (key, value) in table.iter() {
-                match load_in(value) {
-                    Ok(text) => loads.push(Listed {
-                        key: bytes_of(self.alloc, key.as_str())?,
-                        value: bytes_of(self.alloc, text)?,
-                    })?,
-                    Err(what) => self
-                        .faults
-                        .add_key(at.place, Part::Loads, key.as_str(), what)?,
-                }
+        let Some(table) = self.field(at, "loads", "is a table of texts", Value::as_table)? else {
+            return Ok(loads);
+        };
+        for (key, value) in table.iter() {
+            match load_in(value) {
+                Ok(text) => loads.push(Listed {
+                    key: bytes_of(self.alloc, key.as_str())?,
+                    value: bytes_of(self.alloc, text)?,
+                })?,
+                Err(what) => self.fault(at, Part::Loads, key.as_str(), what)?,
             }
         }
         Ok(loads)
     }
 
-    /// A fault of a key of a namespace.
-    fn fault(&mut self, at: At<'_>, key: &str, what: &str) -> Result<(), AllocError> {
-        self.faults.add_key(at.place, Part::Own, key, what)
-    }
-
     /// What a key says, if it is there.
-    fn field<'t, T, F>(
+    fn field<'t, T: Drop, F: Fn(&'t Value) -> Option<T> + Drop>(
         &mut self,
         at: At<'t>,
         key: &str,
         what: &str,
         read: F,
     ) -> Result<Option<T>, AllocError>
-    where
-        T: Drop,
-        F: Fn(&'t Value) -> Option<T> + Drop,
         requires { F.IsAlwaysCallable read }
     {
         let Some(value) = at.table.get(key) else {
@@ -255,28 +244,17 @@ impl<'a> Reader<'a> {
         };
         let said = read(value);
         if said.is_none() {
-            self.fault(at, key, what)?;
+            self.fault(at, Part::Own, key, what)?;
         }
         Ok(said)
     }
 
-    /// What a key says that has to be there.
-    fn needed<'t, T, F>(
-        &mut self,
-        at: At<'t>,
-        key: &str,
-        what: &str,
-        read: F,
-    ) -> Result<Option<T>, AllocError>
-    where
-        T: Drop,
-        F: Fn(&'t Value) -> Option<T> + Drop,
-        requires { F.IsAlwaysCallable read }
-    {
-        if !at.table.contains_key(key) {
-            self.fault(at, key, "is missing")?;
+    /// Refuses that a key is not there.
+    fn require(&mut self, at: At<'_>, key: &str) -> Result<(), AllocError> {
+        if at.table.contains_key(key) {
+            return Ok(());
         }
-        self.field(at, key, what, read)
+        self.fault(at, Part::Own, key, "is missing")
     }
 
     /// Refuses what a namespace before this one has too.
@@ -284,7 +262,7 @@ impl<'a> Reader<'a> {
         for other in before {
             for key in ["name", "port"] {
                 if at.table.contains_key(key) && at.table.get(key) == other.get(key) {
-                    self.fault(at, key, "is that of another namespace")?;
+                    self.fault(at, Part::Own, key, "is that of another namespace")?;
                 }
             }
         }

@@ -25,14 +25,15 @@ pub fn time_in(value: &Value) -> Option<u64> {
     number_in(value, 1, 999_999_999_999)
 }
 
+/// The capacity that a value says.
+pub fn capacity_in(value: &Value) -> Option<u64> {
+    number_in(value, 0, u64::MAX)
+}
+
 /// The number that a value says, if it is within bounds.
-pub fn number_in(value: &Value, least: u64, most: u64) -> Option<u64> {
-    let number = u64::try_from(value.as_integer()?).ok()?;
-    if least <= number && number <= most {
-        Some(number)
-    } else {
-        None
-    }
+fn number_in(value: &Value, least: u64, most: u64) -> Option<u64> {
+    let number = u64::try_from(value.as_integer()?).ok();
+    number.filter(|number| least <= *number && *number <= most)
 }
 
 /// The policy that a value says.

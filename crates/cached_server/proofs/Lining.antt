@@ -13,11 +13,3 @@ pub joined-more : (texts : List (Bor (List ℕ))) (i : ℕ) (d : Bor (List ℕ))
 joined-more texts i d within =
     ap joined (take_more texts i d within) ∙ flat_map-append (λ (text : Bor (List ℕ)). text.now) (take i texts) (get_or texts i d ∷ [])
     ∙ ap (λ l. joined (take i texts) ++ l) (append-nil (get_or texts i d).now)
-
--- what was gathered from nothing, and then written out
-pub whole-line : (a b c : Option (List ℕ)) (h k text : List ℕ) {T E : Type 0} (r : Result T E) → Gathers a [] text b h → OnOk r (Gathers b h [] c k) → OnOk r (k ≡ []) → OnOk r (Appends a c text)
-whole-line a b c h k text (Ok u) x y none =
-    let all = gathers-more a b c [] h k text [] x y in
-    let same : all.sent ≡ text = sym (append-nil all.sent) ∙ ap (λ l. all.sent ++ l) (sym none) ∙ all.whole ∙ append-nil text in
-    subst (Appends a c) same all.wrote
-whole-line a b c h k text (Err e) x y none = y

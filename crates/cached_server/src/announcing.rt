@@ -4,9 +4,9 @@ ghost use Rattle.std.specs.Prelude.{◌≡◌, ◌≤◌, [], vec_capacity};
 use crate::devices::{ListLoader, StartClock};
 use crate::lines::Lines;
 use crate::outbox::{Outbox, ROOM};
-use audit_model::{Bytes, Note};
+use audit_model::Note;
 use cache_serve::{Devices, Teller};
-use cached_config::Listed;
+use cached_config::HostedNamespace;
 use std::alloc::{AllocError, Global};
 use std::io::Write;
 use std::sync::{Arc, Condvar, Mutex, Wait};
@@ -95,57 +95,47 @@ impl Outlet {
     }
 }
 
-/// Tells notes of one namespace.
+/// What the connections of one namespace are served with. It tells the notes of that namespace.
 #[derive(Drop)]
-pub struct Announcer<R: time::Clock + Wait + Copy> {
-    rt: R,
-    name: Arc<Bytes>,
-    outlet: Arc<Outlet>,
+pub struct Site<R: time::Clock + Wait + Copy> {
+    pub rt: R,
+    pub start: Instant,
+    pub space: Arc<HostedNamespace>,
+    pub outlet: Arc<Outlet>,
 }
 
-impl<R: time::Clock + Wait + Copy> Teller for Announcer<R> {
+impl<R: time::Clock + Wait + Copy> Teller for Site<R> {
     fn is_told(&self) -> bool {
         true
     }
 
     fn tell<Q: Wait>(&mut self, rt: &Q, notes: &[Note]) {
-        self.outlet.tell(&self.rt, self.name.as_slice(), notes);
+        self.outlet
+            .tell(&self.rt, self.space.name.as_slice(), notes);
     }
 }
 
-/// What the connections of one namespace are served with.
-#[derive(Drop)]
-pub struct Site<R: time::Clock + Wait + Copy> {
-    pub rt: R,
-    pub start: Instant,
-    pub name: Arc<Bytes>,
-    pub loads: Arc<Vec<Listed>>,
-    pub outlet: Arc<Outlet>,
-}
-
-impl<R> Devices for Site<R>
-where
-    R: time::Clock + Wait + Copy + Send + 'static,
-{
+impl<R: time::Clock + Wait + Copy + Send + 'static> Devices for Site<R> {
     type Clock = StartClock<R>;
 
     type Loader = ListLoader;
 
-    type Teller = Announcer<R>;
+    type Teller = Site<R>;
 
-    fn make(&self, alloc: Global) -> Option<(StartClock<R>, ListLoader, Announcer<R>)> {
+    fn make(&self, alloc: Global) -> Option<(StartClock<R>, ListLoader, Site<R>)> {
         let clock = StartClock {
             rt: self.rt,
             start: self.start,
             latest: 0,
         };
-        let loads = Arc::try_clone(&self.loads).ok()?;
-        let announcer = Announcer {
+        let space = Arc::try_clone(&self.space).ok()?;
+        let teller = Site {
             rt: self.rt,
-            name: Arc::try_clone(&self.name).ok()?,
+            start: self.start,
+            space: Arc::try_clone(&self.space).ok()?,
             outlet: Arc::try_clone(&self.outlet).ok()?,
         };
-        Some((clock, ListLoader { alloc, loads }, announcer))
+        Some((clock, ListLoader { alloc, space }, teller))
     }
 }
 
@@ -162,12 +152,10 @@ pub struct Scribe<W: Write + Drop, E: Write + Drop> {
 impl<W: Write + Drop, E: Write + Drop> Scribe<W, E> {
     /// One that writes lines, and on another writer how many notices were lost.
     pub fn new(alloc: Global, lines: Lines<W>, alarms: E) -> Result<Scribe<W, E>, AllocError> {
-        let alarms = Lines::new(alloc, alarms)?;
-        let taken = Vec::with_capacity(alloc, ROOM)?;
         Ok(Scribe {
             lines,
-            alarms,
-            taken,
+            alarms: Lines::new(alloc, alarms)?,
+            taken: Vec::with_capacity(alloc, ROOM)?,
         })
     }
 

@@ -5,7 +5,7 @@ ghost use Rattle.cached_server.specs.Loads.{listed_outcome};
 
 use audit_model::{Outcome, Seq};
 use cache_run::{Clock, Loader};
-use cached_config::Listed;
+use cached_config::{HostedNamespace, Listed};
 use std::alloc::Global;
 use std::sync::Arc;
 use std::time;
@@ -37,15 +37,15 @@ impl<R: time::Clock + Copy> Clock for StartClock<R> {
 #[derive(Drop)]
 pub struct ListLoader {
     pub alloc: Global,
-    pub loads: Arc<Vec<Listed>>,
+    pub space: Arc<HostedNamespace>,
 }
 
 impl Loader for ListLoader {
     ghost loads = { λ c key answer d. (d ≡ c)
-        × ((answer ≡ Some (listed_outcome (arc_value c.loads).items key)) ⊎ (answer ≡ None)) };
+        × ((answer ≡ Some (listed_outcome (arc_value c.space).loads.items key)) ⊎ (answer ≡ None)) };
 
     fn load(&mut self, key: &[u8]) -> Option<Outcome> {
-        find_listed(self.alloc, self.loads.as_slice(), key)
+        find_listed(self.alloc, &self.space.loads, key)
     }
 }
 
@@ -53,20 +53,11 @@ impl Loader for ListLoader {
 fn find_listed(alloc: Global, loads: &[Listed], key: &[u8]) -> Option<Outcome>
     ensures { IfSome result (λ outcome. outcome ≡ listed_outcome loads.now key.now) }
 {
-    let mut rest = loads;
-    while let [listed, others @ ..] = rest {
+    for listed in loads {
         if listed.key.as_slice() == key {
-            return copy_value(alloc, listed);
+            let copy = Vec::from_slice(alloc, listed.value.as_slice()).ok()?;
+            return Some(Outcome::Value(Seq::from_vec(copy), None));
         }
-        rest = others;
     }
     Some(Outcome::None)
-}
-
-/// The outcome with a copy of a value that is listed, without a deadline.
-fn copy_value(alloc: Global, listed: &Listed) -> Option<Outcome>
-    ensures { IfSome result (λ outcome. outcome ≡ Outcome.Value listed.now.value None) }
-{
-    let copy = Vec::from_slice(alloc, listed.value.as_slice()).ok()?;
-    Some(Outcome::Value(Seq::from_vec(copy), None))
 }

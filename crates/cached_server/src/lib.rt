@@ -15,7 +15,4 @@ pub use lines::Lines;
 pub use machine::Machine;
 pub use outbox::{Outbox, ROOM};
 pub use program::{cached, serve_config, serve_text};
-pub use script::{
-    Chosen, Fault, WordsError, fail, fail_words, fault_of, put, run_script, take_words,
-    without_words, write_note, write_out,
-};
+pub use script::{Fault, run_script, take_words, without_words};

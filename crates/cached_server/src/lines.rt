@@ -26,9 +26,8 @@ impl<W: Write + Drop> Lines<W> {
     pub fn new(alloc: Global, writer: W) -> Result<Lines<W>, AllocError>
         ensures { IfOk result (λ lines. (device lines.writer ≡ writer) × (lines.is_cut ≡ false)) }
     {
-        let gathered = Vec::with_capacity(alloc, LINE_BYTES)?;
         Ok(Lines {
-            gathered,
+            gathered: Vec::with_capacity(alloc, LINE_BYTES)?,
             writer: Watched::new(writer),
             is_cut: false,
         })
@@ -71,7 +70,7 @@ impl<W: Write + Drop> Lines<W> {
         self.send_joined(&[b"cached: ", lost, b" notices lost\n"])
     }
 
-    /// Writes texts one after another, which are whole lines.
+    /// Writes texts one after another, which are whole lines, in one piece if there is room for it.
     fn send_joined(&mut self, texts: &[&[u8]]) -> Result<(), RunError>
         ensures ok { OnOk result (Appends (W.contents (device self.old.writer))
             (W.contents (device self.new.writer)) (joined texts.now)) }
@@ -82,29 +81,13 @@ impl<W: Write + Drop> Lines<W> {
         if self.is_cut {
             return Err(RunError::Write);
         }
-        let Lines {
-            gathered,
-            writer,
-            is_cut,
-        } = self;
-        let sent = write_joined(texts, gathered, writer);
-        *is_cut = sent.is_err();
-        sent
+        self.is_cut = true;
+        self.gathered.clear();
+        for text in texts {
+            put(&mut self.gathered, text, &mut self.writer)?;
+        }
+        write_out(&mut self.gathered, &mut self.writer)?;
+        self.is_cut = false;
+        Ok(())
     }
-}
-
-/// Writes texts one after another, in one piece if there is room for it.
-fn write_joined<W: Write>(
-    texts: &[&[u8]],
-    gathered: &mut Vec<u8>,
-    writer: &mut Watched<W>,
-) -> Result<(), RunError>
-    ensures { OnOk result (Appends (W.contents (device writer.old)) (W.contents (device writer.new))
-        (joined texts.now)) }
-{
-    gathered.clear();
-    for text in texts {
-        put(gathered, text, writer)?;
-    }
-    write_out(gathered, writer)
 }

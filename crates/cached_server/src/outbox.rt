@@ -47,9 +47,8 @@ impl Outbox {
     pub fn new(alloc: Global) -> Result<Outbox, AllocError>
         ensures { IfOk result (λ outbox. outbox ≡ no_lines) }
     {
-        let waiting = Vec::with_capacity(alloc, ROOM)?;
         Ok(Outbox {
-            waiting,
+            waiting: Vec::with_capacity(alloc, ROOM)?,
             lost: 0,
             is_closed: false,
             is_stalled: false,
@@ -142,15 +141,6 @@ fn line_length(name: &[u8], note: &Note) -> usize
     name.len().saturating_add(1).saturating_add(note.line_len())
 }
 
-/// Appends a text to others, for which there is room.
-fn push(texts: &mut Vec<u8>, text: &[u8])
-    requires { vec_len texts.old + length text.now ≤ vec_capacity texts.old }
-    ensures pushed { texts.new.items ≡ texts.old.items ++ text.now }
-    ensures room { vec_capacity texts.old ≤ vec_capacity texts.new }
-{
-    texts.extend_from_slice(text).unwrap();
-}
-
 /// Appends the line of a note to others, for which there is room.
 fn push_line(lines: &mut Vec<u8>, name: &[u8], note: &Note)
     requires { vec_len lines.old + length (named_note_line name.now note.now)
@@ -158,7 +148,7 @@ fn push_line(lines: &mut Vec<u8>, name: &[u8], note: &Note)
     ensures pushed { lines.new.items ≡ lines.old.items ++ named_note_line name.now note.now }
     ensures room { vec_capacity lines.old ≤ vec_capacity lines.new }
 {
-    push(lines, name);
-    push(lines, b" ");
+    lines.extend_from_slice(name).unwrap();
+    lines.extend_from_slice(b" ").unwrap();
     note.write_to(lines).unwrap();
 }

@@ -5,23 +5,20 @@ ghost use Rattle.cache_run.specs.Devices.Watched.{device, failures};
 ghost use Rattle.cached_server.specs.Script.Faults.{Tells, fault_message, usage_text};
 ghost use Rattle.cached_server.specs.Script.Scripts.{ServesStreams};
 
-use crate::announcing::Scribe;
-use crate::hosts::{Plan, serve_plan};
+use crate::announcing::{Outlet, Scribe};
+use crate::hosts::{Hall, serve_spaces};
 use crate::lines::Lines;
-use crate::machine::Machine;
-use crate::script::{Chosen, Fault, fail, fail_words, run_script, take_words};
+use crate::machine::{Machine, Shown, Threaded};
+use crate::script::{Chosen, Fault, fail, run_script, take_words, without_words};
 use cache_run::Watched;
 use cached_config::{HostedNamespace, read_config};
 use std::alloc::Global;
 use std::convert::AsStr;
+use std::fs;
 use std::io::{ErrorKind, Read, Write};
 use std::net::{Ipv4Addr, Net, SocketAddr, TcpListener, TcpStream};
-use std::random::RandomSource;
 use std::rt::Files;
-use std::sync::Wait;
-use std::thread::Threads;
 use std::time::Instant;
-use std::{fs, time};
 
 /// The program, with its arguments and streams. Returns its status: 0 at the end of a script, 1 after an error, 2 if the arguments are
 /// wrong.
@@ -32,7 +29,7 @@ use std::{fs, time};
 /// `--config FILE`: serves what the file says, until that is no longer possible. `shown` is standard output and standard error as well, as
 /// values that threads share: on the first it writes where each namespace is served, and then notices, in a thread of its own; on the
 /// second, how many notices were lost because the first was not read for more than a second while a mebibyte of them waited.
-pub fn cached<S: AsStr, I: Read, O: Write, E: Write, W, V, R>(
+pub fn cached<S: AsStr, I: Read, O: Write, E: Write, W: Shown, V: Shown, R>(
     rt: R,
     alloc: Global,
     words: &[S],
@@ -42,19 +39,7 @@ pub fn cached<S: AsStr, I: Read, O: Write, E: Write, W, V, R>(
     shown: (W, V),
 ) -> u8
 where
-    W: Write + Drop + Send + 'static,
-    V: Write + Drop + Send + 'static,
-    R: Net<Listener = TcpListener, Stream = TcpStream>
-        + Files
-        + AllocGlobal
-        + time::Clock
-        + RandomSource
-        + Threads
-        + Wait
-        + Copy
-        + Send
-        + Sync
-        + 'static,
+    R: Threaded + Net<Listener = TcpListener, Stream = TcpStream> + Files + AllocGlobal,
     ensures status { result ≤ 2 }
     ensures served { result ≡ 0 → ServesStreams I.remaining O.contents E.contents reader.old
         reader.new writer.old writer.new errors.old errors.new }
@@ -66,22 +51,18 @@ where
     match take_words(alloc, words) {
         Ok(Chosen::Script) => run_script(alloc, reader, writer, errors),
         Ok(Chosen::Config(path)) => serve_config(rt, alloc, path, shown, errors),
-        Err(error) => fail_words(error, errors),
+        Err(cause) => without_words(cause, errors),
     }
 }
 
 /// Serves what the configuration file at a path says, until that is no longer possible. Then it writes what was wrong, and the status is 1.
-pub fn serve_config<E: Write, W, V, R>(
+pub fn serve_config<E: Write, W: Shown, V: Shown, R: Machine + Files + AllocGlobal>(
     rt: R,
     alloc: Global,
     path: &str,
     shown: (W, V),
     errors: &mut Watched<E>,
 ) -> u8
-where
-    W: Write + Drop + Send + 'static,
-    V: Write + Drop + Send + 'static,
-    R: Machine + Files + AllocGlobal,
     ensures status { result ≡ 1 }
     ensures told { (fault : Fault) × Tells (fault_message fault) (E.contents (device errors.old))
         (E.contents (device errors.new)) (failures errors.old) (failures errors.new) }
@@ -89,19 +70,15 @@ where
     let Ok(begun) = Instant::now(&rt) else {
         return fail(errors, Fault::CannotListen);
     };
-    match read_text(&rt, path) {
-        Ok(text) => match serve_text(rt, alloc, text.as_str(), begun, shown, None) {
-            Ok(()) => fail(errors, Fault::UsedUp),
-            Err(fault) => fail(errors, fault),
-        },
-        Err(fault) => fail(errors, fault),
-    }
+    let serve = |text: String| serve_text(rt, alloc, text.as_str(), begun, shown, None);
+    let served = read_text(&rt, path).and_then(serve);
+    fail(errors, served.err().unwrap_or(Fault::UsedUp))
 }
 
 /// Serves what the text of a configuration file says: without end, or until each namespace has served as many connections as the limit
 /// says. On the first of `shown` it writes where each namespace is served, and then notices; on the second, how many were lost. The clock
 /// of each connection counts from `begun` on.
-pub fn serve_text<W, V, R>(
+pub fn serve_text<W: Shown, V: Shown, R: Machine>(
     rt: R,
     alloc: Global,
     text: &str,
@@ -109,10 +86,6 @@ pub fn serve_text<W, V, R>(
     shown: (W, V),
     limit: Option<u64>,
 ) -> Result<(), Fault>
-where
-    W: Write + Drop + Send + 'static,
-    V: Write + Drop + Send + 'static,
-    R: Machine,
     ensures text { parse_document text.now ≡ None → IsErr result }
     ensures causes { parse_document text.now ≡ None
         → IfErr result (λ e. (e ≡ Fault.BadConfiguration) ⊎ (e ≡ Fault.OutOfMemory)) }
@@ -122,16 +95,19 @@ where
     let listeners = listen(&rt, alloc, &spaces)?;
     let (shown, alarms) = shown;
     let mut lines = Lines::new(alloc, shown)?;
-    show_all(&mut lines, &spaces)?;
+    for space in &spaces {
+        let shown = lines.show(space.name.as_slice(), space.port);
+        shown.map_err(|_| Fault::Write)?;
+    }
     let scribe = Scribe::new(alloc, lines, alarms)?;
-    let plan = Plan {
-        spaces,
-        listeners,
-        scribe,
+    let hall = Hall {
+        rt,
+        alloc,
         begun,
         limit,
+        outlet: Outlet::new(alloc)?,
     };
-    serve_plan(rt, alloc, plan)
+    serve_spaces(hall, spaces, listeners, scribe)
 }
 
 /// The text of a file. One that cannot be read, or is not text, is a bad configuration.
@@ -153,22 +129,8 @@ fn listen<R: Machine>(
     let mut listeners = Vec::with_capacity(alloc, spaces.len())?;
     for space in spaces {
         let address = SocketAddr::from((Ipv4Addr::LOCALHOST, space.port));
-        match TcpListener::bind(rt, address) {
-            Ok(listener) => listeners.push(listener)?,
-            Err(_) => return Err(Fault::CannotListen),
-        }
+        let listener = TcpListener::bind(rt, address).map_err(|_| Fault::CannotListen)?;
+        listeners.push(listener).map_err(|_| Fault::OutOfMemory)?;
     }
     Ok(listeners)
-}
-
-/// Writes for each namespace where it is served, in their order.
-fn show_all<W: Write + Drop>(lines: &mut Lines<W>, spaces: &[HostedNamespace]) -> Result<(), Fault>
-    ensures { IfErr result (λ e. e ≡ Fault.Write) }
-{
-    for space in spaces {
-        if lines.show(space.name.as_slice(), space.port).is_err() {
-            return Err(Fault::Write);
-        }
-    }
-    Ok(())
 }

@@ -1,5 +1,5 @@
 -- What is known of the numbers and the keys of loads, when one is sent and as they change.
-use Rattle.std.proofs.Common.{cond, refl, sym, ap, ◌∙◌, arith, Err, OnErr, Result, ◌≡◌, ℕ, suc, ◌+◌, ◌-◌, ◌≤◌, Bool, true, false, not, ◌==◌, ◌&&◌, ◌||◌, List, [], ◌∷◌, ◌++◌, length, map, IfOk, Ok, nat_le, if◌then◌else◌}
+use Rattle.std.proofs.Common.{cond, refl, sym, ap, ◌∙◌, arith, ◌≡◌, ℕ, suc, ◌+◌, ◌-◌, ◌≤◌, Bool, true, false, not, ◌==◌, ◌&&◌, ◌||◌, List, [], ◌∷◌, ◌++◌, length, map, nat_le, if◌then◌else◌}
 use Rattle.std.proofs.lemmas.Bool.{and_from, and_parts, eq-eqb, eqb-true, le-leb, leb-true}
 use Rattle.std.proofs.lemmas.Bool.Decides.{nat_tests}
 use Rattle.std.proofs.lemmas.List.{length-append}
@@ -8,7 +8,6 @@ use Rattle.audit_model.specs.Bytewise.{same}
 use Rattle.audit_model.specs.Situation.{PendingLoad, with_waiting}
 use Rattle.audit_model.specs.declared.input.LoadId.{LoadId}
 use Rattle.cache_commands.specs.Loads.Keys.{agrees_on, are_in_turn, has_its_key, have_their_keys, were_sent}
-use Rattle.cache_commands.specs.Loads.Numbers.{SentLoads}
 use Rattle.std.proofs.lemmas.List.Folds.{list_all-append}
 use Rattle.std.proofs.lemmas.Slice.Eq.{bytes_eq-Decides}
 
@@ -24,7 +23,7 @@ all-filter p q (x ∷ xs) e = let parts = and_parts (q x) (list_all q xs) e in g
     go false here rest = rest
 
 -- what follows of each
-all-on : {X : Type 0} (p q : X → Bool) → ((x : X) → p x ≡ true → q x ≡ true) → (xs : List X) → list_all p xs ≡ true → list_all q xs ≡ true
+pub all-on : {X : Type 0} (p q : X → Bool) → ((x : X) → p x ≡ true → q x ≡ true) → (xs : List X) → list_all p xs ≡ true → list_all q xs ≡ true
 all-on p q on [] e = refl
 all-on p q on (x ∷ xs) e = let parts = and_parts (p x) (list_all p xs) e in and_from (q x) (list_all q xs) (on x parts.0) (all-on p q on xs parts.1)
 
@@ -68,10 +67,6 @@ in-turn-below ns before b (out ∷ outs) e few =
 
 -- ---- one more load
 
-pub sent-more : (sent n : ℕ) (load : PendingLoad) (loads : List PendingLoad) → n ≡ suc sent → load.number ≡ n → were_sent sent loads ≡ true → were_sent n (load ∷ loads) ≡ true
-sent-more sent n load loads e is all =
-    and_from (nat_le load.number n) (were_sent n loads) (le-leb load.number n (omega arith)) (all-on (λ (l : PendingLoad). nat_le l.number sent) (λ (l : PendingLoad). nat_le l.number n) (λ l few. let h = leb-true l.number sent few in le-leb l.number n (omega arith)) loads all)
-
 -- another load agrees
 agrees-other : (out : LoadId × List ℕ) (load : PendingLoad) → (load.number == out.0.number) ≡ false → agrees_on out load ≡ true
 agrees-other out load e = ap (λ b. not b || same load.key out.1) e
@@ -113,16 +108,10 @@ keys-mapped f numbers keys loads outs have =
     all-on (has_its_key loads) (has_its_key (map f loads))
     (λ out has. all-mapped (agrees_on out) f (λ l. ap (λ n. not (n == out.0.number) || same (f l).key out.1) (numbers l) ∙ ap (λ k. not (l.number == out.0.number) || same k out.1) (keys l)) loads ∙ has) outs have
 
-pub sent-mapped : (f : PendingLoad → PendingLoad) → ((l : PendingLoad) → (f l).number ≡ l.number) → (sent : ℕ) (loads : List PendingLoad) → were_sent sent loads ≡ true → were_sent sent (map f loads) ≡ true
-sent-mapped f numbers sent loads all = all-mapped (λ (l : PendingLoad). nat_le l.number sent) f (λ l. ap (λ n. nat_le n sent) (numbers l)) loads ∙ all
-
 -- ---- a load that is taken out
 
 pub keys-filtered : (p : PendingLoad → Bool) (loads : List PendingLoad) (outs : List (LoadId × List ℕ)) → have_their_keys loads outs ≡ true → have_their_keys (filter p loads) outs ≡ true
 keys-filtered p loads outs have = all-on (has_its_key loads) (has_its_key (filter p loads)) (λ out has. all-filter p (agrees_on out) loads has) outs have
-
-pub sent-filtered : (p : PendingLoad → Bool) (sent : ℕ) (loads : List PendingLoad) → were_sent sent loads ≡ true → were_sent sent (filter p loads) ≡ true
-sent-filtered p sent loads all = all-filter p (λ (l : PendingLoad). nat_le l.number sent) loads all
 
 -- ---- a connection that waits for a load under way
 
@@ -140,19 +129,8 @@ waiting-key conn key l = go (same l.key key)
     go true = refl
     go false = refl
 
--- the loads where one waits for a load under way, or none is, or it was refused
-pub joined-either : {E : Type 0} (r : Result Bool E) (conn : ℕ) (key : List ℕ) (old new : SentLoads) → IfOk r (λ found. new ≡ record old { pending = if found then map (with_waiting conn key) old.pending else old.pending }) → OnErr r (new ≡ old)
-    → (b : Bool) × (new ≡ record old { pending = if b then map (with_waiting conn key) old.pending else old.pending })
-joined-either (Ok b) conn key old new joined stays = (b, joined)
-joined-either (Err e) conn key old new joined stays = (false, stays)
-
-pub joined-sent : (b : Bool) (sent conn : ℕ) (key : List ℕ) (loads : List PendingLoad) → were_sent sent loads ≡ true → were_sent sent (if b then map (with_waiting conn key) loads else loads) ≡ true
-joined-sent true sent conn key loads all = sent-mapped (with_waiting conn key) (waiting-number conn key) sent loads all
-joined-sent false sent conn key loads all = all
-
-pub joined-keys : (b : Bool) (conn : ℕ) (key : List ℕ) (loads : List PendingLoad) (outs : List (LoadId × List ℕ)) → have_their_keys loads outs ≡ true → have_their_keys (if b then map (with_waiting conn key) loads else loads) outs ≡ true
-joined-keys true conn key loads outs have = keys-mapped (with_waiting conn key) (waiting-number conn key) (waiting-key conn key) loads outs have
-joined-keys false conn key loads outs have = have
+pub joined-keys : (conn : ℕ) (key : List ℕ) (loads : List PendingLoad) (outs : List (LoadId × List ℕ)) → have_their_keys loads outs ≡ true → have_their_keys (map (with_waiting conn key) loads) outs ≡ true
+joined-keys conn key = keys-mapped (with_waiting conn key) (waiting-number conn key) (waiting-key conn key)
 
 pub same-refl : (key : List ℕ) → same key key ≡ true
 same-refl key = (bytes_eq-Decides key key).1 refl
@@ -167,9 +145,9 @@ send-turn ns sent n outs last id key e put is number few turn =
     ap (λ xs. are_in_turn ns (n - length xs) xs) put ∙ ap (λ k. are_in_turn ns k (outs ++ (id, key) ∷ [])) left
     ∙ in-turn-more ns (sent - length outs) sent outs id key turn (omega arith) is (number ∙ e)
 
-pub send-keyed : (ns : ℕ) (old new : SentLoads) (load : PendingLoad) (outs last : List (LoadId × List ℕ)) (id : LoadId) (key : List ℕ) → new ≡ record { sent = suc old.sent; pending = load ∷ old.pending } → last ≡ outs ++ (id, key) ∷ []
-    → length outs ≤ old.sent → are_in_turn ns (old.sent - length outs) outs ≡ true → were_sent old.sent old.pending ≡ true → load.number ≡ suc old.sent → id.number ≡ suc old.sent → load.key ≡ key → have_their_keys old.pending outs ≡ true
-    → have_their_keys new.pending last ≡ true
-send-keyed ns old new load outs last id key is put few turn all number out keyed have =
-    ap (λ (t : SentLoads). have_their_keys t.pending last) is ∙ ap (λ xs. have_their_keys (load ∷ old.pending) xs) put
-    ∙ keys-more ns (old.sent - length outs) old.sent load old.pending outs (id, key) turn (omega arith) all number out (ap (λ k. same load.key k) (sym keyed) ∙ same-refl load.key) have
+pub send-keyed : (ns sent : ℕ) (load : PendingLoad) (old new : List PendingLoad) (outs last : List (LoadId × List ℕ)) (id : LoadId) (key : List ℕ) → new ≡ load ∷ old → last ≡ outs ++ (id, key) ∷ []
+    → length outs ≤ sent → are_in_turn ns (sent - length outs) outs ≡ true → were_sent sent old ≡ true → load.number ≡ suc sent → id.number ≡ suc sent → load.key ≡ key → have_their_keys old outs ≡ true
+    → have_their_keys new last ≡ true
+send-keyed ns sent load old new outs last id key is put few turn all number out keyed have =
+    ap (λ ps. have_their_keys ps last) is ∙ ap (λ xs. have_their_keys (load ∷ old) xs) put
+    ∙ keys-more ns (sent - length outs) sent load old outs (id, key) turn (omega arith) all number out (ap (λ k. same load.key k) (sym keyed) ∙ same-refl load.key) have

@@ -9,11 +9,6 @@ use Rattle.audit_loads.specs.Underway.{Keys, number_at}
 use Rattle.cache_commands.specs.Loads.Keys.{pending_load}
 use Rattle.cache_commands.specs.declared.loads.load.Load.{Load}
 
--- how many loads were sent, and those under way, the newest first
-pub record SentLoads : Type 0 where
-  pub sent : ℕ
-  pub pending : List PendingLoad
-
 -- the load of the key that is under way
 abbrev pub load_with_key : List ℕ → List PendingLoad → Option ℕ
 load_with_key key loads = option_map (λ load. load.number) (find (λ load. same load.key key) loads)

@@ -7,11 +7,11 @@ use Rattle.cache_commands.specs.declared.loads.loads.Loads.{Loads}
 
 -- the loads under way, the newest first
 abbrev pub loads_pending : Loads → List PendingLoad
-loads_pending loads = loads.under_way.pending
+loads_pending loads = loads.loads
 
 -- how many were sent
 abbrev pub sent_of : Loads → ℕ
-sent_of loads = loads.under_way.sent
+sent_of loads = loads.sent
 
 -- those that went out and were not taken, with their keys, in the order in which they were sent
 abbrev pub outgoing_loads : Loads → List (LoadId × List ℕ)

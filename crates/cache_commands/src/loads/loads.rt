@@ -1,27 +1,73 @@
 //! The loads of one namespace.
-ghost use Rattle.std.specs.Prelude.{◌≡◌, ℕ, suc, ◌-◌, ◌≤◌, IsTrue, ◌++◌, ◌∷◌, ◌==◌, [], not, map, Some, None, IfOk, OnOk, OnErr, length};
-ghost use Rattle.std.specs.List.{filter};
+ghost use Rattle.std.specs.Prelude.{◌≡◌, ℕ, suc, ◌-◌, ◌≤◌, IsTrue, ◌++◌, ◌∷◌, ◌==◌, [], List, not, true, cond, is_some, if◌then◌else◌, map, Some, None, IfOk, OnOk, OnErr, length};
+ghost use Rattle.std.specs.List.{filter, list_any};
 ghost use Rattle.std.specs.Option.{option_map};
+ghost use Rattle.audit_model.specs.Bytewise.{same};
 ghost use Rattle.audit_model.specs.Situation.{with_waiting, without_waiting};
+ghost use Rattle.audit_loads.specs.Underway.{KeepsNumbers, load_of, number_at};
 ghost use Rattle.cache_commands.specs.Loads.Keys.{are_in_turn, have_their_keys, pending_load, were_sent};
+ghost use Rattle.cache_commands.specs.Loads.Numbers.{AreUnderWay, SameKeys, are_below};
 
-use crate::loads::load::Load;
-use crate::loads::table::LoadTable;
+use crate::loads::load::{Load, new_load};
+use crate::loads::numbered::Numbered;
+use crate::writing::push_within;
+use audit_loads::{load_of, number_at, put_key, put_waiting, remove_key, take_waiting};
 use audit_model::{Bytes, LoadId, Seq};
 use std::alloc::{AllocError, Global};
+use std::collections::BTreeMap;
 use std::mem;
 
-/// The loads of one namespace that are under way, the newest first, how many were sent, and those that went out and were not taken.
+/// The loads of one namespace that are under way, the newest first, found by number, by key and by the connections that wait; how many were
+/// sent, and those that went out and were not taken.
 #[derive(Drop)]
 pub struct Loads {
     namespace: u64,
-    under_way: LoadTable,
+    sent: u64,
+    loads: Numbered,
+    keys: BTreeMap<Vec<u8>, u64>,
+    joined: BTreeMap<u64, u64>,
     outgoing: Vec<(LoadId, Bytes)>,
-    ghost fewer: { length outgoing.items ≤ under_way.sent },
-    ghost in_turn: { IsTrue
-        (are_in_turn namespace (under_way.sent - length outgoing.items) outgoing.items) },
-    ghost sent_before: { IsTrue (were_sent under_way.sent under_way.pending) },
-    ghost keyed: { IsTrue (have_their_keys under_way.pending outgoing.items) },
+    ghost fewer: { length outgoing.items ≤ sent },
+    ghost in_turn: { IsTrue (are_in_turn namespace (sent - length outgoing.items) outgoing.items) },
+    ghost sent_before: { IsTrue (were_sent sent loads) },
+    ghost keyed: { IsTrue (have_their_keys loads outgoing.items) },
+    ghost keeps: { KeepsNumbers sent keys joined loads },
+    ghost live: { AreUnderWay keys loads },
+}
+
+/// None of these connections waits any more.
+fn remove_all(joined: &mut BTreeMap<u64, u64>, conns: &[u64])
+    ensures { (q : ℕ) → load_of q joined.new
+        ≡ cond (list_any (λ n. n == q) conns.now) None (load_of q joined.old) }
+{
+    for conn in conns {
+        take_waiting(joined, *conn);
+    }
+}
+
+/// Adds a load of a key that has none, whose number is above the others. An `Err` changes nothing.
+fn add_keyed(
+    loads: &mut Numbered,
+    keys: &mut BTreeMap<Vec<u8>, u64>,
+    key: &[u8],
+    name: Vec<u8>,
+    load: Load,
+) -> Result<(), AllocError>
+    requires newest { are_below load.number loads.old ≡ true }
+    requires named { name.items ≡ key.now }
+    requires free { number_at key.now keys.old ≡ None }
+    ensures added { OnOk result (loads.new ≡ pending_load load ∷ loads.old) }
+    ensures put { OnOk result ((q : List ℕ) → number_at q keys.new
+        ≡ cond (same key.now q) (Some load.number) (number_at q keys.old)) }
+    ensures same { OnErr result (loads.new ≡ loads.old) }
+    ensures unchanged { OnErr result (SameKeys keys.old keys.new) }
+{
+    put_key(keys, name, load.number)?;
+    if let Err(error) = loads.add(load) {
+        remove_key(keys, key);
+        return Err(error);
+    }
+    Ok(())
 }
 
 impl Loads {
@@ -36,7 +82,10 @@ impl Loads {
     {
         Loads {
             namespace,
-            under_way: LoadTable::new(alloc),
+            sent: 0,
+            loads: Numbered::new(alloc),
+            keys: BTreeMap::new(alloc),
+            joined: BTreeMap::new(alloc),
             outgoing: Vec::new(alloc),
         }
     }
@@ -45,14 +94,14 @@ impl Loads {
     pub fn count(&self) -> usize
         ensures { result ≡ length (loads_pending self.now) }
     {
-        self.under_way.count()
+        self.loads.len()
     }
 
     /// The number of the key's load under way.
     pub fn find(&self, key: &[u8]) -> Option<u64>
         ensures { result ≡ load_with_key key.now (loads_pending self.now) }
     {
-        self.under_way.find(key)
+        number_at(&self.keys, key)
     }
 
     /// The load under way of that number.
@@ -60,7 +109,7 @@ impl Loads {
         ensures { option_map (λ load. pending_load load.now) result
             ≡ load_numbered number (loads_pending self.now) }
     {
-        self.under_way.get(number)
+        self.loads.get(number)
     }
 
     /// Makes a connection wait for the key's load; if none is under way, a new one goes out, and its number is returned. A connection waits
@@ -77,13 +126,41 @@ impl Loads {
         ensures goes { SameTaken self.old self.new }
         ensures same { OnErr result (SameLoads self.old self.new) }
     {
-        if self.under_way.join(key, conn)? {
+        if self.join(key, conn)? {
             return Ok(None);
         }
         Ok(Some(self.send(alloc, key, conn)?))
     }
 
-    /// Sends a load of a key that has none, for which the connection waits, and returns its number. An `Err` changes nothing.
+    /// Makes a connection wait for the key's load, and returns whether there is one. A connection that waits already is refused, as for
+    /// lack of memory. An `Err` changes nothing.
+    fn join(&mut self, key: &[u8], conn: u64) -> Result<bool, AllocError>
+        ensures found { IfOk result
+            (λ found. found ≡ is_some (load_with_key key.now (loads_pending self.old))) }
+        ensures pending { IfOk result (λ found. loads_pending self.new ≡ (if found
+            then map (with_waiting conn key.now) (loads_pending self.old)
+            else loads_pending self.old)) }
+        ensures sent { sent_of self.new ≡ sent_of self.old }
+        ensures outgoing { outgoing_loads self.new ≡ outgoing_loads self.old }
+        ensures goes { SameTaken self.old self.new }
+        ensures same { OnErr result (SameLoads self.old self.new) }
+    {
+        let Some(number) = number_at(&self.keys, key) else {
+            return Ok(false);
+        };
+        if load_of(&self.joined, conn).is_some() {
+            return Err(AllocError);
+        }
+        put_waiting(&mut self.joined, conn, number)?;
+        if let Err(error) = self.loads.join(number, conn) {
+            take_waiting(&mut self.joined, conn);
+            return Err(error);
+        }
+        Ok(true)
+    }
+
+    /// Sends a load of a key that has none, for which the connection waits, and returns its number. A number above 2^64 - 1, and a
+    /// connection that waits already, are refused as for lack of memory. An `Err` changes nothing.
     fn send(&mut self, alloc: Global, key: &[u8], conn: u64) -> Result<u64, AllocError>
         requires { load_with_key key.now (loads_pending self.old) ≡ None }
         ensures number { IfOk result (λ number. number ≡ suc (sent_of self.old)) }
@@ -95,14 +172,22 @@ impl Loads {
         ensures goes { SameTaken self.old self.new }
         ensures same { OnErr result (SameLoads self.old self.new) }
     {
+        if self.sent == u64::MAX || load_of(&self.joined, conn).is_some() {
+            return Err(AllocError);
+        }
         self.outgoing.try_reserve(1)?;
         let copy = Seq::from_vec(Vec::from_slice(alloc, key)?);
-        let number = self.under_way.send(alloc, key, conn)?;
-        let id = LoadId {
-            namespace: self.namespace,
-            number,
-        };
-        self.outgoing.push((id, copy)).unwrap();
+        let number = self.sent + 1;
+        let load = new_load(alloc, number, key, conn)?;
+        let name = Vec::from_slice(alloc, key)?;
+        put_waiting(&mut self.joined, conn, number)?;
+        if let Err(error) = add_keyed(&mut self.loads, &mut self.keys, key, name, load) {
+            take_waiting(&mut self.joined, conn);
+            return Err(error);
+        }
+        self.sent = number;
+        let namespace = self.namespace;
+        push_within(&mut self.outgoing, (LoadId { namespace, number }, copy));
         Ok(number)
     }
 
@@ -114,7 +199,9 @@ impl Loads {
         ensures outgoing { outgoing_loads self.new ≡ outgoing_loads self.old }
         ensures goes { SameTaken self.old self.new }
     {
-        self.under_way.leave(conn);
+        if let Some(number) = take_waiting(&mut self.joined, conn) {
+            self.loads.leave(number, conn);
+        }
     }
 
     /// Takes out the load under way of that number, which is answered or given up.
@@ -127,7 +214,10 @@ impl Loads {
         ensures outgoing { outgoing_loads self.new ≡ outgoing_loads self.old }
         ensures goes { SameTaken self.old self.new }
     {
-        self.under_way.settle(number)
+        let load = self.loads.take(number)?;
+        remove_key(&mut self.keys, load.key.as_slice());
+        remove_all(&mut self.joined, load.waiting.as_slice());
+        Some(load)
     }
 
     /// The loads that went out and were not taken, with their keys, in the order in which they were sent; moved out.

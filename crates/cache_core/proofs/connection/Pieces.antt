@@ -17,7 +17,7 @@ use Rattle.cache_core.specs.Connection.Fits.{ClosesFor, Fits, RunsOn}
 use Rattle.cache_core.specs.Connection.Parts.{put_parts, standing_as}
 use Rattle.cache_core.specs.Connection.Shown.{put_in, shown, with_piece}
 use Rattle.cache_lines.proofs.Drawn.{spends-same}
-use Rattle.cache_lines.proofs.LineRuns.{fresh-gather, gather-none}
+use Rattle.cache_lines.proofs.LineRuns.{fresh-gather, gather-none, frames-more}
 use Rattle.cache_lines.proofs.WholeLines.{behind-more, held-more}
 use Rattle.cache_lines.specs.Bases.{Seen}
 use Rattle.cache_lines.specs.Drawing.{identifiers_in}
@@ -31,11 +31,9 @@ use Rattle.cache_lines.specs.Whole.{has_line, held_line}
 use Rattle.cache_store.specs.Values.{IsSoundStore, Values}
 use Rattle.audit_model.specs.declared.command.Closing.TheVariants as by
 use Rattle.cache_commands.specs.declared.loads.standing.Standing.TheVariants as now
-use Rattle.cache_lines.specs.Stops.{holds_back, waits_now, ends_by_quit}
+use Rattle.cache_lines.specs.Ended.{holds_back, waits_now, ends_by_quit}
 use Rattle.cache_lines.proofs.HeldFeeds.{feeds-held, feeds-quit, feeds-waits}
-use Rattle.cache_lines.proofs.LoadWaits.{stops-waiting}
-use Rattle.cache_lines.proofs.ReadyEnds.{idle-by, joined}
-use Rattle.cache_lines.proofs.Rounds.{frames-more}
+use Rattle.cache_lines.proofs.ReadyEnds.{stops-waiting, idle-by, joined}
 use Rattle.cache_core.specs.declared.connection.connection.Connection.{Connection}
 use Rattle.cache_lines.proofs.Knowing.{due_if}
 

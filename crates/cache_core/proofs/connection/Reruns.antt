@@ -24,13 +24,13 @@ use Rattle.cache_commands.specs.Loads.Standings.{waits_for_load}
 use Rattle.cache_commands.specs.Order.{Order, Unknown, order_by}
 use Rattle.cache_commands.specs.Right.{DoesRight, dropped_when_run, held_when_run, step_saying}
 use Rattle.cache_commands.specs.declared.loads.standing.Standing.{Standing}
-use Rattle.cache_core.specs.Connection.Again.{EndsCalm, StepRan}
+use Rattle.cache_core.specs.Connection.Fed.{EndsCalm, StepRan}
 use Rattle.cache_core.specs.Connection.Fits.{Fits}
 use Rattle.cache_core.specs.Connection.Parts.{standing_as}
 use Rattle.cache_core.specs.Connection.Shown.{put_in, shown}
 use Rattle.cache_lines.proofs.Drawn.{draws-first}
 use Rattle.cache_lines.proofs.LineRuns.{fresh-gather}
-use Rattle.cache_lines.proofs.leads.Turns.{abandoned, answered, delivered, held_back, waits_again}
+use Rattle.cache_lines.proofs.leads.Settling.{abandoned, answered, delivered, held_back, waits_again}
 use Rattle.cache_lines.specs.Bases.{Seen}
 use Rattle.cache_lines.specs.Drawing.{Identifiers, StepDraws, identifiers_in}
 use Rattle.cache_lines.specs.Gathered.{IsFresh, gather, gathered, stage}
@@ -48,7 +48,7 @@ use Rattle.std.proofs.lemmas.Bool.Decides.{eqb_tells}
 use Rattle.audit_model.specs.Situation as model
 use Rattle.audit_lines.proofs.Cuts.{Cut, cut_at-here, cut_at-other}
 use Rattle.audit_model.specs.declared.command.Command.TheVariants as says
-use Rattle.cache_commands.proofs.LoadSteps.{abandons, delivers, waits}
+use Rattle.cache_commands.proofs.Answering.{abandons, delivers, waits}
 use Rattle.cache_commands.specs.declared.loads.standing.Standing.TheVariants as now
 use Rattle.cache_core.proofs.connection.Putting.{not-above}
 use Rattle.cache_core.specs.declared.connection.connection.Connection.{Connection}

@@ -1,8 +1,8 @@
 -- What the words say, after a resident changes, comes or goes.
-use Rattle.std.proofs.Common.{refl, sym, ap, ◌∙◌, subst, arith, inl, inr, get_or, lit≤, ◌≡◌, ◌≢◌, ℕ, ◌-◌, ◌<◌, ◌≤◌, List, [], ◌∷◌, ◌++◌, length, Option, Some, None, if◌then◌else◌, true, false, slice_set}
+use Rattle.std.proofs.Common.{refl, sym, ap, ◌∙◌, subst, arith, get_or, inl, inr, lit≤, ◌≡◌, ◌≢◌, ℕ, ◌-◌, ◌<◌, ◌≤◌, List, [], ◌∷◌, ◌++◌, length, Option, Some, None, if◌then◌else◌, true, false, slice_set}
 use Rattle.std.proofs.lemmas.Bool.{cases_eq, cases_lt, le-ltb, lt-ltb}
 use Rattle.std.proofs.lemmas.List.{length-append, length-map, length-set, map-append, map-set}
-use Rattle.std.proofs.lemmas.Option.{same_Some, slice_get-get_or, slice_get-map, slice_get_within}
+use Rattle.std.proofs.lemmas.Option.{same_Some, slice_get-map, slice_get_within}
 use Rattle.std.specs.List.{slice_get}
 use Rattle.std.specs.Option.{option_map}
 use Rattle.audit_model.specs.declared.command.Closing.{Closing}
@@ -11,7 +11,7 @@ use Rattle.cache_core.specs.Connections.Residents.{AreMatched, AreSettled, first
 use Rattle.cache_core.specs.declared.connections.residents.Resident.{Resident}
 use Rattle.audit_model.specs.declared.command.Closing.TheVariants as by
 use Rattle.cache_core.specs.declared.connection.connection.Connection.{Connection}
-use Rattle.cache_core.proofs.connections.Getting.{at-end, at-front, at-other, at-replaced, ext-get, map-same}
+use Rattle.cache_core.proofs.connections.Getting.{at-end, at-front, at-other, at-place, at-replaced, ext-get, map-same}
 use Rattle.cache_core.proofs.connections.Matching.{matched-more, matched-moved, matched-shorter}
 
 pub by-index : (rs : List Resident) (w : ℕ) → w < first_reason → presence_by rs w ≡ presence_held (slice_get rs w)
@@ -200,18 +200,12 @@ module _ (rs : List Resident) (last : Resident) (ws : List ℕ) (i w : ℕ) (why
 
 -- ---- the word of a place
 
-pub word-at : (ws : List ℕ) (i : ℕ) → i < length ws → slice_get ws i ≡ Some (get_or ws i 0)
-word-at ws i lt = slice_get-get_or ws i 0 lt
+within-from : (ps : List Presence) (i : ℕ) (o : Option Presence) → slice_get ps i ≡ o → is_here o ≡ true → i < length ps
+within-from ps i (Some p) e here = slice_get_within ps i p e
+within-from ps i None e here = let no : false ≡ true = here in cc
 
-pub within-some : (rs : List Resident) (ws : List ℕ) (i : ℕ) (p : Presence) → slice_get (presences_of rs ws) i ≡ Some p → i < length ws
-within-some rs ws i p at = let l = slice_get_within (presences_of rs ws) i p at in let e = length-map ws (presence_by rs) in omega arith
-
-within-from : (rs : List Resident) (ws : List ℕ) (i : ℕ) (o : Option Presence) → slice_get (presences_of rs ws) i ≡ o → is_here o ≡ true → i < length ws
-within-from rs ws i (Some p) e here = within-some rs ws i p e
-within-from rs ws i None e here = let no : false ≡ true = here in cc
-
-pub within-here : (rs : List Resident) (ws : List ℕ) (i : ℕ) → is_here (slice_get (presences_of rs ws) i) ≡ true → i < length ws
-within-here rs ws i here = within-from rs ws i (slice_get (presences_of rs ws) i) refl here
+pub within-here : (ps : List Presence) (i : ℕ) → is_here (slice_get ps i) ≡ true → i < length ps
+within-here ps i here = within-from ps i (slice_get ps i) refl here
 
 -- a place whose connection has not gone has an index for its word
 pub index-unless : (rs : List Resident) (ws : List ℕ) (i w : ℕ) → slice_get ws i ≡ Some w → ((why : Closing) → slice_get (presences_of rs ws) i ≡ Some (Gone why) → ⊥) → w < first_reason
@@ -229,3 +223,26 @@ index-out rs ws i w at out = index-unless rs ws i w at (λ why gone. let no : Ou
 -- what stands at a place whose word is an index
 pub held-at : (rs : List Resident) (ws : List ℕ) (i w : ℕ) (r : Resident) → slice_get ws i ≡ Some w → w < first_reason → slice_get rs w ≡ Some r → slice_get (presences_of rs ws) i ≡ Some (held_or_out r.connection)
 held-at rs ws i w r at lt there = said-at rs ws i w at ∙ ap Some (by-index rs w lt ∙ ap presence_held there)
+
+-- ---- what is found at a place of the whole
+
+module _ (rs : List Resident) (ws : List ℕ) (ps : List Presence) (is : presences_of rs ws ≡ ps) (i w : ℕ) where
+  -- by the word that is read there
+  pub word-in : i < length ps → w ≡ get_or ws i w → slice_get ws i ≡ Some w
+  word-in within read = let e = ap length is in let m = length-map ws (presence_by rs) in at-place ws i w (omega (arith, e, m, within)) read
+
+  pub resident-in : AreSettled rs ws → i < length ps → w ≡ get_or ws i w → w < first_reason → w < length rs
+  resident-in settled within read small = resident-there rs ws i w settled (word-in within read) small
+
+  pub said-in : i < length ps → w ≡ get_or ws i w → slice_get ps i ≡ Some (presence_by rs w)
+  said-in within read = ap (λ qs. slice_get qs i) (sym is) ∙ said-at rs ws i w (word-in within read)
+
+  pub held-in : AreSettled rs ws → (r : Resident) → i < length ps → w ≡ get_or ws i w → w < first_reason → r ≡ get_or rs w r → slice_get ps i ≡ Some (held_or_out r.connection)
+  held-in settled r within read small at = ap (λ qs. slice_get qs i) (sym is) ∙ held-at rs ws i w r (word-in within read) small (at-place rs w r (resident-in settled within read small) at)
+
+  -- of a connection that is here, or out
+  pub small-here : is_here (slice_get ps i) ≡ true → i < length ps → w ≡ get_or ws i w → w < first_reason
+  small-here here within read = index-here rs ws i w (word-in within read) (ap (λ qs. is_here (slice_get qs i)) is ∙ here)
+
+  pub small-out : slice_get ps i ≡ Some Out → i < length ps → w ≡ get_or ws i w → w < first_reason
+  small-out out within read = index-out rs ws i w (word-in within read) (ap (λ qs. slice_get qs i) is ∙ out)

@@ -3,8 +3,7 @@ ghost use Rattle.std.specs.Prelude.{◌≡◌, ◌+◌, ◌<◌, ◌≤◌, None
 ghost use Rattle.audit_model.specs.Grammar.{reading};
 ghost use Rattle.audit_model.specs.Steps.{RunAgain};
 ghost use Rattle.audit_model.specs.Stream.{behind_lines};
-ghost use Rattle.cache_core.specs.Connection.Again.{IsReplied, StepRan};
-ghost use Rattle.cache_core.specs.Connection.Fed.{seen_of};
+ghost use Rattle.cache_core.specs.Connection.Fed.{IsReplied, StepRan, seen_of};
 ghost use Rattle.cache_lines.specs.Bases.{CanRun};
 ghost use Rattle.cache_lines.specs.Ended.{spare_of};
 ghost use Rattle.cache_lines.specs.Waiting.{is_load};
@@ -28,11 +27,10 @@ pub fn first_line(unread: &Buffer) -> &[u8]
     ensures line { result.now ≡ held_line unread.now.bytes }
     ensures short { length result.now ≤ 8192 }
 {
-    match unread.next() {
-        Next::Line(len) => unread.line(len),
-        Next::More => unreachable!(),
-        Next::TooLong => unreachable!(),
-    }
+    let Next::Line(len) = unread.next() else {
+        unreachable!();
+    };
+    unread.line(len)
 }
 
 /// Takes the first line.
@@ -41,11 +39,10 @@ pub fn pass_line(unread: &mut Buffer)
     ensures bytes { unread.new.bytes ≡ behind_lines 1 unread.old.bytes }
     ensures room { unread.new.room ≡ unread.old.room }
 {
-    match unread.next() {
-        Next::Line(len) => unread.skip(len),
-        Next::More => unreachable!(),
-        Next::TooLong => unreachable!(),
-    }
+    let Next::Line(len) = unread.next() else {
+        unreachable!();
+    };
+    unread.skip(len);
 }
 
 /// Replies to the waiting `LOAD` of a connection that was given up for the last time, in reserved room.
@@ -100,9 +97,7 @@ fn load_again<S: Store, T: Tape>(
             connection.standing = Standing::Ready;
             connection.waited = 0;
         }
-        Ok(LineOutcome::Waits) => {
-            connection.waited += 1;
-        }
+        Ok(LineOutcome::Waits) => connection.waited += 1,
         Err(_) => {
             base.tape.hold(number, line);
             connection.standing = Standing::Held;

@@ -1,7 +1,7 @@
 //! A piece of a connection's bytes.
 ghost use Rattle.std.specs.Prelude.{◌≡◌, ℕ, ◌+◌, ◌≤◌, List, ◌++◌, ◌||◌, not, None, true, false, length, IsTrue, IfOk, OnErr};
 ghost use Rattle.audit_model.specs.Situation.{HeldValue, Situation};
-ghost use Rattle.cache_core.specs.Connection.Fed.{FedOver, LinesLeft, LooksAsBefore, TakesWaiting, unread_behind};
+ghost use Rattle.cache_core.specs.Connection.Fed.{FedOver, LinesLeft, LooksAsBefore, unread_behind};
 ghost use Rattle.cache_core.specs.Connection.Fits.{ClosesFor};
 ghost use Rattle.cache_core.specs.Connection.Parts.{waiting_before};
 ghost use Rattle.cache_core.specs.Connection.Shown.{put_in};
@@ -144,19 +144,8 @@ fn feed_held<S: Store, T: Tape>(
     }
 }
 
-/// Takes a piece for a connection whose `LOAD` waits, which closes where too many bytes stand behind that.
-fn feed_waiting(connection: &mut Connection, piece: &[u8])
-    requires fits { length piece.now ≤ connection.old.unread.room }
-    requires open { connection.old.closing ≡ None }
-    requires waits { connection.old.standing ≡ now_is.Waiting }
-    ensures took { TakesWaiting connection.old piece.now connection.new }
-    ensures text { connection.new.output.text.items ≡ connection.old.output.text.items }
-{
-    connection.wait_before(piece, connection.waited);
-}
-
-/// Takes a piece for which there is room, for an open connection, and returns whether a line is held back then. An `Err` has changed
-/// nothing: there was again no memory for the line that is held back.
+/// Takes a piece for which there is room, for an open connection, and returns whether a line is held back then; one whose `LOAD` waits
+/// closes where too many bytes stand behind that. An `Err` has changed nothing: there was again no memory for the line that is held back.
 pub fn feed_connection<S: Store, T: Tape>(
     base: &mut Base<S, T>,
     now: u64,
@@ -178,7 +167,7 @@ pub fn feed_connection<S: Store, T: Tape>(
         Standing::Ready => Ok(feed_ready(base, now, number, connection, piece)),
         Standing::Held => feed_held(base, now, number, connection, piece),
         Standing::Waiting => {
-            feed_waiting(connection, piece);
+            connection.wait_before(piece, connection.waited);
             Ok(false)
         }
     }

@@ -18,11 +18,10 @@ fn behind_first(unread: &Buffer) -> usize
     requires { IsTrue (has_line unread.now.bytes) }
     ensures { result ≡ length (behind_lines 1 unread.now.bytes) }
 {
-    match unread.next() {
-        Next::Line(len) => unread.len() - len - 1,
-        Next::More => unreachable!(),
-        Next::TooLong => unreachable!(),
-    }
+    let Next::Line(len) = unread.next() else {
+        unreachable!();
+    };
+    unread.len() - len - 1
 }
 
 /// Whether it runs lines when its lines ended so.
@@ -40,10 +39,7 @@ pub fn ended_standing(end: End) -> Standing
 pub fn ended_times(end: End) -> u64
     ensures { result ≡ ended_times end }
 {
-    match end {
-        End::More | End::TooLong | End::Held | End::Quit => 0,
-        End::Waits => 1,
-    }
+    matches!(end, End::Waits) as u64
 }
 
 /// Why it closes when its lines ended so before what is unread, if it does.
@@ -52,15 +48,9 @@ pub fn ended_closing(end: End, unread: &Buffer) -> Option<Closing>
     ensures { result ≡ ended_closing end unread.now.bytes }
 {
     match end {
-        End::More | End::Held => None,
         End::TooLong => Some(Closing::Long),
-        End::Waits => {
-            if behind_first(unread) <= MAX_BEHIND {
-                None
-            } else {
-                Some(Closing::Behind)
-            }
-        }
+        End::Waits if behind_first(unread) > MAX_BEHIND => Some(Closing::Behind),
         End::Quit => Some(Closing::Quit),
+        End::More | End::Held | End::Waits => None,
     }
 }

@@ -3,8 +3,7 @@ ghost use Rattle.std.specs.Prelude.{◌≡◌, ◌+◌, ◌≤◌, None, true, l
 ghost use Rattle.audit_model.specs.Grammar.{reading};
 ghost use Rattle.audit_model.specs.Replies.{outcome_text};
 ghost use Rattle.audit_model.specs.Steps.{Deliver};
-ghost use Rattle.cache_core.specs.Connection.Again.{IsReplied, StepRan};
-ghost use Rattle.cache_core.specs.Connection.Fed.{seen_of};
+ghost use Rattle.cache_core.specs.Connection.Fed.{IsReplied, StepRan, seen_of};
 ghost use Rattle.cache_lines.specs.Bases.{CanRun};
 ghost use Rattle.cache_lines.specs.Ended.{spare_of};
 ghost use Rattle.cache_lines.specs.Waiting.{is_load};

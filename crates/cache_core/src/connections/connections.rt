@@ -4,12 +4,12 @@ ghost use Rattle.std.specs.List.{slice_get};
 ghost use Rattle.cache_core.specs.Connections.Presence.{Here, Out, closing_at, is_here, retired_at};
 
 use crate::connection::Connection;
-use crate::connections::residents::{
-    Resident, add, look_up, put_back, reason_at, retire_at, take_out,
-};
+use crate::connections::residents::{FIRST_REASON, Resident, gone_for, reason_of, remove_at};
 use audit_model::Closing;
+use cache_commands::push_within;
 use std::alloc::{AllocError, Global};
 use std::marker::Model;
+use std::mem;
 
 /// The connections that were opened, in that order.
 #[derive(Drop)]
@@ -54,7 +54,17 @@ impl Connections {
         ensures pushed { OnOk result (self.new ≡ self.old ++ Here connection ∷ []) }
         ensures unchanged { OnErr result (self.new ≡ self.old) }
     {
-        add(&mut self.residents, &mut self.words, connection)
+        let index = self.residents.len();
+        if index >= FIRST_REASON as usize {
+            return Err(AllocError);
+        }
+        self.residents.try_reserve(1)?;
+        self.words.try_reserve(1)?;
+        let place = self.words.len();
+        let connection = Some(connection);
+        push_within(&mut self.residents, Resident { place, connection });
+        push_within(&mut self.words, index as u32);
+        Ok(())
     }
 
     /// The connection at a place, to be looked at, if it is here.
@@ -63,7 +73,11 @@ impl Connections {
         ensures { MatchOption result (is_here (slice_get self.now index) ≡ false)
             (λ c. slice_get self.now index ≡ Some (Here c.now)) }
     {
-        look_up(&self.residents, &self.words, index)
+        let word = self.words[index];
+        if word >= FIRST_REASON {
+            return None;
+        }
+        self.residents[word as usize].connection.as_ref()
     }
 
     /// Why the connection at a place has closed, if it has.
@@ -71,7 +85,14 @@ impl Connections {
         requires { index < length self.now }
         ensures { result ≡ closing_at self.now index }
     {
-        reason_at(&self.residents, &self.words, index)
+        let word = self.words[index];
+        if word >= FIRST_REASON {
+            return Some(reason_of(word));
+        }
+        match &self.residents[word as usize].connection {
+            Some(connection) => connection.closing,
+            None => Some(Closing::Asked),
+        }
     }
 
     /// Moves the connection at a place out; it has to be put back. This allocates nothing.
@@ -80,7 +101,12 @@ impl Connections {
         ensures taken { slice_get self.old index ≡ Some (Here result) }
         ensures rest { self.new ≡ slice_set self.old index Out }
     {
-        take_out(&mut self.residents, &self.words, index)
+        let word = self.words[index];
+        let resident = &mut self.residents[word as usize];
+        match mem::replace(&mut resident.connection, None) {
+            Some(connection) => connection,
+            None => unreachable!(),
+        }
     }
 
     /// Puts a connection back in the place of one that is out. This allocates nothing.
@@ -88,7 +114,9 @@ impl Connections {
         requires { slice_get self.old index ≡ Some Out }
         ensures { self.new ≡ slice_set self.old index (Here connection) }
     {
-        put_back(&mut self.residents, &self.words, index, connection);
+        let word = self.words[index];
+        let resident = &mut self.residents[word as usize];
+        resident.connection = Some(connection);
     }
 
     /// Drops the connection at a place if it has closed and its replies were taken; why it closed is kept. This allocates nothing.
@@ -96,6 +124,13 @@ impl Connections {
         requires { index < length self.old }
         ensures { self.new ≡ retired_at self.old index }
     {
-        retire_at(&mut self.residents, &mut self.words, index);
+        let word = self.words[index];
+        if word >= FIRST_REASON {
+            return;
+        }
+        match gone_for(&self.residents[word as usize]) {
+            Some(why) => remove_at(&mut self.residents, &mut self.words, index, why),
+            None => {}
+        }
     }
 }

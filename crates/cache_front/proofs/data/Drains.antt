@@ -14,13 +14,6 @@ use Rattle.engine_reference.specs.declared.data.Notice.{Notice}
 use Rattle.front_parts.specs.Places.Told.{told_at, without_told_at}
 use Rattle.front_parts.proofs.wholes.Told.{NoneTold}
 
--- how many came
-pub how_many : (had queue : List Note) (told : List Note) → queue ≡ had ++ told → length queue ≡ length had + length told
-how_many had queue told is =
-    let e = ap length is in
-    let a = length-append had told in
-    omega (arith, e, a)
-
 -- what was pushed
 pub pushed_if : {X T E : Type 0} (r : Result T E) (now more old : X) → IsOk r → now ≡ (if is_ok r then more else old) → now ≡ more
 pushed_if (Ok t) now more old ok is = is
@@ -45,25 +38,20 @@ module _ {S : Type 0} where
   told-some : (place : ℕ) (parts : List (Part S)) (n : Notice (List ℕ) Stored) → told_at place parts ≡ Some n
       → (waiting_at place parts ≡ note_from n ∷ waiting_at place (without_told_at place parts)) × (drained_at place (without_told_at place parts) ≡ drained_at place parts)
   told-some place [] n told = absurd (none-some n told)
-  told-some zero (s ∷ parts) n told = (go s.notices refl told, refl)
-    where
-      go : (ns : List (Notice (List ℕ) Stored)) → s.notices ≡ ns → slice_get ns 0 ≡ Some n → map note_from s.notices ≡ note_from n ∷ map note_from (drop 1 s.notices)
-      go [] is told = absurd (none-some n told)
-      go (x ∷ ns) is told =
-          let same : x ≡ n = cc in
-          ap (map note_from) is ∙ ap (λ y. note_from y ∷ map note_from ns) same ∙ ap (λ xs. note_from n ∷ map note_from (drop 1 xs)) (sym is)
+  told-some zero (s ∷ parts) n told = grind (arith, none-some)
   told-some (suc place) (s ∷ parts) n told = let t = told-some place parts n told in (t.0, ap (λ ps. s ∷ ps) t.1)
 
-module _ {S : Type 0} (place : ℕ) (was : Lent S) (had : List Note) where
-  -- some were taken from the part, and stand in the queue
-  pub record DrainsAt (front : Lent S) (queue : List Note) : Type 0 where
+module _ {S : Type 0} (place : ℕ) (was : Lent S) (had : List Note) (held : ℕ) where
+  -- some were taken from the part, and stand in the queue, and so many values are left
+  pub record DrainsAt (front : Lent S) (queue : List Note) (count : ℕ) : Type 0 where
     pub rest : front ≡ record was { parts = front.parts }
     pub same : drained_at place front.parts ≡ drained_at place was.parts
     pub queued : queue ++ waiting_at place front.parts ≡ had ++ waiting_at place was.parts
+    pub counted : count + length (waiting_at place was.parts) ≡ held + length (waiting_at place front.parts)
 
   -- there is room for each
-  pub all_fit : (front : Lent S) (queue : List Note) (room : ℕ) → DrainsAt front queue → length had + length (waiting_at place was.parts) ≤ room → length queue + length (waiting_at place front.parts) ≤ room
-  all_fit front queue room d fits =
+  pub all_fit : (front : Lent S) (queue : List Note) (count room : ℕ) → DrainsAt front queue count → length had + length (waiting_at place was.parts) ≤ room → length queue + length (waiting_at place front.parts) ≤ room
+  all_fit front queue count room d fits =
       let e = ap length d.queued in
       let a = length-append queue (waiting_at place front.parts) in
       let b = length-append had (waiting_at place was.parts) in
@@ -72,9 +60,9 @@ module _ {S : Type 0} (place : ℕ) (was : Lent S) (had : List Note) where
   pub fewer : (front : Lent S) (n : Notice (List ℕ) Stored) → told_at place front.parts ≡ Some n → suc (length (waiting_at place (without_told_at place front.parts))) ≡ length (waiting_at place front.parts)
   fewer front n told = sym (ap length (told-some place front.parts n told).0)
 
-  pub one_more : (front later : Lent S) (queue queue_then : List Note) (n : Notice (List ℕ) Stored) → DrainsAt front queue → told_at place front.parts ≡ Some n
-      → later ≡ record front { parts = without_told_at place front.parts } → queue_then ≡ queue ++ note_from n ∷ [] → DrainsAt later queue_then
-  one_more front later queue queue_then n d told is pushed =
+  pub one_more : (front later : Lent S) (queue queue_then : List Note) (count count_then : ℕ) (n : Notice (List ℕ) Stored) → DrainsAt front queue count → told_at place front.parts ≡ Some n
+      → later ≡ record front { parts = without_told_at place front.parts } → queue_then ≡ queue ++ note_from n ∷ [] → suc count_then ≡ count → DrainsAt later queue_then count_then
+  one_more front later queue queue_then count count_then n d told is pushed less =
       let t = told-some place front.parts n told in
       let rest = waiting_at place (without_told_at place front.parts) in
       let parts_are : later.parts ≡ without_told_at place front.parts = ap (λ (x : Lent S). x.parts) is in
@@ -87,15 +75,12 @@ module _ {S : Type 0} (place : ℕ) (was : Lent S) (had : List Note) where
             ∙ append_assoc queue (note_from n ∷ []) rest
             ∙ ap (λ ns. queue ++ ns) (sym t.0)
             ∙ d.queued;
+        counted = (let a = d.counted in let b = ap length t.0 in let e = ap (λ (ps : List (Part S)). length (waiting_at place ps)) parts_are in omega (arith, a, b, e, less));
       }
 
-  pub all_taken : (front later : Lent S) (queue : List Note) → DrainsAt front queue → told_at place front.parts ≡ None → later ≡ record front { parts = without_told_at place front.parts }
-      → (later ≡ record was { parts = drained_at place was.parts }) × (queue ≡ had ++ waiting_at place was.parts)
-  all_taken front later queue d none is =
-      let t = told-none place front.parts none in (
-        is ∙ ap (λ (ps : List (Part S)). record front { parts = ps }) t.2 ∙ d.rest ∙ ap (λ (ps : List (Part S)). record was { parts = ps }) (sym t.1 ∙ d.same),
-        sym (append-nil queue) ∙ ap (λ ns. queue ++ ns) (sym t.0) ∙ d.queued,
-      )
+  pub all_taken : (front later : Lent S) (queue : List Note) (count : ℕ) → DrainsAt front queue count → told_at place front.parts ≡ None → later ≡ record front { parts = without_told_at place front.parts }
+      → (later ≡ record was { parts = drained_at place was.parts }) × (queue ≡ had ++ waiting_at place was.parts) × (count + length (waiting_at place was.parts) ≡ held)
+  all_taken front later queue count d none is = grind (arith, told-none, append-nil)
 
 -- ---- one part after another
 
@@ -103,8 +88,7 @@ module _ {S : Type 0} where
   waiting-split : (place : ℕ) (parts : List (Part S)) → NoneTold place parts → waiting parts ≡ waiting_at place parts ++ waiting (drained_at place parts)
   waiting-split place [] none = refl
   waiting-split zero (s ∷ parts) none = refl
-  waiting-split (suc place) (s ∷ parts) none =
-      ap (λ ns. map note_from ns ++ waiting parts) none.0 ∙ waiting-split place parts none.1 ∙ ap (λ ns. waiting_at place parts ++ (map note_from ns ++ waiting (drained_at place parts))) (sym none.0)
+  waiting-split (suc place) (s ∷ parts) none = grind (arith, waiting-split place parts none.1)
 
   none-more : (place : ℕ) (parts : List (Part S)) → NoneTold place parts → NoneTold (suc place) (drained_at place parts)
   none-more place [] none = tt
@@ -124,34 +108,36 @@ module _ {S : Type 0} where
   none-waits : (place : ℕ) (parts : List (Part S)) → length parts ≤ place → NoneTold place parts → (waiting parts ≡ []) × (all_drained parts ≡ parts)
   none-waits place [] past none = (refl, refl)
   none-waits zero (s ∷ parts) past none = absurd (omega arith)
-  none-waits (suc place) (s ∷ parts) past none =
-      let t = none-waits place parts (omega arith) none.1 in
-      (ap (λ ns. map note_from ns ++ waiting parts) none.0 ∙ t.0, ap (λ y. y ∷ all_drained parts) (drained-none s none.0) ∙ ap (λ ps. s ∷ ps) t.1)
+  none-waits (suc place) (s ∷ parts) past none = grind (arith, drained-none, none-waits place parts)
 
-module _ {S : Type 0} (was : Lent S) (had : List Note) where
-  -- what so many first parts told was taken, and stands in the queue
-  pub record Drains (count : ℕ) (front : Lent S) (queue : List Note) : Type 0 where
+module _ {S : Type 0} (was : Lent S) (had : List Note) (held : ℕ) where
+  -- what so many first parts told was taken, and stands in the queue, and so many values are left
+  pub record Drains (number_of_parts : ℕ) (front : Lent S) (queue : List Note) (count : ℕ) : Type 0 where
     pub rest : front ≡ record was { parts = front.parts }
     pub number : length front.parts ≡ length was.parts
-    pub none : NoneTold count front.parts
+    pub none : NoneTold number_of_parts front.parts
     pub same : all_drained front.parts ≡ all_drained was.parts
     pub queued : queue ++ waiting front.parts ≡ had ++ waiting was.parts
+    pub counted : count + length (waiting was.parts) ≡ held + length (waiting front.parts)
 
-  pub none_yet : Drains 0 was had
-  none_yet = record { rest = refl; number = refl; none = tt; same = refl; queued = refl }
+  pub none_yet : Drains 0 was had held
+  none_yet = record { rest = refl; number = refl; none = tt; same = refl; queued = refl; counted = refl }
 
-  pub part_fits : (place : ℕ) (front : Lent S) (queue : List Note) (room : ℕ) → Drains place front queue → length had + length (waiting was.parts) ≤ room → length queue + length (waiting_at place front.parts) ≤ room
-  part_fits place front queue room d fits =
+  -- the next part's notes have room, and are of values that are held
+  pub part_fits : (place : ℕ) (front : Lent S) (queue : List Note) (count room : ℕ) → Drains place front queue count → length had + length (waiting was.parts) ≤ room → length (waiting was.parts) ≤ held
+      → (length queue + length (waiting_at place front.parts) ≤ room) × (length (waiting_at place front.parts) ≤ count)
+  part_fits place front queue count room d fits few =
       let e = ap length d.queued in
       let a = length-append queue (waiting front.parts) in
       let b = length-append had (waiting was.parts) in
       let s = ap length (waiting-split place front.parts d.none) in
       let t = length-append (waiting_at place front.parts) (waiting (drained_at place front.parts)) in
-      omega (arith, e, a, b, s, t, fits)
+      let c = d.counted in
+      (omega (arith, e, a, b, s, t, fits), omega (arith, s, t, c, few))
 
-  pub one_part : (place : ℕ) (front later : Lent S) (queue queue_then : List Note) → Drains place front queue → later ≡ record front { parts = drained_at place front.parts }
-      → queue_then ≡ queue ++ waiting_at place front.parts → Drains (place + 1) later queue_then
-  one_part place front later queue queue_then d is queued =
+  pub one_part : (place : ℕ) (front later : Lent S) (queue queue_then : List Note) (count count_then : ℕ) → Drains place front queue count → later ≡ record front { parts = drained_at place front.parts }
+      → queue_then ≡ queue ++ waiting_at place front.parts → count_then + length (waiting_at place front.parts) ≡ count → Drains (place + 1) later queue_then count_then
+  one_part place front later queue queue_then count count_then d is queued less =
       let more : suc place ≡ place + 1 = omega arith in
       let parts_are : later.parts ≡ drained_at place front.parts = ap (λ (x : Lent S). x.parts) is in
       record {
@@ -165,16 +151,14 @@ module _ {S : Type 0} (was : Lent S) (had : List Note) where
             ∙ append_assoc queue (waiting_at place front.parts) (waiting (drained_at place front.parts))
             ∙ ap (λ ns. queue ++ ns) (sym (waiting-split place front.parts d.none))
             ∙ d.queued;
+        counted =
+            (let c = d.counted in let s = ap length (waiting-split place front.parts d.none) in let t = length-append (waiting_at place front.parts) (waiting (drained_at place front.parts)) in
+            let e = ap (λ (ps : List (Part S)). length (waiting ps)) parts_are in omega (arith, c, s, t, e, less));
       }
 
-  pub each_part : (count : ℕ) (front : Lent S) (queue : List Note) → Drains count front queue → length was.parts ≤ count
-      → (front ≡ record was { parts = all_drained was.parts }) × (queue ≡ had ++ waiting was.parts)
-  each_part count front queue d past =
-      let long = d.number in
-      let t = none-waits count front.parts (omega arith) d.none in (
-        d.rest ∙ ap (λ (ps : List (Part S)). record was { parts = ps }) (sym t.1 ∙ d.same),
-        sym (append-nil queue) ∙ ap (λ ns. queue ++ ns) (sym t.0) ∙ d.queued,
-      )
+  pub each_part : (number_of_parts : ℕ) (front : Lent S) (queue : List Note) (count : ℕ) → Drains number_of_parts front queue count → length was.parts ≤ number_of_parts
+      → (front ≡ record was { parts = all_drained was.parts }) × (queue ≡ had ++ waiting was.parts) × (count + length (waiting was.parts) ≡ held)
+  each_part number_of_parts front queue count d past = grind (arith, none-waits, append-nil)
 
 -- ---- a part alone
 

@@ -1,47 +1,64 @@
--- The keys that have a visible value, part by part, are the live keys.
-use Rattle.std.proofs.Common.{◌≡◌, refl, ap, ◌∙◌, sym, ℕ, zero, suc, ◌+◌, ◌≤◌, ◌<◌, arith, Bool, cond, true, false, true≢false, not, ◌&&◌, ◌||◌, List, ◌∷◌, ◌++◌, length, map, Option, option_map, Some, None, is_some, slice_get, drop, drop-cons, add-one, get_or, Bor, if◌then◌else◌, subst, []}
-use Rattle.std.specs.List.{filter, sum_by, list_all, concat}
-use Rattle.std.proofs.lemmas.Bool.{and_from, and_parts, not-true, not_from_false}
-use Rattle.std.proofs.lemmas.List.{length-append, length-map, append-nil, append_assoc}
+-- The keys of the first parts.
+use Rattle.std.proofs.Common.{◌≡◌, refl, ap, ◌∙◌, sym, ℕ, zero, suc, ◌+◌, ◌<◌, ◌≤◌, arith, List, ◌∷◌, ◌++◌, length, take, Option, None, slice_get, [], Bool, cond, true, false, true≢false, not, ◌&&◌, ◌||◌, map, option_map, Some, is_some, drop, drop-cons, add-one, get_or, Bor, subst}
+use Rattle.std.proofs.Math.Bool.{and-false, and-true, or-false}
+use Rattle.std.proofs.lemmas.Bool.{and_from, and_parts, not-true, not_from_false, or_parts, or_right}
+use Rattle.std.proofs.lemmas.List.{append-nil, append_assoc, length-append, length-map}
 use Rattle.std.proofs.lemmas.List.Elements.{filter-append}
 use Rattle.std.proofs.lemmas.List.Folds.{list_any-append}
 use Rattle.std.proofs.lemmas.List.Sums.{sum_by-cons}
+use Rattle.std.proofs.lemmas.Map.Text.{is_eq-slice_cmp}
 use Rattle.std.proofs.lemmas.Option.{none-some}
-use Rattle.audit_model.specs.Bytewise.{same, is_before, text_line}
-use Rattle.audit_model.specs.Values.{sorted, put_sorted}
-use Rattle.cache_store.specs.Values.{AreLive}
-use Rattle.cache_store.specs.Among.{are_distinct, is_among}
-use Rattle.cache_store.proofs.Keys.{equal_from_same, same-refl, same-flip_false}
-use Rattle.cache_store.proofs.Sorting.{length-sorted, order, put_before, put_behind, sorted-push}
-use Rattle.engine_reference.specs.Records.{held_entries}
-use Rattle.engine_reference.specs.Scanning.{held_keys, visible_keys}
-use Rattle.engine_reference.specs.Telling.{AreApart, entry_of}
-use Rattle.engine_reference.specs.Visible.{is_visible, passing, visible, visible_value}
-use Rattle.engine_reference.proofs.StayingVisible.{visible_by_entries}
-use Rattle.front_reference.specs.Wholes.{visible_number}
-use Rattle.cache_front.proofs.parts.Items.{AreParted, ArePlaced}
-use Rattle.cache_front.proofs.parts.Telling.{Kept}
-use Rattle.cache_front.specs.Parts.{Part, held_of, items_in, items_of, service_answers}
-use Rattle.cache_front.specs.View.{IsWhole, StoreOfParts, view}
-use Rattle.cache_front.proofs.whole.Standing.{live_keys, parted}
-use Rattle.front_state.specs.Calls.{visible_of}
-use Rattle.cache_front.specs.Data.{FrontData, parted_by}
-use Rattle.cache_front.specs.Listing.{held_by_all, is_seen, seen_by_all}
+use Rattle.std.specs.BTreeMap.{insert_entry}
 use Rattle.std.specs.Cmp.Lexicographic.{slice_cmp}
+use Rattle.std.specs.List.{filter, sum_by, list_all, concat}
 use Rattle.std.specs.Ordering.{nat_cmp, is_lt, is_eq, match_ordering}
 use Rattle.std.specs.declared.cmp.Ordering.{Ordering}
 use Rattle.std.specs.declared.cmp.Ordering.TheVariants.{Less, Equal, Greater}
-use Rattle.std.specs.BTreeMap.{insert_entry}
-use Rattle.std.proofs.lemmas.Map.Text.{is_eq-slice_cmp}
+use Rattle.engine_reference.proofs.StayingVisible.{visible_by_entries}
+use Rattle.engine_reference.specs.Records.{held_entries}
+use Rattle.engine_reference.specs.Scanning.{held_keys, visible_keys}
+use Rattle.engine_reference.specs.Telling.{AreApart, entry_of}
+use Rattle.engine_reference.specs.Visible.{visible, visible_value}
+use Rattle.front_reference.specs.Wholes.{visible_number}
+use Rattle.front_state.specs.Calls.{keys_of, visible_of}
+use Rattle.audit_model.specs.Bytewise.{same, text_line}
+use Rattle.audit_model.specs.Values.{sorted, put_sorted}
+use Rattle.cache_store.proofs.Keys.{equal_from_same, same-refl, same-flip_false}
+use Rattle.cache_store.proofs.LiveKeys.{length-sorted, order, put_before, put_behind, sorted-push}
+use Rattle.cache_store.specs.Among.{are_distinct, is_among}
+use Rattle.cache_store.specs.Values.{AreLive}
+use Rattle.cache_front.proofs.parts.Items.{AreParted, ArePlaced}
+use Rattle.cache_front.proofs.parts.Writing.{Kept}
+use Rattle.cache_front.proofs.whole.Calling.{live_keys, parted}
+use Rattle.cache_front.specs.Data.{FrontData, parted_by}
+use Rattle.cache_front.specs.Listing.{held_by_all, is_seen, seen_by_all}
+use Rattle.cache_front.specs.Parts.{Part, items_of, service_answers}
+use Rattle.cache_front.specs.View.{IsWhole, StoreOfParts, view}
+
+module _ {S : Type 0} where
+  past : (parts : List (Part S)) (i : ℕ) → length parts ≤ i → slice_get parts i ≡ None
+  past [] i le = refl
+  past (s ∷ parts) zero le = absurd (let l : suc (length parts) ≤ 0 = le in omega (arith, l))
+  past (s ∷ parts) (suc i) le = past parts i (let l : suc (length parts) ≤ suc i = le in omega (arith, l))
+
+  -- there are none where there is no part
+  pub none_past : (parts : List (Part S)) (i : ℕ) (keys : List (List ℕ)) → length parts ≤ i → keys ≡ keys ++ keys_of (slice_get parts i)
+  none_past parts i keys le = sym (append-nil keys) ∙ ap (λ (o : Option (Part S)). keys ++ keys_of o) (sym (past parts i le))
+
+  one-further : (parts : List (Part S)) (i : ℕ) → i < length parts → held_by_all (take (suc i) parts) ≡ held_by_all (take i parts) ++ keys_of (slice_get parts i)
+  one-further [] i lt = absurd (let l : suc i ≤ 0 = lt in omega (arith, l))
+  one-further (s ∷ parts) zero lt = append-nil (held_keys s.records)
+  one-further (s ∷ parts) (suc i) lt = grind (arith, append_assoc, one-further parts i)
+
+  pub gathers_more : (parts : List (Part S)) (i : ℕ) (old new : List (List ℕ)) → i < length parts → old ≡ held_by_all (take i parts) → new ≡ old ++ keys_of (slice_get parts i) → new ≡ held_by_all (take (i + 1) parts)
+  gathers_more parts i old new lt was is = grind (arith, one-further)
+
+-- The keys that have a visible value, part by part, are the live keys.
 
 -- ---- keys that pass a test
 
 pub among-filter : (p : List ℕ → Bool) (q : List ℕ) (ks : List (List ℕ)) → is_among q (filter p ks) ≡ (p q && is_among q ks)
-among-filter p q [] = go (p q)
-  where
-    go : (b : Bool) → false ≡ (b && false)
-    go true = refl
-    go false = refl
+among-filter p q [] = sym (and-false (p q))
 among-filter p q (k ∷ ks) = go (p k) refl (same q k) refl (among-filter p q ks)
   where
     go : (b : Bool) → p k ≡ b → (c : Bool) → same q k ≡ c → is_among q (filter p ks) ≡ (p q && is_among q ks) → is_among q (cond b (k ∷ filter p ks) (filter p ks)) ≡ (p q && (same q k || is_among q ks))
@@ -56,46 +73,22 @@ among-filter p q (k ∷ ks) = go (p k) refl (same q k) refl (among-filter p q ks
 
 distinct-filter : (p : List ℕ → Bool) (ks : List (List ℕ)) → are_distinct ks ≡ true → are_distinct (filter p ks) ≡ true
 distinct-filter p [] d = refl
-distinct-filter p (k ∷ ks) d = let parts = and_parts (not (is_among k ks)) (are_distinct ks) d in go (p k) parts.0 (distinct-filter p ks parts.1)
-  where
-    no : (b : Bool) → (b && false) ≡ false
-    no true = refl
-    no false = refl
-
-    go : (b : Bool) → not (is_among k ks) ≡ true → are_distinct (filter p ks) ≡ true → are_distinct (cond b (k ∷ filter p ks) (filter p ks)) ≡ true
-    go true new later = and_from _ _ (not_from_false _ (among-filter p k ks ∙ ap (λ c. p k && c) (not-true _ new) ∙ no (p k))) later
-    go false new later = later
+distinct-filter p (k ∷ ks) d = grind (arith, and_parts, and_from, not_from_false, among-filter, not-true, and-false, distinct-filter p ks)
 
 distinct-append : (xs ys : List (List ℕ)) → are_distinct xs ≡ true → are_distinct ys ≡ true → ((q : List ℕ) → is_among q xs ≡ true → is_among q ys ≡ false) → are_distinct (xs ++ ys) ≡ true
 distinct-append [] ys d e apart = e
-distinct-append (x ∷ xs) ys d e apart =
-    let parts = and_parts (not (is_among x xs)) (are_distinct xs) d in
-    and_from _ _
-    (not_from_false _ (list_any-append (λ k. same x k) xs ys ∙ ap (λ b. b || is_among x ys) (not-true _ parts.0) ∙ apart x (ap (λ b. b || is_among x xs) (same-refl x))))
-    (distinct-append xs ys parts.1 e (λ q h. apart q (or-right (same q x) h)))
-  where
-    or-right : (b : Bool) {c : Bool} → c ≡ true → (b || c) ≡ true
-    or-right true h = refl
-    or-right false h = h
+distinct-append (x ∷ xs) ys d e apart = grind (arith, and_parts, and_from, not_from_false, list_any-append, not-true, same-refl, or_right, distinct-append xs ys)
 
 -- no more pass
 filter-few : {X : Type 0} (p : X → Bool) (xs : List X) → length (filter p xs) ≤ length xs
 filter-few p [] = omega arith
-filter-few p (x ∷ xs) = go (p x) (filter-few p xs)
-  where
-    go : (b : Bool) → length (filter p xs) ≤ length xs → length (cond b (x ∷ filter p xs) (filter p xs)) ≤ suc (length xs)
-    go true later = omega (arith, later)
-    go false later = omega (arith, later)
+filter-few p (x ∷ xs) = grind (arith, filter-few p xs)
 
 -- ---- one part
 
 among-entry : (q : List ℕ) (es : List Kept) → is_among q (map (λ (e : Kept). e.key) es) ≡ is_some (entry_of same es q)
 among-entry q [] = refl
-among-entry q (e ∷ es) = go (same q e.key) (among-entry q es)
-  where
-    go : (b : Bool) → is_among q (map (λ (e : Kept). e.key) es) ≡ is_some (entry_of same es q) → (b || is_among q (map (λ (e : Kept). e.key) es)) ≡ is_some (cond b (Some e) (entry_of same es q))
-    go true later = refl
-    go false later = later
+among-entry q (e ∷ es) = grind (arith, among-entry q es)
 
 distinct-held : (es : List Kept) → AreApart same es → are_distinct (map (λ (e : Kept). e.key) es) ≡ true
 distinct-held [] a = refl
@@ -111,19 +104,7 @@ module _ {S : Type 0} (now : ℕ) where
 
   -- what is visible is held
   sees-held : (s : Part S) (q : List ℕ) → (sees s q && is_among q (held_keys s.records)) ≡ sees s q
-  sees-held s q =
-      ap (λ b. sees s q && b) (among-entry q (held_entries s.records))
-      ∙ ap (λ (o : Option Kept). is_some (option_map (λ (e : Kept). e.value) o) && is_some (entry_of same (held_entries s.records) q)) (visible_by_entries same service_answers s now q)
-      ∙ go (entry_of same (held_entries s.records) q)
-      ∙ sym (ap (λ (o : Option Kept). is_some (option_map (λ (e : Kept). e.value) o)) (visible_by_entries same service_answers s now q))
-    where
-      all : (b : Bool) → (b && true) ≡ b
-      all true = refl
-      all false = refl
-
-      go : (o : Option Kept) → (is_some (option_map (λ (e : Kept). e.value) (passing (is_visible service_answers s now) o)) && is_some o) ≡ is_some (option_map (λ (e : Kept). e.value) (passing (is_visible service_answers s now) o))
-      go None = refl
-      go (Some e) = all _
+  sees-held s q = grind (arith, sees, among-entry, visible_by_entries, and-true)
 
   among-seen : (s : Part S) (q : List ℕ) → is_among q (keys_seen s) ≡ sees s q
   among-seen s q = among-filter (sees s) q (held_keys s.records) ∙ sees-held s q
@@ -133,12 +114,7 @@ module _ {S : Type 0} (now : ℕ) where
 
   -- another part's keys are not there
   sees-none : (part_of : List ℕ → ℕ) (part : ℕ) (s : Part S) (q : List ℕ) → ArePlaced part_of part (held_entries s.records) → (part_of q ≡ part → ⊥) → sees s q ≡ false
-  sees-none part_of part s q placed other =
-      ap (λ (o : Option Kept). is_some (option_map (λ (e : Kept). e.value) o)) (visible_by_entries same service_answers s now q) ∙ go (entry_of same (held_entries s.records) q) refl
-    where
-      go : (o : Option Kept) → entry_of same (held_entries s.records) q ≡ o → is_some (option_map (λ (e : Kept). e.value) (passing (is_visible service_answers s now) o)) ≡ false
-      go None e = refl
-      go (Some x) e = absurd (other (placed q x e))
+  sees-none part_of part s q placed other = grind (arith, visible_by_entries)
 
   -- ---- all parts
 
@@ -160,11 +136,7 @@ module _ {S : Type 0} (now : ℕ) where
       let is : x ≡ s = cc in
       list_any-append (λ k. same q k) (keys_seen x) (all_seen parts)
       ∙ ap (λ b. is_among q (keys_seen x) || b) (none-before part_of (suc first) parts q p.2 (omega (arith, at)))
-      ∙ no (is_among q (keys_seen x)) ∙ among-seen x q ∙ ap (λ (y : Part S). sees y q) is
-    where
-      no : (b : Bool) → (b || false) ≡ b
-      no true = refl
-      no false = refl
+      ∙ or-false (is_among q (keys_seen x)) ∙ among-seen x q ∙ ap (λ (y : Part S). sees y q) is
   among-all part_of first (suc k) (x ∷ parts) s q p there at =
       list_any-append (λ k. same q k) (keys_seen x) (all_seen parts)
       ∙ ap (λ b. b || is_among q (all_seen parts)) (among-seen x q ∙ sees-none part_of first x q p.1 (λ e. omega (arith, e, at)))
@@ -188,14 +160,7 @@ module _ {S : Type 0} (now : ℕ) where
 
   seen-few : (first : ℕ) (parts : List (Part S)) → length (all_seen parts) ≤ length (items_of first parts)
   seen-few first [] = omega arith
-  seen-few first (s ∷ parts) =
-      let a = length-append (keys_seen s) (all_seen parts) in
-      let b = length-append (items_in first s) (items_of (suc first) parts) in
-      let f = filter-few (sees s) (held_keys s.records) in
-      let k = length-map (held_entries s.records) (λ (e : Kept). e.key) in
-      let m = length-map (held_entries s.records) (held_of first s) in
-      let later = seen-few (suc first) parts in
-      omega (arith, a, b, f, k, m, later)
+  seen-few first (s ∷ parts) = grind (arith, length-append, keys_seen, all_seen, filter-few, sees, length-map, seen-few (suc first) parts)
 
   seen-sum : (parts : List (Part S)) → sum_by (λ (s : Part S). length (visible_keys service_answers same s now)) parts ≡ length (all_seen parts)
   seen-sum [] = refl
@@ -227,21 +192,11 @@ module _ {S : Type 0} (now : ℕ) where
 
 filter-same : (p r : List ℕ → Bool) (ks : List (List ℕ)) → ((q : List ℕ) → is_among q ks ≡ true → p q ≡ r q) → filter p ks ≡ filter r ks
 filter-same p r [] each = refl
-filter-same p r (k ∷ ks) each =
-    ap (λ b. cond b (k ∷ filter p ks) (filter p ks)) (each k (ap (λ b. b || is_among k ks) (same-refl k)))
-    ∙ ap (λ xs. cond (r k) (k ∷ xs) xs) (filter-same p r ks (λ q h. each q (or-right (same q k) h)))
-  where
-    or-right : (b : Bool) {c : Bool} → c ≡ true → (b || c) ≡ true
-    or-right true h = refl
-    or-right false h = h
+filter-same p r (k ∷ ks) each = grind (arith, same-refl, or_right, filter-same p r ks)
 
 module _ {S : Type 0} where
   held-in : (part_of : List ℕ → ℕ) (part : ℕ) (s : Part S) (q : List ℕ) → ArePlaced part_of part (held_entries s.records) → is_among q (held_keys s.records) ≡ true → part_of q ≡ part
-  held-in part_of part s q placed h = go (entry_of same (held_entries s.records) q) refl (sym (among-entry q (held_entries s.records)) ∙ h)
-    where
-      go : (o : Option Kept) → entry_of same (held_entries s.records) q ≡ o → is_some (entry_of same (held_entries s.records) q) ≡ true → part_of q ≡ part
-      go None e some = absurd (true≢false (sym some ∙ ap (λ (x : Option Kept). is_some x) e))
-      go (Some x) e some = placed q x e
+  held-in part_of part s q placed h = grind (arith, among-entry)
 
   held-none : (part_of : List ℕ → ℕ) (part : ℕ) (s : Part S) (q : List ℕ) → ArePlaced part_of part (held_entries s.records) → (part_of q ≡ part → ⊥) → is_among q (held_keys s.records) ≡ false
   held-none part_of part s q placed other = go (is_among q (held_keys s.records)) refl
@@ -315,13 +270,7 @@ put_is (e ∷ es) k new =
 
 new-put : (key k : List ℕ) (xs : List (List ℕ)) → not (same key k) ≡ true → is_new key xs ≡ true → is_new key (put_sorted k xs) ≡ true
 new-put key k [] a b = and_from _ _ a refl
-new-put key k (x ∷ xs) a b =
-    let parts = and_parts (not (same key x)) (is_new key xs) b in
-    go (is_before k x) (new-put key k xs a parts.1)
-  where
-    go : (t : Bool) → is_new key (put_sorted k xs) ≡ true → is_new key (if t then k ∷ x ∷ xs else x ∷ put_sorted k xs) ≡ true
-    go true next = and_from _ _ a b
-    go false next = and_from _ _ (and_parts (not (same key x)) (is_new key xs) b).0 next
+new-put key k (x ∷ xs) a b = grind (arith, and_parts, is_new, and_from, new-put key k xs a)
 
 new-sorted : (key : List ℕ) (xs : List (List ℕ)) → is_new key xs ≡ true → is_new key (sorted xs) ≡ true
 new-sorted key [] n = refl
@@ -329,28 +278,12 @@ new-sorted key (x ∷ xs) n = let parts = and_parts (not (same key x)) (is_new k
 
 new-among : (key : List ℕ) (xs : List (List ℕ)) → is_among key xs ≡ false → is_new key xs ≡ true
 new-among key [] n = refl
-new-among key (x ∷ xs) n = go (same key x) n (λ h. new-among key xs h)
-  where
-    go : (b : Bool) → (b || is_among key xs) ≡ false → (is_among key xs ≡ false → is_new key xs ≡ true) → (not b && is_new key xs) ≡ true
-    go true n later = let no : true ≡ false = n in cc
-    go false n later = later n
+new-among key (x ∷ xs) n = grind (arith, is_new, new-among key xs)
 
 -- a key is not among those before it
 not_before : (xs : List (List ℕ)) (key : List ℕ) (ys : List (List ℕ)) → are_distinct (xs ++ key ∷ ys) ≡ true → is_among key xs ≡ false
 not_before [] key ys d = refl
-not_before (x ∷ xs) key ys d =
-    let parts = and_parts (not (is_among x (xs ++ key ∷ ys))) (are_distinct (xs ++ key ∷ ys)) d in
-    let apart = sym (list_any-append (λ k. same x k) xs (key ∷ ys)) ∙ not-true _ parts.0 in
-    let other = first_no (same x key) (is_among x ys) (second_no (is_among x xs) (same x key || is_among x ys) apart) in
-    ap (λ b. b || is_among key xs) (same-flip_false x key other) ∙ not_before xs key ys parts.1
-  where
-    second_no : (a b : Bool) → (a || b) ≡ false → b ≡ false
-    second_no true b h = let no : true ≡ false = h in cc
-    second_no false b h = h
-
-    first_no : (a b : Bool) → (a || b) ≡ false → a ≡ false
-    first_no true b h = h
-    first_no false b h = refl
+not_before (x ∷ xs) key ys d = grind (arith, and_parts, list_any-append, not-true, or_parts, same-flip_false, not_before xs key ys)
 
 module _ (test : List ℕ → Bool) where
   -- of the keys that were gone through those that pass stand in a map
@@ -361,15 +294,12 @@ module _ (test : List ℕ → Bool) where
     pub texts_are : texts found ≡ sorted (filter test done)
 
   one-more : (done : List (List ℕ)) (key : List ℕ) → filter test (done ++ key ∷ []) ≡ filter test done ++ cond (test key) (key ∷ []) []
-  one-more done key = filter-append test done (key ∷ []) ∙ ap (λ ks. filter test done ++ ks) (go (test key))
-    where
-      go : (b : Bool) → cond b (key ∷ []) [] ≡ cond b (key ∷ []) []
-      go b = refl
+  one-more done key = filter-append test done (key ∷ [])
 
   pub sorts_more : (all rest : List (List ℕ)) (found then_found : Keys) (k : Bor (List ℕ)) (key : List ℕ) → test key ≡ true → k.now ≡ key → then_found ≡ insert_entry by_text found k tt → Sorts all (key ∷ rest) found → Sorts all rest then_found
   sorts_more all rest found then_found k key passes is e s =
       let before = not_before s.done key rest (subst (λ xs. are_distinct xs ≡ true) s.whole s.distinct) in
-      let among = among-filter test key s.done ∙ ap (λ b. test key && b) before ∙ no (test key) in
+      let among = among-filter test key s.done ∙ ap (λ b. test key && b) before ∙ and-false (test key) in
       let new = new-sorted key (filter test s.done) (new-among key (filter test s.done) among) in
       let fresh : is_new k.now (texts found) ≡ true = subst (λ xs. is_new k.now xs ≡ true) (sym s.texts_are) (subst (λ q. is_new q (sorted (filter test s.done)) ≡ true) (sym is) new) in
       record {
@@ -380,10 +310,6 @@ module _ (test : List ℕ → Bool) where
             ap texts e ∙ put_is found k fresh ∙ ap (put_sorted k.now) s.texts_are ∙ ap (λ q. put_sorted q (sorted (filter test s.done))) is
             ∙ sym (ap sorted (one-more s.done key ∙ ap (λ b. filter test s.done ++ cond b (key ∷ []) []) passes) ∙ sorted-push (filter test s.done) key);
       }
-    where
-      no : (b : Bool) → (b && false) ≡ false
-      no true = refl
-      no false = refl
 
   pub sorts_skip : (all rest : List (List ℕ)) (found : Keys) (key : List ℕ) → test key ≡ false → Sorts all (key ∷ rest) found → Sorts all rest found
   sorts_skip all rest found key fails s = record {

@@ -1,8 +1,9 @@
 -- Identifiers over parts: what is drawn for a predicate in all parts, and what is registered then.
-use Rattle.std.proofs.Common.{◌≡◌, ℕ, zero, suc, ◌+◌, ◌*◌, ◌<◌, true, List, [], ◌∷◌, ◌++◌, length, refl, sym, ap, ◌∙◌, arith, get_or, ◌-◌, ◌≤◌, Bool, false, true≢false, ◌&&◌, ◌||◌, MatchBool, Option, Some, None, IsTrue, slice_get, inl, inr, ◌⊎◌, nat_lt, ◌==◌, All}
+use Rattle.std.proofs.Common.{◌≡◌, ℕ, zero, suc, ◌+◌, ◌*◌, ◌<◌, true, List, [], ◌∷◌, ◌++◌, length, refl, sym, ap, ◌∙◌, arith, get_or, ◌-◌, ◌≤◌, false, true≢false, ◌||◌, MatchBool, Option, Some, None, IsTrue, slice_get, inl, inr, ◌⊎◌, nat_lt, ◌==◌, All}
+use Rattle.std.proofs.Math.Bool.{and-false}
 use Rattle.std.specs.Int.{from_be_bytes, to_be_bytes, w64, w128}
 use Rattle.std.specs.List.{list_all}
-use Rattle.std.proofs.lemmas.Bool.{and_parts, ltb-true, eqb-true, and_from, eq-eqb, lt-ltb}
+use Rattle.std.proofs.lemmas.Bool.{and_parts, ltb-true, eqb-true, and_from, eq-eqb, lt-ltb, or_cases, or_left, or_right}
 use Rattle.std.proofs.lemmas.Nat.{be_bytes_8}
 use Rattle.cache_front.specs.Registering.{is_identifier, is_registered_in, register_of, HasNoMore}
 use Rattle.std.specs.Option.{option_map_or}
@@ -79,11 +80,7 @@ sixteen xs is = listed xs ∙ ap (λ n. listing n (byte_of xs)) (eqb-true (lengt
 
 -- two identifiers that say one number are one
 pub same_bytes : (xs ys : List ℕ) → is_identifier xs ≡ true → is_identifier ys ≡ true → from_be_bytes w128 xs ≡ from_be_bytes w128 ys → xs ≡ ys
-same_bytes xs ys x y e =
-    sixteen xs x
-    ∙ same_listing (byte_of xs) (byte_of ys) (small-bytes xs (and_parts (length xs == 16) _ x).1) (small-bytes ys (and_parts (length ys == 16) _ y).1)
-    (ap (from_be_bytes w128) (sym (sixteen xs x)) ∙ e ∙ ap (from_be_bytes w128) (sixteen ys y))
-    ∙ sym (sixteen ys y)
+same_bytes xs ys x y e = grind (arith, sixteen, same_listing, byte_of, small-bytes, and_parts)
 
 -- ---- identifiers over parts: what is drawn for a predicate in all parts, and what is registered then
 
@@ -114,44 +111,28 @@ identifiers-are number s bytes n lt = grind (arith, streams_are n s, and_from, e
 
 -- ---- what is registered
 
-and_false : (b : Bool) → (b && false) ≡ false
-and_false true = refl
-and_false false = refl
-
-or_either : (a b : Bool) → (a || b) ≡ true → (a ≡ true) ⊎ (b ≡ true)
-or_either true b e = inl refl
-or_either false b e = inr e
-
-or_first : (a b : Bool) → a ≡ true → (a || b) ≡ true
-or_first true b e = refl
-or_first false b e = absurd (true≢false (sym e))
-
-or_second : (a b : Bool) → b ≡ true → (a || b) ≡ true
-or_second true b e = refl
-or_second false b e = e
-
 -- one more predicate
 registered-pushed : (ps : List (Registered (List ℕ))) (p : Registered (List ℕ)) (n : ℕ) → is_registered (ps ++ p ∷ []) n ≡ true → (is_registered ps n ≡ true) ⊎ (p.id ≡ n)
-registered-pushed [] p n e = elim (or_either (p.id == n) false e) [ inl h ↦ inr (eqb-true p.id n h) | inr h ↦ absurd (true≢false (sym h)) ]
-registered-pushed (x ∷ ps) p n e = grind (arith, or_either, or_first, registered-pushed ps p n, or_second)
+registered-pushed [] p n e = elim (or_cases (p.id == n) false e) [ inl h ↦ inr (eqb-true p.id n h) | inr h ↦ absurd (true≢false (sym h)) ]
+registered-pushed (x ∷ ps) p n e = grind (arith, or_cases, or_left, registered-pushed ps p n, or_right)
 
 -- what is so of each number that is registered in the new, by the old
 registered-from : (old ps : List (Registered (List ℕ))) (n : ℕ) → EachPredicate (λ p. is_registered old p.id ≡ true) ps → is_registered ps n ≡ true → is_registered old n ≡ true
 registered-from old [] n each e = absurd (true≢false (sym e))
-registered-from old (p ∷ ps) n each e = elim (or_either (p.id == n) (is_registered ps n) e) [
+registered-from old (p ∷ ps) n each e = elim (or_cases (p.id == n) (is_registered ps n) e) [
   | inl h ↦ ap (is_registered old) (sym (eqb-true p.id n h)) ∙ each zero p refl
   | inr h ↦ registered-from old ps n (λ place q there. each (suc place) q there) h
 ]
 
 registered-own : (ps : List (Registered (List ℕ))) → EachPredicate (λ p. is_registered ps p.id ≡ true) ps
 registered-own [] place p there = absurd (none-some p there)
-registered-own (x ∷ ps) zero p there = grind (arith, or_first, eq-eqb)
-registered-own (x ∷ ps) (suc place) p there = or_second (x.id == p.id) (is_registered ps p.id) (registered-own ps place p there)
+registered-own (x ∷ ps) zero p there = grind (arith, or_left, eq-eqb)
+registered-own (x ∷ ps) (suc place) p there = or_right (x.id == p.id) (is_registered ps p.id) (registered-own ps place p there)
 
 -- a predicate whose number is that of a drawn identifier registers that one alone
 registers-drawn : (ps : List (Registered (List ℕ))) (p : Registered (List ℕ)) (n : ℕ) (start : Stream) → is_identifier (identifier_at n start) ≡ true → p.id ≡ engine.identifier_at n start
     → (id : List ℕ) → is_registered_in (ps ++ p ∷ []) id ≡ true → (is_registered_in ps id || same id (identifier_at n start)) ≡ true
-registers-drawn ps p n start proper drawn_is id e = grind (arith, and_parts (is_identifier id) (is_registered (ps ++ p ∷ []) (from_be_bytes w128 id)) e, registered-pushed ps p (from_be_bytes w128 id), or_first (is_registered_in ps id) (same id (identifier_at n start)), and_from, or_second (is_registered_in ps id) (same id (identifier_at n start)), same_bytes id (identifier_at n start), number_is n start, same-refl id)
+registers-drawn ps p n start proper drawn_is id e = grind (arith, and_parts (is_identifier id) (is_registered (ps ++ p ∷ []) (from_be_bytes w128 id)) e, registered-pushed ps p (from_be_bytes w128 id), or_left (is_registered_in ps id) (same id (identifier_at n start)), and_from, or_right (is_registered_in ps id) (same id (identifier_at n start)), same_bytes id (identifier_at n start), number_is n start, same-refl id)
 
 -- ---- all parts draw
 
@@ -287,7 +268,7 @@ module _ {S : Type 0} where
 
   -- after a run of all parts that ended its predicates none is registered
   pub released : (news : List (Part S)) → ((part : ℕ) (t : Part S) → slice_get news part ≡ Some t → t.predicates ≡ []) → (part : ℕ) (id : List ℕ) → register_of news part id ≡ false
-  released news ended part id = grind (arith, and_false (is_identifier id))
+  released news ended part id = grind (arith, and-false (is_identifier id))
 
   -- ---- the calls register none
 

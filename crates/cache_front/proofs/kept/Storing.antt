@@ -1,12 +1,13 @@
 -- What a store keeps of all its parts, kept by each call of the store; and what follows from it.
-use Rattle.std.proofs.Common.{◌≡◌, ℕ, zero, suc, ◌+◌, ◌-◌, ◌*◌, ◌/◌, ◌<◌, ◌≤◌, ◌^◌, true, false, true≢false, MatchBool, List, [], ◌∷◌, length, append-nil, Option, option_map, Some, None, IsTrue, slice_get, refl, sym, ap, ◌∙◌, subst, arith}
+use Rattle.std.proofs.Common.{◌≡◌, ℕ, zero, suc, ◌+◌, ◌-◌, ◌*◌, ◌/◌, ◌<◌, ◌≤◌, ◌^◌, true, false, MatchBool, List, [], ◌∷◌, length, append-nil, Option, option_map, Some, IsTrue, slice_get, refl, sym, ap, ◌∙◌, subst, arith, slice_set}
+use Rattle.std.proofs.lemmas.List.{length-set}
 use Rattle.std.specs.List.{sum_by}
 use Rattle.std.proofs.lemmas.Bool.{ltb-true, ltb-false, false_from_ne_true}
 use Rattle.std.proofs.lemmas.List.Sums.{sum_by-cons}
 use Rattle.std.proofs.lemmas.Nat.{le-div}
 use Rattle.std.proofs.lemmas.Option.{none-some}
 use Rattle.audit_model.specs.Bytewise.{same}
-use Rattle.audit_model.specs.History.{part_count, share, accepts_values, weight_of}
+use Rattle.audit_model.specs.History.{part_count, accepts_values, weight_of}
 use Rattle.audit_model.specs.Situation.{HeldValue}
 use Rattle.rand_core.specs.Stream.{Stream}
 use Rattle.cache_store.specs.Promises.{Frame, value_for}
@@ -29,14 +30,11 @@ use Rattle.engine_reference.specs.Soundness.{Each}
 use Rattle.engine_reference.specs.Telling.{entry_of, AreApart}
 use Rattle.front_reference.specs.Fronts.{CallsEach}
 use Rattle.front_reference.specs.Parts.{Inserts, TakesOut, takes_nothing}
-use Rattle.cache_front.specs.Parts.{Part, Stored, IsProper, service_answers, settings_of, with_part, items_of, AreMarked, Stands, put, put_entry, nanos, drained, IsBrief}
-use Rattle.cache_front.proofs.parts.Running.{Maintained, idle, ran}
-use Rattle.cache_front.proofs.parts.Items.{ArePlaced, AreParted, decides, with_part-there, with_part-other}
-use Rattle.cache_front.proofs.parts.Joining.{Knows, IsNewValue, entry_of-key}
-use Rattle.cache_front.proofs.parts.Facts.{own_is, fresh_is}
-use Rattle.cache_front.proofs.parts.Writing.{wrote}
+use Rattle.cache_front.specs.Parts.{Part, Stored, IsProper, service_answers, settings_of, items_of, AreMarked, Stands, put, put_entry, nanos, drained, IsBrief}
+use Rattle.cache_front.proofs.parts.Joining.{Maintained, idle, ran, Knows, IsNewValue, entry_of-key, own_is, fresh_is}
+use Rattle.cache_front.proofs.parts.Items.{ArePlaced, AreParted, decides, replaced-there, replaced-other}
+use Rattle.cache_front.proofs.parts.Writing.{wrote, Kept}
 use Rattle.front_reference.specs.Wholes.{DrawAll, registered_in}
-use Rattle.cache_front.proofs.parts.Telling.{Kept}
 use Rattle.cache_front.specs.Keeping.{at_moment, common_by, belongs_to, IsProperRecord, IsKeptPart, AreKeptParts, IsStorable}
 use Rattle.cache_front.proofs.kept.Keeping.{weighs-little, kept-later, kept-looked_up, kept-accepted, kept-removed, kept-ran, kept-cleared, kept-covered, kept-new}
 
@@ -92,28 +90,23 @@ covers-all {S = S} next prefix (s ∷ ss) old new ids (id, rest, mid, is, draws,
     go (suc k) before there later = later.each k before there
 
 module _ {S : Type 0} where
-  same_length : (k : ℕ) (t : Part S) (parts : List (Part S)) → length (with_part k t parts) ≡ length parts
-  same_length k t [] = refl
-  same_length zero t (x ∷ parts) = refl
-  same_length (suc k) t (x ∷ parts) = ap suc (same_length k t parts)
-
   -- one part is changed
   one-kept : (frame : Frame) (step now next part : ℕ) (parts : List (Part S)) (s t : Part S) → Comes frame step now next → AreKeptParts frame step parts → slice_get parts part ≡ Some s → IsKeptPart (at_moment frame now) part next t
-      → AreKeptParts (at_moment frame now) next (with_part part t parts)
+      → AreKeptParts (at_moment frame now) next (slice_set parts part t)
   one-kept frame step now next part parts s t at h there k = record {
-    number = same_length part t parts ∙ h.number;
+    number = length-set parts part t ∙ h.number;
     placed = h.placed;
     brief = h.brief;
     range = at.range;
     each = λ j x found. go j x found (decides j part);
   }
     where
-      go : (j : ℕ) (x : Part S) → slice_get (with_part part t parts) j ≡ Some x → Dec (j ≡ part) → IsKeptPart (at_moment frame now) j next x
+      go : (j : ℕ) (x : Part S) → slice_get (slice_set parts part t) j ≡ Some x → Dec (j ≡ part) → IsKeptPart (at_moment frame now) j next x
       go j x found (yes is) =
-          let both : Some t ≡ Some x = sym (with_part-there part t s parts there) ∙ ap (slice_get (with_part part t parts)) (sym is) ∙ found in
+          let both : Some t ≡ Some x = sym (replaced-there part t s parts there) ∙ ap (slice_get (slice_set parts part t)) (sym is) ∙ found in
           let one : t ≡ x = cc in
           subst (λ m. IsKeptPart (at_moment frame now) m next x) (sym is) (subst (λ y. IsKeptPart (at_moment frame now) part next y) one k)
-      go j x found (no other) = kept-later frame j step now next x at.less at.rises (h.each j x (sym (with_part-other part j t parts other) ∙ found))
+      go j x found (no other) = kept-later frame j step now next x at.less at.rises (h.each j x (sym (replaced-other part j t parts other) ∙ found))
 
   -- all are changed
   pub there-too : (news parts : List (Part S)) → length news ≡ length parts → (k : ℕ) (t : Part S) → slice_get news k ≡ Some t → (s : Part S) × (slice_get parts k ≡ Some s)
@@ -139,26 +132,17 @@ module _ {S : Type 0} where
 
   -- ---- the calls
 
-  pub keeps-look_up : (frame : Frame) (step now next part : ℕ) (parts : List (Part S)) (s new : Part S) (key : List ℕ) (hash : ℕ) → Comes frame step now next → AreKeptParts frame step parts → slice_get parts part ≡ Some s → NotesLookUp service_answers same key hash now false s new → AreKeptParts (at_moment frame now) next (with_part part (drained new) parts)
+  pub keeps-look_up : (frame : Frame) (step now next part : ℕ) (parts : List (Part S)) (s new : Part S) (key : List ℕ) (hash : ℕ) → Comes frame step now next → AreKeptParts frame step parts → slice_get parts part ≡ Some s → NotesLookUp service_answers same key hash now false s new → AreKeptParts (at_moment frame now) next (slice_set parts part (drained new))
   keeps-look_up frame step now next part parts s new key hash at h there look = one-kept frame step now next part parts s (drained new) at h there (kept-looked_up frame part step now next s at.less at.rises (h.each part s there) key hash new look)
 
   -- a part takes values where the whole does
   pub takes_values : (frame : Frame) (step : ℕ) (parts : List (Part S)) → AreKeptParts frame step parts → IsTrue (accepts_values frame.config.capacity) → takes_nothing (settings_of frame.config frame.made).capacity ≡ false
-  takes_values frame step parts h accepts = go frame.config.capacity accepts
-    where
-      some : (n : ℕ) → (n ≡ 0 → ⊥) → takes_nothing (Some n) ≡ false
-      some zero positive = absurd (positive refl)
-      some (suc n) positive = refl
+  takes_values frame step parts h accepts = grind (arith, share-positive)
 
-      go : (capacity : Option ℕ) → IsTrue (accepts_values capacity) → takes_nothing (option_map (share frame.config) capacity) ≡ false
-      go None accepts = refl
-      go (Some zero) accepts = absurd (true≢false (sym accepts))
-      go (Some (suc c)) accepts = some (share frame.config (suc c)) (share-positive (suc c) (part_count frame.config) (omega arith) (let lt = h.placed [] in omega (arith, lt)))
-
-  pub keeps-accept : (frame : Frame) (step now next part : ℕ) (parts : List (Part S)) (s new : Part S) (key : List ℕ) (hash : ℕ) (value : Stored) → Comes frame step now next → AreKeptParts frame step parts → slice_get parts part ≡ Some s → IsTrue (accepts_values frame.config.capacity) → IsStorable frame part key value → Inserts service_answers same key hash value now next s new → AreKeptParts (at_moment frame now) next (with_part part (drained new) parts)
+  pub keeps-accept : (frame : Frame) (step now next part : ℕ) (parts : List (Part S)) (s new : Part S) (key : List ℕ) (hash : ℕ) (value : Stored) → Comes frame step now next → AreKeptParts frame step parts → slice_get parts part ≡ Some s → IsTrue (accepts_values frame.config.capacity) → IsStorable frame part key value → Inserts service_answers same key hash value now next s new → AreKeptParts (at_moment frame now) next (slice_set parts part (drained new))
   keeps-accept frame step now next part parts s new key hash value at h there accepts v call = grind (arith, one-kept frame step now next part parts s (drained new) at h there (kept-accepted frame part step now next s at.less at.rises (h.each part s there) key hash value new v (takes_values frame step parts h accepts) call), kept-accepted frame part step now next s at.less at.rises (h.each part s there) key hash value new v (takes_values frame step parts h accepts) call, takes_values frame step parts h accepts)
 
-  pub keeps-remove : (frame : Frame) (step now next part : ℕ) (parts : List (Part S)) (s new : Part S) (key : List ℕ) → Comes frame step now next → AreKeptParts frame step parts → slice_get parts part ≡ Some s → TakesOut service_answers same key now s new → AreKeptParts (at_moment frame now) next (with_part part (drained new) parts)
+  pub keeps-remove : (frame : Frame) (step now next part : ℕ) (parts : List (Part S)) (s new : Part S) (key : List ℕ) → Comes frame step now next → AreKeptParts frame step parts → slice_get parts part ≡ Some s → TakesOut service_answers same key now s new → AreKeptParts (at_moment frame now) next (slice_set parts part (drained new))
   keeps-remove frame step now next part parts s new key at h there call = one-kept frame step now next part parts s (drained new) at h there (kept-removed frame part step now next s at.less at.rises (h.each part s there) key new call)
 
   pub keeps-run_all : (frame : Frame) (step now next : ℕ) (parts news : List (Part S)) → Comes frame step now next → AreKeptParts frame step parts → CallsEach (RunsDrained S now) parts news → AreKeptParts (at_moment frame now) next news

@@ -1,7 +1,7 @@
 -- What accepting a value does.
-use Rattle.std.proofs.Common.{◌≡◌, ℕ, zero, suc, ◌+◌, Bool, cond, true, false, true≢false, not, ◌&&◌, ◌||◌, List, [], ◌∷◌, ◌++◌, map, Option, option_map, Some, None, slice_get, refl, sym, ap, ◌∙◌, subst, arith, inl, inr, ◌⊎◌, append-nil, if◌then◌else◌}
+use Rattle.std.proofs.Common.{◌≡◌, ℕ, zero, suc, ◌+◌, Bool, cond, true, false, true≢false, not, ◌&&◌, ◌||◌, List, [], ◌∷◌, ◌++◌, map, Option, option_map, Some, None, slice_get, refl, sym, ap, ◌∙◌, subst, arith, inl, inr, ◌⊎◌, append-nil, if◌then◌else◌, slice_set}
 use Rattle.std.specs.List.{find, list_all}
-use Rattle.std.proofs.lemmas.Bool.{and_from, and_parts, not-true}
+use Rattle.std.proofs.lemmas.Bool.{and_from, and_parts, not-true, not_from_false, or_from, false_from_ne_true}
 use Rattle.std.proofs.lemmas.List.Folds.{list_all-append}
 use Rattle.std.proofs.lemmas.Option.{none-some}
 use Rattle.audit_model.specs.Bytewise.{same}
@@ -24,17 +24,13 @@ use Rattle.cache_store.specs.Promises.{Done, accepting}
 use Rattle.cache_store.proofs.Steps.{after_plain, corresponds-as}
 use Rattle.cache_store.specs.Held.{value_at, without, is_absent, are_apart, plain, Corresponds, cause_of_replaced}
 use Rattle.cache_store.proofs.Keys.{same-refl, same_from_equal, equal_from_same, same-flip_false}
-use Rattle.cache_store.proofs.Held.{key_from_some, absent_from_none, without-absent, absent-without, apart-without, all-without_key}
-use Rattle.cache_store.proofs.Corresponding.{value_at-map, value_at-without, left}
-use Rattle.cache_store.proofs.Truth.{first_of-map, without-map, replaced_truly}
+use Rattle.cache_store.proofs.Held.{key_from_some, absent_from_none, without-absent, absent-without, apart-without, all-without_key, value_at-map, value_at-without, left, first_of-map, without-map, replaced_truly}
 use Rattle.engine_reference.specs.RunLaws.Just.{IsJust}
-use Rattle.cache_front.specs.Parts.{Part, service_answers, cause_of, note_from, held_of, items_of, with_part, AreMarked, Stands, drained}
-use Rattle.cache_front.proofs.parts.Items.{value_at-part, AreOf, of-append, of-removals, left-elsewhere, find-candidates, in_part, owner_part, marks_elsewhere, decides, with_part-there, with_part-other, parted-at, corresponds-run}
-use Rattle.cache_front.proofs.parts.Joining.{Knows, IsNewValue, just, PointIs, fills, was, point_is, fits_written, corresponds_written, over_written, parted_t, there_t, value_at-just, stands_for, dead_from, first_of-append}
-use Rattle.cache_front.proofs.parts.Telling.{Judges, judged, no_point, Kept, notes_of, told_truly, key_of}
-use Rattle.cache_front.proofs.parts.Running.{Maintained, Ran, ran_from}
+use Rattle.cache_front.specs.Parts.{Part, service_answers, cause_of, note_from, held_of, items_of, AreMarked, Stands, drained}
+use Rattle.cache_front.proofs.parts.Items.{value_at-part, AreOf, of-append, of-removals, left-elsewhere, find-candidates, in_part, owner_part, decides, replaced-other, parted-at, corresponds-run, marks_everywhere}
+use Rattle.cache_front.proofs.parts.Joining.{Knows, IsNewValue, just, PointIs, fills, was, point_is, fits_written, corresponds_written, over_written, parted_t, there_t, value_at-just, stands_for, dead_from, first_of-append, Maintained, Ran, ran_from}
+use Rattle.cache_front.proofs.parts.Writing.{Judges, judged, no_point, Kept, notes_of, told_truly, key_of, Rec, Wrote, replaced_by}
 use Rattle.engine_reference.specs.RunLaws.Points.{HasPoint}
-use Rattle.cache_front.proofs.parts.Writing.{Rec, Wrote, replaced_by}
 
 -- ---- lists
 
@@ -49,18 +45,14 @@ all-untold p (n ∷ notes) cs all = all-untold p notes (without_key key_of n.key
 -- what is found among those that are left was there
 pub left-sub : (notes : List Note) (xs : List HeldValue) (q : List ℕ) (h : HeldValue) → are_apart xs ≡ true → value_at (left notes xs) q ≡ Some h → value_at xs q ≡ Some h
 left-sub [] xs q h a e = e
-left-sub (n ∷ notes) xs q h a e = go (same q n.key) (sym (value_at-without n.key q xs a) ∙ left-sub notes (without n.key xs) q h (apart-without n.key xs a) e)
-  where
-    go : (b : Bool) → cond b None (value_at xs q) ≡ Some h → value_at xs q ≡ Some h
-    go true f = absurd (none-some h f)
-    go false f = f
+left-sub (n ∷ notes) xs q h a e = grind (arith, value_at-without, apart-without, none-some, left-sub notes)
 
 -- taken notices are no part of what is held
 module _ {S : Type 0} where
-  pub with_part-twice : (k : ℕ) (a b : Part S) (parts : List (Part S)) → with_part k b (with_part k a parts) ≡ with_part k b parts
-  with_part-twice k a b [] = refl
-  with_part-twice zero a b (x ∷ parts) = refl
-  with_part-twice (suc k) a b (x ∷ parts) = ap (λ xs. x ∷ xs) (with_part-twice k a b parts)
+  pub replaced-twice : (k : ℕ) (a b : Part S) (parts : List (Part S)) → slice_set (slice_set parts k a) k b ≡ slice_set parts k b
+  replaced-twice k a b [] = refl
+  replaced-twice zero a b (x ∷ parts) = refl
+  replaced-twice (suc k) a b (x ∷ parts) = ap (λ xs. x ∷ xs) (replaced-twice k a b parts)
 
 module _ {S : Type 0} (config : Config) (part_of : List ℕ → ℕ) (made now : ℕ) (part : ℕ) (s : Part S) (parts : List (Part S)) (held : List HeldValue)
     (k : Knows config part_of made now part s parts held) (stands : Stands parts held)
@@ -95,15 +87,11 @@ module _ {S : Type 0} (config : Config) (part_of : List ℕ → ℕ) (made now :
     pub none_rewritten : list_all (λ (x : Candidate). not (is_succeeded deed x)) rest ≡ true
     none_rewritten = list_all-append (λ (x : Candidate). not (is_succeeded deed x)) (map cand (without key held)) (newcomer config value ∷ []) ∙ and_from _ _ (go (without key held) (absent-without key held c.apart)) refl
       where
-        unlike : (b : Bool) → b ≡ false → not (b || false) ≡ true
-        unlike true f = absurd (true≢false f)
-        unlike false f = refl
-
         go : (xs : List HeldValue) → is_absent key xs ≡ true → list_all (λ (x : Candidate). not (is_succeeded deed x)) (map cand xs) ≡ true
         go [] a = refl
         go (x ∷ xs) a =
             let p = and_parts (not (same key x.value.key)) (is_absent key xs) a in
-            and_from _ _ (unlike (same x.value.key value.key) (ap (same x.value.key) n.is_key ∙ same-flip_false key x.value.key (not-true _ p.0))) (go xs p.1)
+            and_from _ _ (not_from_false _ (or_from (same x.value.key value.key) false (ap (same x.value.key) n.is_key ∙ same-flip_false key x.value.key (not-true _ p.0)) refl)) (go xs p.1)
 
     -- the older value of the key is told first; then the candidates are those of the values just after the acceptance
     pub record First (o : Option Rec) : Type 0 where
@@ -195,14 +183,14 @@ module _ {S : Type 0} (config : Config) (part_of : List ℕ → ℕ) (made now :
       handed = grind (arith, notes_of r.removals, replaced_by now s (held_at same s.records key))
 
       abbrev pub parts_new : List (Part S)
-      parts_new = with_part part (drained new) parts
+      parts_new = slice_set parts part (drained new)
 
       -- THE VALUES THAT ARE LEFT
       pub corresponds_left : Corresponds (items_of 0 parts_new) (left_held held deed told)
       corresponds_left =
           subst (λ xs. Corresponds (items_of 0 parts_new) xs) (sym (f.leaves (notes_of r.removals)))
-          (subst (λ ps. Corresponds (items_of 0 ps) (left (notes_of r.removals) after_replaced)) (with_part-twice part t (drained new) parts)
-          (corresponds-run part_of part t (drained new) (with_part part t parts) after_replaced r.removals (parted_t config part_of made now part s parts held k c marked key e t value w n)
+          (subst (λ ps. Corresponds (items_of 0 ps) (left (notes_of r.removals) after_replaced)) (replaced-twice part t (drained new) parts)
+          (corresponds-run part_of part t (drained new) (slice_set parts part t) after_replaced r.removals (parted_t config part_of made now part s parts held k c marked key e t value w n)
           (there_t config part_of made now part s parts held k c marked key e t value w n) r.takes r.cover
           (corresponds_written config part_of made now part s parts held k c marked key e t value w n)))
 
@@ -231,37 +219,35 @@ module _ {S : Type 0} (config : Config) (part_of : List ℕ → ℕ) (made now :
           corresponds-as (held_after config now held deed told (map (λ (h : HeldValue). h.value) xs)) (items_of 0 parts_new) xs (λ h. refl)
           (λ q h found. after_plain config now held deed told (map (λ (h : HeldValue). h.value) xs) refl h (unused (notes_of r.removals) used used_is q h (subst (λ ys. value_at ys q ≡ Some h) (f.leaves (notes_of r.removals)) found))) corresponds_left
 
+      run_of_part : AreOf part_of part (notes_of r.removals)
+      run_of_part = of-removals part_of part r.removals (held_entries t.records) (held_entries new.records) w.apart
+          (λ q x h. (parted-at part_of 0 part (slice_set parts part t) t (parted_t config part_of made now part s parts held k c marked key e t value w n) (there_t config part_of made now part s parts held k c marked key e t value w n)).1 q x h ∙ omega arith)
+          r.takes
+
       pub told_of_part : AreOf part_of part told
-      told_of_part =
-          of-append part_of part replaced (notes_of r.removals) f.of
-          (of-removals part_of part r.removals (held_entries t.records) (held_entries new.records) w.apart
-          (λ q x h. (parted-at part_of 0 part (with_part part t parts) t (parted_t config part_of made now part s parts held k c marked key e t value w n) (there_t config part_of made now part s parts held k c marked key e t value w n)).1 q x h ∙ omega arith)
-          r.takes)
+      told_of_part = of-append part_of part replaced (notes_of r.removals) f.of run_of_part
 
       -- ---- marks
 
       value_part : value.part ≡ part
       value_part = ap (λ (v : Value). v.part) (sym n.is)
 
-      right_part : (q : List ℕ) (h : HeldValue) → value_at held q ≡ Some h → h.value.part ≡ part_of q
-      right_part q h found = in_part config part_of now parts held k.parted c count q h found
-
       right_found : (q : List ℕ) (v : Value) → find (λ (x : Value). same q x.key) (map (λ (x : Candidate). x.value) (candidates_of config before deed)) ≡ Some v → v.part ≡ part_of q
-      right_found = find-candidates cand (λ h. refl) held (newcomer config value ∷ []) part_of right_part (λ q v found. go q v (same q value.key) refl found)
+      right_found = find-candidates cand (λ h. refl) held (newcomer config value ∷ []) part_of (in_part config part_of now parts held k.parted c count) (λ q v found. go q v (same q value.key) refl found)
         where
           go : (q : List ℕ) (v : Value) (b : Bool) → same q value.key ≡ b → cond b (Some value) None ≡ Some v → v.part ≡ part_of q
           go q v true f found = let is : value ≡ v = cc in ap (λ (x : Value). x.part) (sym is) ∙ value_part ∙ sym n.at ∙ ap part_of (sym (equal_from_same q value.key f ∙ n.is_key))
           go q v false f found = absurd (none-some v found)
 
       abbrev parts_t' : List (Part S)
-      parts_t' = with_part part t parts
+      parts_t' = slice_set parts part t
 
       count_t : (q : List ℕ) → (x : Part S) × (slice_get parts_t' (part_of q) ≡ Some x)
       count_t q = go (decides (part_of q) part)
         where
           go : Dec (part_of q ≡ part) → (x : Part S) × (slice_get parts_t' (part_of q) ≡ Some x)
           go (yes is) = (t, ap (slice_get parts_t') is ∙ there_t config part_of made now part s parts held k c marked key e t value w n)
-          go (no other) = let x = count q in (x.0, with_part-other part (part_of q) t parts other ∙ x.1)
+          go (no other) = let x = count q in (x.0, replaced-other part (part_of q) t parts other ∙ x.1)
 
       abbrev leftovers : List HeldValue
       leftovers = left_held held deed told
@@ -272,8 +258,8 @@ module _ {S : Type 0} (config : Config) (part_of : List ℕ → ℕ) (made now :
       leftovers_are : leftovers ≡ left (notes_of r.removals) after_replaced
       leftovers_are = f.leaves (notes_of r.removals)
 
-      marked_here : (x : Part S) → drained new ≡ x → AreMarked x (all_held_after config now held deed told)
-      marked_here x same_part = subst (λ y. AreMarked y (all_held_after config now held deed told)) same_part (by_run r.left)
+      marked_here : AreMarked (drained new) (all_held_after config now held deed told)
+      marked_here = by_run r.left
         where
           by_run : ((new ≡ t) × (r.removals ≡ [])) ⊎ (new.writes ≡ []) → AreMarked (drained new) (all_held_after config now held deed told)
           by_run (inr none) = λ owner at is_held p h found. absurd (no_point new.settings.capacity (map (λ u. u.write) new.unsent) owner.number (subst (λ ws. HasPoint new.settings.capacity ws (map (λ u. u.write) new.unsent) owner.number) none p))
@@ -326,36 +312,21 @@ module _ {S : Type 0} (config : Config) (part_of : List ℕ → ℕ) (made now :
                           over_kept (is_over config g.value.part left_values) (tells_size g.value.part (map (λ (x : Candidate). x.value) (candidates_of config before deed)) told) g.evictable
                           (inr (no_new, marked owner there_s is_held point g in_held))
 
-      marked_there : (j : ℕ) (x : Part S) → (j ≡ part → ⊥) → slice_get parts j ≡ Some x → AreMarked x (all_held_after config now held deed told)
-      marked_there j x other there =
-          marks_elsewhere config part_of now parts held k.parted c deed told part j x leftovers left_values refl told_of_part other there right_part right_found stays (stands.marked j x there)
-        where
-          stays : (q : List ℕ) → part_of q ≡ j → value_at leftovers q ≡ value_at held q
-          stays q at_j =
-              ap (λ xs. value_at xs q) leftovers_are
-              ∙ left-elsewhere part_of part (notes_of r.removals) after_replaced q (corresponds_written config part_of made now part s parts held k c marked key e t value w n).apart (behind replaced (notes_of r.removals) told_of_part) (λ at. other (sym at_j ∙ at))
-              ∙ value_at-just config part_of made now part s parts held k c marked key e t value w n q
-              ∙ go (same q key) refl
-            where
-              behind : (xs ys : List Note) → AreOf part_of part (xs ++ ys) → AreOf part_of part ys
-              behind [] ys h = h
-              behind (x ∷ xs) ys h = behind xs ys h.1
-
-              go : (b : Bool) → same q key ≡ b → cond b (Some (newly_held value)) (value_at held q) ≡ value_at held q
-              go true g = absurd (other (sym at_j ∙ ap part_of (equal_from_same q key g) ∙ n.at))
-              go false g = refl
+      stays : (q : List ℕ) → (part_of q ≡ part → ⊥) → value_at leftovers q ≡ value_at held q
+      stays q other =
+          ap (λ xs. value_at xs q) leftovers_are
+          ∙ left-elsewhere part_of part (notes_of r.removals) after_replaced q (corresponds_written config part_of made now part s parts held k c marked key e t value w n).apart run_of_part other
+          ∙ value_at-just config part_of made now part s parts held k c marked key e t value w n q
+          ∙ ap (λ b. cond b (Some (newly_held value)) (value_at held q)) (false_from_ne_true (same q key) (λ g. other (ap part_of (equal_from_same q key g) ∙ n.at)))
 
       -- ACCEPTING A VALUE DOES WHAT A STORE PROMISES
       pub accept_does : Done config now deed held (Stands parts_new) (λ notes. notes ≡ map note_from new.notices)
       accept_does = record {
         told = told;
         right = right;
-        left = record { same = same_after; marked = λ j x there. go j x there (decides j part) };
+        left = record {
+          same = same_after;
+          marked = marks_everywhere config part_of now parts held k.parted c deed told part s (drained new) leftovers left_values refl told_of_part k.there count right_found stays stands.marked marked_here;
+        };
         handed = handed;
       }
-        where
-          go : (j : ℕ) (x : Part S) → slice_get parts_new j ≡ Some x → Dec (j ≡ part) → AreMarked x (all_held_after config now held deed told)
-          go j x there (yes is) =
-              let both : Some (drained new) ≡ Some x = sym (with_part-there part (drained new) s parts k.there) ∙ ap (slice_get parts_new) (sym is) ∙ there in
-              let one : drained new ≡ x = cc in marked_here x one
-          go j x there (no other) = marked_there j x other (sym (with_part-other part j (drained new) parts other) ∙ there)

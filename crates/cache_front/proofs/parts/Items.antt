@@ -1,5 +1,5 @@
 -- The values of all parts, and what is left of them where one part changes.
-use Rattle.std.proofs.Common.{◌≡◌, ℕ, zero, suc, ◌+◌, ◌<◌, Bool, cond, true, false, not, List, [], ◌∷◌, ◌++◌, map, length, Option, option_map, Some, None, slice_get, refl, sym, ap, ◌∙◌, arith, true≢false, remove, subst, ◌&&◌, ◌||◌, ◌==◌}
+use Rattle.std.proofs.Common.{◌≡◌, ℕ, zero, suc, ◌+◌, ◌<◌, Bool, cond, true, false, not, List, [], ◌∷◌, ◌++◌, map, length, Option, option_map, Some, None, slice_get, refl, sym, ap, ◌∙◌, arith, true≢false, remove, subst, ◌&&◌, ◌||◌, ◌==◌, slice_set}
 use Rattle.std.specs.List.{sum_by, find}
 use Rattle.std.proofs.lemmas.Bool.{and_from, and_parts, eq-eqb, eqb-true, false_from_ne_true}
 use Rattle.std.proofs.lemmas.List.{length-map}
@@ -13,11 +13,10 @@ use Rattle.engine_reference.specs.Telling.{entry_of, AreApart, Removal, TakesAwa
 use Rattle.cache_store.specs.Running.{weight_in}
 use Rattle.cache_store.specs.Held.{value_at, without, is_absent, are_apart, plain, Corresponds}
 use Rattle.cache_store.proofs.Keys.{same-refl, equal_from_same}
-use Rattle.cache_store.proofs.Held.{absent_from_none, none_from_absent, length-without, apart-without}
-use Rattle.cache_store.proofs.Corresponding.{value_at-map, apart-map, value_at-without, corresponds-left, apart-left, left}
+use Rattle.cache_store.proofs.Held.{absent_from_none, none_from_absent, length-without, apart-without, value_at-map, apart-map, value_at-without, corresponds-left, apart-left, left}
 use Rattle.cache_store.proofs.Weights.{adds, weight_in-sum}
-use Rattle.cache_front.specs.Parts.{Part, held_of, items_in, items_of, Stored, service_answers, with_part, AreMarked}
-use Rattle.cache_front.proofs.parts.Telling.{Kept, notes_of, entry_of-other, entry_of-gone, entry_of-at}
+use Rattle.cache_front.specs.Parts.{Part, held_of, items_in, items_of, Stored, service_answers, AreMarked}
+use Rattle.cache_front.proofs.parts.Writing.{Kept, notes_of, entry_of-other, entry_of-gone, entry_of-at, Rec}
 use Rattle.engine_reference.specs.Visible.{is_covered}
 use Rattle.engine_reference.proofs.StayingVisible.{AreApart-remove}
 use Rattle.std.specs.Option.{option_map_or}
@@ -30,7 +29,6 @@ use Rattle.audit_model.specs.declared.config.Config.{Config}
 use Rattle.audit_model.specs.declared.transcript.Note.{Note}
 use Rattle.audit_model.specs.declared.transcript.RemovalCause.TheVariants.{Size}
 use Rattle.engine_reference.proofs.HeldRecords.{held-without}
-use Rattle.cache_front.proofs.parts.Writing.{Rec}
 
 -- ---- lists of values that have the same one under each key
 
@@ -191,17 +189,17 @@ left-elsewhere part_of part (n ∷ notes) xs q a of other = grind (arith, left-e
 -- ---- a part in the place of another
 
 module _ {S : Type 0} where
-  pub with_part-there : (k : ℕ) (t s : Part S) (parts : List (Part S)) → slice_get parts k ≡ Some s → slice_get (with_part k t parts) k ≡ Some t
-  with_part-there k t s [] there = absurd (none-some s there)
-  with_part-there zero t s (x ∷ parts) there = refl
-  with_part-there (suc k) t s (x ∷ parts) there = with_part-there k t s parts there
+  pub replaced-there : (k : ℕ) (t s : Part S) (parts : List (Part S)) → slice_get parts k ≡ Some s → slice_get (slice_set parts k t) k ≡ Some t
+  replaced-there k t s [] there = absurd (none-some s there)
+  replaced-there zero t s (x ∷ parts) there = refl
+  replaced-there (suc k) t s (x ∷ parts) there = replaced-there k t s parts there
 
-  pub with_part-other : (k j : ℕ) (t : Part S) (parts : List (Part S)) → (j ≡ k → ⊥) → slice_get (with_part k t parts) j ≡ slice_get parts j
-  with_part-other k j t [] other = refl
-  with_part-other zero zero t (x ∷ parts) other = absurd (other refl)
-  with_part-other zero (suc j) t (x ∷ parts) other = refl
-  with_part-other (suc k) zero t (x ∷ parts) other = refl
-  with_part-other (suc k) (suc j) t (x ∷ parts) other = with_part-other k j t parts (λ e. other (ap suc e))
+  pub replaced-other : (k j : ℕ) (t : Part S) (parts : List (Part S)) → (j ≡ k → ⊥) → slice_get (slice_set parts k t) j ≡ slice_get parts j
+  replaced-other k j t [] other = refl
+  replaced-other zero zero t (x ∷ parts) other = absurd (other refl)
+  replaced-other zero (suc j) t (x ∷ parts) other = refl
+  replaced-other (suc k) zero t (x ∷ parts) other = refl
+  replaced-other (suc k) (suc j) t (x ∷ parts) other = replaced-other k j t parts (λ e. other (ap suc e))
 
   pub parted-at : (part_of : List ℕ → ℕ) (first k : ℕ) (parts : List (Part S)) (s : Part S) → AreParted part_of first parts → slice_get parts k ≡ Some s
       → AreApart same (held_entries s.records) × ArePlaced part_of (first + k) (held_entries s.records)
@@ -210,34 +208,63 @@ module _ {S : Type 0} where
   parted-at part_of first (suc k) (x ∷ parts) s p there = grind (arith, parted-at part_of (suc first) k parts s p.2 there)
 
   pub parted-with : (part_of : List ℕ → ℕ) (first k : ℕ) (t : Part S) (parts : List (Part S)) → AreParted part_of first parts → AreApart same (held_entries t.records) → ArePlaced part_of (first + k) (held_entries t.records)
-      → AreParted part_of first (with_part k t parts)
+      → AreParted part_of first (slice_set parts k t)
   parted-with part_of first k t [] p apart placed = tt
   parted-with part_of first zero t (x ∷ parts) p apart placed = (apart, (λ q e h. placed q e h ∙ omega arith), p.2)
   parted-with part_of first (suc k) t (x ∷ parts) p apart placed = (p.0, p.1, parted-with part_of (suc first) k t parts p.2 apart (λ q e h. placed q e h ∙ omega arith))
 
   -- under the keys of other parts stands what stood
-  pub value_at-elsewhere : (part_of : List ℕ → ℕ) (first k : ℕ) (t : Part S) (parts : List (Part S)) (q : List ℕ) → AreParted part_of first parts → AreParted part_of first (with_part k t parts) → (part_of q ≡ first + k → ⊥)
-      → value_at (items_of first (with_part k t parts)) q ≡ value_at (items_of first parts) q
+  pub value_at-elsewhere : (part_of : List ℕ → ℕ) (first k : ℕ) (t : Part S) (parts : List (Part S)) (q : List ℕ) → AreParted part_of first parts → AreParted part_of first (slice_set parts k t) → (part_of q ≡ first + k → ⊥)
+      → value_at (items_of first (slice_set parts k t)) q ≡ value_at (items_of first parts) q
   value_at-elsewhere part_of first k t [] q p r away = refl
   value_at-elsewhere part_of first zero t (x ∷ parts) q p r away =
       let here : (part_of q ≡ first → ⊥) = λ e. away (e ∙ omega arith) in
-      by_first (items_in first t) (items_of (suc first) parts) q (not_here part_of first t q r.1 here)
-      ∙ sym (by_first (items_in first x) (items_of (suc first) parts) q (not_here part_of first x q p.1 here))
-    where
-      by_first : (xs ys : List HeldValue) (q : List ℕ) → value_at xs q ≡ None → value_at (xs ++ ys) q ≡ value_at ys q
-      by_first [] ys q none = refl
-      by_first (y ∷ xs) ys q none = go (same q y.value.key) none (λ k. by_first xs ys q k)
-        where
-          go : (b : Bool) → cond b (Some y) (value_at xs q) ≡ None → (value_at xs q ≡ None → value_at (xs ++ ys) q ≡ value_at ys q) → cond b (Some y) (value_at (xs ++ ys) q) ≡ value_at ys q
-          go true none later = absurd (none-some y (sym none))
-          go false none later = later none
+      value_at-both (items_in first t) (items_of (suc first) parts) q (not_here part_of first t q r.1 here)
+      ∙ sym (value_at-both (items_in first x) (items_of (suc first) parts) q (not_here part_of first x q p.1 here))
   value_at-elsewhere part_of first (suc k) t (x ∷ parts) q p r away =
-      same_front (items_in first x) (items_of (suc first) (with_part k t parts)) (items_of (suc first) parts)
+      same_front (items_in first x) (items_of (suc first) (slice_set parts k t)) (items_of (suc first) parts)
       (value_at-elsewhere part_of (suc first) k t parts q p.2 r.2 (λ e. away (e ∙ omega arith)))
     where
       same_front : (xs ys zs : List HeldValue) → value_at ys q ≡ value_at zs q → value_at (xs ++ ys) q ≡ value_at (xs ++ zs) q
       same_front [] ys zs e = e
       same_front (y ∷ xs) ys zs e = ap (λ o. cond (same q y.value.key) (Some y) o) (same_front xs ys zs e)
+
+  -- ONE PART CHANGES UNDER A KEY, and so do the values held: they still correspond
+  module _ (part_of : List ℕ → ℕ) (part : ℕ) (s t : Part S) (parts : List (Part S)) (held xs : List HeldValue) (key : List ℕ) (e : Option Kept) (h : Option HeldValue)
+      (parted : AreParted part_of 0 parts) (there : slice_get parts part ≡ Some s) (c : Corresponds (items_of 0 parts) held) (at : part_of key ≡ part) (apart : AreApart same (held_entries t.records))
+      (found : (q : List ℕ) → entry_of same (held_entries t.records) q ≡ cond (same q key) e (entry_of same (held_entries s.records) q))
+      (cover : (x : Kept) → is_covered service_answers t x ≡ is_covered service_answers s x) where
+    zero_plus : 0 + part ≡ part
+    zero_plus = omega arith
+
+    pub placed_changed : ArePlaced part_of (0 + part) (held_entries t.records)
+    placed_changed q x f = go (same q key) refl (sym (found q) ∙ f)
+      where
+        go : (b : Bool) → same q key ≡ b → cond b e (entry_of same (held_entries s.records) q) ≡ Some x → part_of q ≡ 0 + part
+        go true same_key _ = ap part_of (equal_from_same q key same_key) ∙ at ∙ sym zero_plus
+        go false other was = (parted-at part_of 0 part parts s parted there).1 q x was
+
+    pub parted_changed : AreParted part_of 0 (slice_set parts part t)
+    parted_changed = parted-with part_of 0 part t parts parted apart placed_changed
+
+    pub corresponds_changed : are_apart xs ≡ true → ((q : List ℕ) → value_at xs q ≡ cond (same q key) h (value_at held q)) → option_map plain h ≡ option_map (held_of part t) e → Corresponds (items_of 0 (slice_set parts part t)) xs
+    corresponds_changed apart_xs held_is is =
+        corresponds_from (items_of 0 (slice_set parts part t)) xs (apart-of part_of 0 (slice_set parts part t) parted_changed) apart_xs (λ q. ap (option_map plain) (held_is q) ∙ by_part q (decides (part_of q) (0 + part)))
+      where
+        covers : (o : Option Kept) → option_map (held_of (0 + part) s) o ≡ option_map (held_of (0 + part) t) o
+        covers None = refl
+        covers (Some x) = ap (λ b. Some (record (held_of (0 + part) s x) { covered = b })) (sym (cover x))
+
+        by_part : (q : List ℕ) → Dec (part_of q ≡ 0 + part) → option_map plain (cond (same q key) h (value_at held q)) ≡ value_at (items_of 0 (slice_set parts part t)) q
+        by_part q (yes here) =
+            go (same q key) ∙ ap (option_map (held_of (0 + part) t)) (sym (found q)) ∙ sym (value_at-part part_of 0 part (slice_set parts part t) t q parted_changed (replaced-there part t s parts there) here)
+          where
+            go : (b : Bool) → option_map plain (cond b h (value_at held q)) ≡ option_map (held_of (0 + part) t) (cond b e (entry_of same (held_entries s.records) q))
+            go true = is ∙ ap (λ m. option_map (held_of m t) e) (sym zero_plus)
+            go false = c.found q ∙ value_at-part part_of 0 part parts s q parted there here ∙ covers (entry_of same (held_entries s.records) q)
+        by_part q (no away) =
+            ap (λ b. option_map plain (cond b h (value_at held q))) (false_from_ne_true (same q key) (λ is_key. away (ap part_of (equal_from_same q key is_key) ∙ at ∙ sym zero_plus)))
+            ∙ c.found q ∙ sym (value_at-elsewhere part_of 0 part t parts q parted parted_changed away)
 
   -- what is found under a key after entries were taken away and their values told
   pub found-away : (part : ℕ) (s : Part S) (removals : List (Removal (List ℕ) Stored)) (old new : List Kept) (items : List HeldValue) → AreApart same old → are_apart items ≡ true → TakesAway (removed_entries removals) old new
@@ -249,9 +276,9 @@ module _ {S : Type 0} where
   pub corresponds-run : (part_of : List ℕ → ℕ) (k : ℕ) (t new : Part S) (parts : List (Part S)) (held : List HeldValue) (removals : List (Removal (List ℕ) Stored)) → AreParted part_of 0 parts → slice_get parts k ≡ Some t
       → TakesAway (removed_entries removals) (held_entries t.records) (held_entries new.records)
       → ((q : List ℕ) (e : Kept) → entry_of same (held_entries new.records) q ≡ Some e → is_covered service_answers new e ≡ is_covered service_answers t e)
-      → Corresponds (items_of 0 parts) held → Corresponds (items_of 0 (with_part k new parts)) (left (notes_of removals) held)
+      → Corresponds (items_of 0 parts) held → Corresponds (items_of 0 (slice_set parts k new)) (left (notes_of removals) held)
   corresponds-run part_of k t new parts held removals p there takes cover c =
-      corresponds_from (items_of 0 (with_part k new parts)) (left (notes_of removals) held) (apart-of part_of 0 (with_part k new parts) parted) (apart-left (notes_of removals) held c.apart)
+      corresponds_from (items_of 0 (slice_set parts k new)) (left (notes_of removals) held) (apart-of part_of 0 (slice_set parts k new) parted) (apart-left (notes_of removals) held c.apart)
       (λ q. (corresponds-left (notes_of removals) (items_of 0 parts) held apart_items c).found q ∙ go q)
     where
       at : AreApart same (held_entries t.records) × ArePlaced part_of (0 + k) (held_entries t.records)
@@ -260,7 +287,7 @@ module _ {S : Type 0} where
       apart_items : are_apart (items_of 0 parts) ≡ true
       apart_items = apart-of part_of 0 parts p
 
-      parted : AreParted part_of 0 (with_part k new parts)
+      parted : AreParted part_of 0 (slice_set parts k new)
       parted = parted-with part_of 0 k new parts p (away removals (held_entries t.records) (held_entries new.records) at.0 takes)
           (placed-away part_of (0 + k) removals (held_entries t.records) (held_entries new.records) at.0 at.1 takes)
 
@@ -268,16 +295,16 @@ module _ {S : Type 0} where
       covers q None e = refl
       covers q (Some x) e = ap (λ b. Some (record (held_of (0 + k) t x) { covered = b })) (sym (cover q x e))
 
-      by_part : (q : List ℕ) → Dec (part_of q ≡ 0 + k) → value_at (left (notes_of removals) (items_of 0 parts)) q ≡ value_at (items_of 0 (with_part k new parts)) q
+      by_part : (q : List ℕ) → Dec (part_of q ≡ 0 + k) → value_at (left (notes_of removals) (items_of 0 parts)) q ≡ value_at (items_of 0 (slice_set parts k new)) q
       by_part q (yes e) =
           found-away (0 + k) t removals (held_entries t.records) (held_entries new.records) (items_of 0 parts) at.0 apart_items takes q (value_at-part part_of 0 k parts t q p there e)
           ∙ covers q (entry_of same (held_entries new.records) q) refl
-          ∙ sym (value_at-part part_of 0 k (with_part k new parts) new q parted (with_part-there k new t parts there) e)
+          ∙ sym (value_at-part part_of 0 k (slice_set parts k new) new q parted (replaced-there k new t parts there) e)
       by_part q (no e) =
           left-elsewhere part_of (0 + k) (notes_of removals) (items_of 0 parts) q apart_items (of-removals part_of (0 + k) removals (held_entries t.records) (held_entries new.records) at.0 at.1 takes) e
           ∙ sym (value_at-elsewhere part_of 0 k new parts q p parted e)
 
-      go : (q : List ℕ) → value_at (left (notes_of removals) (items_of 0 parts)) q ≡ value_at (items_of 0 (with_part k new parts)) q
+      go : (q : List ℕ) → value_at (left (notes_of removals) (items_of 0 parts)) q ≡ value_at (items_of 0 (slice_set parts k new)) q
       go q = by_part q (decides (part_of q) (0 + k))
 
 -- ---- what a step leaves of the marks of parts that it does not touch
@@ -337,3 +364,26 @@ module _ {S : Type 0} (config : Config) (part_of : List ℕ → ℕ) (now : ℕ)
       → ((q : List ℕ) → part_of q ≡ j → value_at xs q ≡ value_at held q)
       → AreMarked s held → AreMarked s (map (held_after config now held deed notes values) xs)
   marks_elsewhere deed notes part j s xs values no_sync of other there right found stays marked owner at is_held point h e = grind (arith, value_at-map, owner_part j s, true≢false, none-some h, none_elsewhere part_of part j)
+
+  -- what is found among the candidates is in its key's part
+  pub candidates_placed : (count : (q : List ℕ) → (s : Part S) × (slice_get parts (part_of q) ≡ Some s)) → (q : List ℕ) (v : Value) → find (λ (x : Value). same q x.key) (map (λ (c : Candidate). c.value) (map (candidate_at config now) held ++ [])) ≡ Some v → v.part ≡ part_of q
+  candidates_placed count = find-candidates (candidate_at config now) (λ h. refl) held [] part_of (in_part count) (λ q v found. absurd (none-some v found))
+
+  -- MARKS WHERE ONE PART CHANGES: its own, and those of others, which stay
+  pub marks_everywhere : (deed : Deed) (notes : List Note) (part : ℕ) (s t : Part S) (xs : List HeldValue) (values : List Value) → deed.syncs ≡ false → AreOf part_of part notes → slice_get parts part ≡ Some s
+      → ((q : List ℕ) → (s : Part S) × (slice_get parts (part_of q) ≡ Some s))
+      → ((q : List ℕ) (v : Value) → find (λ (x : Value). same q x.key) (map (λ (c : Candidate). c.value) (candidates_of config (map (candidate_at config now) held) deed)) ≡ Some v → v.part ≡ part_of q)
+      → ((q : List ℕ) → (part_of q ≡ part → ⊥) → value_at xs q ≡ value_at held q)
+      → ((j : ℕ) (x : Part S) → slice_get parts j ≡ Some x → AreMarked x held)
+      → AreMarked t (map (held_after config now held deed notes values) xs)
+      → (j : ℕ) (x : Part S) → slice_get (slice_set parts part t) j ≡ Some x → AreMarked x (map (held_after config now held deed notes values) xs)
+  marks_everywhere deed notes part s t xs values no_sync of there count found stays marked here j x at = go (decides j part)
+    where
+      go : Dec (j ≡ part) → AreMarked x (map (held_after config now held deed notes values) xs)
+      go (yes is) =
+          let both : Some t ≡ Some x = sym (replaced-there part t s parts there) ∙ ap (slice_get (slice_set parts part t)) (sym is) ∙ at in
+          let one : t ≡ x = cc in
+          subst (λ y. AreMarked y (map (held_after config now held deed notes values) xs)) one here
+      go (no other) =
+          let at_j : slice_get parts j ≡ Some x = sym (replaced-other part j t parts other) ∙ at in
+          marks_elsewhere deed notes part j x xs values no_sync of other at_j (in_part count) found (λ q is. stays q (λ e. other (sym is ∙ e))) (marked j x at_j)

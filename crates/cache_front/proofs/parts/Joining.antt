@@ -1,37 +1,94 @@
--- Why notes for weight are true, and marks are kept.
-use Rattle.std.proofs.Common.{◌≡◌, ℕ, ◌+◌, ◌<◌, Bool, cond, true, false, true≢false, ◌&&◌, ◌||◌, List, [], ◌∷◌, ◌++◌, map, Option, option_map, Some, None, slice_get, refl, sym, ap, ◌∙◌, subst, arith, is_none}
+-- What maintenance leaves of a part, whether it came or not.
+use Rattle.std.proofs.Common.{◌≡◌, ℕ, true, List, [], ◌∷◌, ◌++◌, map, Some, refl, ap, ◌∙◌, inr, ◌⊎◌, append-nil, arith, ◌+◌, ◌<◌, Bool, cond, false, true≢false, ◌||◌, Option, option_map, None, slice_get, sym, subst, is_none, not, slice_set, suc, ◌≤◌, ◌&&◌}
+use Rattle.std.proofs.Math.Bool.{and_comm}
+use Rattle.std.proofs.lemmas.Bool.{and_left, or_from, or_left, or_right, and_from, and_parts, ltb-true, false_from_ne_true}
 use Rattle.std.proofs.lemmas.Option.{none-some}
-use Rattle.audit_model.specs.Bytewise.{same}
-use Rattle.audit_model.specs.Commands.{Deed}
-use Rattle.audit_model.specs.History.{Value, share}
-use Rattle.audit_model.specs.Notes.{is_over, is_told_first, overfills, first_of, just_accepted, newcomer}
-use Rattle.audit_model.specs.Situation.{HeldValue, candidate_at, is_dead_at}
-use Rattle.audit_model.specs.Changes.{newly_held}
-use Rattle.audit_model.specs.Values.{without_key, deadline, has_come as is_come}
-use Rattle.audit_model.specs.View.{Candidate}
-use Rattle.audit_model.specs.declared.config.Config.{Config}
-use Rattle.engine_reference.specs.declared.data.Write.TheVariants.{Put}
+use Rattle.std.specs.List.{list_all, find, list_any}
+use Rattle.policy_base.specs.Info.{kept_time}
+use Rattle.engine_reference.proofs.Accounts.{each-map}
+use Rattle.engine_reference.proofs.StayingVisible.{entry_of-there, StaysOrGoes, taken_looks, visible_by_entries}
+use Rattle.engine_reference.proofs.TellingSteps.{runs_tell}
+use Rattle.engine_reference.proofs.run_laws.Justly.{run_tells_justly}
+use Rattle.engine_reference.proofs.run_laws.Rising.{each-own}
 use Rattle.engine_reference.specs.Admission.{is_above}
 use Rattle.engine_reference.specs.Records.{record_at, held_entries}
-use Rattle.engine_reference.specs.Telling.{entry_of}
-use Rattle.engine_reference.specs.Times.{has_come}
-use Rattle.engine_reference.specs.Visible.{is_covered}
-use Rattle.engine_reference.specs.RunLaws.Points.{HasPoint, IsPointed, IsInOrder}
-use Rattle.cache_store.specs.Promises.{accepting}
-use Rattle.cache_store.specs.Held.{value_at, without, is_absent, plain, Corresponds, exceeds}
+use Rattle.engine_reference.specs.RunLaws.Just.{ComesFrom, EachRemoval, IsJust}
+use Rattle.engine_reference.specs.RunLaws.Points.{IsInOrder, HasPoint, IsPointed}
+use Rattle.engine_reference.specs.Runs.{RunsToEnd}
+use Rattle.engine_reference.specs.Soundness.{Each}
+use Rattle.engine_reference.specs.Telling.{Removal, TakesAway, removed_entries, entry_of, AreApart, notices_of, notice_of_removal}
+use Rattle.engine_reference.specs.Times.{has_come, later, own_expiration}
+use Rattle.engine_reference.specs.Visible.{is_covered, is_covered_by, is_visible, visible, passing}
+use Rattle.engine_reference.specs.declared.data.Registered.{Registered}
+use Rattle.engine_reference.specs.declared.data.Write.TheVariants.{Put}
+use Rattle.audit_model.specs.Bytewise.{same}
+use Rattle.audit_model.specs.Changes.{newly_held}
+use Rattle.audit_model.specs.Commands.{Deed}
+use Rattle.audit_model.specs.History.{Value, share}
+use Rattle.audit_model.specs.Notes.{is_over, is_told_first, overfills, first_of, just_accepted, newcomer, is_succeeded}
+use Rattle.audit_model.specs.Situation.{HeldValue, candidate_at, is_dead_at, live_at, is_live_at}
+use Rattle.audit_model.specs.Values.{without_key, deadline, has_come as is_come, own_deadline_from, rounded}
+use Rattle.audit_model.specs.View.{Candidate}
+use Rattle.audit_model.specs.declared.config.Config.{Config}
+use Rattle.audit_model.specs.declared.config.Weight.{Weight}
+use Rattle.cache_store.proofs.Held.{key_from_some, absent-without, apart-without, value_at-without, value_at-append, apart-append, first_of-map, Stood, stood}
 use Rattle.cache_store.proofs.Keys.{equal_from_same, same_from_equal}
-use Rattle.cache_store.proofs.Held.{key_from_some, absent-without, apart-without}
-use Rattle.cache_store.proofs.Corresponding.{value_at-without, value_at-append, apart-append}
-use Rattle.cache_store.proofs.Truth.{first_of-map, Stood, stood}
+use Rattle.cache_store.proofs.Live.{live_is}
 use Rattle.cache_store.proofs.Weights.{over_is}
-use Rattle.cache_front.specs.Parts.{Part, service_answers, settings_of, held_of, value_of, items_of, with_part, AreMarked, IsBrief}
-use Rattle.cache_front.proofs.parts.Items.{ArePlaced, AreParted, value_at-part, apart-of, weight-part, corresponds_from, with_part-there, parted-at, parted-with, value_at-elsewhere, decides}
-use Rattle.cache_front.proofs.parts.Telling.{Judges, dead_is, PointsBack, itself, earlier, points_back, Kept, Fits, Fitting}
-use Rattle.cache_front.proofs.parts.Writing.{Rec, Wrote}
+use Rattle.cache_store.specs.Held.{value_at, without, is_absent, plain, Corresponds, exceeds, if_live}
+use Rattle.cache_store.specs.Promises.{accepting, deleting}
+use Rattle.cache_front.proofs.parts.Items.{ArePlaced, AreParted, value_at-part, apart-of, weight-part, replaced-there, parted-at, parted_changed, corresponds_changed}
+use Rattle.cache_front.proofs.parts.Writing.{Kept, notes_of, Judges, dead_is, PointsBack, itself, earlier, points_back, Fits, Fitting, Rec, same_laws, Wrote}
+use Rattle.cache_front.specs.Parts.{Stored, Part, service_answers, note_from, settings_of, held_of, value_of, items_of, AreMarked, IsBrief, nanos}
 
-not_told : (b u : Bool) → b ≡ false → ((b || false) && u) ≡ false
-not_told true u e = absurd (true≢false e)
-not_told false u e = refl
+pub map_append : {A B : Type 0} (f : A → B) (xs ys : List A) → map f (xs ++ ys) ≡ map f xs ++ map f ys
+map_append f [] ys = refl
+map_append f (x ∷ xs) ys = ap (λ zs. f x ∷ zs) (map_append f xs ys)
+
+notes_are : (removals : List (Removal (List ℕ) Stored)) → map note_from (map notice_of_removal removals) ≡ notes_of removals
+notes_are [] = refl
+notes_are (gone ∷ removals) = ap (λ ns. note_from (notice_of_removal gone) ∷ ns) (notes_are removals)
+
+each-self : (rs : List Rec) → Each (λ (x : Rec). record_at rs x.number ≡ Some x) rs → Each (ComesFrom rs) rs
+each-self rs h = each-map (λ (x : Rec). record_at rs x.number ≡ Some x) (ComesFrom rs) (λ x e. record { owner = x; there = e; number = refl; entry = refl; held = refl }) rs h
+
+module _ {S : Type 0} (now : ℕ) (t new : Part S) where
+  -- maintenance did not come, or it ran to its end
+  pub data Maintained : Type 0 where
+    idle : new ≡ t → Maintained
+    ran : RunsToEnd service_answers now t new → Maintained
+
+  -- what it took away and told
+  pub record Ran : Type 0 where
+    pub removals : List (Removal (List ℕ) Stored)
+    pub takes : TakesAway (removed_entries removals) (held_entries t.records) (held_entries new.records)
+    pub just : EachRemoval (IsJust service_answers now t) removals
+    pub notices : map note_from new.notices ≡ map note_from t.notices ++ notes_of removals
+    pub cover : (q : List ℕ) (e : Kept) → entry_of same (held_entries new.records) q ≡ Some e → is_covered service_answers new e ≡ is_covered service_answers t e
+    pub comes : Each (ComesFrom t.records) new.records
+    pub looks : (q : List ℕ) → StaysOrGoes same removals (held_entries t.records) (held_entries new.records) q
+    pub left : ((new ≡ t) × (removals ≡ [])) ⊎ (new.writes ≡ [])
+
+  pub ran_from : IsInOrder t → AreApart same (held_entries t.records) → t.settings.tells ≡ true → Maintained → Ran
+  ran_from order apart tells (idle is) = grind (arith, append-nil (map note_from t.notices), each-self t.records (each-own t.records order.sound.records.numbered), each-own t.records order.sound.records.numbered)
+  ran_from order apart tells (ran run) =
+      let k = run_tells_justly (List ℕ) Stored (List ℕ) S Weight service_answers now t new order run.runs in
+      let keeps = (runs_tell (List ℕ) Stored (List ℕ) S Weight service_answers now t new run.runs).keeps in
+      record {
+        removals = k.removals;
+        takes = k.tells.entries;
+        just = k.just;
+        notices =
+            ap (map note_from) (k.tells.notices ∙ ap (λ b. t.notices ++ notices_of b k.removals) tells)
+            ∙ map_append note_from t.notices (map notice_of_removal k.removals)
+            ∙ ap (λ ns. map note_from t.notices ++ ns) (notes_are k.removals);
+        cover = λ q e h. (let place = entry_of-there same (held_entries new.records) q e h in keeps.covered place.0 e place.1);
+        comes = k.comes;
+        looks = λ q. taken_looks same same_laws k.removals (held_entries t.records) (held_entries new.records) apart k.tells.entries q;
+        left = inr (ap (λ (x : Part S). x.writes) run.runs.after ∙ run.runs.applied.writes);
+      }
+
+-- Why notes for weight are true, and marks are kept.
 
 -- ---- finding
 
@@ -47,17 +104,14 @@ pub entry_of-key : (es : List Kept) (q : List ℕ) (e : Kept) → entry_of same 
 entry_of-key [] q e h = absurd (none-some e h)
 entry_of-key (x ∷ es) q e h = grind (arith, entry_of-key es q e, equal_from_same q x.key, Kept)
 
-or_right : (a b : Bool) → b ≡ true → (a || b) ≡ true
-or_right true b e = refl
-or_right false b e = e
-
-or_left : (a b : Bool) → a ≡ true → (a || b) ≡ true
-or_left true b e = refl
-or_left false b e = absurd (true≢false (sym e))
-
-above_is : (capacity : Option ℕ) (weight : ℕ) → is_above capacity weight ≡ exceeds capacity weight
+pub above_is : (capacity : Option ℕ) (weight : ℕ) → is_above capacity weight ≡ exceeds capacity weight
 above_is None weight = refl
 above_is (Some c) weight = refl
+
+-- a key's own value succeeds a removal, and no other
+pub none_deleted : (config : Config) (now : ℕ) (key : List ℕ) (others : List HeldValue) → is_absent key others ≡ true → list_all (λ (x : Candidate). not (is_succeeded (deleting key) x)) (map (candidate_at config now) others) ≡ true
+none_deleted config now key [] a = refl
+none_deleted config now key (x ∷ others) a = let p = and_parts (not (same key x.value.key)) (is_absent key others) a in and_from _ _ p.0 (none_deleted config now key others p.1)
 
 module _ {S : Type 0} (config : Config) (part_of : List ℕ → ℕ) (made now : ℕ) (part : ℕ) (s : Part S) (parts : List (Part S)) (held : List HeldValue) where
   -- what is known of the part
@@ -83,9 +137,7 @@ module _ {S : Type 0} (config : Config) (part_of : List ℕ → ℕ) (made now :
 
     -- it is dead where the entry is past its deadline
     pub dead_from : (q : List ℕ) (e : Kept) (h : HeldValue) → entry_of same (held_entries s.records) q ≡ Some e → plain h ≡ held_of part s e → has_come s.settings now e ≡ is_dead_at config now h
-    dead_from q e h there is =
-        let early = k.early q e there in
-        dead_is config made now part s e k.brief k.settings early.0 early.1 ∙ ap (is_dead_at config now) (sym is)
+    dead_from q e h there is = grind (arith, dead_is)
 
     -- A REMOVAL FOR WEIGHT OF WHAT WAS HELD IS TRUE: its point is a mark
     pub marked_from : (q : List ℕ) (e : Kept) (h : HeldValue) → entry_of same (held_entries s.records) q ≡ Some e → value_at held q ≡ Some h → IsPointed s e → h.evictable ≡ true
@@ -127,19 +179,16 @@ module _ {S : Type 0} (config : Config) (part_of : List ℕ → ℕ) (made now :
       just = without key held ++ newly_held value ∷ []
 
       abbrev pub parts_t : List (Part S)
-      parts_t = with_part part t parts
+      parts_t = slice_set parts part t
 
       zero_plus : 0 + part ≡ part
       zero_plus = omega arith
 
-      placed_t : ArePlaced part_of (0 + part) (held_entries t.records)
-      placed_t q x h = grind (arith, equal_from_same q key, zero_plus, placed q x)
-
       pub parted_t : AreParted part_of 0 parts_t
-      parted_t = parted-with part_of 0 part t parts k.parted w.apart placed_t
+      parted_t = parted_changed part_of part s t parts held just key (Some e) (Some (newly_held value)) k.parted k.there c n.at w.apart w.found w.cover
 
       pub there_t : slice_get parts_t part ≡ Some t
-      there_t = with_part-there part t s parts k.there
+      there_t = replaced-there part t s parts k.there
 
       absent : is_absent value.key (without key held) ≡ true
       absent = subst (λ x. is_absent x (without key held) ≡ true) (sym n.is_key) (absent-without key held c.apart)
@@ -150,32 +199,11 @@ module _ {S : Type 0} (config : Config) (part_of : List ℕ → ℕ) (made now :
       new_is : plain (newly_held value) ≡ held_of part t e
       new_is = grind arith
 
-      covers : (o : Option Kept) → option_map (held_of (0 + part) s) o ≡ option_map (held_of (0 + part) t) o
-      covers None = refl
-      covers (Some x) = ap (λ b. Some (record (held_of (0 + part) s x) { covered = b })) (sym (w.cover x))
-
       -- the values held just after the acceptance are those of the parts after the write
       pub corresponds_written : Corresponds (items_of 0 parts_t) just
       corresponds_written =
-          corresponds_from (items_of 0 parts_t) just (apart-of part_of 0 parts_t parted_t) (apart-append (without key held) (newly_held value) (apart-without key held c.apart) absent)
-          (λ q. ap (option_map plain) (value_at-just q) ∙ by_part q (decides (part_of q) (0 + part)))
-        where
-          by_part : (q : List ℕ) → Dec (part_of q ≡ 0 + part) → option_map plain (cond (same q key) (Some (newly_held value)) (value_at held q)) ≡ value_at (items_of 0 parts_t) q
-          by_part q (yes here) =
-              go (same q key) refl ∙ ap (option_map (held_of (0 + part) t)) (sym (w.found q)) ∙ sym (value_at-part part_of 0 part parts_t t q parted_t there_t here)
-            where
-              go : (b : Bool) → same q key ≡ b → option_map plain (cond (same q key) (Some (newly_held value)) (value_at held q)) ≡ option_map (held_of (0 + part) t) (cond (same q key) (Some e) (entry_of same (held_entries s.records) q))
-              go true f =
-                  ap (λ b. option_map plain (cond b (Some (newly_held value)) (value_at held q))) f ∙ ap (λ h. Some h) new_is ∙ ap (λ m. Some (held_of m t e)) (sym zero_plus)
-                  ∙ sym (ap (λ b. option_map (held_of (0 + part) t) (cond b (Some e) (entry_of same (held_entries s.records) q))) f)
-              go false f =
-                  ap (λ b. option_map plain (cond b (Some (newly_held value)) (value_at held q))) f ∙ c.found q ∙ value_at-part part_of 0 part parts s q k.parted k.there here
-                  ∙ covers (entry_of same (held_entries s.records) q) ∙ sym (ap (λ b. option_map (held_of (0 + part) t) (cond b (Some e) (entry_of same (held_entries s.records) q))) f)
-          by_part q (no away) = go (same q key) refl
-            where
-              go : (b : Bool) → same q key ≡ b → option_map plain (cond (same q key) (Some (newly_held value)) (value_at held q)) ≡ value_at (items_of 0 parts_t) q
-              go true f = absurd (away (ap part_of (equal_from_same q key f) ∙ n.at ∙ sym zero_plus))
-              go false f = ap (λ b. option_map plain (cond b (Some (newly_held value)) (value_at held q))) f ∙ c.found q ∙ sym (value_at-elsewhere part_of 0 part t parts q k.parted parted_t away)
+          corresponds_changed part_of part s t parts held just key (Some e) (Some (newly_held value)) k.parted k.there c n.at w.apart w.found w.cover
+          (apart-append (without key held) (newly_held value) (apart-without key held c.apart) absent) value_at-just (ap (λ h. Some h) new_is)
 
       -- THE KEPT WEIGHT IS THE AUDIT'S: the part is over its share then exactly where what is kept beside the write is above the capacity
       pub over_written : is_over config part (map (λ (h : HeldValue). h.value) just) ≡ is_above t.settings.capacity w.upsert.kept
@@ -272,9 +300,65 @@ module _ {S : Type 0} (config : Config) (part_of : List ℕ → ℕ) (made now :
                     (first_of-map cand (λ h. refl) q (without key held) ∙ ap (option_map cand) (value_at-without key q held c.apart ∙ ap (λ b. cond b None (value_at held q)) f ∙ st.found));
                 is = record {
                   bytes = ap (λ (h : HeldValue). h.value.bytes) st.is;
-                  later = not_told (same st.value.value.key value.key) (is_none used) (ap (λ y. same y value.key) (key_from_some q held st.value st.found) ∙ ap (same q) n.is_key ∙ f);
+                  later = and_left _ (is_none used) (or_from (same st.value.value.key value.key) false (ap (λ y. same y value.key) (key_from_some q held st.value st.found) ∙ ap (same q) n.is_key ∙ f) refl);
                   expired = λ past. sym (dead_from q x st.value in_s st.is) ∙ ap (λ z. has_come z now x) (sym w.settings) ∙ past;
                   explicit = λ covered. ap (λ (h : HeldValue). h.covered) st.is ∙ sym (w.cover x) ∙ covered;
                   size = λ p. old_size x st.value in_s st.found (ap (λ (h : HeldValue). h.value.part) st.is) p;
                 };
               }
+
+-- Small facts: own deadlines, what is fresh, what is live, capacity 0.
+
+-- ---- own deadlines are rounded alike
+
+kept_is : (m : ℕ) → m < 18446744073709543424 → kept_time m ≡ rounded m
+kept_is m lt = omega arith
+
+later_is : (now d : ℕ) → now + d < 18446744073709543424 → later now d ≡ now + d
+later_is now d lt = omega arith
+
+pub own_is : (now : ℕ) (ms : Option ℕ) → now < 9223372036854775808 → ((m : ℕ) → ms ≡ Some m → m ≤ 999999999999) → own_expiration now (option_map nanos ms) ≡ own_deadline_from now ms
+own_is now None lt brief = refl
+own_is now (Some m) lt brief = grind (arith, later_is now (nanos m), kept_is (now + nanos m))
+
+-- ---- what was just written is not covered
+
+any_none : (test : Registered (List ℕ) → Bool) (ps : List (Registered (List ℕ))) → ((place : ℕ) (p : Registered (List ℕ)) → slice_get ps place ≡ Some p → test p ≡ false) → list_any test ps ≡ false
+any_none test [] each = refl
+any_none test (p ∷ ps) each = ap (λ b. b || list_any test ps) (each 0 p refl) ∙ any_none test ps (λ place x there. each (suc place) x there)
+
+module _ {S : Type 0} where
+  pub fresh_is : (s : Part S) (e : Kept) → s.cleared ≤ e.step → ((place : ℕ) (p : Registered (List ℕ)) → slice_get s.predicates place ≡ Some p → p.step ≤ e.step) → is_covered service_answers s e ≡ false
+  fresh_is s e cleared predicates = grind (arith, any_none (λ p. is_covered_by service_answers s.rules p e) s.predicates, false_from_ne_true, ltb-true)
+
+  -- ---- what a look-up answers is the live value
+
+  pub live_value_is : (config : Config) (part_of : List ℕ → ℕ) (made now part : ℕ) (s : Part S) (parts : List (Part S)) (held : List HeldValue) (k : Knows config part_of made now part s parts held) → Corresponds (items_of 0 parts) held
+      → (key : List ℕ) → part_of key ≡ part → option_map (λ (v : Value). v.bytes) (live_at config now held key) ≡ option_map (λ (e : Kept). e.value.bytes) (visible service_answers same s now key)
+  live_value_is config part_of made now part s parts held k c key at =
+      bytes_are (find (λ h. same key h.value.key && is_live_at config now h) held)
+      ∙ ap (option_map (λ (h : HeldValue). h.value.bytes)) (live_is config now key (items_of 0 parts) held c)
+      ∙ ap (λ o. option_map (λ (h : HeldValue). h.value.bytes) (if_live config now o)) (value_at-part part_of 0 part parts s key k.parted k.there (at ∙ sym zero_plus))
+      ∙ by_entry (entry_of same (held_entries s.records) key) refl
+      ∙ ap (option_map (λ (e : Kept). e.value.bytes)) (sym (visible_by_entries same service_answers s now key))
+    where
+      zero_plus : 0 + part ≡ part
+      zero_plus = omega arith
+
+      bytes_are : (o : Option HeldValue) → option_map (λ (v : Value). v.bytes) (option_map (λ (h : HeldValue). h.value) o) ≡ option_map (λ (h : HeldValue). h.value.bytes) (option_map plain o)
+      bytes_are None = refl
+      bytes_are (Some h) = refl
+
+      either : (b : Bool) (e : Kept) → option_map (λ (h : HeldValue). h.value.bytes) (cond b (Some (held_of (0 + part) s e)) None) ≡ option_map (λ (e : Kept). e.value.bytes) (cond b (Some e) None)
+      either true e = refl
+      either false e = refl
+
+      by_entry : (o : Option Kept) → entry_of same (held_entries s.records) key ≡ o
+          → option_map (λ (h : HeldValue). h.value.bytes) (if_live config now (option_map (held_of (0 + part) s) o)) ≡ option_map (λ (e : Kept). e.value.bytes) (passing (is_visible service_answers s now) o)
+      by_entry None f = refl
+      by_entry (Some e) f =
+          let early = k.early key e f in
+          ap (λ b. option_map (λ (h : HeldValue). h.value.bytes) (cond b (Some (held_of (0 + part) s e)) None))
+          (ap (λ b. not (is_covered service_answers s e) && not b) (sym (dead_is config made now (0 + part) s e k.brief k.settings early.0 early.1))
+          ∙ and_comm (not (is_covered service_answers s e)) (not (has_come s.settings now e)))
+          ∙ either (is_visible service_answers s now e) e

@@ -1,11 +1,11 @@
 -- What a run of one part comes to in a call that accepts nothing, and what such calls do: a look-up, a removal that finds nothing, a clear, a predicate.
-use Rattle.std.proofs.Common.{◌≡◌, ℕ, suc, true, false, not, List, [], ◌++◌, map, Option, Some, None, slice_get, sym, ap, ◌∙◌, subst, refl, arith, inl, inr, ◌⊎◌, append-nil, ◌+◌, Bool, cond, true≢false, ◌&&◌, ◌||◌, ◌∷◌, option_map, zero, ◌==◌, if◌then◌else◌}
-use Rattle.std.specs.List.{find, list_all}
+use Rattle.std.proofs.Common.{◌≡◌, ℕ, suc, true, false, not, List, [], ◌++◌, map, Option, Some, None, slice_get, sym, ap, ◌∙◌, subst, refl, arith, inl, inr, ◌⊎◌, append-nil, ◌+◌, Bool, cond, true≢false, ◌&&◌, ◌||◌, ◌∷◌, option_map, zero, ◌==◌, if◌then◌else◌, slice_set}
+use Rattle.std.proofs.Math.Bool.{and_comm, or-false}
+use Rattle.std.specs.List.{list_all}
 use Rattle.std.proofs.lemmas.Option.{none-some}
 use Rattle.audit_model.specs.Bytewise.{same}
 use Rattle.audit_model.specs.Changes.{held_after, left_held, use_after}
 use Rattle.audit_model.specs.Commands.{Deed, Nothing, Covering, covers_key}
-use Rattle.audit_model.specs.History.{Value}
 use Rattle.audit_model.specs.Notes.{are_true_notes, candidates_of, is_succeeded, is_told_first}
 use Rattle.audit_model.specs.Situation.{HeldValue, candidate_at, is_dead_at, is_live_at}
 use Rattle.audit_model.specs.View.{Candidate}
@@ -16,13 +16,12 @@ use Rattle.engine_reference.specs.Telling.{entry_of, AreApart}
 use Rattle.engine_reference.specs.RunLaws.Points.{HasPoint, IsInOrder}
 use Rattle.engine_reference.specs.RunLaws.Just.{IsJust, ComesFrom}
 use Rattle.cache_store.specs.Held.{value_at, plain, Corresponds, is_absent}
-use Rattle.cache_store.proofs.Corresponding.{left, value_at-map, apart-map}
-use Rattle.cache_front.specs.Parts.{Part, service_answers, with_part, AreMarked, Stands, note_from, held_of, value_of, items_of, drained}
+use Rattle.cache_store.proofs.Held.{left, value_at-map, apart-map, key_from_some, absent_from_none}
+use Rattle.cache_front.specs.Parts.{Part, service_answers, AreMarked, Stands, note_from, held_of, value_of, items_of, drained}
 use Rattle.cache_front.proofs.parts.Accepting.{all-untold}
-use Rattle.cache_front.proofs.parts.Joining.{Knows, fits_held, dead_from}
-use Rattle.cache_front.proofs.parts.Telling.{Judges, judged, no_point, Kept, notes_of, told_truly}
-use Rattle.cache_front.proofs.parts.Items.{AreOf, of-removals, left-elsewhere, find-candidates, in_part, marks_elsewhere, decides, parted-at, with_part-there, with_part-other, AreParted, value_at-part, apart-of, corresponds_from, away, parted-with, value_at-elsewhere, corresponds-run, ArePlaced}
-use Rattle.cache_front.proofs.parts.Running.{Ran, Maintained, ran_from}
+use Rattle.cache_front.proofs.parts.Joining.{Knows, fits_held, dead_from, none_deleted, Ran, Maintained, ran_from}
+use Rattle.cache_front.proofs.parts.Writing.{Judges, judged, no_point, Kept, notes_of, told_truly, Rec, same_laws, found-at, unlike_other, all_units}
+use Rattle.cache_front.proofs.parts.Items.{AreOf, of-removals, left-elsewhere, in_part, marks_elsewhere, decides, parted-at, replaced-there, AreParted, value_at-part, apart-of, corresponds_from, away, parted-with, value_at-elsewhere, corresponds-run, ArePlaced, candidates_placed, marks_everywhere}
 use Rattle.engine_reference.specs.Calls.{with_read, used_entry}
 use Rattle.engine_reference.specs.Soundness.{IsSound}
 use Rattle.engine_reference.specs.Times.{has_come}
@@ -35,9 +34,7 @@ use Rattle.engine_reference.proofs.run_laws.Shown.{entry-held, to-records, from-
 use Rattle.cache_store.specs.Promises.{Done, using, deleting, covering}
 use Rattle.cache_store.proofs.Steps.{none_succeeded, after_plain, corresponds-as, right_to_tell_none}
 use Rattle.cache_store.proofs.Keys.{equal_from_same}
-use Rattle.cache_store.proofs.Held.{key_from_some, absent_from_none}
-use Rattle.cache_front.proofs.parts.Writing.{Rec, same_laws, found-at, unlike_other, all_units}
-use Rattle.std.proofs.lemmas.Bool.{and_from, and_parts}
+use Rattle.std.proofs.lemmas.Bool.{and_parts, and_left}
 use Rattle.cache_store.specs.Handing.{TellsNone}
 
 -- a key is used, or one is deleted
@@ -71,12 +68,6 @@ module _ {S : Type 0} (config : Config) (part_of : List ℕ → ℕ) (made now p
       (fits_held config part_of made now part s parts held k stands.same (stands.marked part s k.there) deed [] later) r.just r.takes
       (all-untold (λ c. not (is_succeeded deed c)) all_told (before ++ []) (ap (list_all (λ c. not (is_succeeded deed c))) (append-nil before) ∙ none))
 
-  right_part : (q : List ℕ) (h : HeldValue) → value_at held q ≡ Some h → h.value.part ≡ part_of q
-  right_part q h found = in_part config part_of now parts held k.parted stands.same count q h found
-
-  right_found : (q : List ℕ) (v : Value) → find (λ (x : Value). same q x.key) (map (λ (x : Candidate). x.value) (candidates_of config before deed)) ≡ Some v → v.part ≡ part_of q
-  right_found = find-candidates (candidate_at config now) (λ h. refl) held [] part_of right_part (λ q v found. absurd (none-some v found))
-
   of : AreOf part_of part all_told
   of = of-removals part_of part r.removals (held_entries s.records) (held_entries mid.records) apart (λ q x h. (parted-at part_of 0 part parts s k.parted k.there).1 q x h ∙ omega arith) r.takes
 
@@ -89,30 +80,17 @@ module _ {S : Type 0} (config : Config) (part_of : List ℕ → ℕ) (made now p
       by_run (inl (is, gone)) =
           subst (λ y. AreMarked y (map left_by those_left)) (sym is)
           (marks_elsewhere config part_of now parts held k.parted stands.same deed all_told (suc part) part s those_left (map (λ (h : HeldValue). h.value) those_left) refl (subst (λ rs. AreOf part_of (suc part) (notes_of rs)) (sym gone) tt)
-          (λ e. omega (arith, e)) k.there right_part right_found
+          (λ e. omega (arith, e)) k.there (in_part config part_of now parts held k.parted stands.same count) (candidates_placed config part_of now parts held k.parted stands.same count)
           (λ q at. ap (λ rs. value_at (left (notes_of rs) (held ++ [])) q) gone ∙ ap (λ ys. value_at ys q) (append-nil held))
           (stands.marked part s k.there))
 
   -- the marks of all parts, from those of the part
-  pub marked_all : (t : Part S) → AreMarked t (map left_by those_left) → (j : ℕ) (x : Part S) → slice_get (with_part part t parts) j ≡ Some x → AreMarked x (map left_by those_left)
-  marked_all t here j x there = go (decides j part)
-    where
-      go : Dec (j ≡ part) → AreMarked x (map left_by those_left)
-      go (yes is) =
-          let both : Some t ≡ Some x = sym (with_part-there part t s parts k.there) ∙ ap (slice_get (with_part part t parts)) (sym is) ∙ there in
-          let one : t ≡ x = cc in
-          subst (λ y. AreMarked y (map left_by those_left)) one here
-      go (no other) =
-          marks_elsewhere config part_of now parts held k.parted stands.same deed all_told part j x those_left (map (λ (h : HeldValue). h.value) those_left) refl of other at_j right_part right_found
-          (λ q at. ap (λ ys. value_at (left all_told ys) q) (append-nil held) ∙ left-elsewhere part_of part all_told held q stands.same.apart of (λ e. other (sym at ∙ e)))
-          (stands.marked j x at_j)
-        where
-          at_j : slice_get parts j ≡ Some x
-          at_j = sym (with_part-other part j t parts other) ∙ there
+  pub marked_all : (t : Part S) → AreMarked t (map left_by those_left) → (j : ℕ) (x : Part S) → slice_get (slice_set parts part t) j ≡ Some x → AreMarked x (map left_by those_left)
+  marked_all t here =
+      marks_everywhere config part_of now parts held k.parted stands.same deed all_told part s t those_left (map (λ (h : HeldValue). h.value) those_left) refl of k.there count (candidates_placed config part_of now parts held k.parted stands.same count)
+      (λ q other. ap (λ ys. value_at (left all_told ys) q) (append-nil held) ∙ left-elsewhere part_of part all_told held q stands.same.apart of other) stands.marked here
 
--- ---- what a look-up does
-
--- ---- what a read changes
+-- ---- what a look-up does: what a read changes
 
 abbrev pub used_if : ℕ → Bool → Kept → Kept
 used_if now b x = cond b (record x { used = now }) x
@@ -260,10 +238,10 @@ module _ {S : Type 0} (now : ℕ) (key : List ℕ) (hash : ℕ) (s mid : Part S)
     f h = held_after config now held (using key) told (map (λ (h : HeldValue). h.value) (left_held held (using key) told)) h
 
     abbrev pub parts_mid : List (Part S)
-    parts_mid = with_part part mid parts
+    parts_mid = slice_set parts part mid
 
     abbrev pub parts_new : List (Part S)
-    parts_new = with_part part (drained read) parts
+    parts_new = slice_set parts part (drained read)
 
     zero_plus : 0 + part ≡ part
     zero_plus = omega arith
@@ -296,12 +274,6 @@ module _ {S : Type 0} (now : ℕ) (key : List ℕ) (hash : ℕ) (s mid : Part S)
     abbrev xs : List HeldValue
     xs = left_held held (using key) told
 
-    both-ways : (a b : Bool) → (a && b) ≡ (b && a)
-    both-ways true true = refl
-    both-ways true false = refl
-    both-ways false true = refl
-    both-ways false false = refl
-
     -- a value is used exactly where the part's entry is
     used-alike : (q : List ℕ) (x : Kept) (h : HeldValue) → entry_of same (held_entries mid.records) q ≡ Some x → value_at xs q ≡ Some h → plain h ≡ held_of (0 + part) mid x → (same key h.value.key && is_live_at config now h) ≡ sees q x
     used-alike q x h in_mid found is =
@@ -312,14 +284,10 @@ module _ {S : Type 0} (now : ℕ) (key : List ℕ) (hash : ℕ) (s mid : Part S)
         ∙ ap (λ b. same q key && b)
         (ap (λ b. not b && not (is_dead_at config now h)) (ap (λ (g : HeldValue). g.covered) is_s)
         ∙ ap (λ b. not (is_covered service_answers s x) && not b) (sym dead)
-        ∙ both-ways (not (is_covered service_answers s x)) (not (has_come s.settings now x)))
-
-    or_no : (b : Bool) → (b || false) ≡ b
-    or_no true = refl
-    or_no false = refl
+        ∙ and_comm (not (is_covered service_answers s x)) (not (has_come s.settings now x)))
 
     after-is : (q : List ℕ) (x : Kept) (h : HeldValue) → entry_of same (held_entries mid.records) q ≡ Some x → value_at xs q ≡ Some h → plain h ≡ held_of (0 + part) mid x → plain (f h) ≡ held_of (0 + part) (drained read) (used_if now (sees q x) x)
-    after-is q x h in_mid found is = grind (arith, used-alike q x, or_no, used-value (0 + part), used-moment, used-cover, read-cover (visible_record service_answers same s now key))
+    after-is q x h in_mid found is = grind (arith, used-alike q x, or-false, used-value (0 + part), used-moment, used-cover, read-cover (visible_record service_answers same s now key))
 
     pub corresponds_read : Corresponds (items_of 0 parts_new) (map f xs)
     corresponds_read =
@@ -330,10 +298,10 @@ module _ {S : Type 0} (now : ℕ) (key : List ℕ) (hash : ℕ) (s mid : Part S)
         by_part q (yes here) =
             go (value_at xs q) refl (entry_of same (held_entries mid.records) q) refl
             ∙ ap (option_map (held_of (0 + part) (drained read))) (sym (found_read q))
-            ∙ sym (value_at-part part_of 0 part parts_new (drained read) q parted_new (with_part-there part (drained read) s parts k.there) here)
+            ∙ sym (value_at-part part_of 0 part parts_new (drained read) q parted_new (replaced-there part (drained read) s parts k.there) here)
           where
             found : option_map plain (value_at xs q) ≡ option_map (held_of (0 + part) mid) (entry_of same (held_entries mid.records) q)
-            found = corresponds_mid.found q ∙ value_at-part part_of 0 part parts_mid mid q parted_mid (with_part-there part mid s parts k.there) here
+            found = corresponds_mid.found q ∙ value_at-part part_of 0 part parts_mid mid q parted_mid (replaced-there part mid s parts k.there) here
 
             go : (o : Option HeldValue) → value_at xs q ≡ o → (p : Option Kept) → entry_of same (held_entries mid.records) q ≡ p
                 → option_map plain (option_map f o) ≡ option_map (held_of (0 + part) (drained read)) (option_map (λ x. used_if now (sees q x) x) p)
@@ -378,14 +346,6 @@ unlike-absent : (key q : List ℕ) (held : List HeldValue) (h : HeldValue) → i
 unlike-absent key q [] h a found = absurd (none-some h found)
 unlike-absent key q (x ∷ held) h a found = grind (arith, and_parts (not (same key x.value.key)) (is_absent key held) a, unlike-absent key q held h, true≢false)
 
-none_deleted : (config : Config) (now : ℕ) (key : List ℕ) (others : List HeldValue) → is_absent key others ≡ true → list_all (λ (x : Candidate). not (is_succeeded (deleting key) x)) (map (candidate_at config now) others) ≡ true
-none_deleted config now key [] a = refl
-none_deleted config now key (x ∷ others) a = let p = and_parts (not (same key x.value.key)) (is_absent key others) a in and_from _ _ p.0 (none_deleted config now key others p.1)
-
-no_and : (b : Bool) → b ≡ false → (b && true) ≡ false
-no_and true e = absurd (true≢false e)
-no_and false e = refl
-
 module _ {S : Type 0} (config : Config) (part_of : List ℕ → ℕ) (made now : ℕ) (part : ℕ) (s new : Part S) (parts : List (Part S)) (held : List HeldValue)
     (k : Knows config part_of made now part s parts held) (stands : Stands parts held)
     (count : (q : List ℕ) → (x : Part S) × (slice_get parts (part_of q) ≡ Some x))
@@ -404,7 +364,7 @@ module _ {S : Type 0} (config : Config) (part_of : List ℕ → ℕ) (made now :
   left_of h = held_after config now held (deleting key) only_told (map (λ (h : HeldValue). h.value) others) h
 
   abbrev parts_then : List (Part S)
-  parts_then = with_part part (drained new) parts
+  parts_then = slice_set parts part (drained new)
 
   plus_zero : 0 + part ≡ part
   plus_zero = omega arith
@@ -419,7 +379,7 @@ module _ {S : Type 0} (config : Config) (part_of : List ℕ → ℕ) (made now :
   pub miss_does : Done config now (deleting key) held (Stands parts_then) (λ notes. notes ≡ map note_from new.notices)
   miss_does = record {
     told = only_told;
-    right = right config part_of made now part s new parts held k stands count apart r None (Some key) (λ q e h g found. no_and (same key g.value.key) (unlike-absent key q held g absent found)) (none_deleted config now key held absent);
+    right = right config part_of made now part s new parts held k stands count apart r None (Some key) (λ q e h g found. and_left (same key g.value.key) true (unlike-absent key q held g absent found)) (none_deleted config now key held absent);
     left = record {
       same = same_after;
       marked = marked_all config part_of made now part s new parts held k stands count apart r None (Some key) (drained new) (marked_mid config part_of made now part s new parts held k stands count apart r None (Some key));
@@ -469,8 +429,7 @@ module _ {S : Type 0} (which : Covering) where
       marked = λ k t here. (let b = back parts news k t all here in
           subst (λ xs. AreMarked t (map f xs)) (sym (append-nil held)) (λ owner at held_now point h found.
           marks_elsewhere config part_of now parts held p stands.same (covering which) [] (suc k) k b.0 held (map (λ (h : HeldValue). h.value) (held ++ [])) refl tt (λ e. omega (arith, e)) b.1
-          (λ q h e. in_part config part_of now parts held p stands.same count q h e)
-          (find-candidates (candidate_at config now) (λ h. refl) held [] part_of (λ q h e. in_part config part_of now parts held p stands.same count q h e) (λ q v e. absurd (none-some v e)))
+          (in_part config part_of now parts held p stands.same count) (candidates_placed config part_of now parts held p stands.same count)
           (λ q e. refl) (stands.marked k b.0 b.1) owner (ap (λ rs. record_at rs owner.number) (sym b.2.records) ∙ at) held_now
           (subst (λ us. HasPoint b.0.settings.capacity b.0.writes us owner.number) (ap (λ us. map (λ u. u.write) us) b.2.unsent)
           (subst (λ ws. HasPoint b.0.settings.capacity ws (map (λ u. u.write) t.unsent) owner.number) b.2.writes

@@ -9,7 +9,7 @@ use Rattle.std.proofs.lemmas.Option.{get_or_from_slice_get, slice_get_within, no
 use Rattle.audit_model.specs.Bytewise.{same}
 use Rattle.audit_model.specs.Recency as recent
 use Rattle.engine_reference.specs.declared.data.Record.{Record}
-use Rattle.engine_reference.specs.Records.{record_at, held_at, without_record, without, held_entries, admitted_weight, changed_at, moved_to_back, settled_in, with_settled, held_weight}
+use Rattle.engine_reference.specs.Records.{record_at, held_at, without_record, without, held_entries, admitted_weight, changed_at, moved_to_back, settled_in, held_weight}
 use Rattle.engine_reference.specs.Soundness.{IsIn, Each, AreNumbered, AreOnce, IsAccounted, IsSound}
 use Rattle.engine_reference.proofs.Accounts.{each-map, each-both, each-without, none_there, numbered-without, IsIn-moved, not_in-without}
 use Rattle.engine_reference.proofs.HeldRecords.{held-without, record_at-number}
@@ -60,9 +60,7 @@ module _ {K V : Type 0} where
 
   -- a number at the back
   pub keys-back : (rs : List (Record K V)) (n : ℕ) (key : K) (ns : List ℕ) → key_at rs n ≡ Some key → reverse (keys_in rs (ns ++ n ∷ [])) ≡ key ∷ reverse (keys_in rs ns)
-  keys-back rs n key ns here =
-      ap reverse (filter_map-append (λ m. key_at rs m) ns (n ∷ []) ∙ ap (λ o. keys_in rs ns ++ cons_option o []) here)
-      ∙ reverse-append (keys_in rs ns) (key ∷ [])
+  keys-back rs n key ns here = grind (arith, filter_map-append, reverse-append)
 
   -- where each record is listed, they are the keys that are held, in another order
   pub keys-held : (rs : List (Record K V)) (ns : List ℕ) → AreNumbered rs → AreOnce ns → Each (λ r. (r.is_held ≡ true) × IsIn r.number ns) rs → IsPermutation (map (λ e. e.key) (held_entries rs)) (keys_in rs ns)
@@ -249,13 +247,7 @@ entries-each Q (r ∷ rs) all = go r.is_held refl (λ k. entries-each Q rs k) al
 -- the keys are those of its settled records
 keys-settled : (rs : List Rec) (ns : List ℕ) → Each IsCounted rs → keys_in rs ns ≡ map (λ (r : Rec). r.entry.key) (settled_in rs ns)
 keys-settled rs [] all = refl
-keys-settled rs (m ∷ ns) all = go (record_at rs m) refl (keys-settled rs ns all)
-  where
-    go : (o : Option Rec) → record_at rs m ≡ o → keys_in rs ns ≡ map (λ (r : Rec). r.entry.key) (settled_in rs ns) → cons_option (option_map (λ (r : Rec). r.entry.key) o) (keys_in rs ns) ≡ map (λ (r : Rec). r.entry.key) (with_settled o (settled_in rs ns))
-    go None e later = later
-    go (Some x) e later =
-        let c = each-at IsCounted rs m x all e in
-        ap (λ ks. x.entry.key ∷ ks) later ∙ sym (ap (λ b. map (λ (r : Rec). r.entry.key) (cond b (x ∷ settled_in rs ns) (settled_in rs ns))) (eq-eqb x.writes x.applied (sym c.settled)))
+keys-settled rs (m ∷ ns) all = grind (arith, each-at, eq-eqb, keys-settled rs ns all)
 
 -- ---- a part in which no time ends a value and none is covered
 
@@ -458,10 +450,7 @@ module _ {S : Type 0} (n : ℕ) (s : Part S) (h : IsSteady n s) (apart : Records
 
     -- no other record has the key
     others : (m : ℕ) (x : Rec) → (m ≡ r.number → ⊥) → record_at s.records m ≡ Some x → same x.entry.key key ≡ false
-    others m x other at =
-        let number = record_at-number s.records m x at in
-        same-flip_false key x.entry.key
-        (unlike_other key s.records r x apart numbered some (ap (record_at s.records) number ∙ at) (each-at (λ (y : Rec). y.is_held ≡ true) s.records m x held-all at) (λ e. other (sym number ∙ e)))
+    others m x other at = grind (arith, record_at-number, same-flip_false, unlike_other, numbered, each-at, held-all)
 
     -- the key is among those used
     used-there : list_any (λ k. same k key) used ≡ true
@@ -487,14 +476,7 @@ module _ {S : Type 0} (n : ℕ) (s : Part S) (h : IsSteady n s) (apart : Records
 
     -- or for what counts
     changed-listed : (f : Rec → Rec) → ((x : Rec) → (f x).number ≡ x.number) → ((x : Rec) → (f x).counts ≡ x.counts) → reads_move s.reads (changed_at r.number f s.records) s.access ≡ listed
-    changed-listed f number same_counts = moves-alike s.reads s.records (changed_at r.number f s.records) s.access (λ m ms. go m ms (cases_eq m r.number))
-      where
-        go : (m : ℕ) (ms : List ℕ) → (m ≡ r.number) ⊎ (m ≡ r.number → ⊥) → hit_moves (record_at (changed_at r.number f s.records) m) ms ≡ hit_moves (record_at s.records m) ms
-        go m ms (inl e) =
-            ap (λ k. hit_moves (record_at (changed_at r.number f s.records) k) ms) e ∙ ap (λ o. hit_moves o ms) (changed-own r.number f s.records r number there)
-            ∙ ap (λ c. cond (is_some c) (moved_to_back (f r).number ms) ms) (same_counts r) ∙ ap (λ k. cond (is_some r.counts) (moved_to_back k ms) ms) (number r)
-            ∙ sym (ap (λ k. hit_moves (record_at s.records k) ms) e ∙ ap (λ o. hit_moves o ms) there)
-        go m ms (inr other) = ap (λ o. hit_moves o ms) (changed-other r.number m f number s.records other)
+    changed-listed f number same_counts = grind (arith, moves-alike, cases_eq, hit_moves, changed-own, there, counts, changed-other)
 
   -- ---- a read
 

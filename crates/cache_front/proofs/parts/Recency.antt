@@ -35,7 +35,7 @@ use Rattle.engine_reference.proofs.run_laws.Shown.{RecordsApart, to-records}
 use Rattle.engine_reference.proofs.run_laws.Swept.{sent-one}
 use Rattle.cache_front.specs.Parts.{Part, Stored, service_answers, put, put_entry, nanos, taken_out}
 use Rattle.engine_reference.specs.declared.data.Settings.{Settings}
-use Rattle.cache_front.proofs.parts.Facts.{fresh_is}
+use Rattle.cache_front.proofs.parts.Joining.{fresh_is}
 use Rattle.cache_front.proofs.parts.Moving.{taking, read-moves, put-moves, removal-moves, IsSteady, never-comes, keys-here, weight-here, run-front, run-still, applied-rest}
 use Rattle.cache_front.proofs.parts.Removing.{took_out}
 use Rattle.cache_front.proofs.parts.Writing.{Rec, all_units, wrote}

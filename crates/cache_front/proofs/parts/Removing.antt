@@ -1,7 +1,6 @@
 -- What a removal by key does.
-use Rattle.std.proofs.Common.{◌≡◌, ℕ, ◌+◌, Bool, cond, true, false, true≢false, not, ◌&&◌, ◌||◌, List, [], ◌∷◌, ◌++◌, map, Option, option_map, Some, None, slice_get, refl, sym, ap, ◌∙◌, subst, arith, inl, inr, ◌⊎◌, append-nil, ◌==◌, if◌then◌else◌}
-use Rattle.std.specs.List.{find, list_all}
-use Rattle.std.proofs.lemmas.Bool.{and_from, and_parts, eqb-true, eq-eqb}
+use Rattle.std.proofs.Common.{◌≡◌, ℕ, ◌+◌, Bool, cond, true, false, true≢false, not, ◌&&◌, ◌||◌, List, [], ◌∷◌, ◌++◌, map, Option, option_map, Some, None, slice_get, refl, sym, ap, ◌∙◌, subst, arith, inl, inr, ◌⊎◌, append-nil, if◌then◌else◌, slice_set}
+use Rattle.std.proofs.lemmas.Bool.{and_from, eqb-true, eq-eqb, and_left, or_left, false_from_ne_true}
 use Rattle.std.proofs.lemmas.Option.{none-some}
 use Rattle.audit_model.specs.Bytewise.{same}
 use Rattle.audit_model.specs.Changes.{all_held_after, held_after, left_held}
@@ -30,43 +29,19 @@ use Rattle.engine_reference.proofs.run_laws.Shown.{RecordsApart, entry-held, to-
 use Rattle.engine_reference.proofs.run_laws.Swept.{sent-one}
 use Rattle.cache_store.specs.Promises.{Done, deleting}
 use Rattle.cache_store.proofs.Steps.{after_plain, corresponds-as}
-use Rattle.cache_store.specs.Held.{value_at, without, is_absent, plain, Corresponds, cause_of_deleted}
+use Rattle.cache_store.specs.Held.{value_at, without, plain, Corresponds, cause_of_deleted}
 use Rattle.cache_store.proofs.Keys.{equal_from_same, same_from_equal, same-flip_false}
-use Rattle.cache_store.proofs.Held.{key_from_some, absent-without, apart-without}
-use Rattle.cache_store.proofs.Corresponding.{value_at-map, value_at-without, left}
-use Rattle.cache_store.proofs.Truth.{first_of-map, without-map, deleted_truly}
+use Rattle.cache_store.proofs.Held.{key_from_some, absent-without, apart-without, value_at-map, value_at-without, left, first_of-map, without-map, deleted_truly}
 use Rattle.engine_reference.specs.RunLaws.Just.{IsJust}
-use Rattle.cache_front.specs.Parts.{Stored, Part, service_answers, cause_of, note_from, held_of, items_of, with_part, AreMarked, Stands, drained}
-use Rattle.cache_front.proofs.parts.Accepting.{with_part-twice, all-untold}
-use Rattle.cache_front.proofs.parts.Items.{ArePlaced, AreParted, value_at-part, apart-of, corresponds_from, AreOf, of-removals, left-elsewhere, find-candidates, in_part, marks_elsewhere, decides, with_part-there, with_part-other, parted-at, parted-with, value_at-elsewhere, corresponds-run}
-use Rattle.cache_front.proofs.parts.Joining.{Knows, stands_for, dead_from, marked_from}
-use Rattle.cache_front.proofs.parts.Telling.{Judges, judged, PointsBack, itself, earlier, points_back, no_point, Kept, Fits, Fitting, notes_of, told_truly}
-use Rattle.cache_front.proofs.parts.Running.{Maintained, Ran, ran_from}
-use Rattle.cache_front.proofs.parts.Writing.{Rec, same_laws, changed-from, unlike_other}
+use Rattle.cache_front.specs.Parts.{Stored, Part, service_answers, cause_of, note_from, held_of, items_of, AreMarked, Stands, drained}
+use Rattle.cache_front.proofs.parts.Accepting.{replaced-twice, all-untold}
+use Rattle.cache_front.proofs.parts.Items.{ArePlaced, AreParted, AreOf, of-removals, left-elsewhere, replaced-there, parted-at, corresponds-run, placed_changed, parted_changed, corresponds_changed, marks_everywhere, candidates_placed}
+use Rattle.cache_front.proofs.parts.Joining.{Knows, stands_for, dead_from, marked_from, none_deleted, Maintained, Ran, ran_from}
+use Rattle.cache_front.proofs.parts.Writing.{Judges, judged, PointsBack, itself, earlier, points_back, no_point, Kept, Fits, Fitting, notes_of, told_truly, Rec, same_laws, changed-from, unlike_other}
 
 gone-at : (key : List ℕ) (f : Rec → Rec) (rs : List Rec) (r : Rec) → ((x : Rec) → (f x).is_held ≡ false) → RecordsApart same rs → AreNumbered rs → held_at same rs key ≡ Some r → held_at same (changed_at r.number f rs) key ≡ None
 gone-at key f [] r out apart numbered h = absurd (none-some r h)
-gone-at key f (x ∷ rs) r out apart numbered h = go (x.is_held && same key x.entry.key) refl h (λ k. gone-at key f rs r out apart.1 numbered.1 k)
-  where
-    parts : (a b : Bool) → (a && b) ≡ true → (a ≡ true) × (b ≡ true)
-    parts true b e = (refl, e)
-    parts false b e = absurd (true≢false (sym e))
-
-    first : x ≡ r → (x.is_held && same key x.entry.key) ≡ true → (c : Bool) → (x.number == r.number) ≡ c → held_at same (cond c (f x ∷ rs) (x ∷ changed_at r.number f rs)) key ≡ None
-    first is e true t =
-        let k = parts x.is_held (same key x.entry.key) e in
-        ap (λ b. cond (b && same key (f x).entry.key) (Some (f x)) (held_at same rs key)) (out x) ∙ ap (held_at same rs) (equal_from_same key x.entry.key k.1) ∙ apart.0 k.0
-    first is e false t = absurd (true≢false (sym (ap (λ (y : Rec). y.number == r.number) is ∙ eq-eqb r.number r.number refl) ∙ t))
-
-    further : (c : Bool) → (x.number == r.number) ≡ c → (x.is_held && same key x.entry.key) ≡ false → held_at same rs key ≡ Some r → held_at same (changed_at r.number f rs) key ≡ None
-        → held_at same (cond c (f x ∷ rs) (x ∷ changed_at r.number f rs)) key ≡ None
-    further true t e k next = absurd (none-some r (sym (ap (record_at rs) (sym (eqb-true x.number r.number t)) ∙ numbered.0) ∙ held_at-only same rs key r numbered.1 k))
-    further false t e k next = ap (λ b. cond b (Some x) (held_at same (changed_at r.number f rs) key)) e ∙ next
-
-    go : (b : Bool) → (x.is_held && same key x.entry.key) ≡ b → cond b (Some x) (held_at same rs key) ≡ Some r → (held_at same rs key ≡ Some r → held_at same (changed_at r.number f rs) key ≡ None)
-        → held_at same (changed_at r.number f (x ∷ rs)) key ≡ None
-    go true e k later = first (let is : x ≡ r = cc in is) e (x.number == r.number) refl
-    go false e k later = further (x.number == r.number) refl e k (later k)
+gone-at key f (x ∷ rs) r out apart numbered h = grind (arith, gone-at key f rs r out apart.1 numbered.1, held_at-only same rs key r numbered.1, eqb-true x.number r.number, eq-eqb r.number r.number refl, equal_from_same key x.entry.key, apart.0, out x, none-some r)
 
 module _ {S : Type 0} (key : List ℕ) (now : ℕ) (s : Part S) (rec : Rec) where
   -- the part after the removal of a key's record, told and sent
@@ -178,47 +153,23 @@ module _ {S : Type 0} (config : Config) (part_of : List ℕ → ℕ) (made now :
   others = without key held
 
   abbrev pub parts_t : List (Part S)
-  parts_t = with_part part t parts
+  parts_t = slice_set parts part t
 
   placed_t : ArePlaced part_of (0 + part) (held_entries t.records)
-  placed_t q x h = grind (arith, none-some x, parted-at part_of 0 part parts s k.parted k.there)
+  placed_t = placed_changed part_of part s t parts held others key None None k.parted k.there c at_key w.apart w.found w.cover
 
   parted_t : AreParted part_of 0 parts_t
-  parted_t = parted-with part_of 0 part t parts k.parted w.apart placed_t
+  parted_t = parted_changed part_of part s t parts held others key None None k.parted k.there c at_key w.apart w.found w.cover
 
   there_t : slice_get parts_t part ≡ Some t
-  there_t = with_part-there part t s parts k.there
+  there_t = replaced-there part t s parts k.there
 
   corresponds_removed : Corresponds (items_of 0 parts_t) others
-  corresponds_removed =
-      corresponds_from (items_of 0 parts_t) others (apart-of part_of 0 parts_t parted_t) (apart-without key held c.apart)
-      (λ q. ap (option_map plain) (value_at-without key q held c.apart) ∙ by_part q (decides (part_of q) (0 + part)))
-    where
-      covers : (o : Option Kept) → option_map (held_of (0 + part) s) o ≡ option_map (held_of (0 + part) t) o
-      covers None = refl
-      covers (Some x) = ap (λ b. Some (record (held_of (0 + part) s x) { covered = b })) (sym (w.cover x))
-
-      by_part : (q : List ℕ) → Dec (part_of q ≡ 0 + part) → option_map plain (cond (same q key) None (value_at held q)) ≡ value_at (items_of 0 parts_t) q
-      by_part q (yes here) = go (same q key) refl ∙ ap (option_map (held_of (0 + part) t)) (sym (w.found q)) ∙ sym (value_at-part part_of 0 part parts_t t q parted_t there_t here)
-        where
-          go : (b : Bool) → same q key ≡ b → option_map plain (cond (same q key) None (value_at held q)) ≡ option_map (held_of (0 + part) t) (cond (same q key) None (entry_of same (held_entries s.records) q))
-          go true f = ap (λ b. option_map plain (cond b None (value_at held q))) f ∙ sym (ap (λ b. option_map (held_of (0 + part) t) (cond b None (entry_of same (held_entries s.records) q))) f)
-          go false f =
-              ap (λ b. option_map plain (cond b None (value_at held q))) f ∙ c.found q ∙ value_at-part part_of 0 part parts s q k.parted k.there here
-              ∙ covers (entry_of same (held_entries s.records) q) ∙ sym (ap (λ b. option_map (held_of (0 + part) t) (cond b None (entry_of same (held_entries s.records) q))) f)
-      by_part q (no away) = go (same q key) refl
-        where
-          go : (b : Bool) → same q key ≡ b → option_map plain (cond (same q key) None (value_at held q)) ≡ value_at (items_of 0 parts_t) q
-          go true f = absurd (away (ap part_of (equal_from_same q key f) ∙ at_key ∙ sym zero_plus))
-          go false f = ap (λ b. option_map plain (cond b None (value_at held q))) f ∙ c.found q ∙ sym (value_at-elsewhere part_of 0 part t parts q k.parted parted_t away)
+  corresponds_removed = corresponds_changed part_of part s t parts held others key None None k.parted k.there c at_key w.apart w.found w.cover (apart-without key held c.apart) (λ q. value_at-without key q held c.apart) refl
 
   -- a point after the removal was there before
   point_before : (owner : Rec) → HasPoint t.settings.capacity t.writes (map (λ u. u.write) t.unsent) owner.number → HasPoint s.settings.capacity s.writes (map (λ u. u.write) s.unsent) owner.number
   point_before owner p = grind (arith, points_back t.settings.capacity s.writes (Removed rec.number) owner.number (subst (λ us. HasPoint t.settings.capacity (s.writes ++ Removed rec.number ∷ []) us owner.number) (ap (λ us. map (λ u. u.write) us) w.unsent) (subst (λ ws. HasPoint t.settings.capacity ws (map (λ u. u.write) t.unsent) owner.number) w.writes p)), PointsBack t.settings.capacity s.writes (Removed rec.number) owner.number, itself, earlier)
-
-  no_and : (b u : Bool) → b ≡ false → (b && u) ≡ false
-  no_and true u e = absurd (true≢false e)
-  no_and false u e = refl
 
   fits_removed : Fits (Judges config (deleting key) before now t) (map cand others) (held_entries t.records)
   fits_removed q x there = go (same q key) refl (sym (w.found q) ∙ there)
@@ -233,18 +184,14 @@ module _ {S : Type 0} (config : Config) (part_of : List ℕ → ℕ) (made now :
             there = first_of-map cand (λ h. refl) q others ∙ ap (option_map cand) (value_at-without key q held c.apart ∙ ap (λ b. cond b None (value_at held q)) f ∙ st.found);
             is = record {
               bytes = ap (λ (h : HeldValue). h.value.bytes) st.is;
-              later = no_and (same key st.value.value.key) true (ap (same key) (key_from_some q held st.value st.found) ∙ same-flip_false q key f);
+              later = and_left (same key st.value.value.key) true (ap (same key) (key_from_some q held st.value st.found) ∙ same-flip_false q key f);
               expired = λ past. sym (dead_from config part_of made now part s parts held k c marked q x st.value in_s st.is) ∙ ap (λ z. has_come z now x) (sym w.settings) ∙ past;
               explicit = λ covered. ap (λ (h : HeldValue). h.covered) st.is ∙ sym (w.cover x) ∙ covered;
-              size = λ p. by_mark st.value.evictable (overfills config before (deleting key) st.value.value.part)
+              size = λ p. or_left st.value.evictable (overfills config before (deleting key) st.value.value.part)
                   (let own = w.owners p.owner p.there p.held in
                   marked_from config part_of made now part s parts held k c marked q x st.value in_s st.found (record { owner = p.owner; there = own.1; held = p.held; entry = p.entry; point = point_before p.owner p.point }));
             };
           }
-        where
-          by_mark : (a b : Bool) → a ≡ true → (a || b) ≡ true
-          by_mark true b e = refl
-          by_mark false b e = absurd (true≢false (sym e))
 
   st_key : record { value : HeldValue; found : value_at held key ≡ Some value; is : plain value ≡ held_of part s rec.entry }
   st_key = let st = stands_for config part_of made now part s parts held k c marked key rec.entry entry in record { value = st.value; found = st.found; is = st.is }
@@ -262,10 +209,6 @@ module _ {S : Type 0} (config : Config) (part_of : List ℕ → ℕ) (made now :
       (causes (has_come s.settings now rec.entry) ∙ ap cause_of_deleted (dead_from config part_of made now part s parts held k c marked key rec.entry st_key.value entry st_key.is))
       ∙ ap (λ (v : Value). record { cause = cause_of_deleted (is_dead_at config now st_key.value); key = v.key; value = v.bytes }) (sym (ap (λ (g : HeldValue). g.value) st_key.is))
 
-  none_deleted : (xs : List HeldValue) → is_absent key xs ≡ true → list_all (λ x. not (is_succeeded (deleting key) x)) (map cand xs) ≡ true
-  none_deleted [] a = refl
-  none_deleted (x ∷ xs) a = let p = and_parts (not (same key x.value.key)) (is_absent key xs) a in and_from _ _ p.0 (none_deleted xs p.1)
-
   pub right : are_true_notes config before (deleting key) (candidates_of config before (deleting key)) told ≡ true
   right =
       ap (λ cs. are_true_notes config before (deleting key) cs told) (append-nil before)
@@ -277,13 +220,13 @@ module _ {S : Type 0} (config : Config) (part_of : List ℕ → ℕ) (made now :
       ∙ ap (are_true_notes config before (deleting key) (map cand others)) (sym (append-nil (notes_of r.removals)))
       ∙ told_truly (Judges config (deleting key) before now t) config (deleting key) before (IsJust service_answers now t) (λ why x y j h. judged config (deleting key) before now t why x y j h)
       r.removals [] (map cand others) (held_entries t.records) (held_entries new.records) w.apart fits_removed r.just r.takes
-      (all-untold (λ x. not (is_succeeded (deleting key) x)) (notes_of r.removals) (map cand others) (none_deleted others (absent-without key held c.apart))))
+      (all-untold (λ x. not (is_succeeded (deleting key) x)) (notes_of r.removals) (map cand others) (none_deleted config now key others (absent-without key held c.apart))))
 
   pub handed : told ≡ map note_from new.notices
   handed = sym (r.notices ∙ ap (λ ns. map note_from ns ++ notes_of r.removals) (w.notices ∙ ap (λ ns. ns ++ notice_of (cause_of_removal service_answers s now rec.entry) rec.entry ∷ []) taken))
 
   abbrev pub parts_new : List (Part S)
-  parts_new = with_part part (drained new) parts
+  parts_new = slice_set parts part (drained new)
 
   abbrev xs : List HeldValue
   xs = left_held held (deleting key) told
@@ -296,17 +239,11 @@ module _ {S : Type 0} (config : Config) (part_of : List ℕ → ℕ) (made now :
       corresponds-as (held_after config now held (deleting key) told (map (λ (h : HeldValue). h.value) xs)) (items_of 0 parts_new) xs (λ h. refl)
       (λ q h found. after_plain config now held (deleting key) told (map (λ (h : HeldValue). h.value) xs) refl h refl)
       (subst (λ ys. Corresponds (items_of 0 parts_new) ys) (sym xs_are)
-      (subst (λ ps. Corresponds (items_of 0 ps) (left (notes_of r.removals) others)) (with_part-twice part t (drained new) parts)
+      (subst (λ ps. Corresponds (items_of 0 ps) (left (notes_of r.removals) others)) (replaced-twice part t (drained new) parts)
       (corresponds-run part_of part t (drained new) parts_t others r.removals parted_t there_t r.takes r.cover corresponds_removed)))
 
   of_told : AreOf part_of part told
   of_told = (ap part_of rec_key ∙ at_key, of-removals part_of part r.removals (held_entries t.records) (held_entries new.records) w.apart (λ q x h. placed_t q x h ∙ zero_plus) r.takes)
-
-  right_part : (q : List ℕ) (h : HeldValue) → value_at held q ≡ Some h → h.value.part ≡ part_of q
-  right_part q h found = in_part config part_of now parts held k.parted c count q h found
-
-  right_found : (q : List ℕ) (v : Value) → find (λ (x : Value). same q x.key) (map (λ (x : Candidate). x.value) (candidates_of config before (deleting key))) ≡ Some v → v.part ≡ part_of q
-  right_found = find-candidates cand (λ h. refl) held [] part_of right_part (λ q v found. absurd (none-some v found))
 
   stays_other : (q : List ℕ) → same q key ≡ false → value_at others q ≡ value_at held q
   stays_other q f = value_at-without key q held c.apart ∙ ap (λ b. cond b None (value_at held q)) f
@@ -349,23 +286,11 @@ module _ {S : Type 0} (config : Config) (part_of : List ℕ → ℕ) (made now :
   remove_does = record {
     told = told;
     right = right;
-    left = record { same = same_after; marked = λ j x there. go j x there (decides j part) };
+    left = record {
+      same = same_after;
+      marked =
+          marks_everywhere config part_of now parts held k.parted c (deleting key) told part s (drained new) xs (map (λ (h : HeldValue). h.value) xs) refl of_told k.there count (candidates_placed config part_of now parts held k.parted c count)
+          (λ q other. ap (λ ys. value_at ys q) xs_are ∙ left-elsewhere part_of part (notes_of r.removals) others q (apart-without key held c.apart) of_told.1 other ∙ stays_other q (false_from_ne_true (same q key) (λ f. other (ap part_of (equal_from_same q key f) ∙ at_key)))) stands.marked marked_here;
+    };
     handed = handed;
   }
-    where
-      go : (j : ℕ) (x : Part S) → slice_get parts_new j ≡ Some x → Dec (j ≡ part) → AreMarked x (all_held_after config now held (deleting key) told)
-      go j x there (yes is) =
-          let both : Some (drained new) ≡ Some x = sym (with_part-there part (drained new) s parts k.there) ∙ ap (slice_get parts_new) (sym is) ∙ there in
-          let one : drained new ≡ x = cc in subst (λ y. AreMarked y (all_held_after config now held (deleting key) told)) one marked_here
-      go j x there (no other) =
-          marks_elsewhere config part_of now parts held k.parted c (deleting key) told part j x xs (map (λ (h : HeldValue). h.value) xs) refl of_told other at_j right_part right_found
-          (λ q at. ap (λ ys. value_at ys q) xs_are ∙ left-elsewhere part_of part (notes_of r.removals) others q (apart-without key held c.apart) of_told.1 (λ e. other (sym at ∙ e))
-          ∙ stays_other q (by_key q at (same q key) refl))
-          (stands.marked j x at_j)
-        where
-          at_j : slice_get parts j ≡ Some x
-          at_j = sym (with_part-other part j (drained new) parts other) ∙ there
-
-          by_key : (q : List ℕ) → part_of q ≡ j → (b : Bool) → same q key ≡ b → same q key ≡ false
-          by_key q at true f = absurd (other (sym at ∙ ap part_of (equal_from_same q key f) ∙ at_key))
-          by_key q at false f = f

@@ -7,7 +7,7 @@ use Rattle.audit_model.specs.Changes.{held_after, left_held, all_held_after}
 use Rattle.audit_model.specs.Commands.{Nothing}
 use Rattle.audit_model.specs.Notes.{are_true_notes, first_of, is_succeeded, is_over, is_within}
 use Rattle.audit_model.specs.Situation.{HeldValue, candidate_at}
-use Rattle.audit_model.specs.Values.{untold, without_key, after_ms, has_come}
+use Rattle.audit_model.specs.Values.{untold, after_ms, has_come}
 use Rattle.audit_model.specs.View.{Candidate}
 use Rattle.audit_model.specs.declared.config.Config.{Config}
 use Rattle.audit_model.specs.declared.transcript.Note.{Note}
@@ -17,17 +17,15 @@ use Rattle.engine_reference.specs.Telling.{entry_of, AreApart}
 use Rattle.engine_reference.specs.RunLaws.Points.{HasPoint, IsInOrder, with_write, pending_of}
 use Rattle.cache_store.specs.Promises.{Done, syncing, no_deed}
 use Rattle.cache_store.proofs.Steps.{after_plain, corresponds-as, none_succeeded}
-use Rattle.cache_store.specs.Held.{value_at, without, are_apart, Corresponds, plain, is_absent, exceeds}
+use Rattle.cache_store.specs.Held.{value_at, without, are_apart, Corresponds, plain, is_absent}
 use Rattle.cache_store.proofs.Keys.{equal_from_same, same-refl}
-use Rattle.cache_store.proofs.Held.{apart-without, none_from_absent}
-use Rattle.cache_store.proofs.Corresponding.{corresponds-left, apart-left, value_at-without, left, left-append, permutation}
+use Rattle.cache_store.proofs.Held.{apart-without, none_from_absent, corresponds-left, apart-left, value_at-without, left, left-append, permutation}
 use Rattle.engine_reference.specs.RunLaws.Just.{IsJust}
 use Rattle.cache_front.specs.Parts.{Part, service_answers, note_from, held_of, items_in, items_of, Stands, drained, Stored, settings_of, nanos, IsBrief, AreLight, write_weight, AreMarked}
 use Rattle.cache_front.proofs.parts.Accepting.{all-untold}
-use Rattle.cache_front.proofs.parts.Items.{ArePlaced, AreParted, value_at-part, value_at-both, not_here, apart-of, corresponds_from, AreOf, of-removals, left-elsewhere, decides, parted-at, away, placed-away, found-away, weight-part, find-candidates, in_part, marks_elsewhere}
-use Rattle.cache_front.proofs.parts.Joining.{Knows, fits_held}
-use Rattle.cache_front.proofs.parts.Telling.{Judges, judged, no_point, Kept, Fits, notes_of, told_truly, key_of, first_of-other, end_is, reached_is}
-use Rattle.cache_front.proofs.parts.Running.{ran, Ran, ran_from}
+use Rattle.cache_front.proofs.parts.Items.{ArePlaced, AreParted, value_at-part, value_at-both, not_here, apart-of, corresponds_from, AreOf, of-removals, left-elsewhere, decides, parted-at, away, placed-away, found-away, weight-part, in_part, marks_elsewhere, candidates_placed}
+use Rattle.cache_front.proofs.parts.Joining.{Knows, above_is, fits_held, ran, Ran, ran_from}
+use Rattle.cache_front.proofs.parts.Writing.{Judges, judged, no_point, Kept, Fits, notes_of, told_truly, key_of, first_of-other, end_is, reached_is, Rec}
 use Rattle.std.proofs.lemmas.List.{length-map}
 use Rattle.std.proofs.lemmas.List.Sums.{sum_by-cons, sum_by-append}
 use Rattle.std.proofs.lemmas.List.Sorted.{sum_by-IsPermutation}
@@ -45,7 +43,6 @@ use Rattle.engine_reference.specs.RunLaws.Sweeping.{LeavesNoneDue, InOrderBy, Is
 use Rattle.engine_reference.proofs.run_laws.Shown.{entry-held}
 use Rattle.cache_store.specs.Running.{weight_in, is_timely, is_of_earlier_tick, tick_of, is_bounded}
 use Rattle.cache_store.proofs.Weights.{over_is, same_weight}
-use Rattle.cache_front.proofs.parts.Writing.{Rec}
 use Rattle.engine_reference.specs.declared.data.Record.{Record}
 use Rattle.engine_reference.specs.declared.data.Write.{Write}
 use Rattle.engine_reference.specs.declared.data.Write.TheVariants.{Put, Removed}
@@ -77,11 +74,7 @@ left-before part_of first (n ∷ notes) xs q a of lt = grind (arith, left-before
 
 first_of-elsewhere : (part_of : List ℕ → ℕ) (part : ℕ) (notes : List Note) (cs : List Candidate) (q : List ℕ) → AreOf part_of part notes → (part_of q ≡ part → ⊥) → first_of q (untold key_of notes cs) ≡ first_of q cs
 first_of-elsewhere part_of part [] cs q of other = refl
-first_of-elsewhere part_of part (n ∷ notes) cs q of other = first_of-elsewhere part_of part notes (without_key key_of n.key cs) q of.1 other ∙ go (same q n.key) refl
-  where
-    go : (b : Bool) → same q n.key ≡ b → first_of q (without_key key_of n.key cs) ≡ first_of q cs
-    go true e = absurd (other (ap part_of (equal_from_same q n.key e) ∙ of.0))
-    go false e = first_of-other n.key q cs e
+first_of-elsewhere part_of part (n ∷ notes) cs q of other = grind (arith, key_of, equal_from_same, first_of-other, first_of-elsewhere part_of part notes)
 
 module _ {S : Type 0} (now : ℕ) where
   -- each part ran to its end, and its notices were taken, part after part
@@ -312,10 +305,6 @@ all_by_key p (x ∷ xs) a each =
     behind q h found true e absent = absurd (none-some h (sym (ap (value_at xs) (equal_from_same q x.value.key e) ∙ none_from_absent x.value.key xs absent) ∙ found))
     behind q h found false e absent = ap (λ b. cond b (Some x) (value_at xs q)) e ∙ found
 
-above_as : (capacity : Option ℕ) (w : ℕ) → is_above capacity w ≡ exceeds capacity w
-above_as None w = refl
-above_as (Some c) w = refl
-
 module _ {S : Type 0} (config : Config) (part_of : List ℕ → ℕ) (made : ℕ) (parts : List (Part S)) (held : List HeldValue) (parted : AreParted part_of 0 parts) (c : Corresponds (items_of 0 parts) held)
     (count : (q : List ℕ) → (x : Part S) × (slice_get parts (part_of q) ≡ Some x)) (settings : (k : ℕ) (x : Part S) → slice_get parts k ≡ Some x → x.settings ≡ settings_of config made) where
   -- the part and the entry of a value held
@@ -339,7 +328,7 @@ module _ {S : Type 0} (config : Config) (part_of : List ℕ → ℕ) (made : ℕ
 
   -- a part weighs what the audit says
   pub over_part : (k : ℕ) (x : Part S) → slice_get parts k ≡ Some x → is_over config k (map (λ (h : HeldValue). h.value) held) ≡ is_above x.settings.capacity (held_weight x.records)
-  over_part k x there = grind (arith, over_is config k (items_of 0 parts) held (apart-of part_of 0 parts parted) c, apart-of part_of 0 parts parted, weight-part 0 k parts x there, above_as (option_map (share config) config.capacity) (held_weight x.records))
+  over_part k x there = grind (arith, over_is config k (items_of 0 parts) held (apart-of part_of 0 parts parted) c, apart-of part_of 0 parts parted, weight-part 0 k parts x there, above_is (option_map (share config) config.capacity) (held_weight x.records))
 
   pub within_all : ((k : ℕ) (x : Part S) → slice_get parts k ≡ Some x → is_above x.settings.capacity (held_weight x.records) ≡ false) → is_within config (map (λ (h : HeldValue). h.value) held) ≡ true
   within_all fits = list_map held (all_by_key (λ h. not (is_over config h.value.part (map (λ (h : HeldValue). h.value) held))) held c.apart (λ q h e.
@@ -490,7 +479,6 @@ module _ {S : Type 0} where
     marked = λ k x here.
         subst (λ xs. AreMarked x (map (held_after config now held no_deed [] (map (λ (h : HeldValue). h.value) (held ++ []))) xs)) (sym (append-nil held))
         (marks_elsewhere config part_of now parts held p stands.same no_deed [] (suc k) k x held (map (λ (h : HeldValue). h.value) (held ++ [])) refl tt (λ e. omega (arith, e)) here
-        (λ q h e. in_part config part_of now parts held p stands.same count q h e)
-        (find-candidates (candidate_at config now) (λ h. refl) held [] part_of (λ q h e. in_part config part_of now parts held p stands.same count q h e) (λ q v e. absurd (none-some v e)))
+        (in_part config part_of now parts held p stands.same count) (candidates_placed config part_of now parts held p stands.same count)
         (λ q e. refl) (stands.marked k x here));
   }

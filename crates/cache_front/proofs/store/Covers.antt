@@ -1,5 +1,6 @@
 -- Calls that cover, whatever they answer.
 use Rattle.std.proofs.Common.{◌≡◌, refl, ap, sym, ◌∙◌, subst, ℕ, suc, ◌≤◌, ◌^◌, ◌⊎◌, inl, inr, Bool, true, false, ◌||◌, List, Result, Ok, Err, OnOk, OnErr}
+use Rattle.std.proofs.Math.Bool.{or-false, or-true}
 use Rattle.rand_core.specs.Stream.{Stream}
 use Rattle.audit_model.specs.Commands.{Everything, Prefixed}
 use Rattle.cache_store.specs.Promises.{covering}
@@ -42,19 +43,11 @@ module _ {S : Type 0} (hash : S → List ℕ → ℕ) (d : FrontData S) (g : Len
   abbrev after : FrontData S
   after = record d { dropped = dropped; stream = left; front = g }
 
-  yes : (b : Bool) → (b || true) ≡ true
-  yes true = refl
-  yes false = refl
-
-  no : (b : Bool) → (b || false) ≡ b
-  no true = refl
-  no false = refl
-
   if_taken : covers ≡ true → after ≡ record d { dropped = true; stream = left; front = g }
-  if_taken is = ap (λ b. record d { dropped = b; stream = left; front = g }) (is_dropped ∙ ap (λ b. d.dropped || b) is ∙ yes d.dropped)
+  if_taken is = ap (λ b. record d { dropped = b; stream = left; front = g }) (is_dropped ∙ ap (λ b. d.dropped || b) is ∙ or-true d.dropped)
 
   if_lacking : covers ≡ false → g ≡ d.front → after ≡ record d { stream = left }
-  if_lacking is same = ap (λ b. record d { dropped = b; stream = left; front = g }) (is_dropped ∙ ap (λ b. d.dropped || b) is ∙ no d.dropped) ∙ ap (λ (x : Lent S). record d { stream = left; front = x }) same
+  if_lacking is same = ap (λ b. record d { dropped = b; stream = left; front = g }) (is_dropped ∙ ap (λ b. d.dropped || b) is ∙ or-false d.dropped) ∙ ap (λ (x : Lent S). record d { stream = left; front = x }) same
 
   pub covered_does : covers ≡ true → Does now (covering (Prefixed prefix)) (view (parted_by hash d)) (view (parted_by hash after))
   covered_does is =

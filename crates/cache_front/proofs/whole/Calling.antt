@@ -1,49 +1,145 @@
--- The calls that come to one part: what is seen, used, accepted and removed.
-use Rattle.std.proofs.Common.{◌≡◌, refl, ap, ◌∙◌, sym, subst, ℕ, ◌+◌, ◌≤◌, ◌<◌, ◌^◌, max, arith, Bool, true, false, ◌||◌, List, ◌++◌, map, length, Option, option_map, Some, None, is_none, slice_get, slice_set, if◌then◌else◌, IfSome, IsSome, IsTrue, MatchOption}
+-- The parts stand for a list of values, each of which may be evicted; and after a call for at most as many as before it, and one more.
+use Rattle.std.proofs.Common.{◌≡◌, refl, ap, ◌∙◌, sym, ℕ, suc, ◌+◌, ◌≤◌, arith, true, List, [], ◌∷◌, ◌++◌, map, length, Option, option_map, Some, None, slice_get, Bool, false, cond, not, ◌&&◌, is_some, option_to_list, subst, ◌<◌, ◌^◌, max, ◌||◌, is_none, slice_set, if◌then◌else◌, IfSome, IsSome, IsTrue, MatchOption}
+use Rattle.std.proofs.Math.Bool.{and_comm, or-false}
 use Rattle.std.proofs.lemmas.Bool.{both_ways}
+use Rattle.std.proofs.lemmas.List.{length-append, length-map}
 use Rattle.std.proofs.lemmas.Option.{none-some}
+use Rattle.std.specs.Option.{option_map_or}
+use Rattle.engine_reference.proofs.SoundSteps.{runs_stay_sound}
+use Rattle.engine_reference.proofs.StayingVisible.{visible_by_entries}
+use Rattle.engine_reference.specs.Calls.{MaintainsIfDue, with_read}
+use Rattle.engine_reference.specs.Identifiers.Drawing.{is_registered}
+use Rattle.engine_reference.specs.Records.{held_entries, held_at}
+use Rattle.engine_reference.specs.Scanning.{NotesLookUp}
+use Rattle.engine_reference.specs.Soundness.{IsSound}
+use Rattle.engine_reference.specs.Telling.{entry_of}
+use Rattle.engine_reference.specs.Times.{has_come}
+use Rattle.engine_reference.specs.Visible.{is_covered, is_visible, passing, visible, visible_record, visible_value}
+use Rattle.front_reference.specs.Parts.{Inserts, TakesOut, taken_out as taken_out_whole, takes_nothing}
 use Rattle.audit_model.specs.Bytewise.{same}
+use Rattle.audit_model.specs.Changes.{all_held_after, newly_held}
 use Rattle.audit_model.specs.Commands.{Deed}
 use Rattle.audit_model.specs.History.{Value}
-use Rattle.audit_model.specs.Situation.{HeldValue}
+use Rattle.audit_model.specs.Situation.{HeldValue, is_live_at}
+use Rattle.audit_model.specs.Values.{sorted}
+use Rattle.audit_model.specs.declared.config.Config.{Config}
 use Rattle.audit_model.specs.declared.transcript.Note.{Note}
+use Rattle.cache_store.proofs.Held.{apart-map, left, value_at-map, length-without_at_most}
+use Rattle.cache_store.proofs.LiveKeys.{live_keys_from, live_keys_are}
+use Rattle.cache_store.specs.Among.{has_live, are_distinct, is_among}
 use Rattle.cache_store.specs.Handing.{AppendsNotes}
+use Rattle.cache_store.specs.Held.{plain, are_apart, value_at, without}
 use Rattle.cache_store.specs.Identifiers.{KeepsIdentifiers}
 use Rattle.cache_store.specs.Promises.{Done, accepting, deleting, using, value_for}
 use Rattle.cache_store.specs.Recency.{used_first}
-use Rattle.cache_store.specs.Values.{Does, IsAcceptable, IsLive}
-use Rattle.engine_reference.specs.Calls.{MaintainsIfDue, with_read}
-use Rattle.engine_reference.specs.Records.{held_at}
-use Rattle.engine_reference.specs.Scanning.{NotesLookUp}
-use Rattle.engine_reference.specs.Soundness.{IsSound}
-use Rattle.engine_reference.specs.Visible.{visible, visible_record, visible_value}
-use Rattle.engine_reference.proofs.SoundSteps.{runs_stay_sound}
-use Rattle.engine_reference.specs.Identifiers.Drawing.{is_registered}
-use Rattle.front_reference.specs.Parts.{Inserts, TakesOut, taken_out as taken_out_whole, takes_nothing}
-use Rattle.cache_front.specs.Parts.{drained, Part, Stands, Stored, items_of, note_from, put, put_entry, service_answers, with_part}
-use Rattle.cache_front.proofs.parts.Facts.{live_value_is}
-use Rattle.cache_front.proofs.parts.Joining.{Knows}
+use Rattle.cache_store.specs.Values.{Does, AreLive, IsAcceptable, IsLive}
+use Rattle.cache_front.proofs.kept.Identifying.{inserted-no_more, keeps_identifiers, looked-no_more, removed-no_more}
+use Rattle.cache_front.proofs.kept.Storing.{enough-parted, enough-parts, enough-knows, Comes, keeps-accept, keeps-look_up, keeps-remove, maintained_from, takes_values, value-new}
+use Rattle.cache_front.proofs.parts.Accepting.{accept_does}
+use Rattle.cache_front.proofs.parts.Joining.{live_value_is, Knows, Maintained, idle, ran, ran_from}
+use Rattle.cache_front.proofs.parts.Items.{AreParted, apart-of, corresponds_from, value_at-part, decides, replaced-other, replaced-there}
+use Rattle.cache_front.proofs.parts.Looking.{look_up_does, miss_does}
 use Rattle.cache_front.proofs.parts.Moving.{taking}
 use Rattle.cache_front.proofs.parts.Removing.{remove_does, removed, took_out}
-use Rattle.cache_front.proofs.parts.Running.{Maintained, idle, ran, ran_from}
-use Rattle.cache_front.proofs.parts.Items.{decides, with_part-other, with_part-there}
-use Rattle.cache_front.proofs.parts.Telling.{Kept}
-use Rattle.cache_front.proofs.parts.Writing.{Rec, wrote}
-use Rattle.cache_front.specs.Recent.{IsRecentOver}
-use Rattle.cache_front.proofs.parts.Accepting.{accept_does}
-use Rattle.cache_front.proofs.parts.Looking.{look_up_does, miss_does}
+use Rattle.cache_front.proofs.parts.Writing.{Kept, dead_is, Rec, wrote}
+use Rattle.cache_front.proofs.whole.Changing.{AreTaken, DrawsTicket, all_drained-set, greatest-with, maintained-room, maintained-ticket, put-room, put-ticket, read-room, read-ticket, removal-is, removed-room, removed-ticket, unreserved-with, waiting-set}
 use Rattle.cache_front.proofs.whole.Ordered.{accepts, look_ups, removes}
 use Rattle.cache_front.specs.Keeping.{IsKeptPart, at_moment, IsStorable}
+use Rattle.cache_front.specs.Parts.{Part, Stands, held_of, items_of, service_answers, drained, Stored, note_from, put, put_entry}
+use Rattle.cache_front.specs.Recent.{IsRecentOver}
 use Rattle.cache_front.specs.Registering.{HasNoMore, register_of}
-use Rattle.cache_front.proofs.kept.Identifying.{inserted-no_more, keeps_identifiers, looked-no_more, removed-no_more}
-use Rattle.cache_front.proofs.kept.Storing.{Comes, enough-knows, keeps-accept, keeps-look_up, keeps-remove, maintained_from, takes_values, value-new}
-use Rattle.cache_front.proofs.whole.Changing.{AreTaken, DrawsTicket, all_drained-set, greatest-with, maintained-room, maintained-ticket, put-room, put-ticket, read-room, read-ticket, removal-is, removed-room, removed-ticket, unreserved-with, waiting-set}
-use Rattle.cache_front.proofs.whole.Standing.{no_more-after, one_more-after, parts_are}
-use Rattle.cache_front.specs.View.{stored, ComesTo, IsWhole, StoreOfParts, after, greatest_ticket, view, waiting}
+use Rattle.cache_front.specs.View.{IsWhole, StoreOfParts, view, stored, ComesTo, after, greatest_ticket}
 
-pub or-no : (b : Bool) → b ≡ (b || false)
-or-no true = refl
-or-no false = refl
+abbrev evictable : HeldValue → HeldValue
+evictable h = record h { evictable = true }
+
+-- ---- how many are held
+
+left-few : (notes : List Note) (items : List HeldValue) → length (left notes items) ≤ length items
+left-few [] items = omega arith
+left-few (n ∷ notes) items = let l = left-few notes (without n.key items) in let w = length-without_at_most n.key items in omega (arith, l, w)
+
+held-few : (config : Config) (now : ℕ) (held : List HeldValue) (deed : Deed) (told : List Note) → length (all_held_after config now held deed told) ≤ length held + length (option_to_list (option_map newly_held deed.value))
+held-few config now held deed told = grind (arith, length-map, left-few told (held ++ option_to_list (option_map newly_held deed.value)), length-append held (option_to_list (option_map newly_held deed.value)))
+
+one-more : (o : Option Value) → length (option_to_list (option_map newly_held o)) ≤ 1
+one-more None = omega arith
+one-more (Some v) = omega arith
+
+module _ {S : Type 0} (a : StoreOfParts S) (w : IsWhole a) where
+  pub parted : AreParted a.frame.part_of 0 a.parts
+  parted = enough-parted a.frame a.step a.parts w.kept
+
+  pub parts_are : (q : List ℕ) → (x : Part S) × (slice_get a.parts (a.frame.part_of q) ≡ Some x)
+  parts_are = enough-parts a.frame a.step a.parts w.kept
+
+  abbrev pub some_held : List HeldValue
+  some_held = map evictable (items_of 0 a.parts)
+
+  pub some_stand : Stands a.parts some_held
+  some_stand = record {
+    same = corresponds_from (items_of 0 a.parts) some_held apart (apart-map evictable (items_of 0 a.parts) (λ h. refl) ∙ apart) (λ q. ap (option_map plain) (value_at-map evictable (items_of 0 a.parts) q (λ h. refl)) ∙ found q);
+    marked = λ part s there owner at held point h is. marked (value_at (items_of 0 a.parts) owner.entry.key) h (sym (value_at-map evictable (items_of 0 a.parts) owner.entry.key (λ h. refl)) ∙ is);
+  }
+    where
+      apart : are_apart (items_of 0 a.parts) ≡ true
+      apart = apart-of a.frame.part_of 0 a.parts parted
+
+      marked : (o : Option HeldValue) (h : HeldValue) → option_map evictable o ≡ Some h → h.evictable ≡ true
+      marked None h is = absurd (none-some h is)
+      marked (Some x) h is = let e : evictable x ≡ h = cc in ap (λ (y : HeldValue). y.evictable) (sym e)
+
+      each : (part : ℕ) (s : Part S) (o : Option Kept) → option_map plain (option_map evictable (option_map (held_of part s) o)) ≡ option_map (held_of part s) o
+      each part s None = refl
+      each part s (Some e) = refl
+
+      found : (q : List ℕ) → option_map plain (option_map evictable (value_at (items_of 0 a.parts) q)) ≡ value_at (items_of 0 a.parts) q
+      found q =
+          let x = parts_are q in
+          let zero_plus : a.frame.part_of q ≡ 0 + a.frame.part_of q = omega arith in
+          let is = value_at-part a.frame.part_of 0 (a.frame.part_of q) a.parts x.0 q parted x.1 zero_plus in
+          ap (λ o. option_map plain (option_map evictable o)) is ∙ each (0 + a.frame.part_of q) x.0 (entry_of same (held_entries x.0.records) q) ∙ sym is
+
+  -- a call leaves at most as many as there were, and the one that it accepts
+  few-after : (now : ℕ) (deed : Deed) (b : StoreOfParts S) → Does now deed (view a) (view b) → length (items_of 0 b.parts) ≤ length (items_of 0 a.parts) + length (option_to_list (option_map newly_held deed.value))
+  few-after now deed b does = grind (arith, some_stand, held-few a.frame.config now some_held deed, length-map (items_of 0 a.parts) evictable)
+
+  pub one_more-after : (now : ℕ) (deed : Deed) (b : StoreOfParts S) → Does now deed (view a) (view b) → length (items_of 0 b.parts) ≤ suc (length (items_of 0 a.parts))
+  one_more-after now deed b does = let l = few-after now deed b does in let o = one-more deed.value in omega (arith, l, o)
+
+  pub no_more-after : (now : ℕ) (deed : Deed) (b : StoreOfParts S) → deed.value ≡ None → Does now deed (view a) (view b) → length (items_of 0 b.parts) ≤ length (items_of 0 a.parts)
+  no_more-after now deed b none does = let l = few-after now deed b does in let e = ap (λ o. length (option_to_list (option_map newly_held o))) none in omega (arith, l, e)
+
+-- ---- the live keys of a store of parts
+
+some-if : (b : Bool) (e : Kept) → b ≡ is_some (cond b (Some e) None)
+some-if true e = refl
+some-if false e = refl
+
+-- of keys that are each there once, exactly those of which something is visible are the live keys, once in byte order
+pub live_keys : {S : Type 0} → (a : StoreOfParts S) (now : ℕ) (keys : List (List ℕ)) → IsWhole a → are_distinct keys ≡ true → ((key : List ℕ) (s : Part S) → slice_get a.parts (a.frame.part_of key) ≡ Some s → is_among key keys ≡ is_some (visible service_answers same s now key)) → AreLive (view a) now (λ live. live ≡ sorted keys)
+live_keys {S} a now keys w distinct among = λ held stands.
+    live_keys_are a.frame.config now (items_of 0 a.parts) held (apart-of a.frame.part_of 0 a.parts (parted a w)) stands.same
+    ∙ live_keys_from a.frame.config now (items_of 0 a.parts) keys (apart-of a.frame.part_of 0 a.parts (parted a w)) distinct (λ q. (let x = parts_are a w q in among q x.0 x.1 ∙ sym (live-is q x.0 x.1)))
+  where
+    live-is : (q : List ℕ) (s : Part S) → slice_get a.parts (a.frame.part_of q) ≡ Some s → has_live a.frame.config now (items_of 0 a.parts) q ≡ is_some (visible service_answers same s now q)
+    live-is q s there =
+        let zero_plus : a.frame.part_of q ≡ 0 + a.frame.part_of q = omega arith in
+        ap (λ o. option_map_or (is_live_at a.frame.config now) o false) (value_at-part a.frame.part_of 0 (a.frame.part_of q) a.parts s q (parted a w) there zero_plus)
+        ∙ by_entry (entry_of same (held_entries s.records) q) refl
+        ∙ ap (λ o. is_some o) (sym (visible_by_entries same service_answers s now q))
+      where
+        by_entry : (o : Option Kept) → entry_of same (held_entries s.records) q ≡ o
+            → option_map_or (is_live_at a.frame.config now) (option_map (held_of (0 + a.frame.part_of q) s) o) false ≡ is_some (passing (is_visible service_answers s now) o)
+        by_entry None found = refl
+        by_entry (Some e) found =
+            let k = enough-knows a.frame a.step now (a.frame.part_of q) a.parts s [] w.kept there in
+            let early = k.early q e found in
+            ap (λ b. not (is_covered service_answers s e) && not b) (sym (dead_is a.frame.config a.frame.made now (0 + a.frame.part_of q) s e k.brief k.settings early.0 early.1))
+            ∙ and_comm (not (is_covered service_answers s e)) (not (has_come s.settings now e))
+            ∙ some-if (is_visible service_answers s now e) e
+
+-- The calls that come to one part: what is seen, used, accepted and removed.
 
 maintained-sound : {S : Type 0} (now : ℕ) (old new : Part S) → Maintained now old new → IsSound old → IsSound new
 maintained-sound {S} now old new (idle is) sound = subst (λ (s : Part S). IsSound s) (sym is) sound
@@ -64,29 +160,27 @@ module _ {S : Type 0} (a : StoreOfParts S) (w : IsWhole a) where
 
   -- at that moment one part became another, whose notices were taken
   abbrev pub changed : (now next k : ℕ) → Part S → StoreOfParts S
-  changed now next k new = record a { frame = at_moment a.frame now; parts = with_part k (drained new) a.parts; queue = a.queue ++ map note_from new.notices; step = next }
+  changed now next k new = record a { frame = at_moment a.frame now; parts = slice_set a.parts k (drained new); queue = a.queue ++ map note_from new.notices; step = next }
 
   pub after-is : (now next k : ℕ) (s new : Part S) → slice_get a.parts k ≡ Some s → after now next (slice_set a.parts k new) a ≡ changed now next k new
-  after-is now next k s new there =
-      ap (λ ps. record a { frame = at_moment a.frame now; parts = ps; queue = a.queue ++ waiting (slice_set a.parts k new); step = next }) (all_drained-set a.parts k new taken)
-      ∙ ap (λ ns. record a { frame = at_moment a.frame now; parts = with_part k (drained new) a.parts; queue = a.queue ++ ns; step = next }) (waiting-set a.parts k s new taken there)
+  after-is now next k s new there = grind (arith, all_drained-set, taken, waiting-set)
 
   -- the notes that were told are handed on
   pub handed : (now : ℕ) (deed : Deed) (held : List HeldValue) (New : List HeldValue → Type 0) (notes : List Note) → Done a.frame.config now deed held New (λ told. told ≡ notes) → Done a.frame.config now deed held New (AppendsNotes a.queue (a.queue ++ notes))
   handed now deed held New notes d = record { told = d.told; right = d.right; left = d.left; handed = record { added = ap (λ ns. a.queue ++ ns) (sym d.handed) } }
 
-  spent-with : (now next k : ℕ) (s new : Part S) → ComesTo a now next → slice_get a.parts k ≡ Some s → DrawsTicket s new → max next (greatest_ticket (with_part k (drained new) a.parts)) ≤ max a.step (greatest_ticket a.parts) + 1
+  spent-with : (now next k : ℕ) (s new : Part S) → ComesTo a now next → slice_get a.parts k ≡ Some s → DrawsTicket s new → max next (greatest_ticket (slice_set a.parts k (drained new))) ≤ max a.step (greatest_ticket a.parts) + 1
   spent-with now next k s new at there f = let l = greatest-with k s new a.parts there f in let one = at.one in omega (arith, l, one)
 
-  keeps-with : (k : ℕ) (s new : Part S) → slice_get a.parts k ≡ Some s → HasNoMore S s new → KeepsIdentifiers a.stream a.stream (register_of a.parts) (register_of (with_part k (drained new) a.parts))
-  keeps-with k s new there more = keeps_identifiers a.stream a.parts (with_part k (drained new) a.parts) (λ part t at. each part t at (decides part k))
+  keeps-with : (k : ℕ) (s new : Part S) → slice_get a.parts k ≡ Some s → HasNoMore S s new → KeepsIdentifiers a.stream a.stream (register_of a.parts) (register_of (slice_set a.parts k (drained new)))
+  keeps-with k s new there more = keeps_identifiers a.stream a.parts (slice_set a.parts k (drained new)) (λ part t at. each part t at (decides part k))
     where
-      each : (part : ℕ) (t : Part S) → slice_get (with_part k (drained new) a.parts) part ≡ Some t → Dec (part ≡ k) → (x : Part S) × (slice_get a.parts part ≡ Some x) × HasNoMore S x t
+      each : (part : ℕ) (t : Part S) → slice_get (slice_set a.parts k (drained new)) part ≡ Some t → Dec (part ≡ k) → (x : Part S) × (slice_get a.parts part ≡ Some x) × HasNoMore S x t
       each part t at (yes is) =
-          let both : Some (drained new) ≡ Some t = sym (with_part-there k (drained new) s a.parts there) ∙ ap (slice_get (with_part k (drained new) a.parts)) (sym is) ∙ at in
+          let both : Some (drained new) ≡ Some t = sym (replaced-there k (drained new) s a.parts there) ∙ ap (slice_get (slice_set a.parts k (drained new))) (sym is) ∙ at in
           let one : drained new ≡ t = cc in
           (s, ap (slice_get a.parts) is ∙ there, λ n e. more n (ap (λ (x : Part S). is_registered x.predicates n) one ∙ e))
-      each part t at (no other) = (t, sym (with_part-other k part (drained new) a.parts other) ∙ at, λ n e. e)
+      each part t at (no other) = (t, sym (replaced-other k part (drained new) a.parts other) ∙ at, λ n e. e)
 
 -- ---- `peek`
 
@@ -121,14 +215,14 @@ look_up {S} a w now next hash key s new at there look = (does, record { kept = k
     same_notices None = refl
     same_notices (Some r) = refl
 
-    done : (held : List HeldValue) → Stands a.parts held → Done a.frame.config now (using key) held (Stands (with_part k (drained new) a.parts)) (AppendsNotes a.queue (a.queue ++ map note_from new.notices))
+    done : (held : List HeldValue) → Stands a.parts held → Done a.frame.config now (using key) held (Stands (slice_set a.parts k (drained new))) (AppendsNotes a.queue (a.queue ++ map note_from new.notices))
     done held stands =
         let order = part.front.ordered in
         let sound = maintained-sound now s look.mid maintained order.sound in
         let d = look_up_does now key hash s look.mid order sound part.front.apart (ran_from now s look.mid order part.front.apart (tells a w k s there) maintained) a.frame.config a.frame.part_of a.frame.made k a.parts held (knows a w now k s there held) stands (parts_are a w) part.taken refl in
-        subst (λ (x : Part S). Done a.frame.config now (using key) held (Stands (with_part k (drained x) a.parts)) (AppendsNotes a.queue (a.queue ++ map note_from x.notices))) (sym look.reads)
+        subst (λ (x : Part S). Done a.frame.config now (using key) held (Stands (slice_set a.parts k (drained x))) (AppendsNotes a.queue (a.queue ++ map note_from x.notices))) (sym look.reads)
         (handed a w now (using key) held _ (map note_from read.notices)
-        (subst (λ ns. Done a.frame.config now (using key) held (Stands (with_part k (drained read) a.parts)) (λ told. told ≡ map note_from ns)) (sym (same_notices (visible_record service_answers same s now key))) d))
+        (subst (λ ns. Done a.frame.config now (using key) held (Stands (slice_set a.parts k (drained read))) (λ told. told ≡ map note_from ns)) (sym (same_notices (visible_record service_answers same s now key))) d))
 
     ticket : DrawsTicket s new
     ticket =
@@ -141,9 +235,9 @@ look_up {S} a w now next hash key s new at there look = (does, record { kept = k
     does : Does now (using key) (view a) (view (changed a w now next k new))
     does = record {
       done = done;
-      frame = ap (λ b. record a.frame { dropped = b; latest = now }) (or-no a.frame.dropped);
+      frame = ap (λ b. record a.frame { dropped = b; latest = now }) (sym (or-false a.frame.dropped));
       used = λ n keys plain recent.
-          subst (λ (x : Part S). IsRecentOver a.frame.config (with_part k (drained x) a.parts) false (used_first key keys)) (sym look.reads) (look_ups a.frame a.step a.parts k s look.mid key hash now w.kept there maintained n keys plain recent);
+          subst (λ (x : Part S). IsRecentOver a.frame.config (slice_set a.parts k (drained x)) false (used_first key keys)) (sym look.reads) (look_ups a.frame a.step a.parts k s look.mid key hash now w.kept there maintained n keys plain recent);
       drawn = keeps-with a w k s new there (looked-no_more key hash now s new look);
       spent = spent-with a w now next k s new at there ticket;
     }
@@ -200,7 +294,7 @@ accept {S} a w now next hash key bytes ms looked_up s new at fits few there call
     maintained : Maintained now t new
     maintained = maintained_from now t new (call.takes on)
 
-    done : (held : List HeldValue) → Stands a.parts held → Done a.frame.config now deed held (Stands (with_part k (drained new) a.parts)) (AppendsNotes a.queue (a.queue ++ map note_from new.notices))
+    done : (held : List HeldValue) → Stands a.parts held → Done a.frame.config now deed held (Stands (slice_set a.parts k (drained new))) (AppendsNotes a.queue (a.queue ++ map note_from new.notices))
     done held stands =
         let known = knows a w now k s there held in
         let front = part.front in
@@ -215,7 +309,7 @@ accept {S} a w now next hash key bytes ms looked_up s new at fits few there call
     does : Does now deed (view a) (view (changed a w now next k new))
     does = record {
       done = done;
-      frame = ap (λ b. record a.frame { dropped = b; latest = now }) (or-no a.frame.dropped);
+      frame = ap (λ b. record a.frame { dropped = b; latest = now }) (sym (or-false a.frame.dropped));
       used = accepts a.frame a.step next a.parts k s new key (stored bytes ms) hash now w.kept there at.rises (own-ms a.frame.config.own_deadlines ms fits.own) maintained;
       drawn = keeps-with a w k s new there (inserted-no_more key hash now next (stored bytes ms) s new call);
       spent = spent-with a w now next k s new at there ticket;
@@ -244,10 +338,10 @@ remove {S} a w now next key s new at there call = (does, record { kept = keeps-r
     maintained None is = idle is
     maintained (Some r) m = maintained_some r m
 
-    done : (held : List HeldValue) → Stands a.parts held → Done a.frame.config now (deleting key) held (Stands (with_part k (drained new) a.parts)) (AppendsNotes a.queue (a.queue ++ map note_from new.notices))
+    done : (held : List HeldValue) → Stands a.parts held → Done a.frame.config now (deleting key) held (Stands (slice_set a.parts k (drained new))) (AppendsNotes a.queue (a.queue ++ map note_from new.notices))
     done held stands = handed a w now (deleting key) held _ (map note_from new.notices) (go (held_at same s.records key) refl call)
       where
-        go : (o : Option Rec) → held_at same s.records key ≡ o → Ends o → Done a.frame.config now (deleting key) held (Stands (with_part k (drained new) a.parts)) (λ notes. notes ≡ map note_from new.notices)
+        go : (o : Option Rec) → held_at same s.records key ≡ o → Ends o → Done a.frame.config now (deleting key) held (Stands (slice_set a.parts k (drained new))) (λ notes. notes ≡ map note_from new.notices)
         go None e is = miss_does a.frame.config a.frame.part_of a.frame.made now k s new a.parts held (knows a w now k s there held) stands (parts_are a w) (tells a w k s there) part.taken part.front.apart key refl e (idle is)
         go (Some r) e m = remove_does a.frame.config a.frame.part_of a.frame.made now k s a.parts held (knows a w now k s there held) stands (parts_are a w) (tells a w k s there) part.taken key r e (removed key now s r) (took_out key now s r part.front.ordered part.front.apart (tells a w k s there) part.front.sent e) new (maintained_some r m)
 
@@ -262,7 +356,7 @@ remove {S} a w now next key s new at there call = (does, record { kept = keeps-r
     does : Does now (deleting key) (view a) (view (changed a w now next k new))
     does = record {
       done = done;
-      frame = ap (λ b. record a.frame { dropped = b; latest = now }) (or-no a.frame.dropped);
+      frame = ap (λ b. record a.frame { dropped = b; latest = now }) (sym (or-false a.frame.dropped));
       used = removes a.frame a.step a.parts k s new key now w.kept there (maintained (held_at same s.records key) call);
       drawn = keeps-with a w k s new there (removed-no_more key now s new call);
       spent = spent-with a w now next k s new at there (ticket (held_at same s.records key) call);

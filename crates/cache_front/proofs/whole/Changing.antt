@@ -1,5 +1,5 @@
 -- The parts where a call changed one of them, or all: what was told is taken from them, and which ticket comes.
-use Rattle.std.proofs.Common.{◌≡◌, refl, ap, ◌∙◌, sym, subst, ℕ, zero, suc, ◌+◌, ◌≤◌, max, arith, List, [], ◌∷◌, ◌++◌, map, length, append-nil, Option, Some, None, slice_get, slice_set, ◌-◌}
+use Rattle.std.proofs.Common.{◌≡◌, refl, ap, ◌∙◌, sym, subst, ℕ, zero, suc, ◌+◌, ◌≤◌, max, arith, List, [], ◌∷◌, ◌++◌, map, length, append-nil, Option, Some, None, slice_get, slice_set}
 use Rattle.std.specs.List.{sum_by}
 use Rattle.std.proofs.lemmas.List.Sums.{sum_by-cons}
 use Rattle.std.proofs.lemmas.Option.{none-some}
@@ -8,10 +8,10 @@ use Rattle.engine_reference.specs.Calls.{removal_told, sent, with_read, with_rem
 use Rattle.engine_reference.specs.Runs.{RunsToEnd}
 use Rattle.engine_reference.proofs.RestKept.{run-rest}
 use Rattle.front_reference.specs.Parts.{taken_out}
-use Rattle.cache_front.specs.Parts.{Part, Stored, note_from, put, service_answers, with_part, drained}
+use Rattle.cache_front.specs.Parts.{Part, Stored, note_from, put, service_answers, drained}
 use Rattle.cache_front.proofs.parts.Removing.{removed}
-use Rattle.cache_front.proofs.parts.Running.{Maintained, idle, ran}
-use Rattle.cache_front.proofs.parts.Items.{with_part-other, with_part-there}
+use Rattle.cache_front.proofs.parts.Joining.{Maintained, idle, ran}
+use Rattle.cache_front.proofs.parts.Items.{replaced-other, replaced-there}
 use Rattle.cache_front.proofs.parts.Syncing.{AllRan, none, next}
 use Rattle.cache_front.proofs.parts.Writing.{Rec}
 use Rattle.cache_front.specs.View.{AreUnreserved, all_drained, greatest_ticket, waiting}
@@ -38,7 +38,7 @@ module _ {S : Type 0} where
   waiting-none (x ∷ parts) taken = ap (λ ns. map note_from ns ++ waiting parts) (taken 0 x refl) ∙ waiting-none parts (taken-rest x parts taken)
 
   -- one part changed
-  pub all_drained-set : (parts : List (Part S)) (k : ℕ) (t : Part S) → AreTaken parts → all_drained (slice_set parts k t) ≡ with_part k (drained t) parts
+  pub all_drained-set : (parts : List (Part S)) (k : ℕ) (t : Part S) → AreTaken parts → all_drained (slice_set parts k t) ≡ slice_set parts k (drained t)
   all_drained-set [] k t taken = refl
   all_drained-set (x ∷ parts) zero t taken = ap (λ ys. drained t ∷ ys) (all_drained-none parts (taken-rest x parts taken))
   all_drained-set (x ∷ parts) (suc k) t taken = ap (λ y. y ∷ all_drained (slice_set parts k t)) (drained-none x (taken 0 x refl)) ∙ ap (λ ys. x ∷ ys) (all_drained-set parts k t (taken-rest x parts taken))
@@ -101,7 +101,7 @@ module _ {S : Type 0} where
   read-ticket None hash now s = refl
   read-ticket (Some r) hash now s = refl
 
-  pub greatest-with : (k : ℕ) (s new : Part S) (parts : List (Part S)) → slice_get parts k ≡ Some s → DrawsTicket s new → greatest_ticket (with_part k (drained new) parts) ≤ greatest_ticket parts + 1
+  pub greatest-with : (k : ℕ) (s new : Part S) (parts : List (Part S)) → slice_get parts k ≡ Some s → DrawsTicket s new → greatest_ticket (slice_set parts k (drained new)) ≤ greatest_ticket parts + 1
   greatest-with k s new [] there f = absurd (none-some s there)
   greatest-with zero s new (x ∷ parts) there f = let is : x ≡ s = cc in let e = ap (λ (y : Part S). y.next_ticket) is in omega (arith, e, f)
   greatest-with (suc k) s new (x ∷ parts) there f = let l = greatest-with k s new parts there f in omega (arith, l)
@@ -144,8 +144,8 @@ module _ {S : Type 0} where
   read-room None hash now s = refl
   read-room (Some r) hash now s = refl
 
-  pub unreserved-with : (k : ℕ) (s new : Part S) (parts : List (Part S)) → slice_get parts k ≡ Some s → AreUnreserved parts → new.reserved ≡ s.reserved → AreUnreserved (with_part k (drained new) parts)
-  unreserved-with k s new parts there free keeps j x at = grind (arith, with_part-there k (drained new) s parts there, with_part-other k j (drained new) parts)
+  pub unreserved-with : (k : ℕ) (s new : Part S) (parts : List (Part S)) → slice_get parts k ≡ Some s → AreUnreserved parts → new.reserved ≡ s.reserved → AreUnreserved (slice_set parts k (drained new))
+  unreserved-with k s new parts there free keeps j x at = grind (arith, replaced-there k (drained new) s parts there, replaced-other k j (drained new) parts)
 
   -- ---- the front's removal is that of the laws
 

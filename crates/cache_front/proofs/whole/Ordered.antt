@@ -1,5 +1,5 @@
 -- The clauses of a store on recency, from those of its part.
-use Rattle.std.proofs.Common.{◌≡◌, refl, ap, sym, ◌∙◌, subst, ℕ, zero, suc, ◌+◌, ◌-◌, ◌≤◌, arith, Bool, true, false, true≢false, List, [], ◌∷◌, ◌++◌, Option, Some, None, is_none, map, length, take, inl, inr, ◌⊎◌, slice_get, IsTrue, append-nil, IsPermutation, IsSome}
+use Rattle.std.proofs.Common.{◌≡◌, refl, ap, sym, ◌∙◌, subst, ℕ, zero, suc, ◌≤◌, arith, Bool, true, false, true≢false, List, [], ◌∷◌, ◌++◌, Option, Some, None, is_none, map, length, take, inl, inr, ◌⊎◌, slice_get, IsTrue, append-nil, IsPermutation, IsSome, slice_set}
 use Rattle.std.proofs.lemmas.Option.{none-some}
 use Rattle.std.proofs.lemmas.List.Sorted.{IsPermutation-map, IsPermutation-trans, IsPermutation-refl}
 use Rattle.audit_model.specs.Bytewise.{same}
@@ -18,16 +18,15 @@ use Rattle.engine_reference.specs.Runs.{Runs}
 use Rattle.engine_reference.specs.Visible.{visible_record}
 use Rattle.engine_reference.proofs.Accounts.{each-map}
 use Rattle.cache_store.specs.Held.{plain}
-use Rattle.cache_store.proofs.Corresponding.{permutation}
-use Rattle.cache_front.specs.Parts.{Part, Stands, Stored, IsProper, service_answers, items_of, items_in, held_of, with_part, put, taken_out, drained}
+use Rattle.cache_store.proofs.Held.{permutation}
+use Rattle.cache_front.specs.Parts.{Part, Stands, Stored, IsProper, service_answers, items_of, items_in, held_of, put, taken_out, drained}
 use Rattle.cache_front.specs.Recent.{IsLasting, IsPlain, IsRecent, IsFresh, IsRecentOver, MovesRecency}
 use Rattle.cache_front.proofs.parts.Items.{apart-of}
 use Rattle.cache_front.proofs.parts.Moving.{run-front}
 use Rattle.cache_front.proofs.parts.Recency.{steady, run_keeps, cut_run_keeps, look-recent, put_moves, removal_moves, taking_keeps, new_is, held-steady}
-use Rattle.cache_front.proofs.parts.Running.{Maintained, idle, ran}
+use Rattle.cache_front.proofs.parts.Joining.{Maintained, idle, ran}
 use Rattle.cache_front.proofs.parts.Syncing.{AllRan, none, next}
-use Rattle.cache_front.proofs.parts.Telling.{Kept}
-use Rattle.cache_front.proofs.parts.Writing.{Rec}
+use Rattle.cache_front.proofs.parts.Writing.{Kept, Rec}
 use Rattle.cache_front.specs.Keeping.{AreKeptParts, IsKeptPart}
 use Rattle.cache_front.proofs.kept.Storing.{enough-parted}
 
@@ -64,7 +63,7 @@ module _ {S : Type 0} where
   -- ---- there is one part
 
   -- the part that changed is all of them
-  only : (part k : ℕ) (parts : List (Part S)) (s x y : Part S) → length parts ≡ 1 → slice_get parts part ≡ Some s → slice_get (with_part part x parts) k ≡ Some y → y ≡ x
+  only : (part k : ℕ) (parts : List (Part S)) (s x y : Part S) → length parts ≡ 1 → slice_get parts part ≡ Some s → slice_get (slice_set parts part x) k ≡ Some y → y ≡ x
   only part k [] s x y one there at = absurd (none-some s there)
   only zero zero (p ∷ []) s x y one there at = cc
   only zero (suc k) (p ∷ []) s x y one there at = absurd (none-some y at)
@@ -73,7 +72,7 @@ module _ {S : Type 0} where
 
   -- a call of that part: its notices are taken
   moves : (config : Config) (parts : List (Part S)) (part : ℕ) (s x : Part S) (moved : List (List ℕ) → List (List ℕ)) → length parts ≡ part_count config → slice_get parts part ≡ Some s
-      → ((n : ℕ) (keys : List (List ℕ)) → IsPlainLru config n → IsRecent n s true keys → IsRecent n x false (moved keys)) → MovesRecency config parts (with_part part (drained x) parts) moved
+      → ((n : ℕ) (keys : List (List ℕ)) → IsPlainLru config n → IsRecent n s true keys → IsRecent n x false (moved keys)) → MovesRecency config parts (slice_set parts part (drained x)) moved
   moves config parts part s x moved number there call n keys p r = record {
     held = λ e. absurd (true≢false (sym e));
     recent = λ m k y q at. subst (λ z. IsRecent m z false (moved keys)) (sym (only part k parts s (drained x) y (number ∙ q.parts) there at)) (taking_keeps m x false (moved keys) (call m keys q (r.recent m part s q there)));
@@ -92,13 +91,13 @@ module _ {S : Type 0} where
   -- ---- the clauses
 
   -- `look_up`
-  pub look_ups : (frame : Frame) (step : ℕ) (parts : List (Part S)) (part : ℕ) (s mid : Part S) (key : List ℕ) (hash now : ℕ) → AreKeptParts frame step parts → slice_get parts part ≡ Some s → Maintained now s mid → MovesRecency frame.config parts (with_part part (drained (with_read service_answers (visible_record service_answers same s now key) hash now mid)) parts) (used_first key)
+  pub look_ups : (frame : Frame) (step : ℕ) (parts : List (Part S)) (part : ℕ) (s mid : Part S) (key : List ℕ) (hash now : ℕ) → AreKeptParts frame step parts → slice_get parts part ≡ Some s → Maintained now s mid → MovesRecency frame.config parts (slice_set parts part (drained (with_read service_answers (visible_record service_answers same s now key) hash now mid))) (used_first key)
   look_ups frame step parts part s mid key hash now kept there maintained =
       moves frame.config parts part s (with_read service_answers (visible_record service_answers same s now key) hash now mid) (used_first key) kept.number there
       (λ n keys p r. look-recent n now hash s mid key keys (plain_kept frame n part step s p (kept.each part s there)) r (may_run now s mid maintained))
 
   -- `accept`
-  pub accepts : (frame : Frame) (step next : ℕ) (parts : List (Part S)) (part : ℕ) (s new : Part S) (key : List ℕ) (value : Stored) (hash now : ℕ) → AreKeptParts frame step parts → slice_get parts part ≡ Some s → step ≤ next → (IsSome value.milliseconds → IsTrue frame.config.own_deadlines) → Maintained now (put key hash value now next s) new → MovesRecency frame.config parts (with_part part (drained new) parts) (put_first key)
+  pub accepts : (frame : Frame) (step next : ℕ) (parts : List (Part S)) (part : ℕ) (s new : Part S) (key : List ℕ) (value : Stored) (hash now : ℕ) → AreKeptParts frame step parts → slice_get parts part ≡ Some s → step ≤ next → (IsSome value.milliseconds → IsTrue frame.config.own_deadlines) → Maintained now (put key hash value now next s) new → MovesRecency frame.config parts (slice_set parts part (drained new)) (put_first key)
   accepts frame step next_step parts part s new key value hash now kept there later timed maintained =
       moves frame.config parts part s new (put_first key) kept.number there
       (λ n keys p r.
@@ -108,7 +107,7 @@ module _ {S : Type 0} where
       after-run n now t new (put_first key keys) m.0 m.1 (may_run now t new maintained))
 
   -- `remove`
-  pub removes : (frame : Frame) (step : ℕ) (parts : List (Part S)) (part : ℕ) (s new : Part S) (key : List ℕ) (now : ℕ) → AreKeptParts frame step parts → slice_get parts part ≡ Some s → Maintained now (taken_out key now s) new → MovesRecency frame.config parts (with_part part (drained new) parts) (keys_without key)
+  pub removes : (frame : Frame) (step : ℕ) (parts : List (Part S)) (part : ℕ) (s new : Part S) (key : List ℕ) (now : ℕ) → AreKeptParts frame step parts → slice_get parts part ≡ Some s → Maintained now (taken_out key now s) new → MovesRecency frame.config parts (slice_set parts part (drained new)) (keys_without key)
   removes frame step parts part s new key now kept there maintained =
       moves frame.config parts part s new (keys_without key) kept.number there
       (λ n keys p r.

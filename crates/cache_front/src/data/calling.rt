@@ -7,7 +7,7 @@ ghost use Rattle.front_state.specs.Showing.{IsShown};
 ghost use Rattle.front_reference.specs.Fronts.{CallsAll, part_of};
 ghost use Rattle.front_reference.specs.Wholes.{DrawsInVain};
 ghost use Rattle.cache_front.specs.View.{stored};
-ghost use Rattle.cache_front.specs.Data.{hash_with, CoversBy, InsertsBy, IsAnswerTo, LackTickets, TakesOutBy};
+ghost use Rattle.cache_front.specs.Data.{hash_with, CoversBy, InsertsBy, LackTickets, TakesOutBy};
 
 use crate::data::{Front, Notes};
 use crate::entries::StoredValue;
@@ -50,10 +50,7 @@ pub fn bytes_found(found: Option<&StoredValue>) -> Option<&[u8]>
     ensures { option_map (λ bytes. bytes.now) result
         ≡ option_map (λ value. value.bytes) (option_map (λ value. value.now) found.entry) }
 {
-    match found {
-        Some(value) => Some(value.as_bytes()),
-        None => None,
-    }
+    Some(found?.as_bytes())
 }
 
 /// Hands them to `read`, with what is behind `output`.
@@ -96,6 +93,18 @@ fn kept_key<S: BuildHasher>(
     }
 }
 
+/// The moment, at the step of the last call.
+pub fn at_last_step<S: BuildHasher>(front: &Front<S>, now: u64) -> At
+    requires { now < 2 ^ 63 }
+    ensures { result ≡ record { now = now; step = front.now.step } }
+{
+    let At { step, .. } = front.last_call();
+    At {
+        now: Instant::from_nanos(now),
+        step,
+    }
+}
+
 /// Inserts a value, and returns its part.
 pub fn insert<S: BuildHasher>(
     alloc: Global,
@@ -113,13 +122,9 @@ pub fn insert<S: BuildHasher>(
     ensures used_up { IsErrOf result StoreError.UsedUp → LackTickets front.old.parts }
     ensures err { OnErr result (front.new ≡ front.old) }
 {
-    let At { step, .. } = front.last_call();
     let hash = front.hash(key);
     let part = front.part_with_hash(hash);
-    let at = At {
-        now: Instant::from_nanos(now),
-        step,
-    };
+    let at = at_last_step(front, now);
     let key = kept_key(alloc, front, key, hash)?;
     match front.insert_with_hash(key, hash, value, at) {
         Ok(()) => Ok(part),
@@ -142,27 +147,28 @@ pub fn invalidate<S: BuildHasher>(
     ensures used_up { IsErrOf result StoreError.UsedUp → LackTickets front.old.parts }
     ensures err { OnErr result (front.new ≡ front.old) }
 {
-    let At { step, .. } = front.last_call();
     let hash = front.hash(key);
     let part = front.part_with_hash(hash);
-    let at = At {
-        now: Instant::from_nanos(now),
-        step,
-    };
+    let at = at_last_step(front, now);
     match front.invalidate_with_hash(key, hash, at) {
         Ok(()) => Ok(part),
         Err(error) => Err(refusal_of(error)),
     }
 }
 
-/// The next step, if there is one.
-fn next_step(step: u64) -> Result<u64, StoreError>
-    ensures next { IfOk result (λ next. next ≡ suc step) }
-    ensures used_up { IsErrOf result StoreError.UsedUp → 2 ^ 64 ≤ suc step }
-    ensures err { OnErr result (IsErrOf result StoreError.UsedUp) }
+/// The moment, at the step after that of the last call, if there is one.
+fn at_next_step<S: BuildHasher>(front: &Front<S>, now: u64) -> Result<At, StoreError>
+    requires { now < 2 ^ 63 }
+    ensures next { IfOk result (λ at. at ≡ record { now = now; step = suc front.now.step }) }
+    ensures used_up { OnErr result
+        (IsErrOf result StoreError.UsedUp × (2 ^ 64 ≤ suc front.now.step)) }
 {
+    let At { step, .. } = front.last_call();
     match step.checked_add(1) {
-        Some(next) => Ok(next),
+        Some(step) => Ok(At {
+            now: Instant::from_nanos(now),
+            step,
+        }),
         None => Err(StoreError::UsedUp),
     }
 }
@@ -177,12 +183,8 @@ pub fn clear<S: BuildHasher>(front: &mut Front<S>, now: u64) -> Result<(), Store
         (IsErrOf result StoreError.UsedUp × (2 ^ 64 ≤ suc front.old.step)) }
     ensures err { OnErr result (front.new ≡ front.old) }
 {
-    let At { step, .. } = front.last_call();
-    let step = next_step(step)?;
-    front.invalidate_all(At {
-        now: Instant::from_nanos(now),
-        step,
-    });
+    let at = at_next_step(front, now)?;
+    front.invalidate_all(at);
     Ok(())
 }
 
@@ -204,26 +206,14 @@ pub fn cover<S: BuildHasher, R: Rng>(
         ⊎ (2 ^ 64 ≤ suc front.old.step) }
     ensures err { OnErr result ((front.new ≡ front.old) × (generator.new ≡ generator.old)) }
 {
-    let At { step, .. } = front.last_call();
-    let step = next_step(step)?;
+    let at = at_next_step(front, now)?;
     let predicate = bytes_of(alloc, prefix)?;
-    let at = At {
-        now: Instant::from_nanos(now),
-        step,
-    };
     match front.invalidate_entries_if(predicate, generator, at) {
         Ok(()) => Ok(true),
-        Err(error) => lacks_or_refused(error),
-    }
-}
-
-/// What comes of a predicate that a front does not take: it lacks identifiers, or the store refuses too.
-fn lacks_or_refused(error: CacheError) -> Result<bool, StoreError>
-    ensures { IsAnswerTo error result }
-{
-    match error {
-        CacheError::IdsInUse => Ok(false),
-        _ => Err(refusal_of(error)),
+        Err(error) => match error {
+            CacheError::IdsInUse => Ok(false),
+            _ => Err(refusal_of(error)),
+        },
     }
 }
 

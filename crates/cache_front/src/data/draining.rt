@@ -15,36 +15,40 @@ use std::hash::BuildHasher;
 use std::marker::Model;
 use std::sync::Arc;
 
-/// Takes what the parts of a front told, and puts it as notes behind those that wait, for which there is room. Answers how many it were.
-pub fn drain<S: BuildHasher>(front: &mut Front<S>, notes: &mut Notes) -> usize
-    requires { length notes.old.items + length (waiting front.old.parts)
+/// Takes what the parts of a front told, and puts it as notes behind those that wait, for which there is room. So many fewer are held.
+pub fn drain<S: BuildHasher>(front: &mut Front<S>, notes: &mut Notes, count: &mut usize)
+    requires room { length notes.old.items + length (waiting front.old.parts)
         ≤ deque_capacity notes.old }
+    requires held { length (waiting front.old.parts) ≤ count.old }
     ensures drained { front.new ≡ record front.old { parts = all_drained front.old.parts } }
     ensures queued { notes.new.items ≡ notes.old.items ++ waiting front.old.parts }
     ensures room { deque_capacity notes.new ≡ deque_capacity notes.old }
-    ensures number { result ≡ length (waiting front.old.parts) }
+    ensures number { count.new + length (waiting front.old.parts) ≡ count.old }
 {
-    let had = notes.len();
     for place in 0..front.num_cht_segments() {
-        drain_at(front, place, notes);
+        drain_at(front, place, notes, count);
     }
-    notes.len() - had
 }
 
-/// Takes what the part at a place told, and puts it there too. Answers how many it were.
-pub fn drain_at<S: BuildHasher>(front: &mut Front<S>, place: usize, notes: &mut Notes) -> usize
-    requires { length notes.old.items + length (waiting_at place front.old.parts)
+/// Takes what the part at a place told, and puts it there too. So many fewer are held.
+pub fn drain_at<S: BuildHasher>(
+    front: &mut Front<S>,
+    place: usize,
+    notes: &mut Notes,
+    count: &mut usize,
+)
+    requires room { length notes.old.items + length (waiting_at place front.old.parts)
         ≤ deque_capacity notes.old }
+    requires held { length (waiting_at place front.old.parts) ≤ count.old }
     ensures drained { front.new ≡ record front.old { parts = drained_at place front.old.parts } }
     ensures queued { notes.new.items ≡ notes.old.items ++ waiting_at place front.old.parts }
     ensures room { deque_capacity notes.new ≡ deque_capacity notes.old }
-    ensures number { result ≡ length (waiting_at place front.old.parts) }
+    ensures number { count.new + length (waiting_at place front.old.parts) ≡ count.old }
 {
-    let before = notes.len();
     while let Some(notice) = front.next_notice_of_part(place) {
         notes.push_back(note_of(notice)).unwrap();
+        *count -= 1;
     }
-    notes.len() - before
 }
 
 /// A note that waits, which shares its key with the cache. It takes 24 bytes less than a `Note`, and a place is kept for each value held.

@@ -33,8 +33,7 @@ pub fn write_keys<S: BuildHasher>(
     let held = held_keys(alloc, front)?;
     let keys = sorted_keys(alloc, front, held.as_slice(), Instant::from_nanos(now))?;
     let lines = lines_of(alloc, &keys)?;
-    output.extend_from_slice(&lines)?;
-    Ok(())
+    output.extend_from_slice(&lines)
 }
 
 /// The keys of all parts.
@@ -60,11 +59,10 @@ fn add_held<S: BuildHasher>(
     ensures { OnOk result
         (keys.new.items ≡ keys.old.items ++ keys_of (slice_get front.now.parts place)) }
 {
-    let Some(mut held) = front.keys(place)? else {
-        return Ok(());
-    };
-    keys.append(&mut held)?;
-    Ok(())
+    match front.keys(place)? {
+        Some(mut held) => keys.append(&mut held),
+        None => Ok(()),
+    }
 }
 
 /// Those of some keys that have a visible value, in byte order.

@@ -46,10 +46,7 @@ fn as_nanos(milliseconds: Option<u64>) -> Option<u64>
     requires { (ms : ℕ) → milliseconds ≡ Some ms → ms ≤ 999999999999 }
     ensures { result ≡ option_map nanos milliseconds }
 {
-    match milliseconds {
-        Some(milliseconds) => Some(milliseconds * 1_000_000),
-        None => None,
-    }
+    Some(milliseconds? * 1_000_000)
 }
 
 /// The policy, as the engine names it.

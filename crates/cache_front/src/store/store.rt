@@ -1,17 +1,16 @@
 //! The store over a front.
-ghost use Rattle.std.specs.Prelude.{◌≡◌, ◌<◌, ◌^◌, ◌||◌, IfOk};
+ghost use Rattle.std.specs.Prelude.{◌≡◌, ◌<◌, ◌^◌, IfOk};
 ghost use Rattle.cache_front.specs.Parts.{IsBrief};
 ghost use Rattle.cache_front.specs.Data.{shown_by, word_of};
 ghost use Rattle.cache_front.specs.Making.{IsJustMade};
 
 use crate::data::{
-    LentState, Notes, Segmented, bits_of, bytes_found, clear, cover, drain, drain_at, insert,
-    invalidate, prepare, read_bytes, settings_of, write_keys,
+    LentState, Notes, Segmented, at_last_step, bits_of, bytes_found, clear, cover, drain, drain_at,
+    insert, invalidate, prepare, read_bytes, settings_of, write_keys,
 };
 use crate::entries::{StoredValue, WordBuilder};
 use audit_model::{Config, Key, Note, Weight};
 use cache_store::{Counts, Store, StoreError};
-use front_reference::At;
 use policy_base::Instant;
 use rand_core::Rng;
 use std::alloc::{AllocError, Global};
@@ -138,8 +137,7 @@ impl<R: Rng + Drop, S: BuildHasher + Drop> Store for FrontStore<R, S> {
                 read_bytes(found, output, read)
             }) {
             Ok(answer) => {
-                let told = drain_at(&mut self.front, part, &mut self.notes);
-                self.count -= told;
+                drain_at(&mut self.front, part, &mut self.notes, &mut self.count);
                 Ok(answer)
             }
             Err(error) => Err(error),
@@ -156,15 +154,14 @@ impl<R: Rng + Drop, S: BuildHasher + Drop> Store for FrontStore<R, S> {
     ) -> Result<u64, StoreError> {
         let value = prepare(self.alloc, &mut self.notes, self.count, bytes, milliseconds)?;
         let part = insert(self.alloc, &mut self.front, key, value, now)?;
-        let told = drain_at(&mut self.front, part, &mut self.notes);
-        self.count = self.count + 1 - told;
+        self.count += 1;
+        drain_at(&mut self.front, part, &mut self.notes, &mut self.count);
         Ok(part as u64)
     }
 
     fn remove(&mut self, key: &Key, now: u64) -> Result<(), StoreError> {
         let part = invalidate(&mut self.front, key, now)?;
-        let told = drain_at(&mut self.front, part, &mut self.notes);
-        self.count -= told;
+        drain_at(&mut self.front, part, &mut self.notes, &mut self.count);
         Ok(())
     }
 
@@ -180,35 +177,22 @@ impl<R: Rng + Drop, S: BuildHasher + Drop> Store for FrontStore<R, S> {
             prefix,
             now,
         )?;
-        self.dropped = is_either(self.dropped, covers);
+        self.dropped |= covers;
         Ok(covers)
     }
 
     fn run_all(&mut self, now: u64) -> Counts {
-        let At { step, .. } = self.front.last_call();
-        self.front.run_pending_tasks(At {
-            now: Instant::from_nanos(now),
-            step,
-        });
+        let at = at_last_step(&self.front, now);
+        self.front.run_pending_tasks(at);
         let counts = Counts {
             number: self.front.entry_count(),
             weight: self.front.weighted_size(),
         };
-        let told = drain(&mut self.front, &mut self.notes);
-        self.count -= told;
+        drain(&mut self.front, &mut self.notes, &mut self.count);
         counts
     }
 
     fn next_notice(&mut self) -> Option<Note> {
-        match self.notes.pop_front() {
-            Some(note) => Some(note.into_note()),
-            None => None,
-        }
+        Some(self.notes.pop_front()?.into_note())
     }
-}
-
-fn is_either(one: bool, other: bool) -> bool
-    ensures { result ≡ (one || other) }
-{
-    one || other
 }

@@ -9,6 +9,7 @@ use crate::tape::spare::{Spare, new_spares};
 use crate::tape::tape::Tape;
 use audit_lines::MAX_LINE;
 use audit_model::{Accepted, Event, Instant, Note, Record, Seq, Step, Transcript};
+use cache_commands::push_within;
 use std::alloc::{AllocError, Global};
 use std::marker::Model;
 use std::mem;
@@ -82,8 +83,7 @@ impl Kept {
         requires rests { self.begun ≡ false }
         ensures { result ≡ self.journal }
     {
-        let Kept { journal, .. } = self;
-        journal
+        self.journal
     }
 }
 
@@ -113,38 +113,50 @@ impl Tape for Kept {
     }
 
     fn end(&mut self, conn: u64, accepted: Option<Accepted>, text: &mut Vec<u8>, notes: Vec<Note>) {
-        let Some(line) = mem::replace(&mut self.draft, None) else {
-            unreachable!();
-        };
+        let line = self.draft.take().unwrap();
         let reply = mem::replace(text, Vec::new(self.alloc));
-        push_within(&mut self.steps, saying(conn, line, reply, accepted, notes));
+        let step = Step {
+            reply: Some(Seq::from_vec(reply)),
+            accepted,
+            notices: Seq::from_vec(notes),
+            ..silent(self.alloc, conn, line)
+        };
+        push_within(&mut self.steps, step);
     }
 
     fn wait(&mut self, conn: u64, load: Option<u64>) {
-        let Some(line) = mem::replace(&mut self.draft, None) else {
-            unreachable!();
+        let line = self.draft.take().unwrap();
+        let step = Step {
+            load,
+            ..silent(self.alloc, conn, line)
         };
-        push_within(&mut self.steps, silent(self.alloc, conn, line, load));
+        push_within(&mut self.steps, step);
     }
 
     fn hold(&mut self, conn: u64, line: &[u8]) {
         self.draft = None;
-        let copy = copy_within(&mut self.spares, line);
-        push_within(&mut self.steps, holding(self.alloc, conn, copy));
+        let line = copy_within(&mut self.spares, line);
+        let step = Step {
+            held: true,
+            ..silent(self.alloc, conn, line)
+        };
+        push_within(&mut self.steps, step);
     }
 
     fn say(&mut self, conn: u64, line: &[u8], text: &mut Vec<u8>) {
         self.draft = None;
-        let copy = copy_within(&mut self.spares, line);
+        let line = copy_within(&mut self.spares, line);
         let reply = mem::replace(text, Vec::new(self.alloc));
-        let notes = Vec::new(self.alloc);
-        push_within(&mut self.steps, saying(conn, copy, reply, None, notes));
+        let step = Step {
+            reply: Some(Seq::from_vec(reply)),
+            ..silent(self.alloc, conn, line)
+        };
+        push_within(&mut self.steps, step);
     }
 
     fn abandon(&mut self) {
-        match mem::replace(&mut self.apart, None) {
-            Some(records) => self.journal.records = Seq::from_vec(records),
-            None => {}
+        if let Some(records) = self.apart.take() {
+            self.journal.records = Seq::from_vec(records);
         }
         self.draft = None;
         self.steps = Vec::new(self.alloc);
@@ -155,18 +167,14 @@ impl Tape for Kept {
         let steps = mem::replace(&mut self.steps, Vec::new(self.alloc));
         self.draft = None;
         self.spares = Vec::new(self.alloc);
-        let Some(mut records) = mem::replace(&mut self.apart, None) else {
-            unreachable!();
+        let mut records = self.apart.take().unwrap();
+        let record = Record {
+            event,
+            own,
+            notices,
+            steps: Seq::from_vec(steps),
         };
-        push_within(
-            &mut records,
-            Record {
-                event,
-                own,
-                notices,
-                steps: Seq::from_vec(steps),
-            },
-        );
+        push_within(&mut records, record);
         self.journal.records = Seq::from_vec(records);
     }
 }
@@ -188,50 +196,14 @@ fn take_records(alloc: Global, journal: &mut Transcript) -> Result<Vec<Record>, 
     }
 }
 
-/// A step with a reply.
-fn saying(
-    conn: u64,
-    line: Vec<u8>,
-    reply: Vec<u8>,
-    accepted: Option<Accepted>,
-    notes: Vec<Note>,
-) -> Step
-    ensures { result ≡ step_saying conn line.items reply.items accepted notes.items }
+/// A step without a reply.
+fn silent(alloc: Global, conn: u64, line: Vec<u8>) -> Step
+    ensures { result ≡ step_silent conn line.items None None [] }
 {
     Step {
         conn,
         line: Seq::from_vec(line),
         held: false,
-        reply: Some(Seq::from_vec(reply)),
-        load: None,
-        accepted,
-        notices: Seq::from_vec(notes),
-    }
-}
-
-/// The step of a `LOAD` that begins to wait.
-fn silent(alloc: Global, conn: u64, line: Vec<u8>, load: Option<u64>) -> Step
-    ensures { result ≡ step_silent conn line.items load None [] }
-{
-    Step {
-        conn,
-        line: Seq::from_vec(line),
-        held: false,
-        reply: None,
-        load,
-        accepted: None,
-        notices: Seq::new(alloc),
-    }
-}
-
-/// The step that holds a line back.
-fn holding(alloc: Global, conn: u64, line: Vec<u8>) -> Step
-    ensures { result ≡ step_held conn line.items }
-{
-    Step {
-        conn,
-        line: Seq::from_vec(line),
-        held: true,
         reply: None,
         load: None,
         accepted: None,
@@ -246,21 +218,7 @@ fn copy_within(spares: &mut Vec<Spare>, line: &[u8]) -> Vec<u8>
     ensures copy { result.items ≡ line.now }
     ensures len { vec_len spares.new + 1 ≡ vec_len spares.old }
 {
-    let Some(Spare { mut bytes, .. }) = spares.pop() else {
-        unreachable!();
-    };
+    let Spare { mut bytes, .. } = spares.pop().unwrap();
     bytes.extend_from_slice(line).unwrap();
     bytes
-}
-
-/// Adds an element for which there is room.
-fn push_within<T: Drop>(elements: &mut Vec<T>, element: T)
-    requires { vec_len elements.old < vec_capacity elements.old }
-    ensures items { elements.new.items ≡ elements.old.items ++ element ∷ [] }
-    ensures len { vec_len elements.new ≡ vec_len elements.old + 1 }
-    ensures capacity { vec_capacity elements.old ≤ vec_capacity elements.new }
-{
-    let Ok(()) = elements.push(element) else {
-        unreachable!();
-    };
 }

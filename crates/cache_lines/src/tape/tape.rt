@@ -21,11 +21,12 @@ pub trait Tape: Drop {
     fn keeps(&self) -> bool
         ensures { result ≡ is_some (view self.now) };
 
-    /// Begins a record, with room to add this many lines to it without allocating (`hold`, `say`).
+    /// Begins a record, if any are kept, with room to add this many lines to it without allocating (`hold`, `say`).
     fn start(&mut self, spare: usize) -> Result<(), AllocError>
         requires { IsAtRest (view self.old) }
         ensures started { OnOk result (view self.new ≡ option_map (started spare) (view self.old)) }
-        ensures unchanged { OnErr result (self.new ≡ self.old) };
+        ensures unchanged { OnErr result (self.new ≡ self.old) }
+        ensures kept { OnErr result (is_some (view self.old) ≡ true) };
 
     /// Makes room for a step of this line, and returns room for its notes, as many as `most` if records are kept.
     fn begin(&mut self, line: &[u8], most: usize) -> Result<Vec<Note>, AllocError>

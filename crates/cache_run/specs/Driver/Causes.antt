@@ -1,6 +1,6 @@
--- Why a driver stops.
-use Rattle.std.specs.Prelude.{◌≤◌, ◌+◌, ◌^◌, ◌-◌, ℕ, List, length, min, Option, Result, Ok, Err}
-use Rattle.std.specs.Io.KnownBytes.{Consumes}
+-- Why a driver stops, and the result of a read.
+use Rattle.std.specs.Prelude.{◌≤◌, ◌+◌, ◌^◌, ◌-◌, ℕ, List, length, min, Option, Result, Ok, Err, ◌≡◌, ◌<◌, ◌⊎◌, ◌++◌, Bool, true, false, [], MatchResult}
+use Rattle.std.specs.Io.KnownBytes.{Consumes, IsAtEnd}
 use Rattle.audit_model.specs.declared.event.Outcome.{Outcome}
 use Rattle.cache_run.specs.Devices.Failures.{HasFailed}
 use Rattle.cache_run.specs.Devices.Sources.{Asking, Askings}
@@ -52,3 +52,22 @@ abbrev pub outcome_by : Result Progress RunError → Result (Unit {0}) RunError
 outcome_by (Ok More) = Err UsedUp
 outcome_by (Ok Over) = Ok tt
 outcome_by (Err e) = Err e
+
+-- The result of a read.
+
+module _ {R : Type 0} (remaining : R → Option (List ℕ)) (old new : List ℕ) (was is : Watched R) where
+  -- what was read was appended to what was there
+  pub record Reads : Type 0 where
+    pub piece : List ℕ
+    pub whole : new ≡ old ++ piece
+    pub bytes : Consumes (remaining (device was)) (remaining (device is)) piece
+    pub later : failures was ≤ failures is
+
+  -- there is a byte, or the reader failed; at the end there is none
+  abbrev pub GoesOn : Bool → Type 0
+  GoesOn true = Fails was is ⊎ (0 < length new)
+  GoesOn false = (new ≡ []) × IsAtEnd (remaining (device is))
+
+  -- an error comes from the reader
+  abbrev pub Fills : Result Bool RunError → Type 0
+  Fills result = Reads × MatchResult result GoesOn (λ e. (e ≡ Read) × Fails was is)

@@ -39,16 +39,11 @@ pub fn feed_piece<H: Host, O: Write, K: Clock>(
     let piece = &session.inbox.as_slice()[..count];
     let fed = host.feed(place, session.conn, piece, moment);
     session.inbox.skip(count);
-    let given = match fed {
-        Ok(Some(given)) => given,
-        Ok(None) => return Ok(Progress::Over),
-        Err(error) => return Err(error),
+    let Some(given) = fed? else {
+        return Ok(Progress::Over);
     };
     let held = given.held;
-    match hand_out(session, given, writer) {
-        Ok(()) => {}
-        Err(error) => return Err(error),
-    }
+    hand_out(session, given, writer)?;
     if held {
         return Err(RunError::OutOfMemory);
     }

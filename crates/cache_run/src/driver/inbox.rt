@@ -1,6 +1,6 @@
 //! What was read of a connection and not fed.
 ghost use Rattle.std.specs.Prelude.{◌≡◌, ◌==◌, ◌≤◌, [], drop, length, IfOk};
-ghost use Rattle.cache_run.specs.Driver.Reading.{Fills};
+ghost use Rattle.cache_run.specs.Driver.Causes.{Fills};
 
 use crate::devices::{RunError, Watched};
 use std::alloc::{AllocError, Global};
@@ -76,12 +76,8 @@ impl Inbox {
         self.to = 0;
         let count = match reader.read(&mut self.buffer) {
             Ok(count) => count,
-            Err(error) => {
-                if error.kind() == ErrorKind::Interrupted {
-                    return Ok(true);
-                }
-                return Err(RunError::Read);
-            }
+            Err(error) if error.kind() == ErrorKind::Interrupted => return Ok(true),
+            Err(_) => return Err(RunError::Read),
         };
         self.to = count;
         Ok(count != 0)

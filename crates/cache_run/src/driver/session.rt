@@ -43,11 +43,9 @@ impl Session {
 pub fn footing_of(closing: Option<Closing>, waits: bool) -> Footing
     ensures { result ≡ footing_by closing waits }
 {
-    if closing.is_some() {
-        return Footing::Closed;
+    match closing {
+        Some(_) => Footing::Closed,
+        None if waits => Footing::Waiting,
+        None => Footing::Ready,
     }
-    if waits {
-        return Footing::Waiting;
-    }
-    Footing::Ready
 }

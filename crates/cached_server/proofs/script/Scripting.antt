@@ -4,6 +4,7 @@ use Rattle.std.specs.Io.KnownBytes.{Appends, Consumes}
 use Rattle.std.specs.Prelude.{◌&&◌, ◌==◌, is_none, unwrap_or, Result, Ok, Err, IsOk, OnOk}
 use Rattle.std.specs.List.{flat_map, list_all, slice_get}
 use Rattle.std.specs.Option.{option_map_or}
+use Rattle.std.specs.Result.{result_and}
 use Rattle.std.proofs.lemmas.Bool.{eq-eqb, le-leb}
 use Rattle.std.proofs.lemmas.List.{append-nil}
 use Rattle.std.proofs.lemmas.Option.{none-some, same_Some}
@@ -13,18 +14,15 @@ use Rattle.audit_model.specs.Situation.{Connection, Situation, connection_in, em
 use Rattle.audit_model.specs.declared.command.Closing.{Closing}
 use Rattle.audit_model.specs.declared.command.Closing.TheVariants as by
 use Rattle.cache_run.specs.Devices.Sources.{Readings}
-use Rattle.cache_run.specs.Carried.{Carried, nothing_left, records_of}
+use Rattle.cache_run.specs.Worlds.{Carried, nothing_left, records_of, outside, world}
 use Rattle.cache_run.specs.Connected.{IsEnded}
 use Rattle.cache_run.specs.Happened.{Turn, moment_in, turn_notes, piece_in, replies_in}
 use Rattle.audit_model.specs.declared.event.Outcome.{Outcome}
 use Rattle.cache_run.specs.Runs.{EndsRun, ServesWhole}
-use Rattle.cache_run.specs.Worlds.{outside, world}
 use Rattle.cache_run.proofs.Happening.{IsSoundAt, listed-is}
 use Rattle.cache_spaces.proofs.Placing.{at-is}
-use Rattle.cache_spaces.specs.Bares.{BareSpace, bare_tape}
+use Rattle.cache_spaces.specs.Services.{BareSpace, bare_tape, AreNew, IsSound}
 use Rattle.cache_spaces.specs.Calls.{At}
-use Rattle.cache_spaces.specs.Services.{AreNew}
-use Rattle.cache_spaces.specs.Sound.{IsSound}
 use Rattle.cache_spaces.specs.Spaces.{StandsFor, closing_of, config_of, notices_of}
 use Rattle.cached_server.specs.Script.Notes.{notes_text, notices_at}
 use Rattle.cached_server.specs.Script.Scripts.{EndsScript, ServesScript, script_config, script_transcript}
@@ -42,6 +40,12 @@ all-still c d (turn ∷ turns) told =
 pub where-ok : {T E P : Type 0} (r : Result T E) → IsOk r → OnOk r P → P
 where-ok (Ok u) ok p = p
 where-ok (Err e) ok p = cc
+
+-- both went well
+pub both-ok : {E : Type 0} (r s both : Result (Unit {0}) E) (u : Unit {0}) → both ≡ result_and r s → both ≡ Ok u → IsOk r × IsOk s
+both-ok (Ok x) (Ok y) both u is ok = (refl, refl)
+both-ok (Ok x) (Err e) both u is ok = absurd (let no : Err e ≡ Ok u = sym is ∙ ok in cc)
+both-ok (Err e) s both u is ok = absurd (let no : Err e ≡ Ok u = sym is ∙ ok in cc)
 
 -- a connection of which it is known why it closed was opened
 opened-closed : (closings : List (Option Closing)) (why : Closing) → unwrap_or (slice_get closings 0) None ≡ Some why → nat_le 1 (length closings) ≡ true

@@ -39,9 +39,3 @@ told-all a b c notes left g h count x none out empty =
     let told : notes ≡ x.told = x.all ∙ ap (λ l. x.told ++ l) none ∙ append-nil x.told in
     let text : all.sent ≡ notes_text notes = sym (append-nil all.sent) ∙ ap (λ l. all.sent ++ l) (sym empty) ∙ all.whole ∙ append-nil (notes_text x.told) ∙ ap notes_text (sym told) in
     subst (Appends a c) text all.wrote
-
-pub told-many : (a b : Option (List ℕ)) (notes left : List Note) (g : List ℕ) (count : ℕ) → HasTold a notes b g left count → count ≤ length notes
-told-many a b notes left g count x =
-    let e = ap length x.all ∙ length-append x.told left in
-    let n = x.number in
-    omega arith

@@ -7,7 +7,7 @@ use Rattle.audit_model.specs.Notes.{note_text}
 use Rattle.cache_run.specs.Devices.Failures.{HasFailed}
 use Rattle.cache_run.specs.declared.devices.errors.RunError.{RunError}
 use Rattle.cache_run.specs.declared.devices.errors.RunError.TheVariants as error
-use Rattle.cache_spaces.specs.Bares.{BareSpace}
+use Rattle.cache_spaces.specs.Services.{BareSpace}
 use Rattle.cache_spaces.specs.Spaces.{notices_of}
 
 -- the lines of notes, in order

@@ -12,7 +12,7 @@ use Rattle.audit_model.specs.declared.config.Weight.TheVariants.{One}
 use Rattle.audit_model.specs.declared.transcript.Transcript.{Transcript}
 use Rattle.cache_run.specs.Devices.Watched.{device}
 use Rattle.cache_run.specs.declared.devices.watched.Watched.{Watched}
-use Rattle.cache_run.specs.Carried.{records_of}
+use Rattle.cache_run.specs.Worlds.{records_of}
 use Rattle.cache_run.specs.Happened.{Turn, moment_in, turn_notes, piece_in, replies_in}
 use Rattle.cached_server.specs.Script.Notes.{notes_text}
 

@@ -4,10 +4,9 @@ ghost use Rattle.cache_run.specs.Devices.Watched.{device, failures};
 ghost use Rattle.cached_server.specs.declared.script.faults.Fault.TheVariants as fault;
 ghost use Rattle.cached_server.specs.Script.Faults.{EndsTelling, Tells, fault_message, usage_text};
 
-use crate::script::words::WordsError;
 use cache_run::{RunError, Watched, send};
 use cached_config::ConfigError;
-use std::alloc::{AllocError, AllocFailed};
+use std::alloc::AllocError;
 use std::io::{ErrorKind, Write};
 
 /// Why the program ends with status 1.
@@ -31,14 +30,6 @@ impl From<AllocError> for Fault {
     ghost from_gives = { λ _ e. e ≡ fault.OutOfMemory };
 
     fn from(_e: AllocError) -> Fault {
-        Fault::OutOfMemory
-    }
-}
-
-impl<T: Drop> From<AllocFailed<T>> for Fault {
-    ghost from_gives = { λ _ e. e ≡ fault.OutOfMemory };
-
-    fn from(_e: AllocFailed<T>) -> Fault {
         Fault::OutOfMemory
     }
 }
@@ -80,30 +71,7 @@ pub fn fail<E: Write>(errors: &mut Watched<E>, fault: Fault) -> u8
     1
 }
 
-/// Writes how the program is called, and returns the status for wrong arguments.
-fn show_usage<E: Write>(errors: &mut Watched<E>) -> u8
-    ensures status { result ≡ 2 }
-    ensures told { Tells usage_text (E.contents (device errors.old))
-        (E.contents (device errors.new)) (failures errors.old) (failures errors.new) }
-{
-    let _ = send(USAGE, errors);
-    2
-}
-
-/// The program with wrong arguments: writes the text, and returns the status. If memory ran out, that is 1.
-pub fn fail_words<E: Write>(error: WordsError, errors: &mut Watched<E>) -> u8
-    ensures memory { error ≡ WordsError.OutOfMemory
-        → EndsTelling E.contents result 1 (fault_message Fault.OutOfMemory) errors.old errors.new }
-    ensures usage { error ≡ WordsError.Usage
-        → EndsTelling E.contents result 2 usage_text errors.old errors.new }
-{
-    match error {
-        WordsError::Usage => show_usage(errors),
-        WordsError::OutOfMemory => fail(errors, Fault::OutOfMemory),
-    }
-}
-
-/// The program if its arguments cannot be read. If memory ran out, its status is 1; arguments that are not text are wrong.
+/// The program if its arguments cannot be read, or are wrong: writes the text, and returns the status. If memory ran out, that is 1.
 pub fn without_words<E: Write>(cause: ErrorKind, errors: &mut Watched<E>) -> u8
     ensures memory { cause ≡ ErrorKind.OutOfMemory
         → EndsTelling E.contents result 1 (fault_message Fault.OutOfMemory) errors.old errors.new }
@@ -113,7 +81,8 @@ pub fn without_words<E: Write>(cause: ErrorKind, errors: &mut Watched<E>) -> u8
     if cause == ErrorKind::OutOfMemory {
         return fail(errors, Fault::OutOfMemory);
     }
-    show_usage(errors)
+    let _ = send(USAGE, errors);
+    2
 }
 
 /// Why the program ends after a connection ended with an error.

@@ -1,12 +1,12 @@
 //! A script over standard streams.
-ghost use Rattle.std.specs.Prelude.{◌≡◌, ◌≤◌, IsOk};
+ghost use Rattle.std.specs.Prelude.{◌≡◌, ◌≤◌};
 ghost use Rattle.cached_server.specs.Script.Scripts.{ServesStreams};
 
 use crate::script::faults::{Fault, fail, fault_of};
 use crate::script::notes::tell_notes;
 use crate::script::sources::{NoLoader, StillClock};
 use audit_model::{Config, EvictionPolicy, Instant, Weight};
-use cache_run::{RunError, Watched, run};
+use cache_run::{Watched, run};
 use cache_spaces::Service;
 use rand_core::SeedableRng;
 use rand_xoshiro::Xoshiro256PlusPlus;
@@ -51,9 +51,8 @@ pub fn run_script<R: Read, W: Write, E: Write>(
     };
     let made = Instant { nanos: 0 };
     let generator = Xoshiro256PlusPlus::seed_from_u64(0);
-    let mut service = match Service::new(alloc, &[PLAIN], generator, made) {
-        Ok(service) => service,
-        Err(_) => return fail(errors, Fault::OutOfMemory),
+    let Ok(mut service) = Service::new(alloc, &[PLAIN], generator, made) else {
+        return fail(errors, Fault::OutOfMemory);
     };
     let ran = run(
         &mut service,
@@ -69,19 +68,8 @@ pub fn run_script<R: Read, W: Write, E: Write>(
     // The program ends here: the system takes the memory back at once, while freeing the values one by one takes a sixth of a script's
     // time.
     mem::forget(service);
-    match ran {
-        Ok(()) => status_after(told, errors),
-        Err(error) => fail(errors, fault_of(error)),
-    }
-}
-
-/// The status of a script that came to its end, by whether its notes could be reported.
-fn status_after<E: Write>(told: Result<(), RunError>, errors: &mut Watched<E>) -> u8
-    ensures status { result ≤ 1 }
-    ensures told { result ≡ 0 → (IsOk told × (errors.new ≡ errors.old)) }
-{
-    match told {
+    match ran.and(told) {
         Ok(()) => 0,
-        Err(untold) => fail(errors, fault_of(untold)),
+        Err(error) => fail(errors, fault_of(error)),
     }
 }

@@ -1,6 +1,6 @@
 use Rattle.std.proofs.Common.{ap, sym, arith, ◌∙◌, ◌≡◌, ◌++◌, [], true, false, List, length, if◌then◌else◌}
 use Rattle.audit_model.specs.declared.transcript.Note.{Note}
-use Rattle.cache_core.proofs.Handed.{gives-itself}
+use Rattle.cache_core.proofs.Admitted.{gives-itself}
 use Rattle.cache_core.proofs.answering.store_noted.Goals as goal
 
 pub drain-requires : goal.drain-requires

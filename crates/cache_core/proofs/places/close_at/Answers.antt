@@ -1,4 +1,4 @@
-use Rattle.cache_core.proofs.Spots.{here-open, is-here, out-at, put-back}
+use Rattle.cache_core.proofs.Spots.{here-open, is-here, out-at, replaced}
 use Rattle.cache_core.proofs.places.close_at.Goals as goal
 
 pub take-connection-requires : goal.take-connection-requires
@@ -10,13 +10,4 @@ pub put-requires : goal.put-requires
 put-requires c = out-at c.args.connections.now c.take-connection.new.self c.args.index c.take-connection.result c.take-connection.ensures.taken c.take-connection.ensures.rest
 
 pub returns : goal.returns
-returns c = (
-  record {
-    was = c.take-connection.result;
-    is = c.drop_closed.new.self;
-    at = c.take-connection.ensures.taken;
-    set = put-back c.args.connections.now c.take-connection.new.self c.put.new.self c.args.index c.drop_closed.new.self c.take-connection.ensures.rest c.put.ensures;
-  },
-  c.drop_closed.ensures.closing,
-  c.drop_closed.ensures.text,
-)
+returns c = (replaced c.drop_closed.new.self c.take-connection.ensures.taken c.take-connection.ensures.rest c.put.ensures, c.drop_closed.ensures.closing, c.drop_closed.ensures.text)

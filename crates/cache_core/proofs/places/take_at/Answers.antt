@@ -1,7 +1,7 @@
 use Rattle.std.proofs.Common.{◌∙◌, sym, ap}
 use Rattle.cache_core.specs.Connections.Presence.{is_here}
-use Rattle.cache_core.proofs.Spots.{out-at, put-back, text-is, was-none, was-some}
-use Rattle.cache_core.proofs.Takings.{taken-at, taken-none, text-none}
+use Rattle.cache_core.proofs.Spots.{out-at, replaced, text-is, was-none, was-some}
+use Rattle.cache_core.proofs.Orders.{taken-at, taken-none, text-none}
 use Rattle.cache_core.proofs.places.take_at.Goals as goal
 
 pub returns-then-is_none-clause-rest : goal.returns-then-is_none-clause-rest
@@ -19,13 +19,7 @@ put-requires c = out-at c.args.connections.now c.take-connection.new.self c.args
 pub returns-clause-rest : goal.returns-clause-rest
 returns-clause-rest c =
     taken-at c.args.connections.now c.put.new.self c.retire.new.self c.args.index
-    (record {
-      was = c.take-connection.result;
-      is = c.take_text-text.new.connection;
-      at = c.take-connection.ensures.taken;
-      set = put-back c.args.connections.now c.take-connection.new.self c.put.new.self c.args.index c.take_text-text.new.connection c.take-connection.ensures.rest c.put.ensures;
-    })
-    c.take_text-text.ensures.rest c.retire.ensures
+    (replaced c.take_text-text.new.connection c.take-connection.ensures.taken c.take-connection.ensures.rest c.put.ensures) c.take_text-text.ensures.rest c.retire.ensures
 
 pub returns-clause-taken : goal.returns-clause-taken
 returns-clause-taken c = c.take_text-text.ensures.taken ∙ sym (text-is c.args.connections.now c.args.index c.take-connection.result c.take-connection.ensures.taken)

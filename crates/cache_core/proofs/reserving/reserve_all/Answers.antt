@@ -1,7 +1,6 @@
 use Rattle.std.proofs.Common.{sym, subst, get_or, arith, take}
 use Rattle.cache_core.specs.Settling.{HaveReplyRoom}
-use Rattle.cache_core.proofs.Touched.{all-itself, all-on, room-more}
-use Rattle.cache_core.proofs.Waiters.{front-more}
+use Rattle.cache_core.proofs.Touched.{all-itself, all-on, room-more, front-more}
 use Rattle.cache_core.proofs.reserving.reserve_all.Goals as goal
 
 pub returns-in_err-reserve_at-clause-same : goal.returns-in_err-reserve_at-clause-same

@@ -1,11 +1,5 @@
-use Rattle.cache_lines.proofs.leads.Turns.{answer-tidy, give-up-tidy, told-waits}
+use Rattle.cache_lines.proofs.leads.Settling.{answer-tidy, give-up-tidy, told-waits}
 use Rattle.cache_lines.proofs.leads.told_waits.Goals as goal
 
-pub returns-clause-answer : goal.returns-clause-answer
-returns-clause-answer c = answer-tidy
-
-pub returns-clause-give_up : goal.returns-clause-give_up
-returns-clause-give_up c = give-up-tidy
-
-pub returns-clause-waits : goal.returns-clause-waits
-returns-clause-waits c = told-waits
+pub returns : goal.returns
+returns c = record { answer = answer-tidy; give_up = give-up-tidy; waits = told-waits }

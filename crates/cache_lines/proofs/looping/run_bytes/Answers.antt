@@ -2,12 +2,11 @@ use Rattle.std.proofs.Common.{◌∙◌, ap, arith, drop, length-drop, refl, sub
 use Rattle.std.proofs.lemmas.List.{drop-drop}
 use Rattle.cache_lines.specs.Bases.{seen}
 use Rattle.cache_lines.specs.Making.{making_of}
-use Rattle.cache_lines.specs.Stops.{RunsFirst}
+use Rattle.cache_lines.specs.Ended.{RunsFirst}
 use Rattle.cache_commands.proofs.Taking.{taken-on, taken-same}
 use Rattle.cache_lines.proofs.Gathering.{has-spare}
-use Rattle.cache_lines.proofs.LineRuns.{ran-none}
+use Rattle.cache_lines.proofs.LineRuns.{ran-none, frames-more, line-next}
 use Rattle.cache_lines.proofs.ReadyEnds.{lines-end}
-use Rattle.cache_lines.proofs.Rounds.{frames-more, line-next}
 use Rattle.cache_lines.proofs.looping.run_bytes.Goals as goal
 
 pub loop-len-init : goal.loop-len-init

@@ -4,7 +4,7 @@ use Rattle.cache_commands.specs.Right.{KeepsFrame}
 use Rattle.cache_lines.specs.Bases.{seen}
 use Rattle.cache_lines.specs.Gathered.{IsFresh, gathered, spare_in, stage}
 use Rattle.cache_lines.specs.Waiting.{under_way}
-use Rattle.cache_lines.proofs.Rounds.{RanTo}
+use Rattle.cache_lines.proofs.LineRuns.{RanTo}
 use Rattle.cache_lines.proofs.looping.run_bytes.Given as goal
 
 abbrev pub invariant-loop-len : goal.invariant-loop-len

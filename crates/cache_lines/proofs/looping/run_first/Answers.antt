@@ -3,7 +3,7 @@ use Rattle.std.proofs.lemmas.Grind.{common_steps}
 use Rattle.std.specs.Option.{option_map}
 use Rattle.cache_lines.specs.Bases.{seen}
 use Rattle.cache_lines.specs.Gathered.{gathered, stage}
-use Rattle.cache_lines.specs.Stops.{line_at}
+use Rattle.cache_lines.specs.Ended.{line_at}
 use Rattle.cache_lines.specs.Tape.Taped.{spends, step_held}
 use Rattle.cache_lines.proofs.Gathering.{held-gathered, same-under}
 use Rattle.cache_lines.proofs.looping.run_first.Goals as goal

@@ -1,9 +1,9 @@
 use Rattle.std.proofs.Common.{false, inl, inr, refl}
 use Rattle.audit_model.specs.declared.event.Event.TheVariants as event
-use Rattle.cache_spaces.specs.Bares.{bare_tape}
+use Rattle.cache_spaces.specs.Services.{bare_tape}
 use Rattle.cache_spaces.specs.Calls.{ServesEvent}
 use Rattle.cache_run.specs.Lent.{ClosesIt}
-use Rattle.cache_run.proofs.Keeping.{known-served, known-unmoved}
+use Rattle.cache_run.proofs.Driving.{known-served, known-unmoved}
 use Rattle.cache_spaces.proofs.Placing.{at-given, at-same, at-unmoved, refused-here}
 use Rattle.cache_run.proofs.drops.close_if_open.Goals as goal
 

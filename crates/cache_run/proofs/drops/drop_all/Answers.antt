@@ -2,7 +2,7 @@ use Rattle.std.proofs.Common.{ℕ, ◌==◌, ◌+◌, List, [], take, get_or, re
 use Rattle.std.proofs.lemmas.List.{take_more}
 use Rattle.audit_model.specs.declared.input.LoadId.{LoadId}
 use Rattle.cache_spaces.specs.Calls.{At}
-use Rattle.cache_run.specs.Accounts.{is_left}
+use Rattle.cache_run.specs.Loading.{is_left}
 use Rattle.cache_run.specs.Lent.{Drops}
 use Rattle.cache_run.proofs.Dropping.{dropped-next, dropped-none}
 use Rattle.cache_spaces.proofs.Placing.{at-more, at-same}

@@ -1,6 +1,6 @@
 use Rattle.std.proofs.Common.{take}
 use Rattle.cache_spaces.specs.Calls.{At}
-use Rattle.cache_run.specs.Accounts.{is_left}
+use Rattle.cache_run.specs.Loading.{is_left}
 use Rattle.cache_run.specs.Lent.{Drops, IsThere}
 use Rattle.cache_run.proofs.drops.drop_all.Given as goal
 

@@ -1,11 +1,11 @@
 use Rattle.std.proofs.Common.{◌==◌, refl}
 use Rattle.cache_core.specs.Settling.{giving_up}
-use Rattle.cache_spaces.specs.Bares.{bare_tape}
+use Rattle.cache_spaces.specs.Services.{bare_tape}
 use Rattle.cache_spaces.specs.Calls.{Settled}
 use Rattle.cache_run.specs.Lent.{Drops}
 use Rattle.cache_run.proofs.Dropping.{dropped-settled, dropped-unknown}
 use Rattle.cache_run.proofs.Happening.{situation-of}
-use Rattle.cache_run.proofs.Keeping.{known-settled, known-unmoved}
+use Rattle.cache_run.proofs.Driving.{known-settled, known-unmoved}
 use Rattle.cache_spaces.proofs.Placing.{at-given, at-same, at-unmoved, refused-here}
 use Rattle.cache_run.proofs.drops.drop_load.Goals as goal
 

@@ -1,8 +1,7 @@
 use Rattle.std.proofs.Common.{subst}
 use Rattle.cache_spaces.specs.Calls.{At}
-use Rattle.cache_run.specs.Accounts.{is_left}
+use Rattle.cache_run.specs.Loading.{is_left, GivesLoads}
 use Rattle.cache_run.specs.Lent.{Drops, DropsBoth}
-use Rattle.cache_run.specs.Loading.{GivesLoads}
 use Rattle.cache_run.proofs.Dropping.{dropped-both}
 use Rattle.cache_spaces.proofs.Placing.{at-more}
 use Rattle.cache_run.proofs.drops.drop_loads.Goals as goal

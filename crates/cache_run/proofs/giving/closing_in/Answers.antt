@@ -1,5 +1,5 @@
 use Rattle.cache_spaces.specs.Calls.{IsUnknown}
-use Rattle.cache_run.proofs.Keeping.{not-unknown}
+use Rattle.cache_run.proofs.Driving.{not-unknown}
 use Rattle.cache_spaces.proofs.Placing.{refused-here}
 use Rattle.cache_run.proofs.giving.closing_in.Goals as goal
 

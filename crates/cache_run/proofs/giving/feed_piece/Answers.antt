@@ -1,5 +1,5 @@
 use Rattle.cache_core.specs.Turned.{feeding}
-use Rattle.cache_run.proofs.Keeping.{known-served}
+use Rattle.cache_run.proofs.Driving.{known-served}
 use Rattle.cache_run.proofs.giving.feed_piece.Goals as goal
 
 pub returns-in-Ok-All-clause-known : goal.returns-in-Ok-All-clause-known

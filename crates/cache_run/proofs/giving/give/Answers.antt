@@ -1,5 +1,5 @@
 use Rattle.std.proofs.Common.{refl}
-use Rattle.cache_run.proofs.Keeping.{at-gives, suits-so}
+use Rattle.cache_run.proofs.Driving.{at-gives, suits-so}
 use Rattle.cache_run.proofs.giving.give.Goals as goal
 
 pub returns : goal.returns

@@ -1,5 +1,5 @@
 use Rattle.std.proofs.Common.{sym}
-use Rattle.cache_run.proofs.Keeping.{none-given}
+use Rattle.cache_run.proofs.Driving.{none-given}
 use Rattle.cache_run.proofs.giving.take_loads.Goals as goal
 
 pub returns-then-not-wanted : goal.returns-then-not-wanted

@@ -1,5 +1,5 @@
 use Rattle.cache_spaces.specs.Calls.{IsUnknown}
-use Rattle.cache_run.proofs.Keeping.{known-told, not-unknown}
+use Rattle.cache_run.proofs.Driving.{known-told, not-unknown}
 use Rattle.cache_spaces.proofs.Placing.{refused-here}
 use Rattle.cache_run.proofs.giving.take_replies.Goals as goal
 

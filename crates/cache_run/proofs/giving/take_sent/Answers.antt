@@ -3,7 +3,7 @@ use Rattle.std.proofs.lemmas.Option.{slice_get_within}
 use Rattle.cache_spaces.specs.Calls.{TakesLoads}
 use Rattle.cache_run.specs.Loading.{GivesLoads}
 use Rattle.cache_spaces.proofs.Placing.{at-given}
-use Rattle.cache_run.proofs.Keeping.{known-given}
+use Rattle.cache_run.proofs.Driving.{known-given}
 use Rattle.cache_run.proofs.giving.take_sent.Goals as goal
 
 pub returns : goal.returns

@@ -1,12 +1,12 @@
 use Rattle.std.proofs.Common.{◌≡◌, true, false, refl, inl, inr}
 use Rattle.audit_model.specs.declared.input.ServiceError.TheVariants as error
 use Rattle.cache_core.specs.Settling.{answering}
-use Rattle.cache_spaces.specs.Bares.{bare_tape}
+use Rattle.cache_spaces.specs.Services.{bare_tape}
 use Rattle.cache_spaces.specs.Calls.{Settled}
 use Rattle.cache_spaces.proofs.Placing.{refused-here, at-map, at-same, at-unmoved}
-use Rattle.cache_run.proofs.Refusing.{answer-late, answer-refused, answer-unknown}
+use Rattle.cache_run.proofs.Happening.{answer-late, answer-refused, answer-unknown}
 use Rattle.cache_run.specs.Lent.{AnswersOr}
-use Rattle.cache_run.proofs.Keeping.{known-settled, known-unmoved}
+use Rattle.cache_run.proofs.Driving.{known-settled, known-unmoved}
 use Rattle.cache_run.proofs.loads.answer.Goals as goal
 
 pub returns-in-Ok : goal.returns-in-Ok

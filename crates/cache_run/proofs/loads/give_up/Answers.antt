@@ -1,12 +1,12 @@
 use Rattle.std.proofs.Common.{refl, inl, inr}
 use Rattle.cache_core.specs.Settling.{giving_up}
-use Rattle.cache_spaces.specs.Bares.{bare_tape}
+use Rattle.cache_spaces.specs.Services.{bare_tape}
 use Rattle.cache_spaces.specs.Calls.{Settled}
 use Rattle.cache_spaces.specs.Spaces.{config_of, known_of}
 use Rattle.cache_spaces.proofs.Placing.{refused-here, at-map, at-same, at-unmoved}
-use Rattle.cache_run.proofs.Refusing.{give-up-late, give-up-unknown}
+use Rattle.cache_run.proofs.Happening.{give-up-late, give-up-unknown}
 use Rattle.cache_run.specs.Lent.{GivesUpOr}
-use Rattle.cache_run.proofs.Keeping.{known-settled, known-unmoved}
+use Rattle.cache_run.proofs.Driving.{known-settled, known-unmoved}
 use Rattle.cache_run.proofs.loads.give_up.Goals as goal
 
 pub returns-in-Ok : goal.returns-in-Ok

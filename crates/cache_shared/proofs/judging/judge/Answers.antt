@@ -1,6 +1,6 @@
 use Rattle.std.proofs.Common.{subst}
 use Rattle.cache_shared.specs.Marks.{AllMarked}
-use Rattle.cache_shared.proofs.Agreeing.{once_of}
+use Rattle.cache_shared.proofs.Stepping.{once_of}
 use Rattle.cache_shared.proofs.judging.judge.Goals as goal
 
 pub returns-then-mark_all : goal.returns-then-mark_all

@@ -2,7 +2,7 @@ use Rattle.std.proofs.Common.{inl, inr, refl}
 use Rattle.audit_model.specs.declared.input.Input.TheVariants as input
 use Rattle.audit_model.specs.declared.input.ServiceError.TheVariants as error
 use Rattle.cache_core.proofs.connections.Getting.{found-at}
-use Rattle.cache_spaces.proofs.Performing.{refused-input}
+use Rattle.cache_spaces.proofs.Reaching.{refused-input}
 use Rattle.cache_spaces.proofs.journals.open_in.Goals as goal
 
 pub returns-then-is_err-clause-refused : goal.returns-then-is_err-clause-refused

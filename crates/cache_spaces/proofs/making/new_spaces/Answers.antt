@@ -4,9 +4,8 @@ use Rattle.std.specs.declared.alloc.Global.{Global}
 use Rattle.std.specs.declared.vec.Vec.{Vec}
 use Rattle.rand_core.specs.Stream.{fill_bytes}
 use Rattle.rand_xoshiro.specs.Xoshiro256.{of_seed}
-use Rattle.cache_spaces.specs.Served.{is_served}
-use Rattle.cache_spaces.specs.Services.{AreNew}
-use Rattle.cache_spaces.proofs.Newly.{all-at, forked-more, new-more, new-none, new-so}
+use Rattle.cache_spaces.specs.Services.{is_served, AreNew}
+use Rattle.cache_spaces.proofs.Journaling.{all-at, forked-more, new-more, new-none, new-so}
 use Rattle.cache_spaces.proofs.making.new_spaces.Goals as goal
 
 many : {X : Type 0} (v : Vec X Global) → vec_len v ≡ length v.items

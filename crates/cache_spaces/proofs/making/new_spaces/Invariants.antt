@@ -1,6 +1,6 @@
 use Rattle.std.proofs.Common.{◌≡◌, length, take}
 use Rattle.cache_spaces.specs.Services.{AreNew, stream_after_forks}
-use Rattle.cache_spaces.proofs.Newly.{stream_from}
+use Rattle.cache_spaces.proofs.Journaling.{stream_from}
 use Rattle.cache_spaces.proofs.making.new_spaces.Given as goal
 
 abbrev pub invariant-loop-config : goal.invariant-loop-config

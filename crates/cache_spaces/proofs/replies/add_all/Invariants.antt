@@ -1,5 +1,5 @@
 use Rattle.std.proofs.Common.{◌≡◌, ◌++◌, take}
-use Rattle.cache_spaces.specs.Replies.{replies_for}
+use Rattle.cache_spaces.specs.Cursors.{replies_for}
 use Rattle.cache_spaces.proofs.replies.add_all.Given as goal
 
 abbrev pub invariant-loop-entry : goal.invariant-loop-entry

@@ -1,6 +1,6 @@
 use Rattle.std.proofs.Common.{[], ◌≤◌, length, get_or, subst, ◌∙◌, arith}
-use Rattle.cache_spaces.proofs.Noting.{next-list}
-use Rattle.cache_spaces.specs.Notes.{lists_of}
+use Rattle.cache_spaces.proofs.Reading.{next-list}
+use Rattle.cache_spaces.specs.Cursors.{lists_of}
 use Rattle.cache_spaces.proofs.told.find_in.Goals as goal
 
 pub loop-at-preserved : goal.loop-at-preserved

@@ -1,5 +1,5 @@
 use Rattle.std.proofs.Common.{◌≡◌}
-use Rattle.cache_spaces.specs.Notes.{lists_of, rest_in}
+use Rattle.cache_spaces.specs.Cursors.{lists_of, rest_in}
 use Rattle.cache_spaces.proofs.told.find_in.Given as goal
 
 abbrev pub invariant-loop-at : goal.invariant-loop-at

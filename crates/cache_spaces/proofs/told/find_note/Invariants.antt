@@ -1,5 +1,5 @@
 use Rattle.std.proofs.Common.{◌≡◌}
-use Rattle.cache_spaces.specs.Notes.{notes_from}
+use Rattle.cache_spaces.specs.Cursors.{notes_from}
 use Rattle.cache_spaces.proofs.told.find_note.Given as goal
 
 abbrev pub invariant-loop-entry : goal.invariant-loop-entry

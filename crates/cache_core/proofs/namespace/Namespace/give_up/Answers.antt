@@ -2,10 +2,9 @@ use Rattle.std.proofs.Common.{ap, sym, subst, arith, ◌∙◌, ◌≡◌, ◌+�
 use Rattle.std.specs.Option.{option_map}
 use Rattle.audit_model.specs.Belongs.{refusal_of}
 use Rattle.audit_model.specs.Places.{tasks_to_give_up}
-use Rattle.audit_model.specs.declared.config.Config.{Config}
 use Rattle.cache_commands.specs.Loads.Pending.{SameTaken, load_numbered, loads_pending}
 use Rattle.cache_core.specs.Settled.{IsAmid}
-use Rattle.cache_core.specs.Settling.{AreWaiting, Happens, RunsAgain, giving_up, waiting_on, known_of_loads}
+use Rattle.cache_core.specs.Settling.{AreWaiting, Happens, RunsAgain, giving_up, waiting_on}
 use Rattle.cache_core.specs.State.{State, known_of, state_of}
 use Rattle.cache_core.specs.Turned.{RefusesBy}
 use Rattle.cache_lines.specs.Tape.Taped.{finishes}
@@ -23,103 +22,86 @@ returns-in-Some-clause-refused g c =
     let inside = c.self.inside in
     let load = c.args.load in
     let moment = c.args.moment.nanos in
-    let config_is = c.config-config.ensures ∙ ap (λ st. (g.S.Store.view st).frame.config) c.store.ensures in
-    let is = sym (c.in-Some.ensures ∙ ap (λ (k : Config). refusal_of k (known_of_loads (loads_pending inside.base.loads)) (giving_up load moment)) config_is) in
-    subst (λ (n : State _ _). RefusesBy g.S.Store.view n (giving_up load moment) false c.in-Some.error) c.self.view_is (refuses-known g.S.Store.view (state_of inside.base inside.latest inside.connections) (giving_up load moment) c.in-Some.error is)
+    let is = sym c.in-Some.ensures in
+    subst (λ (n : State _ _). RefusesBy g.S.Store.view n (giving_up load moment) false c.in-Some.error) c.self.view_is (refuses-known g.S.Store.view (state_of inside.interior.base inside.latest inside.interior.connections) (giving_up load moment) c.in-Some.error is)
 
 pub returns-in-Some-clause-spare : goal.returns-in-Some-clause-spare
 returns-in-Some-clause-spare g c = λ bare.
-    let config_is = c.config-config.ensures ∙ ap (λ st. (g.S.Store.view st).frame.config) c.store.ensures in
-    let is = sym (c.in-Some.ensures ∙ ap (λ (k : Config). refusal_of k (known_of_loads (loads_pending c.self.inside.base.loads)) (giving_up c.args.load c.args.moment.nanos)) config_is) in
+    let is = sym c.in-Some.ensures in
     subst (λ (n : State _ _). refusal_of (g.S.Store.view n.store).frame.config (known_of g.S.Store.view n) (giving_up c.args.load c.args.moment.nanos) ≡ Some c.in-Some.error) c.self.view_is is
 
 pub begin_give_up-requires-clause-under : goal.begin_give_up-requires-clause-under
 begin_give_up-requires-clause-under g c =
-    let config_is = c.config-config.ensures ∙ ap (λ st. (g.S.Store.view st).frame.config) c.store.ensures in
-    let admitted = sym (c.in-None.ensures ∙ ap (λ (k : Config). refusal_of k (known_of_loads (loads_pending c.self.inside.base.loads)) (giving_up c.args.load c.args.moment.nanos)) config_is) in
-    let a = given-admitted (g.S.Store.view c.self.inside.base.store).frame.config (loads_pending c.self.inside.base.loads) c.args.load c.args.moment.nanos admitted in
-    a.0
+    let base = c.self.inside.interior.base in
+    (given-admitted (g.S.Store.view base.store).frame.config (loads_pending base.loads) c.args.load c.args.moment.nanos (sym c.in_default.ensures)).0
 
-pub returns-in_default-clause-refused : goal.returns-in_default-clause-refused
-returns-in_default-clause-refused g c =
+pub returns-in_default-begin_give_up-clause-refused : goal.returns-in_default-begin_give_up-clause-refused
+returns-in_default-begin_give_up-clause-refused g c =
     let inside = c.self.inside in
     let moment = c.args.moment.nanos in
-    let config_is = c.config-config.ensures ∙ ap (λ st. (g.S.Store.view st).frame.config) c.store.ensures in
-    let admitted = sym (c.in-None.ensures ∙ ap (λ (k : Config). refusal_of k (known_of_loads (loads_pending inside.base.loads)) (giving_up c.args.load moment)) config_is) in
-    subst (λ (n : State _ _). RefusesBy g.S.Store.view n (giving_up c.args.load moment) false error.OutOfMemory) c.self.view_is (refuses-wanting g.S.Store.view (state_of inside.base inside.latest inside.connections) (giving_up c.args.load moment) admitted)
+    let admitted = sym c.in_default.ensures in
+    subst (λ (n : State _ _). RefusesBy g.S.Store.view n (giving_up c.args.load moment) false error.OutOfMemory) c.self.view_is (refuses-wanting g.S.Store.view (state_of inside.interior.base inside.latest inside.interior.connections) (giving_up c.args.load moment) admitted)
 
-pub settle_give_up-requires-clause-amid : goal.settle_give_up-requires-clause-amid
-settle_give_up-requires-clause-amid g c =
+pub settle_give_up-requires : goal.settle_give_up-requires
+settle_give_up-requires g c =
     let inside = c.self.inside in
     let view = g.S.Store.view in
-    let base = inside.base in
+    let base = inside.interior.base in
+    let cs = inside.interior.connections in
     let load = c.args.load in
-    let config_is = c.config-config.ensures ∙ ap (λ st. (view st).frame.config) c.store.ensures in
-    let admitted = sym (c.in-None.ensures ∙ ap (λ (k : Config). refusal_of k (known_of_loads (loads_pending base.loads)) (giving_up load c.args.moment.nanos)) config_is) in
-    let a = given-admitted (view base.store).frame.config (loads_pending base.loads) load c.args.moment.nanos admitted in
+    let back = sym c.begin_give_up.ensures.rest in
+    let a = given-admitted (view base.store).frame.config (loads_pending base.loads) load c.args.moment.nanos (sym c.in_default.ensures) in
     let room = length (waiting_on load (under_way base.loads)) + length (waiting_on load (under_way base.loads)) in
-    subst (λ (b : Base _ _). IsAmid view g.T.Tape.view c.max-now.result b inside.connections (length (waiting_on load (under_way b.loads)) + length (waiting_on load (under_way b.loads)))) (sym c.begin_give_up.ensures.rest)
-    (amid-begun view g.T.Tape.view base inside.latest inside.connections c.self.invariant c.begin_give_up.new.base.tape c.max-now.result c.args.moment.nanos room c.max-now.ensures a.1 c.in-Ok.ensures.begun)
-
-pub settle_give_up-requires-clause-under : goal.settle_give_up-requires-clause-under
-settle_give_up-requires-clause-under g c =
-    let config_is = c.config-config.ensures ∙ ap (λ st. (g.S.Store.view st).frame.config) c.store.ensures in
-    let admitted = sym (c.in-None.ensures ∙ ap (λ (k : Config). refusal_of k (known_of_loads (loads_pending c.self.inside.base.loads)) (giving_up c.args.load c.args.moment.nanos)) config_is) in
-    let a = given-admitted (g.S.Store.view c.self.inside.base.store).frame.config (loads_pending c.self.inside.base.loads) c.args.load c.args.moment.nanos admitted in
-    subst (λ (b : Base _ _). is_some (load_numbered c.args.load (loads_pending b.loads)) ≡ true) (sym c.begin_give_up.ensures.rest) a.0
-
-pub settle_give_up-requires-clause-waits : goal.settle_give_up-requires-clause-waits
-settle_give_up-requires-clause-waits g c =
-    let inside = c.self.inside in
-    let load = c.args.load in
-    let rest = c.begin_give_up.ensures.rest in
-    subst (λ (b : Base _ _). AreWaiting (g.S.Store.view b.store).frame.config inside.connections (waiting_on load (under_way b.loads))) (sym rest) (waiting-now g.S.Store.view g.T.Tape.view inside.base inside.latest inside.connections c.self.invariant load)
+    record {
+      amid = subst (λ (b : Base _ _). IsAmid view g.T.Tape.view c.max-now.result b cs (length (waiting_on load (under_way b.loads)) + length (waiting_on load (under_way b.loads)))) back
+          (amid-begun view g.T.Tape.view base inside.latest cs c.self.invariant c.begin_give_up.new.base.tape c.max-now.result c.args.moment.nanos room c.max-now.ensures a.1 c.in-Ok.ensures.begun);
+      under = subst (λ (b : Base _ _). is_some (load_numbered load (loads_pending b.loads)) ≡ true) back a.0;
+      waits = subst (λ (b : Base _ _). AreWaiting (view b.store).frame.config cs (waiting_on load (under_way b.loads))) back (waiting-now view g.T.Tape.view base inside.latest cs c.self.invariant load);
+    }
 
 pub finish-requires : goal.finish-requires
 finish-requires g c =
     let tape = g.T.Tape.view in
-    let room = length (waiting_on c.args.load (under_way c.self.inside.base.loads)) + length (waiting_on c.args.load (under_way c.self.inside.base.loads)) in
+    let room = length (waiting_on c.args.load (under_way c.self.inside.interior.base.loads)) + length (waiting_on c.args.load (under_way c.self.inside.interior.base.loads)) in
     let sound = subst (λ (b : Base _ _). IsSoundStore (g.S.Store.view b.store)) (sym c.begin_give_up.ensures.rest) c.sound.ensures in
     let p = (c.settle_give_up.ensures.ran.parts.ran sound.some sound.stands).0 in
-    written-begun p.steps (tape c.begin_give_up.new.base.tape) (tape c.settle_give_up.new.base.tape) p.kept (started-begun room (tape c.self.inside.base.tape) (tape c.begin_give_up.new.base.tape) c.in-Ok.ensures.begun)
+    written-begun p.steps (tape c.begin_give_up.new.base.tape) (tape c.settle_give_up.new.self.base.tape) p.kept (started-begun room (tape c.self.inside.interior.base.tape) (tape c.begin_give_up.new.base.tape) c.in-Ok.ensures.begun)
 
 pub returns-clause-turned : goal.returns-clause-turned
 returns-clause-turned g c =
     let inside = c.self.inside in
     let view = g.S.Store.view in
     let tape = g.T.Tape.view in
-    let base = inside.base in
+    let base = inside.interior.base in
     let load = c.args.load in
     let moment = c.args.moment.nanos in
-    let config_is = c.config-config.ensures ∙ ap (λ st. (view st).frame.config) c.store.ensures in
-    let admitted = sym (c.in-None.ensures ∙ ap (λ (k : Config). refusal_of k (known_of_loads (loads_pending base.loads)) (giving_up load moment)) config_is) in
+    let admitted = sym c.in_default.ensures in
     let a = given-admitted (view base.store).frame.config (loads_pending base.loads) load moment admitted in
     let room = length (waiting_on load (under_way base.loads)) + length (waiting_on load (under_way base.loads)) in
     let now = c.max-now.result in
-    let new_base = c.settle_give_up.new.base in
-    let r = subst (λ (b : Base _ _). RunsAgain view tape now load b new_base inside.connections c.settle_give_up.new.connections tasks_to_give_up) c.begin_give_up.ensures.rest c.settle_give_up.ensures.ran in
+    let new_base = c.settle_give_up.new.self.base in
+    let r = subst (λ (b : Base _ _). RunsAgain view tape now load b new_base inside.interior.connections c.settle_give_up.new.self.connections tasks_to_give_up) c.begin_give_up.ensures.rest c.settle_give_up.ensures.ran in
     let goes = subst (λ (b : Base _ _). SameTaken b.loads new_base.loads) c.begin_give_up.ensures.rest c.settle_give_up.ensures.goes in
-    let x = happens-given view tape base new_base r.left c.begin_give_up.new.base.tape c.finish.new.self inside.latest now load moment room inside.connections c.settle_give_up.new.connections c.max-now.ensures c.in-Ok.ensures.begun r.left_is r.parts
+    let x = happens-given view tape base new_base r.left c.begin_give_up.new.base.tape c.finish.new.self inside.latest now load moment room inside.interior.connections c.settle_give_up.new.self.connections c.max-now.ensures c.in-Ok.ensures.begun r.left_is r.parts
     (c.finish.ensures ∙ ap (λ ns. option_map (finishes (giving_up load moment) None ns) (tape new_base.tape)) c.new.ensures)
     c.self.invariant c.sound.ensures c.sound-2.ensures admitted (omega (arith, c.max-now.ensures, a.1, c.self.invariant.moment)) goes in
-    subst (λ (n : State _ _). Happens view tape n (state_of (record new_base { tape = c.finish.new.self }) now c.settle_give_up.new.connections) (giving_up load moment)) c.self.view_is x.0
+    subst (λ (n : State _ _). Happens view tape n (state_of (record new_base { tape = c.finish.new.self }) now c.settle_give_up.new.self.connections) (giving_up load moment)) c.self.view_is x.0
 
 pub invariant_of-self-2 : goal.invariant_of-self-2
 invariant_of-self-2 g c =
     let inside = c.self.inside in
     let view = g.S.Store.view in
-    let base = inside.base in
+    let base = inside.interior.base in
     let load = c.args.load in
     let moment = c.args.moment.nanos in
-    let config_is = c.config-config.ensures ∙ ap (λ st. (view st).frame.config) c.store.ensures in
-    let admitted = sym (c.in-None.ensures ∙ ap (λ (k : Config). refusal_of k (known_of_loads (loads_pending base.loads)) (giving_up load moment)) config_is) in
+    let admitted = sym c.in_default.ensures in
     let a = given-admitted (view base.store).frame.config (loads_pending base.loads) load moment admitted in
     let room = length (waiting_on load (under_way base.loads)) + length (waiting_on load (under_way base.loads)) in
-    let new_base = c.settle_give_up.new.base in
-    let r = subst (λ (b : Base _ _). RunsAgain view g.T.Tape.view c.max-now.result load b new_base inside.connections c.settle_give_up.new.connections tasks_to_give_up) c.begin_give_up.ensures.rest c.settle_give_up.ensures.ran in
+    let new_base = c.settle_give_up.new.self.base in
+    let r = subst (λ (b : Base _ _). RunsAgain view g.T.Tape.view c.max-now.result load b new_base inside.interior.connections c.settle_give_up.new.self.connections tasks_to_give_up) c.begin_give_up.ensures.rest c.settle_give_up.ensures.ran in
     let goes = subst (λ (b : Base _ _). SameTaken b.loads new_base.loads) c.begin_give_up.ensures.rest c.settle_give_up.ensures.goes in
     let at_now = c.max-now.ensures in
-    let x = happens-given view g.T.Tape.view base new_base r.left c.begin_give_up.new.base.tape c.finish.new.self inside.latest c.max-now.result load moment room inside.connections c.settle_give_up.new.connections at_now c.in-Ok.ensures.begun r.left_is r.parts
+    let x = happens-given view g.T.Tape.view base new_base r.left c.begin_give_up.new.base.tape c.finish.new.self inside.latest c.max-now.result load moment room inside.interior.connections c.settle_give_up.new.self.connections at_now c.in-Ok.ensures.begun r.left_is r.parts
     (c.finish.ensures ∙ ap (λ ns. option_map (finishes (giving_up load moment) None ns) (g.T.Tape.view new_base.tape)) c.new.ensures)
     c.self.invariant c.sound.ensures c.sound-2.ensures admitted (omega (arith, at_now, a.1, c.self.invariant.moment)) goes in
     x.1

@@ -9,36 +9,36 @@ use Rattle.audit_model.specs.declared.event.Event.TheVariants as event
 use Rattle.cache_core.proofs.Opened.{count-open, kept-bare, order-open, turns-open}
 use Rattle.cache_core.proofs.namespace.Namespace.open.Goals as goal
 
-pub invariant_of-self-in-Ok : goal.invariant_of-self-in-Ok
-invariant_of-self-in-Ok g c =
+pub invariant_of-self-2 : goal.invariant_of-self-2
+invariant_of-self-2 g c =
     let inside = c.self.inside in
     let tape = g.T.Tape.view in
     let made = c.new_connection.ensures in
-    let kept = kept-bare (event.Open c.len-number.result) (tape inside.base.tape) (tape c.begin_kept.new.tape) (tape c.finish.new.self) c.self.invariant.rests c.in_ok-begin_kept.ensures.started
-    (c.finish.ensures ∙ ap (λ ns. option_map (finishes (event.Open c.len-number.result) None ns) (tape c.begin_kept.new.tape)) c.new.ensures) in
-    let more = ap length c.in-Ok.ensures.pushed in
-    let added = length-append inside.connections (Here c.new_connection.result ∷ []) in
-    let number_is : c.len-number.result ≡ suc (length inside.connections) = omega (arith, c.len-number.ensures, more, added) in
-    subst (λ xs. IsInOrder g.S.Store.view tape (state_of (record { store = inside.base.store; loads = inside.base.loads; tape = c.finish.new.self }) inside.latest xs)) (sym c.in-Ok.ensures.pushed)
-    (order-open g.S.Store.view tape inside.base c.finish.new.self inside.latest c.len-number.result inside.connections c.new_connection.result number_is made.standing made.unread made.output made.closing kept c.sound.ensures c.self.invariant)
+    let kept = kept-bare (event.Open c.len-number.result) (tape inside.interior.base.tape) (tape c.start.new.self) (tape c.finish.new.self) c.self.invariant.rests c.in_ok-start.ensures.started
+    (c.finish.ensures ∙ ap (λ ns. option_map (finishes (event.Open c.len-number.result) None ns) (tape c.start.new.self)) c.new.ensures) in
+    let more = ap length c.in_default.ensures.pushed in
+    let added = length-append inside.interior.connections (Here c.new_connection.result ∷ []) in
+    let number_is : c.len-number.result ≡ suc (length inside.interior.connections) = omega (arith, c.len-number.ensures, more, added) in
+    subst (λ xs. IsInOrder g.S.Store.view tape (state_of (record { store = inside.interior.base.store; loads = inside.interior.base.loads; tape = c.finish.new.self }) inside.latest xs)) (sym c.in_default.ensures.pushed)
+    (order-open g.S.Store.view tape inside.interior.base c.finish.new.self inside.latest c.len-number.result inside.interior.connections c.new_connection.result number_is made.standing made.unread made.output made.closing kept c.sound.ensures c.self.invariant)
 
-pub returns-in-Ok-clause-turned : goal.returns-in-Ok-clause-turned
-returns-in-Ok-clause-turned g c =
+pub returns-clause-turned : goal.returns-clause-turned
+returns-clause-turned g c =
     let inside = c.self.inside in
     let view = g.S.Store.view in
     let tape = g.T.Tape.view in
-    let cs = inside.connections in
+    let cs = inside.interior.connections in
     let made = c.new_connection.ensures in
-    let kept = kept-bare (event.Open c.len-number.result) (tape inside.base.tape) (tape c.begin_kept.new.tape) (tape c.finish.new.self) c.self.invariant.rests c.in_ok-begin_kept.ensures.started
-    (c.finish.ensures ∙ ap (λ ns. option_map (finishes (event.Open c.len-number.result) None ns) (tape c.begin_kept.new.tape)) c.new.ensures) in
-    let pushed = c.in-Ok.ensures.pushed in
+    let kept = kept-bare (event.Open c.len-number.result) (tape inside.interior.base.tape) (tape c.start.new.self) (tape c.finish.new.self) c.self.invariant.rests c.in_ok-start.ensures.started
+    (c.finish.ensures ∙ ap (λ ns. option_map (finishes (event.Open c.len-number.result) None ns) (tape c.start.new.self)) c.new.ensures) in
+    let pushed = c.in_default.ensures.pushed in
     let more = ap length pushed in
     let added = length-append cs (Here c.new_connection.result ∷ []) in
     let number_is : c.len-number.result ≡ suc (length cs) = omega (arith, c.len-number.ensures, more, added) in
     let count = count-open cs in
     let was_count = ap (λ (n : State _ _). length n.closings) c.self.view_is in (
       omega (arith, number_is, count, was_count),
-      subst (λ n. Turns view tape n (state_of (record { store = inside.base.store; loads = inside.base.loads; tape = c.finish.new.self }) inside.latest c.push.new.self) (event.Open c.len-number.result) false) c.self.view_is
-          (subst (λ xs. Turns view tape (state_of inside.base inside.latest cs) (state_of (record { store = inside.base.store; loads = inside.base.loads; tape = c.finish.new.self }) inside.latest xs) (event.Open c.len-number.result) false) (sym pushed)
-          (turns-open view tape inside.base c.finish.new.self inside.latest c.len-number.result cs c.new_connection.result number_is made.standing made.unread made.output made.closing kept c.sound.ensures)),
+      subst (λ n. Turns view tape n (state_of (record { store = inside.interior.base.store; loads = inside.interior.base.loads; tape = c.finish.new.self }) inside.latest c.push.new.self) (event.Open c.len-number.result) false) c.self.view_is
+          (subst (λ xs. Turns view tape (state_of inside.interior.base inside.latest cs) (state_of (record { store = inside.interior.base.store; loads = inside.interior.base.loads; tape = c.finish.new.self }) inside.latest xs) (event.Open c.len-number.result) false) (sym pushed)
+          (turns-open view tape inside.interior.base c.finish.new.self inside.latest c.len-number.result cs c.new_connection.result number_is made.standing made.unread made.output made.closing kept c.sound.ensures)),
     )

@@ -1,5 +1,5 @@
 use Rattle.std.proofs.Common.{arith}
-use Rattle.cache_front.proofs.data.Gathering.{gathers_more}
+use Rattle.cache_front.proofs.data.Live.{gathers_more}
 use Rattle.cache_front.proofs.data.listing.held_keys.Goals as goal
 
 pub loop-place-preserved : goal.loop-place-preserved

@@ -1,8 +1,7 @@
 use Rattle.std.proofs.Common.{◌≡◌, ◌∙◌, [], refl, arith}
 use Rattle.cache_run.proofs.devices.Sending.{failed_after}
 use Rattle.cache_run.specs.declared.driver.driving.Progress.TheVariants.{More, Over}
-use Rattle.cache_run.proofs.driver.Conversing.{asked-runs, runs-all, runs-more}
-use Rattle.cache_run.proofs.driver.Settled.{because-map}
+use Rattle.cache_run.proofs.driver.Exchanges.{asked-runs, runs-all, runs-more, because-map}
 use Rattle.cache_run.proofs.driver.driving.converse.Goals as goal
 
 pub loop-turn-init : goal.loop-turn-init

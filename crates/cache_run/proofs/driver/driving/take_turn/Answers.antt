@@ -3,9 +3,7 @@ use Rattle.cache_run.specs.Driver.Driven.{unfed}
 use Rattle.cache_run.specs.declared.driver.driving.Progress.TheVariants.{More, Over}
 use Rattle.cache_run.specs.declared.driver.session.Footing.TheVariants.{Closed}
 use Rattle.cache_run.specs.declared.devices.errors.RunError.TheVariants.{Moment, Read}
-use Rattle.cache_run.proofs.driver.Conversing.{asked-runs, ended-finished, moves-comes, ok-all, read-runs, read-why, talks-read}
-use Rattle.cache_run.proofs.driver.Pieces.{cut-whole}
-use Rattle.cache_run.proofs.driver.Settled.{moves-beside, none-there, why-map}
+use Rattle.cache_run.proofs.driver.Exchanges.{asked-runs, ended-finished, moves-comes, ok-all, read-runs, read-why, talks-read, cut-whole, moves-beside, none-there, why-map}
 use Rattle.cache_run.proofs.driver.driving.take_turn.Goals as goal
 
 pub returns-then-not-has_no_load : goal.returns-then-not-has_no_load

@@ -1,7 +1,7 @@
 use Rattle.std.proofs.Common.{ℕ, ap, Vec}
 use Rattle.std.specs.Option.{option_map}
 use Rattle.std.specs.declared.alloc.Global.{Global}
-use Rattle.cache_run.proofs.driver.Pieces.{hands-out}
+use Rattle.cache_run.proofs.driver.Exchanges.{hands-out}
 use Rattle.cache_run.proofs.driver.handing.hand_out.Goals as goal
 
 pub returns-in-Some-replies-clause-sent : goal.returns-in-Some-replies-clause-sent

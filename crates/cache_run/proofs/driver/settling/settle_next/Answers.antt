@@ -1,26 +1,27 @@
 use Rattle.std.proofs.Common.{◌≡◌, ◌∙◌, true, false, sym, arith, Err}
+use Rattle.std.proofs.lemmas.Result.{err_from_is_err_and}
 use Rattle.cache_run.proofs.devices.Sending.{failed_after}
 use Rattle.cache_run.specs.Driver.Driven.{IsClosed}
-use Rattle.cache_run.proofs.driver.Conversing.{moves-comes, moves-on}
-use Rattle.cache_run.proofs.driver.Settled.{closed-left, moves-beside, why-map}
+use Rattle.cache_run.proofs.driver.Exchanges.{moves-comes, moves-on, closed-left, moves-beside, why-map}
 use Rattle.cache_run.proofs.driver.settling.settle_next.Goals as goal
 use Rattle.cache_run.proofs.driver.settling.settle_next.Goals.{else-has_no_load-via-then-has_no_load+else-eq, else-has_no_load-via-else-has_no_load}
 
-pub returns-in-Err : goal.returns-in-Err
-returns-in-Err g c =
-    let settled = c.in-Err.ensures in record {
+pub returns-in_err-settle_one : goal.returns-in_err-settle_one
+returns-in_err-settle_one g c =
+    let p = err_from_is_err_and c.from_residual.result c.from_residual.ensures.1 in
+    let settled = c.in_err-settle_one.ensures in rw (p.1, p.2) (record {
       same = settled.same;
       known = settled.known;
-      goes = λ remaining start a goes. moves-comes _ _ remaining _ _ settled.same.0 goes.talks (λ is. settled.same.1 ∙ goes.whole is) (Err c.in-Err.error) settled.goes;
+      goes = λ remaining start a goes. moves-comes _ _ remaining _ _ settled.same.0 goes.talks (λ is. settled.same.1 ∙ goes.whole is) (Err _) settled.goes;
       why = settled.why;
       forward = settled.forward;
       asked = settled.asked;
-    }
+    })
 
 pub returns-then-eq : goal.returns-then-eq
 returns-then-eq g c =
     let counted = g.H.Host.counted in
-    let settled = c.in-Ok.ensures in
+    let settled = c.in_ok-settle_one.ensures in
     let fed = c.feed_piece.ensures in record {
       same = (fed.same.0 ∙ settled.same.0, fed.same.1 ∙ settled.same.1);
       known = fed.known;
@@ -35,7 +36,7 @@ returns-then-eq g c =
 
 pub returns : goal.returns
 returns g c =
-    let settled = c.in-Ok.ensures in record {
+    let settled = c.in_ok-settle_one.ensures in record {
       same = settled.same;
       known = settled.known;
       goes = λ remaining start a goes.

@@ -1,6 +1,6 @@
 use Rattle.std.proofs.Common.{arith}
 use Rattle.cache_run.specs.Driver.Exchanges.{Looked}
-use Rattle.cache_run.proofs.Keeping.{at-comes, none-given}
+use Rattle.cache_run.proofs.Driving.{at-comes, none-given}
 use Rattle.cache_run.proofs.lent.LentHost.await_owed.Goals as goal
 
 pub returns : goal.returns

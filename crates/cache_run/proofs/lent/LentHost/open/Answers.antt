@@ -1,8 +1,7 @@
 use Rattle.std.proofs.Common.{arith}
-use Rattle.cache_spaces.specs.Bares.{bare_tape}
+use Rattle.cache_spaces.specs.Services.{bare_tape, IsSound}
 use Rattle.cache_spaces.specs.Calls.{OpensNext}
-use Rattle.cache_spaces.specs.Sound.{IsSound}
-use Rattle.cache_run.proofs.Keeping.{known-opened}
+use Rattle.cache_run.proofs.Driving.{known-opened}
 use Rattle.cache_spaces.proofs.Placing.{at-given}
 use Rattle.cache_run.proofs.lent.LentHost.open.Goals as goal
 

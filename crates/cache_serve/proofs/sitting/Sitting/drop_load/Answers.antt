@@ -1,11 +1,11 @@
 use Rattle.cache_serve.proofs.Seating.{if-some-any, settles-anyhow, settles-give-up, takes-behind}
 use Rattle.cache_serve.proofs.sitting.Sitting.drop_load.Goals as goal
 
-pub returns-in-Ok : goal.returns-in-Ok
-returns-in-Ok g c = (c.load-said.result, λ key. settles-anyhow (c.settle_load.ensures.settled key), c.load-said.ensures)
+pub returns-in_default : goal.returns-in_default
+returns-in_default g c = (c.load-said.result, λ key. settles-anyhow (c.settle_load.ensures.settled key), c.load-said.ensures)
 
-pub returns : goal.returns
-returns g c = (
+pub returns-in-Err : goal.returns-in-Err
+returns-in-Err g c = (
   c.load-said.result,
   λ key. settles-give-up c.give_up.result (record { key = key; answer = c.load-said.result }) (if-some-any c.load-said.result) (takes-behind _ _ _ _ _ c.give_up.result c.in-Err.ensures.rests c.give_up.ensures.taken),
   c.load-said.ensures,

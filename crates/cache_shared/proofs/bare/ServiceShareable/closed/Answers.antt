@@ -1,6 +1,6 @@
 use Rattle.std.proofs.Common.{refl}
 use Rattle.cache_shared.proofs.Performing.{cause-shown, look-shown, unknown-shown}
-use Rattle.cache_spaces.specs.Bares.{bare_tape}
+use Rattle.cache_spaces.specs.Services.{bare_tape}
 use Rattle.cache_spaces.specs.Spaces.{closing_of}
 use Rattle.cache_shared.proofs.bare.ServiceShareable.closed.Goals as goal
 

@@ -2,8 +2,8 @@ use Rattle.std.proofs.Common.{List, ap, refl}
 use Rattle.std.proofs.lemmas.Result.{on_err_weaker}
 use Rattle.cache_shared.proofs.Performing.{untold-none, untold-note, untold-refused}
 use Rattle.cache_spaces.proofs.Reaching.{where-shown}
-use Rattle.cache_shared.specs.Bared.{untold_of}
-use Rattle.cache_spaces.specs.Bares.{BareSpace, bare_tape}
+use Rattle.cache_shared.specs.Recordings.{untold_of}
+use Rattle.cache_spaces.specs.Services.{BareSpace, bare_tape}
 use Rattle.cache_shared.proofs.bare.ServiceShareable.next_notice.Goals as goal
 
 pub returns : goal.returns

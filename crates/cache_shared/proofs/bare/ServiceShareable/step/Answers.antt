@@ -1,5 +1,5 @@
 use Rattle.cache_shared.proofs.Performing.{performs, refused}
-use Rattle.cache_spaces.specs.Bares.{bare_tape}
+use Rattle.cache_spaces.specs.Services.{bare_tape}
 use Rattle.cache_shared.proofs.bare.ServiceShareable.step.Goals as goal
 
 pub returns-clause-taken : goal.returns-clause-taken

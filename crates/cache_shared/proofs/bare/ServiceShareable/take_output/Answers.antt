@@ -1,7 +1,7 @@
 use Rattle.std.proofs.Common.{inl, refl}
 use Rattle.cache_shared.proofs.Performing.{untaken-taken, cause-shown, unknown-shown}
 use Rattle.cache_spaces.proofs.Reaching.{where-shown}
-use Rattle.cache_spaces.specs.Bares.{bare_tape}
+use Rattle.cache_spaces.specs.Services.{bare_tape}
 use Rattle.cache_shared.proofs.bare.ServiceShareable.take_output.Goals as goal
 
 pub returns : goal.returns

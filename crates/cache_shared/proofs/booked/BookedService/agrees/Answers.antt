@@ -1,5 +1,5 @@
 use Rattle.cache_shared.specs.declared.seat.Seat.{Seat}
-use Rattle.cache_shared.proofs.Agreeing.{agree-more, agree-all}
+use Rattle.cache_shared.proofs.Stepping.{agree-more, agree-all}
 use Rattle.cache_shared.proofs.booked.BookedService.agrees.Goals as goal
 
 pub loop-namespace-preserved : goal.loop-namespace-preserved

@@ -1,6 +1,6 @@
 use Rattle.std.proofs.Common.{◌<◌, length, refl, rules}
 use Rattle.std.proofs.lemmas.Result.{err_from_is_err_and}
-use Rattle.cache_shared.proofs.Keeping.{gains-receipt, stays}
+use Rattle.cache_shared.proofs.Stepping.{gains-receipt, stays}
 use Rattle.cache_shared.proofs.booked.BookedService.step_kept.Goals as goal
 
 pub returns-in_default-reserve-clause-unchanged : goal.returns-in_default-reserve-clause-unchanged

@@ -1,6 +1,5 @@
 use Rattle.std.proofs.lemmas.Result.{err_from_is_err_and}
-use Rattle.cache_shared.proofs.Moving.{moves-none}
-use Rattle.cache_shared.proofs.Stepping.{unfit_step}
+use Rattle.cache_shared.proofs.Stepping.{moves-none, unfit_step}
 use Rattle.cache_shared.proofs.booked.BookedService.turn.Goals as goal
 
 pub returns-in_err-output-clause-moved : goal.returns-in_err-output-clause-moved

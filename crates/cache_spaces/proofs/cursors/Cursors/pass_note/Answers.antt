@@ -1,9 +1,8 @@
 use Rattle.std.proofs.Common.{length, subst, sym, arith}
 use Rattle.std.specs.List.{slice_get}
-use Rattle.cache_spaces.specs.Notes.{TakesFrom, notes_from}
+use Rattle.cache_spaces.specs.Cursors.{TakesFrom, notes_from}
 use Rattle.cache_spaces.specs.declared.told.Told.{Told}
-use Rattle.cache_spaces.proofs.Noting.{no-record}
-use Rattle.cache_spaces.proofs.Reading.{first-behind, none-behind}
+use Rattle.cache_spaces.proofs.Reading.{no-record, first-behind, none-behind}
 use Rattle.cache_spaces.proofs.cursors.Cursors.pass_note.Goals as goal
 use Rattle.cache_spaces.proofs.cursors.Cursors.pass_note.Goals.{in-Some, in-None}
 

@@ -2,8 +2,7 @@ use Rattle.std.proofs.Common.{◌≤◌, ◌∙◌, refl, slice_set, subst, sym,
 use Rattle.std.proofs.Math.Logic.{∥∥₁_map}
 use Rattle.std.proofs.lemmas.List.{length-set}
 use Rattle.audit_model.specs.declared.input.Input.TheVariants as input
-use Rattle.cache_spaces.specs.Calls.{At, Refuses}
-use Rattle.cache_spaces.specs.Inputs.{Performs, RefusedInput}
+use Rattle.cache_spaces.specs.Calls.{At, Refuses, Performs, RefusedInput}
 use Rattle.cache_spaces.specs.Journals.{kept_by}
 use Rattle.cache_spaces.specs.Recorded.{GainsRecord, KeepsTaken, Recorded, recorded_of}
 use Rattle.cache_spaces.specs.declared.cursors.Cursors.{Cursors}

@@ -2,11 +2,9 @@ use Rattle.std.proofs.Common.{◌∙◌, Vec, Global, ℕ, ap, length, slice_set
 use Rattle.std.specs.List.{slice_get}
 use Rattle.std.proofs.lemmas.List.{length-set}
 use Rattle.cache_core.proofs.connections.Getting.{at-place}
-use Rattle.cache_spaces.specs.Cursors.{Cursor}
+use Rattle.cache_spaces.specs.Cursors.{Cursor, notes_from, records_at}
 use Rattle.cache_spaces.specs.Journals.{journals_of}
-use Rattle.cache_spaces.specs.Notes.{notes_from}
 use Rattle.cache_spaces.specs.Recorded.{Recorded, TakesNote, cursor_in, recorded_of, untold_in}
-use Rattle.cache_spaces.specs.Replies.{records_at}
 use Rattle.cache_spaces.proofs.Gaining.{have-set}
 use Rattle.cache_spaces.proofs.Reading.{first-none, notes-read, takes-note, untold-is, was-there}
 use Rattle.cache_spaces.proofs.journals.RecordedService.pass_note.Goals as goal

@@ -8,25 +8,15 @@ use Rattle.cache_spaces.proofs.Gaining.{have-set, opened-cursor}
 use Rattle.cache_spaces.proofs.Reading.{replies-read, takes-replies}
 use Rattle.cache_spaces.proofs.journals.RecordedService.pass_replies.Goals as goal
 
-pub pass_replies-requires-clause-from : goal.pass_replies-requires-clause-from
-pass_replies-requires-clause-from c =
+pub pass_replies-requires : goal.pass_replies-requires
+pass_replies-requires c =
     let core = c.self.inside.core in
     let read = c.self.inside.read.items in
     let n = c.args.conn.namespace in
     let known = subst (λ (s : Recorded). InSpace s.spaces n (λ space. IsOpened space c.args.conn.number)) (sym c.self.view_is) c.requires in
     let within = slice_get_within core n known.space known.at in
     let lt : n < length read = subst (λ m. n < m) (sym c.self.invariant.3) within in
-    (opened-cursor core read n c.args.conn.number c.index_mut.result.now c.self.invariant.5 known (at-place read n c.index_mut.result.now lt c.index_mut.ensures.value)).0
-
-pub pass_replies-requires-clause-opened : goal.pass_replies-requires-clause-opened
-pass_replies-requires-clause-opened c =
-    let core = c.self.inside.core in
-    let read = c.self.inside.read.items in
-    let n = c.args.conn.namespace in
-    let known = subst (λ (s : Recorded). InSpace s.spaces n (λ space. IsOpened space c.args.conn.number)) (sym c.self.view_is) c.requires in
-    let within = slice_get_within core n known.space known.at in
-    let lt : n < length read = subst (λ m. n < m) (sym c.self.invariant.3) within in
-    (opened-cursor core read n c.args.conn.number c.index_mut.result.now c.self.invariant.5 known (at-place read n c.index_mut.result.now lt c.index_mut.ensures.value)).1
+    opened-cursor core read n c.args.conn.number c.index_mut.result.now c.self.invariant.5 known (at-place read n c.index_mut.result.now lt c.index_mut.ensures.value)
 
 pub returns : goal.returns
 returns c =

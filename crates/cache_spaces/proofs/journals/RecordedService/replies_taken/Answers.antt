@@ -7,8 +7,8 @@ use Rattle.cache_spaces.proofs.Gaining.{opened-cursor}
 use Rattle.cache_spaces.proofs.Reading.{was-there}
 use Rattle.cache_spaces.proofs.journals.RecordedService.replies_taken.Goals as goal
 
-pub replies_taken-requires-clause-opened : goal.replies_taken-requires-clause-opened
-replies_taken-requires-clause-opened c =
+pub replies_taken-requires : goal.replies_taken-requires
+replies_taken-requires c =
     let core = c.self.inside.core in
     let read = c.self.inside.read.items in
     let n = c.args.conn.namespace in
@@ -16,7 +16,7 @@ replies_taken-requires-clause-opened c =
     let k = c.in_ok-closed.ensures.closing in
     let within = slice_get_within core n k.space k.at in
     let lt : n < length read = subst (λ m. n < m) (sym c.self.invariant.3) within in
-    (opened-cursor core read n c.args.conn.number here c.self.invariant.5 (record { space = k.space; at = k.at; fact = k.fact.0 }) (at-place read n here lt c.index-cursors.ensures)).1
+    opened-cursor core read n c.args.conn.number here c.self.invariant.5 (record { space = k.space; at = k.at; fact = k.fact.0 }) (at-place read n here lt c.index-cursors.ensures)
 
 pub returns-clause-count : goal.returns-clause-count
 returns-clause-count c =

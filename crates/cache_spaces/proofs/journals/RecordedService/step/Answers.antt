@@ -1,8 +1,7 @@
 use Rattle.std.proofs.Common.{◌≤◌, ◌∙◌, map, refl, subst, sym, IfErr, IfOk, OnErr, OnOk, vec_capacity, ◌≡◌}
 use Rattle.std.proofs.Math.Logic.{∥∥₁_map}
-use Rattle.cache_spaces.specs.Calls.{At, Refuses}
+use Rattle.cache_spaces.specs.Calls.{At, Refuses, Performs, RefusedInput, namespace_of}
 use Rattle.cache_spaces.specs.Cursors.{cursor_of}
-use Rattle.cache_spaces.specs.Inputs.{Performs, RefusedInput, namespace_of}
 use Rattle.cache_spaces.specs.Journals.{kept_by}
 use Rattle.cache_spaces.specs.Recorded.{GainsRecord, KeepsTaken, Recorded, recorded_of}
 use Rattle.cache_spaces.proofs.Gaining.{step-gains, step-reads, opens-none, same-step, step-have}

@@ -4,7 +4,7 @@ use Rattle.audit_model.specs.declared.event.Event.TheVariants as event
 use Rattle.audit_model.specs.declared.input.Input.TheVariants as input
 use Rattle.audit_laws.specs.declared.receipts.output.Output.TheVariants.{All, Done, Held, Opened}
 use Rattle.cache_spaces.specs.Calls.{ServesEvent}
-use Rattle.cache_spaces.proofs.Performing.{comes-fed, refused-input, serves-performs, settled-performs}
+use Rattle.cache_spaces.proofs.Reaching.{comes-fed, refused-input, serves-performs, settled-performs}
 use Rattle.cache_spaces.proofs.Placing.{at-map, refuses-map}
 use Rattle.cache_spaces.proofs.service.Core.perform.Goals as goal
 

@@ -1,6 +1,6 @@
 use Rattle.std.proofs.Common.{◌∙◌, subst, sym, arith}
 use Rattle.std.proofs.lemmas.Option.{same_Some, slice_get_within}
-use Rattle.cache_spaces.specs.Sound.{IsSound}
+use Rattle.cache_spaces.specs.Services.{IsSound}
 use Rattle.cache_spaces.proofs.service.Core.sound.Goals as goal
 
 pub returns-in-Ok : goal.returns-in-Ok

@@ -1,7 +1,6 @@
 use Rattle.std.proofs.Common.{rules}
 use Rattle.std.proofs.Math.Logic.{∥∥₁_map}
-use Rattle.cache_spaces.specs.Calls.{At}
-use Rattle.cache_spaces.specs.Inputs.{Performs, namespace_of}
+use Rattle.cache_spaces.specs.Calls.{At, Performs, namespace_of}
 use Rattle.cache_spaces.proofs.Reaching.{reached-more, reached-result}
 use Rattle.cache_spaces.proofs.service.Core.step.Goals as goal
 

@@ -1,7 +1,7 @@
 use Rattle.std.proofs.Common.{refl}
 use Rattle.audit_model.specs.declared.input.Input.TheVariants as input
 use Rattle.audit_laws.specs.declared.receipts.output.Output.TheVariants.{Done}
-use Rattle.cache_spaces.proofs.Performing.{refused-input, settled-performs}
+use Rattle.cache_spaces.proofs.Reaching.{refused-input, settled-performs}
 use Rattle.cache_spaces.proofs.Placing.{at-map, refuses-map}
 use Rattle.cache_spaces.proofs.service.Core.step_answer.Goals as goal
 

@@ -1,7 +1,7 @@
 use Rattle.std.proofs.Common.{arith}
 use Rattle.std.specs.VecDeque.{deque_capacity}
 use Rattle.cache_front.specs.Data.{word_of}
-use Rattle.cache_front.proofs.data.Beginning.{new_over}
+use Rattle.cache_front.proofs.data.Calls.{new_over}
 use Rattle.cache_front.proofs.store.store.FrontStore.new.Goals as goal
 
 pub invariant_of-result : goal.invariant_of-result

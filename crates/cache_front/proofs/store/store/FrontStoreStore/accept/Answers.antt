@@ -1,60 +1,44 @@
-use Rattle.std.proofs.Common.{suc, ap, ◌∙◌, arith, length, ◌++◌}
+use Rattle.std.proofs.Common.{◌∙◌, ap, arith, length, ◌++◌}
 use Rattle.std.proofs.lemmas.Result.{err_from_is_err_and}
 use Rattle.std.specs.VecDeque.{deque_capacity}
 use Rattle.cache_front.specs.declared.entries.hasher.WordBuilder.{WordBuilder}
 use Rattle.cache_front.specs.Data.{FrontData, word_of}
-use Rattle.cache_front.proofs.data.Calls.{accept, lacks_tickets, few_told, fits, shown, takes_there, told_there}
 use Rattle.cache_front.specs.Draining.{waiting_at}
-use Rattle.cache_front.proofs.store.Growing.{room_after}
+use Rattle.cache_front.proofs.data.Calls.{accept, few_told, fits, lacks_tickets, shown}
 use Rattle.cache_front.proofs.store.store.FrontStoreStore.accept.Goals as goal
 
-pub drain_at-told-requires : goal.drain_at-told-requires
-drain_at-told-requires g c =
+pub drain_at-requires : goal.drain_at-requires
+drain_at-requires g c =
     let store = c.self.inside in
     let word = word_of g.S.BuildHasher g.S.Hasher.Hasher in
     let d : FrontData (WordBuilder g.row.S.Denot) = record { config = store.config; made = store.made; dropped = store.dropped; queue = store.notes.items; stream = g.R.Rng.stream store.generator; front = store.front } in
-    let comes = accept word d c.insert.new.front store.count (deque_capacity store.notes) c.args.now c.args.key.now c.args.bytes.now c.args.milliseconds c.args.looked_up c.self.invariant (rw (← c.self.view_is) at c.requires.in_time) (rw (← c.self.view_is) at c.requires.fits) c.in_ok-value.ensures.few (rw c.in_ok-value.ensures.value at c.in_ok-part.ensures.inserts) in
-    let few = few_told word d c.insert.new.front (suc store.count) _ comes in
-    let there = told_there word d c.insert.new.front _ _ _ c.in_ok-part.part _ c.self.invariant.whole c.in_ok-part.ensures.inserts c.in_ok-part.ensures.part in
-    let told = ap length there.0 in
-    let room = room_after word d c.prepare.new.notes.items store.count (deque_capacity c.prepare.new.notes) c.prepare.ensures.same c.in_ok-value.ensures.room in
-    let same = ap length c.prepare.ensures.same in
-    omega (arith, few, room, same, told)
-
-pub overflow_sub-self : goal.overflow_sub-self
-overflow_sub-self g c =
-    let store = c.self.inside in
-    let word = word_of g.S.BuildHasher g.S.Hasher.Hasher in
-    let d : FrontData (WordBuilder g.row.S.Denot) = record { config = store.config; made = store.made; dropped = store.dropped; queue = store.notes.items; stream = g.R.Rng.stream store.generator; front = store.front } in
-    let comes = accept word d c.insert.new.front store.count (deque_capacity store.notes) c.args.now c.args.key.now c.args.bytes.now c.args.milliseconds c.args.looked_up c.self.invariant (rw (← c.self.view_is) at c.requires.in_time) (rw (← c.self.view_is) at c.requires.fits) c.in_ok-value.ensures.few (rw c.in_ok-value.ensures.value at c.in_ok-part.ensures.inserts) in
-    let few = few_told word d c.insert.new.front (suc store.count) _ comes in
-    let there = told_there word d c.insert.new.front _ _ _ c.in_ok-part.part _ c.self.invariant.whole c.in_ok-part.ensures.inserts c.in_ok-part.ensures.part in
-    let told = ap length there.0 in
-    let number = c.drain_at-told.ensures.number in
-    omega (arith, few, number, told)
+    let tells = accept word d c.insert.new.front c.in_ok-part.part store.count (deque_capacity store.notes) c.args.now c.args.key.now c.args.bytes.now c.args.milliseconds c.args.looked_up c.self.invariant (rw (← c.self.view_is) at c.requires.in_time) (rw (← c.self.view_is) at c.requires.fits) c.in_ok-value.ensures.few
+    (rw c.in_ok-value.ensures.value at c.in_ok-part.ensures.inserts) c.in_ok-part.ensures.part in
+    let few = few_told word _ _ _ _ _ _ tells in
+    let room = c.in_ok-value.ensures.room in
+    record { room = omega (arith, few, room); held = omega (arith, few) }
 
 pub invariant_of-self-2 : goal.invariant_of-self-2
 invariant_of-self-2 g c =
     let store = c.self.inside in
     let word = word_of g.S.BuildHasher g.S.Hasher.Hasher in
     let d : FrontData (WordBuilder g.row.S.Denot) = record { config = store.config; made = store.made; dropped = store.dropped; queue = store.notes.items; stream = g.R.Rng.stream store.generator; front = store.front } in
-    let comes = accept word d c.insert.new.front store.count (deque_capacity store.notes) c.args.now c.args.key.now c.args.bytes.now c.args.milliseconds c.args.looked_up c.self.invariant (rw (← c.self.view_is) at c.requires.in_time) (rw (← c.self.view_is) at c.requires.fits) c.in_ok-value.ensures.few (rw c.in_ok-value.ensures.value at c.in_ok-part.ensures.inserts) in
-    let few = few_told word d c.insert.new.front (suc store.count) _ comes in
-    let there = told_there word d c.insert.new.front _ _ _ c.in_ok-part.part _ c.self.invariant.whole c.in_ok-part.ensures.inserts c.in_ok-part.ensures.part in
-    let told = ap length there.0 in
-    let number = c.drain_at-told.ensures.number in
-    let room = room_after word d c.prepare.new.notes.items store.count (deque_capacity c.prepare.new.notes) c.prepare.ensures.same c.in_ok-value.ensures.room in
-    let same = c.drain_at-told.ensures.room in
-    (fits word d c.insert.new.front c.drain_at-told.new.front c.drain_at-told.new.notes.items (suc store.count) _ (deque_capacity c.drain_at-told.new.notes) _ comes (takes_there word d c.insert.new.front c.drain_at-told.new.front c.drain_at-told.new.notes.items c.in_ok-part.part there c.drain_at-told.ensures.drained (c.drain_at-told.ensures.queued ∙ ap (λ ns. ns ++ waiting_at c.in_ok-part.part c.insert.new.front.parts) c.prepare.ensures.same)) (omega (arith, few, number, told)) (omega (arith, room, same)))
+    let tells = accept word d c.insert.new.front c.in_ok-part.part store.count (deque_capacity store.notes) c.args.now c.args.key.now c.args.bytes.now c.args.milliseconds c.args.looked_up c.self.invariant (rw (← c.self.view_is) at c.requires.in_time) (rw (← c.self.view_is) at c.requires.fits) c.in_ok-value.ensures.few
+    (rw c.in_ok-value.ensures.value at c.in_ok-part.ensures.inserts) c.in_ok-part.ensures.part in
+    let number = c.drain_at.ensures.number in
+    let room = c.in_ok-value.ensures.room in
+    let same = ap length c.prepare.ensures.same in
+    let kept = c.drain_at.ensures.room in
+    fits word _ _ _ _ _ _ tells _ _ c.drain_at.ensures.drained (c.drain_at.ensures.queued ∙ ap (λ ns. ns ++ waiting_at c.in_ok-part.part c.insert.new.front.parts) c.prepare.ensures.same) c.drain_at.new.count (deque_capacity c.drain_at.new.notes) (omega (arith, number)) (omega (arith, room, same, kept))
 
 pub returns-clause-does : goal.returns-clause-does
 returns-clause-does g c =
     let store = c.self.inside in
     let word = word_of g.S.BuildHasher g.S.Hasher.Hasher in
     let d : FrontData (WordBuilder g.row.S.Denot) = record { config = store.config; made = store.made; dropped = store.dropped; queue = store.notes.items; stream = g.R.Rng.stream store.generator; front = store.front } in
-    let comes = accept word d c.insert.new.front store.count (deque_capacity store.notes) c.args.now c.args.key.now c.args.bytes.now c.args.milliseconds c.args.looked_up c.self.invariant (rw (← c.self.view_is) at c.requires.in_time) (rw (← c.self.view_is) at c.requires.fits) c.in_ok-value.ensures.few (rw c.in_ok-value.ensures.value at c.in_ok-part.ensures.inserts) in
-    let there = told_there word d c.insert.new.front _ _ _ c.in_ok-part.part _ c.self.invariant.whole c.in_ok-part.ensures.inserts c.in_ok-part.ensures.part in
-    rw (← c.self.view_is, c.in_ok-part.ensures.part) (shown word d c.insert.new.front c.drain_at-told.new.front c.drain_at-told.new.notes.items (suc store.count) _ comes (takes_there word d c.insert.new.front c.drain_at-told.new.front c.drain_at-told.new.notes.items c.in_ok-part.part there c.drain_at-told.ensures.drained (c.drain_at-told.ensures.queued ∙ ap (λ ns. ns ++ waiting_at c.in_ok-part.part c.insert.new.front.parts) c.prepare.ensures.same)))
+    let tells = accept word d c.insert.new.front c.in_ok-part.part store.count (deque_capacity store.notes) c.args.now c.args.key.now c.args.bytes.now c.args.milliseconds c.args.looked_up c.self.invariant (rw (← c.self.view_is) at c.requires.in_time) (rw (← c.self.view_is) at c.requires.fits) c.in_ok-value.ensures.few
+    (rw c.in_ok-value.ensures.value at c.in_ok-part.ensures.inserts) c.in_ok-part.ensures.part in
+    rw (← c.self.view_is, c.in_ok-part.ensures.part) (shown word _ _ _ _ _ _ tells _ _ c.drain_at.ensures.drained (c.drain_at.ensures.queued ∙ ap (λ ns. ns ++ waiting_at c.in_ok-part.part c.insert.new.front.parts) c.prepare.ensures.same))
 
 pub returns-in_err-part-clause-used_up : goal.returns-in_err-part-clause-used_up
 returns-in_err-part-clause-used_up g c =

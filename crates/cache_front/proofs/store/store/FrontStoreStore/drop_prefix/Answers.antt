@@ -1,3 +1,4 @@
+use Rattle.std.proofs.Common.{refl}
 use Rattle.std.proofs.lemmas.Result.{err_from_is_err_and}
 use Rattle.std.specs.VecDeque.{deque_capacity}
 use Rattle.cache_front.specs.declared.entries.hasher.WordBuilder.{WordBuilder}
@@ -18,18 +19,18 @@ invariant_of-self-2 g c =
     let store = c.self.inside in
     let word = word_of g.S.BuildHasher g.S.Hasher.Hasher in
     let d : FrontData (WordBuilder g.row.S.Denot) = record { config = store.config; made = store.made; dropped = store.dropped; queue = store.notes.items; stream = g.R.Rng.stream store.generator; front = store.front } in
-    (covered_fits word d c.cover.new.front (g.R.Rng.stream c.cover.new.generator) store.count (deque_capacity store.notes) c.args.now c.args.prefix.now c.in_ok-covers.covers c.is_either-self-inside.result c.self.invariant (rw (← c.self.view_is) at c.requires) c.is_either-self-inside.ensures c.in_ok-covers.ensures.covers c.in_ok-covers.ensures.lacks)
+    (covered_fits word d c.cover.new.front (g.R.Rng.stream c.cover.new.generator) store.count (deque_capacity store.notes) c.args.now c.args.prefix.now c.in_ok-covers.covers _ c.self.invariant (rw (← c.self.view_is) at c.requires) refl c.in_ok-covers.ensures.covers c.in_ok-covers.ensures.lacks)
 
 pub returns-clause-does : goal.returns-clause-does
 returns-clause-does g c =
     let store = c.self.inside in
     let word = word_of g.S.BuildHasher g.S.Hasher.Hasher in
     let d : FrontData (WordBuilder g.row.S.Denot) = record { config = store.config; made = store.made; dropped = store.dropped; queue = store.notes.items; stream = g.R.Rng.stream store.generator; front = store.front } in
-    rw (← c.self.view_is) (covered_does word d c.cover.new.front (g.R.Rng.stream c.cover.new.generator) store.count (deque_capacity store.notes) c.args.now c.args.prefix.now c.in_ok-covers.covers c.is_either-self-inside.result c.self.invariant (rw (← c.self.view_is) at c.requires) c.is_either-self-inside.ensures c.in_ok-covers.ensures.covers c.in_ok-covers.ensures.lacks)
+    rw (← c.self.view_is) (covered_does word d c.cover.new.front (g.R.Rng.stream c.cover.new.generator) store.count (deque_capacity store.notes) c.args.now c.args.prefix.now c.in_ok-covers.covers _ c.self.invariant (rw (← c.self.view_is) at c.requires) refl c.in_ok-covers.ensures.covers c.in_ok-covers.ensures.lacks)
 
 pub returns-clause-lacks : goal.returns-clause-lacks
 returns-clause-lacks g c =
     let store = c.self.inside in
     let word = word_of g.S.BuildHasher g.S.Hasher.Hasher in
     let d : FrontData (WordBuilder g.row.S.Denot) = record { config = store.config; made = store.made; dropped = store.dropped; queue = store.notes.items; stream = g.R.Rng.stream store.generator; front = store.front } in
-    rw (← c.self.view_is) (covered_lacks word d c.cover.new.front (g.R.Rng.stream c.cover.new.generator) store.count (deque_capacity store.notes) c.args.now c.args.prefix.now c.in_ok-covers.covers c.is_either-self-inside.result c.self.invariant (rw (← c.self.view_is) at c.requires) c.is_either-self-inside.ensures c.in_ok-covers.ensures.covers c.in_ok-covers.ensures.lacks)
+    rw (← c.self.view_is) (covered_lacks word d c.cover.new.front (g.R.Rng.stream c.cover.new.generator) store.count (deque_capacity store.notes) c.args.now c.args.prefix.now c.in_ok-covers.covers _ c.self.invariant (rw (← c.self.view_is) at c.requires) refl c.in_ok-covers.ensures.covers c.in_ok-covers.ensures.lacks)

@@ -1,0 +1,15 @@
+use Rattle.std.proofs.Common.{drop, ◌≡◌, ◌+◌, ℕ, length, map, take}
+use Rattle.audit_model.specs.Steps.{RunLines}
+use Rattle.cache_commands.specs.Loads.Pending.{SameTaken}
+use Rattle.cache_core.specs.Settled.{IsAmid, Parts}
+use Rattle.cache_core.specs.Settling.{AreThere}
+use Rattle.cache_core.proofs.interior.Interior.resume_all.Given as goal
+
+abbrev pub invariant-loop-number : goal.invariant-loop-number
+invariant-loop-number g l = record {
+  ran : Parts g.S.Store.view g.T.Tape.view l.now l.fn.self.base l.self.base l.fn.self.connections l.self.connections (map RunLines (take l.number-index l.waiting));
+  amid : (lines : ℕ) → IsAmid g.S.Store.view g.T.Tape.view l.now l.fn.self.base l.fn.self.connections (length l.waiting + lines) → IsAmid g.S.Store.view g.T.Tape.view l.now l.self.base l.self.connections (length (drop l.number-index l.waiting) + lines);
+  inside : AreThere l.self.connections (drop l.number-index l.waiting);
+  count : length l.self.connections ≡ length l.fn.self.connections;
+  goes : SameTaken l.fn.self.base.loads l.self.base.loads;
+}

@@ -1,0 +1,11 @@
+//! The inside of a namespace.
+use crate::connections::Connections;
+use cache_lines::{Base, Tape};
+use cache_store::Store;
+
+/// The connections of a namespace, and what their lines run over.
+#[derive(Drop)]
+pub struct Interior<S: Store, T: Tape> {
+    pub base: Base<S, T>,
+    pub connections: Connections,
+}

@@ -1,0 +1,7 @@
+use Rattle.cached_server.proofs.hosts.serve_spaces.Given as goal
+
+abbrev pub ghosts-host_all-L-Seating : goal.ghosts-host_all-L-Seating
+ghosts-host_all-L-Seating g a = record { all = a.blank.parts }
+
+abbrev pub ghosts-host_all-L-Ledger : goal.ghosts-host_all-L-Ledger
+ghosts-host_all-L-Ledger g a = record { name = a.blank.name; parts = a.blank.parts }
