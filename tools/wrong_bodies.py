@@ -203,9 +203,13 @@ class Lane:
             for part in ("src", "specs", "proofs"):
                 if os.path.isdir(os.path.join(source, part)):
                     shutil.copytree(os.path.join(source, part), os.path.join(to, part))
-            # (a library is read, and not written, as long as its text is the same)
-            if os.path.isdir(os.path.join(source, "out", "rlib")):
-                shutil.copytree(os.path.join(source, "out", "rlib"), os.path.join(to, "out", "rlib"), copy_function=link_or_copy)
+            self.give(crate)
+
+    def give(self, crate):
+        """Gives a crate of the copy its library, which is read, and not written, as long as its text is the same."""
+        source, to = os.path.join(ROOT, "crates", crate, "out", "rlib"), os.path.join(self.room, "crates", crate, "out", "rlib")
+        if os.path.isdir(source):
+            shutil.copytree(source, to, copy_function=link_or_copy)
 
     def kept(self, crate):
         """Copies what checks of the crate kept, once."""
@@ -215,7 +219,9 @@ class Lane:
         self.copied.add(crate)
 
     def leave(self, crate):
-        shutil.rmtree(os.path.join(self.room, "crates", crate, "out", "incremental"), ignore_errors=True)
+        """Ends with a crate: it gets its library again, which a check of other text removes."""
+        shutil.rmtree(os.path.join(self.room, "crates", crate, "out"), ignore_errors=True)
+        self.give(crate)
         self.copied.discard(crate)
 
     def tried(self, crate, body):

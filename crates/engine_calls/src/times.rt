@@ -29,10 +29,8 @@ pub fn own_expiration(now: Instant, time: Option<Duration>) -> Option<u64>
 fn end_of(since: u64, time: Option<u64>) -> Option<u64>
     ensures { result ≡ end_of since time }
 {
-    match time {
-        Some(time) => Some(since.saturating_add(time).min(MAX_NANOS)),
-        None => None,
-    }
+    let time = time?;
+    Some(since.saturating_add(time).min(MAX_NANOS))
 }
 
 /// The earlier of two moments, of those that there are.
@@ -59,8 +57,6 @@ pub fn time_left(
         (earlier_of expires (earlier_of (end_of written settings.live) (end_of used settings.idle))) }
 {
     let ends = earlier_of(end_of(written, settings.live), end_of(used, settings.idle));
-    match earlier_of(expires, ends) {
-        Some(deadline) => Some(Duration::from_nanos(deadline.saturating_sub(now))),
-        None => None,
-    }
+    let deadline = earlier_of(expires, ends)?;
+    Some(Duration::from_nanos(deadline.saturating_sub(now)))
 }
