@@ -42,7 +42,7 @@ ROOT = pathlib.Path(__file__).resolve().parent.parent
 # A replay holds lines back where memory is refused, so it prints other transcripts: tools/random_use.py has these judged.
 PROGRAMS = {"cached": "--script", "transcript": "audit"}
 WAYS = ("alone", "following")
-SECONDS = 120
+SECONDS = 600
 # The module of a crate in which tests say where they need no memory.
 WITHOUT = "without_memory::"
 # Tests that take no second try, by crate and the beginning of their names: why.
