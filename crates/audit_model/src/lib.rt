@@ -4,7 +4,6 @@
 mod command;
 mod config;
 mod event;
-mod grammar;
 mod input;
 mod key;
 mod note_key;
@@ -14,7 +13,6 @@ mod transcript;
 pub use command::{Closing, Command, LineError};
 pub use config::{Config, EvictionPolicy, Weight};
 pub use event::{Event, Instant, Outcome};
-pub use grammar::{are_same, key_fits};
 pub use input::{Conn, Input, LoadId, ServiceError};
 pub use key::Key;
 pub use note_key::NoteKey;
