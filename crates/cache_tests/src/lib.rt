@@ -22,8 +22,6 @@ mod retrying;
 #[cfg(test)]
 mod rows;
 #[cfg(test)]
-mod running;
-#[cfg(test)]
 mod serving;
 #[cfg(test)]
 mod stores;

@@ -1,4 +1,7 @@
 //! What a configuration file says.
+ghost use Rattle.std.specs.Prelude.{◌≡◌};
+ghost use Rattle.cached_config.specs.declared.listed.ConfigError.TheVariants as errors;
+
 use audit_model::{Bytes, Config};
 use std::alloc::AllocError;
 
@@ -40,6 +43,8 @@ pub enum ConfigError {
 }
 
 impl From<AllocError> for ConfigError {
+    ghost from_gives = { λ _ e. e ≡ errors.OutOfMemory };
+
     fn from(_e: AllocError) -> ConfigError {
         ConfigError::OutOfMemory
     }

@@ -1,5 +1,5 @@
 //! The moment and step of calls.
-ghost use Rattle.std.specs.Prelude.{◌≡◌, ◌<◌, IfOk, IfErr};
+ghost use Rattle.std.specs.Prelude.{◌≡◌, ◌+◌, max, IfOk, IfErr};
 ghost use Rattle.front_reference.specs.Fronts.{ComesAfter};
 
 use engine_reference::Rules;
@@ -18,8 +18,9 @@ pub fn next_call<K: Eq + Hash, V, S: BuildHasher, R: Rules<K, V>, C>(
     cache: &LentState<K, V, S, R, C>,
     clock: Instant,
 ) -> Result<At, CacheError>
+    ensures moment { IfOk result (λ at. at.now ≡ max clock cache.now.moment) }
+    ensures step { IfOk result (λ at. at.step ≡ cache.now.step + 1) }
     ensures follows { IfOk result (λ at. ComesAfter at.now at.step cache.now) }
-    ensures rises { IfOk result (λ at. cache.now.step < at.step) }
     ensures cause { IfErr result
         (λ e. (e ≡ CacheError.UsedUp) × (cache.now.step ≡ 18446744073709551615)) }
 {

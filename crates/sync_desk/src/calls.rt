@@ -1,7 +1,10 @@
 //! Calls that take the lock once.
-ghost use Rattle.std.specs.Prelude.{◌≡◌, IfOk, IfErr, OnOk, OnErr};
+ghost use Rattle.std.specs.Prelude.{◌≡◌, ◌⊎◌, Option, IfOk, IfErr, OnOk, OnErr, is_some};
+ghost use Rattle.std.specs.Result.{IsErrOf};
+ghost use Rattle.engine_reference.specs.Calls.{removal_rooms};
 ghost use Rattle.front_reference.specs.declared.errors.CacheError.TheVariants as errors;
-ghost use Rattle.sync_desk.specs.Drawing.{InsertsAsDrawn, LooksUpAsDrawn};
+ghost use Rattle.front_state.specs.Calls.{IsCauseIn, held_value_in};
+ghost use Rattle.sync_desk.specs.Drawing.{ClearsAsDrawn, InsertsAsDrawn, LooksUpAsDrawn, RemovesAsDrawn, RunsAsDrawn, SeesAsDrawn};
 ghost use Rattle.sync_desk.specs.Slots.Refusals.{IsShortage};
 
 use crate::desk::Desk;
@@ -36,6 +39,8 @@ impl<
             (LooksUpAsDrawn ⟦<R as HasWays<K, V, S>>⟧.ways key.now self.old.state self.new.state) }
         ensures err { OnErr result (self.new.state ≡ self.old.state) }
         ensures cause { IfErr result IsShortage }
+        ensures used_up { IsErrOf result errors.UsedUp
+            → self.old.state.step ≡ 18446744073709551615 }
     {
         let Some(at) = self.draw() else {
             return Err(CacheError::UsedUp);
@@ -48,7 +53,10 @@ impl<
 
     /// Returns whether a key has a visible value. It does not count as a use, and changes nothing.
     pub fn contains_key(&mut self, key: &K) -> bool
-        ensures { self.new.state ≡ self.old.state }
+        ensures found { (found : Option V)
+            × SeesAsDrawn ⟦<R as HasWays<K, V, S>>⟧.ways key.now self.old.state found
+            × (result ≡ is_some found) }
+        ensures state { self.new.state ≡ self.old.state }
     {
         let now = self.env.now().max(self.state.last_call().now);
         self.state.contains_key(key, now)
@@ -60,6 +68,9 @@ impl<
             self.old.state self.new.state) }
         ensures err { OnErr result (self.new.state ≡ self.old.state) }
         ensures cause { IfErr result IsShortage }
+        ensures used_up { IsErrOf result errors.UsedUp
+            → (self.old.state.step ≡ 18446744073709551615) ⊎ IsCauseIn
+            ⟦<R as HasWays<K, V, S>>⟧.ways (λ _. 1) self.old.state key errors.UsedUp }
     {
         let Some(at) = self.draw() else {
             return Err(CacheError::UsedUp);
@@ -75,44 +86,52 @@ impl<
                 self.writes.note(hash, step);
                 Ok(())
             }
-            Err(refused) => Err(shortage_of(refused)),
+            Err(refused) => Err(refused),
         }
     }
 
     /// Removes a key, whether its deadline has come or not, and returns its value.
     pub fn remove(&mut self, key: &K) -> Result<Option<V>, CacheError>
         requires exact { (x y : V) → V.is_clone x y → y ≡ x }
+        ensures value { IfOk result (λ value. value
+            ≡ held_value_in ⟦<R as HasWays<K, V, S>>⟧.ways self.old.state key.now) }
+        ensures removes { OnOk result (RemovesAsDrawn ⟦<R as HasWays<K, V, S>>⟧.ways key.now
+            self.old.state self.new.state) }
         ensures err { OnErr result (self.new.state ≡ self.old.state) }
         ensures cause { IfErr result IsShortage }
+        ensures used_up { IsErrOf result errors.UsedUp
+            → (self.old.state.step ≡ 18446744073709551615) ⊎ IsCauseIn
+            ⟦<R as HasWays<K, V, S>>⟧.ways removal_rooms self.old.state key.now errors.UsedUp }
     {
         let Some(at) = self.draw() else {
             return Err(CacheError::UsedUp);
         };
-        match self.state.remove(key, at) {
-            Ok(value) => Ok(value),
-            Err(refused) => Err(shortage_of(refused)),
-        }
+        self.state.remove(key, at)
     }
 
     /// Removes a key, whether its deadline has come or not.
     pub fn invalidate(&mut self, key: &K) -> Result<(), CacheError>
         requires exact { (x y : V) → V.is_clone x y → y ≡ x }
+        ensures removes { OnOk result (RemovesAsDrawn ⟦<R as HasWays<K, V, S>>⟧.ways key.now
+            self.old.state self.new.state) }
         ensures err { OnErr result (self.new.state ≡ self.old.state) }
         ensures cause { IfErr result IsShortage }
+        ensures used_up { IsErrOf result errors.UsedUp
+            → (self.old.state.step ≡ 18446744073709551615) ⊎ IsCauseIn
+            ⟦<R as HasWays<K, V, S>>⟧.ways removal_rooms self.old.state key.now errors.UsedUp }
     {
         let Some(at) = self.draw() else {
             return Err(CacheError::UsedUp);
         };
-        match self.state.invalidate(key, at) {
-            Ok(()) => Ok(()),
-            Err(refused) => Err(shortage_of(refused)),
-        }
+        self.state.invalidate(key, at)
     }
 
     /// Covers every value that was written before.
     pub fn invalidate_all(&mut self) -> Result<(), CacheError>
+        ensures clears { OnOk result (ClearsAsDrawn self.old.state self.new.state) }
         ensures err { OnErr result (self.new.state ≡ self.old.state) }
-        ensures cause { IfErr result (λ e. e ≡ errors.UsedUp) }
+        ensures cause { IfErr result
+            (λ e. (e ≡ errors.UsedUp) × (self.old.state.step ≡ 18446744073709551615)) }
     {
         let Some(at) = self.draw() else {
             return Err(CacheError::UsedUp);
@@ -123,8 +142,10 @@ impl<
 
     /// Runs maintenance to its end.
     pub fn run_pending_tasks(&mut self) -> Result<(), CacheError>
+        ensures runs { OnOk result (RunsAsDrawn R.answers self.old.state self.new.state) }
         ensures err { OnErr result (self.new.state ≡ self.old.state) }
-        ensures cause { IfErr result (λ e. e ≡ errors.UsedUp) }
+        ensures cause { IfErr result
+            (λ e. (e ≡ errors.UsedUp) × (self.old.state.step ≡ 18446744073709551615)) }
     {
         let Some(at) = self.draw() else {
             return Err(CacheError::UsedUp);

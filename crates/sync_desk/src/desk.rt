@@ -1,5 +1,5 @@
 //! What the lock guards.
-ghost use Rattle.std.specs.Prelude.{◌≡◌, ◌<◌, IfSome};
+ghost use Rattle.std.specs.Prelude.{◌≡◌, ◌<◌, None, IfSome};
 ghost use Rattle.front_reference.specs.Fronts.{ComesAfter};
 ghost use Rattle.front_reference.specs.Wholes.{total_number, total_weight};
 ghost use Rattle.sync_desk.specs.Drawing.{IsDrawn};
@@ -50,6 +50,7 @@ impl<
         ensures follows { IfSome result (λ at. ComesAfter at.now at.step self.old.state) }
         ensures rises { IfSome result (λ at. self.old.state.step < at.step) }
         ensures drawn { IfSome result (IsDrawn self.old.state) }
+        ensures used_up { result ≡ None → self.old.state.step ≡ 18446744073709551615 }
         ensures state { self.new.state ≡ self.old.state }
     {
         let last = self.state.last_call();

@@ -2,8 +2,9 @@
 ghost use Rattle.std.specs.Prelude.{◌≡◌, true, None, Ok, IfOk, IfErr, OnOk, OnErr, IsSome, is_some};
 ghost use Rattle.std.specs.Fn.{FnOnceReturnsAt};
 ghost use Rattle.front_reference.specs.Fronts.{turn_at, turn_of};
+ghost use Rattle.front_reference.specs.declared.data.Made.TheVariants as makes;
 ghost use Rattle.sync_desk.specs.Coalescing.{GivesUp, IsMadeOrFound};
-ghost use Rattle.sync_desk.specs.Drawing.{BeginsAsDrawn, FinishesAsDrawn};
+ghost use Rattle.sync_desk.specs.Drawing.{BeginsAsDrawn, FinishesAsDrawn, TakesOutAsDrawn};
 ghost use Rattle.sync_desk.specs.Slots.Endings.{fits, suits};
 ghost use Rattle.sync_desk.specs.Slots.Refusals.{IsEndRefusal, IsShortage};
 
@@ -311,6 +312,9 @@ impl<
 
     /// Ends the compute turn that the caller leads by putting a value. If that is refused, the turn is given up.
     pub fn put(&mut self, number: u64, value: V) -> Result<(), CacheError>
+        ensures ends { OnOk result (FinishesAsDrawn ⟦<R as HasWays<K, V, S>>⟧.ways {F = R.Fault}
+            number (makes.Value value) self.old.state self.new.state) }
+        ensures err { OnErr result (GivesUp number self.old.state self.new.state) }
         ensures cause { IfErr result IsEndRefusal }
     {
         self.end_with(
@@ -325,6 +329,9 @@ impl<
     /// that is refused, the turn is given up.
     pub fn take_out(&mut self, number: u64, key: &K) -> Result<Option<V>, CacheError>
         requires exact { (x y : V) → V.is_clone x y → y ≡ x }
+        ensures takes_out { IfOk result (TakesOutAsDrawn ⟦<R as HasWays<K, V, S>>⟧.ways number
+            key.now self.old.state self.new.state) }
+        ensures err { OnErr result (GivesUp number self.old.state self.new.state) }
         ensures cause { IfErr result IsShortage }
     {
         let removed = self.remove(key);

@@ -1,8 +1,9 @@
 //! Calls on all segments: predicates, notices, and what iterators read.
-ghost use Rattle.std.specs.Prelude.{◌≡◌, ◌≤◌, ℕ, true, IfErr, IfOk, OnOk, OnErr};
+ghost use Rattle.std.specs.Prelude.{◌≡◌, ◌≤◌, true, IfErr, IfOk, MatchOption, OnOk, OnErr, length};
 ghost use Rattle.front_reference.specs.declared.errors.CacheError.TheVariants as errors;
 ghost use Rattle.front_reference.specs.Wholes.{next_told, without_told};
-ghost use Rattle.front_state.specs.Calls.{visible_in};
+ghost use Rattle.front_state.specs.Covering.{keys_in};
+ghost use Rattle.sync_desk.specs.Drawing.{SeesAsDrawn};
 ghost use Rattle.sync_desk.specs.Slots.Refusals.{IsCoverRefusal};
 
 use crate::desk::Desk;
@@ -90,6 +91,8 @@ impl<
     /// Takes the oldest notice of the first segment that has one.
     pub fn next_notice(&mut self) -> Option<Notice<Shared<K>, V>>
         ensures notice { result ≡ next_told self.old.state.parts }
+        ensures taken { self.new.state
+            ≡ record self.old.state { parts = without_told self.old.state.parts } }
     {
         self.state.next_notice()
     }
@@ -97,6 +100,9 @@ impl<
     /// Returns clones of the keys of a segment, including those of expired and invalidated values, or `None` if there is no such segment.
     pub fn keys(&self, segment: usize) -> Result<Option<Vec<Shared<K>>>, CacheError>
         requires exact { (x y : V) → V.is_clone x y → y ≡ x }
+        ensures keys { IfOk result
+            (λ keys. MatchOption keys (length self.now.state.parts ≤ segment)
+            (λ found. found.items ≡ keys_in self.now.state segment)) }
         ensures cause { IfErr result (λ e. e ≡ errors.OutOfMemory) }
     {
         match self.state.keys(segment) {
@@ -108,8 +114,8 @@ impl<
     /// Returns a clone of the visible value of a key. It does not count as a use, and changes nothing.
     pub fn scan(&mut self, key: &K) -> Result<Option<V>, CacheError>
         requires exact { (x y : V) → V.is_clone x y → y ≡ x }
-        ensures found { IfOk result (λ found. (now : ℕ) × (self.old.state.moment ≤ now)
-            × (found ≡ visible_in ⟦<R as HasWays<K, V, S>>⟧.ways self.old.state now key.now)) }
+        ensures found { IfOk result
+            (SeesAsDrawn ⟦<R as HasWays<K, V, S>>⟧.ways key.now self.old.state) }
         ensures state { self.new.state ≡ self.old.state }
         ensures cause { IfErr result (λ e. e ≡ errors.OutOfMemory) }
     {

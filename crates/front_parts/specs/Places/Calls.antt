@@ -1,10 +1,10 @@
 -- What a call does to a front, in terms of the part that its key belongs to.
-use Rattle.std.specs.Prelude.{◌≡◌, ℕ, ◌+◌, ◌^◌, ◌<◌, ◌≤◌, Bool, false, List, [], Option, Some, None, Result, Ok, Vec, length, slice_get}
+use Rattle.std.specs.Prelude.{◌≡◌, ℕ, ◌+◌, ◌^◌, ◌<◌, ◌≤◌, Bool, false, List, [], Option, Some, None, Result, Ok, Vec, length, option_map, slice_get}
 use Rattle.std.specs.declared.hash.Hasher as hashers
 use Rattle.std.specs.declared.hash.BuildHasher as builders
 use Rattle.engine_reference.specs.Rules.Hashing.{hash_of_key}
 use Rattle.engine_reference.specs.declared.rules.rules.Rules as rules
-use Rattle.engine_reference.specs.Records.{held_entries}
+use Rattle.engine_reference.specs.Records.{held_at, held_entries}
 use Rattle.engine_reference.specs.Scanning.{NotesLookUp, held_keys, past}
 use Rattle.engine_reference.specs.State.{State, Answers}
 use Rattle.engine_reference.specs.Telling.{AreApart}
@@ -83,6 +83,14 @@ module _ {K V P S R : Type 0} (ways : Ways K V P S R) where
 
   abbrev pub held_value_in : Front K V P S R → K → Option V
   held_value_in f key = held_of (part_with f key) key
+
+  -- the key that is held and equal to a key, whether its value is visible or not
+  abbrev pub held_key_of : Option (State K V P S R) → K → Option K
+  held_key_of None key = None
+  held_key_of (Some s) key = option_map (λ r. r.entry.key) (held_at ways.eq s.records key)
+
+  abbrev pub held_key_in : Front K V P S R → K → Option K
+  held_key_in f key = held_key_of (part_with f key) key
 
   -- the 64-bit tickets do not suffice in a part for this much room
   abbrev pub LacksTickets : (rooms : Settings → ℕ) → Option (State K V P S R) → Type 0

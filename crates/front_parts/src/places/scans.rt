@@ -1,6 +1,6 @@
 //! What is visible and held in the part at a place, without a use of it.
-ghost use Rattle.std.specs.Prelude.{◌≡◌, ◌≤◌, true, IfOk, IfSome, MatchOption, length, option_map, slice_get};
-ghost use Rattle.front_parts.specs.Places.Calls.{IsOpenAt, keys_of, visible_of};
+ghost use Rattle.std.specs.Prelude.{◌≡◌, ◌≤◌, IfOk, MatchOption, length, option_map, slice_get};
+ghost use Rattle.front_parts.specs.Places.Calls.{IsOpenAt, held_key_of, keys_of, visible_of};
 
 use crate::BaseCache;
 use crate::places::HasWays;
@@ -52,7 +52,8 @@ pub fn held_key_at<K: Eq + Hash + Clone + Drop, V, S: BuildHasher, R: Rules<K, V
     requires exact_key { (x y : K) → K.is_clone x y → y ≡ x }
     requires there { IsOpenAt ⟦<R as HasWays<K, V, S>>⟧.ways place
         (Q.named_key key.now) hash parts.now }
-    ensures { IfOk result (λ found. IfSome found (λ held. K.eq (Q.named_key key.now) held ≡ true)) }
+    ensures { IfOk result (λ found. found ≡ held_key_of ⟦<R as HasWays<K, V, S>>⟧.ways
+        (slice_get parts.now place) (Q.named_key key.now)) }
 {
     parts[place].get_key_with_hash(key, hash)
 }

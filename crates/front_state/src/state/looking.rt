@@ -1,7 +1,7 @@
 //! Look-ups that make no clone, and so take no memory.
 ghost use Rattle.std.specs.Prelude.{◌≡◌, ◌≤◌, IfOk, true, IfSome, OnOk, OnErr, option_map};
 ghost use Rattle.front_reference.specs.Wholes.{visible_number};
-ghost use Rattle.front_parts.specs.Places.Calls.{LooksUpIn, hash_in, visible_in};
+ghost use Rattle.front_parts.specs.Places.Calls.{LooksUpIn, hash_in, held_key_in, visible_in};
 ghost use Rattle.front_parts.specs.Showing.{IsShown};
 
 use crate::state::LentState;
@@ -35,7 +35,9 @@ impl<K: Eq + Hash, V, S: BuildHasher, R: Rules<K, V>, C> LentState<K, V, S, R, C
     where
         K: Drop,
         requires hashed { hash ≡ hash_in ⟦<R as HasWays<K, V, S>>⟧.ways self.now key.now }
-        ensures { IfOk result (λ found. IfSome found (λ held. K.eq key.now held ≡ true)) }
+        ensures found { IfOk result
+            (λ found. found ≡ held_key_in ⟦<R as HasWays<K, V, S>>⟧.ways self.now key.now) }
+        ensures equal { IfOk result (λ found. IfSome found (λ held. K.eq key.now held ≡ true)) }
     {
         let place = place_of(self.bits, hash);
         held_key_at(self.parts.as_slice(), place, &LentKey { key }, hash)

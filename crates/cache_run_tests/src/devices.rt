@@ -1,7 +1,9 @@
 //! Devices of memory, and one run over them.
 ghost use Rattle.std.specs.Prelude.{length, ◌<◌};
 
-use audit_model::{Bytes, Closing, Config, Conn, Instant, Outcome, Seq, ServiceError};
+use audit_model::{
+    Bytes, Closing, Config, Conn, EvictionPolicy, Instant, Outcome, Seq, ServiceError, Weight,
+};
 use cache_run::{Clock, Loader, RunError, Watched, run};
 use cache_spaces::Service;
 use rand_core::SeedableRng;
@@ -9,6 +11,17 @@ use rand_xoshiro::Xoshiro256PlusPlus;
 use std::alloc::Global;
 use std::io;
 use std::io::{ErrorKind, Read, Write};
+
+/// Without capacity, times and own deadlines.
+pub const PLAIN: Config = Config {
+    capacity: None,
+    policy: EvictionPolicy::Lru,
+    parts: 1,
+    weight: Weight::One,
+    live_ms: None,
+    idle_ms: None,
+    own_deadlines: false,
+};
 
 /// A clock that counts its readings, and is late from a chosen one on, counted from 1.
 #[derive(Clone, Copy, Drop)]

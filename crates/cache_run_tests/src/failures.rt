@@ -1,6 +1,5 @@
 //! Devices that fail while a load is out.
-use crate::rows::{PLAIN, none_wrong};
-use crate::running::devices::{Ran, SOUND, Saying, Setting, run_over};
+use crate::devices::{PLAIN, Ran, SOUND, Saying, Setting, run_over};
 use audit_model::Closing;
 use cache_run::RunError;
 use std::alloc::Global;
@@ -105,7 +104,7 @@ fn first_wrong(alloc: Global) -> Option<(usize, usize)> {
 
 #[test]
 fn a_device_fails_at_each_call(rt: HostRuntime) {
-    none_wrong(&rt, first_wrong(rt.alloc()));
+    assert_eq!(rt; first_wrong(rt.alloc()), None);
 }
 
 /// Whether a run whose write failed did not ask the loader.

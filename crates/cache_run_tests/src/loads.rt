@@ -1,6 +1,5 @@
 //! What a connection is replied whose lines load.
-use crate::rows::{PLAIN, no_row_wrong, none_wrong};
-use crate::running::devices::{Ran, SOUND, Saying, Setting, run_over};
+use crate::devices::{PLAIN, Ran, SOUND, Saying, Setting, run_over};
 use audit_model::{Closing, Config};
 use std::alloc::{AllocError, Global};
 
@@ -143,7 +142,7 @@ fn first_wrong(alloc: Global, size: usize) -> Option<usize> {
 
 #[test]
 fn rows_of_loads(rt: HostRuntime) {
-    no_row_wrong(&rt, first_wrong(rt.alloc(), 8192));
+    assert_eq!(rt; first_wrong(rt.alloc(), 8192), None);
 }
 
 /// The first of the sizes of a piece up to that of a line with which a row does not come out so, and the row's place.
@@ -158,7 +157,7 @@ fn first_wrong_cut(alloc: Global) -> Option<(usize, usize)> {
 
 #[test]
 fn cut_at_each_byte(rt: HostRuntime) {
-    none_wrong(&rt, first_wrong_cut(rt.alloc()));
+    assert_eq!(rt; first_wrong_cut(rt.alloc()), None);
 }
 
 /// Whether a run ended well whose loader was asked for these keys, one behind the other.
