@@ -13,7 +13,7 @@ use Rattle.audit_model.specs.declared.transcript.Transcript.{Transcript}
 
 -- nothing is open there
 abbrev pub bare : Gathered → Gathered
-bare g = record g { «record» = None; step = None }
+bare g = record g { last = None; step = None }
 
 abbrev ended : Gathered → Option (Config × Transcript)
 ended g = g.config >>= (λ config. g.made >>= (λ made. Some (config, record { made = made; records = (closed_record g).records })))
@@ -22,9 +22,9 @@ abbrev whole : Gathered → Option (Config × Transcript)
 whole g = g.config >>= (λ config. g.made >>= (λ made. Some (config, record { made = made; records = g.records })))
 
 of_closed : (g : Gathered) → ended g ≡ whole (closed_record g)
-of_closed g = go g.«record»
+of_closed g = go g.last
   where
-    go : (r : Option Record) → ended (record g { «record» = r }) ≡ whole (closed_record (record g { «record» = r }))
+    go : (r : Option Record) → ended (record g { last = r }) ≡ whole (closed_record (record g { last = r }))
     go None = refl
     go (Some r) = refl
 
@@ -36,8 +36,8 @@ pub finished-bare : (g m : Gathered) → option_map closed_record (closed_step g
 unfolding finished
 finished-bare g m e = of_some (closed_step g) m e
 
-pub bare-text : (m : Gathered) → m.«record» ≡ None → m.step ≡ None → gathered_text (bare m) ≡ gathered_text m
-bare-text m r s = ap (λ o. gathered_text (record m { «record» = o; step = None })) (sym r) ∙ ap (λ o. gathered_text (record m { step = o })) (sym s)
+pub bare-text : (m : Gathered) → m.last ≡ None → m.step ≡ None → gathered_text (bare m) ≡ gathered_text m
+bare-text m r s = ap (λ o. gathered_text (record m { last = o; step = None })) (sym r) ∙ ap (λ o. gathered_text (record m { step = o })) (sym s)
 
 none_of : (o : Option Gathered) → option_map closed_record o ≡ None → (o >>= ended) ≡ None
 none_of None e = refl

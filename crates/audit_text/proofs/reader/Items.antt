@@ -162,7 +162,7 @@ run g is = add_items g is >>= finished
 
 -- what was gathered: whole records, the open record, and the open step
 abbrev pub state : Config → Instant → List Record → Option Record → Option Step → Gathered
-state config made rs r s = record { config = Some config; made = Some made; records = rs; «record» = r; step = s }
+state config made rs r s = record { config = Some config; made = Some made; records = rs; last = r; step = s }
 
 module _ (config : Config) (made : Instant) where
   run-notes : (rs : List Record) (r : Record) (s : Step) (ns : List Note) (is : List Item)

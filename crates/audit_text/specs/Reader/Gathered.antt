@@ -24,5 +24,5 @@ gathered_text g =
     option_map_or (λ config. line (config_words config)) g.config []
     ++ option_map_or (λ made. line (made_words made.nanos)) g.made []
     ++ flat_map record_text g.records
-    ++ option_map_or record_text g.«record» []
+    ++ option_map_or record_text g.last []
     ++ option_map_or step_text g.step []

@@ -37,11 +37,11 @@ IsGiven (Err error.OutOfMemory) config transcript = Unit {0}
 
 -- nothing was gathered
 abbrev pub none_gathered : Gathered
-none_gathered = record { config = None; made = None; records = []; «record» = None; step = None }
+none_gathered = record { config = None; made = None; records = []; last = None; step = None }
 
 -- no record has begun
 abbrev pub has_no_records : Gathered → Bool
-has_no_records g = nat_eq (length g.records) 0 && is_none g.«record» && is_none g.step
+has_no_records g = nat_eq (length g.records) 0 && is_none g.last && is_none g.step
 
 -- ---- a record with more
 
@@ -68,19 +68,19 @@ with_note s note = record s { notices = s.notices ++ note ∷ [] }
 abbrev pub step_closed : Option Step → Option Record → Gathered → Option Gathered
 step_closed None r g = Some g
 step_closed (Some s) None g = None
-step_closed (Some s) (Some r) g = Some (record g { «record» = Some (with_step r s); step = None })
+step_closed (Some s) (Some r) g = Some (record g { last = Some (with_step r s); step = None })
 
 -- the last step was added to its record
 abbrev pub closed_step : Gathered → Option Gathered
-closed_step g = step_closed g.step g.«record» g
+closed_step g = step_closed g.step g.last g
 
 abbrev pub record_closed : Option Record → Gathered → Gathered
 record_closed None g = g
-record_closed (Some r) g = record g { records = g.records ++ r ∷ []; «record» = None }
+record_closed (Some r) g = record g { records = g.records ++ r ∷ []; last = None }
 
 -- the last record was added to the others
 abbrev pub closed_record : Gathered → Gathered
-closed_record g = record_closed g.«record» g
+closed_record g = record_closed g.last g
 
 -- ---- what was gathered with one more item, if it may come there
 
@@ -103,25 +103,25 @@ begun event = record { event = event; own = None; notices = []; steps = [] }
 unfoldable pub add_event : Gathered → Event → Option Gathered
 add_event g event =
     if is_none g.made then None else option_map {T = Gathered} (λ closed. record (closed_record closed) {
-      «record» = Some (begun event);
+      last = Some (begun event);
     }) (closed_step g)
 
 -- the open record was changed, if no step is open
 abbrev pub on_record : (Record → Option Record) → Option Record → Gathered → Option Gathered
 on_record change None g = None
 on_record change (Some r) g =
-    option_map (λ changed. record g { «record» = Some changed }) (change r)
+    option_map (λ changed. record g { last = Some changed }) (change r)
 
 unfoldable pub add_own : Gathered → Accepted → Option Gathered
-add_own g own = if is_some g.step then None else on_record (λ r. with_own r own) g.«record» g
+add_own g own = if is_some g.step then None else on_record (λ r. with_own r own) g.last g
 
 unfoldable pub add_own_note : Gathered → Note → Option Gathered
 add_own_note g note =
-    if is_some g.step then None else on_record (λ r. with_own_note r note) g.«record» g
+    if is_some g.step then None else on_record (λ r. with_own_note r note) g.last g
 
 unfoldable pub add_step : Gathered → Step → Option Gathered
 add_step g step =
-    if is_none g.«record» then None else option_map {T = Gathered} (λ closed. record closed {
+    if is_none g.last then None else option_map {T = Gathered} (λ closed. record closed {
       step = Some step;
     }) (closed_step g)
 

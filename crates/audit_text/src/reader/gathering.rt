@@ -19,7 +19,7 @@ pub struct Gathered {
     pub config: Option<Config>,
     pub made: Option<Instant>,
     pub records: Seq<Record>,
-    pub record: Option<Record>,
+    pub last: Option<Record>,
     pub step: Option<Step>,
 }
 
@@ -32,7 +32,7 @@ pub fn nothing(alloc: Global) -> Gathered
         config: None,
         made: None,
         records: Seq::new(alloc),
-        record: None,
+        last: None,
         step: None,
     }
 }
@@ -83,10 +83,10 @@ fn add_made(gathered: &mut Gathered, made: Instant) -> Result<(), LineFault>
 /// Whether no record has begun.
 fn has_no_records(gathered: &Gathered) -> bool
     ensures said { result ≡ said.has_no_records gathered.now }
-    ensures none { IsTrue result → ((gathered.now.records ≡ []) × (gathered.now.«record» ≡ None)
+    ensures none { IsTrue result → ((gathered.now.records ≡ []) × (gathered.now.last ≡ None)
         × (gathered.now.step ≡ None)) }
 {
-    gathered.records.len() == 0 && gathered.record.is_none() && gathered.step.is_none()
+    gathered.records.len() == 0 && gathered.last.is_none() && gathered.step.is_none()
 }
 
 #[tactic(auto, unfolding(crate::specs::Reader::Gathering::add_event))]
@@ -99,7 +99,7 @@ fn add_event(alloc: Global, gathered: &mut Gathered, event: Event) -> Result<(),
         return Err(LineFault::Form);
     }
     close(gathered)?;
-    gathered.record = Some(begin_record(alloc, event));
+    gathered.last = Some(begin_record(alloc, event));
     Ok(())
 }
 
@@ -122,19 +122,19 @@ fn close_step(gathered: &mut Gathered) -> Result<(), LineFault>
     ensures said { IsMade (said.closed_step gathered.old) result gathered.new }
 {
     match gathered.step.take() {
-        Some(step) => put_last_step(&mut gathered.record, step),
+        Some(step) => put_last_step(&mut gathered.last, step),
         None => Ok(()),
     }
 }
 
-/// Adds the last step to the record that is open, if one is.
-fn put_last_step(open: &mut Option<Record>, step: Step) -> Result<(), LineFault>
-    ensures text { OnOk result (option_map_or record_text open.new []
-        ≡ option_map_or record_text open.old [] ++ step_text step) }
-    ensures said { IsMade (option_map (λ r. Some (said.with_step r step)) open.old) result
-        open.new }
+/// Adds the last step to the last record, if there is one.
+fn put_last_step(last: &mut Option<Record>, step: Step) -> Result<(), LineFault>
+    ensures text { OnOk result (option_map_or record_text last.new []
+        ≡ option_map_or record_text last.old [] ++ step_text step) }
+    ensures said { IsMade (option_map (λ r. Some (said.with_step r step)) last.old) result
+        last.new }
 {
-    match open {
+    match last {
         Some(record) => put_step(record, step),
         None => Err(LineFault::Form),
     }
@@ -142,12 +142,12 @@ fn put_last_step(open: &mut Option<Record>, step: Step) -> Result<(), LineFault>
 
 /// Adds a step to a record.
 #[tactic(auto, using(crate::proofs::reader::Growing::flat_map_push))]
-fn put_step(record: &mut Record, step: Step) -> Result<(), LineFault>
+fn put_step(last: &mut Record, step: Step) -> Result<(), LineFault>
     ensures text { OnOk result
-        (record_text «record».new ≡ record_text «record».old ++ step_text step) }
-    ensures said { IsMade (Some (said.with_step «record».old step)) result «record».new }
+        (record_text last.new ≡ record_text last.old ++ step_text step) }
+    ensures said { IsMade (Some (said.with_step last.old step)) result last.new }
 {
-    record.steps.push(step)?;
+    last.steps.push(step)?;
     Ok(())
 }
 
@@ -157,10 +157,10 @@ fn close_record(gathered: &mut Gathered) -> Result<(), LineFault>
     requires { gathered.old.step ≡ None }
     ensures text { OnOk result (gathered_text gathered.new ≡ gathered_text gathered.old) }
     ensures step { OnOk result (gathered.new.step ≡ None) }
-    ensures closed { OnOk result (gathered.new.«record» ≡ None) }
+    ensures closed { OnOk result (gathered.new.last ≡ None) }
     ensures said { IsMade (Some (said.closed_record gathered.old)) result gathered.new }
 {
-    match gathered.record.take() {
+    match gathered.last.take() {
         Some(record) => put_record(&mut gathered.records, record),
         None => Ok(()),
     }
@@ -168,12 +168,12 @@ fn close_record(gathered: &mut Gathered) -> Result<(), LineFault>
 
 /// Adds a record to the others.
 #[tactic(auto, using(crate::proofs::reader::Growing::flat_map_push))]
-fn put_record(records: &mut Seq<Record>, record: Record) -> Result<(), LineFault>
+fn put_record(records: &mut Seq<Record>, last: Record) -> Result<(), LineFault>
     ensures text { OnOk result (flat_map record_text records.new ≡ flat_map record_text records.old
-        ++ record_text «record») }
-    ensures said { IsMade (Some (records.old ++ «record» ∷ [])) result records.new }
+        ++ record_text last) }
+    ensures said { IsMade (Some (records.old ++ last ∷ [])) result records.new }
 {
-    records.push(record)?;
+    records.push(last)?;
     Ok(())
 }
 
@@ -186,22 +186,22 @@ fn add_own(gathered: &mut Gathered, own: Accepted) -> Result<(), LineFault>
     if gathered.step.is_some() {
         return Err(LineFault::Form);
     }
-    match &mut gathered.record {
+    match &mut gathered.last {
         Some(record) => put_own(record, own),
         None => Err(LineFault::Form),
     }
 }
 
 /// Says in a record which part took the answer's value.
-fn put_own(record: &mut Record, own: Accepted) -> Result<(), LineFault>
+fn put_own(last: &mut Record, own: Accepted) -> Result<(), LineFault>
     ensures text { OnOk result
-        (record_text «record».new ≡ record_text «record».old ++ item_line (Item.Own own)) }
-    ensures said { IsMade (said.with_own «record».old own) result «record».new }
+        (record_text last.new ≡ record_text last.old ++ item_line (Item.Own own)) }
+    ensures said { IsMade (said.with_own last.old own) result last.new }
 {
-    if record.own.is_some() || record.notices.len() != 0 || record.steps.len() != 0 {
+    if last.own.is_some() || last.notices.len() != 0 || last.steps.len() != 0 {
         return Err(LineFault::Form);
     }
-    record.own = Some(own);
+    last.own = Some(own);
     Ok(())
 }
 
@@ -214,7 +214,7 @@ fn add_own_note(gathered: &mut Gathered, note: Note) -> Result<(), LineFault>
     if gathered.step.is_some() {
         return Err(LineFault::Form);
     }
-    match &mut gathered.record {
+    match &mut gathered.last {
         Some(record) => put_own_note(record, note),
         None => Err(LineFault::Form),
     }
@@ -222,15 +222,15 @@ fn add_own_note(gathered: &mut Gathered, note: Note) -> Result<(), LineFault>
 
 /// Adds a note of its event's own step to a record.
 #[tactic(auto, using(crate::proofs::reader::Growing::flat_map_push))]
-fn put_own_note(record: &mut Record, note: Note) -> Result<(), LineFault>
+fn put_own_note(last: &mut Record, note: Note) -> Result<(), LineFault>
     ensures text { OnOk result
-        (record_text «record».new ≡ record_text «record».old ++ item_line (Item.OwnNote note)) }
-    ensures said { IsMade (said.with_own_note «record».old note) result «record».new }
+        (record_text last.new ≡ record_text last.old ++ item_line (Item.OwnNote note)) }
+    ensures said { IsMade (said.with_own_note last.old note) result last.new }
 {
-    if record.steps.len() != 0 {
+    if last.steps.len() != 0 {
         return Err(LineFault::Form);
     }
-    record.notices.push(note)?;
+    last.notices.push(note)?;
     Ok(())
 }
 
@@ -240,7 +240,7 @@ fn add_step(gathered: &mut Gathered, step: Step) -> Result<(), LineFault>
         (gathered_text gathered.new ≡ gathered_text gathered.old ++ item_line (Item.Step step)) }
     ensures said { IsMade (said.add_step gathered.old step) result gathered.new }
 {
-    if gathered.record.is_none() {
+    if gathered.last.is_none() {
         return Err(LineFault::Form);
     }
     close_step(gathered)?;
@@ -275,7 +275,7 @@ fn put_note(step: &mut Step, note: Note) -> Result<(), LineFault>
 fn close(gathered: &mut Gathered) -> Result<(), LineFault>
     ensures text { OnOk result (gathered_text gathered.new ≡ gathered_text gathered.old) }
     ensures step { OnOk result (gathered.new.step ≡ None) }
-    ensures closed { OnOk result (gathered.new.«record» ≡ None) }
+    ensures closed { OnOk result (gathered.new.last ≡ None) }
     ensures said { IsMade (option_map said.closed_record (said.closed_step gathered.old)) result
         gathered.new }
 {
@@ -294,7 +294,7 @@ pub fn finish(mut gathered: Gathered) -> Result<(Config, Transcript), LineFault>
         config,
         made,
         records,
-        record: _,
+        last: _,
         step: _,
     } = gathered;
     join(config, made, records)
@@ -308,9 +308,9 @@ fn join(
     records: Seq<Record>,
 ) -> Result<(Config, Transcript), LineFault>
     ensures text { IfOk result (λ r. transcript_text r.0 r.1 ≡ gathered_text (record
-        { config = config; made = made; records = records; «record» = None; step = None })) }
+        { config = config; made = made; records = records; last = None; step = None })) }
     ensures said { IsRead (said.finished
-        (record { config = config; made = made; records = records; «record» = None; step = None }))
+        (record { config = config; made = made; records = records; last = None; step = None }))
         result }
 {
     let Some(config) = config else {

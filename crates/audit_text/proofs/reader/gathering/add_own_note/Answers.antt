@@ -12,7 +12,7 @@ returns-in-Some-clause-text c =
     let g = c.args.gathered.now in
     let front = option_map_or (λ config. line (config_words config)) g.config [] ++ option_map_or (λ made. line (made_words made.nanos)) g.made [] ++ flat_map record_text g.records in
     let more = note_line (codes "ownnote") c.args.note in
-    let new = record_text c.put_own_note.new.record in
+    let new = record_text c.put_own_note.new.last in
     let last = option_map_or step_text g.step [] in
     subst (λ was. OnOk c.put_own_note.result ((front ++ new) ++ last ≡ ((front ++ option_map_or record_text was []) ++ last) ++ more)) (sym c.in-Some.is)
     (recorded-if c.put_own_note.result front more (record_text c.in-Some.record) new g.step (sym c.is_some.ensures ∙ c.if-is_some.false) c.put_own_note.ensures.text)
