@@ -1,9 +1,9 @@
 //! What is under the lock.
-ghost use Rattle.std.specs.Prelude.{◌≡◌, ◌+◌, ◌≤◌, [], true, length, map, sum_by, vec_len, vec_capacity, IfOk, IfErr, OnOk, OnErr};
+ghost use Rattle.std.specs.Prelude.{◌≡◌, ◌≢◌, ◌+◌, ◌≤◌, [], true, false, length, map, sum_by, vec_len, vec_capacity, IfOk, IfErr, OnOk, OnErr};
 ghost use Rattle.cache_shared.specs.Events.{IsLastNumber, Performs, RefusesStep, StandsAfter, TakesNothing};
 ghost use Rattle.cache_shared.specs.Looked.{HeldAtSomeMoment, RefusesCopy, WereOut, WereUntaken};
 ghost use Rattle.cache_shared.specs.Seats.{AgreeAll, Counts, GainsReceipt, SameReceipts};
-ghost use Rattle.cache_spaces.specs.Calls.{Refuses};
+ghost use Rattle.cache_spaces.specs.Calls.{At, Refuses, TakesLoads};
 
 use crate::judging::agree;
 use crate::seat::{Seat, Seating, make_lists, namespace_of};
@@ -196,7 +196,8 @@ impl<L: Seating, C: Shareable> BookedService<L, C> {
 
     /// Whether these are all seats that were made.
     pub fn are_all(&self, seats: &Vec<Seat<L>>) -> bool
-        ensures { result ≡ true → vec_len seats.now + self.now.left ≡ self.now.parts }
+        ensures all { result ≡ true → vec_len seats.now + self.now.left ≡ self.now.parts }
+        ensures missing { result ≡ false → vec_len seats.now + self.now.left ≢ self.now.parts }
     {
         seats.len() as u64 == self.parts - self.left
     }
@@ -250,6 +251,7 @@ impl<L: Seating, C: Shareable> BookedService<L, C> {
 
     /// Returns the reply bytes of a connection since they were last taken, moved out.
     pub fn take_output(&mut self, conn: Conn) -> Result<Vec<u8>, ServiceError>
+        ensures all { IfOk result (λ text. text.items ≡ C.untaken self.old.core conn) }
         ensures taken { IfOk result (λ text. WereUntaken C.spaces C.untaken conn text.items) }
         ensures refused { IfErr result (λ e. HeldAtSomeMoment C.spaces (λ spaces.
             Refuses spaces conn.namespace e (λ space. RefusesCopy space conn.number e))) }
@@ -259,6 +261,8 @@ impl<L: Seating, C: Shareable> BookedService<L, C> {
 
     /// Returns the loads of a namespace that went out and were not taken, moved out.
     pub fn take_loads(&mut self, namespace: u64) -> Result<Vec<(LoadId, Bytes)>, ServiceError>
+        ensures all { IfOk result (λ loads. At (C.spaces self.old.core) (C.spaces self.new.core)
+            namespace (λ was is. TakesLoads was is loads.items)) }
         ensures taken { IfOk result (λ loads. WereOut C.spaces namespace loads.items) }
         ensures refused { IfErr result (λ e. HeldAtSomeMoment C.spaces
             (λ spaces. (e ≡ ServiceError.NoNamespace) × (length spaces ≤ namespace))) }

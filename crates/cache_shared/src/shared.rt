@@ -221,8 +221,8 @@ impl<L: Seating, C: Shareable> SharedService<L, C> {
     ) -> Result<(), ServiceError>
         ensures moved { WereMoved C.spaces C.untold namespace notes.old.items
             notes.new.items }
-        ensures refused { IfErr result
-            (λ e. (e ≡ ServiceError.OutOfMemory) ⊎ (e ≡ ServiceError.NoNamespace)) }
+        ensures refused { IfErr result (λ e. HeldAtSomeMoment C.spaces
+            (λ spaces. Refuses spaces namespace e (λ space. e ≡ ServiceError.OutOfMemory))) }
     {
         self.inner().booked.lock(rt).take_notices(namespace, notes)
     }

@@ -1,8 +1,9 @@
 //! Turns: an input, and everything that its connection is owed afterwards, in one hold of the lock.
-ghost use Rattle.std.specs.Prelude.{◌≡◌, ◌⊎◌, true, IfOk, IfErr, OnErr};
+ghost use Rattle.std.specs.Prelude.{◌≡◌, ◌⊎◌, true, [], IfOk, IfErr, OnOk, OnErr, vec_len, vec_capacity};
 ghost use Rattle.cache_shared.specs.Events.{IsLate, IsUnfitAnswer, is_of_outcome};
-ghost use Rattle.cache_shared.specs.Looked.{Owes, WereMoved};
+ghost use Rattle.cache_shared.specs.Looked.{HeldAtSomeMoment, Owes, WereMoved};
 ghost use Rattle.cache_shared.specs.Seats.{Counts, SameReceipts};
+ghost use Rattle.cache_spaces.specs.Calls.{Refuses};
 
 use crate::booked::BookedService;
 use crate::seat::{Seat, Seating};
@@ -94,8 +95,10 @@ impl<L: Seating, C: Shareable> BookedService<L, C> {
         notes: &mut Vec<Note>,
     ) -> Result<(), ServiceError>
         ensures moved { WereMoved C.spaces C.untold namespace notes.old.items notes.new.items }
-        ensures refused { IfErr result
-            (λ e. (e ≡ ServiceError.OutOfMemory) ⊎ (e ≡ ServiceError.NoNamespace)) }
+        ensures all { OnOk result ((C.untold self.new.core namespace ≡ [])
+            ⊎ (vec_len notes.new ≡ vec_capacity notes.old)) }
+        ensures refused { IfErr result (λ e. HeldAtSomeMoment C.spaces
+            (λ spaces. Refuses spaces namespace e (λ space. e ≡ ServiceError.OutOfMemory))) }
     {
         let room = notes.capacity() - notes.len();
         for _place in 0..room {

@@ -1,1 +1,3 @@
 pub mod Removing
+pub mod Refusing
+pub mod Telling

@@ -3,8 +3,7 @@ use Rattle.std.proofs.Common.{◌≡◌, ℕ, Option, Result, Ok, Err, IfOk, OnO
 use Rattle.front_reference.specs.Fronts.{Front}
 use Rattle.front_reference.specs.declared.errors.CacheError.{CacheError}
 use Rattle.front_state.specs.Calls.{Ways, held_value_in}
-use Rattle.sync_desk.specs.Coalescing.{GivesUp}
-use Rattle.sync_desk.specs.Drawing.{RemovesAsDrawn, TakesOutAsDrawn}
+use Rattle.sync_desk.specs.Drawing.{GivesUp, RemovesAsDrawn, TakesOutAsDrawn}
 
 pub taken_out : {K V P S R : Type 0} (ways : Ways K V P S R) (number : ℕ) (key : K) (old mid new : Front K V P S R) (r : Result (Option V) CacheError)
     → IfOk r (λ value. value ≡ held_value_in ways old key) → OnOk r (RemovesAsDrawn ways key old mid) → GivesUp number mid new → IfOk r (TakesOutAsDrawn ways number key old new)

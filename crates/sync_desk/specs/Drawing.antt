@@ -1,18 +1,27 @@
 -- What a call does to the state, at the moment and step that it draws.
-use Rattle.std.specs.Prelude.{◌≡◌, ℕ, ◌+◌, ◌≤◌, Bool, Option}
+use Rattle.std.specs.Prelude.{◌≡◌, ◌⊎◌, ℕ, ◌+◌, ◌^◌, ◌≤◌, Bool, Option, Some, None, Result, Ok, Err}
 use Rattle.engine_reference.specs.Calls.{cleared_by}
 use Rattle.engine_reference.specs.State.{Answers}
-use Rattle.front_reference.specs.Fronts.{Front, CallsAll, ComesAfter}
+use Rattle.front_parts.specs.Places.Turning.{IsTurnCause}
+use Rattle.front_reference.specs.Fronts.{Front, CallsAll, ComesAfter, turn_at}
+use Rattle.front_reference.specs.Turns.{abandoned, begun_compute}
 use Rattle.front_reference.specs.Wholes.{RunsPart}
 use Rattle.front_reference.specs.declared.data.At.{At}
 use Rattle.front_reference.specs.declared.data.Made.{Made}
 use Rattle.front_reference.specs.declared.data.TurnKind.{TurnKind}
 use Rattle.front_reference.specs.declared.data.TurnStart.{TurnStart}
 use Rattle.front_reference.specs.declared.data.TurnStart.TheVariants as state
-use Rattle.front_state.specs.Calls.{InsertsIn, LooksUpIn, TakesOutIn, Ways, hash_in, held_value_in, visible_in}
+use Rattle.front_reference.specs.declared.errors.CacheError.TheVariants as errors
+use Rattle.front_state.specs.Calls.{CoalescesBy, InsertsIn, LooksUpIn, TakesOutIn, Ways, hash_in, held_value_in, visible_in}
 use Rattle.front_state.specs.Beginning.{BeginsBy}
+use Rattle.front_state.specs.Covering.{CoversAll}
 use Rattle.front_state.specs.Turning.{FinishesBy}
-use Rattle.sync_desk.specs.Coalescing.{GivesUp}
+use Rattle.rand_core.specs.Stream.{Stream}
+use Rattle.sync_desk.specs.Slots.Waiting.{ChangesAt, IsPutAt, SlotsByNumber, joined, opened, slot_at, waiting_at}
+use Rattle.sync_desk.specs.declared.slots.slot.Ending.{Ending}
+use Rattle.sync_desk.specs.declared.slots.slot.Ending.TheVariants.{Done, GivenUp}
+use Rattle.sync_desk.specs.declared.turns.ComputeStart.{ComputeStart}
+use Rattle.sync_desk.specs.declared.turns.ComputeStart.TheVariants as computing
 use Rattle.sync_desk.specs.declared.turns.Start.{Start}
 use Rattle.sync_desk.specs.declared.turns.Start.TheVariants.{Found, Wait, Lead}
 
@@ -21,6 +30,22 @@ abbrev pub IsDrawn : {K V P S R : Type 0} → Front K V P S R → At → Type 0
 IsDrawn f at = ComesAfter at.now at.step f × (at.step ≡ f.step + 1)
 
 module _ {K V P S R : Type 0} where
+  -- so many of the 64-bit steps are not left
+  abbrev pub LacksSteps : (count : ℕ) → Front K V P S R → Type 0
+  LacksSteps count f = 2 ^ 64 ≤ f.step + count
+
+  -- no turn begins, and none is waited for: the steps, the numbers of turns, or the count of those that wait for one are used up
+  abbrev pub LacksNumbers : {F : Type 0} → Front K V P S R → SlotsByNumber V F → Type 0
+  LacksNumbers f slots =
+      LacksSteps 1 f ⊎ IsTurnCause f.next_turn errors.UsedUp
+      ⊎ ((number : ℕ) × (2 ^ 64 ≤ waiting_at number slots + 1))
+
+  -- the turn with this number ended with nothing; or nothing changed, because the steps are used up or it is not under way
+  abbrev pub GivesUp : (number : ℕ) → Front K V P S R → Front K V P S R → Type 0
+  GivesUp number old new =
+      ((new ≡ old) × (LacksSteps 1 old ⊎ (turn_at old.turns number ≡ None)))
+      ⊎ ((at : At) × IsDrawn old at × (new ≡ abandoned number at.now at.step old))
+
   -- every value that was written before is covered
   abbrev pub ClearsAsDrawn : Front K V P S R → Front K V P S R → Type 0
   ClearsAsDrawn old new =
@@ -32,11 +57,22 @@ module _ {K V P S R : Type 0} where
   RunsAsDrawn answers old new =
       (at : At) × IsDrawn old at × CallsAll at.now at.step (RunsPart answers at.now) old new
 
+  -- a predicate is registered in each segment for all values that were written before; the first segment's identifier is this
+  abbrev pub CoversAsDrawn : P → (first : ℕ) → Front K V P S R → Front K V P S R → Type 0
+  CoversAsDrawn predicate first old new =
+      (at : At) × IsDrawn old at
+      × ((drawn left : Stream) × CoversAll predicate at drawn left first old new)
+
 -- how a call that makes a value begins, in terms of the state
 abbrev pub state_start : {A V : Type 0} → Start A V → TurnStart V
 state_start (Found value) = state.Found value
 state_start (Wait number asked) = state.Wait number
 state_start (Lead number) = state.Lead number
+
+-- the same of a compute call
+abbrev pub compute_start : {V : Type 0} → ComputeStart V → TurnStart V
+compute_start (computing.Wait number) = state.Wait number
+compute_start (computing.Lead number seen) = state.Lead number
 
 module _ {K V P S R : Type 0} (ways : Ways K V P S R) where
   -- the value of a key that is visible at a moment no earlier than the last
@@ -73,8 +109,44 @@ module _ {K V P S R : Type 0} (ways : Ways K V P S R) where
       (at : At) × IsDrawn old at
       × BeginsBy ways kind key (hash_in ways old key) at Ignores old new (state_start start)
 
+  -- the turn of a key's compute call that is under way is waited for, or one begins
+  abbrev pub StartsAsDrawn : K → Front K V P S R → Front K V P S R → TurnStart V → Type 0
+  StartsAsDrawn key old new start =
+      (at : At) × IsDrawn old at
+      × ((start, new) ≡ begun_compute ways.eq key (hash_in ways old key) at.now at.step old)
+
+  -- a compute call waits, or leads and then looks its key up
+  abbrev pub ComputesAsDrawn : K → Front K V P S R → Front K V P S R → ComputeStart V → Type 0
+  ComputesAsDrawn key old new (computing.Wait number) =
+      StartsAsDrawn key old new (state.Wait number)
+  ComputesAsDrawn key old new (computing.Lead number seen) =
+      (mid : Front K V P S R) × StartsAsDrawn key old mid (state.Lead number)
+      × LooksUpAsDrawn key mid new seen
+
+  -- the visible value of a key is found, or one is made, in one call
+  abbrev pub CoalescesAsDrawn : {F E : Type 0} → K → (Ignores : V → Bool → Type 0)
+      → (Makes : Result (Made V F) E → Type 0) → Front K V P S R → Front K V P S R → Made V F × Bool
+      → Type 0
+  CoalescesAsDrawn key Ignores Makes old new answer =
+      (at : At) × IsDrawn old at × CoalescesBy ways key at Ignores Makes old new answer
+
   -- the turn with a number ends with what was made
   abbrev pub FinishesAsDrawn : {F : Type 0} → (number : ℕ) → Made V F → Front K V P S R
       → Front K V P S R → Type 0
   FinishesAsDrawn number made old new =
       (at : At) × IsDrawn old at × FinishesBy ways number made at old new
+
+-- What a call does to the turns that are led or waited for.
+module _ {V F : Type 0} where
+  -- a call of a kind on a key of this hash waits for a turn, or leads one for which nobody waits
+  abbrev pub HasStarted : TurnKind → (hash : ℕ) → (old new : SlotsByNumber V F) → TurnStart V
+      → Type 0
+  HasStarted kind hash old new (state.Found value) = (n : ℕ) → slot_at n new ≡ slot_at n old
+  HasStarted kind hash old new (state.Wait number) = ChangesAt kind number joined old new
+  HasStarted kind hash old new (state.Lead number) =
+      IsPutAt number (Some (opened kind hash)) old new
+
+  -- what those that wait are told: what was made, if the turn ended with it
+  abbrev pub told_by : {E : Type 0} → Made V F → Result (Unit {0}) E → Ending V F
+  told_by made (Ok done) = Done made
+  told_by made (Err e) = GivenUp

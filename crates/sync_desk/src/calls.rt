@@ -4,7 +4,7 @@ ghost use Rattle.std.specs.Result.{IsErrOf};
 ghost use Rattle.engine_reference.specs.Calls.{removal_rooms};
 ghost use Rattle.front_reference.specs.declared.errors.CacheError.TheVariants as errors;
 ghost use Rattle.front_state.specs.Calls.{IsCauseIn, held_value_in};
-ghost use Rattle.sync_desk.specs.Drawing.{ClearsAsDrawn, InsertsAsDrawn, LooksUpAsDrawn, RemovesAsDrawn, RunsAsDrawn, SeesAsDrawn};
+ghost use Rattle.sync_desk.specs.Drawing.{ClearsAsDrawn, InsertsAsDrawn, LacksSteps, LooksUpAsDrawn, RemovesAsDrawn, RunsAsDrawn, SeesAsDrawn};
 ghost use Rattle.sync_desk.specs.Slots.Refusals.{IsShortage};
 
 use crate::desk::Desk;
@@ -13,16 +13,6 @@ use engine_reference::Rules;
 use front_parts::HasWays;
 use front_reference::{At, CacheError, OwnedKey};
 use std::hash::{BuildHasher, Hash};
-
-/// Why a call of the state is refused: memory, or otherwise numbers.
-pub(crate) fn shortage_of(refused: CacheError) -> CacheError
-    ensures { IsShortage result }
-{
-    match refused {
-        CacheError::OutOfMemory => CacheError::OutOfMemory,
-        _ => CacheError::UsedUp,
-    }
-}
 
 impl<
     K: Eq + Hash + Drop,
@@ -38,9 +28,10 @@ impl<
         ensures found { IfOk result
             (LooksUpAsDrawn ⟦<R as HasWays<K, V, S>>⟧.ways key.now self.old.state self.new.state) }
         ensures err { OnErr result (self.new.state ≡ self.old.state) }
+        ensures slots { self.new.slots ≡ self.old.slots }
         ensures cause { IfErr result IsShortage }
         ensures used_up { IsErrOf result errors.UsedUp
-            → self.old.state.step ≡ 18446744073709551615 }
+            → LacksSteps 1 self.old.state }
     {
         let Some(at) = self.draw() else {
             return Err(CacheError::UsedUp);
@@ -69,7 +60,7 @@ impl<
         ensures err { OnErr result (self.new.state ≡ self.old.state) }
         ensures cause { IfErr result IsShortage }
         ensures used_up { IsErrOf result errors.UsedUp
-            → (self.old.state.step ≡ 18446744073709551615) ⊎ IsCauseIn
+            → LacksSteps 1 self.old.state ⊎ IsCauseIn
             ⟦<R as HasWays<K, V, S>>⟧.ways (λ _. 1) self.old.state key errors.UsedUp }
     {
         let Some(at) = self.draw() else {
@@ -97,10 +88,11 @@ impl<
             ≡ held_value_in ⟦<R as HasWays<K, V, S>>⟧.ways self.old.state key.now) }
         ensures removes { OnOk result (RemovesAsDrawn ⟦<R as HasWays<K, V, S>>⟧.ways key.now
             self.old.state self.new.state) }
+        ensures slots { self.new.slots ≡ self.old.slots }
         ensures err { OnErr result (self.new.state ≡ self.old.state) }
         ensures cause { IfErr result IsShortage }
         ensures used_up { IsErrOf result errors.UsedUp
-            → (self.old.state.step ≡ 18446744073709551615) ⊎ IsCauseIn
+            → LacksSteps 1 self.old.state ⊎ IsCauseIn
             ⟦<R as HasWays<K, V, S>>⟧.ways removal_rooms self.old.state key.now errors.UsedUp }
     {
         let Some(at) = self.draw() else {
@@ -117,7 +109,7 @@ impl<
         ensures err { OnErr result (self.new.state ≡ self.old.state) }
         ensures cause { IfErr result IsShortage }
         ensures used_up { IsErrOf result errors.UsedUp
-            → (self.old.state.step ≡ 18446744073709551615) ⊎ IsCauseIn
+            → LacksSteps 1 self.old.state ⊎ IsCauseIn
             ⟦<R as HasWays<K, V, S>>⟧.ways removal_rooms self.old.state key.now errors.UsedUp }
     {
         let Some(at) = self.draw() else {
@@ -131,7 +123,7 @@ impl<
         ensures clears { OnOk result (ClearsAsDrawn self.old.state self.new.state) }
         ensures err { OnErr result (self.new.state ≡ self.old.state) }
         ensures cause { IfErr result
-            (λ e. (e ≡ errors.UsedUp) × (self.old.state.step ≡ 18446744073709551615)) }
+            (λ e. (e ≡ errors.UsedUp) × LacksSteps 1 self.old.state) }
     {
         let Some(at) = self.draw() else {
             return Err(CacheError::UsedUp);
@@ -145,7 +137,7 @@ impl<
         ensures runs { OnOk result (RunsAsDrawn R.answers self.old.state self.new.state) }
         ensures err { OnErr result (self.new.state ≡ self.old.state) }
         ensures cause { IfErr result
-            (λ e. (e ≡ errors.UsedUp) × (self.old.state.step ≡ 18446744073709551615)) }
+            (λ e. (e ≡ errors.UsedUp) × LacksSteps 1 self.old.state) }
     {
         let Some(at) = self.draw() else {
             return Err(CacheError::UsedUp);

@@ -2,7 +2,7 @@
 ghost use Rattle.std.specs.Prelude.{◌≡◌, ◌<◌, None, IfSome};
 ghost use Rattle.front_reference.specs.Fronts.{ComesAfter};
 ghost use Rattle.front_reference.specs.Wholes.{total_number, total_weight};
-ghost use Rattle.sync_desk.specs.Drawing.{IsDrawn};
+ghost use Rattle.sync_desk.specs.Drawing.{IsDrawn, LacksSteps};
 
 use crate::env::Env;
 use crate::slots::Slots;
@@ -50,8 +50,9 @@ impl<
         ensures follows { IfSome result (λ at. ComesAfter at.now at.step self.old.state) }
         ensures rises { IfSome result (λ at. self.old.state.step < at.step) }
         ensures drawn { IfSome result (IsDrawn self.old.state) }
-        ensures used_up { result ≡ None → self.old.state.step ≡ 18446744073709551615 }
+        ensures used_up { result ≡ None → LacksSteps 1 self.old.state }
         ensures state { self.new.state ≡ self.old.state }
+        ensures slots { self.new.slots ≡ self.old.slots }
     {
         let last = self.state.last_call();
         let now = self.env.now().max(last.now);

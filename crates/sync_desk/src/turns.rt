@@ -1,14 +1,21 @@
 //! Turns: leading, waiting, and how they end.
-ghost use Rattle.std.specs.Prelude.{◌≡◌, true, None, Ok, IfOk, IfErr, OnOk, OnErr, IsSome, is_some};
+ghost use Rattle.std.specs.Prelude.{◌≡◌, ◌⊎◌, ◌+◌, true, None, Ok, IfOk, IfErr, OnOk, OnErr, IsSome, if◌then◌else◌, is_ok, is_some};
 ghost use Rattle.std.specs.Fn.{FnOnceReturnsAt};
+ghost use Rattle.std.specs.Result.{IsErrOf};
+ghost use Rattle.engine_reference.specs.Calls.{removal_rooms};
+ghost use Rattle.front_parts.specs.Places.Turning.{IsFinishCause};
 ghost use Rattle.front_reference.specs.Fronts.{turn_at, turn_of};
 ghost use Rattle.front_reference.specs.declared.data.Made.TheVariants as makes;
-ghost use Rattle.sync_desk.specs.Coalescing.{GivesUp, IsMadeOrFound};
-ghost use Rattle.sync_desk.specs.Drawing.{BeginsAsDrawn, FinishesAsDrawn, TakesOutAsDrawn};
-ghost use Rattle.sync_desk.specs.Slots.Endings.{fits, suits};
+ghost use Rattle.front_reference.specs.declared.errors.CacheError.TheVariants as errors;
+ghost use Rattle.front_reference.specs.declared.data.TurnKind.TheVariants as kinds;
+ghost use Rattle.front_state.specs.Calls.{IsCauseIn, hash_in};
+ghost use Rattle.sync_desk.specs.Coalescing.{IsMadeOrFound};
+ghost use Rattle.sync_desk.specs.Drawing.{BeginsAsDrawn, CoalescesAsDrawn, ComputesAsDrawn, FinishesAsDrawn, GivesUp, HasStarted, LacksNumbers, LacksSteps, StartsAsDrawn, TakesOutAsDrawn, compute_start, state_start, told_by};
+ghost use Rattle.sync_desk.specs.Slots.Endings.{IsExact, fits, suits};
 ghost use Rattle.sync_desk.specs.Slots.Refusals.{IsEndRefusal, IsShortage};
+ghost use Rattle.sync_desk.specs.Slots.Waiting.{ChangesAt, changed, ended, if_of, seen_with, slot_at, told_of};
+ghost use Rattle.sync_desk.specs.declared.slots.slot.Ending.TheVariants.{Done, GivenUp};
 
-use crate::calls::shortage_of;
 use crate::desk::Desk;
 use crate::env::Env;
 use crate::slots::{Asked, Ending, SharedName, WaitingName, copy_made};
@@ -63,6 +70,11 @@ impl<
             (BeginsAsDrawn ⟦<R as HasWays<K, V, S>>⟧.ways kind (A.named_key asked)
             (FnOnceReturnsAt P.FnOnce replace_if) self.old.state self.new.state) }
         ensures cause { IfErr result IsShortage }
+        ensures used_up { IsErrOf result errors.UsedUp
+            → LacksNumbers self.old.state self.old.slots.slots }
+        ensures turns { IfOk result (λ start. HasStarted kind
+            (hash_in ⟦<R as HasWays<K, V, S>>⟧.ways self.old.state (A.named_key asked))
+            self.old.slots.slots self.new.slots.slots (state_start start)) }
     {
         if self.state.is_turn_free(kind, asked.key()) {
             self.find_or_lead(kind, asked, replace_if)
@@ -86,6 +98,11 @@ impl<
             (BeginsAsDrawn ⟦<R as HasWays<K, V, S>>⟧.ways kind (A.named_key asked)
             (FnOnceReturnsAt P.FnOnce replace_if) self.old.state self.new.state) }
         ensures cause { IfErr result IsShortage }
+        ensures used_up { IsErrOf result errors.UsedUp
+            → LacksNumbers self.old.state self.old.slots.slots }
+        ensures turns { IfOk result (λ start. HasStarted kind
+            (hash_in ⟦<R as HasWays<K, V, S>>⟧.ways self.old.state (A.named_key asked))
+            self.old.slots.slots self.new.slots.slots (state_start start)) }
     {
         let Some(at) = self.draw() else {
             return Err(CacheError::UsedUp);
@@ -101,7 +118,7 @@ impl<
                 Ok(Start::Lead(number))
             }
             Ok(TurnStart::Wait(_)) => unreachable!(),
-            Err(refused) => Err(shortage_of(refused)),
+            Err(refused) => Err(refused),
         }
     }
 
@@ -119,6 +136,11 @@ impl<
             (BeginsAsDrawn ⟦<R as HasWays<K, V, S>>⟧.ways kind (A.named_key asked)
             (FnOnceReturnsAt P.FnOnce replace_if) self.old.state self.new.state) }
         ensures cause { IfErr result IsShortage }
+        ensures used_up { IsErrOf result errors.UsedUp
+            → LacksNumbers self.old.state self.old.slots.slots }
+        ensures turns { IfOk result (λ start. HasStarted kind
+            (hash_in ⟦<R as HasWays<K, V, S>>⟧.ways self.old.state (A.named_key asked))
+            self.old.slots.slots self.new.slots.slots (state_start start)) }
     {
         let Some(at) = self.draw() else {
             return Err(CacheError::UsedUp);
@@ -135,14 +157,48 @@ impl<
                 Err(_) => Err(CacheError::UsedUp),
             },
             Ok(TurnStart::Lead(_)) => unreachable!(),
-            Err(refused) => Err(shortage_of(refused)),
+            Err(refused) => Err(refused),
         }
     }
 
     /// Begins a compute call. Returns the turn of this key that is under way, for which the caller waits from now on, or a new one.
     pub fn begin_compute(&mut self, key: &Shared<K>) -> Result<ComputeStart<V>, CacheError>
         requires exact { (x y : V) → V.is_clone x y → y ≡ x }
+        ensures begins { IfOk result (ComputesAsDrawn ⟦<R as HasWays<K, V, S>>⟧.ways key.now
+            self.old.state self.new.state) }
         ensures cause { IfErr result IsShortage }
+        ensures turns { IfOk result (λ start. HasStarted kinds.Compute
+            (hash_in ⟦<R as HasWays<K, V, S>>⟧.ways self.old.state key.now)
+            self.old.slots.slots self.new.slots.slots (compute_start start)) }
+        ensures used_up { IsErrOf result errors.UsedUp
+            → LacksNumbers self.old.state self.old.slots.slots ⊎ LacksSteps 2 self.old.state }
+    {
+        let number = match self.start_compute(key)? {
+            TurnStart::Lead(number) => number,
+            TurnStart::Wait(number) => return Ok(ComputeStart::Wait(number)),
+            TurnStart::Found(_) => unreachable!(),
+        };
+        match self.get(&**key) {
+            Ok(seen) => Ok(ComputeStart::Lead(number, seen)),
+            Err(refused) => {
+                self.abandon(TurnKind::Compute, number);
+                Err(refused)
+            }
+        }
+    }
+
+    /// Waits for the turn of a key's compute call that is under way, or leads a new one.
+    fn start_compute(&mut self, key: &Shared<K>) -> Result<TurnStart<V>, CacheError>
+        requires exact { (x y : V) → V.is_clone x y → y ≡ x }
+        ensures starts { IfOk result (StartsAsDrawn ⟦<R as HasWays<K, V, S>>⟧.ways key.now
+            self.old.state self.new.state) }
+        ensures turns { IfOk result (HasStarted kinds.Compute
+            (hash_in ⟦<R as HasWays<K, V, S>>⟧.ways self.old.state key.now)
+            self.old.slots.slots self.new.slots.slots) }
+        ensures step { OnOk result (self.new.state.step ≡ self.old.state.step + 1) }
+        ensures cause { IfErr result IsShortage }
+        ensures used_up { IsErrOf result errors.UsedUp
+            → LacksNumbers self.old.state self.old.slots.slots }
     {
         let Some(at) = self.draw() else {
             return Err(CacheError::UsedUp);
@@ -151,38 +207,16 @@ impl<
             return Err(CacheError::OutOfMemory);
         };
         let hash = self.state.hash(&**key);
-        match self.state.begin(
-            TurnKind::Compute,
-            SharedName { key },
-            hash,
-            at,
-            |_: &V| -> bool { false },
-        ) {
-            Ok(TurnStart::Lead(number)) => {
-                self.slots.open(TurnKind::Compute, number, hash);
-                self.lead_compute(number, &**key)
-            }
-            Ok(TurnStart::Wait(number)) => match self.slots.join(TurnKind::Compute, number) {
-                Ok(()) => Ok(ComputeStart::Wait(number)),
-                Err(_) => Err(CacheError::UsedUp),
-            },
-            Ok(TurnStart::Found(_)) => unreachable!(),
-            Err(refused) => Err(shortage_of(refused)),
+        let name = SharedName { key };
+        let start = self
+            .state
+            .begin(TurnKind::Compute, name, hash, at, |_: &V| -> bool { false })?;
+        match &start {
+            TurnStart::Lead(number) => self.slots.open(TurnKind::Compute, *number, hash),
+            TurnStart::Wait(number) => self.slots.join(TurnKind::Compute, *number)?,
+            TurnStart::Found(_) => {}
         }
-    }
-
-    /// Leads a compute call and makes its look-up.
-    fn lead_compute(&mut self, number: u64, key: &K) -> Result<ComputeStart<V>, CacheError>
-        requires exact { (x y : V) → V.is_clone x y → y ≡ x }
-        ensures cause { IfErr result IsShortage }
-    {
-        match self.get(key) {
-            Ok(seen) => Ok(ComputeStart::Lead(number, seen)),
-            Err(refused) => {
-                self.abandon(TurnKind::Compute, number);
-                Err(refused)
-            }
-        }
+        Ok(start)
     }
 
     /// Returns what became of a turn that the caller waits for. If it ended, or a clone of what it made is refused, the caller waits no
@@ -193,7 +227,11 @@ impl<
         number: u64,
     ) -> Result<Ending<V, Shared<R::Fault>>, CacheError>
         ensures fits { IfOk result (λ ending. fits kind ending ≡ true) }
-        ensures cause { IfErr result IsShortage }
+        ensures told { IsExact V.is_clone → IfOk result
+            (λ ending. ending ≡ told_of (if_of kind (slot_at number self.old.slots.slots))) }
+        ensures leaves { ChangesAt kind number (λ turn. seen_with turn.ending turn)
+            self.old.slots.slots self.new.slots.slots }
+        ensures cause { IfErr result (λ e. e ≡ errors.OutOfMemory) }
         ensures state { self.new.state ≡ self.old.state }
     {
         match self.slots.look(kind, number) {
@@ -211,11 +249,17 @@ impl<
         made: Made<V, Shared<R::Fault>>,
     ) -> Result<(), CacheError>
         requires suits { suits kind made ≡ true }
+        ensures told { IsExact V.is_clone → ChangesAt kind number (ended (told_by made result))
+            self.old.slots.slots self.new.slots.slots }
         ensures ends { OnOk result (FinishesAsDrawn ⟦<R as HasWays<K, V, S>>⟧.ways number made
             self.old.state self.new.state) }
         ensures known { OnOk result (is_some (turn_at self.old.state.turns number) ≡ true) }
         ensures err { OnErr result (GivesUp number self.old.state self.new.state) }
         ensures cause { IfErr result IsEndRefusal }
+        ensures used_up { IsErrOf result errors.UsedUp → LacksSteps 1 self.old.state
+            ⊎ IsFinishCause ⟦<R as HasWays<K, V, S>>⟧.ways number self.old.state errors.UsedUp }
+        ensures unknown { IsErrOf result errors.UnknownTurn
+            → turn_at self.old.state.turns number ≡ None }
     {
         match self.copy_for_waiting(kind, number, &made) {
             Ok(ending) => self.end_with(kind, number, made, ending),
@@ -234,7 +278,10 @@ impl<
         made: &Made<V, Shared<R::Fault>>,
     ) -> Result<Ending<V, Shared<R::Fault>>, AllocError>
         requires { suits kind made.now ≡ true }
-        ensures { IfOk result (λ ending. fits kind ending ≡ true) }
+        ensures fits { IfOk result (λ ending. fits kind ending ≡ true) }
+        ensures copy { IsExact V.is_clone → IfOk result (λ ending. changed kind (ended ending)
+            (slot_at number self.now.slots.slots)
+            ≡ changed kind (ended (Done made.now)) (slot_at number self.now.slots.slots)) }
     {
         if self.slots.is_waited_for(kind, number) {
             Ok(Ending::Done(copy_made(made)?))
@@ -252,11 +299,17 @@ impl<
         ending: Ending<V, Shared<R::Fault>>,
     ) -> Result<(), CacheError>
         requires { fits kind ending ≡ true }
+        ensures told { ChangesAt kind number (ended (if is_ok result then ending else GivenUp))
+            self.old.slots.slots self.new.slots.slots }
         ensures ends { OnOk result (FinishesAsDrawn ⟦<R as HasWays<K, V, S>>⟧.ways number made
             self.old.state self.new.state) }
         ensures known { OnOk result (is_some (turn_at self.old.state.turns number) ≡ true) }
         ensures err { OnErr result (GivesUp number self.old.state self.new.state) }
         ensures cause { IfErr result IsEndRefusal }
+        ensures used_up { IsErrOf result errors.UsedUp → LacksSteps 1 self.old.state
+            ⊎ IsFinishCause ⟦<R as HasWays<K, V, S>>⟧.ways number self.old.state errors.UsedUp }
+        ensures unknown { IsErrOf result errors.UnknownTurn
+            → turn_at self.old.state.turns number ≡ None }
     {
         match self.end_state(number, made) {
             Ok(()) => {
@@ -273,7 +326,9 @@ impl<
     /// Shows those that wait how the turn ended, and notes that its key may have been written.
     fn end_slot(&mut self, kind: TurnKind, number: u64, ending: Ending<V, Shared<R::Fault>>)
         requires { fits kind ending ≡ true }
-        ensures { self.new.state ≡ self.old.state }
+        ensures told { ChangesAt kind number (ended ending) self.old.slots.slots
+            self.new.slots.slots }
+        ensures state { self.new.state ≡ self.old.state }
     {
         if let Some(hash) = self.slots.end(kind, number, ending) {
             let At { step, .. } = self.state.last_call();
@@ -281,28 +336,33 @@ impl<
         }
     }
 
-    /// Ends the turn of the state. Any refusal other than a lack of memory or of numbers means that no such turn is under way.
+    /// Ends the turn of the state.
     fn end_state(&mut self, number: u64, made: Made<V, Shared<R::Fault>>) -> Result<(), CacheError>
         ensures ends { OnOk result (FinishesAsDrawn ⟦<R as HasWays<K, V, S>>⟧.ways number made
             self.old.state self.new.state) }
         ensures known { OnOk result (is_some (turn_at self.old.state.turns number) ≡ true) }
         ensures err { OnErr result (self.new.state ≡ self.old.state) }
+        ensures slots { self.new.slots ≡ self.old.slots }
         ensures cause { IfErr result IsEndRefusal }
+        ensures used_up { IsErrOf result errors.UsedUp → LacksSteps 1 self.old.state
+            ⊎ IsFinishCause ⟦<R as HasWays<K, V, S>>⟧.ways number self.old.state errors.UsedUp }
+        ensures unknown { IsErrOf result errors.UnknownTurn
+            → turn_at self.old.state.turns number ≡ None }
     {
         let Some(at) = self.draw() else {
             return Err(CacheError::UsedUp);
         };
-        match self.state.finish(number, made, at) {
-            Ok(()) => Ok(()),
-            Err((CacheError::OutOfMemory, _)) => Err(CacheError::OutOfMemory),
-            Err((CacheError::UsedUp, _)) => Err(CacheError::UsedUp),
-            Err(_) => Err(CacheError::UnknownTurn),
+        if let Err((refused, _)) = self.state.finish(number, made, at) {
+            return Err(refused);
         }
+        Ok(())
     }
 
     /// Gives up the turn that the caller leads: those that wait begin again. This cannot be refused.
     pub fn abandon(&mut self, kind: TurnKind, number: u64)
-        ensures { GivesUp number self.old.state self.new.state }
+        ensures gives_up { GivesUp number self.old.state self.new.state }
+        ensures told { ChangesAt kind number (ended GivenUp) self.old.slots.slots
+            self.new.slots.slots }
     {
         if let Some(at) = self.draw() {
             let _known = self.state.abandon(number, at);
@@ -314,8 +374,14 @@ impl<
     pub fn put(&mut self, number: u64, value: V) -> Result<(), CacheError>
         ensures ends { OnOk result (FinishesAsDrawn ⟦<R as HasWays<K, V, S>>⟧.ways {F = R.Fault}
             number (makes.Value value) self.old.state self.new.state) }
+        ensures told { ChangesAt kinds.Compute number (ended GivenUp) self.old.slots.slots
+            self.new.slots.slots }
         ensures err { OnErr result (GivesUp number self.old.state self.new.state) }
         ensures cause { IfErr result IsEndRefusal }
+        ensures used_up { IsErrOf result errors.UsedUp → LacksSteps 1 self.old.state
+            ⊎ IsFinishCause ⟦<R as HasWays<K, V, S>>⟧.ways number self.old.state errors.UsedUp }
+        ensures unknown { IsErrOf result errors.UnknownTurn
+            → turn_at self.old.state.turns number ≡ None }
     {
         self.end_with(
             TurnKind::Compute,
@@ -329,10 +395,14 @@ impl<
     /// that is refused, the turn is given up.
     pub fn take_out(&mut self, number: u64, key: &K) -> Result<Option<V>, CacheError>
         requires exact { (x y : V) → V.is_clone x y → y ≡ x }
+        ensures told { ChangesAt kinds.Compute number (ended GivenUp) self.old.slots.slots
+            self.new.slots.slots }
         ensures takes_out { IfOk result (TakesOutAsDrawn ⟦<R as HasWays<K, V, S>>⟧.ways number
             key.now self.old.state self.new.state) }
         ensures err { OnErr result (GivesUp number self.old.state self.new.state) }
         ensures cause { IfErr result IsShortage }
+        ensures used_up { IsErrOf result errors.UsedUp → LacksSteps 1 self.old.state ⊎ IsCauseIn
+            ⟦<R as HasWays<K, V, S>>⟧.ways removal_rooms self.old.state key.now errors.UsedUp }
     {
         let removed = self.remove(key);
         self.abandon(TurnKind::Compute, number);
@@ -352,9 +422,13 @@ impl<
     ) -> Result<(Made<V, Shared<R::Fault>>, bool), CacheError>
         requires exact { (x y : V) → V.is_clone x y → y ≡ x }
         requires callable { P.IsAlwaysCallable replace_if × M.IsAlwaysCallable make }
+        ensures coalesces { IfOk result (CoalescesAsDrawn ⟦<R as HasWays<K, V, S>>⟧.ways key.now
+            (FnOnceReturnsAt P.FnOnce replace_if) (M.post make) self.old.state self.new.state) }
         ensures answer { IfOk result (λ a. IsMadeOrFound (λ made. M.post make (Ok made)) a.0 a.1) }
         ensures err { OnErr result (self.new.state ≡ self.old.state) }
         ensures cause { IfErr result IsShortage }
+        ensures used_up { IsErrOf result errors.UsedUp → LacksSteps 1 self.old.state ⊎ IsCauseIn
+            ⟦<R as HasWays<K, V, S>>⟧.ways (λ _. 1) self.old.state key.now errors.UsedUp }
     {
         let Some(at) = self.draw() else {
             return Err(CacheError::UsedUp);
@@ -366,7 +440,7 @@ impl<
                 self.writes.note(hash, step);
                 Ok(answer)
             }
-            Err(refused) => Err(shortage_of(refused)),
+            Err(refused) => Err(refused),
         }
     }
 }

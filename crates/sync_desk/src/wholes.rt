@@ -1,9 +1,12 @@
 //! Calls on all segments: predicates, notices, and what iterators read.
-ghost use Rattle.std.specs.Prelude.{◌≡◌, ◌≤◌, true, IfErr, IfOk, MatchOption, OnOk, OnErr, length};
+ghost use Rattle.std.specs.Prelude.{◌≡◌, ◌⊎◌, ◌≤◌, ℕ, true, false, IfErr, IfOk, MatchOption, OnOk, OnErr, length};
+ghost use Rattle.std.specs.Result.{IsErrOf};
+ghost use Rattle.std.specs.String.{string_bytes};
+ghost use Rattle.front_parts.specs.Wholes.Covering.{SomeLacksTickets, id_text};
 ghost use Rattle.front_reference.specs.declared.errors.CacheError.TheVariants as errors;
 ghost use Rattle.front_reference.specs.Wholes.{next_told, without_told};
 ghost use Rattle.front_state.specs.Covering.{keys_in};
-ghost use Rattle.sync_desk.specs.Drawing.{SeesAsDrawn};
+ghost use Rattle.sync_desk.specs.Drawing.{CoversAsDrawn, LacksSteps, SeesAsDrawn};
 ghost use Rattle.sync_desk.specs.Slots.Refusals.{IsCoverRefusal};
 
 use crate::desk::Desk;
@@ -14,18 +17,6 @@ use front_reference::{CacheError, Shared};
 use front_state::{PredicateId, Segmented, Single};
 use moka_engine::Notice;
 use std::hash::{BuildHasher, Hash};
-
-/// Why a predicate is refused: no predicates are accepted, identifiers, memory, or otherwise numbers.
-fn cover_refusal_of(refused: CacheError) -> CacheError
-    ensures { IsCoverRefusal result }
-{
-    match refused {
-        CacheError::InvalidationClosuresDisabled => CacheError::InvalidationClosuresDisabled,
-        CacheError::IdsInUse => CacheError::IdsInUse,
-        CacheError::OutOfMemory => CacheError::OutOfMemory,
-        _ => CacheError::UsedUp,
-    }
-}
 
 impl<
     K: Eq + Hash + Drop,
@@ -40,18 +31,21 @@ impl<
         &mut self,
         predicate: R::Predicate,
     ) -> Result<PredicateId, CacheError>
+        ensures covers { IfOk result (λ text. (id : ℕ) × (string_bytes text ≡ id_text id)
+            × CoversAsDrawn predicate id self.old.state self.new.state) }
         ensures takes { OnOk result (self.old.state.common.settings.takes_predicates ≡ true) }
         ensures err { OnErr result (self.new.state ≡ self.old.state) }
         ensures cause { IfErr result IsCoverRefusal }
+        ensures disabled { IsErrOf result errors.InvalidationClosuresDisabled
+            → self.old.state.common.settings.takes_predicates ≡ false }
+        ensures used_up { IsErrOf result errors.UsedUp
+            → LacksSteps 1 self.old.state ⊎ SomeLacksTickets self.old.state.parts }
     {
         let Some(at) = self.draw() else {
             return Err(CacheError::UsedUp);
         };
         let Desk { state, env, .. } = self;
-        match state.invalidate_entries_if(predicate, env, at) {
-            Ok(id) => Ok(id),
-            Err(refused) => Err(cover_refusal_of(refused)),
-        }
+        state.invalidate_entries_if(predicate, env, at)
     }
 }
 
@@ -65,18 +59,21 @@ impl<
     /// Invalidates the values that were written before and for which the predicate returns true, in all segments or, if it is refused, in
     /// none.
     pub fn invalidate_entries_if(&mut self, predicate: R::Predicate) -> Result<(), CacheError>
+        ensures covers { OnOk result ((id : ℕ) × CoversAsDrawn predicate id self.old.state
+            self.new.state) }
         ensures takes { OnOk result (self.old.state.common.settings.takes_predicates ≡ true) }
         ensures err { OnErr result (self.new.state ≡ self.old.state) }
         ensures cause { IfErr result IsCoverRefusal }
+        ensures disabled { IsErrOf result errors.InvalidationClosuresDisabled
+            → self.old.state.common.settings.takes_predicates ≡ false }
+        ensures used_up { IsErrOf result errors.UsedUp
+            → LacksSteps 1 self.old.state ⊎ SomeLacksTickets self.old.state.parts }
     {
         let Some(at) = self.draw() else {
             return Err(CacheError::UsedUp);
         };
         let Desk { state, env, .. } = self;
-        match state.invalidate_entries_if(predicate, env, at) {
-            Ok(()) => Ok(()),
-            Err(refused) => Err(cover_refusal_of(refused)),
-        }
+        state.invalidate_entries_if(predicate, env, at)
     }
 }
 

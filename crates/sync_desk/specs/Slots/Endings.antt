@@ -1,5 +1,5 @@
 -- How turns end.
-use Rattle.std.specs.Prelude.{Bool, true, false}
+use Rattle.std.specs.Prelude.{◌≡◌, Bool, true, false}
 use Rattle.front_reference.specs.declared.data.Made.{Made}
 use Rattle.front_reference.specs.declared.data.Made.TheVariants.{Value, Nothing, Fault}
 use Rattle.front_reference.specs.declared.data.TurnKind.{TurnKind}
@@ -20,3 +20,12 @@ module _ {V F : Type 0} where
   fits kind Underway = true
   fits kind (Done made) = suits kind made
   fits kind GivenUp = true
+
+  -- whether a turn is under way
+  abbrev pub is_underway : Ending V F → Bool
+  is_underway Underway = true
+  is_underway other = false
+
+-- a clone is the same
+abbrev pub IsExact : {V : Type 0} → (V → V → Type 0) → Type 0
+IsExact {V} is_clone = (x y : V) → is_clone x y → y ≡ x

@@ -1,38 +1,94 @@
--- Who waits for which turn.
-use Rattle.std.specs.Prelude.{◌≡◌, ℕ, nat_eq, ◌==◌, ◌+◌, Option, Some, if◌then◌else◌, option_map}
-use Rattle.std.specs.HashMap.{HashMap, Updates, get}
+-- Who waits for which turn, and what they are told.
+use Rattle.std.specs.Prelude.{◌≡◌, ℕ, nat_eq, nat_le, nat_lt, ◌==◌, ◌+◌, ◌-◌, Option, Some, None, if◌then◌else◌, option_map}
+use Rattle.std.specs.Option.{option_map_or}
+use Rattle.std.specs.HashMap.{HashMap, get}
 use Rattle.std.specs.declared.hash.FoldHasher.{FoldHasher}
 use Rattle.std.specs.declared.hash.BuildHasherDefault.{BuildHasherDefault}
 use Rattle.front_reference.specs.Fronts.{same_kind}
 use Rattle.front_reference.specs.declared.data.TurnKind.{TurnKind}
-use Rattle.sync_desk.specs.declared.slots.slot.Ending.TheVariants.{Underway}
+use Rattle.sync_desk.specs.declared.slots.slot.Ending.{Ending}
+use Rattle.sync_desk.specs.declared.slots.slot.Ending.TheVariants.{Underway, GivenUp}
 use Rattle.sync_desk.specs.declared.slots.slot.TurnSlot.{TurnSlot}
 
 -- slots by the numbers of their turns
 abbrev pub SlotsByNumber : (V F : Type 0) → Type 0
 SlotsByNumber V F = HashMap ℕ (TurnSlot V F) (BuildHasherDefault FoldHasher)
 
+-- a turn that is led, or that some wait for: the hash of its key, how many callers wait for it, and how it ended
+pub record Turn (V F : Type 0) : Type 0 where
+  pub kind : TurnKind
+  pub hash : ℕ
+  pub waiting : ℕ
+  pub ending : Ending V F
+
 module _ {V F : Type 0} where
-  -- the slot with a number
-  abbrev pub slot_at : ℕ → SlotsByNumber V F → Option (TurnSlot V F)
-  slot_at number slots = get nat_eq slots number
+  -- the turn of a slot
+  abbrev pub turn_in : TurnSlot V F → Turn V F
+  turn_in slot = record {
+    kind = slot.kind;
+    hash = slot.hash;
+    waiting = slot.waiting;
+    ending = slot.ending;
+  }
 
-  -- a slot for which one more caller waits, if it is of a kind
-  abbrev pub slot_joined : TurnKind → TurnSlot V F → TurnSlot V F
-  slot_joined kind slot = if same_kind slot.kind kind then record slot {
-    waiting = slot.waiting + 1;
-  } else slot
+  -- the turn with a number
+  abbrev pub slot_at : ℕ → SlotsByNumber V F → Option (Turn V F)
+  slot_at number slots = option_map turn_in (get nat_eq slots number)
 
-  -- a turn that is under way, and for which nobody waits, is at its number
-  pub record OpensAt (kind : TurnKind) (number : ℕ) (old new : SlotsByNumber V F) : Type 0 where
-    pub slot : TurnSlot V F
-    pub put : Updates nat_eq old new number (Some slot)
-    pub of_kind : slot.kind ≡ kind
-    pub waiting : slot.waiting ≡ 0
-    pub ending : slot.ending ≡ Underway
+  -- how many callers wait for the turn with a number
+  abbrev pub waiting_at : ℕ → SlotsByNumber V F → ℕ
+  waiting_at number slots = option_map_or (λ turn. turn.waiting) (slot_at number slots) 0
 
-  -- one more caller waits for the turn of a kind with a number, if there is one
-  abbrev pub JoinsAt : TurnKind → (number : ℕ) → (old new : SlotsByNumber V F) → Type 0
-  JoinsAt kind number old new =
-      (n : ℕ) → slot_at n new
-      ≡ option_map (λ slot. if number == n then slot_joined kind slot else slot) (slot_at n old)
+  -- a turn, if it is of a kind
+  abbrev pub if_of : TurnKind → Option (Turn V F) → Option (Turn V F)
+  if_of kind (Some turn) = if same_kind turn.kind kind then Some turn else None
+  if_of kind None = None
+
+  -- what those that wait for a turn are told: its ending, or that it was given up if there is none
+  abbrev pub told_of : Option (Turn V F) → Ending V F
+  told_of (Some turn) = turn.ending
+  told_of None = GivenUp
+
+  -- a turn of a key of this hash that is under way, and for which nobody waits
+  abbrev pub opened : TurnKind → (hash : ℕ) → Turn V F
+  opened kind hash = record { kind = kind; hash = hash; waiting = 0; ending = Underway }
+
+  -- one caller more waits
+  abbrev pub joined : Turn V F → Option (Turn V F)
+  joined turn = Some (record turn { waiting = turn.waiting + 1 })
+
+  -- a turn ends so, and is kept only if some wait for it
+  abbrev pub ended : Ending V F → Turn V F → Option (Turn V F)
+  ended ending turn =
+      if nat_lt 0 turn.waiting then Some (record turn { ending = ending }) else None
+
+  -- one caller less waits
+  abbrev pub with_one_less : Turn V F → Turn V F
+  with_one_less turn = record turn { waiting = turn.waiting - 1 }
+
+  -- a caller leaves a turn, which the last of them removes
+  abbrev pub left_by_one : Turn V F → Option (Turn V F)
+  left_by_one turn = if nat_le turn.waiting 1 then None else Some (with_one_less turn)
+
+  -- a turn is looked at: one that ended is left
+  abbrev pub seen_with : Ending V F → Turn V F → Option (Turn V F)
+  seen_with Underway turn = Some turn
+  seen_with ending turn = left_by_one turn
+
+  -- what becomes of a turn if it is of a kind
+  abbrev pub changed : TurnKind → (Turn V F → Option (Turn V F)) → Option (Turn V F)
+      → Option (Turn V F)
+  changed kind becomes (Some turn) =
+      if same_kind turn.kind kind then becomes turn else Some turn
+  changed kind becomes None = None
+
+  -- the turn with a number is this, and the others stay
+  abbrev pub IsPutAt : (number : ℕ) → Option (Turn V F) → (old new : SlotsByNumber V F) → Type 0
+  IsPutAt number turn old new =
+      (n : ℕ) → slot_at n new ≡ (if number == n then turn else slot_at n old)
+
+  -- this becomes of the turn with a number if it is of a kind, and the others stay
+  abbrev pub ChangesAt : TurnKind → (number : ℕ) → (Turn V F → Option (Turn V F))
+      → (old new : SlotsByNumber V F) → Type 0
+  ChangesAt kind number becomes old new =
+      IsPutAt number (changed kind becomes (slot_at number old)) old new

@@ -1,12 +1,12 @@
 //! Who waits for which turn, and how it ended.
-ghost use Rattle.std.specs.Prelude.{◌≡◌, ◌<◌, ◌&&◌, ℕ, true, false, nat_lt, IfOk, IfErr, IfSome, OnOk, OnErr};
+ghost use Rattle.std.specs.Prelude.{◌≡◌, ◌<◌, ◌≤◌, ◌+◌, ◌-◌, ◌^◌, ◌==◌, ◌&&◌, if◌then◌else◌, ℕ, true, false, nat_eq, nat_lt, Some, None, option_map, IfOk, IfErr, IfSome, OnOk, OnErr};
 ghost use Rattle.std.specs.Option.{option_map_or};
 ghost use Rattle.std.specs.HashMap.{IsEmpty, spare};
 ghost use Rattle.front_reference.specs.Fronts.{same_kind};
 ghost use Rattle.front_reference.specs.declared.data.TurnKind.{TurnKind};
 ghost use Rattle.front_reference.specs.declared.errors.CacheError.TheVariants as errors;
-ghost use Rattle.sync_desk.specs.Slots.Endings.{fits, suits};
-ghost use Rattle.sync_desk.specs.Slots.Waiting.{JoinsAt, OpensAt, slot_at, slot_joined};
+ghost use Rattle.sync_desk.specs.Slots.Endings.{IsExact, fits, is_underway, suits};
+ghost use Rattle.sync_desk.specs.Slots.Waiting.{ChangesAt, IsPutAt, ended, if_of, joined, opened, seen_with, slot_at, told_of, turn_in, waiting_at, with_one_less};
 ghost use Rattle.sync_desk.specs.declared.slots.slot.Ending.TheVariants.{Underway};
 
 use crate::slots::slot::{Ending, TurnSlot};
@@ -31,7 +31,7 @@ impl<V: Drop, F: Drop> TurnSlot<V, F> {
 
     /// Whether the turn is under way.
     fn is_underway(&self) -> bool
-        ensures { result ≡ true → self.now.ending ≡ Underway }
+        ensures { result ≡ is_underway self.now.ending }
     {
         matches!(&self.ending, Ending::Underway)
     }
@@ -39,6 +39,10 @@ impl<V: Drop, F: Drop> TurnSlot<V, F> {
     /// The turn ends so, if it is of this kind. Answers the hash of its key, and whether some wait for it.
     fn end(&mut self, kind: TurnKind, ending: Ending<V, F>) -> Option<(u64, bool)>
         requires { fits kind ending ≡ true }
+        ensures told { result ≡ (if same_kind self.old.kind kind
+            then Some (self.old.hash, nat_lt 0 self.old.waiting) else None) }
+        ensures ends { turn_in self.new ≡ (if same_kind self.old.kind kind
+            then record (turn_in self.old) { ending = ending } else turn_in self.old) }
     {
         if !self.is(kind) {
             return None;
@@ -49,9 +53,12 @@ impl<V: Drop, F: Drop> TurnSlot<V, F> {
 
     /// One more waits, if it is of this kind.
     fn join(&mut self, kind: TurnKind) -> Result<(), CacheError>
-        ensures joins { OnOk result (self.new ≡ slot_joined kind self.old) }
+        ensures joins { OnOk result (Some (turn_in self.new)
+            ≡ (if same_kind self.old.kind kind then joined (turn_in self.old)
+            else Some (turn_in self.old))) }
         ensures err { OnErr result (self.new ≡ self.old) }
-        ensures cause { IfErr result (λ e. e ≡ errors.UsedUp) }
+        ensures cause { IfErr result
+            (λ e. (e ≡ errors.UsedUp) × (2 ^ 64 ≤ self.old.waiting + 1)) }
     {
         if !self.is(kind) {
             return Ok(());
@@ -69,7 +76,10 @@ impl<V: Drop, F: Drop> TurnSlot<V, F> {
 impl<V: Clone + Drop, F: Clone + Drop> TurnSlot<V, F> {
     /// One less waits, and gets a clone of what the turn ended with.
     fn leave(&mut self) -> Result<Ending<V, F>, AllocError>
-        ensures { IfOk result (λ ending. fits self.old.kind ending ≡ true) }
+        ensures fits { IfOk result (λ ending. fits self.old.kind ending ≡ true) }
+        ensures tells { IsExact V.is_clone → IsExact F.is_clone
+            → IfOk result (λ ending. ending ≡ self.old.ending) }
+        ensures leaves { turn_in self.new ≡ with_one_less (turn_in self.old) }
     {
         self.waiting = self.waiting.saturating_sub(1);
         match &self.ending {
@@ -82,7 +92,10 @@ impl<V: Clone + Drop, F: Clone + Drop> TurnSlot<V, F> {
 
 /// A clone of what was made.
 pub fn copy_made<V: Clone, F: Clone>(made: &Made<V, F>) -> Result<Made<V, F>, AllocError>
-    ensures { IfOk result (λ copy. (kind : TurnKind) → suits kind copy ≡ suits kind made.now) }
+    ensures suits { IfOk result
+        (λ copy. (kind : TurnKind) → suits kind copy ≡ suits kind made.now) }
+    ensures exact { IsExact V.is_clone → IsExact F.is_clone
+        → IfOk result (λ copy. copy ≡ made.now) }
 {
     match made {
         Made::Value(value) => Ok(Made::Value(value.clone()?)),
@@ -112,7 +125,7 @@ impl<V: Drop, F: Drop> Slots<V, F> {
     /// A turn of a key of this hash begins, in room that was made.
     pub fn open(&mut self, kind: TurnKind, number: u64, hash: u64)
         requires room { 0 < spare self.old.slots }
-        ensures opens { OpensAt kind number self.old.slots self.new.slots }
+        ensures opens { IsPutAt number (Some (opened kind hash)) self.old.slots self.new.slots }
     {
         let slot = TurnSlot {
             kind,
@@ -127,9 +140,10 @@ impl<V: Drop, F: Drop> Slots<V, F> {
 
     /// One more waits for a turn.
     pub fn join(&mut self, kind: TurnKind, number: u64) -> Result<(), CacheError>
-        ensures joins { OnOk result (JoinsAt kind number self.old.slots self.new.slots) }
+        ensures joins { OnOk result (ChangesAt kind number joined self.old.slots self.new.slots) }
         ensures err { OnErr result ((n : ℕ) → slot_at n self.new.slots ≡ slot_at n self.old.slots) }
-        ensures cause { IfErr result (λ e. e ≡ errors.UsedUp) }
+        ensures cause { IfErr result
+            (λ e. (e ≡ errors.UsedUp) × (2 ^ 64 ≤ waiting_at number self.old.slots + 1)) }
     {
         match self.slots.get_mut(&number) {
             Some(slot) => slot.join(kind),
@@ -148,9 +162,12 @@ impl<V: Drop, F: Drop> Slots<V, F> {
         }
     }
 
-    /// Ends a turn, which is kept only if some wait for it. Returns the hash of its key, if it was under way.
+    /// Ends a turn, which is kept only if some wait for it. Returns the hash of its key, if there is a turn of this kind.
     pub fn end(&mut self, kind: TurnKind, number: u64, ending: Ending<V, F>) -> Option<u64>
         requires { fits kind ending ≡ true }
+        ensures hash { result
+            ≡ option_map (λ turn. turn.hash) (if_of kind (slot_at number self.old.slots)) }
+        ensures ends { ChangesAt kind number (ended ending) self.old.slots self.new.slots }
     {
         let (hash, waited) = match self.slots.get_mut(&number) {
             Some(slot) => slot.end(kind, ending)?,
@@ -165,7 +182,9 @@ impl<V: Drop, F: Drop> Slots<V, F> {
     /// Removes a turn of this kind, and returns how it ended.
     fn take(&mut self, kind: TurnKind, number: u64) -> Ending<V, F>
         requires { IfSome (slot_at number self.old.slots) (λ slot. slot.kind ≡ kind) }
-        ensures { fits kind result ≡ true }
+        ensures fits { fits kind result ≡ true }
+        ensures tells { result ≡ told_of (slot_at number self.old.slots) }
+        ensures takes { IsPutAt number None self.old.slots self.new.slots }
     {
         match self.slots.remove(&number) {
             Some(slot) => slot.ending,
@@ -178,7 +197,11 @@ impl<V: Clone + Drop, F: Clone + Drop> Slots<V, F> {
     /// Returns the state of a turn that the caller waits for. If it ended, the caller no longer waits, and the last that waits takes the
     /// result; the others get a clone.
     pub fn look(&mut self, kind: TurnKind, number: u64) -> Result<Ending<V, F>, AllocError>
-        ensures { IfOk result (λ ending. fits kind ending ≡ true) }
+        ensures fits { IfOk result (λ ending. fits kind ending ≡ true) }
+        ensures tells { IsExact V.is_clone → IsExact F.is_clone → IfOk result
+            (λ ending. ending ≡ told_of (if_of kind (slot_at number self.old.slots))) }
+        ensures leaves { ChangesAt kind number (λ turn. seen_with turn.ending turn)
+            self.old.slots self.new.slots }
     {
         let Some(slot) = self.slots.get(&number) else {
             return Ok(Ending::GivenUp);
@@ -198,7 +221,11 @@ impl<V: Clone + Drop, F: Clone + Drop> Slots<V, F> {
     /// One less waits for a turn, and gets a clone of what it ended with.
     fn leave(&mut self, kind: TurnKind, number: u64) -> Result<Ending<V, F>, AllocError>
         requires { IfSome (slot_at number self.old.slots) (λ slot. slot.kind ≡ kind) }
-        ensures { IfOk result (λ ending. fits kind ending ≡ true) }
+        ensures fits { IfOk result (λ ending. fits kind ending ≡ true) }
+        ensures tells { IsExact V.is_clone → IsExact F.is_clone
+            → IfOk result (λ ending. ending ≡ told_of (slot_at number self.old.slots)) }
+        ensures leaves { IsPutAt number (option_map with_one_less (slot_at number self.old.slots))
+            self.old.slots self.new.slots }
     {
         match self.slots.get_mut(&number) {
             Some(slot) => slot.leave(),
