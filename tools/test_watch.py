@@ -129,7 +129,7 @@ class Page(html.parser.HTMLParser):
 
 
 class FakeServer:
-    """Answers each line with `SYNC 3 7`."""
+    """Answers each line of one client after another with `SYNC 3 7`."""
 
     def __init__(self):
         self.listener = socket.create_server((HOST, 0))
@@ -139,10 +139,11 @@ class FakeServer:
 
     def serve(self):
         try:
-            link, _ = self.listener.accept()
-            with link:
-                while link.recv(100):
-                    link.sendall(b"SYNC 3 7\n")
+            while True:
+                link, _ = self.listener.accept()
+                with link:
+                    while link.recv(100):
+                        link.sendall(b"SYNC 3 7\n")
         except OSError:
             pass
 
@@ -207,6 +208,67 @@ class Runs(unittest.TestCase):
         rows = self.rows(process, "main")
         self.assertTrue(1 <= len(rows) <= 6, rows)
         self.assertTrue(any(float(row[4]) > 5 for row in rows), rows)
+
+    def listen(self, log):
+        log.write_bytes(b"listening main 127.0.0.1:%d\n" % self.server.port)
+
+    def test_a_file_that_is_cut(self):
+        log = self.folder / "log"
+        self.listen(log)
+        with log.open("ab") as file:
+            file.write(b"main NOTE Size k v\n" * 1000 + b"main NOTE Si")
+        process = self.start("--log", log, "--interval", 0.5, "--seconds", 3.5)
+        self.next_row(process, "main")
+        # As logrotate's copytruncate does: the server, which appends, continues at the new start.
+        os.truncate(log, 0)
+        time.sleep(1)
+        with log.open("ab") as file:
+            file.write(b"main NOTE Expired k v\n" * 50)
+        rows = self.rows(process, "main")
+        self.assertTrue(all(row[:2] == ["3", "7"] for row in rows), rows)
+        self.assertTrue(any(float(row[2]) > 5 for row in rows if row[2] != "-"), rows)
+
+    def test_a_file_that_was_cut_before(self):
+        log = self.folder / "log"
+        log.write_bytes(b"main NOTE Size k v\n")
+        name = f"main:{self.server.port}"
+        process = self.start("--log", log, "--port", name, "--interval", 0.5, "--seconds", 2.5)
+        self.assertEqual(self.next_row(process, "main")[:2], ["3", "7"])
+        with log.open("ab") as file:
+            file.write(b"main NOTE Explicit k v\n" * 50)
+        rows = self.rows(process, "main")
+        self.assertTrue(any(float(row[3]) > 5 for row in rows if row[3] != "-"), rows)
+
+    def test_a_port(self):
+        page = self.folder / "page.html"
+        process = self.start(
+            "--port", self.server.port, "--html", page, "--interval", 0.5, "--seconds", 0.8
+        )
+        rows = self.rows(process, f":{self.server.port}")
+        self.assertEqual(rows[-1], ["3", "7", "-", "-", "-", "-"])
+        self.assertEqual(Page(page.read_text(encoding="utf-8")).open, [])
+
+    def fails(self, text, *words, **options):
+        process = self.start(*words, stderr=subprocess.PIPE, **options)
+        _, told = process.communicate(timeout=PATIENCE)
+        self.assertIn(text, told)
+        self.assertNotIn("Traceback", told)
+        self.assertNotEqual(process.returncode, 0)
+
+    def test_nothing_to_watch(self):
+        log = self.folder / "log"
+        log.write_bytes(b"main NOTE Size k v\n")
+        self.fails("has no line `listening", "--log", log, "--seconds", 0.5)
+        self.fails("has no line `listening", "--log", log)
+        self.fails("the input had no line `listening", stdin=subprocess.DEVNULL)
+        self.fails("No such file", "--log", self.folder / "other")
+        self.fails("needs its namespace's name", "--log", log, "--port", 1)
+        for port in ("0", "65536", "a", "Main:7411", ":7411", "1 "):
+            self.fails("PORT", "--port", port)
+
+    def test_a_port_without_a_server(self):
+        self.server.listener.close()
+        self.fails("nothing answers", "--port", self.server.port)
 
     def test_a_server_that_is_gone(self):
         self.server.listener.close()

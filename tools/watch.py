@@ -1,14 +1,19 @@
 #!/usr/bin/env python3
 """Shows what a server `cached --config` holds, and how many values leave it per second, by cause.
 
+    python3 tools/watch.py --port 7411
     cached --config FILE | python3 tools/watch.py
-    cached --config FILE > LOG &  python3 tools/watch.py --log LOG
+    cached --config FILE >> LOG &  python3 tools/watch.py --log LOG
 
-It reads the server's standard output: the lines `listening NAME 127.0.0.1:PORT` give the ports of
-the namespaces, and the notices are counted. Each interval it sends `SYNC` to each port, which runs
-maintenance: values that were cleared or have expired leave then, and are reported.
+Each interval it sends `SYNC` to each port, which runs maintenance: values that were cleared or have
+expired leave then, and are reported. From the server's standard output it takes the ports (the
+lines `listening NAME 127.0.0.1:PORT`) and counts the notices. A server whose output goes elsewhere
+is watched by its ports, without the counts.
 
-    --log FILE           follow this file, from its beginning, instead of standard input
+    --port [NAME:]PORT   watch this port of a running server; may be given several times
+    --log FILE           follow this file, from its beginning, instead of standard input. If it
+                         shrinks, it is read from its start again. If its `listening` lines are
+                         gone, name the namespaces with --port NAME:PORT
     --interval SECONDS   the time between two tables, 2 by default
     --seconds N          exit after this time; otherwise at the end of the input, at the key q, or
                          at an interrupt
@@ -18,6 +23,9 @@ maintenance: values that were cleared or have expired leave then, and are report
 
 After the watcher of a pipe has exited, the server continues and reports no more notices. To keep
 them, let the server write to a file and use `--log`.
+
+The status is 1 if no namespace is known (five seconds after the whole log was read, or at the end
+of the input), or if at first nothing answers at a `--port`.
 """
 import argparse
 import collections
@@ -39,24 +47,35 @@ LISTENING = re.compile(rb"listening ([a-z0-9_-]{1,32}) 127\.0\.0\.1:(\d{1,5})")
 NOTICE = re.compile(rb"([a-z0-9_-]{1,32}) NOTE (Expired|Explicit|Replaced|Size) ")
 ASK_SECONDS = 2.0
 FOLLOW_SECONDS = 0.2
+LISTENING_SECONDS = 5.0
 BARS = " ▁▂▃▄▅▆▇█"
 
 
-class Space:
-    """A namespace: its name, its port, and how many notices of each cause it reported."""
+class CannotWatch(Exception):
+    """There is nothing to show; its text says why, and what helps."""
 
-    def __init__(self, name, port):
+
+class Space:
+    """A namespace: its name, its port, and how many notices of each cause it reported; None if
+    nobody reads them."""
+
+    def __init__(self, name, port, is_counted=True):
         self.name = name
         self.port = port
-        self.counts = dict.fromkeys(CAUSES, 0)
+        self.counts = dict.fromkeys(CAUSES, 0) if is_counted else None
 
 
 class Board:
-    """What the server's lines have said. One thread adds lines while another reads."""
+    """What is known of the namespaces: those named at first, and what the server's lines have
+    said. One thread adds lines while another reads."""
 
-    def __init__(self):
+    def __init__(self, spaces=()):
         self.lock = threading.Lock()
-        self.spaces = {}
+        self.spaces = {space.name: space for space in spaces}
+        self.rest = b""
+
+    def begin_anew(self):
+        """The next bytes do not continue the line that was begun."""
         self.rest = b""
 
     def take(self, piece):
@@ -81,11 +100,15 @@ class Board:
     def look(self):
         """The namespaces, in the server's order: name, port, and counts by cause."""
         with self.lock:
-            return [(space.name, space.port, dict(space.counts)) for space in self.spaces.values()]
+            return [
+                (space.name, space.port, space.counts and dict(space.counts))
+                for space in self.spaces.values()
+            ]
 
 
 class Source(threading.Thread):
-    """Passes the bytes of a file descriptor to a board; if it follows, also later ones."""
+    """Passes the bytes of a file descriptor to a board; if it follows, also later ones. Without a
+    descriptor it passes nothing, and does not end."""
 
     def __init__(self, board, descriptor, follows):
         super().__init__(daemon=True)
@@ -94,7 +117,7 @@ class Source(threading.Thread):
         self.has_ended = threading.Event()
 
     def run(self):
-        while True:
+        while self.descriptor is not None:
             piece = os.read(self.descriptor, 1 << 16)
             if piece:
                 self.board.take(piece)
@@ -110,6 +133,7 @@ class Source(threading.Thread):
         """A file that is shorter than what was read of it was truncated."""
         if os.fstat(self.descriptor).st_size < os.lseek(self.descriptor, 0, os.SEEK_CUR):
             os.lseek(self.descriptor, 0, os.SEEK_SET)
+            self.board.begin_anew()
 
 
 class Row:
@@ -126,7 +150,7 @@ class Row:
 
 def rates_of(counts, before, seconds):
     """Notices per second by cause; None if there is nothing to compare with."""
-    if before is None or seconds <= 0:
+    if counts is None or before is None or seconds <= 0:
         return None
     return {cause: max(0, counts[cause] - before[cause]) / seconds for cause in CAUSES}
 
@@ -371,7 +395,7 @@ def page(watcher, rows, refresh):
         "<tr>" + "".join(f"<td>{html.escape(cell)}</td>" for cell in cells) + "</tr>"
         for cells in (
             [row.name, str(row.port), number(row.values), number(row.weight)]
-            + [number(row.counts[cause]) for cause in CAUSES]
+            + [number(row.counts and row.counts[cause]) for cause in CAUSES]
             for row in rows
         )
     )
@@ -395,6 +419,8 @@ def write_page(file, text):
 
 # The loop.
 
+NO_LISTENING = "line `listening NAME 127.0.0.1:PORT`; name the ports with --port NAME:PORT"
+
 
 class Loop:
     """Takes a sample in each interval, until it is time to end."""
@@ -411,16 +437,38 @@ class Loop:
         """Yields rows; `wait` waits some seconds, and returns whether to end."""
         if self.words.log:
             self.source.has_caught_up.wait()
+            self.wait_for_a_namespace()
+        is_first = True
         while True:
             # What ends in the meantime is sampled once more.
             is_last = self.is_over()
             rows = self.watcher.sample()
+            self.look_at(rows, is_first, is_last)
+            is_first = False
             if self.words.html:
                 refresh = None if is_last else self.words.interval
                 write_page(self.words.html, page(self.watcher, rows, refresh))
             yield rows
             if is_last or wait(self.seconds_to_wait()):
                 return
+
+    def wait_for_a_namespace(self):
+        """A server that has just started may not have listed its ports yet."""
+        until = time.monotonic() + LISTENING_SECONDS
+        while not self.watcher.board.look() and time.monotonic() < until:
+            if self.is_over():
+                break
+            time.sleep(FOLLOW_SECONDS)
+        if not self.watcher.board.look():
+            raise CannotWatch(f"{self.words.log} has no {NO_LISTENING}")
+
+    def look_at(self, rows, is_first, is_last):
+        """Refuses rows from which nothing can be seen."""
+        if is_last and not rows:
+            raise CannotWatch(f"the input had no {NO_LISTENING}")
+        silent = [row.port for row in rows if row.values is None]
+        if is_first and self.words.port and silent:
+            raise CannotWatch(f"nothing answers SYNC at 127.0.0.1:{silent[0]}")
 
     def seconds_to_wait(self):
         left = math.inf if self.ends is None else self.ends - time.monotonic()
@@ -487,11 +535,21 @@ def above_zero(text):
     return value
 
 
+def space(text):
+    """A namespace from `PORT` or `NAME:PORT`. One without a name is called by its port."""
+    name, colon, port = text.rpartition(":")
+    is_port = port.isascii() and port.isdigit() and 1 <= int(port) <= 65535
+    if not is_port or colon and not re.fullmatch("[a-z0-9_-]{1,32}", name):
+        raise argparse.ArgumentTypeError("must be PORT or NAME:PORT")
+    return name, int(port)
+
+
 def read_words():
     parser = argparse.ArgumentParser(
         description=__doc__, formatter_class=argparse.RawDescriptionHelpFormatter, add_help=False
     )
     parser.add_argument("-h", "--help", action="help", help=argparse.SUPPRESS)
+    parser.add_argument("--port", type=space, action="append", default=[], help=argparse.SUPPRESS)
     parser.add_argument("--log", type=pathlib.Path, help=argparse.SUPPRESS)
     parser.add_argument("--interval", type=above_zero, default=2.0, help=argparse.SUPPRESS)
     parser.add_argument("--seconds", type=above_zero, help=argparse.SUPPRESS)
@@ -499,20 +557,31 @@ def read_words():
     parser.add_argument("--html", type=pathlib.Path, help=argparse.SUPPRESS)
     parser.add_argument("--minutes", type=above_zero, default=5.0, help=argparse.SUPPRESS)
     words = parser.parse_args()
-    if not words.log and sys.stdin.isatty():
-        parser.error("pipe the server's output in, or name a file that contains it with --log")
+    if words.log and not all(name for name, _ in words.port):
+        parser.error("with --log a port needs its namespace's name: --port NAME:PORT")
+    if not words.port and not words.log and sys.stdin.isatty():
+        parser.error(
+            "name a port with --port, pipe the server's output in, or name a file that contains it"
+            " with --log"
+        )
     return words
+
+
+def open_source(words, is_plain):
+    """The descriptor of the server's output, or None if only ports are watched."""
+    if words.log:
+        return open_log(words.log)
+    if words.port:
+        return None
+    return 0 if is_plain else take_terminal()
 
 
 def main():
     words = read_words()
     is_plain = words.plain or not sys.stdout.isatty()
-    if words.log:
-        descriptor = open_log(words.log)
-    else:
-        descriptor = 0 if is_plain else take_terminal()
-    board = Board()
-    source = Source(board, descriptor, bool(words.log))
+    named = [Space(name or f":{port}", port, bool(words.log)) for name, port in words.port]
+    board = Board(named)
+    source = Source(board, open_source(words, is_plain), bool(words.log))
     source.start()
     loop = Loop(Watcher(board, words.minutes, words.interval), source, words)
     try:
@@ -520,6 +589,8 @@ def main():
             show_plain(loop)
         else:
             curses.wrapper(show_screen, loop)
+    except CannotWatch as why:
+        sys.exit(f"watch: {why}")
     except KeyboardInterrupt:
         sys.exit(130)
     except BrokenPipeError:
