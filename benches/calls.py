@@ -15,6 +15,8 @@ import subprocess
 import sys
 import tempfile
 
+import figures
+
 HERE = pathlib.Path(__file__).resolve().parent
 CACHED = os.environ.get("CACHED", HERE.parent / "crates/cached/out/cached")
 FEW, MANY = 200, 1_200
@@ -64,6 +66,7 @@ def main():
     for (caller, callee), count in sorted(counts.items()):
         print(f"{count:6.2f}  {caller.split('<#')[0]} -> {callee.split('<#')[0]}")
     own = sum(count for (_, callee), count in counts.items() if "::" in callee and not callee.startswith(("std", "core")))
+    figures.keep("calls_made", {line.decode(): {"all": round(sum(counts.values())), "own": round(own)}})
     print(f"{sum(counts.values()):.0f} calls a request, {own:.0f} of them to functions of this repository or the kit's crates")
 
 

@@ -310,7 +310,7 @@ def beside():
         medians = {name: round(statistics.median(all_micros), 2) for name, all_micros in row.items()}
         texts = [f"{name} {medians[name]} ({min(row[name]):.1f} to {max(row[name]):.1f})" for name in row]
         print(f"{connections:3} connections, depth {depth:2}: {', '.join(texts)}", flush=True)
-        figures.keep("requests", {f"{connections} {depth}": medians})
+        figures.keep("requests", {f"{connections} {depth}": {name: figures.spread(row[name], medians[name]) for name in row}})
 
 
 def soak():
@@ -326,6 +326,7 @@ def soak():
     server.stop()
     progress.clear()
     quarter, last = max(memory[: len(memory) // 4 + 1]), max(memory[len(memory) * 3 // 4 :])
+    figures.keep("soak", {"cached": {"first quarter": round(quarter / 1024, 1), "last quarter": round(last / 1024, 1)}})
     print(f"{done} requests over {SOAK_CONNECTIONS} connections in {seconds:.1f} s; at most {quarter} KiB in the first quarter, {last} KiB in the last")
     sys.exit(last > quarter * 1.1)
 
@@ -344,6 +345,7 @@ def memory():
         progress.clear()
         used = (server.resident_kibibytes() - before) * 1024
     server.stop()
+    figures.keep("memory", {"cached": {"bytes": round(used / HELD - 48)}})
     print(f"{HELD} values of 32 bytes by keys of 16: {used / HELD - 48:.0f} bytes a value above key and value")
 
 

@@ -24,6 +24,7 @@ import sys
 import tempfile
 
 import connections
+import figures
 import progress
 
 HERE = pathlib.Path(__file__).resolve().parent
@@ -119,6 +120,8 @@ def main():
     count = KEYS * (1 + ROUNDS)
     medians = {name: statistics.median(spent) / count * 1e6 for name, spent in seconds.items()}
     for name, spent in seconds.items():
+        micros = [one / count * 1e6 for one in spent]
+        figures.keep("crafted_keys", {name: {"us": figures.spread(micros, medians[name])}})
         print(f"{name:17} {medians[name]:6.2f} us a request ({min(spent) / count * 1e6:.2f} to {max(spent) / count * 1e6:.2f})")
     dearest = max(medians["server, crafted"], medians["server, script's"])
     sys.exit(dearest > 1.3 * medians["server, drawn"] or medians["script, crafted"] < 5 * medians["script, drawn"])

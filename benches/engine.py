@@ -101,6 +101,8 @@ def print_times(size):
         cache, work, draws = kind
         print(f"{size:,}: {work} {draws}: {cache} {once:.0f} ns, {medians[kind]:.1f} times lru_cache ({min(factors):.1f} to {max(factors):.1f})", flush=True)
     figures.keep("calls", {str(size): kept})
+    own = {" ".join(kind): round(factor, 1) for kind, factor in medians.items() if kind[0] in ("tiny_lfu", "lru")}
+    figures.keep("factors", {str(size): own})
     return medians
 
 
@@ -158,6 +160,7 @@ def print_longest():
         for kind in LONGEST_KINDS:
             longest = longest_of(kind, size)
             are_met = are_met and longest <= goal
+            figures.keep("longest", {str(size): {" ".join(kind[:2]): round(longest, 3)}})
             print(f"{size:,}: {' '.join(kind)}: {longest:.3f} ms (goal {goal})", flush=True)
     return are_met
 

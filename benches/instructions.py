@@ -18,6 +18,7 @@ import subprocess
 import sys
 import tempfile
 
+import figures
 import progress
 
 HERE = pathlib.Path(__file__).resolve().parent
@@ -64,6 +65,7 @@ def main():
             print(f"{name:12} {counts[name]:7.0f} instructions a line", flush=True)
     if replies["cached"] != replies["plain_server"]:
         sys.exit("the replies differ")
+    figures.keep("instructions", {"a line": {name: round(counted) for name, counted in counts.items()}})
     print(f"{'':12} {counts['cached'] / counts['plain_server']:7.2f} times; the replies are the same")
 
 

@@ -13,6 +13,7 @@ import subprocess
 import sys
 import tempfile
 
+import figures
 import progress
 
 LINES = 1_000_000
@@ -65,6 +66,7 @@ def main():
         if output_path.read_bytes() != replies:
             sys.exit("wrong replies")
     median = statistics.median(spent)
+    figures.keep("million_lines", {"a million lines": {"seconds": figures.spread(spent, median)}})
     print(f"{LINES} lines in {median:.2f} s of processor time ({min(spent):.2f} to {max(spent):.2f}; at most {LIMIT_SECONDS} s wanted)")
     sys.exit(median > LIMIT_SECONDS)
 

@@ -1,8 +1,8 @@
 #!/usr/bin/env python3
-"""Draws the figures of figures.json into docs/*.svg, with Python's standard library only.
+"""Makes the pictures docs/*.svg and the documents' tables of figures.json, with Python's standard library only.
 
-    python3 benches/plots.py            draws all
-    python3 benches/plots.py ratios     prints the hit ratios as the tables of docs/CHOOSING.md
+    python3 benches/plots.py            makes all
+    python3 benches/plots.py check      says which of them differ from what it would make; the status is then 1. The gate runs this
 """
 import html
 import math
@@ -10,8 +10,10 @@ import pathlib
 import sys
 
 import figures
+import tables
 
-DOCS = pathlib.Path(__file__).resolve().parent.parent / "docs"
+ROOT = pathlib.Path(__file__).resolve().parent.parent
+DOCUMENTS = ["benches/README.md", "docs/CHOOSING.md"]
 INK, SOFT, LINE, PAGE = "#1c1c1c", "#5c5c5c", "#dcdcdc", "#ffffff"
 COLOURS = {
     "TinyLFU": "#0072b2",
@@ -54,16 +56,15 @@ class Picture:
         for name in names:
             self.bar(x, y - 9, 12, 10, COLOURS[name])
             self.text(x + 17, y, name)
-            x += 17 + 7.2 * len(name) + 18
+            x += 17 + 8 * len(name) + 18
 
-    def save(self, name, measured):
-        """Writes the picture, with when it was measured below."""
+    def made(self, measured):
+        """The picture's text, with when it was measured below."""
         self.text(self.width - 24, self.height - 10, measured, 11, "end", SOFT)
         head = f"<svg xmlns='http://www.w3.org/2000/svg' viewBox='0 0 {self.width} {self.height}' width='{self.width}' {FONT}>"
         title = f"<title>{html.escape(self.title)}</title>"
         page = f"<rect width='{self.width}' height='{self.height}' fill='{PAGE}'/>"
-        text = "\n".join([head, title, page, *self.shapes, "</svg>"])
-        (DOCS / name).write_text(text + "\n", encoding="utf-8")
+        return "\n".join([head, title, page, *self.shapes, "</svg>"]) + "\n"
 
 
 class Panel:
@@ -86,7 +87,7 @@ class Panel:
         """For each row a group of bars, one a series that has a value there, each with its value as `label` says it."""
         room = self.width / len(rows)
         for place, (name, values) in enumerate(rows):
-            shown = [(kind, values[kind]) for kind in series if values.get(kind) is not None]
+            shown = [(kind, figures.middle(values[kind])) for kind in series if values.get(kind) is not None]
             wide = room * 0.78 / max(1, len(series))
             first = self.left + room * place + (room - wide * len(shown)) / 2
             for number, (kind, value) in enumerate(shown):
@@ -125,7 +126,7 @@ def draw_ratios(kept, measured):
         panel = Panel(picture, 62, top, 894, 186, 100, " %")
         panel.axis(4)
         panel.groups([(name, ratios_at(row, capacity)) for name, row in kept.items()], series, lambda value: f"{value:.0f}")
-    picture.save("hit_ratios.svg", f"200,000 requests a trace; measured {measured}")
+    return picture.made(f"200,000 requests a trace; measured {measured}")
 
 
 SERVER_NAMES = {"cached": "cached", "redis": "Redis", "memcached": "memcached", "plain": "plain server"}
@@ -134,7 +135,7 @@ SERVER_NAMES = {"cached": "cached", "redis": "Redis", "memcached": "memcached", 
 def draw_requests(kept, measured):
     """Processor time a request by connections, a panel a depth."""
     series = [shown for name, shown in SERVER_NAMES.items() if any(name in row for row in kept.values())]
-    picture = Picture(980, 394, "Processor time a request")
+    picture = Picture(980, 394, "Processor time per request")
     picture.text(24, 34, "Processor microseconds per request, half SET, half GET", 19, weight="bold")
     picture.keys(24, 62, series)
     for place, (depth, about) in enumerate([(1, "one request at a time"), (32, "32 requests at a time")]):
@@ -144,12 +145,12 @@ def draw_requests(kept, measured):
             if name.split()[1] == str(depth)
         ]
         left = 52 + 480 * place
-        most = most_of([value for _, row in rows for value in row.values() if value is not None])
+        most = most_of([figures.middle(value) for _, row in rows for value in row.values() if value is not None])
         picture.text(left - 28, 98, about, 14, weight="bold")
         panel = Panel(picture, left, 118, 420, 220, most)
         panel.axis(5)
         panel.groups(rows, series, lambda value: f"{value:.1f}")
-    picture.save("requests.svg", f"the kernel's part included; measured {measured}")
+    return picture.made(f"medians, the kernel's part included; measured {measured}")
 
 
 CACHE_NAMES = {"tiny_lfu": "the cache of one part", "caffeine": "Caffeine", "lru_cache": "LruCache"}
@@ -164,11 +165,11 @@ def calls_by_size(kept, work):
 
 def draw_calls(kept, measured):
     """Nanoseconds a call by the number of values, a panel a call; then bytes a value."""
-    panels = [(about, calls_by_size(kept, work)) for about, work in [*CALL_PANELS, ("bytes per value", "bytes")]]
+    panels = [(about, calls_by_size(kept, work)) for about, work in [*CALL_PANELS, ("bytes per value, in addition to key and value", "bytes")]]
     panels = [(about, rows) for about, rows in panels if rows]
     series = [shown for shown in CACHE_NAMES.values() if any(row[shown] is not None for _, rows in panels for _, row in rows)]
-    picture = Picture(980, 112 + 264 * math.ceil(len(panels) / 2), "Time a call and bytes per value")
-    picture.text(24, 34, "Nanoseconds per call, and bytes per value in addition to key and value, by the number of values", 19, weight="bold")
+    picture = Picture(980, 112 + 264 * math.ceil(len(panels) / 2), "Time per call and bytes per value")
+    picture.text(24, 34, "Time per call and bytes per value, by the number of values", 19, weight="bold")
     picture.keys(24, 62, series)
     for place, (about, rows) in enumerate(panels):
         left, top = 52 + 480 * (place % 2), 122 + 264 * (place // 2)
@@ -176,32 +177,31 @@ def draw_calls(kept, measured):
         panel = Panel(picture, left, top, 420, 186, most_of([value for _, row in rows for value in row.values() if value is not None]))
         panel.axis(5)
         panel.groups(rows, series, lambda value: f"{value:.0f}")
-    picture.save("calls.svg", f"one thread, keys by Zipf's law, key and value of 8 bytes; measured {measured}")
+    return picture.made(f"one thread, keys by Zipf's law, key and value of 8 bytes; measured {measured}")
 
 
-TABLE_NAMES = {"tinylfu": "TinyLFU", "lru": "LRU", "plain lru": "plain LRU", "caffeine": "Caffeine", "corrected": "TinyLFU, odd counts"}
+PICTURES = {"hit_ratios": draw_ratios, "requests": draw_requests, "calls": draw_calls}
 
 
-def print_ratios(kept):
-    """For each capacity a table in Markdown."""
-    for capacity in sorted({int(name.split()[-1]) for row in kept.values() for name in row}):
-        print("|", " | ".join([f"{capacity:,} values", *TABLE_NAMES.values()]), "|")
-        print("|-" * (len(TABLE_NAMES) + 1) + "|")
-        for trace, row in kept.items():
-            print("|", " | ".join([trace, *(f"{row[f'{name} {capacity}']:.1f}" for name in TABLE_NAMES)]), "|")
-        print()
+def all_made():
+    """By path all that is made of the figures."""
+    kept = figures.all_figures()
+    for kind, draw in PICTURES.items():
+        yield ROOT / f"docs/{kind}.svg", draw(kept[kind], kept["measured"][kind])
+    for name in DOCUMENTS:
+        yield ROOT / name, tables.filled((ROOT / name).read_text(encoding="utf-8"))
 
 
 def main():
-    kept = figures.all_figures()
-    if sys.argv[1:] == ["ratios"]:
-        print_ratios(kept["hit_ratios"])
-        return
-    if sys.argv[1:]:
+    if sys.argv[1:] not in ([], ["check"]):
         sys.exit(__doc__)
-    for kind, draw in {"hit_ratios": draw_ratios, "requests": draw_requests, "calls": draw_calls}.items():
-        if kept.get(kind):
-            draw(kept[kind], kept["measured"][kind])
+    differ = [(path, text) for path, text in all_made() if not path.exists() or path.read_text(encoding="utf-8") != text]
+    for path, text in differ:
+        if sys.argv[1:]:
+            print(f"{path.relative_to(ROOT)} is not made of benches/figures.json; python3 benches/plots.py makes it", file=sys.stderr)
+        else:
+            path.write_text(text, encoding="utf-8")
+    sys.exit(bool(differ and sys.argv[1:]))
 
 
 if __name__ == "__main__":

@@ -11,6 +11,7 @@ import pathlib
 import subprocess
 import sys
 
+import figures
 import progress
 
 PROGRAM = pathlib.Path(__file__).resolve().parent.parent / "crates/bench/out/bench"
@@ -36,19 +37,40 @@ def nanos_a_round(what, size, rounds):
     return (seconds_of(what, size, rounds) - seconds_of(what, size, 0)) / rounds * 1e9
 
 
+FIGURES = {
+    "fronts": "the first node moved to the back",
+    "moves": "a random node moved to the back",
+    "counts": "a hash counted by a sketch of that size",
+    "frequencies": "a hash looked up there",
+    "rising": "a timer scheduled, in rising order",
+    "random": "a timer scheduled, in random order",
+    "lives": "a timer scheduled, a minute or a day ahead at random",
+}
+
+
+def keep(what, size, nanos):
+    figures.keep("policy", {FIGURES[what]: {str(size): round(nanos)}})
+
+
 def main():
     small = nanos_a_round("fronts", 1_000, 10_000_000)
     large = nanos_a_round("fronts", 1_000_000, 10_000_000)
+    for what, size, nanos in [("fronts", 1_000, small), ("fronts", 1_000_000, large)]:
+        keep(what, size, nanos)
     print(f"the first node moved to the back: {small:.0f} ns at 1,000 nodes, {large:.0f} ns at 1,000,000")
     drawn = [nanos_a_round("moves", size, 10_000_000) for size in (1_000, 1_000_000)]
+    for size, nanos in zip((1_000, 1_000_000), drawn):
+        keep("moves", size, nanos)
     print(f"a drawn node moved to the back: {drawn[0]:.0f} ns at 1,000 nodes, {drawn[1]:.0f} ns at 1,000,000")
     for what in ["rising", "random", "lives"]:
         for size in [10_000, 100_000, 1_000_000]:
             made, scheduled, expired = [seconds_of(what, size, rounds) / size * 1e9 for rounds in (0, 1, 2)]
+            keep(what, size, scheduled - made)
             print(f"{size:,} timers, {what}: {scheduled - made:.0f} ns a schedule, {expired - scheduled:.0f} ns an expiration")
     for what in ["counts", "frequencies"]:
         for size in [1_000, 1_000_000]:
             once = nanos_a_round(what, size, 10_000_000)
+            keep(what, size, once)
             print(f"{what} of a sketch for {size:,}: {once:.0f} ns each, {1000 / once:.0f} million a second")
     sys.exit(large > MOST_GROWTH * small)
 

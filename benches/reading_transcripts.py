@@ -12,6 +12,7 @@ import sys
 import tempfile
 import time
 
+import figures
 import progress
 
 RECORDS = 500_000
@@ -63,6 +64,7 @@ def main():
             sys.exit(f"printed {printed!r}")
     progress.clear()
     best = min(seconds for seconds, _ in runs)
+    figures.keep("reading", {"a million steps": {"seconds": round(best, 1), "megabytes": round(size / 1e6)}})
     print(f"{2 * RECORDS} steps, {size / 1e6:.0f} MB, read in {best:.2f} s (at most {LIMIT_SECONDS} s wanted)")
     sys.exit(best > LIMIT_SECONDS)
 

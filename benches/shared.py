@@ -11,6 +11,7 @@ import statistics
 import subprocess
 import sys
 
+import figures
 import progress
 
 PROGRAM = pathlib.Path(__file__).resolve().parent.parent / "crates/bench/out/bench"
@@ -51,6 +52,8 @@ def main():
         factor = statistics.median(factors)
         are_met = are_met and factor <= BOUND
         progress.clear()
+        row = {"moka": round(moka), "lru": round(lru), "factor": figures.spread(factors, factor, 1)}
+        figures.keep("threads", {str(threads): row})
         print(
             f"{threads} threads: moka {moka:.0f} ns a call, lru {lru:.0f} ns, "
             f"{factor:.1f} times ({factors[0]:.1f} to {factors[-1]:.1f})",

@@ -19,6 +19,7 @@ import resource
 import subprocess
 import sys
 
+import figures
 import progress
 
 PROGRAM = pathlib.Path(__file__).resolve().parent.parent / "crates/transcript/out/transcript"
@@ -141,6 +142,7 @@ def main():
     if run.stdout != b"verdict yes\n" or run.returncode != 0:
         sys.exit(f"wrong verdict: {run.stdout[:100]} {run.stderr[:100]}")
     used = resource.getrusage(resource.RUSAGE_CHILDREN)
+    figures.keep("judge", {" ".join(words): {"seconds": round(used.ru_utime + used.ru_stime, 1)}})
     print(
         f"{steps} steps over {keys} keys, capacity {capacity}{', ' + kinds if kinds else ''}, {len(text) / 1e6:.1f} MB: "
         f"processor {used.ru_utime + used.ru_stime:.2f} s, at most {used.ru_maxrss / 1024:.0f} MB"

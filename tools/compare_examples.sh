@@ -51,3 +51,6 @@ for name in $shown; do
     same "docs/FROM_MOKA.md's example $name and its region in $uses" \
         "$(block docs/FROM_MOKA.md "<!-- example: $name -->" '```rust')" "$(region "$name")"
 done
+
+# The pictures and the tables of figures are those that the file of figures gives.
+PYTHONDONTWRITEBYTECODE=1 python3 benches/plots.py check

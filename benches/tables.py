@@ -1,0 +1,170 @@
+"""Makes the documents' tables of figures.json: those between `<!-- figures: NAME -->` and `<!-- end of figures -->`."""
+import re
+
+import figures
+
+MARKED = re.compile(r"(<!-- figures: ([a-z_ 0-9]+) -->\n).*?(<!-- end of figures -->)", re.DOTALL)
+SIZES = ["1000", "100000", "1000000"]
+
+
+def shown(value, digits=0):
+    """A number; with its spread in parentheses if it has one; nothing if it is not known."""
+    if value is None:
+        return ""
+    if isinstance(value, list):
+        middle, least, greatest = (f"{one:,.{digits}f}" for one in value)
+        return f"{middle} ({least} to {greatest})"
+    return f"{value:,.{digits}f}"
+
+
+def table(head, rows):
+    return "\n".join(["| " + " | ".join(head) + " |", "|-" * len(head) + "|", *("| " + " | ".join(row) + " |" for row in rows)])
+
+
+def requests(kept):
+    names = {"cached": "`cached`", "redis": "Redis", "memcached": "memcached", "plain": "`plain_server`"}
+    rows = [[*row.split(), *(shown(of.get(name), 1) for name in names)] for row, of in kept["requests"].items()]
+    return table(["Connections", "Depth", *names.values()], rows)
+
+
+def calls(kept):
+    def cell(size, work):
+        found = [kept["calls"][size].get(f"{name} {work}") for name in ("tiny_lfu", "lru_cache", "caffeine")]
+        return ", ".join(shown(value) or "-" for value in found) if found[0] is not None else ""
+
+    works = {"look-up": "gets zipf", "overwrite": "writes zipf", "fetch": "fetches zipf", "bytes per value": "bytes"}
+    rows = [[name, *(cell(size, work) for size in SIZES)] for name, work in works.items()]
+    return table(["Call", *(f"{int(size):,}" for size in SIZES)], rows)
+
+
+# How many times the time of `LruCache` a call may take, by the number of values, keys drawn uniformly; by Zipf's law in parentheses.
+FACTORS = {
+    "look-up": ("tiny_lfu gets", ["5", "2 (3)", "1.4"]),
+    "overwrite": ("tiny_lfu writes", ["3.5", "2.3", "1.7"]),
+    "fetch": ("tiny_lfu fetches", ["", "", ""]),
+    "insert, TinyLFU": ("tiny_lfu inserts", ["2.5", "1.5", "1.5"]),
+    "insert, LRU": ("lru inserts", ["2.5", "1.5", "1.5"]),
+}
+
+
+def factors(kept):
+    def cell(size, work, goal):
+        uniform, zipf = (kept["factors"][size].get(f"{work} {draws}") for draws in ("uniform", "zipf"))
+        text = shown(uniform, 1) + (f" ({shown(zipf, 1)})" if zipf is not None else "")
+        return text + (f", goal {goal}" if goal else "")
+
+    rows = [[name, *(cell(size, work, goal) for size, goal in zip(SIZES, goals))] for name, (work, goals) in FACTORS.items()]
+    return table(["Call", *(f"{int(size):,}" for size in SIZES)], rows)
+
+
+def longest(kept):
+    names = {"look-up": "tiny_lfu gets", "overwrite": "tiny_lfu writes", "insert, TinyLFU": "tiny_lfu inserts", "insert, LRU": "lru inserts"}
+    goals = {"10000": "0.3", "900000": "2"}
+    rows = [[name, *(shown(kept["longest"][size].get(work), 3) for size in goals)] for name, work in names.items()]
+    return table(["Call", *(f"{int(size):,}, goal {goal}" for size, goal in goals.items())], rows)
+
+
+def instructions(kept):
+    goals = {"look-up": 260, "overwrite": 280, "insert that evicts": 480}
+    rows = [[name, shown(kept["instructions_of_calls"][name]["instructions"]), str(goal)] for name, goal in goals.items()]
+    return table(["Call", "Instructions", "Goal"], rows)
+
+
+def threads(kept):
+    rows = [
+        [count, f"{shown(row['moka'])} ns", f"{shown(row['lru'])} ns", shown(row["factor"], 1)]
+        for count, row in kept["threads"].items()
+    ]
+    return table(["Threads", "`moka_sync`", "`LruCache` under a lock", "Ratio"], rows)
+
+
+def crafted(kept):
+    def cell(name):
+        return shown(kept["crafted_keys"].get(name, {}).get("us"), 1)
+
+    rows = [
+        ["random", cell("server, drawn"), cell("script, drawn")],
+        ["crafted against std's hasher without a secret", cell("server, crafted"), ""],
+        ["crafted against the script's secret", cell("server, script's"), cell("script, crafted")],
+    ]
+    return table(["Keys", "`cached --config`, with a random secret", "`cached --script`, with a known secret"], rows)
+
+
+def policy(kept):
+    def time(nanos):
+        return "" if nanos is None else f"{nanos / 1000:.1f} us" if nanos >= 1000 else f"{nanos:.0f} ns"
+
+    rows = [[name, *(time(row.get(size)) for size in SIZES)] for name, row in kept["policy"].items()]
+    return table(["Operation", *(f"{int(size):,}" for size in SIZES)], rows)
+
+
+def judge(kept):
+    rows = []
+    for name, row in kept["judge"].items():
+        steps, keys, capacity, *kind = name.split()
+        about = f"`{kind[0]}`" if kind else "no capacity" if capacity == "-" else f"capacity {int(capacity):,}"
+        rows.append([f"{int(steps):,}", f"{int(keys):,}", about, shown(row["seconds"], 1)])
+    return table(["Steps", "Keys or connections", "Kind", "Seconds"], rows)
+
+
+def server(kept):
+    lines, line = kept["million_lines"]["a million lines"]["seconds"], kept["instructions"]["a line"]
+    memory, soak, made = kept["memory"]["cached"]["bytes"], kept["soak"]["cached"], kept["calls_made"]["GET a"]
+    rows = [
+        ("million_lines", "`million_lines.py`", f"{shown(lines, 2)} s of processor time", "1 s"),
+        ("memory", "`connections.py memory`", f"{memory} bytes per value in addition to key and value: a million values of 32 bytes, keys of 16", "200"),
+        ("soak", "`connections.py soak`", f"at most {soak['first quarter']} MiB in the first quarter of a million requests, {soak['last quarter']} MiB in the last", "flat"),
+        ("instructions", "`instructions.py`", f"{shown(line['cached'])} instructions per line, `plain_server` {shown(line['plain_server'])}: "
+         f"{line['cached'] / line['plain_server']:.2f} times", "1,400, and 1.3 times"),
+        ("calls_made", "`calls.py`", f"a `GET` makes {made['all']} calls, {made['own']} of them to functions of this repository and the kit's crates", ""),
+    ]
+    dated = [[name, kept["measured"][kind].split(",")[0], figure, goal] for kind, name, figure, goal in rows]
+    return table(["Benchmark", "Measured", "Figure", "Goal"], dated)
+
+
+def reading(kept):
+    row = kept["reading"]["a million steps"]
+    return table(["Benchmark", "Figure", "Goal"], [["`reading_transcripts.py`", f"a million steps, {row['megabytes']} MB, in {row['seconds']} s", "10 s"]])
+
+
+RATIO_NAMES = {"tinylfu": "TinyLFU", "lru": "LRU", "plain lru": "plain LRU", "caffeine": "Caffeine", "corrected": "TinyLFU, odd counts"}
+
+
+def ratios(kept):
+    """For each capacity a table."""
+    capacities = sorted({int(name.split()[-1]) for row in kept["hit_ratios"].values() for name in row})
+    return "\n\n".join(
+        table([f"{capacity:,} values", *RATIO_NAMES.values()],
+              [[trace, *(shown(row[f"{name} {capacity}"], 1) for name in RATIO_NAMES)] for trace, row in kept["hit_ratios"].items()])
+        for capacity in capacities
+    )
+
+
+# By the name in a document: the kind whose date is told, and what makes the table.
+TABLES = {
+    "requests": ("requests", requests),
+    "server": (None, server),
+    "calls": ("calls", calls),
+    "factors": ("factors", factors),
+    "longest": ("longest", longest),
+    "instructions": ("instructions_of_calls", instructions),
+    "threads": ("threads", threads),
+    "crafted keys": ("crafted_keys", crafted),
+    "policy": ("policy", policy),
+    "judge": ("judge", judge),
+    "reading": ("reading", reading),
+    "hit ratios": ("hit_ratios", ratios),
+}
+
+
+def filled(text):
+    """A document with its tables made anew."""
+    kept = figures.all_figures()
+
+    def made(found):
+        head, name, end = found.groups()
+        kind, make = TABLES[name]
+        date = f"Measured {kept['measured'][kind]}.\n\n" if kind else ""
+        return f"{head}\n{date}{make(kept)}\n\n{end}"
+
+    return MARKED.sub(made, text)
