@@ -54,3 +54,6 @@ done
 
 # The pictures and the tables of figures are those that the file of figures gives.
 PYTHONDONTWRITEBYTECODE=1 python3 benches/plots.py check
+
+# The documents' links lead somewhere.
+python3 tools/test_links.py

@@ -1,0 +1,73 @@
+#!/usr/bin/env bash
+# Builds the package, installs it in a fresh folder, and runs what is there once: both programs, the server on a free port, the man pages.
+# The status is 1 if something is wrong. Without dpkg it is skipped.
+#
+#   tools/test_package.sh [PATH_OF_CACHED PATH_OF_CACHED_CHECK]
+set -euo pipefail
+if ! command -v dpkg-deb > /dev/null; then
+    echo "package: skipped: there is no dpkg-deb on the path"
+    exit 0
+fi
+tools=$(realpath "$(dirname "$0")")
+folder=$(mktemp -d)
+server=
+trap '[ -z "$server" ] || kill "$server" 2> /dev/null || true; rm -rf "$folder"' EXIT
+fail() {
+    echo "package: FAILED: $*" >&2
+    exit 1
+}
+same() { # what, as it is, as it has to be
+    [ "$2" = "$3" ] || fail "$1: $2"
+}
+
+package=$("$tools/package.sh" "$folder" "$@")
+root=$folder/root
+mkdir -p "$root/var/lib/dpkg/info" "$root/var/lib/dpkg/updates"
+touch "$root/var/lib/dpkg/status"
+if ! dpkg --root="$root" --force-not-root --force-depends --force-script-chrootless --log="$folder/log" -i "$package" > "$folder/told" 2>&1; then
+    cat "$folder/told" >&2
+    fail "dpkg does not install it"
+fi
+same "what dpkg says of it" "$(dpkg --root="$root" -s cached | sed -n 's/^Status: //p')" "install ok installed"
+same "its configuration file" "$(dpkg --root="$root" -s cached | grep -c '^ /etc/cached.toml ')" 1
+
+cd "$root"
+same "cached_check" "$(usr/bin/cached_check etc/cached.toml)" "etc/cached.toml: ok"
+same "a script" "$(printf 'SET a - two words\nGET a\nHAS b\n' | usr/bin/cached --script 2> /dev/null)" $'OK\nVAL two words\nNO'
+same "the programs of the unit" "$(sed -n 's/^ExecStart=\(\S*\) .*/\1/p' lib/systemd/system/cached.service)" /usr/bin/cached
+if command -v systemd-analyze > /dev/null; then
+    systemd-analyze verify --root="$root" --recursive-errors=no cached.service > "$folder/told" 2>&1 || grep -q 'basic.target\|sysinit.target' "$folder/told" || fail "the unit: $(cat "$folder/told")"
+fi
+for page in cached.1 cached_check.1 cached.toml.5; do
+    gzip -dc "usr/share/man/man${page##*.}/$page.gz" > "$folder/$page"
+    if command -v mandoc > /dev/null; then
+        mandoc -Tlint "$folder/$page" || fail "$page"
+    elif command -v man > /dev/null; then
+        same "the warnings of $page" "$(man --warnings -l "$folder/$page" 2>&1 > /dev/null)" ""
+    fi
+done
+
+# The server, with the sample configuration on a free port.
+python3 - "$root" "$folder" <<'END'
+import pathlib, re, socket, subprocess, sys
+
+root, folder = map(pathlib.Path, sys.argv[1:])
+with socket.create_server(("127.0.0.1", 0)) as listener:
+    port = listener.getsockname()[1]
+sample = (root / "etc/cached.toml").read_text()
+config = folder / "cached.toml"
+config.write_text(re.sub("port = .*", f"port = {port}", sample))
+server = subprocess.Popen([root / "usr/bin/cached", "--config", config], stdout=subprocess.PIPE)
+try:
+    assert server.stdout.readline() == b"listening sessions 127.0.0.1:%d\n" % port
+    # Under LRU the first of 1,001 new keys leaves.
+    lines = b"".join(b"SET k%d - v\n" % number for number in range(1001)) + b"SYNC\nHAS k0\nHAS k1\nHAS k1000\nQUIT\n"
+    with socket.create_connection(("127.0.0.1", port), timeout=10) as client:
+        client.sendall(lines)
+        replies = b"".join(iter(lambda: client.recv(65536), b""))
+    assert replies == b"OK\n" * 1001 + b"SYNC 1000 1000\nNO\nYES\nYES\nOK\n", replies[-100:]
+    assert server.stdout.readline() == b"sessions NOTE Size k0 v\n"
+finally:
+    server.kill()
+END
+echo "package: $(basename "$package"), $(($(stat -c %s "$package") / 1024)) KiB, was built, installed and run"
