@@ -18,8 +18,8 @@ done
 
 version=$(sed -n 's/^## \([0-9][0-9.]*\).*/\1/p' CHANGELOG.md | head -n 1)
 machine=$(dpkg --print-architecture)
-# The newest version of the C library whose symbols the programs name.
-libc=$(grep -aoh 'GLIBC_2\.[0-9]*' "$cached" "$check" | sed 's/GLIBC_//' | sort -Vu | tail -n 1)
+# The newest version of the C library whose symbols the programs name; none if they are linked statically.
+libc=$({ grep -aoh 'GLIBC_2\.[0-9]*' "$cached" "$check" || true; } | sed 's/GLIBC_//' | sort -Vu | tail -n 1)
 folder=$(mktemp -d)
 trap 'rm -rf "$folder"' EXIT
 root=$folder/root
@@ -31,7 +31,7 @@ put 755 "$cached" usr/bin/cached
 put 755 "$check" usr/bin/cached_check
 put 644 docs/cached.toml etc/cached.toml
 sed 's|/usr/local/bin|/usr/bin|' docs/cached.service > "$folder/cached.service"
-put 644 "$folder/cached.service" lib/systemd/system/cached.service
+put 644 "$folder/cached.service" usr/lib/systemd/system/cached.service
 for page in docs/man/*; do
     gzip -9n < "$page" > "$folder/page"
     put 644 "$folder/page" "usr/share/man/man${page##*.}/$(basename "$page").gz"
@@ -50,8 +50,8 @@ Package: cached
 Version: $version
 Architecture: $machine
 Maintainer: Bivrang maintainers <maintainers@users.noreply.bivrang.example>
-Depends: libc6 (>= $libc)
-Section: database
+${libc:+Depends: libc6 (>= $libc)
+}Section: database
 Priority: optional
 Installed-Size: $(du -sk "$root" | cut -f 1)
 Description: bounded cache behind a line protocol, proved

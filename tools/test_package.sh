@@ -34,14 +34,14 @@ same "its configuration file" "$(dpkg --root="$root" -s cached | grep -c '^ /etc
 cd "$root"
 same "cached_check" "$(usr/bin/cached_check etc/cached.toml)" "etc/cached.toml: ok"
 same "a script" "$(printf 'SET a - two words\nGET a\nHAS b\n' | usr/bin/cached --script 2> /dev/null)" $'OK\nVAL two words\nNO'
-same "the programs of the unit" "$(sed -n 's/^ExecStart=\(\S*\) .*/\1/p' lib/systemd/system/cached.service)" /usr/bin/cached
+same "the programs of the unit" "$(sed -n 's/^ExecStart=\(\S*\) .*/\1/p' usr/lib/systemd/system/cached.service)" /usr/bin/cached
 if command -v systemd-analyze > /dev/null; then
     systemd-analyze verify --root="$root" --recursive-errors=no cached.service > "$folder/told" 2>&1 || grep -q 'basic.target\|sysinit.target' "$folder/told" || fail "the unit: $(cat "$folder/told")"
 fi
 for page in cached.1 cached_check.1 cached.toml.5; do
     gzip -dc "usr/share/man/man${page##*.}/$page.gz" > "$folder/$page"
     if command -v mandoc > /dev/null; then
-        mandoc -Tlint "$folder/$page" || fail "$page"
+        mandoc -Tlint -Wwarning "$folder/$page" || fail "$page"
     elif command -v man > /dev/null; then
         same "the warnings of $page" "$(man --warnings -l "$folder/$page" 2>&1 > /dev/null)" ""
     fi
