@@ -1,8 +1,8 @@
 #!/usr/bin/env python3
 """Checks the links of all documents: each file is there, and each heading. `python3 tools/test_links.py` takes a second."""
+import functools
 import pathlib
 import re
-import subprocess
 import sys
 
 ROOT = pathlib.Path(__file__).resolve().parent.parent
@@ -10,11 +10,11 @@ LINK = re.compile(r"!?\[[^\]\n]*\]\(([^)\s]+)\)")
 FENCED = re.compile(r"^(```|~~~).*?^\1", re.MULTILINE | re.DOTALL)
 
 
+@functools.cache
 def documents():
-    """The documents that git knows, and those that are new."""
-    words = ["git", "ls-files", "--cached", "--others", "--exclude-standard", "*.md"]
-    listed = subprocess.run(words, cwd=ROOT, capture_output=True, text=True, check=True).stdout.split("\n")
-    return [ROOT / name for name in listed if name and (ROOT / name).exists()]
+    """The documents outside folders of what was built."""
+    built = {".git", "out", "target"}
+    return [file for file in sorted(ROOT.rglob("*.md")) if not built & set(file.relative_to(ROOT).parts)]
 
 
 def anchors(text):
