@@ -10,8 +10,7 @@ if ! command -v dpkg-deb > /dev/null; then
 fi
 tools=$(realpath "$(dirname "$0")")
 folder=$(mktemp -d)
-server=
-trap '[ -z "$server" ] || kill "$server" 2> /dev/null || true; rm -rf "$folder"' EXIT
+trap 'rm -rf "$folder"' EXIT
 fail() {
     echo "package: FAILED: $*" >&2
     exit 1
@@ -22,21 +21,26 @@ same() { # what, as it is, as it has to be
 
 package=$("$tools/package.sh" "$folder" "$@")
 root=$folder/root
-mkdir -p "$root/var/lib/dpkg/info" "$root/var/lib/dpkg/updates"
-touch "$root/var/lib/dpkg/status"
-if ! dpkg --root="$root" --force-not-root --force-depends --force-script-chrootless --log="$folder/log" -i "$package" > "$folder/told" 2>&1; then
-    cat "$folder/told" >&2
-    fail "dpkg does not install it"
+if [ "$(id -u)" = 0 ]; then
+    mkdir -p "$root/var/lib/dpkg/info" "$root/var/lib/dpkg/updates"
+    touch "$root/var/lib/dpkg/status"
+    if ! dpkg --root="$root" --force-depends --force-script-chrootless --log="$folder/log" -i "$package" > "$folder/told" 2>&1; then
+        cat "$folder/told" >&2
+        fail "dpkg does not install it"
+    fi
+    same "what dpkg says of it" "$(dpkg --root="$root" -s cached | sed -n 's/^Status: //p')" "install ok installed"
+    same "its configuration file" "$(dpkg --root="$root" -s cached | grep -c '^ /etc/cached.toml ')" 1
+else
+    dpkg-deb -x "$package" "$root"
 fi
-same "what dpkg says of it" "$(dpkg --root="$root" -s cached | sed -n 's/^Status: //p')" "install ok installed"
-same "its configuration file" "$(dpkg --root="$root" -s cached | grep -c '^ /etc/cached.toml ')" 1
 
 cd "$root"
 same "cached_check" "$(usr/bin/cached_check etc/cached.toml)" "etc/cached.toml: ok"
 same "a script" "$(printf 'SET a - two words\nGET a\nHAS b\n' | usr/bin/cached --script 2> /dev/null)" $'OK\nVAL two words\nNO'
 same "the programs of the unit" "$(sed -n 's/^ExecStart=\(\S*\) .*/\1/p' usr/lib/systemd/system/cached.service)" /usr/bin/cached
 if command -v systemd-analyze > /dev/null; then
-    systemd-analyze verify --root="$root" --recursive-errors=no cached.service > "$folder/told" 2>&1 || grep -q 'basic.target\|sysinit.target' "$folder/told" || fail "the unit: $(cat "$folder/told")"
+    # An older one has not these options, and says nothing of the unit.
+    systemd-analyze verify --root="$root" --recursive-errors=no cached.service > "$folder/told" 2>&1 || ! grep -q cached.service "$folder/told" || fail "the unit: $(cat "$folder/told")"
 fi
 for page in cached.1 cached_check.1 cached.toml.5; do
     gzip -dc "usr/share/man/man${page##*.}/$page.gz" > "$folder/$page"
