@@ -62,5 +62,5 @@ Description: bounded cache behind a line protocol, proved
 END
 
 package=$to/cached_${version}_$machine.deb
-dpkg-deb --root-owner-group --build "$root" "$package" > /dev/null
+dpkg-deb --root-owner-group -Zgzip --build "$root" "$package" > /dev/null
 echo "$package"
