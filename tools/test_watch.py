@@ -103,6 +103,15 @@ class Numbers(unittest.TestCase):
         self.assertEqual(watch.sparks([], 4), "")
 
 
+class Screen(unittest.TestCase):
+    def test_a_screen_without_notices(self):
+        watcher = watch.Watcher(watch.Board([watch.Space(":1", 1, False)]), 5, 2)
+        row = watch.Row(":1", 1, (3, 7), None, None)
+        lines = watch.screen_lines(watcher, [row], 80)
+        self.assertEqual(lines[3].split(), [":1", "1", "3", "7", "-", "-", "-", "-"])
+        self.assertIn("not counted", lines[-1])
+
+
 class Page(html.parser.HTMLParser):
     """Sees that each tag is closed in its turn, and gathers the lines of pictures."""
 

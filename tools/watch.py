@@ -255,6 +255,8 @@ def screen_lines(watcher, rows, width):
     if not rows:
         return [*lines, "no namespace is listening yet"]
     lines += table(rows)
+    if all(row.counts is None for row in rows):
+        return [*lines, "", "the server's output is not read: notices are not counted"]
     label = max(len(row.name) for row in rows)
     shown = max(1, min(60, width - label - 20))
     lines += ["", f"notices a second, the last {watcher.minutes:g} minutes"]
