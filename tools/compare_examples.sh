@@ -36,6 +36,10 @@ same "docs/PROTOCOL.md's example and crates/cached/stdout" \
 same "README.md's configuration and docs/cached.toml" \
     "$(awk '/^\$ cat docs\/cached.toml$/ { open = 1; next } open && /^\$ / { exit } open' README.md)" "$(cat docs/cached.toml)"
 
+# So is that of its man page, but for the comment.
+same "docs/man/cached.toml.5's example and docs/cached.toml" \
+    "$(sed -n '/^\.Bd -literal/,/^\.Ed/p' docs/man/cached.toml.5 | grep -v '^\.')" "$(grep -v '^#' docs/cached.toml)"
+
 # The gate checks it: the stored run of cached_check reads a copy.
 same "docs/cached.toml and crates/cached_check/data/cached.toml" "$(cat docs/cached.toml)" "$(cat crates/cached_check/data/cached.toml)"
 
