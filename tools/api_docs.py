@@ -298,6 +298,14 @@ def impls_of(item):
                     yield impl, trait, text
 
 
+@functools.cache
+def calls_of(item):
+    """The names of a type's or a trait's own calls."""
+    if item.kind == "trait":
+        return {inner.name for inner in item.inner if inner.kind == "fn"}
+    return {inner.name for impl, trait, _ in impls_of(item) if not trait for inner in impl.inner if inner.kind == "fn" and inner.is_public}
+
+
 def parts_of(item):
     """The lines of a function's signature, and its clauses: each with its comment."""
     pad, signature, clauses, comment = " " * item.indent, [], [], []
@@ -358,6 +366,7 @@ class Pages:
     def __init__(self):
         self.shown = {name: exported(crate_of(name)) for name in PUBLIC}
         self.home, self.sources, self.index = {}, {}, []
+        self.here = None
         for name in PUBLIC:
             for one in self.shown[name]:
                 self.home.setdefault(id(one.item), {})[name] = one
@@ -433,8 +442,13 @@ class Pages:
         def inline(text):
             def quoted(found):
                 word = found.group(1)
-                target = resolve(module, re.sub(r"\(\)$", "", html.unescape(word)).split("::")) if re.fullmatch(r"[A-Za-z_0-9:]+(\(\))?", word) else None
+                path = re.sub(r"\(\)$", "", word).split("::") if re.fullmatch(r"[A-Za-z_0-9:]+(\(\))?", word) else []
+                target = resolve(module, path) if all(path) else None
                 url = self.url_of(target, crate) if isinstance(target, Item) else None
+                if url and path[-1] in calls_of(target):
+                    url += f".{path[-1]}"
+                elif not url and self.here and len(path) == 1 and path[0] in calls_of(self.here.item):
+                    url = f"{self.here.url}.{path[0]}"
                 return f'<a href="{url}"><code>{word}</code></a>' if url else f"<code>{word}</code>"
 
             text = re.sub(r"`([^`]+)`", quoted, html.escape(text, quote=False))
@@ -507,6 +521,7 @@ class Pages:
     def entry(self, one):
         """All of one exported item."""
         item, crate = one.item, one.crate
+        self.here = None if item.kind == "fn" else one
         if item.kind == "fn":
             return self.function(item, crate, one.anchor, "")
         self.index.append([one.name, item.kind, crate, one.url, self.first_sentence(item.docs)])
@@ -588,6 +603,7 @@ class Pages:
                     body.append(f"<h2>{TITLES[kind]}</h2>")
                     nav.append(f"<h5>{TITLES[kind]}</h5>" + "".join(f'<a href="#{one.anchor}">{one.name}</a>' for one in ones))
                     body += [self.entry(one) for one in ones]
+        self.here = None
         lead = self.prose(of.modules[()].docs, of.modules[()], name)
         return page(name, f"<h1>{name}</h1>{lead}{''.join(body)}", "".join(nav))
 
