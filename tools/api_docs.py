@@ -443,7 +443,7 @@ class Pages:
             def quoted(found):
                 word = found.group(1)
                 path = re.sub(r"\(\)$", "", word).split("::") if re.fullmatch(r"[A-Za-z_0-9:]+(\(\))?", word) else []
-                target = resolve(module, path) if all(path) else None
+                target = (resolve(module, path) or within(crate_of(crate).modules[()], path, 0)) if path and all(path) else None
                 url = self.url_of(target, crate) if isinstance(target, Item) else None
                 if url and path[-1] in calls_of(target):
                     url += f".{path[-1]}"
