@@ -28,10 +28,12 @@ Each exception of this module is a `BivrangError`. There are three kinds:
 import collections
 import math
 import operator
+import os
 import re
 import socket
 import threading
 import time
+import weakref
 from types import TracebackType
 from typing import (
     Any,
@@ -522,6 +524,33 @@ class Commands(KeyedCommands):
         return self._ask(Request.sync())
 
 
+# Processes.
+
+
+class _Forked:
+    """What a child process made by `fork` gets too, and begins anew. Two processes that share a
+    connection would read each other's replies, and a lock that another thread holds is never
+    released in the child, where that thread does not run."""
+
+    def __init__(self) -> None:
+        _living.add(self)
+
+    def _begin_in_child(self) -> None:
+        raise NotImplementedError
+
+
+_living: "weakref.WeakSet[_Forked]" = weakref.WeakSet()
+
+
+def _begin_all_in_child() -> None:
+    for it in list(_living):
+        it._begin_in_child()
+
+
+if hasattr(os, "register_at_fork"):
+    os.register_at_fork(after_in_child=_begin_all_in_child)
+
+
 # Connections.
 
 
@@ -540,9 +569,10 @@ def _only(results: Sequence[Any]) -> Any:
     return result
 
 
-class Connection(Commands):
+class Connection(Commands, _Forked):
     """One connection to one namespace, for one thread at a time. It does not reconnect: after a
-    `LinkError` it is closed, and stays closed.
+    `LinkError` it is closed, and stays closed. In a child process made by `fork` it is closed,
+    which the parent and the server do not notice.
 
     host, port: the address of the namespace.
     connect_seconds: the time limit for connecting.
@@ -563,6 +593,7 @@ class Connection(Commands):
         self._scanned = 0
         self._reply_seconds = _limit(reply_seconds)
         self._socket: Optional[socket.socket] = None
+        super().__init__()
         try:
             self._socket = socket.create_connection((host, port), timeout=_limit(connect_seconds))
             self._socket.setsockopt(socket.IPPROTO_TCP, socket.TCP_NODELAY, 1)
@@ -593,6 +624,11 @@ class Connection(Commands):
         if self._socket is not None:
             self._socket.close()
             self._socket = None
+
+    def _begin_in_child(self) -> None:
+        """Closes this process's descriptor alone: neither `QUIT` nor `shutdown`, which would end
+        the parent's connection."""
+        self.close()
 
     def quit(self) -> None:
         """`QUIT`: the server replies `OK` and closes the connection; then so does the client."""
@@ -690,14 +726,16 @@ class Connection(Commands):
             self._receive(limit, is_first)
 
     def _receive(self, limit: float, is_first: bool) -> None:
-        assert self._socket is not None
+        link = self._socket
+        if link is None:
+            raise ConnectionSpent("the connection was closed during a call")
         has_begun = not is_first or bool(self._received)
         left = limit - time.monotonic()
         try:
             if left <= 0:
                 raise socket.timeout
-            self._socket.settimeout(left)
-            piece = self._socket.recv(RECEIVED_AT_ONCE)
+            link.settimeout(left)
+            piece = link.recv(RECEIVED_AT_ONCE)
         except socket.timeout:
             raise ReplyTimeout(f"no whole line of a reply within {self._reply_seconds} s") from None
         except OSError as error:
@@ -707,9 +745,9 @@ class Connection(Commands):
         self._received += piece
 
 
-class Client(Commands):
+class Client(Commands, _Forked):
     """A pool of connections to one namespace, which threads share. Connections are made when they
-    are needed, and kept.
+    are needed, and kept. A child process made by `fork` makes its own.
 
     host, port: the address of the namespace.
     connections: the maximum number of connections, at least 1.
@@ -739,10 +777,10 @@ class Client(Commands):
         self._connect_seconds = _limit(connect_seconds)
         self._reply_seconds = _limit(reply_seconds)
         self._wait_seconds = _limit(wait_seconds)
-        self._free = threading.BoundedSemaphore(connections)
-        self._lock = threading.Lock()
-        self._idle: Deque[Connection] = collections.deque()
+        self._connections = connections
         self._is_closed = False
+        self._begin_in_child()
+        super().__init__()
 
     def __enter__(self) -> "Client":
         return self
@@ -754,6 +792,11 @@ class Client(Commands):
         trace: Optional[TracebackType],
     ) -> None:
         self.close()
+
+    def _begin_in_child(self) -> None:
+        self._free = threading.BoundedSemaphore(self._connections)
+        self._lock = threading.Lock()
+        self._idle: Deque[Connection] = collections.deque()
 
     def close(self) -> None:
         """Closes the idle connections, and each other one when its call has ended. Later calls
@@ -773,7 +816,8 @@ class Client(Commands):
         return result
 
     def _run(self, requests: List[Request[Any]]) -> List[Any]:
-        if not self._free.acquire(timeout=self._wait_seconds):
+        free = self._free
+        if not free.acquire(timeout=self._wait_seconds):
             raise PoolTimeout(f"all connections were in use for {self._wait_seconds} s")
         try:
             return self._run_on(self._take(), requests)
@@ -782,7 +826,7 @@ class Client(Commands):
                 raise
             return self._run_on(self._connect(), requests)
         finally:
-            self._free.release()
+            free.release()
 
     def _run_on(self, connection: Connection, requests: List[Request[Any]]) -> List[Any]:
         try:
