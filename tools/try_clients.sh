@@ -39,7 +39,7 @@ try_rust() {
     cd clients/rust && CACHED=$program CARGO_TARGET_DIR=$folder/target try rust cargo test --offline --quiet
 }
 
-try python python3 clients/python/test_bivrang.py "$program" & python=$!
+try python python3 clients/python/tests "$program" & python=$!
 try_rust & rust=$!
 try watcher python3 tools/test_watch.py & watcher=$!
 try judge python3 tools/test_random_use.py Right Wrong Liars & judge=$!

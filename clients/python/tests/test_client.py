@@ -1,142 +1,16 @@
-#!/usr/bin/env python3
-"""Tests of the client, against the real server and against fake ones that break their replies.
-
-    python3 clients/python/test_bivrang.py [PATH_OF_CACHED] [unittest's words]
-
-The path is crates/cached/out/cached where none is given. All is on 127.0.0.1, on free ports, with
-configurations in a temporary folder, and ends by itself, mostly within a minute.
-"""
-import pathlib
-import queue
+"""The client on the real server, and on fake ones that break their replies."""
+import datetime
+import math
+import pickle
 import socket
-import subprocess
-import sys
-import tempfile
 import threading
 import time
-import unittest
 
-sys.dont_write_bytecode = True
-sys.path.insert(0, str(pathlib.Path(__file__).resolve().parent))
-import bivrang  # noqa: E402
-from bivrang import Client, Connection, Held, Request, Server, Servers  # noqa: E402
-
-REPOSITORY = pathlib.Path(__file__).resolve().parents[2]
-PROGRAM = REPOSITORY / "crates/cached/out/cached"
-HOST = "127.0.0.1"
-START_SECONDS = 30
-PATIENCE = 30
-SHORT = 0.2
-
-NAMESPACES = {
-    "main": "capacity = 100000",
-    "timed": "deadlines = true",
-    "zero": "capacity = 0",
-    "loads": '[namespace.loads]\nk = "found elsewhere"\nlong = "%s"' % ("x" * 8192),
-    "bytes": 'weight = "bytes"',
-    "small": 'capacity = 2\npolicy = "lru"',
-}
-
-
-def free_port():
-    """A port that nobody listens on now."""
-    with socket.socket() as probe:
-        probe.bind((HOST, 0))
-        return probe.getsockname()[1]
-
-
-class RealServer:
-    """`cached --config` with these namespaces, until it is stopped."""
-
-    def __init__(self, namespaces):
-        self.ports = {}
-        while len(set(self.ports.values())) < len(namespaces):
-            self.ports = {name: free_port() for name in namespaces}
-        self.folder = tempfile.TemporaryDirectory()
-        self.file = pathlib.Path(self.folder.name, "cached.toml")
-        self.file.write_text("".join(
-            f'[[namespace]]\nname = "{name}"\nport = {self.ports[name]}\n{rest}\n'
-            for name, rest in namespaces.items()
-        ))
-        self.start()
-
-    def start(self):
-        words = [str(PROGRAM), "--config", str(self.file)]
-        self.lines = queue.Queue()
-        self.process = subprocess.Popen(words, stdout=subprocess.PIPE, stdin=subprocess.DEVNULL)
-        threading.Thread(target=self.read, args=(self.process.stdout,), daemon=True).start()
-        for _ in self.ports:
-            line = self.lines.get(timeout=START_SECONDS)
-            if not line.startswith(b"listening "):
-                raise AssertionError(f"the server does not listen: {line!r}")
-
-    def read(self, output):
-        for line in output:
-            self.lines.put(line)
-        self.lines.put(b"")
-
-    def end(self):
-        self.process.kill()
-        self.process.wait()
-        self.process.stdout.close()
-
-    def stop(self):
-        self.end()
-        self.folder.cleanup()
-
-    def notices(self, count):
-        """The next notices."""
-        return [self.lines.get(timeout=PATIENCE) for _ in range(count)]
-
-    def drop_notices(self):
-        """Takes those that came until now."""
-        while not self.lines.empty():
-            self.lines.get()
-
-
-server = None
-
-
-def setUpModule():
-    global server
-    server = RealServer(NAMESPACES)
-
-
-def tearDownModule():
-    server.stop()
-
-
-class RealCase(unittest.TestCase):
-    """A case on the real server, whose namespaces are empty before each test."""
-
-    def client(self, name="main", **options):
-        client = Client(HOST, server.ports[name], **{"reply_seconds": PATIENCE, **options})
-        self.addCleanup(client.close)
-        client.clear()
-        client.sync()
-        return client
-
-    def connection(self, name="main", **options):
-        port = server.ports[name]
-        connection = Connection(HOST, port, **{"reply_seconds": PATIENCE, **options})
-        self.addCleanup(connection.close)
-        return connection
-
-    def raw(self, name="main"):
-        """A socket, without a client."""
-        link = socket.create_connection((HOST, server.ports[name]), timeout=PATIENCE)
-        self.addCleanup(link.close)
-        return link
-
-
-def read_all(link):
-    """All bytes until the other side ends."""
-    told = b""
-    while True:
-        piece = link.recv(65536)
-        if not piece:
-            return told
-        told += piece
+from support import HOST, PATIENCE, SHORT, Fake, FakeCase, RealCase, RealServer
+from support import free_port, read_all, read_all_or_reset
+from support import replies, replies_and_ends, resets, trickles
+import bivrang
+from bivrang import Connection, Held, Request, Server
 
 
 class Commands(RealCase):
@@ -148,9 +22,9 @@ class Commands(RealCase):
         self.assertIsNone(cache.delete("a"))
         self.assertIsNone(cache.get("a"))
         with self.assertRaises(bivrang.DeadlineError):
-            cache.set("a", "x", milliseconds=5)
-        self.assertEqual(cache.add("n", 2), 2)
-        self.assertEqual(cache.add("n", 40), 42)
+            cache.set("a", "x", ttl=0.005)
+        self.assertEqual(cache.incr("n", 2), 2)
+        self.assertEqual(cache.incr("n", 40), 42)
         self.assertIs(cache.has("n"), True)
         self.assertIs(cache.set("nn", "x"), True)
         self.assertEqual(cache.keys(), [b"n", b"nn"])
@@ -179,20 +53,21 @@ class Commands(RealCase):
 
     def test_deadlines(self):
         cache = self.client("timed")
-        cache.set("long", "x", milliseconds=999_999_999_999)
-        cache.set("short", "x", milliseconds=1)
-        cache.add("sum", 3, milliseconds=1)
+        cache.set("long", "x", ttl=999_999_999.999)
+        cache.set("short", "x", ttl=0.001)
+        cache.incr("sum", 3, ttl=0.001)
         time.sleep(0.05)
         self.assertIsNone(cache.get("short"))
-        self.assertEqual(cache.add("sum", 4), 4)
+        self.assertEqual(cache.incr("sum", 4), 4)
         self.assertEqual(cache.get("long"), b"x")
-        cache.set("none", "x", milliseconds=0)
+        cache.set("none", "x", ttl=0)
         self.assertIs(cache.has("none"), False)
 
     def test_capacity_of_none(self):
         cache = self.client("zero")
         self.assertIs(cache.set("a", "1"), False)
-        self.assertIsNone(cache.add("a", 1))
+        self.assertEqual(cache.set_many({"a": "1", "b": "2"}), ["a", "b"])
+        self.assertIsNone(cache.incr("a", 1))
         self.assertIsNone(cache.get("a"))
 
     def test_loads(self):
@@ -206,14 +81,82 @@ class Commands(RealCase):
     def test_numbers(self):
         cache = self.client()
         cache.set("n", "18446744073709551614")
-        self.assertEqual(cache.add("n", 1), 2**64 - 1)
+        self.assertEqual(cache.incr("n", 1), 2**64 - 1)
         with self.assertRaises(bivrang.NumberError):
-            cache.add("n", 1)
+            cache.incr("n", 1)
         cache.set("n", "no number")
         with self.assertRaises(bivrang.NumberError):
-            cache.add("n", 1)
+            cache.incr("n", 1)
         self.assertEqual(cache.get("n"), b"no number")
-        self.assertEqual(cache.add("other", 2**64 - 1), 2**64 - 1)
+        self.assertEqual(cache.incr("other", 2**64 - 1), 2**64 - 1)
+
+    def test_defaults(self):
+        cache = self.client()
+        self.assertEqual(cache.get("a", b"none"), b"none")
+        self.assertEqual(cache.get("a", default=0), 0)
+        self.assertEqual(cache.incr("n"), 1)
+        self.assertEqual(cache.get("n", 0), b"1")
+        self.assertEqual(cache.pipeline([Request.get("a", 0), Request.get("n", 0)]), [0, b"1"])
+
+    def test_many_at_once(self):
+        cache = self.client("timed")
+        self.assertEqual(cache.set_many({"a": "1", "b": b"2"}, ttl=1000), [])
+        self.assertEqual(cache.set_many({b"c": ""}), [])
+        self.assertEqual(cache.get_many(["b", "nothing", "a"]), {"b": b"2", "a": b"1"})
+        self.assertEqual(cache.get_many(iter([b"c"])), {b"c": b""})
+        self.assertEqual(cache.get_many([]), {})
+        self.assertEqual(cache.set_many({}), [])
+        with self.assertRaises(bivrang.DeadlineError):
+            self.client().set_many({"a": "1"}, ttl=1000)
+
+    def test_ping(self):
+        cache = self.client()
+        self.assertIs(cache.ping(), True)
+        cache.set("ping", "1")
+        self.assertIs(cache.ping(), True)
+
+    def test_codecs(self):
+        for codec, value in [
+            (bivrang.JSON, {"lines": ["1\n", "2\r\n", "\u2028"], "n": 0.5, "none": None}),
+            (bivrang.BASE64, bytes(range(256))),
+        ]:
+            text = self.client()
+            cache = self.made(self.server.ports["main"], codec=codec)
+            cache.set("a", value)
+            self.assertEqual(cache.get("a"), value)
+            self.assertEqual(cache.load("a"), value)
+            self.assertEqual(cache.get_many(["a", "b"]), {"a": value})
+            both = [Request.set("b", value), Request.get("b"), Request.get("c", 0)]
+            self.assertEqual(cache.pipeline(both), [True, value, 0])
+            text.set("b", "no code\"")
+            told = cache.pipeline([Request.get("b"), Request.get("a")])
+            self.assertIsInstance(told[0], bivrang.DecodeError)
+            self.assertEqual((told[0].key, told[1]), (b"b", value))
+            for call in (cache.get, cache.load, lambda key: cache.get_many(["a", key])):
+                with self.assertRaises(bivrang.DecodeError):
+                    call("b")
+            self.assertEqual(len(cache._idle), 1)
+
+    def test_json_has_none_and_numbers(self):
+        cache = self.made(self.server.ports["main"], codec=bivrang.JSON)
+        cache.set("none", None)
+        self.assertIsNone(cache.get("none", 0))
+        self.assertEqual(cache.get_many(["none", "miss"]), {"none": None})
+        cache.set("n", 41)
+        self.assertEqual(cache.incr("n"), 42)
+        self.assertEqual(cache.get("n"), 42)
+
+    def test_a_codec_of_ones_own(self):
+        class Hexadecimal:
+            def encode(self, value):
+                return value.hex().encode()
+
+            def decode(self, stored):
+                return bytes.fromhex(stored.decode())
+
+        cache = self.made(self.server.ports["main"], codec=Hexadecimal())
+        cache.set("a", b"\n\r")
+        self.assertEqual(cache.get("a"), b"\n\r")
 
     def test_weights(self):
         cache = self.client("bytes")
@@ -223,16 +166,16 @@ class Commands(RealCase):
 
     def test_notices(self):
         cache = self.client("small")
-        server.drop_notices()
+        self.server.drop_notices()
         cache.set("a", "1")
         cache.set("a", "2")
         cache.delete("a")
         told = [b"small NOTE Replaced a 1\n", b"small NOTE Explicit a 2\n"]
-        self.assertEqual(server.notices(2), told)
+        self.assertEqual(self.server.notices(2), told)
         for key in "bcd":
             cache.set(key, "of " + key)
         cache.sync()
-        self.assertEqual(server.notices(1), [b"small NOTE Size b of b\n"])
+        self.assertEqual(self.server.notices(1), [b"small NOTE Size b of b\n"])
 
     def test_many_keys(self):
         cache = self.client()
@@ -257,9 +200,9 @@ class Pipelines(RealCase):
         cache = self.client()
         told = cache.pipeline([
             Request.set("a", "1"),
-            Request.set("a", "1", milliseconds=5),
+            Request.set("a", "1", ttl=0.005),
             Request.has("b"),
-            Request.add("a", 4),
+            Request.incr("a", 4),
             Request.keys(),
             Request.sync(),
             Request.load("c"),
@@ -304,7 +247,7 @@ class Pools(RealCase):
                 cache.set(f"k{number}", f"{number} {turn}")
                 if cache.get(f"k{number}") != f"{number} {turn}".encode():
                     wrong.append((number, turn))
-                cache.add("all", 1)
+                cache.incr("all", 1)
 
         threads = [threading.Thread(target=work, args=(number,)) for number in range(8)]
         for thread in threads:
@@ -324,8 +267,7 @@ class Pools(RealCase):
     def test_server_that_begins_anew(self):
         own = RealServer({"main": "capacity = 10"})
         self.addCleanup(own.stop)
-        cache = Client(HOST, own.ports["main"], reply_seconds=PATIENCE)
-        self.addCleanup(cache.close)
+        cache = self.made(own.ports["main"])
         cache.set("a", "1")
         own.end()
         with self.assertRaises(bivrang.ConnectFailed):
@@ -333,131 +275,6 @@ class Pools(RealCase):
         own.start()
         self.assertIs(cache.set("b", "2"), True)
         self.assertEqual(cache.pipeline([Request.get("a"), Request.get("b")]), [None, b"2"])
-
-
-class SeveralServers(RealCase):
-    def setUp(self):
-        for name in ("main", "bytes", "loads"):
-            self.client(name)
-        places = [Server(HOST, server.ports[name], name=name) for name in ("main", "bytes")]
-        places.append(Server(HOST, server.ports["loads"], weight=2, name="loads"))
-        self.servers = Servers(places, reply_seconds=PATIENCE)
-        self.addCleanup(self.servers.close)
-
-    def test_keys_are_spread(self):
-        keys = [b"key-%04d" % number for number in range(1000)]
-        told = self.servers.pipeline(Request.set(key, b"of " + key) for key in keys)
-        self.assertEqual(told, [True] * 1000)
-        self.assertEqual(self.servers.keys(), keys)
-        for key in keys[::100]:
-            self.assertEqual(self.servers.get(key), b"of " + key)
-            self.assertIs(self.servers.clients[self.servers.server_of(key)].has(key), True)
-        held = self.servers.sync()
-        self.assertEqual(sum(one.values for one in held.values()), 1000)
-        self.assertTrue(all(one.values > 150 for one in held.values()), held)
-        self.servers.drop_if("key-00")
-        self.assertEqual(self.servers.keys(), keys[100:])
-        self.servers.clear()
-        self.assertEqual(self.servers.keys(), [])
-
-    def test_each_command(self):
-        for key in ("a", "b", "c", "d"):
-            self.assertIs(self.servers.set(key, "1"), True)
-            self.assertEqual(self.servers.add(key, 2), 3)
-            self.assertIs(self.servers.has(key), True)
-            self.assertEqual(self.servers.load(key), b"3")
-            self.servers.delete(key)
-            self.assertIsNone(self.servers.get(key))
-
-    def test_requests_without_a_key(self):
-        with self.assertRaises(ValueError):
-            self.servers.pipeline([Request.set("a", "1"), Request.clear()])
-        self.assertEqual(self.servers.keys(), [])
-
-    def test_one_server_gone(self):
-        places = [Server(HOST, server.ports["main"]), Server(HOST, free_port())]
-        with Servers(places, connect_seconds=PATIENCE) as servers:
-            there = places[0].known_as()
-            keys = [f"k{number}" for number in range(100)]
-            theirs = [key for key in keys if servers.server_of(key) == there]
-            others = [key for key in keys if servers.server_of(key) != there]
-            servers.set(theirs[0], "1")
-            with self.assertRaises(bivrang.ConnectFailed):
-                servers.get(others[0])
-            with self.assertRaises(bivrang.ConnectFailed):
-                servers.clear()
-            self.assertIsNone(servers.get(theirs[0]))
-
-
-# The servers of keys, as a program in C finds them, and as the Rust client's test has them.
-OWNERS = {
-    "a": "east",
-    "b": "127.0.0.1:7411",
-    "session:17": "127.0.0.1:7411",
-    "user/4711": "127.0.0.1:7411",
-    "~": "127.0.0.1:7411",
-    "!x": "west",
-    "count": "west",
-    "key-0001": "127.0.0.1:7411",
-}
-
-
-class Hashing(unittest.TestCase):
-    def test_published_hashes(self):
-        published = {
-            b"": 0xCBF29CE484222325,
-            b"a": 0xAF63DC4C8601EC8C,
-            b"foobar": 0x85944171F73967E8,
-        }
-        for text, value in published.items():
-            self.assertEqual(bivrang.hash_bytes(text), value)
-        step = 0x9E3779B97F4A7C15
-        drawn = [bivrang.mix((1234567 + step * turn) % 2**64) for turn in range(1, 6)]
-        self.assertEqual(drawn, [
-            6457827717110365317,
-            3203168211198807973,
-            9817491932198370423,
-            4593380528125082431,
-            16408922859458223821,
-        ])
-
-    def test_shares_follow_weights(self):
-        servers = Servers([Server(HOST, 1, weight=1), Server(HOST, 2, weight=3)])
-        count = sum(servers.server_of(f"key-{number}") == f"{HOST}:2" for number in range(4000))
-        self.assertTrue(2800 < count < 3200, count)
-
-    def test_only_keys_of_the_new_server_move(self):
-        places = [Server(HOST, 1), Server(HOST, 2), Server(HOST, 3)]
-        keys = [f"key-{number}" for number in range(3000)]
-        before, behind = Servers(places[:2]), Servers(places)
-        moved = 0
-        for key in keys:
-            if behind.server_of(key) != before.server_of(key):
-                self.assertEqual(behind.server_of(key), f"{HOST}:3")
-                moved += 1
-        self.assertTrue(850 < moved < 1150, moved)
-
-    def test_both_clients_ask_the_same_server(self):
-        places = [
-            Server(HOST, 1, weight=1, name="east"),
-            Server(HOST, 2, weight=2, name="west"),
-            Server(HOST, 7411, weight=3),
-        ]
-        servers = Servers(places)
-        for key, name in OWNERS.items():
-            self.assertEqual(servers.server_of(key), name)
-
-    def test_wrong_lists(self):
-        wrong = [
-            [],
-            [Server(HOST, 1), Server(HOST, 1)],
-            [Server(HOST, 1, name="a"), Server(HOST, 2, name="a")],
-            [Server(HOST, 1, weight=0)],
-            [Server(HOST, 1, weight=1001)],
-        ]
-        for places in wrong:
-            with self.assertRaises(ValueError):
-                Servers(places)
 
 
 class ServerItself(RealCase):
@@ -516,95 +333,7 @@ class ServerItself(RealCase):
         self.assertEqual(read_all(link), wanted)
 
 
-def read_all_or_reset(link):
-    """All bytes until the other side ends or breaks the connection."""
-    told = b""
-    while True:
-        try:
-            piece = link.recv(65536)
-        except ConnectionResetError:
-            return told
-        if not piece:
-            return told
-        told += piece
-
-
 # Fake servers.
-
-
-class Fake:
-    """A listener that deals with one connection behind the other by the acts it is given."""
-
-    def __init__(self, case, *acts):
-        self.listener = socket.create_server((HOST, 0))
-        self.listener.settimeout(PATIENCE)
-        self.port = self.listener.getsockname()[1]
-        self.received = []
-        self.thread = threading.Thread(target=self.serve, args=(acts,), daemon=True)
-        self.thread.start()
-        case.addCleanup(self.end)
-
-    def serve(self, acts):
-        for act in acts:
-            try:
-                link, _ = self.listener.accept()
-            except OSError:
-                return
-            link.settimeout(PATIENCE)
-            self.received.append(b"")
-            with link:
-                try:
-                    act(self, link)
-                except OSError:
-                    pass
-
-    def line(self, link):
-        """Reads to the next line end, at least."""
-        while True:
-            piece = link.recv(65536)
-            self.received[-1] += piece
-            if not piece or piece.endswith(b"\n"):
-                return
-
-    def end(self):
-        if self.thread.is_alive():
-            # Closing alone does not wake the thread that accepts.
-            self.listener.shutdown(socket.SHUT_RDWR)
-            self.thread.join(PATIENCE)
-        self.listener.close()
-
-
-def replies(*texts):
-    """An act that answers each line so, and then waits for the client's end."""
-    def act(fake, link):
-        for text in texts:
-            fake.line(link)
-            link.sendall(text)
-        fake.line(link)
-    return act
-
-
-def replies_and_ends(*texts):
-    """An act that answers each line so, and then closes the connection."""
-    def act(fake, link):
-        for text in texts:
-            fake.line(link)
-            link.sendall(text)
-    return act
-
-
-def resets(fake, link):
-    """An act that goes with a reset once a line has come."""
-    fake.line(link)
-    link.setsockopt(socket.SOL_SOCKET, socket.SO_LINGER, b"\1\0\0\0\0\0\0\0")
-
-
-def trickles(fake, link):
-    """An act that answers a byte at a time, without an end."""
-    fake.line(link)
-    for _ in range(100):
-        link.sendall(b"V")
-        time.sleep(SHORT / 4)
 
 
 NO_REPLY = replies_and_ends(b"")
@@ -622,28 +351,12 @@ OTHERS = [
     lambda cache: cache.set("a", "1"),
     lambda cache: cache.load("a"),
     lambda cache: cache.delete("a"),
-    lambda cache: cache.add("a", 1),
+    lambda cache: cache.incr("a", 1),
     lambda cache: cache.clear(),
     lambda cache: cache.drop_if("a"),
     lambda cache: cache.sync(),
     lambda cache: cache.pipeline([Request.get("a"), Request.delete("a")]),
 ]
-
-
-class FakeCase(unittest.TestCase):
-    def pool(self, fake, **options):
-        client = Client(HOST, fake.port, **{"reply_seconds": PATIENCE, **options})
-        self.addCleanup(client.close)
-        return client
-
-    def fails(self, kind, call, fake, **options):
-        """The error of a call, which is of that very type."""
-        cache = self.pool(fake, **options)
-        with self.assertRaises(bivrang.BivrangError) as caught:
-            call(cache)
-        self.assertIs(type(caught.exception), kind, caught.exception)
-        self.assertEqual(len(cache._idle), 0)
-        return caught.exception
 
 
 class Retries(FakeCase):
@@ -717,9 +430,9 @@ class BrokenReplies(FakeCase):
             (lambda cache: cache.set("a", "1"), b"ok\n"),
             (lambda cache: cache.set("a", "1"), b"OK\r\n"),
             (lambda cache: cache.has("a"), b"MAYBE\n"),
-            (lambda cache: cache.add("a", 1), b"VAL x\n"),
-            (lambda cache: cache.add("a", 1), b"VAL -1\n"),
-            (lambda cache: cache.add("a", 1), b"NONE\n"),
+            (lambda cache: cache.incr("a", 1), b"VAL x\n"),
+            (lambda cache: cache.incr("a", 1), b"VAL -1\n"),
+            (lambda cache: cache.incr("a", 1), b"NONE\n"),
             (lambda cache: cache.keys(), b"KEYS\n"),
             (lambda cache: cache.keys(), b"KEYS x\n"),
             (lambda cache: cache.keys(), b"KEYS 1\ntwo words\n"),
@@ -752,7 +465,7 @@ class BrokenReplies(FakeCase):
             with self.assertRaises(bivrang.ServerError) as caught:
                 cache.load("a")
             self.assertIs(type(caught.exception), kind)
-            self.assertEqual(str(caught.exception).encode(), reply[:-1])
+            self.assertEqual(caught.exception.reply, reply[:-1])
             causes.append(getattr(caught.exception, "cause", None))
         self.assertEqual(causes, [None] * 6 + [b"the cause", b"", None])
         self.assertEqual(len(fake.received), 1)
@@ -831,7 +544,7 @@ class TimeLimits(FakeCase):
 
     def test_nobody_listens(self):
         with self.assertRaises(bivrang.ConnectFailed) as caught:
-            Client(HOST, free_port()).get("a")
+            self.made(free_port()).get("a")
         self.assertNotIsInstance(caught.exception, bivrang.ConnectTimeout)
 
     def test_all_connections_in_use(self):
@@ -858,9 +571,9 @@ class TimeLimits(FakeCase):
     def test_limits_are_above_nothing(self):
         for limit in (0, -1, float("inf"), float("nan")):
             with self.assertRaises(ValueError):
-                Client(reply_seconds=limit)
+                self.make(reply_seconds=limit)
         with self.assertRaises(ValueError):
-            Client(connections=0)
+            self.make(connections=0)
 
 
 class Arguments(FakeCase):
@@ -874,20 +587,20 @@ class Arguments(FakeCase):
             (bivrang.KeyRefused, lambda cache: cache.load(b"\x7f")),
             (bivrang.KeyRefused, lambda cache: cache.drop_if("")),
             (bivrang.KeyRefused, lambda cache: cache.set("a b", "1")),
-            (bivrang.KeyRefused, lambda cache: cache.add("a\tb", 1)),
+            (bivrang.KeyRefused, lambda cache: cache.incr("a\tb", 1)),
             (bivrang.ValueRefused, lambda cache: cache.set("a", "1\nCLEAR")),
             (bivrang.ValueRefused, lambda cache: cache.set("a", b"1\r")),
             (bivrang.ValueRefused, lambda cache: cache.set("a", "x" * 8185)),
             (bivrang.ValueRefused, lambda cache: cache.set("a", "\ud800")),
-            (bivrang.DeadlineRefused, lambda cache: cache.set("a", "1", milliseconds=-1)),
-            (bivrang.DeadlineRefused, lambda cache: cache.set("a", "1", milliseconds=10**12)),
-            (bivrang.DeadlineRefused, lambda cache: cache.add("a", 1, milliseconds=-1)),
-            (bivrang.NumberRefused, lambda cache: cache.add("a", -1)),
-            (bivrang.NumberRefused, lambda cache: cache.add("a", 2**64)),
+            (bivrang.DeadlineRefused, lambda cache: cache.set("a", "1", ttl=-0.001)),
+            (bivrang.DeadlineRefused, lambda cache: cache.set("a", "1", ttl=10**9)),
+            (bivrang.DeadlineRefused, lambda cache: cache.incr("a", 1, ttl=-0.001)),
+            (bivrang.NumberRefused, lambda cache: cache.incr("a", -1)),
+            (bivrang.NumberRefused, lambda cache: cache.incr("a", 2**64)),
             (TypeError, lambda cache: cache.get(5)),
             (TypeError, lambda cache: cache.set("a", 5)),
-            (TypeError, lambda cache: cache.set("a", "1", milliseconds=0.5)),
-            (TypeError, lambda cache: cache.add("a", 0.5)),
+            (TypeError, lambda cache: cache.set("a", "1", ttl="1")),
+            (TypeError, lambda cache: cache.incr("a", 0.5)),
         ]
         fake = Fake(self, replies())
         cache = self.pool(fake)
@@ -898,15 +611,150 @@ class Arguments(FakeCase):
         self.assertEqual(fake.received, [])
 
 
-def main():
-    global PROGRAM
-    words = sys.argv[1:]
-    if words and "/" in words[0]:
-        PROGRAM = pathlib.Path(words.pop(0)).resolve()
-    if not PROGRAM.exists():
-        sys.exit(f"there is no {PROGRAM}: name one, or in crates/cached `rt run` leaves it there")
-    unittest.main(argv=[sys.argv[0], *words])
+class Lives(FakeCase):
+    """Times to live, and what the old names of arguments and calls do."""
+
+    def sent(self, *calls):
+        """The lines of calls."""
+        fake = Fake(self, replies(*[b"OK\n"] * len(calls)))
+        cache = self.pool(fake)
+        for call in calls:
+            call(cache)
+        return fake.received[0].decode().splitlines()
+
+    def test_seconds_and_timedeltas(self):
+        lives = [60, 1.5, 1.001, 0.07, 0.0001, 0, datetime.timedelta(days=1, microseconds=1), None]
+        told = self.sent(*[lambda cache, ttl=ttl: cache.set("a", "x", ttl=ttl) for ttl in lives])
+        words = ["60000", "1500", "1001", "70", "1", "0", "86400001", "-"]
+        self.assertEqual(told, [f"SET a {word} x" for word in words])
+
+    def test_out_of_range(self):
+        cache = self.made(free_port())
+        for ttl in (-0.001, 10**9, 10**30, math.nan, math.inf, datetime.timedelta(days=-1)):
+            with self.assertRaises(bivrang.DeadlineRefused):
+                cache.set("a", "x", ttl=ttl)
+            with self.assertRaises(bivrang.DeadlineRefused):
+                cache.incr("a", ttl=ttl)
 
 
-if __name__ == "__main__":
-    main()
+class OldNames(FakeCase):
+    def test_they_work_and_warn(self):
+        fake = Fake(self, replies(b"OK\n", b"VAL 3\n", b"VAL 6\n", b"OK\nVAL 9\n"))
+        cache = self.pool(fake)
+        calls = [
+            lambda: cache.set("a", "x", 1500),
+            lambda: cache.add("n", 3),
+            lambda: cache.add("n", 3, milliseconds=5),
+            lambda: cache.pipeline([Request.set("a", "x", 10**12 - 1), Request.add("n", 3, 5)]),
+        ]
+        for call in calls:
+            with self.assertWarns(DeprecationWarning) as caught:
+                call()
+            self.assertEqual(caught.filename, __file__)
+        lines = b"SET a 1500 x\nADD n - 3\nADD n 5 3\nSET a 999999999999 x\nADD n 5 3\n"
+        self.assertEqual(fake.received, [lines])
+
+    def test_what_was_refused_is_refused(self):
+        cache = self.made(free_port())
+        for milliseconds in (-1, 10**12, 10**40, -(10**40)):
+            with self.assertRaises(bivrang.DeadlineRefused), self.assertWarns(DeprecationWarning):
+                cache.set("a", "x", milliseconds=milliseconds)
+        for arguments in ({"milliseconds": 0.5}, {"milliseconds": 5, "ttl": 5}):
+            with self.assertRaises(TypeError), self.assertWarns(DeprecationWarning):
+                cache.set("a", "x", **arguments)
+
+
+class Membership(FakeCase):
+    def test_key_in_client(self):
+        fake = Fake(self, replies(b"YES\n", b"NO\n"))
+        cache = self.pool(fake)
+        self.assertTrue("a" in cache)
+        self.assertFalse(b"b" in cache)
+        self.assertEqual(fake.received, [b"HAS a\nHAS b\n"])
+
+
+class Texts(FakeCase):
+    """What errors and representations say."""
+
+    def test_errors_name_server_and_key(self):
+        reading = lambda cache: cache.pipeline([Request.get("a"), Request.get("b")])  # noqa: E731
+        rows = [
+            (replies(b"ERR number\n"), lambda cache: cache.incr("n"), b"n"),
+            (replies(b"OK\n"), lambda cache: cache.get("a"), b"a"),
+            (replies(b"NONE\nOK\n"), reading, b"b"),
+            (replies_and_ends(b"NONE\n"), reading, b"b"),
+            (replies_and_ends(b""), lambda cache: cache.set("a", "x"), b"a"),
+            (replies_and_ends(b""), lambda cache: cache.clear(), None),
+        ]
+        for act, call, key in rows:
+            fake = Fake(self, act)
+            with self.assertRaises(bivrang.BivrangError) as caught:
+                call(self.pool(fake))
+            self.says(caught.exception, fake.port, key)
+
+    def test_errors_without_a_connection(self):
+        port = free_port()
+        with self.assertRaises(bivrang.ConnectFailed) as caught:
+            self.made(port).get("a")
+        self.says(caught.exception, port, b"a")
+        cache = self.made(port)
+        cache.close()
+        with self.assertRaises(bivrang.PoolClosed) as caught:
+            cache.get("a")
+        self.says(caught.exception, port, b"a")
+
+    def says(self, error, port, key):
+        self.assertEqual((error.host, error.port, error.key), (HOST, port, key))
+        place = f"server {HOST}:{port})"
+        ending = place if key is None else f"(key {key.decode()}, {place}"
+        self.assertTrue(str(error).endswith(ending), str(error))
+
+    def test_refused_values_name_key_limit_and_cure(self):
+        cache = self.made(free_port())
+        rows = [
+            ("x" * 8185, ["key a", "8185 bytes", "8184", "compress"]),
+            ("1\n", ["key a", "line end", "JSON", "BASE64"]),
+        ]
+        for value, words in rows:
+            with self.assertRaises(bivrang.ValueRefused) as caught:
+                cache.set("a", value)
+            for word in words:
+                self.assertIn(word, str(caught.exception))
+        with self.assertRaises(bivrang.ValueRefused) as caught:
+            self.made(free_port(), codec=bivrang.BASE64).set("a", "x" * 6139)
+        self.assertIn("8188 bytes", str(caught.exception))
+        with self.assertRaises(bivrang.KeyRefused) as caught:
+            cache.get("two words")
+        self.assertIn("'two words'", str(caught.exception))
+        with self.assertRaisesRegex(TypeError, "not int: give the client a codec"):
+            cache.set("a", 5)
+
+    def test_errors_pass_between_processes(self):
+        fake = Fake(self, replies(b"ERR load the cause\n"), replies_and_ends(b"VAL"))
+        cache = self.pool(fake)
+        with self.assertRaises(bivrang.LoadFailed) as caught:
+            cache.load("a")
+        told = pickle.loads(pickle.dumps(caught.exception))
+        self.assertEqual((type(told), told.cause, told.key), (bivrang.LoadFailed, b"the cause", b"a"))
+        cache._idle.pop().close()
+        with self.assertRaises(bivrang.ConnectionBroken) as caught:
+            cache.get("a")
+        told = pickle.loads(pickle.dumps(caught.exception))
+        self.assertEqual((told.has_reply_begun, str(told)), (True, str(caught.exception)))
+
+    def test_representations(self):
+        fake = Fake(self, replies(b"NONE\n"))
+        cache = self.pool(fake, connections=3)
+        place = f"{HOST}:{fake.port}"
+        self.assertEqual(repr(cache), f"<Client {place}, 0 idle of at most 3 connections>")
+        cache.get("a")
+        self.assertEqual(repr(cache), f"<Client {place}, 1 idle of at most 3 connections>")
+        self.assertIn(f"Connection {place}, open>", repr(cache._idle[0]))
+        cache.close()
+        self.assertEqual(repr(cache), f"<Client {place}, closed>")
+        self.assertEqual(repr(Request.get("a")), "<Request GET a>")
+        stored = repr(Request.set("a", "x" * 1000, ttl=1))
+        self.assertTrue(stored.startswith("<Request SET a 1000 'xxx"), stored)
+        self.assertLess(len(stored), 80)
+        servers = self.servers_of(Server(HOST, 1), Server(HOST, 2, name="east"))
+        self.assertEqual(repr(servers), f"<Servers {HOST}:1, east>")
