@@ -1,5 +1,5 @@
 #!/usr/bin/env bash
-# Compares the documents' examples with their sources, which the gate runs: the texts have to be the same.
+# Compares the documents' examples, pictures and tables with their sources, and follows their links, which the gate runs.
 set -euo pipefail
 cd "$(dirname "$0")/.."
 
