@@ -61,3 +61,10 @@ PYTHONDONTWRITEBYTECODE=1 python3 benches/plots.py check
 
 # The documents' links lead somewhere.
 python3 tools/test_links.py
+
+# What FROM_MOKA.md has copied into a repository of one's own.
+folder=$(mktemp -d)
+trap 'rm -rf "$folder"' EXIT
+taken=$(python3 tools/take_crates.py "$folder" moka_sync)
+same "how many crates docs/FROM_MOKA.md and tools/take_crates.py take" \
+    "$(grep -o 'the [0-9]* crates below it' docs/FROM_MOKA.md | head -n 1)" "the $((${taken%% *} - 1)) crates below it"
