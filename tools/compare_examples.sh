@@ -40,6 +40,15 @@ same "README.md's configuration and docs/cached.toml" \
 same "docs/man/cached.toml.5's example and docs/cached.toml" \
     "$(sed -n '/^\.Bd -literal/,/^\.Ed/p' docs/man/cached.toml.5 | grep -v '^\.')" "$(grep -v '^#' docs/cached.toml)"
 
+# The man pages have the requests and the keys of docs/PROTOCOL.md, in its order.
+rows() { # heading: the first words of a table's rows
+    awk -v head="$1" '!seen { seen = ($0 == head); next } /^#/ { exit } 1' docs/PROTOCOL.md | sed -n 's/^| `\([A-Za-z_]*\).*/\1/p'
+}
+same "docs/man/cached.1's requests and docs/PROTOCOL.md's" \
+    "$(sed -n 's/^\.It Ic \([A-Z]*\).*/\1/p' docs/man/cached.1)" "$(rows '## Requests and replies')"
+same "docs/man/cached.toml.5's keys and docs/PROTOCOL.md's" \
+    "$(sed -n 's/^\.It Va \([a-z_]*\)$/\1/p' docs/man/cached.toml.5)" "$(rows '### The configuration file')"
+
 # The gate checks it: the stored run of cached_check reads a copy.
 same "docs/cached.toml and crates/cached_check/data/cached.toml" "$(cat docs/cached.toml)" "$(cat crates/cached_check/data/cached.toml)"
 
