@@ -272,7 +272,7 @@ class Pools(RealCase):
         own.end()
         with self.assertRaises(bivrang.ConnectFailed):
             cache.get("a")
-        own.start()
+        self.assertTrue(own.start())
         self.assertIs(cache.set("b", "2"), True)
         self.assertEqual(cache.pipeline([Request.get("a"), Request.get("b")]), [None, b"2"])
 
