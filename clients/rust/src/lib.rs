@@ -1484,3 +1484,8 @@ impl Servers {
         chosen
     }
 }
+
+/// The example of `clients/README.md` compiles.
+#[cfg(doctest)]
+#[doc = include_str!("../../README.md")]
+struct Readme;
