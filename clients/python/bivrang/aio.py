@@ -393,22 +393,22 @@ class Servers(Spread["Client[Any, Any]"], KeyedCommands[Given, Told]):
 
     @overload
     def __init__(
-        self: "Servers[Text, bytes]",
-        servers: Sequence[Server],
-        *,
-        retry_after: float = ...,
-        errors_as_misses: bool = ...,
-        **options: Any,
-    ) -> None: ...
-
-    @overload
-    def __init__(
         self,
         servers: Sequence[Server],
         *,
         retry_after: float = ...,
         errors_as_misses: bool = ...,
         codec: Codec[Given, Told],
+        **options: Any,
+    ) -> None: ...
+
+    @overload
+    def __init__(
+        self: "Servers[Text, bytes]",
+        servers: Sequence[Server],
+        *,
+        retry_after: float = ...,
+        errors_as_misses: bool = ...,
         **options: Any,
     ) -> None: ...
 

@@ -1,4 +1,6 @@
 """What the tests share: the real server, fake ones that break their replies, child processes."""
+import contextlib
+import functools
 import os
 import pathlib
 import queue
@@ -32,37 +34,46 @@ NAMESPACES = {
 }
 
 
+def free_ports(count):
+    """Ports that nobody listens on now, all different."""
+    with contextlib.ExitStack() as stack:
+        probes = [stack.enter_context(socket.create_server((HOST, 0))) for _ in range(count)]
+        return [probe.getsockname()[1] for probe in probes]
+
+
 def free_port():
-    """A port that nobody listens on now."""
-    with socket.socket() as probe:
-        probe.bind((HOST, 0))
-        return probe.getsockname()[1]
+    return free_ports(1)[0]
 
 
 class RealServer:
     """`cached --config` with these namespaces, until it is stopped."""
 
     def __init__(self, namespaces):
-        self.ports = {}
-        while len(set(self.ports.values())) < len(namespaces):
-            self.ports = {name: free_port() for name in namespaces}
         self.folder = tempfile.TemporaryDirectory()
+        # Between its choice and the server's start another process may take a port.
+        for _ in range(5):
+            self.configure(namespaces)
+            if self.start():
+                return
+            self.end()
+        raise AssertionError("the server does not listen")
+
+    def configure(self, namespaces):
+        self.ports = dict(zip(namespaces, free_ports(len(namespaces))))
         self.file = pathlib.Path(self.folder.name, "cached.toml")
         self.file.write_text("".join(
             f'[[namespace]]\nname = "{name}"\nport = {self.ports[name]}\n{rest}\n'
             for name, rest in namespaces.items()
         ))
-        self.start()
 
     def start(self):
+        """Whether it listens."""
         words = [os.environ["CACHED"], "--config", str(self.file)]
         self.lines = queue.Queue()
         self.process = subprocess.Popen(words, stdout=subprocess.PIPE, stdin=subprocess.DEVNULL)
         threading.Thread(target=self.read, args=(self.process.stdout,), daemon=True).start()
-        for _ in self.ports:
-            line = self.lines.get(timeout=START_SECONDS)
-            if not line.startswith(b"listening "):
-                raise AssertionError(f"the server does not listen: {line!r}")
+        next_line = functools.partial(self.lines.get, timeout=START_SECONDS)
+        return all(next_line().startswith(b"listening ") for _ in self.ports)
 
     def read(self, output):
         for line in output:

@@ -272,7 +272,7 @@ class Pools(RealCase):
         own.end()
         with self.assertRaises(bivrang.ConnectFailed):
             cache.get("a")
-        own.start()
+        self.assertTrue(own.start())
         self.assertIs(cache.set("b", "2"), True)
         self.assertEqual(cache.pipeline([Request.get("a"), Request.get("b")]), [None, b"2"])
 
@@ -344,6 +344,8 @@ READS = [
     (lambda cache: cache.get("a"), b"VAL x\n", b"x"),
     (lambda cache: cache.has("a"), b"YES\n", True),
     (lambda cache: cache.keys(), b"KEYS 1\na\n", [b"a"]),
+    (lambda cache: cache.ping(), b"NO\n", True),
+    (lambda cache: cache.get_many(["a", "b"]), b"VAL x\nNONE\n", {"a": b"x"}),
     (lambda cache: cache.pipeline(TWO_READS), b"NONE\nNO\n", [None, False]),
 ]
 
@@ -355,6 +357,7 @@ OTHERS = [
     lambda cache: cache.clear(),
     lambda cache: cache.drop_if("a"),
     lambda cache: cache.sync(),
+    lambda cache: cache.set_many({"a": "1", "b": "2"}),
     lambda cache: cache.pipeline([Request.get("a"), Request.delete("a")]),
 ]
 

@@ -8,9 +8,9 @@
 //!
 //! fn main() -> Result<(), bivrang::Error> {
 //!     let cache = Pool::new("127.0.0.1:7411", Options::default());
-//!     cache.set(b"a", b"two words", None)?;
-//!     assert_eq!(cache.get(b"a")?, Some(b"two words".to_vec()));
-//!     assert_eq!(cache.add(b"n", 40, None)?, Some(40));
+//!     cache.set("a", "two words", None)?;
+//!     assert_eq!(cache.get("a")?, Some(b"two words".to_vec()));
+//!     assert_eq!(cache.incr("n", 40, None)?, Some(40));
 //!     let replies = cache.pipeline(&[Request::Has { key: b"a" }, Request::Sync])?;
 //!     assert_eq!(replies[0], Ok(Reply::Present(true)));
 //!     Ok(())
@@ -19,13 +19,18 @@
 //!
 //! [`Pool`] is a pool of connections to one server, for many threads. [`Connection`] is one
 //! connection. [`Servers`] spreads keys over several servers. Each has a method for each line of
-//! the protocol.
+//! the protocol. Keys and values are bytes, or texts, which are sent as UTF-8.
+//!
+//! A process that [`std::process::Command`] starts inherits no connection. One made by `fork`,
+//! which the standard library does not have, does: there a [`Connection`] is closed, and a [`Pool`]
+//! makes its own, which the parent and the server do not notice. But a pool that another thread was
+//! using during the `fork` may not be used in the child, like anything that a [`Mutex`] guards.
 
 use std::collections::HashSet;
 use std::fmt;
-use std::io::{self, ErrorKind, Read, Write};
+use std::io::{self, Read, Write};
 use std::net::{TcpStream, ToSocketAddrs};
-use std::sync::{Condvar, Mutex, MutexGuard, PoisonError};
+use std::sync::{Arc, Condvar, Mutex, MutexGuard, PoisonError};
 use std::time::{Duration, Instant};
 
 /// The maximum number of bytes of a request before its line feed.
@@ -105,34 +110,51 @@ impl fmt::Display for ServerError {
 
 impl std::error::Error for ServerError {}
 
+/// Why a call failed, and at which server and key.
+#[derive(Clone)]
+pub struct Error {
+    kind: ErrorKind,
+    address: Option<String>,
+    key: Option<Vec<u8>>,
+}
+
 /// Why a call failed.
-#[derive(Debug)]
-pub enum Error {
+#[derive(Clone, Debug)]
+#[non_exhaustive]
+pub enum ErrorKind {
     /// A key or prefix is not 1 to 250 bytes, each from `!` to `~`. Nothing was sent.
     Key,
     /// A value has a line end (byte 10 or 13). Nothing was sent.
     Value,
     /// A value makes its line longer than 8192 bytes. Nothing was sent.
-    TooLong,
+    TooLong {
+        /// How many bytes the value has.
+        bytes: usize,
+        /// How many there is room for, with this key and time to live.
+        room: usize,
+    },
     /// A time to live is above 999,999,999,999 milliseconds. Nothing was sent.
     Deadline,
     /// A pipeline over several servers has a request without a key. Nothing was sent.
     NoKey,
     /// The connection could not be made. Nothing was sent.
-    Connect(io::Error),
+    Connect(Arc<io::Error>),
     /// The connection could not be made within the time limit. Nothing was sent.
     ConnectTimeout,
     /// All connections of the pool were in use during the time limit. Nothing was sent.
     PoolTimeout,
-    /// The connection was already closed, by an earlier error or `quit`. Nothing was sent.
+    /// The connection was already closed, by an earlier error or `quit`, or belongs to the parent
+    /// process. Nothing was sent.
     Spent,
+    /// One of several servers did not answer a short time ago. Nothing was sent.
+    Away,
     /// The connection was closed or reset before the reply was complete. The request, or some of a
     /// pipeline's, may have run.
     Broken {
         /// Whether a byte of a reply was received.
         has_reply_begun: bool,
         /// The error of the system; `None` if the server closed the connection normally.
-        cause: Option<io::Error>,
+        cause: Option<Arc<io::Error>>,
     },
     /// A line of the reply was not complete within the time limit. The request may have run.
     ReplyTimeout,
@@ -143,47 +165,154 @@ pub enum Error {
 }
 
 impl Error {
+    /// Returns why the call failed.
+    pub fn kind(&self) -> &ErrorKind {
+        &self.kind
+    }
+
+    /// Returns the server's address, if a server was asked.
+    pub fn address(&self) -> Option<&str> {
+        self.address.as_deref()
+    }
+
+    /// Returns the key of the request; in a pipeline, of the first request without a reply.
+    pub fn key(&self) -> Option<&[u8]> {
+        self.key.as_deref()
+    }
+
     /// Whether the request, or with a pipeline some of its requests, may have run although no
     /// complete reply was received.
     pub fn may_have_run(&self) -> bool {
         matches!(
-            self,
-            Error::Broken { .. } | Error::ReplyTimeout | Error::BadReply(_)
+            self.kind,
+            ErrorKind::Broken { .. } | ErrorKind::ReplyTimeout | ErrorKind::BadReply(_)
         )
+    }
+
+    /// Whether no complete reply was received, so that a look-up may count as a miss.
+    fn is_of_link(&self) -> bool {
+        self.may_have_run()
+            || matches!(
+                self.kind,
+                ErrorKind::Connect(_)
+                    | ErrorKind::ConnectTimeout
+                    | ErrorKind::PoolTimeout
+                    | ErrorKind::Spent
+                    | ErrorKind::Away
+            )
+    }
+
+    /// Whether the connection broke before a byte of a reply came.
+    fn is_before_replies(&self) -> bool {
+        matches!(
+            self.kind,
+            ErrorKind::Broken {
+                has_reply_begun: false,
+                ..
+            }
+        )
+    }
+
+    /// Whether the server could not be reached, or did not reply in time.
+    fn is_silence(&self) -> bool {
+        matches!(
+            self.kind,
+            ErrorKind::Connect(_) | ErrorKind::ConnectTimeout | ErrorKind::ReplyTimeout
+        )
+    }
+}
+
+impl ErrorKind {
+    /// The error at a request.
+    fn at(self, request: &Request<'_>) -> Error {
+        Error {
+            kind: self,
+            address: None,
+            key: request.key().map(<[u8]>::to_vec),
+        }
+    }
+
+    /// The error at a server and the first of these requests.
+    fn asking(self, address: &str, requests: &[Request<'_>]) -> Error {
+        Error {
+            kind: self,
+            address: Some(address.to_string()),
+            key: requests.first().and_then(Request::key).map(<[u8]>::to_vec),
+        }
+    }
+}
+
+impl fmt::Debug for Error {
+    fn fmt(&self, out: &mut fmt::Formatter<'_>) -> fmt::Result {
+        let key = self.key.as_ref().map(|key| key.escape_ascii().to_string());
+        out.debug_struct("Error")
+            .field("kind", &self.kind)
+            .field("address", &self.address)
+            .field("key", &key)
+            .finish()
+    }
+}
+
+impl fmt::Display for ErrorKind {
+    fn fmt(&self, out: &mut fmt::Formatter<'_>) -> fmt::Result {
+        match self {
+            ErrorKind::Key => out.write_str("a key is 1 to 250 bytes, each from ! to ~"),
+            ErrorKind::Value => {
+                out.write_str("a value has no line end: write it in base64, or with escapes")
+            }
+            ErrorKind::TooLong { bytes, room } => write!(
+                out,
+                "a value of {bytes} bytes is above {room}, the longest of this key: compress it, \
+                 or divide it among several keys"
+            ),
+            ErrorKind::Deadline => {
+                out.write_str("a time to live is at most 999999999999 milliseconds")
+            }
+            ErrorKind::NoKey => out.write_str("a request without a key is of no one server"),
+            ErrorKind::Connect(cause) => write!(out, "no connection: {cause}"),
+            ErrorKind::ConnectTimeout => out.write_str("no connection within the time limit"),
+            ErrorKind::PoolTimeout => out.write_str("all connections were in use"),
+            ErrorKind::Spent => out.write_str("the connection is closed"),
+            ErrorKind::Away => out.write_str("the server did not answer a short time ago"),
+            ErrorKind::Broken { cause: None, .. } => {
+                out.write_str("the server closed the connection")
+            }
+            ErrorKind::Broken {
+                cause: Some(cause), ..
+            } => write!(out, "the connection broke: {cause}"),
+            ErrorKind::ReplyTimeout => {
+                out.write_str("no whole line of a reply within the time limit")
+            }
+            ErrorKind::BadReply(line) => write!(out, "no reply to this: {}", line.escape_ascii()),
+            ErrorKind::Server(error) => error.fmt(out),
+        }
     }
 }
 
 impl fmt::Display for Error {
     fn fmt(&self, out: &mut fmt::Formatter<'_>) -> fmt::Result {
-        match self {
-            Error::Key => out.write_str("a key is 1 to 250 bytes, each from ! to ~"),
-            Error::Value => out.write_str("a value has no line end"),
-            Error::TooLong => out.write_str("the line is longer than 8192 bytes"),
-            Error::Deadline => out.write_str("a time to live is at most 999999999999 milliseconds"),
-            Error::NoKey => out.write_str("a request of no key is of no one server"),
-            Error::Connect(cause) => write!(out, "no connection: {cause}"),
-            Error::ConnectTimeout => out.write_str("no connection within the time limit"),
-            Error::PoolTimeout => out.write_str("all connections were in use"),
-            Error::Spent => out.write_str("the connection is closed"),
-            Error::Broken { cause: None, .. } => out.write_str("the server closed the connection"),
-            Error::Broken {
-                cause: Some(cause), ..
-            } => write!(out, "the connection broke: {cause}"),
-            Error::ReplyTimeout => out.write_str("no whole line of a reply within the time limit"),
-            Error::BadReply(line) => write!(out, "no reply to this: {}", line.escape_ascii()),
-            Error::Server(error) => error.fmt(out),
+        self.kind.fmt(out)?;
+        let key = self
+            .key
+            .as_ref()
+            .map(|key| format!("key {}", key.escape_ascii()));
+        let server = self.address.as_ref().map(|place| format!("server {place}"));
+        let places: Vec<String> = key.into_iter().chain(server).collect();
+        if places.is_empty() {
+            return Ok(());
         }
+        write!(out, " ({})", places.join(", "))
     }
 }
 
 impl std::error::Error for Error {
     fn source(&self) -> Option<&(dyn std::error::Error + 'static)> {
-        match self {
-            Error::Connect(cause) => Some(cause),
-            Error::Broken { cause, .. } => cause
+        match &self.kind {
+            ErrorKind::Connect(cause) => Some(cause),
+            ErrorKind::Broken { cause, .. } => cause
                 .as_ref()
                 .map(|cause| cause as &(dyn std::error::Error + 'static)),
-            Error::Server(error) => Some(error),
+            ErrorKind::Server(error) => Some(error),
             _ => None,
         }
     }
@@ -198,8 +327,8 @@ pub enum Request<'a> {
     Set {
         key: &'a [u8],
         value: &'a [u8],
-        /// How long the value lives at most; `None` is sent as `-`.
-        milliseconds: Option<u64>,
+        /// How long the value lives at most, rounded up to milliseconds; `None` is sent as `-`.
+        ttl: Option<Duration>,
     },
     /// `GET key`
     Get { key: &'a [u8] },
@@ -210,11 +339,11 @@ pub enum Request<'a> {
     /// `DEL key`
     Delete { key: &'a [u8] },
     /// `ADD key deadline number`
-    Add {
+    Incr {
         key: &'a [u8],
         number: u64,
-        /// How long the sum lives at most; `None` is sent as `-`.
-        milliseconds: Option<u64>,
+        /// How long the sum lives at most, rounded up to milliseconds; `None` is sent as `-`.
+        ttl: Option<Duration>,
     },
     /// `CLEAR`
     Clear,
@@ -224,6 +353,8 @@ pub enum Request<'a> {
     Keys,
     /// `SYNC`
     Sync,
+    /// `HAS` of some key, whatever the reply: the protocol has no `PING`.
+    Ping,
 }
 
 /// What is held after maintenance.
@@ -244,9 +375,9 @@ pub enum Reply {
     Value(Option<Vec<u8>>),
     /// To `Has`: whether there is a value.
     Present(bool),
-    /// To `Add`: the sum; `None` if the capacity is 0.
+    /// To `Incr`: the sum; `None` if the capacity is 0.
     Sum(Option<u64>),
-    /// To `Delete`, `Clear` and `DropIf`.
+    /// To `Delete`, `Clear`, `DropIf` and `Ping`.
     Done,
     /// To `Keys`: the keys, in byte order.
     Keys(Vec<Vec<u8>>),
@@ -258,19 +389,19 @@ fn is_key(key: &[u8]) -> bool {
     (1..=LONGEST_KEY).contains(&key.len()) && key.iter().all(|byte| (b'!'..=b'~').contains(byte))
 }
 
-fn check_key(key: &[u8]) -> Result<(), Error> {
+fn check_key(key: &[u8]) -> Result<(), ErrorKind> {
     if is_key(key) {
         Ok(())
     } else {
-        Err(Error::Key)
+        Err(ErrorKind::Key)
     }
 }
 
-fn deadline_text(milliseconds: Option<u64>) -> Result<String, Error> {
-    match milliseconds {
+fn deadline_text(ttl: Option<Duration>) -> Result<String, ErrorKind> {
+    match ttl.map(|life| life.as_nanos().div_ceil(1_000_000)) {
         None => Ok("-".to_string()),
-        Some(life) if life <= LONGEST_LIFE => Ok(life.to_string()),
-        Some(_) => Err(Error::Deadline),
+        Some(life) if life <= u128::from(LONGEST_LIFE) => Ok(life.to_string()),
+        Some(_) => Err(ErrorKind::Deadline),
     }
 }
 
@@ -283,8 +414,12 @@ impl<'a> Request<'a> {
             | Request::Has { key }
             | Request::Load { key }
             | Request::Delete { key }
-            | Request::Add { key, .. } => Some(key),
-            Request::Clear | Request::DropIf { .. } | Request::Keys | Request::Sync => None,
+            | Request::Incr { key, .. } => Some(key),
+            Request::Clear
+            | Request::DropIf { .. }
+            | Request::Keys
+            | Request::Sync
+            | Request::Ping => None,
         }
     }
 
@@ -292,42 +427,48 @@ impl<'a> Request<'a> {
     pub fn is_read(&self) -> bool {
         matches!(
             self,
-            Request::Get { .. } | Request::Has { .. } | Request::Keys
+            Request::Get { .. } | Request::Has { .. } | Request::Keys | Request::Ping
         )
     }
 
     /// The bytes to send. Fails with `Key`, `Value`, `TooLong` or `Deadline`.
     pub fn line(&self) -> Result<Vec<u8>, Error> {
-        let mut line = match *self {
-            Request::Set {
-                key,
-                value,
-                milliseconds,
-            } => set_line(key, value, milliseconds)?,
-            Request::Get { key } => word_line("GET", key)?,
-            Request::Has { key } => word_line("HAS", key)?,
-            Request::Load { key } => word_line("LOAD", key)?,
-            Request::Delete { key } => word_line("DEL", key)?,
-            Request::Add {
-                key,
-                number,
-                milliseconds,
-            } => {
-                let number = number.to_string();
-                keyed_line("ADD", key, milliseconds, number.as_bytes())?
-            }
-            Request::Clear => b"CLEAR".to_vec(),
-            Request::DropIf { prefix } => word_line("DROPIF", prefix)?,
-            Request::Keys => b"KEYS".to_vec(),
-            Request::Sync => b"SYNC".to_vec(),
-        };
+        let mut line = self.text().map_err(|kind| kind.at(self))?;
         line.push(b'\n');
         Ok(line)
+    }
+
+    /// The bytes to send, without the line feed.
+    fn text(&self) -> Result<Vec<u8>, ErrorKind> {
+        match *self {
+            Request::Set { key, value, ttl } => set_line(key, value, ttl),
+            Request::Get { key } => word_line("GET", key),
+            Request::Has { key } => word_line("HAS", key),
+            Request::Load { key } => word_line("LOAD", key),
+            Request::Delete { key } => word_line("DEL", key),
+            Request::Incr { key, number, ttl } => {
+                keyed_line("ADD", key, ttl, number.to_string().as_bytes())
+            }
+            Request::Clear => Ok(b"CLEAR".to_vec()),
+            Request::DropIf { prefix } => word_line("DROPIF", prefix),
+            Request::Keys => Ok(b"KEYS".to_vec()),
+            Request::Sync => Ok(b"SYNC".to_vec()),
+            Request::Ping => Ok(b"HAS ping".to_vec()),
+        }
+    }
+
+    /// The reply that a look-up gets at a miss. `None` for other requests.
+    fn miss(&self) -> Option<Reply> {
+        match self {
+            Request::Get { .. } => Some(Reply::Value(None)),
+            Request::Has { .. } => Some(Reply::Present(false)),
+            _ => None,
+        }
     }
 }
 
 /// A line with a word and a key.
-fn word_line(word: &str, key: &[u8]) -> Result<Vec<u8>, Error> {
+fn word_line(word: &str, key: &[u8]) -> Result<Vec<u8>, ErrorKind> {
     check_key(key)?;
     Ok([word.as_bytes(), key].join(&b' '))
 }
@@ -336,21 +477,23 @@ fn word_line(word: &str, key: &[u8]) -> Result<Vec<u8>, Error> {
 fn keyed_line(
     word: &str,
     key: &[u8],
-    milliseconds: Option<u64>,
+    ttl: Option<Duration>,
     rest: &[u8],
-) -> Result<Vec<u8>, Error> {
+) -> Result<Vec<u8>, ErrorKind> {
     check_key(key)?;
-    let deadline = deadline_text(milliseconds)?;
+    let deadline = deadline_text(ttl)?;
     Ok([word.as_bytes(), key, deadline.as_bytes(), rest].join(&b' '))
 }
 
-fn set_line(key: &[u8], value: &[u8], milliseconds: Option<u64>) -> Result<Vec<u8>, Error> {
+fn set_line(key: &[u8], value: &[u8], ttl: Option<Duration>) -> Result<Vec<u8>, ErrorKind> {
     if value.iter().any(|byte| matches!(byte, b'\n' | b'\r')) {
-        return Err(Error::Value);
+        return Err(ErrorKind::Value);
     }
-    let line = keyed_line("SET", key, milliseconds, value)?;
+    let line = keyed_line("SET", key, ttl, value)?;
     if line.len() > LONGEST_LINE {
-        return Err(Error::TooLong);
+        let bytes = value.len();
+        let room = LONGEST_LINE - (line.len() - bytes);
+        return Err(ErrorKind::TooLong { bytes, room });
     }
     Ok(line)
 }
@@ -381,13 +524,14 @@ fn read_first(request: &Request<'_>, line: &[u8]) -> Option<Reply> {
             b"NO" => Some(Reply::Present(false)),
             _ => None,
         },
-        Request::Add { .. } => match line {
+        Request::Incr { .. } => match line {
             b"OFF" => Some(Reply::Sum(None)),
             _ => Some(Reply::Sum(Some(number_of(line.strip_prefix(b"VAL ")?)?))),
         },
         Request::Delete { .. } | Request::Clear | Request::DropIf { .. } => {
             (line == b"OK").then_some(Reply::Done)
         }
+        Request::Ping => matches!(line, b"YES" | b"NO").then_some(Reply::Done),
         Request::Keys => {
             number_of(line.strip_prefix(b"KEYS ")?)?;
             Some(Reply::Keys(Vec::new()))
@@ -406,37 +550,84 @@ fn never<T>() -> T {
     unreachable!("a reply is read by its request")
 }
 
-/// The requests with a key, for a type with `ask`.
+/// A look-up of each key.
+fn gets_of<K: AsRef<[u8]>>(keys: &[K]) -> Vec<Request<'_>> {
+    let keys = keys.iter().map(AsRef::as_ref);
+    keys.map(|key| Request::Get { key }).collect()
+}
+
+/// A request that stores each key's value.
+fn sets_of<K: AsRef<[u8]>, V: AsRef<[u8]>>(
+    values: &[(K, V)],
+    ttl: Option<Duration>,
+) -> Vec<Request<'_>> {
+    let values = values
+        .iter()
+        .map(|(key, value)| (key.as_ref(), value.as_ref()));
+    values
+        .map(|(key, value)| Request::Set { key, value, ttl })
+        .collect()
+}
+
+/// The requests with a key, for a type with `ask` and `ask_all`.
 macro_rules! keyed_commands {
     ($self:ident, $receiver:ty) => {
-        /// Stores a value, which lives this many milliseconds at most, if given. Returns false if
-        /// the capacity is 0 and nothing is stored.
+        /// Stores a value, which lives for this time at most, if given. Returns false if the
+        /// capacity is 0 and nothing is stored.
         pub fn set(
             $self: $receiver,
-            key: &[u8],
-            value: &[u8],
-            milliseconds: Option<u64>,
+            key: impl AsRef<[u8]>,
+            value: impl AsRef<[u8]>,
+            ttl: Option<Duration>,
         ) -> Result<bool, Error> {
-            match $self.ask(&Request::Set {
-                key,
-                value,
-                milliseconds,
-            })? {
+            let (key, value) = (key.as_ref(), value.as_ref());
+            match $self.ask(&Request::Set { key, value, ttl })? {
                 Reply::Stored(stored) => Ok(stored),
                 _ => never(),
             }
         }
 
+        /// Stores each key's value, in one pipeline. Returns whether each was stored, in their
+        /// order: all, unless the capacity is 0.
+        pub fn set_many<K: AsRef<[u8]>, V: AsRef<[u8]>>(
+            $self: $receiver,
+            values: &[(K, V)],
+            ttl: Option<Duration>,
+        ) -> Result<Vec<bool>, Error> {
+            let replies = $self.ask_all(&sets_of(values, ttl))?;
+            let stored = replies.into_iter().map(|reply| match reply {
+                Reply::Stored(stored) => stored,
+                _ => never(),
+            });
+            Ok(stored.collect())
+        }
+
         /// Returns the key's live value, which counts as a use of it.
-        pub fn get($self: $receiver, key: &[u8]) -> Result<Option<Vec<u8>>, Error> {
+        pub fn get($self: $receiver, key: impl AsRef<[u8]>) -> Result<Option<Vec<u8>>, Error> {
+            let key = key.as_ref();
             match $self.ask(&Request::Get { key })? {
                 Reply::Value(value) => Ok(value),
                 _ => never(),
             }
         }
 
+        /// Returns the live value of each key, in their order, each of which counts as used. One
+        /// pipeline, which is sent once more like a `get`.
+        pub fn get_many<K: AsRef<[u8]>>(
+            $self: $receiver,
+            keys: &[K],
+        ) -> Result<Vec<Option<Vec<u8>>>, Error> {
+            let replies = $self.ask_all(&gets_of(keys))?;
+            let values = replies.into_iter().map(|reply| match reply {
+                Reply::Value(value) => value,
+                _ => never(),
+            });
+            Ok(values.collect())
+        }
+
         /// Returns whether the key has a live value. This does not count as a use.
-        pub fn has($self: $receiver, key: &[u8]) -> Result<bool, Error> {
+        pub fn has($self: $receiver, key: impl AsRef<[u8]>) -> Result<bool, Error> {
+            let key = key.as_ref();
             match $self.ask(&Request::Has { key })? {
                 Reply::Present(present) => Ok(present),
                 _ => never(),
@@ -445,7 +636,8 @@ macro_rules! keyed_commands {
 
         /// Returns the key's live value; if it has none, the server loads one from elsewhere and
         /// stores it. `None` if there is none. The reply may take as long as the load.
-        pub fn load($self: $receiver, key: &[u8]) -> Result<Option<Vec<u8>>, Error> {
+        pub fn load($self: $receiver, key: impl AsRef<[u8]>) -> Result<Option<Vec<u8>>, Error> {
+            let key = key.as_ref();
             match $self.ask(&Request::Load { key })? {
                 Reply::Value(value) => Ok(value),
                 _ => never(),
@@ -453,28 +645,37 @@ macro_rules! keyed_commands {
         }
 
         /// Deletes the key's value, if it has one.
-        pub fn delete($self: $receiver, key: &[u8]) -> Result<(), Error> {
+        pub fn delete($self: $receiver, key: impl AsRef<[u8]>) -> Result<(), Error> {
+            let key = key.as_ref();
             $self.ask(&Request::Delete { key })?;
             Ok(())
         }
 
         /// Adds to the key's number (0 if it has no live value), stores the sum, and returns it.
-        /// `None` if the capacity is 0. Without milliseconds the sum has no deadline, whatever
+        /// `None` if the capacity is 0. Without a time to live the sum has no deadline, whatever
         /// deadline the value had before.
+        pub fn incr(
+            $self: $receiver,
+            key: impl AsRef<[u8]>,
+            number: u64,
+            ttl: Option<Duration>,
+        ) -> Result<Option<u64>, Error> {
+            let key = key.as_ref();
+            match $self.ask(&Request::Incr { key, number, ttl })? {
+                Reply::Sum(sum) => Ok(sum),
+                _ => never(),
+            }
+        }
+
+        /// The old name of `incr`, with a time to live in milliseconds.
+        #[deprecated(note = "is now `incr`, with a `Duration`")]
         pub fn add(
             $self: $receiver,
             key: &[u8],
             number: u64,
             milliseconds: Option<u64>,
         ) -> Result<Option<u64>, Error> {
-            match $self.ask(&Request::Add {
-                key,
-                number,
-                milliseconds,
-            })? {
-                Reply::Sum(sum) => Ok(sum),
-                _ => never(),
-            }
+            $self.incr(key, number, milliseconds.map(Duration::from_millis))
         }
     };
 }
@@ -489,7 +690,8 @@ macro_rules! whole_commands {
         }
 
         /// Hides all values whose keys begin with the prefix.
-        pub fn drop_if($self: $receiver, prefix: &[u8]) -> Result<(), Error> {
+        pub fn drop_if($self: $receiver, prefix: impl AsRef<[u8]>) -> Result<(), Error> {
+            let prefix = prefix.as_ref();
             $self.ask(&Request::DropIf { prefix })?;
             Ok(())
         }
@@ -509,6 +711,13 @@ macro_rules! whole_commands {
                 Reply::Held(held) => Ok(held),
                 _ => never(),
             }
+        }
+
+        /// Succeeds if the server answers. Asks whether a key has a value (`HAS`), which is no use
+        /// of it.
+        pub fn ping($self: $receiver) -> Result<(), Error> {
+            $self.ask(&Request::Ping)?;
+            Ok(())
         }
     };
 }
@@ -543,10 +752,16 @@ impl Default for Options {
 /// A result for each request of a pipeline, in their order.
 pub type Replies = Vec<Result<Reply, ServerError>>;
 
+/// A result for each request of a pipeline over several servers, in their order.
+pub type Results = Vec<Result<Reply, Error>>;
+
 /// One connection to one namespace. After an error other than a refused argument or `Server` it is
 /// closed, and stays closed.
 #[derive(Debug)]
 pub struct Connection {
+    address: String,
+    /// The process that opened it. Another one, made by `fork`, would read its replies.
+    process: u32,
     stream: Option<TcpStream>,
     received: Vec<u8>,
     /// How many bytes at the front of `received` were already used.
@@ -555,12 +770,15 @@ pub struct Connection {
 }
 
 fn is_timeout(error: &io::Error) -> bool {
-    matches!(error.kind(), ErrorKind::WouldBlock | ErrorKind::TimedOut)
+    matches!(
+        error.kind(),
+        io::ErrorKind::WouldBlock | io::ErrorKind::TimedOut
+    )
 }
 
 /// A connection to the first socket address that accepts it.
 fn connect(address: &str, limit: Duration) -> io::Result<TcpStream> {
-    let mut failed = io::Error::new(ErrorKind::NotFound, "the address names no place");
+    let mut failed = io::Error::new(io::ErrorKind::NotFound, "the address names no place");
     for place in address.to_socket_addrs()? {
         match TcpStream::connect_timeout(&place, limit) {
             Ok(stream) => return Ok(stream),
@@ -573,6 +791,10 @@ fn connect(address: &str, limit: Duration) -> io::Result<TcpStream> {
 impl Connection {
     /// Connects to an address, such as `127.0.0.1:7411`. Fails with `Connect` or `ConnectTimeout`.
     pub fn open(address: &str, options: &Options) -> Result<Connection, Error> {
+        Connection::made(address, options).map_err(|kind| kind.asking(address, &[]))
+    }
+
+    fn made(address: &str, options: &Options) -> Result<Connection, ErrorKind> {
         let made = connect(address, options.connect).and_then(|stream| {
             stream.set_nodelay(true)?;
             stream.set_write_timeout(Some(options.reply))?;
@@ -580,13 +802,15 @@ impl Connection {
         });
         match made {
             Ok(stream) => Ok(Connection {
+                address: address.to_string(),
+                process: std::process::id(),
                 stream: Some(stream),
                 received: Vec::new(),
                 taken: 0,
                 reply: options.reply,
             }),
-            Err(error) if is_timeout(&error) => Err(Error::ConnectTimeout),
-            Err(error) => Err(Error::Connect(error)),
+            Err(error) if is_timeout(&error) => Err(ErrorKind::ConnectTimeout),
+            Err(error) => Err(ErrorKind::Connect(Arc::new(error))),
         }
     }
 
@@ -601,11 +825,14 @@ impl Connection {
         let Some(stream) = &self.stream else {
             return false;
         };
-        if self.taken < self.received.len() || stream.set_nonblocking(true).is_err() {
+        if self.process != std::process::id()
+            || self.taken < self.received.len()
+            || stream.set_nonblocking(true).is_err()
+        {
             return false;
         }
         let peeked = stream.peek(&mut [0]);
-        let is_silent = matches!(peeked, Err(error) if error.kind() == ErrorKind::WouldBlock);
+        let is_silent = matches!(peeked, Err(error) if error.kind() == io::ErrorKind::WouldBlock);
         is_silent && stream.set_nonblocking(false).is_ok()
     }
 
@@ -614,11 +841,11 @@ impl Connection {
         let told = self.exchange_lines(b"QUIT\n", true, |connection| {
             match connection.line(true)?.as_slice() {
                 b"OK" => Ok(()),
-                line => Err(Error::BadReply(line.to_vec())),
+                line => Err(ErrorKind::BadReply(line.to_vec())),
             }
         });
         self.stream = None;
-        told
+        told.map_err(|kind| kind.asking(&self.address, &[]))
     }
 
     /// Sends requests without waiting for each one's reply. If one of them cannot be sent, none
@@ -637,18 +864,26 @@ impl Connection {
             let start = replies.len();
             let end = start + window(&lines[start..]);
             let text = lines[start..end].concat();
-            self.exchange_lines(&text, start == 0, |connection| {
+            let told = self.exchange_lines(&text, start == 0, |connection| {
                 for request in &requests[start..end] {
                     replies.push(connection.read_reply(request, replies.is_empty())?);
                 }
                 Ok(())
-            })?;
+            });
+            told.map_err(|kind| kind.asking(&self.address, &requests[replies.len()..]))?;
         }
         Ok(replies)
     }
 
     fn ask(&mut self, request: &Request<'_>) -> Result<Reply, Error> {
-        only(self.pipeline(std::slice::from_ref(request))?)
+        self.ask_all(std::slice::from_ref(request)).map(only)
+    }
+
+    fn ask_all(&mut self, requests: &[Request<'_>]) -> Result<Vec<Reply>, Error> {
+        let replies = self.pipeline(requests)?;
+        results(&self.address, requests, replies)
+            .into_iter()
+            .collect()
     }
 
     keyed_commands!(self, &mut Self);
@@ -660,8 +895,11 @@ impl Connection {
         &mut self,
         text: &[u8],
         is_first: bool,
-        read: impl FnOnce(&mut Connection) -> Result<T, Error>,
-    ) -> Result<T, Error> {
+        read: impl FnOnce(&mut Connection) -> Result<T, ErrorKind>,
+    ) -> Result<T, ErrorKind> {
+        if self.process != std::process::id() {
+            self.stream = None;
+        }
         let told = self.send(text, is_first).and_then(|()| read(self));
         if told.is_err() {
             self.stream = None;
@@ -669,20 +907,20 @@ impl Connection {
         told
     }
 
-    fn send(&mut self, text: &[u8], is_first: bool) -> Result<(), Error> {
+    fn send(&mut self, text: &[u8], is_first: bool) -> Result<(), ErrorKind> {
         let Some(stream) = &mut self.stream else {
-            return Err(Error::Spent);
+            return Err(ErrorKind::Spent);
         };
         if self.taken < self.received.len() {
             // Bytes came that nobody asked for.
-            return Err(Error::BadReply(self.received[self.taken..].to_vec()));
+            return Err(ErrorKind::BadReply(self.received[self.taken..].to_vec()));
         }
         match stream.write_all(text) {
             Ok(()) => Ok(()),
-            Err(error) if is_timeout(&error) => Err(Error::ReplyTimeout),
-            Err(error) => Err(Error::Broken {
+            Err(error) if is_timeout(&error) => Err(ErrorKind::ReplyTimeout),
+            Err(error) => Err(ErrorKind::Broken {
                 has_reply_begun: !is_first,
-                cause: Some(error),
+                cause: Some(Arc::new(error)),
             }),
         }
     }
@@ -691,7 +929,7 @@ impl Connection {
         &mut self,
         request: &Request<'_>,
         is_first: bool,
-    ) -> Result<Result<Reply, ServerError>, Error> {
+    ) -> Result<Result<Reply, ServerError>, ErrorKind> {
         let line = self.line(is_first)?;
         if let Some(text) = line.strip_prefix(b"ERR ") {
             return Ok(Err(ServerError::of_text(text)));
@@ -699,17 +937,21 @@ impl Connection {
         match read_first(request, &line) {
             Some(Reply::Keys(keys)) => Ok(Ok(Reply::Keys(self.read_keys(&line, keys)?))),
             Some(reply) => Ok(Ok(reply)),
-            None => Err(Error::BadReply(line)),
+            None => Err(ErrorKind::BadReply(line)),
         }
     }
 
     /// The lines after a line `KEYS n`.
-    fn read_keys(&mut self, line: &[u8], mut keys: Vec<Vec<u8>>) -> Result<Vec<Vec<u8>>, Error> {
+    fn read_keys(
+        &mut self,
+        line: &[u8],
+        mut keys: Vec<Vec<u8>>,
+    ) -> Result<Vec<Vec<u8>>, ErrorKind> {
         let count = line.strip_prefix(b"KEYS ").and_then(number_of);
         for _ in 0..count.unwrap_or(0) {
             let key = self.line(false)?;
             if !is_key(&key) {
-                return Err(Error::BadReply(key));
+                return Err(ErrorKind::BadReply(key));
             }
             keys.push(key);
         }
@@ -717,7 +959,7 @@ impl Connection {
     }
 
     /// The next line of the replies, without its line feed; whether it is the first of its call.
-    fn line(&mut self, is_first: bool) -> Result<Vec<u8>, Error> {
+    fn line(&mut self, is_first: bool) -> Result<Vec<u8>, ErrorKind> {
         let start = Instant::now();
         let mut scanned = self.taken;
         loop {
@@ -731,20 +973,20 @@ impl Connection {
             self.taken = 0;
             scanned = self.received.len();
             if scanned > LONGEST_REPLY_LINE {
-                return Err(Error::BadReply(self.received[..80].to_vec()));
+                return Err(ErrorKind::BadReply(self.received[..80].to_vec()));
             }
             self.receive(self.reply.saturating_sub(start.elapsed()), is_first)?;
         }
     }
 
     /// Receives more bytes within this time.
-    fn receive(&mut self, left: Duration, is_first: bool) -> Result<(), Error> {
+    fn receive(&mut self, left: Duration, is_first: bool) -> Result<(), ErrorKind> {
         let Some(stream) = &mut self.stream else {
-            return Err(Error::Spent);
+            return Err(ErrorKind::Spent);
         };
         let has_reply_begun = !is_first || !self.received.is_empty();
         if left.is_zero() {
-            return Err(Error::ReplyTimeout);
+            return Err(ErrorKind::ReplyTimeout);
         }
         let start = self.received.len();
         self.received.resize(start + RECEIVED_AT_ONCE, 0);
@@ -754,16 +996,16 @@ impl Connection {
         self.received
             .truncate(start + told.as_ref().map_or(0, |count| *count));
         match told {
-            Ok(0) => Err(Error::Broken {
+            Ok(0) => Err(ErrorKind::Broken {
                 has_reply_begun,
                 cause: None,
             }),
             Ok(_) => Ok(()),
-            Err(error) if is_timeout(&error) => Err(Error::ReplyTimeout),
-            Err(error) if error.kind() == ErrorKind::Interrupted => Ok(()),
-            Err(error) => Err(Error::Broken {
+            Err(error) if is_timeout(&error) => Err(ErrorKind::ReplyTimeout),
+            Err(error) if error.kind() == io::ErrorKind::Interrupted => Ok(()),
+            Err(error) => Err(ErrorKind::Broken {
                 has_reply_begun,
-                cause: Some(error),
+                cause: Some(Arc::new(error)),
             }),
         }
     }
@@ -786,11 +1028,17 @@ fn window(lines: &[Vec<u8>]) -> usize {
 }
 
 /// The reply to the one request that was sent.
-fn only(mut replies: Replies) -> Result<Reply, Error> {
-    match replies.pop() {
-        Some(reply) => reply.map_err(Error::Server),
-        None => never(),
-    }
+fn only(mut replies: Vec<Reply>) -> Reply {
+    replies.pop().unwrap_or_else(never)
+}
+
+/// The replies of a server to requests; each error says to which.
+fn results(address: &str, requests: &[Request<'_>], replies: Replies) -> Results {
+    let one = |(request, reply): (&Request<'_>, Result<Reply, ServerError>)| {
+        let asked = std::slice::from_ref(request);
+        reply.map_err(|error| ErrorKind::Server(error).asking(address, asked))
+    };
+    requests.iter().zip(replies).map(one).collect()
 }
 
 /// The connections of a pool.
@@ -829,29 +1077,48 @@ impl Pool {
         }
     }
 
+    /// Returns the address.
+    pub fn address(&self) -> &str {
+        &self.address
+    }
+
     /// Returns how many connections are open and not in use.
     pub fn idle(&self) -> usize {
         self.shelf().idle.len()
     }
 
+    /// Closes the connections that are open and not in use.
+    pub fn close_idle(&self) {
+        self.shelf().idle.clear();
+    }
+
     /// Like [`Connection::pipeline`], on one connection.
     pub fn pipeline(&self, requests: &[Request<'_>]) -> Result<Replies, Error> {
-        let lines = lines_of(requests)?;
-        let _ticket = self.enter()?;
-        let told = self.run_on(self.take()?, requests, &lines);
+        self.run(requests, &lines_of(requests)?)
+    }
+
+    /// Sends requests, given as lines, and reads their replies.
+    fn run(&self, requests: &[Request<'_>], lines: &[Vec<u8>]) -> Result<Replies, Error> {
+        let unsent = |kind: ErrorKind| kind.asking(&self.address, requests);
+        let _ticket = self.enter().map_err(unsent)?;
+        let told = self.run_on(self.take().map_err(unsent)?, requests, lines);
         match told {
-            Err(Error::Broken {
-                has_reply_begun: false,
-                ..
-            }) if requests.iter().all(Request::is_read) => {
-                self.run_on(self.open()?, requests, &lines)
+            Err(error) if error.is_before_replies() && requests.iter().all(Request::is_read) => {
+                self.run_on(self.open().map_err(unsent)?, requests, lines)
             }
             told => told,
         }
     }
 
     fn ask(&self, request: &Request<'_>) -> Result<Reply, Error> {
-        only(self.pipeline(std::slice::from_ref(request))?)
+        self.ask_all(std::slice::from_ref(request)).map(only)
+    }
+
+    fn ask_all(&self, requests: &[Request<'_>]) -> Result<Vec<Reply>, Error> {
+        let replies = self.pipeline(requests)?;
+        results(&self.address, requests, replies)
+            .into_iter()
+            .collect()
     }
 
     keyed_commands!(self, &Self);
@@ -861,12 +1128,12 @@ impl Pool {
         self.shelf.lock().unwrap_or_else(PoisonError::into_inner)
     }
 
-    fn open(&self) -> Result<Connection, Error> {
-        Connection::open(&self.address, &self.options)
+    fn open(&self) -> Result<Connection, ErrorKind> {
+        Connection::made(&self.address, &self.options)
     }
 
     /// Waits until a connection may be used.
-    fn enter(&self) -> Result<Ticket<'_>, Error> {
+    fn enter(&self) -> Result<Ticket<'_>, ErrorKind> {
         let most = self.options.connections.max(1);
         let (mut shelf, _) = self
             .returned
@@ -875,14 +1142,14 @@ impl Pool {
             })
             .unwrap_or_else(PoisonError::into_inner);
         if shelf.in_use >= most {
-            return Err(Error::PoolTimeout);
+            return Err(ErrorKind::PoolTimeout);
         }
         shelf.in_use += 1;
         Ok(Ticket { pool: self })
     }
 
     /// The connection that was used last, if it is still quiet, or a new one.
-    fn take(&self) -> Result<Connection, Error> {
+    fn take(&self) -> Result<Connection, ErrorKind> {
         loop {
             let last = self.shelf().idle.pop();
             match last {
@@ -970,6 +1237,48 @@ impl fmt::Display for BadServers {
 
 impl std::error::Error for BadServers {}
 
+/// Whether one server is asked. After it did not answer, it is left alone for a time; then one
+/// call tries it, while others leave it alone for as long again.
+#[derive(Debug, Default)]
+struct BackOff {
+    until: Mutex<Option<Instant>>,
+}
+
+impl BackOff {
+    fn until(&self) -> MutexGuard<'_, Option<Instant>> {
+        self.until.lock().unwrap_or_else(PoisonError::into_inner)
+    }
+
+    /// Whether the server may be asked now.
+    fn enter(&self, retry_after: Duration) -> bool {
+        let mut until = self.until();
+        let now = Instant::now();
+        match *until {
+            Some(moment) if now < moment => return false,
+            Some(_) => *until = now.checked_add(retry_after),
+            None => {}
+        }
+        true
+    }
+
+    /// Takes note of how a call ended. `None`: it succeeded.
+    fn leave(&self, error: Option<&Error>, retry_after: Duration) {
+        match error {
+            Some(error) if !error.is_silence() => {}
+            Some(_) => *self.until() = Instant::now().checked_add(retry_after),
+            None => *self.until() = None,
+        }
+    }
+}
+
+/// One of the pools of [`Servers`].
+#[derive(Debug)]
+struct Member {
+    name: String,
+    pool: Pool,
+    back_off: BackOff,
+}
+
 /// Several servers, each a [`Pool`], over which keys are spread by rendezvous hashing.
 ///
 /// A server of weight w counts as w virtual ones, `NAME#0` to `NAME#(w - 1)`, and a key belongs
@@ -977,11 +1286,16 @@ impl std::error::Error for BadServers {}
 /// only keys that move are those that it gets, and if one is removed, those that it had. The
 /// Python client gives each key to the same server. There are no replicas: if a server is
 /// down, calls for its keys fail.
+///
+/// A server that could not be reached, or did not reply in time, is left alone for a second: calls
+/// for its keys then fail with `Away` at once.
 #[derive(Debug)]
 pub struct Servers {
-    pools: Vec<(String, Pool)>,
+    members: Vec<Member>,
     /// The hash of each virtual server's name, and the place of its pool.
     seeds: Vec<(u64, usize)>,
+    retry_after: Duration,
+    are_errors_misses: bool,
 }
 
 impl Servers {
@@ -994,49 +1308,72 @@ impl Servers {
         if servers.is_empty() || names.len() < servers.len() || !are_weights {
             return Err(BadServers);
         }
-        let pool = |server: &Server| Pool::new(server.address.clone(), options);
+        let member = |server: &Server| Member {
+            name: server.name.clone(),
+            pool: Pool::new(server.address.clone(), options),
+            back_off: BackOff::default(),
+        };
         let seeds = servers.iter().enumerate().flat_map(|(place, server)| {
             let seed = |number| hash_bytes(format!("{}#{number}", server.name).as_bytes());
             (0..server.weight).map(move |number| (seed(number), place))
         });
         Ok(Servers {
             seeds: seeds.collect(),
-            pools: servers
-                .iter()
-                .map(|server| (server.name.clone(), pool(server)))
-                .collect(),
+            members: servers.iter().map(member).collect(),
+            retry_after: Duration::from_secs(1),
+            are_errors_misses: false,
         })
+    }
+
+    /// Leaves a server that does not answer alone for this long, in place of a second. Zero: it is
+    /// asked each time.
+    pub fn with_retry_after(self, retry_after: Duration) -> Servers {
+        Servers {
+            retry_after,
+            ..self
+        }
+    }
+
+    /// Takes a look-up (`get`, `get_many`, `has`) without a complete reply as a miss.
+    pub fn with_errors_as_misses(self) -> Servers {
+        Servers {
+            are_errors_misses: true,
+            ..self
+        }
     }
 
     /// Returns the name and the pool of the server that a key belongs to.
     pub fn server_of(&self, key: &[u8]) -> (&str, &Pool) {
-        let (name, pool) = &self.pools[self.place_of(key)];
-        (name, pool)
+        let member = &self.members[self.place_of(key)];
+        (&member.name, &member.pool)
     }
 
     /// Returns the names and pools of all servers.
     pub fn pools(&self) -> impl Iterator<Item = (&str, &Pool)> {
-        self.pools.iter().map(|(name, pool)| (name.as_str(), pool))
+        self.members
+            .iter()
+            .map(|member| (member.name.as_str(), &member.pool))
     }
 
-    /// Sends each server its requests as one pipeline, one server after the other. The replies are
-    /// in the order of the requests.
-    pub fn pipeline(&self, requests: &[Request<'_>]) -> Result<Replies, Error> {
-        let mut shares = vec![Vec::new(); self.pools.len()];
-        for (number, request) in requests.iter().enumerate() {
-            request.line()?;
-            let key = request.key().ok_or(Error::NoKey)?;
-            shares[self.place_of(key)].push((number, *request));
+    /// Sends each server its requests as one pipeline, one server after the other. The results are
+    /// in the order of the requests; if a server fails, so does each of its requests, and no other.
+    ///
+    /// Fails as a whole if a request cannot be sent, or with `NoKey`: then nothing was sent.
+    pub fn pipeline(&self, requests: &[Request<'_>]) -> Result<Results, Error> {
+        let mut shares = vec![Vec::new(); self.members.len()];
+        for (number, (request, line)) in requests.iter().zip(lines_of(requests)?).enumerate() {
+            let key = request.key().ok_or_else(|| ErrorKind::NoKey.at(request))?;
+            shares[self.place_of(key)].push((number, (*request, line)));
         }
         let mut told = Vec::with_capacity(requests.len());
-        for ((_, pool), share) in self.pools.iter().zip(shares) {
+        for (member, share) in self.members.iter().zip(shares) {
             let (numbers, share): (Vec<_>, Vec<_>) = share.into_iter().unzip();
             if !share.is_empty() {
-                told.extend(numbers.into_iter().zip(pool.pipeline(&share)?));
+                told.extend(numbers.into_iter().zip(self.run_share(member, share)));
             }
         }
         told.sort_by_key(|(number, _)| *number);
-        Ok(told.into_iter().map(|(_, reply)| reply).collect())
+        Ok(told.into_iter().map(|(_, result)| result).collect())
     }
 
     keyed_commands!(self, &Self);
@@ -1044,31 +1381,95 @@ impl Servers {
     /// Calls [`Pool::clear`] of each server, even if one of them fails: then the first error is
     /// returned after the last server.
     pub fn clear(&self) -> Result<(), Error> {
-        self.each(Pool::clear).map(|_| ())
+        self.all_of(Pool::clear).map(|_| ())
     }
 
     /// Calls [`Pool::drop_if`] of each server, like `clear`.
-    pub fn drop_if(&self, prefix: &[u8]) -> Result<(), Error> {
-        self.each(|pool| pool.drop_if(prefix)).map(|_| ())
+    pub fn drop_if(&self, prefix: impl AsRef<[u8]>) -> Result<(), Error> {
+        let prefix = prefix.as_ref();
+        self.all_of(|pool| pool.drop_if(prefix)).map(|_| ())
     }
 
     /// Returns the live keys of all servers, in byte order. A key that two servers have, since the
-    /// list of servers changed, is returned once.
+    /// list of servers changed, is returned once. Errors as in `clear`; `each(Pool::keys)` returns
+    /// those of the other servers all the same.
     pub fn keys(&self) -> Result<Vec<Vec<u8>>, Error> {
-        let mut keys = self.each(Pool::keys)?.concat();
+        let mut keys = self.all_of(Pool::keys)?.concat();
         keys.sort_unstable();
         keys.dedup();
         Ok(keys)
     }
 
-    /// Calls [`Pool::sync`] of each server, in their order.
+    /// Calls [`Pool::sync`] of each server, in their order. Errors as in `keys`.
     pub fn sync(&self) -> Result<Vec<Held>, Error> {
-        self.each(Pool::sync)
+        self.all_of(Pool::sync)
+    }
+
+    /// Returns whether each server answers, by name.
+    pub fn ping(&self) -> Vec<(&str, bool)> {
+        let told = self.each(Pool::ping).into_iter();
+        told.map(|(name, result)| (name, result.is_ok())).collect()
+    }
+
+    /// Makes a call of each server, one after the other. Returns the results by name.
+    pub fn each<T>(
+        &self,
+        call: impl Fn(&Pool) -> Result<T, Error>,
+    ) -> Vec<(&str, Result<T, Error>)> {
+        let one = |member: &Member| self.guarded(member, &[], || call(&member.pool));
+        self.members
+            .iter()
+            .map(|member| (member.name.as_str(), one(member)))
+            .collect()
+    }
+
+    fn all_of<T>(&self, call: impl Fn(&Pool) -> Result<T, Error>) -> Result<Vec<T>, Error> {
+        let told = self.each(call).into_iter();
+        told.map(|(_, result)| result).collect()
     }
 
     fn ask(&self, request: &Request<'_>) -> Result<Reply, Error> {
-        let key = request.key().ok_or(Error::NoKey)?;
-        self.server_of(key).1.ask(request)
+        self.ask_all(std::slice::from_ref(request)).map(only)
+    }
+
+    fn ask_all(&self, requests: &[Request<'_>]) -> Result<Vec<Reply>, Error> {
+        self.pipeline(requests)?.into_iter().collect()
+    }
+
+    /// Makes a call of a server, unless it is left alone.
+    fn guarded<T>(
+        &self,
+        member: &Member,
+        requests: &[Request<'_>],
+        call: impl FnOnce() -> Result<T, Error>,
+    ) -> Result<T, Error> {
+        if !member.back_off.enter(self.retry_after) {
+            return Err(ErrorKind::Away.asking(&member.pool.address, requests));
+        }
+        let told = call();
+        member.back_off.leave(told.as_ref().err(), self.retry_after);
+        told
+    }
+
+    /// Makes the calls of one server. Their results, in their order.
+    fn run_share(&self, member: &Member, share: Vec<(Request<'_>, Vec<u8>)>) -> Results {
+        let (requests, lines): (Vec<_>, Vec<_>) = share.into_iter().unzip();
+        let told = self.guarded(member, &requests, || member.pool.run(&requests, &lines));
+        match told {
+            Ok(replies) => results(&member.pool.address, &requests, replies),
+            Err(error) => {
+                let failed = |request| self.failed(request, &error);
+                requests.iter().map(failed).collect()
+            }
+        }
+    }
+
+    /// The result of a request whose server failed.
+    fn failed(&self, request: &Request<'_>, error: &Error) -> Result<Reply, Error> {
+        match request.miss() {
+            Some(miss) if self.are_errors_misses && error.is_of_link() => Ok(miss),
+            _ => Err(error.clone()),
+        }
     }
 
     fn place_of(&self, key: &[u8]) -> usize {
@@ -1082,9 +1483,9 @@ impl Servers {
         }
         chosen
     }
-
-    fn each<T>(&self, call: impl Fn(&Pool) -> Result<T, Error>) -> Result<Vec<T>, Error> {
-        let told: Vec<_> = self.pools.iter().map(|(_, pool)| call(pool)).collect();
-        told.into_iter().collect()
-    }
 }
+
+/// The example of `clients/README.md` compiles.
+#[cfg(doctest)]
+#[doc = include_str!("../../README.md")]
+struct Readme;
