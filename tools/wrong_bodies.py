@@ -10,9 +10,14 @@ functions, only these are checked (`rt check --only`), which takes 10 to 60 seco
 whole crate is, over what `rt check` kept. As many run in parallel as --jobs says, or as there are processors. Each
 body has a row as soon as it was tried, with the seconds that it took:
 
-  goal      refused at a goal: a contract is not met
-  name      refused because a proof names something that the body removed: this says little about the contract
-  PASSED    the crate is proved with it: the contract is too weak
+  clause    refused: a clause of the edited function, or what its type promises, is left open. Only this says by itself that the
+            contract rules the body out
+  premise   refused: what the body calls, or computes, has a premise that does not hold there
+  answer    refused: a proof written by hand no longer fits, as after a harmless change too. It was tried again without that
+            proof, and then a goal is left open too, which the row names
+  form      refused: a proof names something that the body removed, or the body adds a function without an `ensures`, of which
+            a proof knows nothing
+  PASSED    the crate is proved with it, or would be without a proof written by hand: the contract is too weak
   BAD       it cannot be applied, or the check ended without a verdict, or not within an hour
 
 Results are kept in out/wrong_bodies, by a checksum of the body, of its crate and the crates below it, and of the kit.
@@ -39,11 +44,16 @@ import time
 ROOT = os.path.dirname(os.path.dirname(os.path.abspath(__file__)))
 BODIES = os.path.join(ROOT, "tools", "wrong_bodies")
 KEPT = os.path.join(ROOT, "out", "wrong_bodies")
-WORDS = ("goal", "name", "PASSED", "BAD")
+WORDS = ("clause", "premise", "answer", "form", "PASSED", "BAD")
 # How long a check may take.
 SECONDS = 3600
 # What a proof says that names something which is gone.
 LOST_NAME = re.compile(r"(\./)?proofs/.*(has no field|is not in scope|has no `|was not admitted)")
+# What a check says of a goal that is left open in the code, and the goals that are clauses of the function, or promises of its type.
+OPEN = re.compile(r"note: (?:\./)?src/\S+:\d+:\d+: .*\(`([^`]+)`\)")
+OWN = re.compile(r"(returns|invariant_of)\b")
+# What it says of a proof written by hand, which does not fit.
+MISFIT = re.compile(r"(?:\./)?(proofs/\S+\.antt):\d+:\d+: error")
 
 
 @functools.cache
@@ -162,8 +172,22 @@ def edited(body, folder):
     return texts, None if None in names else names
 
 
-def verdict(status, said, changed):
-    """What a check's output says of a body: one of the four words, and the line that shows it."""
+def adds_a_helper(body):
+    """Whether a body adds a function of which no clause says what it does."""
+    with open(body, encoding="utf-8") as file:
+        lines = file.read().split("\n")
+    old = [len(re.findall(r"\bfn \w+", line)) for line in lines if line.startswith("old: ")]
+    new = [line for line in lines if line.startswith("new:")]
+    return any(len(re.findall(r"\bfn \w+", it)) > was and it.count("ensures") < len(re.findall(r"\bfn \w+", it)) - was for it, was in zip(new, old))
+
+
+def misfits(said):
+    """The files of proofs written by hand that do not fit."""
+    return sorted({it[1] for it in map(MISFIT.match, said.split("\n")) if it})
+
+
+def verdict(status, said, changed, helper=False):
+    """What a check's output says of a body: one of the words, and the line that shows it."""
     lines = said.rstrip("\n").split("\n")
     if status == 0:
         return "PASSED", ""
@@ -176,10 +200,18 @@ def verdict(status, said, changed):
         at = re.match(r"(?:\./)?(\S+?):\d+:\d+: error: (?!`)(.*)", line)
         if at and (at[1] in changed or at[1].startswith(("src/", "specs/"))):
             return "BAD", line[:160]
-    first = next((line for line in told if not LOST_NAME.match(line)), "")
-    if told and not first:
-        return "name", told[0][:160]
-    return "goal", first[:160]
+    if helper:
+        return "form", next(iter(told), "")[:160]
+    goals = [(it[1], line) for line in told if (it := OPEN.match(line))]
+    lost = [line for line in told if LOST_NAME.match(line)]
+    for word, found in (
+        ("clause", [line for goal, line in goals if OWN.match(goal)]),
+        ("premise", [line for goal, line in goals if not goal.startswith("loop-")]),
+        ("answer", [line for line in told if line not in lost and (MISFIT.match(line) or OPEN.match(line))]),
+    ):
+        if found:
+            return word, found[0][:160]
+    return "form", next(iter(told), "")[:160]
 
 
 def link_or_copy(source, to):
@@ -246,9 +278,30 @@ class Lane:
             if not names:
                 self.kept(crate)
             status, said = self.check(folder, names)
+        word, line = verdict(status, said, texts, adds_a_helper(body))
+        if word == "answer":
+            word, line = self.tried_without(folder, names or (), misfits(said), texts, line)
         for path, text in before.items():
             self.write(folder, path, text)
-        return verdict(status, said, texts)
+        return word, line
+
+    def tried_without(self, folder, names, files, texts, line):
+        """Tries a body again without the answers that do not fit: then some goal is left open too, or else the contract lets it through."""
+        aside = {}
+        for path in files:
+            if os.path.basename(path) == "Answers.antt":
+                with open(os.path.join(folder, path), encoding="utf-8") as file:
+                    aside[path] = file.read()
+                os.remove(os.path.join(folder, path))
+        if not aside:
+            return "answer", line
+        status, said = self.check(folder, names)
+        for path, text in aside.items():
+            self.write(folder, path, text)
+        if status == 0:
+            return "PASSED", f"without {', '.join(aside)}"
+        open_goals = sorted({it[1] for it in map(OPEN.match, said.split("\n")) if it})
+        return "answer", f"{line} (open without it: {', '.join(open_goals) or 'none is told'})"[:240]
 
     @staticmethod
     def check(folder, names):
@@ -267,7 +320,7 @@ class Lane:
 
 
 def show(crate, name, word, line, took):
-    print(f"{word:6} {took:>7}  {crate}/{name}{': ' + line if line else ''}", flush=True)
+    print(f"{word:7} {took:>7}  {crate}/{name}{': ' + line if line else ''}", flush=True)
 
 
 def work(wanted, told, lock, kept):
@@ -333,11 +386,14 @@ def summed(told):
     for (crate, _), (word, took) in told.items():
         sums[crate][word] += 1
         seconds[crate] += took
-    print(f"{'crate':20} {'bodies':>6}" + "".join(f" {word:>6}" for word in WORDS) + "  seconds")
+    print(f"{'crate':20} {'bodies':>6}" + "".join(f" {word:>7}" for word in WORDS) + "  seconds")
     for crate, counts in sorted(sums.items()):
-        print(f"{crate:20} {sum(counts.values()):>6}" + "".join(f" {counts[word]:>6}" for word in WORDS) + f" {seconds[crate]:>8.0f}")
+        print(f"{crate:20} {sum(counts.values()):>6}" + "".join(f" {counts[word]:>7}" for word in WORDS) + f" {seconds[crate]:>8.0f}")
     counts = sum(sums.values(), collections.Counter())
-    print(f"{len(told)} wrong bodies: {counts['goal']} refused at a goal, {counts['name']} at a name, {counts['PASSED']} passed, {counts['BAD']} bad")
+    print(
+        f"{len(told)} wrong bodies refused: {counts['clause']} by a clause, {counts['premise']} at a premise, {counts['answer']} at an answer, "
+        f"{counts['form']} for their form; {counts['PASSED']} passed, {counts['BAD']} bad"
+    )
     return 1 if counts["PASSED"] or counts["BAD"] else 0
 
 

@@ -4,3 +4,4 @@ pub mod Listing
 pub mod Weighing
 pub mod Opening
 pub mod Keeping
+pub mod Lending

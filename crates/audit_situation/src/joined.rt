@@ -12,7 +12,7 @@ pub fn remove_all(joined: &mut BTreeMap<u64, u64>, conns: &Waiters)
     ensures { (q : ℕ) → load_of q joined.new
         ≡ cond (list_any (λ n. n == q) conns.now) None (load_of q joined.old) }
 {
-    for (_, conn) in conns.iter() {
+    for conn in conns.iter() {
         take_waiting(joined, *conn);
     }
 }

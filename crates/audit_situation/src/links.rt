@@ -1,6 +1,6 @@
 //! The open connections, by number.
-ghost use Rattle.std.specs.Prelude.{◌≡◌, ◌^◌, ◌-◌, ◌++◌, ◌∷◌, [], map, true, false, ◌==◌, ◌||◌, IfOk, OnOk, option_map};
-ghost use Rattle.std.specs.List.{find};
+ghost use Rattle.std.specs.Prelude.{◌≡◌, ◌++◌, ◌∷◌, [], map, true, false, ◌==◌, ◌||◌, nat_le, IfOk, OnOk, option_map};
+ghost use Rattle.std.specs.List.{find, list_all};
 ghost use Rattle.std.specs.Option.{option_map_or};
 ghost use Rattle.audit_model.specs.Situation.{Connection, is_overlong, without_number};
 ghost use Rattle.audit_loads.specs.Numbered.{changed_at};
@@ -8,58 +8,59 @@ ghost use Rattle.audit_situation.specs.Listings.{is_listing};
 ghost use Rattle.audit_situation.specs.Standings.{moved_as, fed_with};
 
 use crate::link::{Link, Moving, feed_link, move_link};
-use lru::LruCache;
+use indexmap::IndexMap;
 use std::alloc::{AllocError, Global};
 use std::marker::Model;
 
-/// More connections than any memory has.
-const MANY: usize = 1 << 50;
-
-/// Open connections by number, seen as the list of them in the order in which they were opened.
+/// Open connections by number, seen as the list of them in the order in which they were opened. Each has a higher number than those
+/// before it.
 #[derive(Drop)]
 pub struct Links {
-    cache: LruCache<u64, Link>,
-    ghost unbounded: { cache.cap ≡ 2 ^ 64 - 1 },
-    ghost listing: { is_listing (λ (c : Connection). c.number) cache.entries ≡ true },
+    table: IndexMap<u64, Link>,
+    last: u64,
+    ghost listing: { is_listing (λ (c : Connection). c.number) table.entries ≡ true },
+    ghost past: { list_all (λ e. nat_le e.0 last) table.entries ≡ true },
 }
 
 impl Model for Links {
-    ghost use Rattle.std.specs.Prelude.{List};
+    ghost use Rattle.std.specs.Prelude.{List, nat_lt};
     ghost use Rattle.std.specs.Map.{values_of};
     ghost use Rattle.audit_model.specs.Situation.{Connection};
+    ghost use Rattle.audit_situation.specs.Listings.{ranked};
 
     ghost Value = { List Connection };
 
-    ghost view = { λ l. values_of l.cache.entries };
+    ghost view = { λ l. ranked nat_lt (λ c. c.number) (values_of l.table.entries) };
 }
 
 impl Links {
     /// No connections.
-    pub fn new(alloc: Global) -> Result<Links, AllocError>
-        ensures { IfOk result (λ l. l ≡ []) }
+    pub fn new(alloc: Global) -> Links
+        ensures { result ≡ [] }
     {
-        Ok(Links {
-            cache: LruCache::unbounded(alloc)?,
-        })
+        Links {
+            table: IndexMap::new(alloc),
+            last: 0,
+        }
     }
 
     /// The connection of that number.
     pub fn get(&self, conn: u64) -> Option<&Link>
         ensures { option_map (λ l. l.now) result ≡ find (λ c. c.number == conn) self.now }
     {
-        self.cache.peek(&conn)
+        self.table.get(&conn)
     }
 
-    /// Adds a connection, as the last one. An `Err` is a lack of memory, or one with this number is open.
+    /// Adds a connection, as the last one. An `Err` is a lack of memory, or its number is not above the earlier ones.
     pub fn add(&mut self, link: Link) -> Result<(), AllocError>
         ensures { OnOk result (self.new ≡ self.old ++ link ∷ []) }
     {
         let number = link.number();
-        if self.cache.len() >= MANY || self.cache.contains(&number) {
+        if number <= self.last {
             return Err(AllocError);
         }
-        self.cache.put(number, link)?;
-        self.cache.demote(&number);
+        self.table.insert(number, link)?;
+        self.last = number;
         Ok(())
     }
 
@@ -67,7 +68,7 @@ impl Links {
     pub fn remove(&mut self, conn: u64)
         ensures { self.new ≡ without_number conn self.old }
     {
-        self.cache.pop(&conn);
+        self.table.swap_remove(&conn);
     }
 
     /// Feeds a connection, and returns whether it has to close.
@@ -78,7 +79,7 @@ impl Links {
         ensures fed { OnOk result
             (self.new ≡ map (changed_at (λ c. c.number) conn (fed_with piece.now)) self.old) }
     {
-        match self.cache.peek_mut(&conn) {
+        match self.table.get_mut(&conn) {
             Some(link) => feed_link(link, piece),
             None => Ok(false),
         }
@@ -98,7 +99,7 @@ impl Links {
         ensures moved { OnOk result
             (self.new ≡ map (changed_at (λ c. c.number) conn (moved_as moving.entry)) self.old) }
     {
-        match self.cache.peek_mut(&conn) {
+        match self.table.get_mut(&conn) {
             Some(link) => move_link(alloc, link, moving, quits),
             None => Ok(false),
         }

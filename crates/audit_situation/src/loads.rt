@@ -41,23 +41,23 @@ fn new_load(alloc: Global, number: u64, key: &[u8], conn: u64) -> Result<Pending
         (λ load. load ≡ record { number = number; key = key.now; waiting = conn ∷ [] }) }
 {
     let key = Seq::from_vec(Vec::from_slice(alloc, key)?);
-    let mut waiting = Waiters::new(alloc)?;
+    let mut waiting = Waiters::new(alloc);
     waiting.push(conn)?;
     Ok(Pending::new(number, key, waiting))
 }
 
 impl LoadTable {
     /// No loads.
-    pub fn new(alloc: Global) -> Result<LoadTable, AllocError>
-        ensures { IfOk result (λ l. l ≡ []) }
+    pub fn new(alloc: Global) -> LoadTable
+        ensures { result ≡ [] }
     {
-        Ok(LoadTable {
+        LoadTable {
             alloc,
-            table: Numbered::new(alloc)?,
+            table: Numbered::new(alloc),
             keys: BTreeMap::new(alloc),
             joined: BTreeMap::new(alloc),
             last: 0,
-        })
+        }
     }
 
     /// The load of that number.

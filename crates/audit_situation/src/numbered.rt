@@ -1,63 +1,57 @@
 //! Loads by number.
-ghost use Rattle.std.specs.Prelude.{◌≡◌, ◌^◌, ◌-◌, ◌++◌, ◌∷◌, [], map, true, not, ◌==◌, IfOk, OnOk, OnErr, option_map};
-ghost use Rattle.std.specs.List.{find, filter};
+ghost use Rattle.std.specs.Prelude.{◌≡◌, ◌++◌, ◌∷◌, [], map, true, not, ◌==◌, nat_lt, OnOk, OnErr, option_map};
+ghost use Rattle.std.specs.List.{find, filter, list_all};
 ghost use Rattle.audit_model.specs.Situation.{PendingLoad, without_waiting};
 ghost use Rattle.audit_loads.specs.Numbered.{changed_at};
 ghost use Rattle.audit_situation.specs.Listings.{is_listing};
 
 use crate::pending::Pending;
-use lru::LruCache;
+use indexmap::IndexMap;
 use std::alloc::{AllocError, Global};
 use std::marker::Model;
 
-/// More loads than any memory has.
-const MANY: usize = 1 << 50;
-
-/// Loads by number, seen as the list of them, the newest first.
+/// Loads by number, seen as the list of them, the newest first. Each has a higher number than those that were added before it.
 #[derive(Drop)]
 pub struct Numbered {
-    cache: LruCache<u64, Pending>,
-    ghost unbounded: { cache.cap ≡ 2 ^ 64 - 1 },
-    ghost listing: { is_listing (λ (p : PendingLoad). p.number) cache.entries ≡ true },
+    table: IndexMap<u64, Pending>,
+    ghost listing: { is_listing (λ (p : PendingLoad). p.number) table.entries ≡ true },
 }
 
 impl Model for Numbered {
-    ghost use Rattle.std.specs.Prelude.{List};
+    ghost use Rattle.std.specs.Prelude.{List, nat_lt};
     ghost use Rattle.std.specs.Map.{values_of};
     ghost use Rattle.audit_model.specs.Situation.{PendingLoad};
+    ghost use Rattle.audit_situation.specs.Listings.{ranked};
 
     ghost Value = { List PendingLoad };
 
-    ghost view = { λ n. values_of n.cache.entries };
+    ghost view = { λ n. ranked (λ a b. nat_lt b a) (λ p. p.number) (values_of n.table.entries) };
 }
 
 impl Numbered {
     /// No loads.
-    pub fn new(alloc: Global) -> Result<Numbered, AllocError>
-        ensures { IfOk result (λ n. n ≡ []) }
+    pub fn new(alloc: Global) -> Numbered
+        ensures { result ≡ [] }
     {
-        Ok(Numbered {
-            cache: LruCache::unbounded(alloc)?,
-        })
+        Numbered {
+            table: IndexMap::new(alloc),
+        }
     }
 
     /// The load of that number.
     pub fn get(&self, number: u64) -> Option<&Pending>
         ensures { option_map (λ p. p.now) result ≡ find (λ p. p.number == number) self.now }
     {
-        self.cache.peek(&number)
+        self.table.get(&number)
     }
 
-    /// Adds a load, as the first one. An `Err` is a lack of memory, or there is one with this number.
+    /// Adds a load, as the first one.
     pub fn add(&mut self, load: Pending) -> Result<(), AllocError>
+        requires { list_all (λ p. nat_lt p.number load.number) self.old ≡ true }
         ensures added { OnOk result (self.new ≡ load ∷ self.old) }
         ensures unchanged { OnErr result (self.new ≡ self.old) }
     {
-        let number = load.number();
-        if self.cache.len() >= MANY || self.cache.contains(&number) {
-            return Err(AllocError);
-        }
-        self.cache.put(number, load)?;
+        self.table.insert(load.number(), load)?;
         Ok(())
     }
 
@@ -66,7 +60,7 @@ impl Numbered {
         ensures found { result ≡ find (λ p. p.number == number) self.old }
         ensures rest { self.new ≡ filter (λ p. not (p.number == number)) self.old }
     {
-        self.cache.pop(&number)
+        self.table.swap_remove(&number)
     }
 
     /// A connection waits no more for the load of that number.
@@ -74,7 +68,7 @@ impl Numbered {
         ensures { self.new ≡ map (changed_at (λ p. p.number) number (without_waiting conn))
             self.old }
     {
-        if let Some(load) = self.cache.peek_mut(&number) {
+        if let Some(load) = self.table.get_mut(&number) {
             load.leave(conn);
         }
     }
@@ -85,7 +79,7 @@ impl Numbered {
             (λ p. record p { waiting = p.waiting ++ conn ∷ [] })) self.old) }
         ensures unchanged { OnErr result (self.new ≡ self.old) }
     {
-        match self.cache.peek_mut(&number) {
+        match self.table.get_mut(&number) {
             Some(load) => load.join(conn),
             None => Ok(()),
         }

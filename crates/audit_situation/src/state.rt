@@ -37,8 +37,8 @@ pub fn begin(alloc: Global, made: u64) -> Result<State, AllocError>
         latest: made,
         opened: 0,
         sent: 0,
-        connections: Links::new(alloc)?,
-        pending: LoadTable::new(alloc)?,
+        connections: Links::new(alloc),
+        pending: LoadTable::new(alloc),
         held: Holding::new(alloc)?,
         dropped: false,
     })

@@ -5,6 +5,7 @@
 
 mod auditing;
 pub mod laws;
+pub mod model;
 pub mod records;
 pub mod steps;
 

@@ -1,19 +1,21 @@
 -- A table's entries as slots.
-use Rattle.std.proofs.Common.{◌≡◌, ℕ, suc, zero, ◌-◌, ◌+◌, ◌≤◌, Bool, cond, true, false, not, ◌&&◌, List, [], ◌∷◌, ◌++◌, map, length, take, Option, option_map, Some, None, Result, Ok, Err, OnOk, OnErr, Bor, refl, sym, ap, ◌∙◌, subst, arith}
-use Rattle.std.specs.Option.{option_map_or, option_copied}
-use Rattle.std.specs.Map.{lookup, lookup_entry, remove_entry, set_value}
+use Rattle.std.proofs.Common.{◌≡◌, ℕ, suc, ◌==◌, Bool, cond, true, false, not, nat_lt, List, [], ◌∷◌, ◌++◌, map, length, Option, option_map, Some, None, Result, Ok, Err, OnOk, OnErr, Bor, refl, sym, ap, ◌∙◌, arith, if◌then◌else◌}
+use Rattle.std.specs.Option.{option_copied}
+use Rattle.std.specs.Map.{keys_of, lookup, lookup_key, set_value}
 use Rattle.std.specs.List.{find, list_all}
 use Rattle.std.specs.declared.vec.Vec.{Vec}
 use Rattle.std.specs.declared.alloc.Global.{Global}
 use Rattle.std.proofs.lemmas.Option.{none-some}
-use Rattle.std.proofs.lemmas.Bool.{not-true, not_from_false, and_parts, and_from, false_from_ne_true, both_ways}
-use Rattle.std.proofs.lemmas.List.{map-append, length-append}
+use Rattle.std.proofs.lemmas.Bool.{not-true, and_parts, and_from, false_from_ne_true, both_ways, ltb-true, le-ltb, ne_eqb}
+use Rattle.std.proofs.lemmas.List.{map-append}
 use Rattle.std.proofs.lemmas.Slice.Eq.{bytes_eq-Decides}
+use Rattle.indexmap.specs.IndexMap.{insert_entry, swap_remove_entry}
 use Rattle.audit_model.specs.Bytewise.{same}
-use Rattle.lru.specs.LruCache.{LruCache, lru_cache, put_entries}
-use Rattle.audit_situation.specs.Held.Slots.{HeldSlot, Entry, slot_of, slots_of, slot_at, slots_without, slot_used_at, is_new_key, have_keys_apart}
+use Rattle.audit_situation.specs.Listings.{are_apart, put_ranked}
+use Rattle.audit_situation.specs.Held.Slots.{HeldSlot, Entry, slot_of, slots_of, oldest_first, slot_at, slots_without, slot_used_at, have_keys_apart, have_stamps_apart}
 use Rattle.audit_situation.specs.declared.held.kept.StoredValue.{StoredValue}
-use Rattle.audit_situation.proofs.held.Pushing.{find-behind, find-past, find-before, without-behind, without-past}
+use Rattle.audit_situation.proofs.Ranked.{flip, swap_out, swapped_is, swap_out-map, none-found, found-none, none-out, apart-snoc, apart-out, apart-map, gone-out, rising, ranked-find, ranked-all, all-ranked, ranked-length, ranked-map, ranked-newest_last, swapped-out, found-passes}
+use Rattle.audit_situation.proofs.held.Pushing.{without-none}
 
 abbrev pub is_at : List ℕ → Vec ℕ Global → Bool
 is_at key v = same key v.items
@@ -21,198 +23,245 @@ is_at key v = same key v.items
 abbrev pub item_of : Entry → HeldSlot
 item_of e = slot_of e.0.items e.1
 
+abbrev of_key : List ℕ → HeldSlot → Bool
+of_key key s = same key s.value.key
+
+abbrev same_keys : HeldSlot → HeldSlot → Bool
+same_keys s t = same s.value.key t.value.key
+
 equal : (a b : List ℕ) → same a b ≡ true → a ≡ b
 equal a b e = (bytes_eq-Decides a b).0 e
 
--- ---- where no entry has the key
-
-pub none-new : (key : List ℕ) (es : List Entry) → is_new_key key es ≡ true → slot_at key (slots_of es) ≡ None
-none-new key [] n = refl
-none-new key (e ∷ es) n =
-    let parts = and_parts (not (same key e.0.items)) (is_new_key key es) n in
-    find-past (λ s. same key s.value.key) (slots_of es) (item_of e) (not-true _ parts.0) ∙ none-new key es parts.1
-
-pub new-none : (key : List ℕ) (es : List Entry) → slot_at key (slots_of es) ≡ None → is_new_key key es ≡ true
-new-none key [] n = refl
-new-none key (e ∷ es) n = go (slot_at key (slots_of es)) refl (λ f. new-none key es f)
+turned : (a b : List ℕ) → same a b ≡ same b a
+turned a b = go (same a b) refl
   where
-    other : (b : Bool) → cond b (Some (item_of e)) None ≡ None → not b ≡ true
-    other true h = absurd (none-some (item_of e) (sym h))
-    other false h = refl
+    go : (x : Bool) → same a b ≡ x → x ≡ same b a
+    go true e = sym ((bytes_eq-Decides b a).1 (sym ((bytes_eq-Decides a b).0 e)))
+    go false e = sym (false_from_ne_true (same b a) (λ f. both_ways (same a b) e ((bytes_eq-Decides a b).1 (sym ((bytes_eq-Decides b a).0 f)))))
 
-    go : (o : Option HeldSlot) → slot_at key (slots_of es) ≡ o → (slot_at key (slots_of es) ≡ None → is_new_key key es ≡ true) → (not (same key e.0.items) && is_new_key key es) ≡ true
-    go (Some s) f ih = absurd (none-some s (sym n ∙ find-before (λ s. same key s.value.key) (slots_of es) (item_of e ∷ []) s f))
-    go None f ih = and_from _ _ (other (same key e.0.items) (sym (find-behind (λ s. same key s.value.key) (slots_of es) (item_of e) f) ∙ n)) (ih f)
+passes : (key : List ℕ) (s t : HeldSlot) → of_key key s ≡ true → of_key key t ≡ true → same_keys s t ≡ true
+passes key s t h k = (bytes_eq-Decides s.value.key t.value.key).1 (sym (equal key s.value.key h) ∙ equal key t.value.key k)
 
-none-entry : (key : List ℕ) (es : List Entry) → is_new_key key es ≡ true → lookup_entry (is_at key) es ≡ None
-none-entry key [] n = refl
-none-entry key (e ∷ es) n =
-    let parts = and_parts (not (same key e.0.items)) (is_new_key key es) n in
-    ap (λ b. cond b (Some e) (lookup_entry (is_at key) es)) (not-true _ parts.0) ∙ none-entry key es parts.1
+all-true : {X : Type 0} (xs : List X) → list_all (λ x. true) xs ≡ true
+all-true [] = refl
+all-true (x ∷ xs) = all-true xs
 
-new-lookup : (key : List ℕ) (es : List Entry) → lookup (is_at key) es ≡ None → is_new_key key es ≡ true
-new-lookup key [] n = refl
-new-lookup key (e ∷ es) n = go (same key e.0.items) n (λ h. new-lookup key es h)
-  where
-    go : (b : Bool) → cond b (Some e.1) (lookup (is_at key) es) ≡ None → (lookup (is_at key) es ≡ None → is_new_key key es ≡ true) → (not b && is_new_key key es) ≡ true
-    go true h ih = absurd (none-some e.1 (sym h))
-    go false h ih = ih h
+slots-apart : (es : List Entry) → have_keys_apart es ≡ true → are_apart same_keys (slots_of es) ≡ true
+slots-apart es a = apart-map item_of same_keys es ∙ a
 
--- the entry's key is the one that is looked for, so no other entry has it
-same-new : (key : List ℕ) (e : Entry) (es : List Entry) → same key e.0.items ≡ true → is_new_key e.0.items es ≡ true → is_new_key key es ≡ true
-same-new key e es h n = subst (λ k. is_new_key k es ≡ true) (sym (equal key e.0.items h)) n
+stamps-apart : (es : List Entry) → have_stamps_apart es ≡ true → are_apart (λ s t. s.stamp == t.stamp) (slots_of es) ≡ true
+stamps-apart es a = apart-map item_of (λ s t. s.stamp == t.stamp) es ∙ a
 
 -- ---- look-ups
 
-pub entry_is : (key : List ℕ) (es : List Entry) → have_keys_apart es ≡ true → option_map item_of (lookup_entry (is_at key) es) ≡ slot_at key (slots_of es)
-entry_is key [] a = refl
-entry_is key (e ∷ es) a =
-    let parts = and_parts (is_new_key e.0.items es) (have_keys_apart es) a in
-    go (same key e.0.items) refl parts.0 (entry_is key es parts.1)
+lookup_is : (key : List ℕ) (es : List Entry) → option_map (slot_of key) (lookup (is_at key) es) ≡ slot_at key (slots_of es)
+lookup_is key [] = refl
+lookup_is key (e ∷ es) = go (same key e.0.items) refl (lookup_is key es)
   where
-    go : (b : Bool) → same key e.0.items ≡ b → is_new_key e.0.items es ≡ true → option_map item_of (lookup_entry (is_at key) es) ≡ slot_at key (slots_of es)
-        → option_map item_of (cond b (Some e) (lookup_entry (is_at key) es)) ≡ slot_at key (slots_of es ++ item_of e ∷ [])
-    go true h n ih = sym (find-behind (λ s. same key s.value.key) (slots_of es) (item_of e) (none-new key es (same-new key e es h n)) ∙ ap (λ b. cond b (Some (item_of e)) None) h)
-    go false h n ih = ih ∙ sym (find-past (λ s. same key s.value.key) (slots_of es) (item_of e) h)
+    go : (b : Bool) → same key e.0.items ≡ b → option_map (slot_of key) (lookup (is_at key) es) ≡ slot_at key (slots_of es)
+        → option_map (slot_of key) (cond b (Some e.1) (lookup (is_at key) es)) ≡ cond b (Some (item_of e)) (slot_at key (slots_of es))
+    go true h ih = ap (λ k. Some (slot_of k e.1)) (equal key e.0.items h)
+    go false h ih = ih
 
-pub lookup_is : (key : List ℕ) (es : List Entry) → have_keys_apart es ≡ true → option_map (slot_of key) (lookup (is_at key) es) ≡ slot_at key (slots_of es)
-lookup_is key [] a = refl
-lookup_is key (e ∷ es) a =
-    let parts = and_parts (is_new_key e.0.items es) (have_keys_apart es) a in
-    go (same key e.0.items) refl parts.0 (lookup_is key es parts.1)
-  where
-    go : (b : Bool) → same key e.0.items ≡ b → is_new_key e.0.items es ≡ true → option_map (slot_of key) (lookup (is_at key) es) ≡ slot_at key (slots_of es)
-        → option_map (slot_of key) (cond b (Some e.1) (lookup (is_at key) es)) ≡ slot_at key (slots_of es ++ item_of e ∷ [])
-    go true h n ih =
-        ap (λ k. Some (slot_of k e.1)) (equal key e.0.items h)
-        ∙ sym (find-behind (λ s. same key s.value.key) (slots_of es) (item_of e) (none-new key es (same-new key e es h n)) ∙ ap (λ b. cond b (Some (item_of e)) None) h)
-    go false h n ih = ih ∙ sym (find-past (λ s. same key s.value.key) (slots_of es) (item_of e) h)
+pub found_is : (key : List ℕ) (es : List Entry) → have_keys_apart es ≡ true → option_map (slot_of key) (lookup (is_at key) es) ≡ slot_at key (oldest_first (slots_of es))
+found_is key es a = lookup_is key es ∙ sym (ranked-find nat_lt (λ s. s.stamp) same_keys (of_key key) (passes key) (slots_of es) (slots-apart es a))
 
 -- what a look-up lends
-pub lent_is : (key : List ℕ) (es : List Entry) (r : Option (Bor StoredValue)) → have_keys_apart es ≡ true → option_copied r ≡ lookup (is_at key) es → option_map (λ k. slot_of key k.now) r ≡ slot_at key (slots_of es)
-lent_is key es None a e = ap (option_map (slot_of key)) e ∙ lookup_is key es a
-lent_is key es (Some k) a e = ap (option_map (slot_of key)) e ∙ lookup_is key es a
+pub lent_is : (key : List ℕ) (es : List Entry) (r : Option (Bor StoredValue)) → have_keys_apart es ≡ true → option_copied r ≡ lookup (is_at key) es → option_map (λ k. slot_of key k.now) r ≡ slot_at key (oldest_first (slots_of es))
+lent_is key es None a e = ap (option_map (slot_of key)) e ∙ found_is key es a
+lent_is key es (Some k) a e = ap (option_map (slot_of key)) e ∙ found_is key es a
 
--- ---- an entry removed
-
-pub removed_is : (key : List ℕ) (es : List Entry) → have_keys_apart es ≡ true → slots_of (remove_entry (is_at key) es) ≡ slots_without key (slots_of es)
-removed_is key [] a = refl
-removed_is key (e ∷ es) a =
-    let parts = and_parts (is_new_key e.0.items es) (have_keys_apart es) a in
-    go (same key e.0.items) refl parts.0 (removed_is key es parts.1)
+key-found : (key : List ℕ) (es : List Entry) (k : Vec ℕ Global) → lookup_key (is_at key) es ≡ Some k → same key k.items ≡ true
+key-found key [] k e = absurd (none-some k e)
+key-found key (d ∷ es) k e = go (same key d.0.items) refl e (key-found key es k)
   where
-    go : (b : Bool) → same key e.0.items ≡ b → is_new_key e.0.items es ≡ true → slots_of (remove_entry (is_at key) es) ≡ slots_without key (slots_of es)
-        → slots_of (cond b es (e ∷ remove_entry (is_at key) es)) ≡ slots_without key (slots_of es ++ item_of e ∷ [])
-    go true h n ih = sym (without-behind (λ s. s.value.key) key (slots_of es) (item_of e) (none-new key es (same-new key e es h n)) h)
-    go false h n ih = ap (λ xs. xs ++ item_of e ∷ []) ih ∙ sym (without-past (λ s. s.value.key) key (slots_of es) (item_of e) h)
+    go : (b : Bool) → same key d.0.items ≡ b → cond b (Some d.0) (lookup_key (is_at key) es) ≡ Some k → (lookup_key (is_at key) es ≡ Some k → same key k.items ≡ true) → same key k.items ≡ true
+    go true h e ih = let is : d.0 ≡ k = cc in ap (λ v. same key v.items) (sym is) ∙ h
+    go false h e ih = ih e
 
-new-removed : (k key : List ℕ) (es : List Entry) → is_new_key k es ≡ true → is_new_key k (remove_entry (is_at key) es) ≡ true
-new-removed k key [] n = refl
-new-removed k key (e ∷ es) n = let parts = and_parts (not (same k e.0.items)) (is_new_key k es) n in go (same key e.0.items) parts.0 parts.1 (new-removed k key es parts.1)
-  where
-    go : (b : Bool) → not (same k e.0.items) ≡ true → is_new_key k es ≡ true → is_new_key k (remove_entry (is_at key) es) ≡ true → is_new_key k (cond b es (e ∷ remove_entry (is_at key) es)) ≡ true
-    go true f r ih = r
-    go false f r ih = and_from _ _ f ih
+-- what a removal gives
+pub taken_is : (key : List ℕ) (es : List Entry) (r : Option Entry) → have_keys_apart es ≡ true → option_map (λ e. e.0) r ≡ lookup_key (is_at key) es → option_map (λ e. e.1) r ≡ lookup (is_at key) es → option_map item_of r ≡ slot_at key (oldest_first (slots_of es))
+taken_is key es None a k v = ap (option_map (slot_of key)) v ∙ found_is key es a
+taken_is key es (Some e) a k v = ap (λ n. Some (slot_of n e.1)) (sym (equal key e.0.items (key-found key es e.0 (sym k)))) ∙ ap (option_map (slot_of key)) v ∙ found_is key es a
 
-pub apart-removed : (key : List ℕ) (es : List Entry) → have_keys_apart es ≡ true → have_keys_apart (remove_entry (is_at key) es) ≡ true
-apart-removed key [] a = refl
-apart-removed key (e ∷ es) a = let parts = and_parts (is_new_key e.0.items es) (have_keys_apart es) a in go (same key e.0.items) parts.0 parts.1 (apart-removed key es parts.1)
+none-lookup : (key : List ℕ) (es : List Entry) → slot_at key (slots_of es) ≡ None → lookup (is_at key) es ≡ None
+none-lookup key [] n = refl
+none-lookup key (e ∷ es) n = go (same key e.0.items) n (none-lookup key es)
   where
-    go : (b : Bool) → is_new_key e.0.items es ≡ true → have_keys_apart es ≡ true → have_keys_apart (remove_entry (is_at key) es) ≡ true → have_keys_apart (cond b es (e ∷ remove_entry (is_at key) es)) ≡ true
-    go true f r ih = r
-    go false f r ih = and_from _ _ (new-removed e.0.items key es f) ih
+    go : (b : Bool) → cond b (Some (item_of e)) (slot_at key (slots_of es)) ≡ None → (slot_at key (slots_of es) ≡ None → lookup (is_at key) es ≡ None) → cond b (Some e.1) (lookup (is_at key) es) ≡ None
+    go true n ih = absurd (none-some (item_of e) (sym n))
+    go false n ih = ih n
+
+pub none-there : (key : List ℕ) (es : List Entry) → slot_at key (oldest_first (slots_of es)) ≡ None → lookup (is_at key) es ≡ None
+none-there key es n = none-lookup key es (none-found (of_key key) (slots_of es) (all-ranked nat_lt (λ s. s.stamp) (λ s. not (of_key key s)) (slots_of es) (found-none (of_key key) (oldest_first (slots_of es)) n)))
+
+-- ---- an entry removed, whose place the last one takes
+
+pub keys-out : (key : List ℕ) (es : List Entry) → have_keys_apart es ≡ true → have_keys_apart (swap_remove_entry (is_at key) es) ≡ true
+keys-out key es a = ap have_keys_apart (swapped_is (is_at key) es) ∙ apart-out (λ d e. same d.0.items e.0.items) (λ d e. turned d.0.items e.0.items) (λ e. is_at key e.0) es a
+
+pub stamps-out : (key : List ℕ) (es : List Entry) → have_stamps_apart es ≡ true → have_stamps_apart (swap_remove_entry (is_at key) es) ≡ true
+stamps-out key es a = ap have_stamps_apart (swapped_is (is_at key) es) ∙ apart-out (λ d e. d.1.stamp == e.1.stamp) (λ d e. flip d.1.stamp e.1.stamp) (λ e. is_at key e.0) es a
+
+slots-out : (key : List ℕ) (es : List Entry) → slots_of (swap_remove_entry (is_at key) es) ≡ swap_out (of_key key) (slots_of es)
+slots-out key es = ap slots_of (swapped_is (is_at key) es) ∙ swap_out-map item_of (λ e. true) (λ e. is_at key e.0) (of_key key) (λ e h. refl) es (all-true es)
+
+without-put : (key : List ℕ) (z : HeldSlot) (l : List HeldSlot) → of_key key z ≡ true → list_all (λ s. not (of_key key s)) l ≡ true → slots_without key (put_ranked nat_lt (λ s. s.stamp) z l) ≡ l
+without-put key z [] h n = ap (λ b. if b then [] else z ∷ []) h
+without-put key z (y ∷ ys) h n =
+    let s = and_parts (not (of_key key y)) (list_all (λ s. not (of_key key s)) ys) n in
+    go (nat_lt z.stamp y.stamp) (not-true _ s.0) (without-put key z ys h s.1)
+  where
+    go : (b : Bool) → of_key key y ≡ false → slots_without key (put_ranked nat_lt (λ s. s.stamp) z ys) ≡ ys → slots_without key (if b then z ∷ y ∷ ys else y ∷ put_ranked nat_lt (λ s. s.stamp) z ys) ≡ y ∷ ys
+    go true f ih = ap (λ b. if b then y ∷ ys else z ∷ slots_without key (y ∷ ys)) h
+    go false f ih = ap (λ b. if b then put_ranked nat_lt (λ s. s.stamp) z ys else y ∷ slots_without key (put_ranked nat_lt (λ s. s.stamp) z ys)) f ∙ ap (λ l. y ∷ l) ih
+
+left : (key : List ℕ) (slots : List HeldSlot) → are_apart same_keys slots ≡ true → are_apart (λ s t. s.stamp == t.stamp) slots ≡ true → oldest_first (swap_out (of_key key) slots) ≡ slots_without key (oldest_first slots)
+left key slots a b = go (find (of_key key) slots) refl
+  where
+    go : (o : Option HeldSlot) → find (of_key key) slots ≡ o → oldest_first (swap_out (of_key key) slots) ≡ slots_without key (oldest_first slots)
+    go None e =
+        ap oldest_first (none-out (of_key key) slots e)
+        ∙ sym (without-none (λ s. s.value.key) key (oldest_first slots) (ranked-find nat_lt (λ s. s.stamp) same_keys (of_key key) (passes key) slots a ∙ e))
+    go (Some z) e =
+        sym (ap (slots_without key) (swapped-out nat_lt rising (λ s. s.stamp) (of_key key) slots z b e)
+        ∙ without-put key z (oldest_first (swap_out (of_key key) slots)) (found-passes (of_key key) slots z e)
+        (ranked-all nat_lt (λ s. s.stamp) (λ s. not (of_key key s)) (swap_out (of_key key) slots) (gone-out same_keys (of_key key) (passes key) slots a)))
+
+pub left_is : (key : List ℕ) (es : List Entry) → have_keys_apart es ≡ true → have_stamps_apart es ≡ true → oldest_first (slots_of (swap_remove_entry (is_at key) es)) ≡ slots_without key (oldest_first (slots_of es))
+left_is key es a b = ap oldest_first (slots-out key es) ∙ left key (slots_of es) (slots-apart es a) (stamps-apart es b)
+
+pub gone : (key : List ℕ) (es : List Entry) → have_keys_apart es ≡ true → have_stamps_apart es ≡ true → slot_at key (slots_without key (oldest_first (slots_of es))) ≡ None
+gone key es a b =
+    ap (slot_at key) (sym (left key (slots_of es) (slots-apart es a) (stamps-apart es b)))
+    ∙ none-found (of_key key) (oldest_first (swap_out (of_key key) (slots_of es)))
+    (ranked-all nat_lt (λ s. s.stamp) (λ s. not (of_key key s)) (swap_out (of_key key) (slots_of es)) (gone-out same_keys (of_key key) (passes key) (slots_of es) (slots-apart es a)))
 
 -- ---- an entry used
 
-map-new : (key : List ℕ) (now : ℕ) (es : List Entry) → is_new_key key es ≡ true → map (slot_used_at key now) (slots_of es) ≡ slots_of es
-map-new key now [] n = refl
-map-new key now (e ∷ es) n =
-    let parts = and_parts (not (same key e.0.items)) (is_new_key key es) n in
-    map-append (slot_used_at key now) (slots_of es) (item_of e ∷ [])
-    ∙ ap (λ xs. xs ++ slot_used_at key now (item_of e) ∷ []) (map-new key now es parts.1)
-    ∙ ap (λ b. slots_of es ++ cond b (record (item_of e) { last_use = now }) (item_of e) ∷ []) (not-true _ parts.0)
-
-pub unused_is : (key : List ℕ) (now : ℕ) (es : List Entry) → lookup (is_at key) es ≡ None → slots_of es ≡ map (slot_used_at key now) (slots_of es)
-unused_is key now es n = sym (map-new key now es (new-lookup key es n))
-
-pub used_is : (key : List ℕ) (now : ℕ) (es : List Entry) (kept : StoredValue) → have_keys_apart es ≡ true → lookup (is_at key) es ≡ Some kept
-    → slots_of (set_value (is_at key) es (record kept { last_use = now })) ≡ map (slot_used_at key now) (slots_of es)
-used_is key now [] kept a f = absurd (none-some kept f)
-used_is key now (e ∷ es) kept a f =
-    let parts = and_parts (is_new_key e.0.items es) (have_keys_apart es) a in
-    go (same key e.0.items) refl parts.0 f (used_is key now es kept parts.1) ∙ sym (map-append (slot_used_at key now) (slots_of es) (item_of e ∷ []))
+keeps-stamp : (key : List ℕ) (now : ℕ) (s : HeldSlot) → (slot_used_at key now s).stamp ≡ s.stamp
+keeps-stamp key now s = go (same key s.value.key)
   where
-    go : (b : Bool) → same key e.0.items ≡ b → is_new_key e.0.items es ≡ true → cond b (Some e.1) (lookup (is_at key) es) ≡ Some kept
+    go : (b : Bool) → (if b then record s { last_use = now } else s).stamp ≡ s.stamp
+    go true = refl
+    go false = refl
+
+unused : (key : List ℕ) (now : ℕ) (slots : List HeldSlot) → list_all (λ s. not (of_key key s)) slots ≡ true → map (slot_used_at key now) slots ≡ slots
+unused key now [] n = refl
+unused key now (s ∷ slots) n =
+    let parts = and_parts (not (of_key key s)) (list_all (λ s. not (of_key key s)) slots) n in
+    ap (λ b. cond b (record s { last_use = now }) s ∷ map (slot_used_at key now) slots) (not-true _ parts.0) ∙ ap (λ l. s ∷ l) (unused key now slots parts.1)
+
+missing : (key : List ℕ) (es : List Entry) → lookup (is_at key) es ≡ None → list_all (λ s. not (of_key key s)) (slots_of es) ≡ true
+missing key es n = found-none (of_key key) (slots_of es) (sym (lookup_is key es) ∙ ap (option_map (slot_of key)) n)
+
+pub unused_is : (key : List ℕ) (now : ℕ) (es : List Entry) → lookup (is_at key) es ≡ None → oldest_first (slots_of es) ≡ map (slot_used_at key now) (oldest_first (slots_of es))
+unused_is key now es n = sym (unused key now (oldest_first (slots_of es)) (ranked-all nat_lt (λ s. s.stamp) (λ s. not (of_key key s)) (slots_of es) (missing key es n)))
+
+used : (key : List ℕ) (now : ℕ) (es : List Entry) (kept : StoredValue) → have_keys_apart es ≡ true → lookup (is_at key) es ≡ Some kept
+    → slots_of (set_value (is_at key) es (record kept { last_use = now })) ≡ map (slot_used_at key now) (slots_of es)
+used key now [] kept a f = absurd (none-some kept f)
+used key now (e ∷ es) kept a f =
+    let parts = and_parts (list_all (λ d. not (same e.0.items d.0.items)) es) (have_keys_apart es) a in
+    go (same key e.0.items) refl parts.0 f (used key now es kept parts.1)
+  where
+    others : same key e.0.items ≡ true → (ds : List Entry) → list_all (λ d. not (same e.0.items d.0.items)) ds ≡ true → list_all (λ s. not (of_key key s)) (slots_of ds) ≡ true
+    others h [] n = refl
+    others h (d ∷ ds) n =
+        let parts = and_parts (not (same e.0.items d.0.items)) (list_all (λ d. not (same e.0.items d.0.items)) ds) n in
+        and_from _ _ (ap (λ k. not (same k d.0.items)) (equal key e.0.items h) ∙ parts.0) (others h ds parts.1)
+
+    go : (b : Bool) → same key e.0.items ≡ b → list_all (λ d. not (same e.0.items d.0.items)) es ≡ true → cond b (Some e.1) (lookup (is_at key) es) ≡ Some kept
         → (lookup (is_at key) es ≡ Some kept → slots_of (set_value (is_at key) es (record kept { last_use = now })) ≡ map (slot_used_at key now) (slots_of es))
-        → slots_of (cond b ((e.0, record kept { last_use = now }) ∷ es) (e ∷ set_value (is_at key) es (record kept { last_use = now }))) ≡ map (slot_used_at key now) (slots_of es) ++ slot_used_at key now (item_of e) ∷ []
+        → slots_of (cond b ((e.0, record kept { last_use = now }) ∷ es) (e ∷ set_value (is_at key) es (record kept { last_use = now }))) ≡ cond b (record (item_of e) { last_use = now }) (item_of e) ∷ map (slot_used_at key now) (slots_of es)
     go true h n f ih =
         let is : e.1 ≡ kept = cc in
-        ap (λ xs. xs ++ slot_of e.0.items (record kept { last_use = now }) ∷ []) (sym (map-new key now es (same-new key e es h n)))
-        ∙ ap (λ (k : StoredValue). map (slot_used_at key now) (slots_of es) ++ slot_of e.0.items (record k { last_use = now }) ∷ []) (sym is)
-        ∙ sym (ap (λ b. map (slot_used_at key now) (slots_of es) ++ cond b (record (item_of e) { last_use = now }) (item_of e) ∷ []) h)
-    go false h n f ih =
-        ap (λ xs. xs ++ item_of e ∷ []) (ih f) ∙ sym (ap (λ b. map (slot_used_at key now) (slots_of es) ++ cond b (record (item_of e) { last_use = now }) (item_of e) ∷ []) h)
+        ap (λ (k : StoredValue). slot_of e.0.items (record k { last_use = now }) ∷ slots_of es) (sym is)
+        ∙ ap (λ l. record (item_of e) { last_use = now } ∷ l) (sym (unused key now (slots_of es) (others h es n)))
+    go false h n f ih = ap (λ l. item_of e ∷ l) (ih f)
 
-new-set : (k key : List ℕ) (es : List Entry) (kept : StoredValue) → is_new_key k (set_value (is_at key) es kept) ≡ is_new_key k es
-new-set k key [] kept = refl
-new-set k key (e ∷ es) kept = go (same key e.0.items) (new-set k key es kept)
-  where
-    go : (b : Bool) → is_new_key k (set_value (is_at key) es kept) ≡ is_new_key k es → is_new_key k (cond b ((e.0, kept) ∷ es) (e ∷ set_value (is_at key) es kept)) ≡ (not (same k e.0.items) && is_new_key k es)
-    go true ih = refl
-    go false ih = ap (λ b. not (same k e.0.items) && b) ih
+pub used_is : (key : List ℕ) (now : ℕ) (es : List Entry) (kept : StoredValue) → have_keys_apart es ≡ true → lookup (is_at key) es ≡ Some kept
+    → oldest_first (slots_of (set_value (is_at key) es (record kept { last_use = now }))) ≡ map (slot_used_at key now) (oldest_first (slots_of es))
+used_is key now es kept a f = ap oldest_first (used key now es kept a f) ∙ ranked-map nat_lt (λ s. s.stamp) (λ s. s.stamp) (slot_used_at key now) (keeps-stamp key now) (slots_of es)
 
-pub apart-set : (key : List ℕ) (es : List Entry) (kept : StoredValue) → have_keys_apart (set_value (is_at key) es kept) ≡ have_keys_apart es
-apart-set key [] kept = refl
-apart-set key (e ∷ es) kept = go (same key e.0.items) (apart-set key es kept)
+pub keys-set : (es fs : List Entry) → keys_of fs ≡ keys_of es → have_keys_apart es ≡ true → have_keys_apart fs ≡ true
+keys-set es fs same_keys a =
+    sym (apart-map (λ (e : Entry). e.0) (λ k l. same k.items l.items) fs) ∙ ap (are_apart (λ k l. same k.items l.items)) same_keys ∙ apart-map (λ (e : Entry). e.0) (λ k l. same k.items l.items) es ∙ a
+
+same-stamps : (key : List ℕ) (es : List Entry) (kept new : StoredValue) → lookup (is_at key) es ≡ Some kept → new.stamp ≡ kept.stamp → map (λ e. e.1.stamp) (set_value (is_at key) es new) ≡ map (λ e. e.1.stamp) es
+same-stamps key [] kept new f k = refl
+same-stamps key (e ∷ es) kept new f k = go (same key e.0.items) f (same-stamps key es kept new)
   where
-    go : (b : Bool) → have_keys_apart (set_value (is_at key) es kept) ≡ have_keys_apart es → have_keys_apart (cond b ((e.0, kept) ∷ es) (e ∷ set_value (is_at key) es kept)) ≡ (is_new_key e.0.items es && have_keys_apart es)
-    go true ih = refl
-    go false ih = ap (λ b. b && have_keys_apart (set_value (is_at key) es kept)) (new-set e.0.items key es kept) ∙ ap (λ b. is_new_key e.0.items es && b) ih
+    go : (b : Bool) → cond b (Some e.1) (lookup (is_at key) es) ≡ Some kept → (lookup (is_at key) es ≡ Some kept → new.stamp ≡ kept.stamp → map (λ d. d.1.stamp) (set_value (is_at key) es new) ≡ map (λ d. d.1.stamp) es)
+        → map (λ d. d.1.stamp) (cond b ((e.0, new) ∷ es) (e ∷ set_value (is_at key) es new)) ≡ e.1.stamp ∷ map (λ d. d.1.stamp) es
+    go true f ih = let is : e.1 ≡ kept = cc in ap (λ n. n ∷ map (λ d. d.1.stamp) es) (k ∙ ap (λ (v : StoredValue). v.stamp) (sym is))
+    go false f ih = ap (λ l. e.1.stamp ∷ l) (ih f k)
+
+pub stamps-set : (key : List ℕ) (es : List Entry) (kept new : StoredValue) → lookup (is_at key) es ≡ Some kept → new.stamp ≡ kept.stamp → have_stamps_apart es ≡ true → have_stamps_apart (set_value (is_at key) es new) ≡ true
+stamps-set key es kept new f k a =
+    sym (apart-map (λ (e : Entry). e.1.stamp) (λ m n. m == n) (set_value (is_at key) es new)) ∙ ap (are_apart (λ m n. m == n)) (same-stamps key es kept new f k) ∙ apart-map (λ (e : Entry). e.1.stamp) (λ m n. m == n) es ∙ a
 
 -- ---- an entry added
 
-take-all : {A : Type 0} (n : ℕ) (xs : List A) → length xs ≤ n → take n xs ≡ xs
-take-all zero [] h = refl
-take-all (suc n) [] h = refl
-take-all zero (x ∷ xs) h = absurd (omega arith)
-take-all (suc n) (x ∷ xs) h = ap (λ ys. x ∷ ys) (take-all n xs (omega arith))
+module _ (es : List Entry) (key : Vec ℕ Global) (kept : StoredValue) where
+  abbrev more : List Entry
+  more = es ++ (key, kept) ∷ []
 
--- there is room for any number of entries, and the new one goes first
-pub put_is : (es : List Entry) (cap : ℕ) (key : Vec ℕ Global) (kept : StoredValue) → cap ≡ 18446744073709551615 → length es ≤ 1125899906842624 → slot_at key.items (slots_of es) ≡ None
-    → put_entries (λ (x y : Vec ℕ Global). same x.items y.items) (lru_cache es cap) key kept ≡ (key, kept) ∷ es
-put_is es cap key kept c few absent =
-    ap (λ o. option_map_or (λ (e : Entry). (e.0, kept) ∷ remove_entry (is_at key.items) es) o ((key, kept) ∷ take (cap - 1) es)) (none-entry key.items es (new-none key.items es absent))
-    ∙ ap (λ xs. (key, kept) ∷ xs) (take-all (cap - 1) es (omega arith))
+  pub inserted : slot_at key.items (oldest_first (slots_of es)) ≡ None → insert_entry (λ (x y : Vec ℕ Global). same x.items y.items) es key kept ≡ more
+  inserted n = go es (none-there key.items es n)
+    where
+      at : (d : Entry) (ds : List Entry) (b : Bool) → cond b (Some d.1) (lookup (is_at key.items) ds) ≡ None → (lookup (is_at key.items) ds ≡ None → insert_entry (λ (x y : Vec ℕ Global). same x.items y.items) ds key kept ≡ ds ++ (key, kept) ∷ [])
+          → (if b then (d.0, kept) ∷ ds else d ∷ insert_entry (λ (x y : Vec ℕ Global). same x.items y.items) ds key kept) ≡ d ∷ (ds ++ (key, kept) ∷ [])
+      at d ds true e ih = absurd (none-some d.1 (sym e))
+      at d ds false e ih = ap (λ l. d ∷ l) (ih e)
 
-pub apart-put : (es : List Entry) (key : Vec ℕ Global) (kept : StoredValue) → have_keys_apart es ≡ true → slot_at key.items (slots_of es) ≡ None → have_keys_apart ((key, kept) ∷ es) ≡ true
-apart-put es key kept a absent = and_from _ _ (new-none key.items es absent) a
+      go : (ds : List Entry) → lookup (is_at key.items) ds ≡ None → insert_entry (λ (x y : Vec ℕ Global). same x.items y.items) ds key kept ≡ ds ++ (key, kept) ∷ []
+      go [] e = refl
+      go (d ∷ ds) e = at d ds (same key.items d.0.items) e (go ds)
 
--- a `put` of a new key, which may be refused
-pub apart-after : (es : List Entry) (cap : ℕ) (key : Vec ℕ Global) (kept : StoredValue) (new : LruCache (Vec ℕ Global) StoredValue) {E : Type 0} (r : Result (Option StoredValue) E)
-    → cap ≡ 18446744073709551615 → length es ≤ 1125899906842624 → have_keys_apart es ≡ true → slot_at key.items (slots_of es) ≡ None
-    → OnOk r (new ≡ lru_cache (put_entries (λ (x y : Vec ℕ Global). same x.items y.items) (lru_cache es cap) key kept) cap) → OnErr r (new ≡ lru_cache es cap)
-    → (new.cap ≡ 18446744073709551615) × (have_keys_apart new.entries ≡ true)
-apart-after es cap key kept new (Ok old) c few a absent ok err =
-    let is : new ≡ lru_cache ((key, kept) ∷ es) cap = ok ∙ ap (λ xs. lru_cache xs cap) (put_is es cap key kept c few absent) in
-    rw is (c, apart-put es key kept a absent)
-apart-after es cap key kept new (Err e) c few a absent ok err = rw err (c, a)
+  entries-other : (ds : List Entry) → list_all (λ s. not (of_key key.items s)) (slots_of ds) ≡ true → list_all (λ e. not (same key.items e.0.items)) ds ≡ true
+  entries-other [] h = refl
+  entries-other (d ∷ ds) h = let s = and_parts (not (same key.items d.0.items)) (list_all (λ s. not (of_key key.items s)) (slots_of ds)) h in and_from _ _ s.0 (entries-other ds s.1)
 
-pub length-slots : (es : List Entry) → length (slots_of es) ≡ length es
-length-slots [] = refl
-length-slots (e ∷ es) = length-append (slots_of es) (item_of e ∷ []) ∙ ap (λ n. n + 1) (length-slots es) ∙ one-more (length es)
+  pub keys-more : have_keys_apart es ≡ true → slot_at key.items (oldest_first (slots_of es)) ≡ None → have_keys_apart more ≡ true
+  keys-more a n = apart-snoc (λ d e. same d.0.items e.0.items) (λ d e. turned d.0.items e.0.items) es (key, kept) a (entries-other es (missing key.items es (none-there key.items es n)))
+
+  below : list_all (λ s. nat_lt s.stamp kept.stamp) (oldest_first (slots_of es)) ≡ true → list_all (λ s. nat_lt s.stamp kept.stamp) (slots_of es) ≡ true
+  below h = all-ranked nat_lt (λ s. s.stamp) (λ s. nat_lt s.stamp kept.stamp) (slots_of es) h
+
+  other-stamps : (ds : List Entry) → list_all (λ s. nat_lt s.stamp kept.stamp) (slots_of ds) ≡ true → list_all (λ e. not (kept.stamp == e.1.stamp)) ds ≡ true
+  other-stamps [] h = refl
+  other-stamps (d ∷ ds) h =
+      let s = and_parts (nat_lt d.1.stamp kept.stamp) (list_all (λ s. nat_lt s.stamp kept.stamp) (slots_of ds)) h in
+      let lt = ltb-true d.1.stamp kept.stamp s.0 in
+      and_from _ _ (ap not (ne_eqb kept.stamp d.1.stamp (λ same. absurd (omega arith)))) (other-stamps ds s.1)
+
+  pub stamps-more : have_stamps_apart es ≡ true → list_all (λ s. nat_lt s.stamp kept.stamp) (oldest_first (slots_of es)) ≡ true → have_stamps_apart more ≡ true
+  stamps-more a h = apart-snoc (λ d e. d.1.stamp == e.1.stamp) (λ d e. flip d.1.stamp e.1.stamp) es (key, kept) a (other-stamps es (below h))
+
+  slot-others : (l : List HeldSlot) → list_all (λ s. nat_lt s.stamp kept.stamp) l ≡ true → (list_all (λ s. not (kept.stamp == s.stamp)) l ≡ true) × (list_all (λ s. not (nat_lt kept.stamp s.stamp)) l ≡ true)
+  slot-others [] h = (refl, refl)
+  slot-others (s ∷ l) h =
+      let p = and_parts (nat_lt s.stamp kept.stamp) (list_all (λ s. nat_lt s.stamp kept.stamp) l) h in
+      let lt = ltb-true s.stamp kept.stamp p.0 in
+      let r = slot-others l p.1 in
+      (and_from _ _ (ap not (ne_eqb kept.stamp s.stamp (λ same. absurd (omega arith)))) r.0, and_from _ _ (ap not (le-ltb kept.stamp s.stamp (omega arith))) r.1)
+
+  pub added_is : list_all (λ s. nat_lt s.stamp kept.stamp) (oldest_first (slots_of es)) ≡ true → oldest_first (slots_of more) ≡ oldest_first (slots_of es) ++ slot_of key.items kept ∷ []
+  added_is h =
+      let o = slot-others (slots_of es) (below h) in
+      ap oldest_first (map-append item_of es ((key, kept) ∷ [])) ∙ ranked-newest_last nat_lt rising (λ s. s.stamp) (slots_of es) (slot_of key.items kept) o.0 o.1
+
+  -- an insertion, which may be refused
+  pub after-insert : {A E : Type 0} (fs : List Entry) (r : Result A E) → have_keys_apart es ≡ true → have_stamps_apart es ≡ true → slot_at key.items (oldest_first (slots_of es)) ≡ None
+      → list_all (λ s. nat_lt s.stamp kept.stamp) (oldest_first (slots_of es)) ≡ true
+      → OnOk r (fs ≡ insert_entry (λ (x y : Vec ℕ Global). same x.items y.items) es key kept) → OnErr r (fs ≡ es) → (have_keys_apart fs ≡ true) × (have_stamps_apart fs ≡ true)
+  after-insert fs (Ok x) a b n h ok err = let is = ok ∙ inserted n in (ap have_keys_apart is ∙ keys-more a n, ap have_stamps_apart is ∙ stamps-more b h)
+  after-insert fs (Err x) a b n h ok err = (ap have_keys_apart err ∙ a, ap have_stamps_apart err ∙ b)
+
+pub length-slots : (es : List Entry) → length (oldest_first (slots_of es)) ≡ length es
+length-slots es = ranked-length nat_lt (λ s. s.stamp) (slots_of es) ∙ go es
   where
-    one-more : (n : ℕ) → n + 1 ≡ suc n
-    one-more n = omega arith
-
--- ---- no key twice
-
-new-gone : (key : List ℕ) (es : List Entry) → have_keys_apart es ≡ true → is_new_key key (remove_entry (is_at key) es) ≡ true
-new-gone key [] a = refl
-new-gone key (e ∷ es) a = let parts = and_parts (is_new_key e.0.items es) (have_keys_apart es) a in go (same key e.0.items) refl parts.0 (new-gone key es parts.1)
-  where
-    go : (b : Bool) → same key e.0.items ≡ b → is_new_key e.0.items es ≡ true → is_new_key key (remove_entry (is_at key) es) ≡ true → is_new_key key (cond b es (e ∷ remove_entry (is_at key) es)) ≡ true
-    go true h n ih = same-new key e es h n
-    go false h n ih = and_from _ _ (not_from_false (same key e.0.items) h) ih
-
-pub gone : (key : List ℕ) (es : List Entry) → have_keys_apart es ≡ true → slot_at key (slots_without key (slots_of es)) ≡ None
-gone key es a = ap (slot_at key) (sym (removed_is key es a)) ∙ none-new key (remove_entry (is_at key) es) (new-gone key es a)
+    go : (ds : List Entry) → length (slots_of ds) ≡ length ds
+    go [] = refl
+    go (d ∷ ds) = ap suc (go ds)

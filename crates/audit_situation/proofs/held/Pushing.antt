@@ -1,5 +1,5 @@
 -- Finding, leaving out and changing, one more at the end.
-use Rattle.std.proofs.Common.{◌≡◌, refl, ap, ◌∙◌, sym, Bool, cond, true, false, List, [], ◌∷◌, ◌++◌, Option, Some, None, ℕ}
+use Rattle.std.proofs.Common.{◌≡◌, refl, ap, sym, Bool, cond, true, false, List, [], ◌∷◌, ◌++◌, Some, None, ℕ}
 use Rattle.std.specs.List.{find}
 use Rattle.std.proofs.lemmas.Option.{none-some}
 use Rattle.audit_model.specs.Bytewise.{same}

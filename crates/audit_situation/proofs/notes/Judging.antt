@@ -2,8 +2,7 @@
 use Rattle.std.proofs.Common.{◌≡◌, refl, ap, ◌∙◌, sym, ℕ, Bool, true, false, cond, List, [], ◌∷◌, ◌++◌, map, is_none, not, ◌&&◌, ◌||◌, true≢false, Option, Some, None, option_map, if◌then◌else◌}
 use Rattle.std.specs.Prelude.{IfSome, is_some}
 use Rattle.std.specs.List.{find, list_all}
-use Rattle.std.specs.Option.{option_to_list}
-use Rattle.std.proofs.lemmas.List.Folds.{find-append, list_all-append}
+use Rattle.std.proofs.lemmas.List.Folds.{list_all-append}
 use Rattle.std.proofs.lemmas.Option.{none-some}
 use Rattle.std.proofs.lemmas.Slice.Eq.{bytes_eq-Decides}
 use Rattle.audit_model.specs.Bytewise.{same}
@@ -15,7 +14,7 @@ use Rattle.audit_model.specs.View.{Candidate}
 use Rattle.audit_model.specs.declared.config.Config.{Config}
 use Rattle.audit_model.specs.declared.transcript.Note.{Note}
 use Rattle.audit_situation.proofs.held.Keeping.{find-map, without-map}
-use Rattle.audit_situation.specs.Notes.Scenes.{new_candidate_at, newcomer_in, deed_in, rest_of, may_be_told, candidates_in, TakesFirstValue}
+use Rattle.audit_situation.specs.Notes.Scenes.{new_candidate_at, newcomer_in, rest_of, may_be_told, candidates_in, TakesFirstValue}
 use Rattle.audit_situation.specs.declared.notes.notes.Scene.{Scene}
 
 -- ---- the same bytes

@@ -1,19 +1,19 @@
 -- What a step does to the values that stay.
-use Rattle.std.proofs.Common.{◌≡◌, refl, ap, ◌∙◌, sym, ℕ, ◌+◌, ◌<◌, ◌≤◌, Bool, true, false, cond, not, ◌&&◌, ◌||◌, List, [], ◌∷◌, ◌++◌, map, is_some, Option, Some, None, option_map, nat_lt, if◌then◌else◌, true≢false, arith}
+use Rattle.std.proofs.Common.{◌≡◌, refl, ap, ◌∙◌, sym, ℕ, ◌+◌, Bool, true, false, cond, not, ◌&&◌, ◌||◌, List, [], ◌∷◌, ◌++◌, map, is_some, Option, Some, None, option_map, nat_lt, if◌then◌else◌, true≢false, arith}
 use Rattle.std.specs.Prelude.{◌==◌, IfSome}
 use Rattle.std.specs.List.{find, list_all}
 use Rattle.std.specs.Option.{option_to_list, option_copied}
 use Rattle.std.proofs.Math.Path.{fun_ext}
-use Rattle.std.proofs.lemmas.Bool.{and_parts, eqb-true, eq-eqb}
+use Rattle.std.proofs.lemmas.Bool.{and_parts, eqb-true}
 use Rattle.std.proofs.lemmas.Bool.Decides.{nat_tests}
 use Rattle.std.proofs.lemmas.Option.{none-some}
 use Rattle.std.proofs.lemmas.Simd.{map-map}
 use denote.Bor.{Bor}
 use Rattle.audit_model.specs.Bytewise.{same}
 use Rattle.audit_model.specs.Changes.{newly_held, left_held, all_held_after}
-use Rattle.audit_model.specs.Commands.{Deed, is_this}
+use Rattle.audit_model.specs.Commands.{Deed}
 use Rattle.audit_model.specs.History.{Value}
-use Rattle.audit_model.specs.Notes.{is_over, same_cause, candidates_of, tells_size}
+use Rattle.audit_model.specs.Notes.{is_over, candidates_of}
 use Rattle.audit_model.specs.Situation.{HeldValue, candidate_at, is_live_at}
 use Rattle.audit_model.specs.Values.{without_key}
 use Rattle.audit_model.specs.declared.config.Config.{Config}

@@ -1,6 +1,6 @@
 -- What a part weighs where a newcomer has taken its key's place.
-use Rattle.std.proofs.Common.{◌≡◌, refl, ap, ◌∙◌, sym, ℕ, ◌+◌, ◌-◌, ◌≤◌, ◌&&◌, Bool, true, false, cond, List, [], ◌∷◌, ◌++◌, map, Option, Some, None, option_map, nat_lt, arith, Result, Ok, Err}
-use Rattle.std.specs.Prelude.{◌==◌, is_some, IfOk}
+use Rattle.std.proofs.Common.{◌≡◌, refl, ap, ◌∙◌, sym, ℕ, ◌+◌, ◌-◌, ◌≤◌, ◌&&◌, Bool, true, false, cond, List, [], ◌∷◌, map, Option, Some, None, nat_lt, arith, Result, Ok, Err}
+use Rattle.std.specs.Prelude.{is_some, IfOk}
 use Rattle.std.specs.List.{find}
 use Rattle.std.specs.Option.{option_map_or}
 use Rattle.std.proofs.lemmas.Simd.{map-map}
@@ -13,7 +13,6 @@ use Rattle.audit_model.specs.Values.{without_key}
 use Rattle.audit_model.specs.declared.config.Config.{Config}
 use Rattle.audit_situation.specs.Held.Weights.{weight_if_in, weight_of_part, values_of}
 use Rattle.audit_situation.proofs.held.Weighing.{weight-cons, weight-push}
-use Rattle.audit_situation.specs.Notes.Weights.{AreOverfilled}
 
 swapped : (a w x y : ℕ) → a + x ≡ y → a + (w + x) ≡ w + y
 swapped a w x y e = omega arith

@@ -1,5 +1,5 @@
 -- The parts of keys.
-use Rattle.std.specs.Prelude.{ℕ, Bool, true, ◌==◌, List, ◌∷◌, map, Option, Some, None, if◌then◌else◌, is_some}
+use Rattle.std.specs.Prelude.{ℕ, Bool, true, ◌==◌, List, [], ◌∷◌, ◌++◌, map, Option, Some, None, if◌then◌else◌, is_some}
 use Rattle.std.specs.List.{find}
 use Rattle.std.specs.Option.{option_map, option_map_or}
 use Rattle.std.specs.declared.vec.Vec.{Vec}
@@ -32,7 +32,9 @@ agrees_with parts (Some v) = agrees parts v.key v.part
 -- the parts with that of a key, if it had none
 abbrev pub with_part : List KeyPart → List ℕ → ℕ → List KeyPart
 with_part parts key part =
-    if is_some (part_of_key parts key) then parts else record { key = key; part = part } ∷ parts
+    if is_some (part_of_key parts key)
+    then parts
+    else parts ++ record { key = key; part = part } ∷ []
 
 -- the same of a value, if there is one
 abbrev pub with_value : List KeyPart → Option Value → List KeyPart

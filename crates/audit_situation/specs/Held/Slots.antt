@@ -1,11 +1,12 @@
 -- What a table has.
-use Rattle.std.specs.Prelude.{ℕ, Bool, true, not, ◌&&◌, List, [], ◌∷◌, ◌++◌, Option, if◌then◌else◌}
-use Rattle.std.specs.List.{find, list_all}
+use Rattle.std.specs.Prelude.{ℕ, Bool, ◌==◌, nat_lt, List, map, Option, if◌then◌else◌}
+use Rattle.std.specs.List.{find}
 use Rattle.std.specs.declared.vec.Vec.{Vec}
 use Rattle.std.specs.declared.alloc.Global.{Global}
 use Rattle.audit_model.specs.Bytewise.{same}
 use Rattle.audit_model.specs.History.{Value}
 use Rattle.audit_model.specs.Values.{without_key}
+use Rattle.audit_situation.specs.Listings.{are_apart, ranked}
 use Rattle.audit_situation.specs.declared.held.kept.StoredValue.{StoredValue}
 
 -- a value with its last use, and the number that distinguishes it from values accepted later
@@ -26,10 +27,13 @@ slot_of key kept =
 abbrev pub Entry : Type 0
 Entry = Vec ℕ Global × StoredValue
 
--- the entries, of which the newest comes first, as slots, oldest first
+-- the entries as slots
 abbrev pub slots_of : List Entry → List HeldSlot
-slots_of [] = []
-slots_of (e ∷ es) = slots_of es ++ slot_of e.0.items e.1 ∷ []
+slots_of es = map (λ e. slot_of e.0.items e.1) es
+
+-- the slots in the order in which their values were accepted
+abbrev pub oldest_first : List HeldSlot → List HeldSlot
+oldest_first slots = ranked nat_lt (λ s. s.stamp) slots
 
 -- the key's slot
 abbrev pub slot_at : List ℕ → List HeldSlot → Option HeldSlot
@@ -43,11 +47,10 @@ slots_without key slots = without_key (λ s. s.value.key) key slots
 abbrev pub slot_used_at : List ℕ → ℕ → HeldSlot → HeldSlot
 slot_used_at key now s = if same key s.value.key then record s { last_use = now } else s
 
--- none of the entries has the key
-abbrev pub is_new_key : List ℕ → List Entry → Bool
-is_new_key key es = list_all (λ e. not (same key e.0.items)) es
-
 -- no key occurs twice
 abbrev pub have_keys_apart : List Entry → Bool
-have_keys_apart [] = true
-have_keys_apart (e ∷ es) = is_new_key e.0.items es && have_keys_apart es
+have_keys_apart es = are_apart (λ d e. same d.0.items e.0.items) es
+
+-- no number occurs twice
+abbrev pub have_stamps_apart : List Entry → Bool
+have_stamps_apart es = are_apart (λ d e. d.1.stamp == e.1.stamp) es

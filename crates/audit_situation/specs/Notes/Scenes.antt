@@ -2,7 +2,6 @@
 use Rattle.std.specs.Prelude.{◌≡◌, ℕ, Bool, true, List, [], ◌++◌, map, Option, if◌then◌else◌}
 use Rattle.std.specs.Option.{option_map, option_to_list}
 use Rattle.audit_model.specs.Commands.{Deed}
-use Rattle.audit_model.specs.History.{Value}
 use Rattle.audit_model.specs.Situation.{HeldValue, candidate_at}
 use Rattle.audit_model.specs.Notes.{are_true_notes, is_true_note}
 use Rattle.audit_model.specs.Values.{untold, without_key}

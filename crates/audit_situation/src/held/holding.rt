@@ -17,7 +17,7 @@ use crate::held::sums::{
 use crate::held::table::Table;
 use audit_model::Seq;
 use std::alloc::{AllocError, Global};
-use std::collections::BTreeSet;
+use std::collections::{BTreeMap, BTreeSet};
 use std::marker::Model;
 
 /// The values held, seen as the list of them, oldest first. Each is of one of 256 parts.
@@ -65,20 +65,36 @@ fn lend<'a>(
     }
 }
 
-/// All values of a table as they are lent, the newest first.
-fn lend_all<'a>(
+/// All values of a table as they are lent, by their numbers.
+fn lend_by_number<'a>(
     alloc: Global,
     table: &'a Table,
     keys: &BTreeSet<Vec<u8>>,
     marks: &[u64],
-) -> Result<Vec<Seen<'a>>, AllocError>
-    ensures { IfOk result
-        (λ all. reverse (map held_of all.items) ≡ map (held_by keys.now marks.now) table.now) }
+) -> Result<BTreeMap<u64, Seen<'a>>, AllocError>
+    ensures { IfOk result (λ lent. map (λ e. held_of e.1) lent.entries
+        ≡ map (held_by keys.now marks.now) table.now) }
 {
-    let mut all = Vec::with_capacity(alloc, table.len())?;
+    let mut lent = BTreeMap::new(alloc);
     for (key, kept) in table.iter() {
-        all.push(lend(keys, marks, key.as_slice(), kept))?;
+        lent.insert(kept.stamp, lend(keys, marks, key.as_slice(), kept))?;
     }
+    Ok(lent)
+}
+
+/// The values of a map, from the last one on.
+fn newest_first<'a>(
+    alloc: Global,
+    lent: &BTreeMap<u64, Seen<'a>>,
+) -> Result<Vec<Seen<'a>>, AllocError>
+    ensures { IfOk result (λ all. reverse (map held_of all.items)
+        ≡ map (λ e. held_of e.1) lent.entry.now.entries) }
+{
+    let mut all = Vec::with_capacity(alloc, lent.len())?;
+    for (_, seen) in lent {
+        all.push(*seen)?;
+    }
+    all.reverse();
     Ok(all)
 }
 
@@ -101,7 +117,7 @@ impl Holding {
     {
         Ok(Holding {
             alloc,
-            table: Table::new(alloc)?,
+            table: Table::new(alloc),
             open_keys: BTreeSet::new(alloc),
             marks: vec![in alloc; 0; 256]?,
             weights: vec![in alloc; 0; 256]?,
@@ -211,6 +227,7 @@ impl Holding {
     pub fn lent(&self) -> Result<Vec<Seen<'_>>, AllocError>
         ensures { IfOk result (λ all. reverse (map held_of all.items) ≡ self.now) }
     {
-        lend_all(self.alloc, &self.table, &self.open_keys, &self.marks)
+        let lent = lend_by_number(self.alloc, &self.table, &self.open_keys, &self.marks)?;
+        newest_first(self.alloc, &lent)
     }
 }

@@ -1,20 +1,16 @@
 //! The map from keys to parts.
-ghost use Rattle.std.specs.Prelude.{◌≡◌, ◌∷◌, ◌^◌, ◌-◌, [], true, None, IfOk, OnOk};
+ghost use Rattle.std.specs.Prelude.{◌≡◌, ◌++◌, ◌∷◌, [], None, OnOk};
 ghost use Rattle.audit_situation.specs.Held.Known.{parts_of, part_of_key, agrees, with_part};
 
-use lru::LruCache;
+use indexmap::IndexMap;
 use std::alloc::{AllocError, Global};
 use std::marker::Model;
 
-/// More keys than any memory has.
-const MANY: usize = 1 << 50;
-
-/// Keys with their parts, seen as the list of them, the last one first.
+/// Keys with their parts, seen as the list of them.
 #[derive(Drop)]
 pub struct Parts {
     alloc: Global,
-    cache: LruCache<Vec<u8>, u64>,
-    ghost unbounded: { cache.cap ≡ 2 ^ 64 - 1 },
+    parts: IndexMap<Vec<u8>, u64>,
 }
 
 impl Model for Parts {
@@ -23,25 +19,25 @@ impl Model for Parts {
 
     ghost Value = { List KeyPart };
 
-    ghost view = { λ p. parts_of p.cache.entries };
+    ghost view = { λ p. parts_of p.parts.entries };
 }
 
 impl Parts {
     /// No keys.
-    pub fn new(alloc: Global) -> Result<Parts, AllocError>
-        ensures { IfOk result (λ p. p ≡ []) }
+    pub fn new(alloc: Global) -> Parts
+        ensures { result ≡ [] }
     {
-        Ok(Parts {
+        Parts {
             alloc,
-            cache: LruCache::unbounded(alloc)?,
-        })
+            parts: IndexMap::new(alloc),
+        }
     }
 
     /// The part of a key.
     pub fn get(&self, key: &[u8]) -> Option<u64>
         ensures { result ≡ part_of_key self.now key.now }
     {
-        self.cache.peek(key).copied()
+        self.parts.get(key).copied()
     }
 
     /// Whether a key has that part, or none yet.
@@ -57,12 +53,10 @@ impl Parts {
     /// Adds a key that has no part.
     fn insert(&mut self, key: Vec<u8>, part: u64) -> Result<(), AllocError>
         requires { part_of_key self.old key.items ≡ None }
-        ensures { OnOk result (self.new ≡ record { key = key.items; part = part } ∷ self.old) }
+        ensures { OnOk result
+            (self.new ≡ self.old ++ record { key = key.items; part = part } ∷ []) }
     {
-        if self.cache.len() >= MANY {
-            return Err(AllocError);
-        }
-        self.cache.put(key, part)?;
+        self.parts.insert(key, part)?;
         Ok(())
     }
 

@@ -1,45 +1,44 @@
 //! The map from keys to what is kept, in the order of acceptance.
-ghost use Rattle.std.specs.Prelude.{◌≡◌, ℕ, List, ◌≤◌, ◌^◌, ◌-◌, ◌++◌, ◌∷◌, [], map, true, length, None, IfOk, IfSome, OnOk, OnErr};
+ghost use Rattle.std.specs.Prelude.{◌≡◌, ℕ, List, ◌++◌, ◌∷◌, [], map, true, length, nat_lt, None, IfOk, OnOk, OnErr};
+ghost use Rattle.std.specs.List.{list_all};
 ghost use Rattle.std.specs.Option.{option_map};
 ghost use Rattle.std.specs.Map.Iter.{ShowsInOrder, deref_pair};
 ghost use Rattle.std.specs.declared.vec.Vec.{Vec as Word};
 ghost use Rattle.std.specs.declared.alloc.Global.{Global as Heap};
-ghost use Rattle.audit_situation.specs.Held.Slots.{slot_of, slots_of, slot_at, slots_without, slot_used_at, have_keys_apart};
+ghost use Rattle.audit_situation.specs.Held.Slots.{slot_of, slots_of, oldest_first, slot_at, slots_without, slot_used_at, have_keys_apart, have_stamps_apart};
 ghost use Rattle.audit_situation.specs.declared.held.kept.StoredValue.{StoredValue as Stored};
 
 use crate::held::kept::StoredValue;
-use lru::{Iter, LruCache};
+use indexmap::IndexMap;
+use indexmap::map::Iter;
 use std::alloc::{AllocError, Global};
 use std::marker::Model;
-
-/// More values than any memory has.
-const MANY: usize = 1 << 50;
 
 /// Values by key, seen as the list of their slots, oldest first.
 #[derive(Drop)]
 pub struct Table {
-    cache: LruCache<Vec<u8>, StoredValue>,
-    ghost unbounded: { cache.cap ≡ 2 ^ 64 - 1 },
-    ghost apart: { have_keys_apart cache.entries ≡ true },
+    values: IndexMap<Vec<u8>, StoredValue>,
+    ghost apart: { have_keys_apart values.entries ≡ true },
+    ghost numbered: { have_stamps_apart values.entries ≡ true },
 }
 
 impl Model for Table {
     ghost use Rattle.std.specs.Prelude.{List};
-    ghost use Rattle.audit_situation.specs.Held.Slots.{HeldSlot, slots_of};
+    ghost use Rattle.audit_situation.specs.Held.Slots.{HeldSlot, slots_of, oldest_first};
 
     ghost Value = { List HeldSlot };
 
-    ghost view = { λ t. slots_of t.cache.entries };
+    ghost view = { λ t. oldest_first (slots_of t.values.entries) };
 }
 
 impl Table {
     /// No values.
-    pub fn new(alloc: Global) -> Result<Table, AllocError>
-        ensures { IfOk result (λ t. t ≡ []) }
+    pub fn new(alloc: Global) -> Table
+        ensures { result ≡ [] }
     {
-        Ok(Table {
-            cache: LruCache::unbounded(alloc)?,
-        })
+        Table {
+            values: IndexMap::new(alloc),
+        }
     }
 
     /// How many values there are.
@@ -47,43 +46,42 @@ impl Table {
         ensures number { result ≡ length self.now }
         ensures apart { (key : List ℕ) → slot_at key (slots_without key self.now) ≡ None }
     {
-        self.cache.len()
+        self.values.len()
     }
 
-    /// All values with their keys, from the newest on.
+    /// All values with their keys, in no order.
     pub fn iter(&self) -> Iter<'_, Vec<u8>, StoredValue>
-        ensures rest { slots_of result ≡ self.now }
+        ensures rest { oldest_first (slots_of result) ≡ self.now }
+        ensures numbered { have_stamps_apart result ≡ true }
         ensures runs { ShowsInOrder (deref_pair {K = Word ℕ Heap} {X = Stored}) }
     {
-        self.cache.iter()
+        self.values.iter()
     }
 
     /// What is kept of a key.
     pub fn get(&self, key: &[u8]) -> Option<&StoredValue>
         ensures { option_map (λ kept. slot_of key.now kept.now) result ≡ slot_at key.now self.now }
     {
-        self.cache.peek(key)
+        self.values.get(key)
     }
 
     /// Uses the value of a key, if there is one.
     pub fn use_at(&mut self, key: &[u8], now: u64)
         ensures { self.new ≡ map (slot_used_at key.now now) self.old }
     {
-        if let Some(kept) = self.cache.peek_mut(key) {
+        if let Some(kept) = self.values.get_mut(key) {
             kept.last_use = now;
         }
     }
 
-    /// Adds a value of a key that has none, as the newest. There may be no memory, and no more than 2^50 values.
+    /// Adds a value of a key that has none, as the newest.
     pub fn add(&mut self, key: Vec<u8>, kept: StoredValue) -> Result<(), AllocError>
-        requires { slot_at key.items self.old ≡ None }
+        requires absent { slot_at key.items self.old ≡ None }
+        requires newest { list_all (λ s. nat_lt s.stamp kept.stamp) self.old ≡ true }
         ensures added { OnOk result (self.new ≡ self.old ++ slot_of key.items kept ∷ []) }
         ensures unchanged { OnErr result (self.new ≡ self.old) }
     {
-        if self.cache.len() >= MANY {
-            return Err(AllocError);
-        }
-        self.cache.put(key, kept)?;
+        self.values.insert(key, kept)?;
         Ok(())
     }
 
@@ -92,6 +90,6 @@ impl Table {
         ensures found { option_map (λ e. slot_of e.0.items e.1) result ≡ slot_at key.now self.old }
         ensures rest { self.new ≡ slots_without key.now self.old }
     {
-        self.cache.pop_entry(key)
+        self.values.swap_remove_entry(key)
     }
 }

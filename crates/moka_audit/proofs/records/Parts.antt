@@ -21,8 +21,10 @@ use Rattle.std.specs.List.{find}
 use Rattle.std.specs.Option.{option_map}
 use Rattle.std.specs.Prelude.{is_some}
 use Rattle.std.proofs.lemmas.Bool.{eqb-true, eq-eqb, false_from_ne_true, both_ways}
+use Rattle.std.proofs.lemmas.Option.{none-some}
 use Rattle.std.proofs.lemmas.Slice.Eq.{bytes_eq-Decides}
 use Rattle.audit_situation.specs.Held.Known.{KeyPart, part_of_key, agrees, agrees_with, with_part, with_value}
+use Rattle.audit_situation.proofs.held.Pushing.{find-behind, find-past}
 use Rattle.moka_audit.specs.Records.Auditing.{Reached, audited_steps, audited_record, audited_from, is_taken, reached_by, with_values}
 
 abbrev goes : Value → Value → Bool
@@ -84,14 +86,22 @@ module _ (parts : List KeyPart) (w : Value) (key : List ℕ) (part : ℕ) where
   known-same e = ap (part_of_key parts) ((bytes_eq-Decides key w.key).0 e)
 
   -- the key had no part
-  first-known : part_of_key parts w.key ≡ None → agrees (record { key = w.key; part = w.part } ∷ parts) key part ≡ (agrees parts key part && (here && true))
+  first-known : part_of_key parts w.key ≡ None → agrees (parts ++ record { key = w.key; part = w.part } ∷ []) key part ≡ (agrees parts key part && (here && true))
   first-known none = go (same key w.key) refl
     where
-      go : (b : Bool) → same key w.key ≡ b
-          → option_map_or (λ p. p == part) (option_map (λ (p : KeyPart). p.part) (if b then Some (record { key = w.key; part = w.part }) else find (λ p. same key p.key) parts)) true
-          ≡ (agrees parts key part && (here && true))
-      go true e = sym (ap (λ b. b && (here && true)) (ap (λ o. option_map_or (λ p. p == part) o true) (known-same e ∙ none)) ∙ sym (and-true here) ∙ here-same e)
-      go false e = and-true (agrees parts key part) ∙ sym (ap (λ b. agrees parts key part && (b && true)) (here-other e))
+      unknown : (o : Option KeyPart) → option_map (λ (p : KeyPart). p.part) o ≡ None → o ≡ None
+      unknown None e = refl
+      unknown (Some p) e = absurd (none-some p.part (sym e))
+
+      go : (b : Bool) → same key w.key ≡ b → agrees (parts ++ record { key = w.key; part = w.part } ∷ []) key part ≡ (agrees parts key part && (here && true))
+      go true e =
+          ap (λ o. option_map_or (λ p. p == part) (option_map (λ (p : KeyPart). p.part) o) true)
+          (find-behind (λ (p : KeyPart). same key p.key) parts (record { key = w.key; part = w.part }) (unknown (find (λ p. same key p.key) parts) (known-same e ∙ none))
+          ∙ ap (λ b. if b then Some (record { key = w.key; part = w.part }) else None) e)
+          ∙ sym (ap (λ b. b && (here && true)) (ap (λ o. option_map_or (λ p. p == part) o true) (known-same e ∙ none)) ∙ sym (and-true here) ∙ here-same e)
+      go false e =
+          ap (λ o. option_map_or (λ p. p == part) (option_map (λ (p : KeyPart). p.part) o) true) (find-past (λ (p : KeyPart). same key p.key) parts (record { key = w.key; part = w.part }) e)
+          ∙ and-true (agrees parts key part) ∙ sym (ap (λ b. agrees parts key part && (b && true)) (here-other e))
 
   -- it had this one
   known-before : (q : ℕ) → part_of_key parts w.key ≡ Some q → (q == w.part) ≡ true → agrees parts key part ≡ (agrees parts key part && (here && true))
@@ -107,7 +117,7 @@ module _ (parts : List KeyPart) (w : Value) (key : List ℕ) (part : ℕ) where
   one-more ok = go (part_of_key parts w.key) refl ok
     where
       go : (o : Option ℕ) → part_of_key parts w.key ≡ o → option_map_or (λ p. p == w.part) o true ≡ true
-          → agrees (if is_some o then parts else record { key = w.key; part = w.part } ∷ parts) key part ≡ (agrees parts key part && (here && true))
+          → agrees (if is_some o then parts else parts ++ record { key = w.key; part = w.part } ∷ []) key part ≡ (agrees parts key part && (here && true))
       go None e ok = first-known e
       go (Some q) e ok = known-before q e ok
 

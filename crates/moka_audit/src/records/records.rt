@@ -333,7 +333,7 @@ fn audited_from(
     ensures { IfOk result
         (λ n. n ≡ audited_from config.now [] (shown_situation s.old) 0 records.now) }
 {
-    let mut parts = Parts::new(alloc)?;
+    let mut parts = Parts::new(alloc);
     audited_on(alloc, config, s, &mut parts, records)
 }
 

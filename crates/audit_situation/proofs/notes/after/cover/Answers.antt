@@ -1,4 +1,4 @@
-use Rattle.std.proofs.Common.{refl, ap, ◌∙◌, ◌||◌, Bool, true, false, ◌≡◌, map}
+use Rattle.std.proofs.Common.{refl, ap, ◌∙◌, ◌||◌, Bool, true, false, ◌≡◌}
 use Rattle.audit_situation.specs.Notes.After.{covered_in}
 use Rattle.audit_situation.specs.Notes.Deeds.{covering_by}
 use Rattle.audit_situation.proofs.notes.Passing.{covers-none}

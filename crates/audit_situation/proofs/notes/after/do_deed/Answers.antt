@@ -1,4 +1,4 @@
-use Rattle.std.proofs.Common.{ap, ◌∙◌, sym, subst, ◌≡◌, option_map, refl}
+use Rattle.std.proofs.Common.{ap, ◌∙◌, sym, subst, option_map, refl}
 use Rattle.audit_model.specs.Notes.{tells_size}
 use Rattle.audit_situation.specs.Notes.After.{AreSized, values_to_tell}
 use Rattle.audit_situation.specs.Notes.Deeds.{deed_with}

@@ -1,4 +1,4 @@
-use Rattle.std.proofs.Common.{ap, ◌∙◌, sym, subst, ◌≡◌, ◌+◌, map, ◌≤◌, ℕ, arith}
+use Rattle.std.proofs.Common.{ap, ◌∙◌, ◌≡◌, map, arith}
 use Rattle.audit_model.specs.Notes.{is_over}
 use Rattle.audit_situation.specs.Held.Weights.{values_of}
 use Rattle.audit_situation.proofs.notes.Passing.{mark-none, mark-next, mark-done, values-below, marked_below}

@@ -1,4 +1,4 @@
-use Rattle.std.proofs.Common.{ap, ◌∙◌, sym, option_map, Some, None, Option, map, ◌≡◌, refl, true, false, ◌&&◌}
+use Rattle.std.proofs.Common.{ap, ◌∙◌, sym, option_map, Some, None, Option, map, ◌≡◌, refl, ◌&&◌}
 use Rattle.std.specs.Prelude.{is_some}
 use Rattle.std.specs.List.{find}
 use Rattle.audit_model.specs.Bytewise.{same}

@@ -1,4 +1,4 @@
-use Rattle.std.proofs.Common.{ap, ◌∙◌, sym, ◌+◌, ◌-◌, arith}
+use Rattle.std.proofs.Common.{ap, ◌∙◌, arith}
 use Rattle.std.specs.Option.{option_map_or}
 use Rattle.audit_situation.specs.Held.Weights.{weight_if_in}
 use Rattle.audit_situation.proofs.notes.Weighing.{enough, accepted-weighs}

@@ -1,17 +1,30 @@
-use Rattle.std.proofs.Common.{true, cond, ◌≡◌, ◌++◌, ◌∷◌, [], ◌+◌, sym, ap, ◌∙◌, map, set, get_or, subst}
-use Rattle.std.specs.List.{find}
+use Rattle.std.proofs.Common.{true, cond, ◌≡◌, ℕ, List, ◌++◌, ◌∷◌, [], ◌+◌, ◌&&◌, nat_lt, refl, sym, ap, ◌∙◌, map, set, get_or, subst}
+use Rattle.std.specs.List.{find, list_all}
+use Rattle.std.proofs.lemmas.Bool.{and_parts, and_from}
 use Rattle.audit_model.specs.Bytewise.{same}
 use Rattle.audit_situation.specs.Held.Slots.{HeldSlot, slot_of, slot_at}
-use Rattle.audit_situation.specs.Held.Holds.{held_by, is_open_key, RepresentsHeld}
+use Rattle.audit_situation.specs.Held.Holds.{held_by, is_open_key, are_sound, RepresentsHeld}
 use Rattle.audit_situation.proofs.held.Keeping.{keeps-more, view-more, absent-slot}
 use Rattle.audit_situation.proofs.held.holding.Holding.add.Goals as goal
+
+earlier : (next : ℕ) (slots : List HeldSlot) → are_sound next slots ≡ true → list_all (λ s. nat_lt s.stamp next) slots ≡ true
+earlier next [] h = refl
+earlier next (s ∷ slots) h =
+    let both = and_parts (nat_lt s.stamp next && nat_lt s.value.part 256) (are_sound next slots) h in
+    and_from _ _ (and_parts (nat_lt s.stamp next) (nat_lt s.value.part 256) both.0).0 (earlier next slots both.1)
 
 pub add-requires : goal.add-requires
 add-requires c =
     let inside = c.self.inside in
-    ap (λ (s : HeldSlot). slot_at s.value.key inside.table) c.into_kept-key.ensures
-    ∙ absent-slot inside.open_keys inside.marks.items c.args.held.value.key inside.table
-    (ap (find (λ h. same c.args.held.value.key h.value.key)) c.self.view_is ∙ c.requires.absent)
+    record {
+      absent =
+          ap (λ (s : HeldSlot). slot_at s.value.key inside.table) c.into_kept-key.ensures
+          ∙ absent-slot inside.open_keys inside.marks.items c.args.held.value.key inside.table
+          (ap (find (λ h. same c.args.held.value.key h.value.key)) c.self.view_is ∙ c.requires.absent);
+      newest =
+          ap (λ (s : HeldSlot). list_all (λ (t : HeldSlot). nat_lt t.stamp s.stamp) inside.table) c.into_kept-key.ensures
+          ∙ earlier inside.next inside.table inside.keeps.sound;
+    }
 
 pub invariant_of-self-inside-2 : goal.invariant_of-self-inside-2
 invariant_of-self-inside-2 c =

@@ -4,4 +4,4 @@ use Rattle.audit_situation.proofs.held.Listing.{lent_is}
 use Rattle.audit_situation.proofs.held.table.Table.get.Goals as goal
 
 pub returns : goal.returns
-returns c = lent_is c.args.key.now c.self.inside.cache.entries c.peek.result c.self.inside.apart c.peek.ensures ∙ ap (slot_at c.args.key.now) c.self.view_is
+returns c = lent_is c.args.key.now c.self.inside.values.entries c.get.result c.self.inside.apart c.get.ensures.value ∙ ap (slot_at c.args.key.now) c.self.view_is

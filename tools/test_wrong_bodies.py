@@ -1,0 +1,102 @@
+#!/usr/bin/env python3
+"""Tests of how tools/wrong_bodies.py reads what a check says, without `rt`: `python3 tools/test_wrong_bodies.py`.
+
+The outputs are excerpts of real ones.
+"""
+import pathlib
+import sys
+import tempfile
+import unittest
+
+sys.dont_write_bytecode = True
+sys.path.insert(0, str(pathlib.Path(__file__).resolve().parent))
+import wrong_bodies  # noqa: E402
+
+# A clause of the function is left open at a return, and one is not.
+CLAUSE = """\
+note: src/links.rt:75:5: it is not proved that what the function ensures holds when it returns (`returns-clause-closes`)
+note: a goal may be false even if its line does not say so: rattle seldom finds values that break an equation of lists
+fn audit_situation::links::Links::feed: no proof: expected answers in ./proofs/links/Links/feed/Answers.antt; `search` did not prove `returns-clause-closes`
+only=3 proved=2
+"""
+# What a type promises is left open.
+PROMISE = """\
+note: src/numbered.rt:54:9: `search` found no proof (`invariant_of-self-inside`)
+fn audit_situation::numbered::Numbered::add: no proof: expected answers in ./proofs/numbered/Numbered/add/Answers.antt; `search` did not prove `invariant_of-self-inside`
+only=3 proved=2
+"""
+# What a function calls has a premise.
+PREMISE = """\
+note: src/held/holding.rt:175:9: `search` found no proof (`add-requires`)
+fn audit_situation::held::holding::Holding::add: no proof: expected answers in ./proofs/held/holding/Holding/add/Answers.antt; `search` did not prove `add-requires`
+only=3 proved=2
+"""
+# A proof written by hand has another type.
+ANSWER = """\
+./proofs/held/holding/Holding/add/Answers.antt:12:5: error: `add-requires`: computed as far as they go, the two types are `record {absent : Path ..}`
+  (expected) and `Path (Rattle.std.specs.declared.option.Option.TheVariants.the_data HeldSlot) (find ..) Rattle.std.proofs.Common.None`
+fn audit_situation::held::holding::Holding::add: not proved
+only=3 proved=2
+"""
+# A proof names what is gone.
+LOST = """\
+./proofs/held/holding/Holding/new/Answers.antt:9:93: error: `invariant_of-result`: record `Lts.Past-After-known_told3` has no field `in_ok-new` (nearest: .in_ok-vec, .new)
+fn audit_situation::held::holding::Holding::new: not proved
+only=3 proved=2
+"""
+GONE = """\
+./proofs/numbered/Numbered/add/Answers.antt:9:34: error: `invariant_of-self-inside-2`: `goal.invariant_of-self-inside-2`: module `Goals` has no `invariant_of-self-inside-2` that can be named from here
+fn audit_situation::numbered::Numbered::add: not proved
+only=3 proved=2
+"""
+# The code or its clauses are no Rattle.
+BROKEN = """\
+src/held/holding.rt:90:86: error: `ensures-1`: record `denote.Triple.Both.Both` has no field `entries`
+src/a.rt:3:5: error: cannot find `x` in this scope
+logic=not-proved
+"""
+
+
+class Words(unittest.TestCase):
+    def test_words(self):
+        for word, said in (
+            ("clause", CLAUSE), ("clause", PROMISE), ("premise", PREMISE), ("answer", ANSWER), ("form", LOST), ("form", GONE),
+            # the first way in which it is refused that says most
+            ("clause", PREMISE + CLAUSE), ("clause", ANSWER + CLAUSE), ("premise", LOST + PREMISE), ("answer", LOST + ANSWER),
+        ):
+            with self.subTest(word=word, said=said):
+                self.assertEqual(wrong_bodies.verdict(1, said, ())[0], word)
+
+    def test_the_line_that_shows_it(self):
+        self.assertEqual(wrong_bodies.verdict(1, ANSWER + CLAUSE, ())[1], CLAUSE.split("\n", 1)[0][:160])
+
+    def test_no_refusal(self):
+        self.assertEqual(wrong_bodies.verdict(0, "logic=proved functions=3\n", ()), ("PASSED", ""))
+        self.assertEqual(wrong_bodies.verdict(1, BROKEN, ("src/a.rt",))[0], "BAD")
+        self.assertEqual(wrong_bodies.verdict(1, "rt: no space left\n", ())[0], "BAD")
+
+    def test_a_helper_says_nothing(self):
+        self.assertEqual(wrong_bodies.verdict(1, CLAUSE, (), helper=True)[0], "form")
+
+    def test_answers_that_do_not_fit(self):
+        self.assertEqual(wrong_bodies.misfits(ANSWER + LOST + ANSWER), [
+            "proofs/held/holding/Holding/add/Answers.antt", "proofs/held/holding/Holding/new/Answers.antt",
+        ])
+
+
+class Helpers(unittest.TestCase):
+    def adds(self, text):
+        with tempfile.TemporaryDirectory() as room:
+            body = pathlib.Path(room, "a.edit")
+            body.write_text(text, encoding="utf-8")
+            return wrong_bodies.adds_a_helper(body)
+
+    def test_helpers(self):
+        self.assertTrue(self.adds("file: src/a.rt\nold: pub fn a(\nnew: fn b() -> u64 { 1 } pub fn a(\n"))
+        self.assertFalse(self.adds("file: src/a.rt\nold: pub fn a(\nnew: fn b() -> u64 ensures { result ≡ 1 } { 1 } pub fn a(\n"))
+        self.assertFalse(self.adds("file: src/a.rt\nold: pub fn a(x: u64)\nnew: pub fn a(y: u64)\n"))
+        self.assertFalse(self.adds("file: src/a.rt\nold: a();\nnew: b();\n"))
+
+
+if __name__ == "__main__":
+    unittest.main()
