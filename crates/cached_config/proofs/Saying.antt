@@ -1,8 +1,8 @@
 -- Namespaces and loads that are read one after another.
-use Rattle.std.proofs.Common.{◌≡◌, ℕ, ◌+◌, ◌<◌, List, [], ◌∷◌, ◌++◌, length, take, get_or, String, Global, string_bytes, Bor, Option, Some, None, IfSome, IfNone, option_map, refl, ap, sym, subst, ◌∙◌}
+use Rattle.std.proofs.Common.{◌≡◌, ℕ, ◌+◌, ◌<◌, List, [], ◌∷◌, ◌++◌, length, take, get_or, string_bytes, Bor, Option, Some, None, IfSome, IfNone, option_map, refl, ap, sym, subst, ◌∙◌}
 use Rattle.std.specs.Prelude.{Result, Ok, Err, IfOk, IsSomeAnd}
 use Rattle.std.proofs.lemmas.List.{take_more}
-use Rattle.toml.specs.Data.{Data, string, table, Items, no_items, item, Members, no_members, member, push_item}
+use Rattle.toml.specs.Data.{Data, string, Items, no_items, item, member, push_item}
 use Rattle.toml.specs.View.{view, items_view, members_view}
 use Rattle.toml.proofs.Views.{Entry, with_last, members_view-last, items_view-push}
 use Rattle.toml.specs.declared.value.Value.{Value}

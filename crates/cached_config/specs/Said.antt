@@ -1,5 +1,5 @@
 -- What a configuration file says of its namespaces, over the table that TOML gives.
-use Rattle.std.specs.Prelude.{codes, ◌≡◌, ℕ, pos, false, List, [], ◌∷◌, Option, Some, None, option_map, unwrap_or}
+use Rattle.std.specs.Prelude.{codes, ◌≡◌, ℕ, pos, false, List, [], ◌∷◌, Some, option_map, unwrap_or}
 use Rattle.audit_model.specs.declared.config.Config.{Config}
 use Rattle.audit_model.specs.declared.config.EvictionPolicy.{EvictionPolicy}
 use Rattle.audit_model.specs.declared.config.EvictionPolicy.TheVariants.{TinyLfu, Lru}
@@ -14,16 +14,16 @@ use Rattle.toml.specs.Parse.{parse_document}
 abbrev pub said_or : List ℕ → Data → Members → Data
 said_or key otherwise members = unwrap_or (get_member key members) otherwise
 
-abbrev pub number : ℕ → Data
-number n = integer (pos n)
+abbrev pub whole_number : ℕ → Data
+whole_number n = integer (pos n)
 
-abbrev pub policy_word : EvictionPolicy → Data
-policy_word TinyLfu = string (codes "tinylfu")
-policy_word Lru = string (codes "lru")
+abbrev pub policy_text : EvictionPolicy → Data
+policy_text TinyLfu = string (codes "tinylfu")
+policy_text Lru = string (codes "lru")
 
-abbrev pub weight_word : Weight → Data
-weight_word One = string (codes "one")
-weight_word ByBytes = string (codes "bytes")
+abbrev pub weight_text : Weight → Data
+weight_text One = string (codes "one")
+weight_text ByBytes = string (codes "bytes")
 
 -- the table of what loads find
 abbrev pub loads_table : List Listed → Members
@@ -32,19 +32,19 @@ loads_table (listed ∷ loads) = member listed.key (string listed.value) (loads_
 
 -- each limit is what its key says; none, or what is usual, if the key is not there
 pub record SaysLimits (members : Members) (config : Config) : Type 0 where
-  pub capacity : get_member (codes "capacity") members ≡ option_map number config.capacity
-  pub policy : said_or (codes "policy") (policy_word TinyLfu) members ≡ policy_word config.policy
-  pub parts : said_or (codes "parts") (number 1) members ≡ number config.parts
-  pub weight : said_or (codes "weight") (weight_word One) members ≡ weight_word config.weight
-  pub live : get_member (codes "live_ms") members ≡ option_map number config.live_ms
-  pub idle : get_member (codes "idle_ms") members ≡ option_map number config.idle_ms
+  pub capacity : get_member (codes "capacity") members ≡ option_map whole_number config.capacity
+  pub policy : said_or (codes "policy") (policy_text TinyLfu) members ≡ policy_text config.policy
+  pub parts : said_or (codes "parts") (whole_number 1) members ≡ whole_number config.parts
+  pub weight : said_or (codes "weight") (weight_text One) members ≡ weight_text config.weight
+  pub live : get_member (codes "live_ms") members ≡ option_map whole_number config.live_ms
+  pub idle : get_member (codes "idle_ms") members ≡ option_map whole_number config.idle_ms
   pub deadlines : said_or (codes "deadlines") (boolean false) members
       ≡ boolean config.own_deadlines
 
 -- a table says a namespace: its name, its port, its limits, and all that its loads find
 pub record Says (members : Members) (space : HostedNamespace) : Type 0 where
   pub name : get_member (codes "name") members ≡ Some (string space.name)
-  pub port : get_member (codes "port") members ≡ Some (number space.port)
+  pub port : get_member (codes "port") members ≡ Some (whole_number space.port)
   pub limits : SaysLimits members space.config
   pub loads : said_or (codes "loads") (table no_members) members
       ≡ table (loads_table space.loads.items)

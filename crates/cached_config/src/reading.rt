@@ -1,5 +1,5 @@
 //! A configuration file, read, with all that is wrong with it.
-ghost use Rattle.std.specs.Prelude.{codes, ◌≡◌, ◌≢◌, ◌≤◌, ◌<◌, [], None, Ok, IsErr, IsTrue, IfOk, IsSomeAnd, OnOk, vec_len};
+ghost use Rattle.std.specs.Prelude.{List, codes, ◌≡◌, ◌≢◌, ◌≤◌, ◌<◌, [], None, Ok, IsErr, IsTrue, IfOk, IsSomeAnd, OnOk, vec_len};
 ghost use Rattle.toml.specs.Data.{table, no_members};
 ghost use Rattle.toml.specs.Parse.{parse_document};
 ghost use Rattle.toml.specs.View.{view, table_view};
@@ -58,7 +58,11 @@ pub fn read_config(alloc: Global, text: &str) -> Result<Vec<HostedNamespace>, Co
 /// Of a text that is not TOML only the first fault is reported. A fault of a key is reported with the line of the key, or, if that is not
 /// found (as in a table on one line), with the line of its namespace's header. There is a warning for each namespace without a capacity.
 pub fn check_config(alloc: Global, text: &str) -> Result<ConfigReport, AllocError>
-    ensures { parse_document text.now ≡ None → IfOk result (λ report. report.faults.items ≢ []) }
+    ensures text { parse_document text.now ≡ None
+        → IfOk result (λ report. report.faults.items ≢ []) }
+    // a text without faults says some namespaces, which a file may have
+    ensures good { IfOk result (λ report. report.faults.items ≡ [] → (spaces : List HostedNamespace)
+        × IsTrue (are_good spaces) × IsConfigOf text.now spaces) }
 {
     Ok(read_text(alloc, text)?.report)
 }

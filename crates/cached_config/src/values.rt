@@ -2,7 +2,7 @@
 ghost use Rattle.std.specs.Prelude.{codes, ◌≡◌, false, None, Some, option_map, IfOk, IfSome, IfNone};
 ghost use Rattle.audit_model.specs.declared.config.EvictionPolicy.TheVariants as policy;
 ghost use Rattle.audit_model.specs.declared.config.Weight.TheVariants as weight;
-ghost use Rattle.cached_config.specs.Said.{said_or, number, policy_word, weight_word};
+ghost use Rattle.cached_config.specs.Said.{said_or, whole_number, policy_text, weight_text};
 ghost use Rattle.toml.specs.Data.{string, boolean, get_member};
 ghost use Rattle.toml.specs.View.{view, table_view};
 
@@ -42,7 +42,7 @@ pub fn name_in(table: &Table) -> Result<&str, &'static str>
 /// The port that a table says.
 pub fn port_in(table: &Table) -> Result<u16, &'static str>
     ensures { IfOk result
-        (λ port. get_member (codes "port") (table_view table.now) ≡ Some (number port)) }
+        (λ port. get_member (codes "port") (table_view table.now) ≡ Some (whole_number port)) }
 {
     match number_at(table, "port", 1, 65_535, PORT)? {
         None => Err("is missing"),
@@ -53,7 +53,7 @@ pub fn port_in(table: &Table) -> Result<u16, &'static str>
 /// The capacity that a table says, if it does.
 pub fn capacity_in(table: &Table) -> Result<Option<u64>, &'static str>
     ensures { IfOk result (λ capacity.
-        get_member (codes "capacity") (table_view table.now) ≡ option_map number capacity) }
+        get_member (codes "capacity") (table_view table.now) ≡ option_map whole_number capacity) }
 {
     number_at(table, "capacity", 0, u64::MAX, "is a number from 0 on")
 }
@@ -61,7 +61,7 @@ pub fn capacity_in(table: &Table) -> Result<Option<u64>, &'static str>
 /// The number of parts that a table says; 1 if it says none.
 pub fn parts_in(table: &Table) -> Result<u32, &'static str>
     ensures { IfOk result (λ parts.
-        said_or (codes "parts") (number 1) (table_view table.now) ≡ number parts) }
+        said_or (codes "parts") (whole_number 1) (table_view table.now) ≡ whole_number parts) }
 {
     match number_at(table, "parts", 1, 256, PARTS)? {
         None => Ok(1),
@@ -72,7 +72,7 @@ pub fn parts_in(table: &Table) -> Result<u32, &'static str>
 /// The milliseconds that a table says at a key, if it does.
 pub fn time_in(table: &Table, key: &str) -> Result<Option<u64>, &'static str>
     ensures { IfOk result
-        (λ time. get_member key.now (table_view table.now) ≡ option_map number time) }
+        (λ time. get_member key.now (table_view table.now) ≡ option_map whole_number time) }
 {
     let what = "is a number of milliseconds from 1 to 999999999999";
     number_at(table, key, 1, 999_999_999_999, what)
@@ -87,7 +87,7 @@ fn number_at(
     what: &'static str,
 ) -> Result<Option<u64>, &'static str>
     ensures { IfOk result
-        (λ said. get_member key.now (table_view table.now) ≡ option_map number said) }
+        (λ said. get_member key.now (table_view table.now) ≡ option_map whole_number said) }
 {
     match at_key(table, key) {
         None => Ok(None),
@@ -100,7 +100,7 @@ fn number_at(
 
 /// The number that a value is, if it is one from 0 on.
 fn number_in(value: &Value) -> Option<u64>
-    ensures { IfSome result (λ said. view value.now ≡ number said) }
+    ensures { IfSome result (λ said. view value.now ≡ whole_number said) }
 {
     match value.as_integer() {
         Some(said) if said >= 0 => Some(said as u64),
@@ -110,8 +110,8 @@ fn number_in(value: &Value) -> Option<u64>
 
 /// The policy that a table says; TinyLFU if it says none.
 pub fn policy_in(table: &Table) -> Result<EvictionPolicy, &'static str>
-    ensures { IfOk result (λ said. said_or (codes "policy") (policy_word policy.TinyLfu)
-        (table_view table.now) ≡ policy_word said) }
+    ensures { IfOk result (λ said. said_or (codes "policy") (policy_text policy.TinyLfu)
+        (table_view table.now) ≡ policy_text said) }
 {
     match at_key(table, "policy") {
         None => Ok(EvictionPolicy::TinyLfu),
@@ -125,8 +125,8 @@ pub fn policy_in(table: &Table) -> Result<EvictionPolicy, &'static str>
 
 /// What a table says that values weigh; one if it says nothing of it.
 pub fn weight_in(table: &Table) -> Result<Weight, &'static str>
-    ensures { IfOk result (λ said. said_or (codes "weight") (weight_word weight.One)
-        (table_view table.now) ≡ weight_word said) }
+    ensures { IfOk result (λ said. said_or (codes "weight") (weight_text weight.One)
+        (table_view table.now) ≡ weight_text said) }
 {
     match at_key(table, "weight") {
         None => Ok(Weight::One),

@@ -1,4 +1,4 @@
-use Rattle.std.proofs.Common.{◌≡◌, ◌≤◌, take, vec_len}
+use Rattle.std.proofs.Common.{◌≤◌, take, vec_len}
 use Rattle.toml.specs.View.{items_view}
 use Rattle.cached_config.specs.Said.{SayEach}
 use Rattle.cached_config.proofs.reading.Reader.array.Given as goal
