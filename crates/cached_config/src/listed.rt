@@ -24,13 +24,22 @@ pub struct HostedNamespace {
     pub loads: Vec<Listed>,
 }
 
-/// A fault of a configuration file.
-#[derive(Drop)]
+/// A fault of a configuration file, or a warning.
+#[derive(Debug, Drop)]
 pub struct ConfigFault {
     /// Its line, from 1 on.
     pub line: usize,
     /// What is wrong there, in words.
     pub what: String,
+}
+
+/// What there is to say about a configuration file, in the order of its lines.
+#[derive(Debug, Drop)]
+pub struct ConfigReport {
+    /// Why it is not taken; nothing if it is.
+    pub faults: Vec<ConfigFault>,
+    /// What it may say, and probably should not.
+    pub warnings: Vec<ConfigFault>,
 }
 
 /// Why a file is not taken.
