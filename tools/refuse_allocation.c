@@ -4,10 +4,11 @@
 //   REFUSE=N REFUSE_OWN=FILE        the Nth and all that follow, until code of the tests runs again: FILE has the places of that code,
 //                                   a line `LOW HIGH` each, in hex, as they stand in the program's file
 //   REFUSE_FROM=A REFUSE_TO=B REFUSE_ONE_IN=K REFUSE_SEED=S      one of K, drawn, from the Ath to the one before the Bth
-//   REFUSE_BETWEEN=1                all between two requests for blocks of certain sizes, 20,011 and then 20,012 bytes, and these two
+//   REFUSE_BETWEEN=1                all between two requests for blocks of certain sizes, 20,011 and then 20,012 bytes, and these two;
+//                                   and behind a request for 21,000 bytes and N more, up to 999, the Nth alone, with that request
 //   REFUSE_MARK=FILE                is made at the first refusal
 //   REFUSE_COUNT=FILE               has, at the end, how many were asked for, how many refused, and of these how many behind the first;
-//                                   with REFUSE_BETWEEN, how many were refused but for those two, and how often there were these
+//                                   with REFUSE_BETWEEN, how many were refused but for those of such sizes, and how many had such sizes
 //
 // It steps through the program, an instruction at a time, between a refusal and the tests' own code (x86-64).
 #define _GNU_SOURCE
@@ -34,9 +35,11 @@ extern void *__libc_memalign(size_t, size_t);
 #define MOST_PLACES 65536
 #define FIRST_SIZE 20011
 #define LAST_SIZE 20012
+#define ARM_SIZE 21000
+#define MOST_ARMED 999
 static uintptr_t base, low, high;
 static long wanted, from, to, one_in, seed, between;
-static atomic_long count, refused, following;
+static atomic_long count, refused, following, armed;
 static atomic_int refuses_all;
 static struct { uintptr_t low, high; } places[MOST_PLACES];
 static int place_count;
@@ -151,6 +154,18 @@ static int is_drawn(uint64_t number) {
   return (it ^ (it >> 31)) % one_in == 0;
 }
 
+// Whether a request has the number that was armed, or arms another.
+static int is_armed(size_t size) {
+  if (size >= ARM_SIZE && size <= ARM_SIZE + MOST_ARMED) {
+    armed = size - ARM_SIZE;
+    atomic_fetch_add(&following, 1);
+    return 1;
+  }
+  if (armed == 0 || --armed > 0) return 0;
+  atomic_fetch_add(&refused, 1);
+  return 1;
+}
+
 // Whether a request of this size lies between the two, or is one of them.
 static int is_between(size_t size) {
   if (size == FIRST_SIZE) {
@@ -168,7 +183,7 @@ static int refuses(void *caller, size_t size) {
   if (at < low || at >= high) return 0;
   long number = atomic_fetch_add(&count, 1) + 1;
   if (between) {
-    if (!is_between(size)) return 0;
+    if (!is_armed(size) && !is_between(size)) return 0;
     errno = ENOMEM;
     return 1;
   }

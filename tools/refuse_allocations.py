@@ -23,10 +23,11 @@ standard error, and then what it wrote is a prefix of the right replies.
 The table has a row for each crate: its tests, the number of failing allocations (after a `+` those that followed), and how many
 tests failed. The status is 0 if none did, and in each crate some allocation was refused.
 
-With --between it runs only the tests of modules `without_memory`, each once, in seconds. Such a test says where it needs no memory,
-by asking for two blocks of certain sizes, and all that is asked for between them is refused. It has to pass, and to ask for them. A
-row for each crate: its tests, how many requests were refused beside those, and how many tests failed. The status is 0 if there are
-tests, and none failed.
+With --between it runs only the tests of modules `without_memory` and `refused_in_turn`, each once, in seconds. A test of the first
+says where it needs no memory, by asking for two blocks of certain sizes, and all that is asked for between them is refused. One of the
+second says by the size of a block which request behind it is refused. It has to pass, and to ask for such blocks. A row for each
+crate: its tests, how many requests were refused beside those, and how many tests failed. The status is 0 if there are tests, and none
+failed.
 """
 import argparse
 import collections
@@ -43,8 +44,8 @@ ROOT = pathlib.Path(__file__).resolve().parent.parent
 PROGRAMS = {"cached": "--script", "transcript": "audit"}
 WAYS = ("alone", "following")
 SECONDS = 600
-# The module of a crate in which tests say where they need no memory.
-WITHOUT = "without_memory::"
+# The modules of a crate in which tests say themselves which requests are refused.
+SAYING = ("without_memory::", "refused_in_turn::")
 # Tests that take no second try, by crate and the beginning of their names: why.
 SECOND_TRY_LACKS = {}
 
@@ -151,19 +152,19 @@ def programs_of_tests(folder, crate):
 
 
 def run_between(words, scratch):
-    """Runs the tests that say where they need no memory; answers whether there are some, and none failed."""
+    """Runs the tests that say which requests are refused; answers whether there are some, and none failed."""
     refuser, ran, failed = Refuser(scratch), 0, 0
     print(f"{'crate':20} {'tests':>5} {'refused':>8} {'failed':>6}", flush=True)
     for crate, program in programs_of_tests(words.folder, words.crate).items():
         below, all_refused = [], 0
-        names = [name for name in tests_of(program, words.word) if name.startswith(WITHOUT)]
+        names = [name for name in tests_of(program, words.word) if name.startswith(SAYING)]
         for name in names:
             ended, (_, refused, asked) = refuser.run([program, name], between=1)
             all_refused += refused
             if ended.returncode != 0:
                 below.append(f"    {name}: {cause_of(ended)}")
             elif asked == 0:
-                below.append(f"    {name}: it does not say where it needs no memory")
+                below.append(f"    {name}: it does not say which requests are refused")
         if names:
             print("\n".join([f"{crate:20} {len(names):>5} {all_refused:>8} {len(below):>6}", *below]), flush=True)
         ran, failed = ran + len(names), failed + len(below)

@@ -178,6 +178,8 @@ impl Write for Faulty {
 #[derive(Clone, Copy, Drop)]
 pub struct Setting {
     pub size: usize,
+    /// How many bytes a write takes, where that is less.
+    pub takes: usize,
     pub read_fails: u64,
     pub write_fails: u64,
     pub late: u64,
@@ -186,6 +188,7 @@ pub struct Setting {
 /// Nothing fails.
 pub const SOUND: Setting = Setting {
     size: 8192,
+    takes: 8192,
     read_fails: 0,
     write_fails: 0,
     late: 0,
@@ -248,7 +251,11 @@ fn make_devices<'a>(
 ) -> Devices<'a> {
     Devices {
         reader: Watched::new(make_cuts(input, setting.size, setting.read_fails)),
-        writer: Watched::new(make_faulty(alloc, setting.size, setting.write_fails)),
+        writer: Watched::new(make_faulty(
+            alloc,
+            setting.size.min(setting.takes),
+            setting.write_fails,
+        )),
         clock: Ticks {
             count: 0,
             late_at: setting.late,

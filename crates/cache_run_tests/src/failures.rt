@@ -125,3 +125,28 @@ fn asks_nothing(alloc: Global) -> bool {
 fn a_writer_fails_at_once(rt: HostRuntime) {
     assert!(rt; asks_nothing(rt.alloc()) || asks_nothing(rt.alloc()));
 }
+
+/// Whether a run has written four bytes, and closed its connection as its writer failed.
+fn has_written_four(ran: &Ran) -> bool {
+    ran.result == Err(RunError::Write)
+        && ran.replies() == b"OK\nV".as_slice()
+        && ran.left.closed == Some(Closing::Asked)
+}
+
+/// Whether a writer takes four bytes and then fails.
+fn takes_four(alloc: Global) -> bool {
+    let setting = Setting {
+        takes: 4,
+        write_fails: 2,
+        ..SOUND
+    };
+    match run_over(alloc, PLAIN, b"SET a - 1\nGET a\n", SAYINGS, setting) {
+        Some(ran) => has_written_four(&ran),
+        None => false,
+    }
+}
+
+#[test]
+fn a_writer_takes_four_bytes(rt: HostRuntime) {
+    assert!(rt; takes_four(rt.alloc()) || takes_four(rt.alloc()));
+}

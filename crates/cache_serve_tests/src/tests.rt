@@ -75,10 +75,11 @@ const ROWS: &[Row<'static>] = &[
         asked: 1,
         ..ALONE
     },
-    // A writer fails with a load open, whose loader has an answer.
+    // A writer fails with a load open, whose loader has an answer; the other connection goes on.
     Row {
-        texts: (b"GET a\nLOAD k\n", b""),
+        texts: (b"GET a\nLOAD k\n", b"SET b - 1\nGET b\n"),
         room: 0,
+        replies: (b"", b"OK\nVAL 1\n"),
         ended: Err(RunError::Write),
         asked: 1,
         closing: Some(Closing::Asked),
@@ -86,8 +87,9 @@ const ROWS: &[Row<'static>] = &[
     },
     // The same, with a loader that asks for a give-up.
     Row {
-        texts: (b"GET a\nLOAD g\n", b""),
+        texts: (b"GET a\nLOAD g\n", b"SET b - 1\nGET b\n"),
         room: 0,
+        replies: (b"", b"OK\nVAL 1\n"),
         ended: Err(RunError::Write),
         asked: 1,
         closing: Some(Closing::Asked),

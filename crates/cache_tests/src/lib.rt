@@ -16,6 +16,8 @@ mod parting;
 #[cfg(test)]
 mod playing;
 #[cfg(test)]
+mod refused_in_turn;
+#[cfg(test)]
 mod refusing;
 #[cfg(test)]
 mod retrying;

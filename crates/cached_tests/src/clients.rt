@@ -104,6 +104,46 @@ pub fn talks<R: Machine>(
     }
 }
 
+/// Reads until the replies end in a line.
+fn read_line(stream: &mut TcpStream, replies: &mut Vec<u8>) -> bool {
+    for _ in 0..100u32 {
+        if !reads(stream, replies) {
+            return false;
+        }
+        if replies.ends_with(b"\n") {
+            return true;
+        }
+    }
+    false
+}
+
+/// Sends each line once the reply to the one before was read, which is a line. Answers whether each was replied to.
+fn is_replied_in_turn(stream: &mut TcpStream, text: &[u8], replies: &mut Vec<u8>) -> bool {
+    for line in text.split_inclusive(|byte| *byte == b'\n') {
+        if stream.write_all(line).is_err() || !read_line(stream, replies) {
+            return false;
+        }
+    }
+    true
+}
+
+/// One that sends each line once it has read the reply to the one before. Answers whether it reads these replies.
+pub fn talks_in_turn<R: Machine>(
+    rt: &R,
+    alloc: Global,
+    port: u16,
+    text: &[u8],
+    wanted: &[u8],
+) -> bool {
+    let mut replies = Vec::new(alloc);
+    match connect(rt, port) {
+        Some(mut stream) => {
+            is_replied_in_turn(&mut stream, text, &mut replies) && replies.as_slice() == wanted
+        }
+        None => false,
+    }
+}
+
 /// A listener on a port of this machine.
 pub fn take_port<R: Machine>(rt: &R) -> io::Result<TcpListener> {
     TcpListener::bind(rt, address(0))

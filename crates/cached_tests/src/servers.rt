@@ -114,12 +114,12 @@ const ROWS: &[Row<'static>] = &[
         ],
         ..NOBODY
     },
-    // Its loads.
+    // Its loads, line by line.
     Row {
         config: &[
             "[[namespace]]\nname = \"main\"\nport = #\ncapacity = 1000\n[namespace.loads]\nk = \"v\"\n",
         ],
-        cast: Cast::One,
+        cast: Cast::InTurn,
         texts: (b"SET a - 1\nGET a\nLOAD k\nLOAD z\nQUIT\n", b""),
         replies: (b"OK\nVAL 1\nVAL v\nNONE\nOK\n", b""),
         shown: &["listening main 127.0.0.1:#\n"],

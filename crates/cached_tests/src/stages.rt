@@ -1,5 +1,5 @@
 //! Servers, each with its clients, to its end.
-use crate::clients::{connect, send_only, talks, use_up};
+use crate::clients::{connect, send_only, talks, talks_in_turn, use_up};
 use crate::meetings::Meeting;
 use crate::sinks::{Sink, Written, is_written, make_sink, make_written};
 use cached_server::{Fault, Machine, serve_text};
@@ -16,6 +16,8 @@ const AMPLE: usize = 1_000_000;
 pub enum Cast {
     /// One on the first port.
     One,
+    /// One on the first port that sends each line once it has read the reply to the one before.
+    InTurn,
     /// One on the first port that sends its first text, and its second one 1.2 seconds later.
     Pausing,
     /// One on each port, one after the other.
@@ -89,6 +91,7 @@ fn all_talk<R: Machine>(rt: &R, alloc: Global, port: u16, row: &Row<'_>) -> bool
 fn clients_talk<R: Machine>(rt: &R, alloc: Global, ports: (u16, u16), row: &Row<'_>) -> bool {
     match row.cast {
         Cast::One => talks(rt, alloc, ports.0, row.texts.0, b"", row.replies.0),
+        Cast::InTurn => talks_in_turn(rt, alloc, ports.0, row.texts.0, row.replies.0),
         Cast::Pausing => talks(rt, alloc, ports.0, row.texts.0, row.texts.1, row.replies.0),
         Cast::Each => each_talks(rt, alloc, ports, row),
         Cast::Bad => all_talk(rt, alloc, ports.0, row),
@@ -99,7 +102,7 @@ fn clients_talk<R: Machine>(rt: &R, alloc: Global, ports: (u16, u16), row: &Row<
 /// How many connections there are to each port.
 fn counts_of(cast: Cast) -> (u32, u32) {
     match cast {
-        Cast::One | Cast::Pausing => (1, 0),
+        Cast::One | Cast::InTurn | Cast::Pausing => (1, 0),
         Cast::Each => (1, 1),
         Cast::Bad => (6, 0),
         Cast::Nobody | Cast::Shut => (0, 0),
