@@ -1,12 +1,14 @@
 //! A cache behind a line protocol: namespaces with their connections, journals, serving readers and writers, playing lists of inputs, and
 //! services that threads share.
 //!
-//! The types of configurations, inputs and transcripts are those of `moka_audit`; the module `model` re-exports them.
+//! The types of configurations, inputs and transcripts are those of `moka_audit`; the module `model` re-exports them. A `Notice`, which
+//! `next_notice` returns, is the `Note` of a transcript.
 #![tactic(auto)]
 
 pub mod model;
 
 pub use audit_laws::Receipt;
+pub use audit_model::{Conn, LoadId, Note as Notice, ServiceError};
 pub use cache_run::{Clock, Loader, RunError, Watched, run};
 pub use cache_serve::{Devices, Hosted, Teller, Untold, host, serve, serve_and_tell};
 pub use cache_shared::{Finished, Seat, Seating, Shareable, SharedService};

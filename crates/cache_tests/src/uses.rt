@@ -8,11 +8,11 @@ ghost use Rattle.std.specs.List.{slice_get};
 ghost use Rattle.cache_service.specs.Words.{ArePlayed, KeepsList};
 
 use cache_service::model::{
-    Config, Conn, EvictionPolicy, Input, Instant, LoadId, Outcome, Seq, ServiceError, Transcript,
-    Weight,
+    Config, EvictionPolicy, Input, Instant, Outcome, Seq, Transcript, Weight,
 };
 use cache_service::{
-    Clock, Loader, RunError, Seat, Seating, Service, SharedService, Watched, play, serve,
+    Clock, Conn, LoadId, Loader, Notice, RunError, Seat, Seating, Service, ServiceError,
+    SharedService, Watched, play, serve,
 };
 use rand_core::SeedableRng;
 use rand_xoshiro::Xoshiro256PlusPlus;
@@ -116,6 +116,23 @@ fn settle(service: &mut Service, load: LoadId, outcome: Option<Outcome>, moment:
             // It is refused where the load is not under way any more.
             Ok(()) | Err(_) => {}
         }
+    }
+}
+
+/// Writes the line of the value of the first namespace that left first and was not told yet, if there is one.
+pub fn write_notice(service: &mut Service, lines: &mut Vec<u8>) -> Result<(), ServiceError> {
+    match service.next_notice(0) {
+        Ok(Some(notice)) => write_line(&notice, lines),
+        Ok(None) => Ok(()),
+        Err(error) => Err(error),
+    }
+}
+
+/// Writes the line of a notice.
+fn write_line(notice: &Notice, lines: &mut Vec<u8>) -> Result<(), ServiceError> {
+    match notice.write_to(lines) {
+        Ok(()) => Ok(()),
+        Err(_) => Err(ServiceError::OutOfMemory),
     }
 }
 

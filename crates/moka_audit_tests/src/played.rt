@@ -1,7 +1,7 @@
 //! The rows played from a service, whole and byte by byte, and judged.
 use crate::rows::{Came, NOTHING, Row, rows_of_limits, rows_of_lines, rows_of_loads};
-use audit_model::{Bytes, Config, Conn, Input, Instant, LoadId, Outcome, Seq, Transcript};
 use cache_spaces::play;
+use moka_audit::model::{Bytes, Config, Conn, Input, Instant, LoadId, Outcome, Seq, Transcript};
 use moka_audit::{Verdict, audit};
 use rand_core::SeedableRng;
 use rand_xoshiro::Xoshiro256PlusPlus;

@@ -1,7 +1,7 @@
 //! What the uses come to.
-use crate::uses::{PLAIN, ask_once, example, load_rows, play_pair, play_plainly};
-use cache_service::Service;
-use cache_service::model::{Bytes, Conn, Input, Instant, Record, Seq, ServiceError, Transcript};
+use crate::uses::{PLAIN, ask_once, example, load_rows, play_pair, play_plainly, write_notice};
+use cache_service::model::{Bytes, Input, Instant, Record, Seq, Transcript};
+use cache_service::{Conn, Service, ServiceError};
 use rand_core::SeedableRng;
 use rand_xoshiro::Xoshiro256PlusPlus;
 use std::alloc::{AllocError, Global};
@@ -47,6 +47,28 @@ fn finds_what_is_stored(alloc: Global) -> bool {
 #[test]
 fn replies_of_connections(rt: HostRuntime) {
     assert!(rt; finds_what_is_stored(rt.alloc()) || finds_what_is_stored(rt.alloc()));
+}
+
+/// Whether the one value that a write replaced is told, and told once.
+fn tells(service: &mut Service, lines: &mut Vec<u8>) -> bool {
+    replies(service, b"SET a - 1\nSET a - 2\n", b"OK\nOK\n")
+        && write_notice(service, lines).is_ok()
+        && write_notice(service, lines).is_ok()
+        && lines.as_slice() == b"NOTE Replaced a 1\n".as_slice()
+}
+
+/// The same in a new service.
+fn tells_what_is_replaced(alloc: Global) -> bool {
+    let mut lines = Vec::new(alloc);
+    match new_service(alloc) {
+        Ok(mut service) => tells(&mut service, &mut lines),
+        Err(_) => false,
+    }
+}
+
+#[test]
+fn a_value_that_is_replaced_is_told(rt: HostRuntime) {
+    assert!(rt; tells_what_is_replaced(rt.alloc()) || tells_what_is_replaced(rt.alloc()));
 }
 
 const ROWS: &[(&[u8], &[u8])] = &[(b"session:7", b"ada")];

@@ -1,8 +1,8 @@
 //! Transcripts in their text form as rows, and the verdicts on them.
 ghost use Rattle.std.specs.Prelude.{◌<◌};
 
-use audit_model::{Config, Transcript};
 use audit_text::read_transcript;
+use moka_audit::model::{Config, Transcript};
 use moka_audit::{Verdict, audit};
 use std::alloc::{AllocError, Global};
 use std::process::Abort;
