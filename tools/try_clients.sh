@@ -34,7 +34,7 @@ try() { # name, command
 # Installs a Debian package, within a minute.
 install() { # name
     [ "$(id -u)" = 0 ] && command -v apt-get > /dev/null || return 1
-    timeout 60 sh -c 'apt-get install -yq "$0" || { apt-get update -q && apt-get install -yq "$0"; }' "$1" \
+    DEBIAN_FRONTEND=noninteractive timeout 60 sh -c 'apt-get install -yq "$0" || { apt-get update -q && apt-get install -yq "$0"; }' "$1" \
         > "$folder/apt-get" 2>&1 < /dev/null
 }
 

@@ -1,7 +1,7 @@
 """Builds the package for pip and its like (PEP 517, PEP 660), by the standard library alone.
 
-The package's metadata are the table `project` of pyproject.toml, each key of which has a line of its own, and
-`bivrang.__version__`.
+The package's metadata are the table `project` of pyproject.toml, each key of which has a line of
+its own, and `bivrang.__version__`.
 """
 import ast
 import base64

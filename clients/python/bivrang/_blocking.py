@@ -45,7 +45,6 @@ from ._protocol import (
     only,
     refused,
     renamed_ttl,
-    results_of,
     sets_of,
 )
 from ._spread import Server, Spread, merged, results_or_first_error
@@ -63,7 +62,7 @@ class KeyedCommands(Generic[Given, Told]):
     """How values are written and read."""
 
     def _run(self, calls: List[Call]) -> List[Any]:
-        """Makes calls. What is told of each is in their order, values not decoded."""
+        """Makes calls. The results are in their order; an error is in its call's place."""
         raise NotImplementedError
 
     def pipeline(self, requests: Iterable[Request[Any]]) -> List[Any]:
@@ -75,7 +74,7 @@ class KeyedCommands(Generic[Given, Told]):
         first on, may have run.
         """
         calls = calls_of(requests, self.codec)
-        return results_of(calls, self._run(calls), self.codec) if calls else []
+        return self._run(calls) if calls else []
 
     def _ask(self, request: Request[T]) -> T:
         result: T = only(self.pipeline([request]))
@@ -97,18 +96,18 @@ class KeyedCommands(Generic[Given, Told]):
         """
         return self._ask(Request.set(key, value, ttl=renamed_ttl(ttl, milliseconds)))
 
-    def set_many(
-        self, values: Mapping[Key, Given], *, ttl: Optional[Seconds] = None
-    ) -> List[Key]:
+    def set_many(self, values: Mapping[Key, Given], *, ttl: Optional[Seconds] = None) -> List[Key]:
         """Stores each key's value, in one pipeline. Returns the keys that were not stored, which
         are none unless the capacity is 0. Raises what `set` raises, after the last reply."""
         return refused(list(values), self.pipeline(sets_of(values, ttl)))
 
     @overload
-    def get(self, key: Text) -> Optional[Told]: ...
+    def get(self, key: Text) -> Optional[Told]:
+        ...
 
     @overload
-    def get(self, key: Text, default: Default) -> Union[Told, Default]: ...
+    def get(self, key: Text, default: Default) -> Union[Told, Default]:
+        ...
 
     def get(self, key: Text, default: Any = None) -> Any:
         """Returns the key's live value, which counts as a use of it; the default if it has none.
@@ -143,9 +142,7 @@ class KeyedCommands(Generic[Given, Told]):
         """Deletes the key's value, if it has one."""
         self._ask(Request.delete(key))
 
-    def incr(
-        self, key: Text, number: int = 1, *, ttl: Optional[Seconds] = None
-    ) -> Optional[int]:
+    def incr(self, key: Text, number: int = 1, *, ttl: Optional[Seconds] = None) -> Optional[int]:
         """Adds to the key's number (0 if it has no live value), stores the sum, and returns it.
         None if the capacity is 0. Numbers are stored as their digits, whatever the codec.
 
@@ -309,7 +306,8 @@ class Client(Pool[Connection], Commands[Given, Told]):
         connect_seconds: float = ...,
         reply_seconds: float = ...,
         wait_seconds: float = ...,
-    ) -> None: ...
+    ) -> None:
+        ...
 
     @overload
     def __init__(
@@ -322,7 +320,8 @@ class Client(Pool[Connection], Commands[Given, Told]):
         wait_seconds: float = ...,
         *,
         codec: Codec[Given, Told],
-    ) -> None: ...
+    ) -> None:
+        ...
 
     def __init__(
         self,
@@ -348,8 +347,8 @@ class Client(Pool[Connection], Commands[Given, Told]):
     ) -> None:
         self.close()
 
-    def _begin_in_child(self) -> None:
-        super()._begin_in_child()
+    def _begin_anew(self) -> None:
+        super()._begin_anew()
         self._free = threading.BoundedSemaphore(self._connections)
 
     def _run(self, calls: List[Call]) -> List[Any]:
@@ -412,7 +411,8 @@ class Servers(Spread["Client[Any, Any]"], KeyedCommands[Given, Told]):
         errors_as_misses: bool = ...,
         codec: Codec[Given, Told],
         **options: Any,
-    ) -> None: ...
+    ) -> None:
+        ...
 
     @overload
     def __init__(
@@ -422,7 +422,8 @@ class Servers(Spread["Client[Any, Any]"], KeyedCommands[Given, Told]):
         retry_after: float = ...,
         errors_as_misses: bool = ...,
         **options: Any,
-    ) -> None: ...
+    ) -> None:
+        ...
 
     def __init__(
         self,
@@ -461,8 +462,7 @@ class Servers(Spread["Client[Any, Any]"], KeyedCommands[Given, Told]):
         """Sends each server a request, one after the other. Returns the results by name; an error
         takes the place of its server's result."""
         calls = calls_of([request], self.codec)
-        told = {name: self._run_at(name, calls) for name in self.clients}
-        return {name: results_of(calls, it, self.codec)[0] for name, it in told.items()}
+        return {name: self._run_at(name, calls)[0] for name in self.clients}
 
     def clear(self) -> None:
         """Calls `clear` of each server, even if one of them fails: then the first error is raised
@@ -491,17 +491,17 @@ class Servers(Spread["Client[Any, Any]"], KeyedCommands[Given, Told]):
 
     def _run(self, calls: List[Call]) -> List[Any]:
         shares = self._shares(calls)
-        told = {
+        results = {
             name: self._run_at(name, [call for _, call in share]) for name, share in shares.items()
         }
-        return merged(shares, told)
+        return merged(shares, results)
 
     def _run_at(self, name: str, calls: List[Call]) -> List[Any]:
         """Makes calls of one server."""
         try:
             self._back_offs[name].enter()
-            told = self.clients[name]._run(calls)
+            results = self.clients[name]._run(calls)
         except LinkError as error:
             return self._failed(name, calls, error)
         self._back_offs[name].answered()
-        return told
+        return results

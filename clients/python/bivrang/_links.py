@@ -25,9 +25,8 @@ from ._errors import (
     LinkError,
     PoolClosed,
     ReplyTimeout,
-    error_of_reply,
 )
-from ._protocol import Call, Mismatch, Request, window
+from ._protocol import Call, Mismatch, window
 
 T = TypeVar("T")
 
@@ -55,20 +54,20 @@ class Forked:
     def __init__(self) -> None:
         _living.add(self)
 
-    def _begin_in_child(self) -> None:
+    def _begin_anew(self) -> None:
         raise NotImplementedError
 
 
 _living: "weakref.WeakSet[Forked]" = weakref.WeakSet()
 
 
-def _begin_all_in_child() -> None:
+def _begin_all_anew() -> None:
     for it in list(_living):
-        it._begin_in_child()
+        it._begin_anew()
 
 
 if hasattr(os, "register_at_fork"):
-    os.register_at_fork(after_in_child=_begin_all_in_child)
+    os.register_at_fork(after_in_child=_begin_all_anew)
 
 
 # Connections.
@@ -133,14 +132,15 @@ class Link(Forked):
             pass
         return False
 
-    def _begin_in_child(self) -> None:
+    def _begin_anew(self) -> None:
         """Closes this process's descriptor alone: neither `QUIT` nor `shutdown`, which would end
         the parent's connection."""
         self.close()
 
     def _exchange(self, calls: Sequence[Call]) -> Steps[List[Any]]:
-        """Sends lines and reads their replies. A `ServerError` takes the place of its request's
-        result. Any early end closes the connection."""
+        """Sends lines and reads their replies. The results are in the order of the calls; a
+        `ServerError` or `DecodeError` takes the place of its call's. Any early end closes the
+        connection."""
         told: List[Any] = []
         is_whole = False
         try:
@@ -153,7 +153,7 @@ class Link(Forked):
                         line = yield from self._next_line(not told)
                     count = call.request.lines_after(line)
                     lines = (yield from self._lines(line, count)) if count else [line]
-                    told.append(self._read(call.request, lines))
+                    told.append(self._result(call, lines))
             is_whole = True
             return told
         except BivrangError as error:
@@ -176,16 +176,15 @@ class Link(Forked):
         except OSError as error:
             raise _broken(f"the connection broke: {error}", not is_first) from error
 
-    def _read(self, request: Request[Any], lines: Sequence[bytes]) -> Any:
-        """What the lines of a reply to a request say; a value is not decoded."""
-        if lines[0].startswith(b"ERR "):
-            error = error_of_reply(lines[0])
-            error._place(self.host, self.port, request.key)
-            return error
+    def _result(self, call: Call, lines: Sequence[bytes]) -> Any:
+        """The result of a call whose reply has these lines, or an error in its place."""
         try:
-            return request.read(lines)
+            result = call.request.result(lines, call.codec)
         except Mismatch:
-            raise BadReply(f"{lines[0][:80]!r} is no reply to {request!r}") from None
+            raise BadReply(f"{lines[0][:80]!r} is no reply to {call.request!r}") from None
+        if isinstance(result, BivrangError):
+            result._place(self.host, self.port, call.request.key)
+        return result
 
     def _buffered_line(self, scanned: int = 0) -> Optional[bytes]:
         """The next line of replies, without its line feed, if it has come; as many bytes as were
@@ -264,7 +263,7 @@ class Pool(Forked, Generic[AnyLink]):
         self._reply_seconds = limit(reply_seconds)
         self._wait_seconds = limit(wait_seconds)
         self._is_closed = False
-        self._begin_in_child()
+        self._begin_anew()
         super().__init__()
 
     def __repr__(self) -> str:
@@ -280,7 +279,7 @@ class Pool(Forked, Generic[AnyLink]):
             while self._idle:
                 self._idle.pop().close()
 
-    def _begin_in_child(self) -> None:
+    def _begin_anew(self) -> None:
         self._lock = threading.Lock()
         self._idle: List[AnyLink] = []
 

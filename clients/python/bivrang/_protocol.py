@@ -28,6 +28,7 @@ from ._errors import (
     KeyRefused,
     NumberRefused,
     ValueRefused,
+    error_of_reply,
 )
 
 T = TypeVar("T")
@@ -202,10 +203,6 @@ def _read_held(lines: Sequence[bytes]) -> Held:
     return Held(_digits(words[1]), _digits(words[2]))
 
 
-_MISSES: Dict[Any, Any] = {_read_value: None, _read_presence: False}
-"""What is read of a look-up that is a miss."""
-
-
 # Requests.
 
 
@@ -262,18 +259,12 @@ class Request(Generic[T]):
         counted = _KEYS.fullmatch(line) if self._read is _read_keys else None
         return int(counted[1]) if counted else 0
 
-    def read(self, lines: Sequence[bytes]) -> Any:
-        """What the lines of a reply say; a value is not decoded yet, and None if there is none."""
-        return self._read(lines)
-
-    def told_of_miss(self, error: BivrangError) -> Any:
-        """What `read` would have returned for a miss, if it is a look-up; otherwise the error."""
-        is_look_up = self.is_read and self._read in _MISSES
-        return _MISSES[self._read] if is_look_up else error
-
-    def finish(self, told: Any, codec: Codec[Any, Any]) -> Any:
-        """The result, from what `read` returned, or an error in its place."""
-        if self._read is not _read_value or isinstance(told, BivrangError):
+    def result(self, lines: Sequence[bytes], codec: Codec[Any, Any]) -> Any:
+        """The result of a reply of these lines, or an error in its place. Raises `Mismatch`."""
+        if lines[0].startswith(b"ERR "):
+            return error_of_reply(lines[0])
+        told = self._read(lines)
+        if self._read is not _read_value:
             return told
         if told is None:
             return self._default
@@ -281,8 +272,14 @@ class Request(Generic[T]):
             return codec.decode(told)
         except ValueError as error:
             refused = DecodeError(f"the codec cannot read {told[:40]!r}: {error}")
-            refused.key = self.key
+            refused.__cause__ = error
             return refused
+
+    def miss(self, error: BivrangError) -> Any:
+        """The result of a miss, if it is a look-up; otherwise the error."""
+        if self.is_read and self._read is _read_value:
+            return self._default
+        return False if self._read is _read_presence else error
 
     @staticmethod
     def set(
@@ -369,20 +366,16 @@ QUIT: Request[None] = Request((b"QUIT",), _read_done)
 
 
 class Call(NamedTuple):
-    """A request, and the line that is sent for it."""
+    """A request, the line that is sent for it, and the codec of its value."""
 
     request: Request[Any]
     line: bytes
+    codec: Codec[Any, Any]
 
 
 def calls_of(requests: Iterable[Request[Any]], codec: Codec[Any, Any]) -> List[Call]:
     """The calls of requests. If one of them cannot be sent, none is."""
-    return [Call(request, request.line(codec)) for request in requests]
-
-
-def results_of(calls: Sequence[Call], told: Sequence[Any], codec: Codec[Any, Any]) -> List[Any]:
-    """The results of calls, in their order; an error of a call is in its place."""
-    return [call.request.finish(it, codec) for call, it in zip(calls, told)]
+    return [Call(request, request.line(codec), codec) for request in requests]
 
 
 def only(results: Sequence[Any]) -> Any:

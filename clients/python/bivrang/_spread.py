@@ -16,9 +16,16 @@ from typing import (
 )
 
 from ._codecs import Text
-from ._errors import ArgumentError, BivrangError, ConnectFailed, LinkError, ReplyTimeout, ServerAway
+from ._errors import (
+    ArgumentError,
+    ConnectFailed,
+    LinkError,
+    PoolClosed,
+    ReplyTimeout,
+    ServerAway,
+)
 from ._links import Forked, Pool
-from ._protocol import GREATEST_NUMBER, Call, key_bytes
+from ._protocol import GREATEST_NUMBER, Call, key_bytes, raise_first
 
 
 def hash_bytes(text: bytes) -> int:
@@ -59,10 +66,10 @@ class BackOff(Forked):
     def __init__(self, retry_after: float) -> None:
         self._retry_after = retry_after
         self._until: Optional[float] = None
-        self._begin_in_child()
+        self._begin_anew()
         super().__init__()
 
-    def _begin_in_child(self) -> None:
+    def _begin_anew(self) -> None:
         self._lock = threading.Lock()
 
     def enter(self) -> None:
@@ -72,7 +79,9 @@ class BackOff(Forked):
                 return
             now = time.monotonic()
             if now < self._until:
-                raise ServerAway(f"it did not answer; it is asked again in {self._until - now:.1f} s")
+                raise ServerAway(
+                    f"it did not answer; it is left alone for {self._until - now:.1f} s"
+                )
             self._until = now + self._retry_after
 
     def answered(self) -> None:
@@ -148,25 +157,23 @@ class Spread(Generic[AnyPool]):
         return shares
 
     def _failed(self, name: str, calls: Sequence[Call], error: LinkError) -> List[Any]:
-        """What calls return whose server failed."""
+        """The results of calls whose server failed."""
         self._back_offs[name].failed(error)
         self.clients[name]._place(error, calls)
-        if not self._errors_as_misses:
+        if isinstance(error, PoolClosed) or not self._errors_as_misses:
             return [error] * len(calls)
-        return [call.request.told_of_miss(error) for call in calls]
+        return [call.request.miss(error) for call in calls]
 
 
-def merged(shares: Mapping[str, Share], told: Mapping[str, Sequence[Any]]) -> List[Any]:
+def merged(shares: Mapping[str, Share], results: Mapping[str, Sequence[Any]]) -> List[Any]:
     """The results of all servers' calls, in the places of the calls."""
-    placed = {
-        place: it for name, share in shares.items() for (place, _), it in zip(share, told[name])
-    }
+    placed: Dict[int, Any] = {}
+    for name, share in shares.items():
+        placed.update(zip((place for place, _ in share), results[name]))
     return [placed[place] for place in range(len(placed))]
 
 
-def results_or_first_error(told: Mapping[str, Any]) -> Dict[str, Any]:
+def results_or_first_error(results: Dict[str, Any]) -> Dict[str, Any]:
     """Each server's result. Raises the first error."""
-    for result in told.values():
-        if isinstance(result, BivrangError):
-            raise result
-    return dict(told)
+    raise_first(results.values())
+    return results

@@ -50,7 +50,6 @@ from ._protocol import (
     may_be_sent_again,
     only,
     refused,
-    results_of,
     sets_of,
 )
 from ._spread import Server, Spread, merged, results_or_first_error
@@ -73,7 +72,7 @@ class KeyedCommands(Generic[Given, Told]):
 
     async def pipeline(self, requests: Iterable[Request[Any]]) -> List[Any]:
         calls = calls_of(requests, self.codec)
-        return results_of(calls, await self._run(calls), self.codec) if calls else []
+        return await self._run(calls) if calls else []
 
     async def _ask(self, request: Request[T]) -> T:
         result: T = only(await self.pipeline([request]))
@@ -88,10 +87,12 @@ class KeyedCommands(Generic[Given, Told]):
         return refused(list(values), await self.pipeline(sets_of(values, ttl)))
 
     @overload
-    async def get(self, key: Text) -> Optional[Told]: ...
+    async def get(self, key: Text) -> Optional[Told]:
+        ...
 
     @overload
-    async def get(self, key: Text, default: Default) -> Union[Told, Default]: ...
+    async def get(self, key: Text, default: Default) -> Union[Told, Default]:
+        ...
 
     async def get(self, key: Text, default: Any = None) -> Any:
         return await self._ask(Request.get(key, default))
@@ -289,7 +290,7 @@ class _Permits:
 
 class Client(Pool[_Connection], Commands[Given, Told]):
     """A pool of connections to one namespace, which tasks share. Arguments and rules are those of
-    `bivrang.Client`."""
+    `bivrang.Client`. `close` is not awaited."""
 
     @overload
     def __init__(
@@ -300,7 +301,8 @@ class Client(Pool[_Connection], Commands[Given, Told]):
         connect_seconds: float = ...,
         reply_seconds: float = ...,
         wait_seconds: float = ...,
-    ) -> None: ...
+    ) -> None:
+        ...
 
     @overload
     def __init__(
@@ -313,7 +315,8 @@ class Client(Pool[_Connection], Commands[Given, Told]):
         wait_seconds: float = ...,
         *,
         codec: Codec[Given, Told],
-    ) -> None: ...
+    ) -> None:
+        ...
 
     def __init__(
         self,
@@ -339,8 +342,8 @@ class Client(Pool[_Connection], Commands[Given, Told]):
     ) -> None:
         self.close()
 
-    def _begin_in_child(self) -> None:
-        super()._begin_in_child()
+    def _begin_anew(self) -> None:
+        super()._begin_anew()
         self._loop: Optional[asyncio.AbstractEventLoop] = None
         self._permits = _Permits(self._connections)
 
@@ -351,7 +354,7 @@ class Client(Pool[_Connection], Commands[Given, Told]):
         if self._loop is not loop:
             for link in self._idle:
                 link.close()
-            self._begin_in_child()
+            self._begin_anew()
             self._loop = loop
         return self._permits
 
@@ -400,7 +403,8 @@ class Servers(Spread["Client[Any, Any]"], KeyedCommands[Given, Told]):
         errors_as_misses: bool = ...,
         codec: Codec[Given, Told],
         **options: Any,
-    ) -> None: ...
+    ) -> None:
+        ...
 
     @overload
     def __init__(
@@ -410,7 +414,8 @@ class Servers(Spread["Client[Any, Any]"], KeyedCommands[Given, Told]):
         retry_after: float = ...,
         errors_as_misses: bool = ...,
         **options: Any,
-    ) -> None: ...
+    ) -> None:
+        ...
 
     def __init__(
         self,
@@ -438,8 +443,8 @@ class Servers(Spread["Client[Any, Any]"], KeyedCommands[Given, Told]):
 
     async def each(self, request: Request[T]) -> "Dict[str, Union[T, BivrangError]]":
         calls = calls_of([request], self.codec)
-        told = await self._run_shares({name: calls for name in self.clients})
-        return {name: results_of(calls, it, self.codec)[0] for name, it in told.items()}
+        results = await self._run_shares({name: calls for name in self.clients})
+        return {name: of_one[0] for name, of_one in results.items()}
 
     async def clear(self) -> None:
         results_or_first_error(await self.each(Request.clear()))
@@ -465,15 +470,15 @@ class Servers(Spread["Client[Any, Any]"], KeyedCommands[Given, Told]):
 
     async def _run_shares(self, shares: Mapping[str, List[Call]]) -> Dict[str, List[Any]]:
         """Makes each server's calls, all at the same time."""
-        told = await asyncio.gather(*(self._run_at(name, share) for name, share in shares.items()))
-        return dict(zip(shares, told))
+        runs = (self._run_at(name, share) for name, share in shares.items())
+        return dict(zip(shares, await asyncio.gather(*runs)))
 
     async def _run_at(self, name: str, calls: List[Call]) -> List[Any]:
         """Makes calls of one server."""
         try:
             self._back_offs[name].enter()
-            told = await self.clients[name]._run(calls)
+            results = await self.clients[name]._run(calls)
         except LinkError as error:
             return self._failed(name, calls, error)
         self._back_offs[name].answered()
-        return told
+        return results

@@ -2,8 +2,9 @@
 
     python3 clients/python/tests [PATH_OF_CACHED] [unittest's words, such as test_aio or -v]
 
-The path is crates/cached/out/cached where none is given. Without a module's name all are run. All is on 127.0.0.1, on free ports, with
-configurations in a temporary folder, and ends by itself, mostly within a minute.
+The path is crates/cached/out/cached where none is given. Without a module's name all are run. All
+is on 127.0.0.1, on free ports, with configurations in a temporary folder, and ends by itself,
+mostly within a minute.
 """
 import os
 import pathlib

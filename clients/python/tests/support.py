@@ -61,10 +61,12 @@ class RealServer:
     def configure(self, namespaces):
         self.ports = dict(zip(namespaces, free_ports(len(namespaces))))
         self.file = pathlib.Path(self.folder.name, "cached.toml")
-        self.file.write_text("".join(
-            f'[[namespace]]\nname = "{name}"\nport = {self.ports[name]}\n{rest}\n'
-            for name, rest in namespaces.items()
-        ))
+        self.file.write_text(
+            "".join(
+                f'[[namespace]]\nname = "{name}"\nport = {self.ports[name]}\n{rest}\n'
+                for name, rest in namespaces.items()
+            )
+        )
 
     def start(self):
         """Whether it listens."""
@@ -249,20 +251,24 @@ class Fake:
 
 def replies(*texts):
     """An act that answers each line so, and then waits for the client's end."""
+
     def act(fake, link):
         for text in texts:
             fake.line(link)
             link.sendall(text)
         fake.line(link)
+
     return act
 
 
 def replies_and_ends(*texts):
     """An act that answers each line so, and then closes the connection."""
+
     def act(fake, link):
         for text in texts:
             fake.line(link)
             link.sendall(text)
+
     return act
 
 

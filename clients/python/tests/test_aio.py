@@ -2,15 +2,14 @@
 import asyncio
 import inspect
 import threading
-import time
 import unittest
 
 import test_client
 import test_servers
 from support import HOST, PATIENCE, SHORT, Fake, FakeCase, Forked, RealCase
-from support import free_port, replies, replies_and_ends
+from support import free_port, replies
 import bivrang
-from bivrang import Request, Server, aio
+from bivrang import Server, aio
 
 
 class Awaited:
@@ -31,6 +30,7 @@ class Awaited:
 
     def __repr__(self):
         return repr(self.inner)
+
 
 class AwaitedCase:
     """Makes the clients of a case ones of asyncio."""
@@ -101,8 +101,11 @@ class Alike(unittest.TestCase):
             for call in sorted(calls | {"__init__"}):
                 if callable(getattr(blocking, call)):
                     theirs = [
-                        [str(it) for it in inspect.signature(getattr(kind, call)).parameters.values()
-                         if it.name not in old]
+                        [
+                            str(it)
+                            for it in inspect.signature(getattr(kind, call)).parameters.values()
+                            if it.name not in old
+                        ]
                         for kind in (blocking, awaited)
                     ]
                     self.assertEqual(*theirs, f"{name}.{call}")

@@ -128,10 +128,11 @@ class Commands(RealCase):
             self.assertEqual(cache.get_many(["a", "b"]), {"a": value})
             both = [Request.set("b", value), Request.get("b"), Request.get("c", 0)]
             self.assertEqual(cache.pipeline(both), [True, value, 0])
-            text.set("b", "no code\"")
+            text.set("b", 'no code"')
             told = cache.pipeline([Request.get("b"), Request.get("a")])
             self.assertIsInstance(told[0], bivrang.DecodeError)
-            self.assertEqual((told[0].key, told[1]), (b"b", value))
+            place = (HOST, self.server.ports["main"], b"b")
+            self.assertEqual((told[0].host, told[0].port, told[0].key, told[1]), (*place, value))
             for call in (cache.get, cache.load, lambda key: cache.get_many(["a", key])):
                 with self.assertRaises(bivrang.DecodeError):
                     call("b")
@@ -198,19 +199,21 @@ class Commands(RealCase):
 class Pipelines(RealCase):
     def test_errors_stand_in_their_places(self):
         cache = self.client()
-        told = cache.pipeline([
-            Request.set("a", "1"),
-            Request.set("a", "1", ttl=0.005),
-            Request.has("b"),
-            Request.incr("a", 4),
-            Request.keys(),
-            Request.sync(),
-            Request.load("c"),
-            Request.drop_if("a"),
-            Request.clear(),
-            Request.delete("a"),
-            Request.get("a"),
-        ])
+        told = cache.pipeline(
+            [
+                Request.set("a", "1"),
+                Request.set("a", "1", ttl=0.005),
+                Request.has("b"),
+                Request.incr("a", 4),
+                Request.keys(),
+                Request.sync(),
+                Request.load("c"),
+                Request.drop_if("a"),
+                Request.clear(),
+                Request.delete("a"),
+                Request.get("a"),
+            ]
+        )
         self.assertIsInstance(told.pop(1), bivrang.DeadlineError)
         expected = [True, False, 5, [b"a"], Held(1, 1), None, None, None, None, None]
         self.assertEqual(told, expected)
@@ -738,7 +741,9 @@ class Texts(FakeCase):
         with self.assertRaises(bivrang.LoadFailed) as caught:
             cache.load("a")
         told = pickle.loads(pickle.dumps(caught.exception))
-        self.assertEqual((type(told), told.cause, told.key), (bivrang.LoadFailed, b"the cause", b"a"))
+        self.assertEqual(
+            (type(told), told.cause, told.key), (bivrang.LoadFailed, b"the cause", b"a")
+        )
         cache._idle.pop().close()
         with self.assertRaises(bivrang.ConnectionBroken) as caught:
             cache.get("a")

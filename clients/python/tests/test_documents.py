@@ -31,7 +31,9 @@ class Readme(RealCase):
         ports = {"7411": "timed", "7412": "bytes"}
         for name in ports.values():
             self.client(name)
-        examples = re.findall(r"^```python\n(.*?)^```$", README.read_text(), re.MULTILINE | re.DOTALL)
+        examples = re.findall(
+            r"^```python\n(.*?)^```$", README.read_text(), re.MULTILINE | re.DOTALL
+        )
         self.assertEqual(len(examples), 4)
         for text in examples:
             for port, name in ports.items():

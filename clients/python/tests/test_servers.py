@@ -98,7 +98,12 @@ class ServersThatFail(FakeCase):
     def test_results_of_the_other_stand(self):
         fake = Fake(self, replies(b"VAL 1\nOK\n", b"KEYS 1\nk\n", b"SYNC 1 2\n", b"NO\n", b"OK\n"))
         servers, theirs, its = self.both(fake, free_port())
-        asked = [Request.get(its), Request.get(theirs), Request.set(its, "1"), Request.delete(theirs)]
+        asked = [
+            Request.get(its),
+            Request.get(theirs),
+            Request.set(its, "1"),
+            Request.delete(theirs),
+        ]
         told = servers.pipeline(asked)
         self.assertEqual((told[1], told[3]), (b"1", None))
         self.assertIsInstance(told[0], bivrang.ConnectFailed)
@@ -126,6 +131,9 @@ class ServersThatFail(FakeCase):
                 call(its)
         with self.assertRaises(bivrang.ServerAway):
             servers.keys()
+        servers.close()
+        with self.assertRaises(bivrang.PoolClosed):
+            servers.get(theirs)
 
     def test_it_is_asked_again(self):
         fake = Fake(self, replies(b""), replies(b"VAL 1\n"))
@@ -157,7 +165,9 @@ class ServersThatFail(FakeCase):
         self.assertEqual(servers.get("a"), b"1")
 
     def test_errors_of_a_server_that_answers_do_not_leave_it_alone(self):
-        fake = Fake(self, replies(b"ERR number\n", b"OK\n"), replies_and_ends(b""), replies(b"OK\n"))
+        fake = Fake(
+            self, replies(b"ERR number\n", b"OK\n"), replies_and_ends(b""), replies(b"OK\n")
+        )
         servers = self.servers_of(Server(HOST, fake.port))
         with self.assertRaises(bivrang.NumberError):
             servers.incr("a")
@@ -200,13 +210,16 @@ class Hashing(unittest.TestCase):
             self.assertEqual(bivrang.hash_bytes(text), value)
         step = 0x9E3779B97F4A7C15
         drawn = [bivrang.mix((1234567 + step * turn) % 2**64) for turn in range(1, 6)]
-        self.assertEqual(drawn, [
-            6457827717110365317,
-            3203168211198807973,
-            9817491932198370423,
-            4593380528125082431,
-            16408922859458223821,
-        ])
+        self.assertEqual(
+            drawn,
+            [
+                6457827717110365317,
+                3203168211198807973,
+                9817491932198370423,
+                4593380528125082431,
+                16408922859458223821,
+            ],
+        )
 
     def test_shares_follow_weights(self):
         servers = Servers([Server(HOST, 1, weight=1), Server(HOST, 2, weight=3)])
