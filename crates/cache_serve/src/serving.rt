@@ -40,7 +40,7 @@ fn is_more(ended: &Result<Progress, RunError>) -> bool
 /// closing that was refused. The notes are left to be taken.
 ///
 /// Returns `Read` or `Write` if that device failed, `Moment` if the clock gave more than 2^63 - 1 nanoseconds, `UsedUp`
-/// if a count of inputs is at 2^64 - 1, and otherwise `OutOfMemory`, also if there is no such namespace.
+/// if the seat's count is at 2^64 - 1, and otherwise `OutOfMemory`, also if there is no such namespace.
 /// ```
 /// serve(&rt, alloc, &shared, &mut seat, 0, &mut reader, &mut writer, &mut clock, &mut loader)?;
 /// ```

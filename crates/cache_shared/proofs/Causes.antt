@@ -1,5 +1,5 @@
 -- For what a step of a seat is refused.
-use Rattle.std.proofs.Common.{◌≡◌, ◌≢◌, ℕ, ◌⊎◌, ◌^◌, ◌-◌, ◌≤◌, Bool, true, false, not, nat_le, nat_lt, ◌||◌, List, length, Option, None, Some, is_some, refl, sym, ap, ◌∙◌, subst, inl, inr}
+use Rattle.std.proofs.Common.{◌≡◌, ◌≢◌, ℕ, ◌⊎◌, ◌^◌, ◌-◌, Bool, true, false, not, nat_le, nat_lt, ◌||◌, List, length, Option, None, Some, is_some, refl, sym, ap, ◌∙◌, subst, inl, inr}
 use Rattle.std.proofs.lemmas.Bool.{leb-true}
 use Rattle.std.specs.Option.{option_map_or, option_or}
 use Rattle.std.specs.Prelude.{Result, Ok, Err, IfErr, MatchOption}
@@ -7,7 +7,6 @@ use Rattle.audit_model.specs.Belongs.{Known, refusal_of, refusal_of_bytes, refus
 use Rattle.audit_model.specs.Grammar.{is_value}
 use Rattle.audit_model.specs.declared.event.Instant.{Instant}
 use Rattle.audit_model.specs.declared.config.Config.{Config}
-use Rattle.audit_model.specs.declared.event.Event.{Event}
 use Rattle.audit_model.specs.declared.event.Outcome.{Outcome}
 use Rattle.audit_model.specs.declared.event.Outcome.TheVariants as outcome
 use Rattle.audit_model.specs.declared.input.Input.{Input}

@@ -1,7 +1,7 @@
 -- What is moved out of a service, and what an input adds to it.
-use Rattle.std.proofs.Common.{◌&&◌, drop, is_none, ◌≡◌, ◌≢◌, ℕ, zero, suc, ◌-◌, ◌<◌, ◌==◌, Bool, true, false, cond, List, [], ◌∷◌, ◌++◌, length, map, Option, None, Some, is_some, refl, sym, ap, ◌∙◌, subst, arith, inl, inr, ◌⊎◌, Vec, Global}
-use Rattle.std.specs.Prelude.{slice_set, Result, Ok, Err, OnErr, OnOk, IfOk, IsNone, MatchOption, if◌then◌else◌, unwrap_or, nat_lt, nat_le}
-use Rattle.std.specs.List.{filter, flat_map, slice_get}
+use Rattle.std.proofs.Common.{◌&&◌, drop, is_none, ◌≡◌, ◌≢◌, ℕ, zero, suc, ◌-◌, ◌==◌, Bool, true, false, cond, List, [], ◌∷◌, ◌++◌, length, map, Option, None, Some, refl, sym, ap, ◌∙◌, subst, arith, inl, inr, ◌⊎◌, Vec, Global}
+use Rattle.std.specs.Prelude.{slice_set, Result, Ok, Err, OnErr, OnOk, IfOk, MatchOption, if◌then◌else◌, unwrap_or, nat_lt, nat_le}
+use Rattle.std.specs.List.{flat_map, slice_get}
 use Rattle.std.specs.Option.{option_map_or, option_to_list}
 use Rattle.std.proofs.Math.Seq.{drop-append_seam}
 use Rattle.std.proofs.lemmas.Bool.{and_parts, cases_eq, eq-eqb, ltb-true, ne_eqb}
@@ -43,7 +43,6 @@ use Rattle.cache_spaces.specs.Recorded.{GainsRecord, Recorded, TakesNote, TakesR
 use Rattle.cache_spaces.specs.Services.{BareSpace, bare_tape}
 use Rattle.cache_spaces.specs.Spaces.{Shown, Space, config_of, notices_of, outgoing_of, shown, shown_tape, untaken_output}
 use Rattle.cache_shared.proofs.Performing.{first-note, loads-leave, no-note}
-use Rattle.cache_shared.specs.Events as events
 use Rattle.cache_shared.specs.Looked.{Moves}
 use Rattle.cache_shared.specs.Recordings.{bare_spaces, spaces_in, untaken_of, untold_of}
 use Rattle.cache_shared.specs.Taken.{GainsFrom, MovesLoads, MovesNote, MovesNotesOf, MovesOwed, MovesReplies, TakesInput, outgoing_in}

@@ -17,22 +17,20 @@ use Rattle.audit_laws.specs.declared.receipts.output.Output.{Output}
 use Rattle.cache_core.proofs.connections.Getting.{found-at, set-same}
 use Rattle.cache_spaces.proofs.Journaling.{journal-at, mapped}
 use Rattle.cache_spaces.proofs.Placing.{at-is}
-use Rattle.cache_spaces.proofs.Reaching.{count-empty, count-more, reached-none, reached-shown, at-shown, in-shown, performs-shown, refused-shown, refuses-shown}
+use Rattle.cache_spaces.proofs.Reaching.{count-empty, count-more, reached-none, reached-shown, at-shown, in-shown, refused-shown, refuses-shown}
 use Rattle.cache_shared.specs.Looked.{RefusesCopy}
 use Rattle.cache_spaces.specs.Services.{BareSpace, bare_tape, AreNew, blank_tape}
-use Rattle.cache_spaces.specs.Calls.{At, InSpace, IsOpened, IsUnknown, Refuses, TakesLoads, TakesNotice, TakesOutput, Performs, RefusedInput, namespace_of}
+use Rattle.cache_spaces.specs.Calls.{At, InSpace, IsOpened, IsUnknown, Refuses, TakesLoads, TakesNotice, Performs, RefusedInput, namespace_of}
 use Rattle.cache_spaces.specs.Journals.{journals_of, kept_by, IsReached, record_count}
 use Rattle.cache_spaces.specs.Played.{journal_of}
 use Rattle.cache_spaces.specs.Recorded.{GainsRecord, Recorded, gained_in, records_in}
-use Rattle.cache_spaces.specs.Spaces.{Shown, Space, shown, notices_of, untaken_output}
+use Rattle.cache_spaces.specs.Spaces.{Shown, Space, shown, notices_of}
 use Rattle.cache_spaces.specs.declared.stepping.Refusal.{Refusal}
-use Rattle.cache_shared.specs.Recordings.{bare_spaces, no_journals, seen_in, untaken_of, untold_of, journals_in, spaces_in}
+use Rattle.cache_shared.specs.Recordings.{bare_spaces, no_journals, journals_in, spaces_in}
 use Rattle.cache_shared.specs.Events.{CountsRecord, StandsAfter, KeepsStanding}
 use Rattle.cache_lines.specs.Tape.Taped.{Taped}
-use Rattle.audit_model.specs.declared.input.Conn.{Conn}
 use Rattle.audit_model.specs.declared.transcript.Note.{Note}
 use Rattle.audit_model.specs.declared.input.ServiceError.TheVariants as error
-use Rattle.cache_shared.specs.Events as events
 
 module _ {T : Type 0} (tape : T → Option Taped) where
   pub refused : {A : Type 0} (i : Input) (r : Result A Refusal) (old : List (Space T)) → IfErr r (λ refusal. Refuses old (namespace_of i) refusal.error (RefusedInput i refusal.error))

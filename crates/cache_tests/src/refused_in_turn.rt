@@ -21,7 +21,7 @@ const MOST: usize = 200;
 
 /// Has the request of that number refused, or none from here on if it is 0. Returns whether requests are refused at all.
 fn arm(alloc: Global, number: usize) -> bool {
-    Vec::<u8>::with_capacity(alloc, ARMS + number).is_err()
+    Vec::<u8>::with_capacity(alloc, ARMS.saturating_add(number)).is_err()
 }
 
 /// A call, and what stands before and after it.

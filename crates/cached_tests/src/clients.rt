@@ -117,10 +117,15 @@ fn read_line(stream: &mut TcpStream, replies: &mut Vec<u8>) -> bool {
     false
 }
 
+/// Sends a byte, and reads the reply to a line that it ends.
+fn is_taken(stream: &mut TcpStream, byte: u8, replies: &mut Vec<u8>) -> bool {
+    stream.write_all(&[byte]).is_ok() && (byte != b'\n' || read_line(stream, replies))
+}
+
 /// Sends each line once the reply to the one before was read, which is a line. Answers whether each was replied to.
 fn is_replied_in_turn(stream: &mut TcpStream, text: &[u8], replies: &mut Vec<u8>) -> bool {
-    for line in text.split_inclusive(|byte| *byte == b'\n') {
-        if stream.write_all(line).is_err() || !read_line(stream, replies) {
+    for byte in text {
+        if !is_taken(stream, *byte, replies) {
             return false;
         }
     }

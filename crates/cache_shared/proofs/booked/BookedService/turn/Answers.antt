@@ -1,4 +1,3 @@
-use Rattle.std.proofs.lemmas.Result.{err_from_is_err_and}
 use Rattle.cache_shared.proofs.Stepping.{moves-none}
 use Rattle.cache_shared.proofs.booked.BookedService.turn.Goals as goal
 
