@@ -12,12 +12,12 @@ sys.dont_write_bytecode = True
 sys.path.insert(0, str(pathlib.Path(__file__).resolve().parent))
 import wrong_bodies  # noqa: E402
 
-# A clause of the function is left open at a return, and one is not.
+# A clause of the function is left open at a return.
 CLAUSE = """\
-note: src/links.rt:75:5: it is not proved that what the function ensures holds when it returns (`returns-clause-closes`)
+note: src/connection/feeding.rt:79:85: it is not proved that what the function ensures holds when it returns (`returns-then-times-eq7-clause-put`)
 note: a goal may be false even if its line does not say so: rattle seldom finds values that break an equation of lists
-fn audit_situation::links::Links::feed: no proof: expected answers in ./proofs/links/Links/feed/Answers.antt; `search` did not prove `returns-clause-closes`
-only=3 proved=2
+fn cache_core::connection::Connection::wait_before: no proof: expected answers in ./proofs/connection/connection/Connection/wait_before/Answers.antt; `search` did not prove `returns-then-times-eq7-clause-put`
+only=9 proved=8
 """
 # What a type promises is left open.
 PROMISE = """\
@@ -27,9 +27,9 @@ only=3 proved=2
 """
 # What a function calls has a premise.
 PREMISE = """\
-note: src/held/holding.rt:175:9: `search` found no proof (`add-requires`)
-fn audit_situation::held::holding::Holding::add: no proof: expected answers in ./proofs/held/holding/Holding/add/Answers.antt; `search` did not prove `add-requires`
-only=3 proved=2
+note: src/settling.rt:112:9: it is not proved that what `deliver` requires holds at this call (`deliver-requires-clause-can_run`); `search` gave up at one of its limits
+fn cache_core::interior::Interior::again_at: no proof: expected answers in ./proofs/settling/Interior/again_at/Answers.antt; `search` did not prove `deliver-requires-clause-can_run`
+only=9 proved=8
 """
 # A proof written by hand has another type.
 ANSWER = """\
