@@ -20,8 +20,8 @@ from bivrang import Client, Connection, Servers  # noqa: E402
 
 REPOSITORY = pathlib.Path(__file__).resolve().parents[3]
 HOST = "127.0.0.1"
-START_SECONDS = 30
-PATIENCE = 30
+START_SECONDS = 60
+PATIENCE = 60
 SHORT = 0.2
 
 NAMESPACES = {

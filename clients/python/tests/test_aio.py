@@ -241,13 +241,13 @@ class Waiting(FakeCase):
 
 class Forks(FakeCase):
     def test_a_child_makes_a_connection_of_its_own(self):
-        """Also in the middle of a call of the parent's loop, which goes on as if nothing was."""
+        """The parent's event loop and connection go on as if nothing was."""
         fake = Fake(self, replies(b"VAL of a\n", b"VAL later\n"), replies(b"VAL of b\n"))
 
         async def main():
             async with aio.Client(HOST, fake.port, reply_seconds=PATIENCE) as cache:
                 self.assertEqual(await cache.get("a"), b"of a")
-                child = Forked(lambda: run_elsewhere(cache.get("b")) == b"of b")
+                child = Forked(lambda: asyncio.run(cache.get("b")) == b"of b")
                 await asyncio.sleep(SHORT)
                 self.assertEqual(await cache.get("c"), b"later")
             return child
@@ -276,12 +276,6 @@ class Forks(FakeCase):
                 self.assertEqual(await call, b"of a")
 
         asyncio.run(main())
-
-
-def run_elsewhere(work):
-    """Runs a coroutine under a loop of a child's own, while the parent's seems to run."""
-    asyncio.events._set_running_loop(None)
-    return asyncio.run(work)
 
 
 if __name__ == "__main__":

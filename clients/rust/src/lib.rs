@@ -1261,12 +1261,14 @@ impl BackOff {
         true
     }
 
-    /// Takes note of how a call ended. `None`: it succeeded.
+    /// Takes note of a call's error, if it had one. Any reply ends the time.
     fn leave(&self, error: Option<&Error>, retry_after: Duration) {
         match error {
-            Some(error) if !error.is_silence() => {}
-            Some(_) => *self.until() = Instant::now().checked_add(retry_after),
-            None => *self.until() = None,
+            Some(error) if error.is_silence() => {
+                *self.until() = Instant::now().checked_add(retry_after);
+            }
+            Some(error) if error.is_of_link() => {}
+            _ => *self.until() = None,
         }
     }
 }
