@@ -116,7 +116,7 @@ class Tasks(RealCase):
 
     def test_they_share_a_pool(self):
         async def work(cache, number):
-            for turn in range(100):
+            for turn in range(25):
                 await cache.set(f"k{number}", f"{number} {turn}")
                 told = await cache.get(f"k{number}")
                 self.assertEqual(told, f"{number} {turn}".encode())
@@ -127,7 +127,7 @@ class Tasks(RealCase):
             async with aio.Client(HOST, port, 3, wait_seconds=PATIENCE) as cache:
                 await cache.clear()
                 await asyncio.gather(*(work(cache, number) for number in range(8)))
-                self.assertEqual(await cache.get("all"), b"800")
+                self.assertEqual(await cache.get("all"), b"200")
                 self.assertEqual(len(cache._idle), 3)
 
         asyncio.run(main())
