@@ -100,6 +100,7 @@ class Alike(unittest.TestCase):
             self.assertEqual(calls, {name for name in dir(awaited) if not name.startswith("_")})
             for call in sorted(calls | {"__init__"}):
                 if callable(getattr(blocking, call)):
+                    self.assertTrue(call == "__init__" or getattr(awaited, call).__doc__, call)
                     theirs = [
                         [
                             str(it)
