@@ -22,9 +22,9 @@
 //! the protocol. Keys and values are bytes, or texts, which are sent as UTF-8.
 //!
 //! A process that [`std::process::Command`] starts inherits no connection. One made by `fork`,
-//! which the standard library does not have, does: there a [`Connection`] is closed, and a [`Pool`]
-//! makes its own, which the parent and the server do not notice. But a pool that another thread was
-//! using during the `fork` may not be used in the child, like anything that a [`Mutex`] guards.
+//! which the standard library does not have, does: there a [`Connection`] counts as closed, and a
+//! [`Pool`] opens its own; the parent and the server do not notice. But a pool that another thread
+//! was using during the `fork` may not be used in the child, like anything that a [`Mutex`] guards.
 
 use std::collections::HashSet;
 use std::fmt;
