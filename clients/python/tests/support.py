@@ -91,14 +91,14 @@ class RealServer:
         self.end()
         self.folder.cleanup()
 
-    def notices(self, count):
-        """The next notices."""
-        return [self.lines.get(timeout=PATIENCE) for _ in range(count)]
-
-    def drop_notices(self):
-        """Takes those that came until now."""
-        while not self.lines.empty():
-            self.lines.get()
+    def notices(self, name, count):
+        """The next notices of a namespace."""
+        told = []
+        while len(told) < count:
+            line = self.lines.get(timeout=PATIENCE)
+            if line.startswith(name.encode() + b" NOTE "):
+                told.append(line)
+        return told
 
 
 class TheServer:

@@ -284,6 +284,9 @@ impl fmt::Display for ErrorKind {
                 out.write_str("no whole line of a reply within the time limit")
             }
             ErrorKind::BadReply(line) => write!(out, "no reply to this: {}", line.escape_ascii()),
+            ErrorKind::Server(ServerError::Deadline) => {
+                out.write_str("ERR deadline: the namespace needs `deadlines = true`")
+            }
             ErrorKind::Server(error) => error.fmt(out),
         }
     }

@@ -227,11 +227,12 @@ fn many_at_once() -> Result<(), Error> {
     assert_eq!(told, [Some(Vec::new()), None, Some(b"1".to_vec())]);
     assert_eq!(cache.get_many::<&str>(&[])?, Vec::<Option<Vec<u8>>>::new());
     let refused = cache.set_many(&[("a", "1")], Some(Duration::from_secs(1)));
-    let refused = kind(&refused);
     assert!(matches!(
-        refused,
+        kind(&refused),
         Some(ErrorKind::Server(ServerError::Deadline))
     ));
+    let text = refused.expect_err("it is refused").to_string();
+    assert!(text.contains("deadlines = true"), "{text}");
     Ok(())
 }
 
