@@ -7,7 +7,7 @@
 set -uo pipefail
 cd "$(dirname "$0")/.."
 program=$(realpath -m "${1:-crates/cached/out/cached}")
-seconds=170
+seconds=240
 
 if [ ! -x "$program" ]; then
     echo "clients: FAILED: $program is missing; \`rt run\` in crates/cached creates it" >&2

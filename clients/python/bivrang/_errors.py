@@ -165,6 +165,7 @@ def error_of_reply(line: bytes) -> ServerError:
     kind: Type[ServerError] = _OF_REPLIES.get(line, ServerError)
     if line.startswith(b"ERR load "):
         kind = LoadFailed
-    error = kind(line.decode("ascii", "backslashreplace"))
+    cure = ": the namespace needs `deadlines = true`" if kind is DeadlineError else ""
+    error = kind(line.decode("ascii", "backslashreplace") + cure)
     error.reply = line
     return error

@@ -15,12 +15,14 @@ import collections
 import contextlib
 import errno
 import functools
+import inspect
 import os
 import socket
 import time
 from types import TracebackType
 from typing import (
     Any,
+    Callable,
     Deque,
     Dict,
     Generic,
@@ -35,7 +37,7 @@ from typing import (
     overload,
 )
 
-from ._blocking import connect_error
+from . import _blocking
 from ._codecs import RAW, Codec, Given, Text, Told
 from ._errors import BivrangError, ConnectionBroken, LinkError, PoolTimeout
 from ._links import RECEIVED_AT_ONCE, Link, Pool, Receive, Send, Steps
@@ -61,9 +63,21 @@ Key = TypeVar("Key", str, bytes)
 T = TypeVar("T")
 
 
+def _documented_as(blocking: type) -> Callable[[Type[T]], Type[T]]:
+    """Gives each call of a class the text of the call of the same name that blocks."""
+
+    def document(kind: Type[T]) -> Type[T]:
+        for name, call in vars(kind).items():
+            if inspect.iscoroutinefunction(call) and not call.__doc__:
+                call.__doc__ = getattr(getattr(blocking, name, None), "__doc__", None)
+        return kind
+
+    return document
+
+
+@_documented_as(_blocking.KeyedCommands)
 class KeyedCommands(Generic[Given, Told]):
-    """The requests with a key, as in `bivrang.KeyedCommands`, which says what each returns and
-    raises."""
+    """The requests with a key, as in `bivrang.KeyedCommands`."""
 
     codec: Codec[Given, Told]
 
@@ -117,6 +131,7 @@ class KeyedCommands(Generic[Given, Told]):
         return await self._ask(Request.incr(key, number, ttl=ttl))
 
 
+@_documented_as(_blocking.Commands)
 class Commands(KeyedCommands[Given, Told]):
     """All requests except for `QUIT`, as in `bivrang.Commands`."""
 
@@ -210,7 +225,7 @@ class _Connection(Link):
         try:
             self._socket = await _connected(self.host, self.port, until)
         except OSError as error:
-            failed = connect_error(error, connect_seconds)
+            failed = _blocking.connect_error(error, connect_seconds)
             failed._place(self.host, self.port, None)
             raise failed from error
         return self
@@ -390,6 +405,7 @@ class Client(Pool[_Connection], Commands[Given, Told]):
         return await connection._open(self._connect_seconds)
 
 
+@_documented_as(_blocking.Servers)
 class Servers(Spread["Client[Any, Any]"], KeyedCommands[Given, Told]):
     """Several servers, each a `Client`, over which keys are spread by rendezvous hashing. Arguments
     and rules are those of `bivrang.Servers`; several servers are asked at the same time."""
@@ -442,6 +458,8 @@ class Servers(Spread["Client[Any, Any]"], KeyedCommands[Given, Told]):
         self.close()
 
     async def each(self, request: Request[T]) -> "Dict[str, Union[T, BivrangError]]":
+        """Sends each server a request, all at the same time. Returns the results by name; an error
+        takes the place of its server's result."""
         calls = calls_of([request], self.codec)
         results = await self._run_shares({name: calls for name in self.clients})
         return {name: of_one[0] for name, of_one in results.items()}

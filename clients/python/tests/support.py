@@ -20,8 +20,8 @@ from bivrang import Client, Connection, Servers  # noqa: E402
 
 REPOSITORY = pathlib.Path(__file__).resolve().parents[3]
 HOST = "127.0.0.1"
-START_SECONDS = 30
-PATIENCE = 30
+START_SECONDS = 60
+PATIENCE = 60
 SHORT = 0.2
 
 NAMESPACES = {
@@ -91,14 +91,14 @@ class RealServer:
         self.end()
         self.folder.cleanup()
 
-    def notices(self, count):
-        """The next notices."""
-        return [self.lines.get(timeout=PATIENCE) for _ in range(count)]
-
-    def drop_notices(self):
-        """Takes those that came until now."""
-        while not self.lines.empty():
-            self.lines.get()
+    def notices(self, name, count):
+        """The next notices of a namespace."""
+        told = []
+        while len(told) < count:
+            line = self.lines.get(timeout=PATIENCE)
+            if line.startswith(name.encode() + b" NOTE "):
+                told.append(line)
+        return told
 
 
 class TheServer:

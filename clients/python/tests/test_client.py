@@ -21,7 +21,7 @@ class Commands(RealCase):
         self.assertEqual(cache.get("a"), b"two words")
         self.assertIsNone(cache.delete("a"))
         self.assertIsNone(cache.get("a"))
-        with self.assertRaises(bivrang.DeadlineError):
+        with self.assertRaisesRegex(bivrang.DeadlineError, "needs `deadlines = true`"):
             cache.set("a", "x", ttl=0.005)
         self.assertEqual(cache.incr("n", 2), 2)
         self.assertEqual(cache.incr("n", 40), 42)
@@ -167,16 +167,20 @@ class Commands(RealCase):
 
     def test_notices(self):
         cache = self.client("small")
-        self.server.drop_notices()
+        # What an earlier test left is told late, but before this.
+        cache.set("last", "x")
+        cache.delete("last")
+        while self.server.notices("small", 1) != [b"small NOTE Explicit last x\n"]:
+            pass
         cache.set("a", "1")
         cache.set("a", "2")
         cache.delete("a")
         told = [b"small NOTE Replaced a 1\n", b"small NOTE Explicit a 2\n"]
-        self.assertEqual(self.server.notices(2), told)
+        self.assertEqual(self.server.notices("small", 2), told)
         for key in "bcd":
             cache.set(key, "of " + key)
         cache.sync()
-        self.assertEqual(self.server.notices(1), [b"small NOTE Size b of b\n"])
+        self.assertEqual(self.server.notices("small", 1), [b"small NOTE Size b of b\n"])
 
     def test_many_keys(self):
         cache = self.client()

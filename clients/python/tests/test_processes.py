@@ -16,8 +16,7 @@ class ForkedWithServer(RealCase):
 
     def warm(self, cache):
         """Stores each key as its own value, and leaves an idle connection behind."""
-        for key in self.KEYS:
-            cache.set(key, key)
+        cache.set_many({key: key for key in self.KEYS})
 
     def wrong(self, cache, turns):
         """How many of so many look-ups return another value than the key's."""
@@ -27,8 +26,8 @@ class ForkedWithServer(RealCase):
     def test_fork(self):
         cache = self.client()
         self.warm(cache)
-        children = [Forked(lambda: self.wrong(cache, 1000) == 0) for _ in range(3)]
-        self.assertEqual(self.wrong(cache, 1000), 0)
+        children = [Forked(lambda: self.wrong(cache, 300) == 0) for _ in range(3)]
+        self.assertEqual(self.wrong(cache, 300), 0)
         for child in children:
             self.assertEqual(child.status(), 0)
 
@@ -39,7 +38,7 @@ class ForkedWithServer(RealCase):
         global in_process
         in_process = lambda turns: self.wrong(cache, turns)  # noqa: E731
         with multiprocessing.get_context("fork").Pool(4) as pool:
-            told = pool.map_async(run_in_process, [400] * 4, chunksize=1)
+            told = pool.map_async(run_in_process, [150] * 4, chunksize=1)
             self.assertEqual(told.get(PATIENCE), [0] * 4)
         self.assertEqual(self.wrong(cache, 100), 0)
 

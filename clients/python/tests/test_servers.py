@@ -7,6 +7,8 @@ import bivrang
 from bivrang import Held, Request, Server, Servers
 from bivrang._spread import BackOff
 
+LONGER = 5 * SHORT
+
 
 class SeveralServers(RealCase):
     def setUp(self):
@@ -137,20 +139,20 @@ class ServersThatFail(FakeCase):
 
     def test_it_is_asked_again(self):
         fake = Fake(self, replies(b""), replies(b"VAL 1\n"))
-        servers = self.servers_of(Server(HOST, fake.port), reply_seconds=SHORT, retry_after=SHORT)
+        servers = self.servers_of(Server(HOST, fake.port), reply_seconds=LONGER, retry_after=LONGER)
         with self.assertRaises(bivrang.ReplyTimeout):
             servers.get("a")
         with self.assertRaises(bivrang.ServerAway):
             servers.get("a")
-        time.sleep(SHORT)
+        time.sleep(LONGER)
         self.assertEqual(servers.get("a"), b"1")
         self.assertEqual(fake.received, [b"GET a\n", b"GET a\n"])
 
     def test_one_call_alone_tries_it(self):
-        back_off = BackOff(SHORT)
+        back_off = BackOff(LONGER)
         back_off.enter()
         back_off.failed(bivrang.ConnectFailed())
-        time.sleep(SHORT)
+        time.sleep(LONGER)
         back_off.enter()
         with self.assertRaises(bivrang.ServerAway):
             back_off.enter()
@@ -159,7 +161,7 @@ class ServersThatFail(FakeCase):
 
     def test_it_can_be_asked_each_time(self):
         fake = Fake(self, replies(b""), replies(b"VAL 1\n"))
-        servers = self.servers_of(Server(HOST, fake.port), reply_seconds=SHORT, retry_after=0)
+        servers = self.servers_of(Server(HOST, fake.port), reply_seconds=LONGER, retry_after=0)
         with self.assertRaises(bivrang.ReplyTimeout):
             servers.get("a")
         self.assertEqual(servers.get("a"), b"1")

@@ -22,9 +22,9 @@
 //! the protocol. Keys and values are bytes, or texts, which are sent as UTF-8.
 //!
 //! A process that [`std::process::Command`] starts inherits no connection. One made by `fork`,
-//! which the standard library does not have, does: there a [`Connection`] is closed, and a [`Pool`]
-//! makes its own, which the parent and the server do not notice. But a pool that another thread was
-//! using during the `fork` may not be used in the child, like anything that a [`Mutex`] guards.
+//! which the standard library does not have, does: there a [`Connection`] counts as closed, and a
+//! [`Pool`] opens its own; the parent and the server do not notice. But a pool that another thread
+//! was using during the `fork` may not be used in the child, like anything that a [`Mutex`] guards.
 
 use std::collections::HashSet;
 use std::fmt;
@@ -284,6 +284,9 @@ impl fmt::Display for ErrorKind {
                 out.write_str("no whole line of a reply within the time limit")
             }
             ErrorKind::BadReply(line) => write!(out, "no reply to this: {}", line.escape_ascii()),
+            ErrorKind::Server(ServerError::Deadline) => {
+                out.write_str("ERR deadline: the namespace needs `deadlines = true`")
+            }
             ErrorKind::Server(error) => error.fmt(out),
         }
     }
@@ -1261,12 +1264,14 @@ impl BackOff {
         true
     }
 
-    /// Takes note of how a call ended. `None`: it succeeded.
+    /// Takes note of a call's error, if it had one. Any reply ends the time.
     fn leave(&self, error: Option<&Error>, retry_after: Duration) {
         match error {
-            Some(error) if !error.is_silence() => {}
-            Some(_) => *self.until() = Instant::now().checked_add(retry_after),
-            None => *self.until() = None,
+            Some(error) if error.is_silence() => {
+                *self.until() = Instant::now().checked_add(retry_after);
+            }
+            Some(error) if error.is_of_link() => {}
+            _ => *self.until() = None,
         }
     }
 }

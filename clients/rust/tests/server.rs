@@ -17,7 +17,7 @@ use std::thread;
 use std::thread::JoinHandle;
 use std::time::{Duration, Instant};
 
-const PATIENCE: Duration = Duration::from_secs(30);
+const PATIENCE: Duration = Duration::from_secs(60);
 const SHORT: Duration = Duration::from_millis(200);
 
 const OPTIONS: Options = Options {
@@ -227,11 +227,12 @@ fn many_at_once() -> Result<(), Error> {
     assert_eq!(told, [Some(Vec::new()), None, Some(b"1".to_vec())]);
     assert_eq!(cache.get_many::<&str>(&[])?, Vec::<Option<Vec<u8>>>::new());
     let refused = cache.set_many(&[("a", "1")], Some(Duration::from_secs(1)));
-    let refused = kind(&refused);
     assert!(matches!(
-        refused,
+        kind(&refused),
         Some(ErrorKind::Server(ServerError::Deadline))
     ));
+    let text = refused.expect_err("it is refused").to_string();
+    assert!(text.contains("deadlines = true"), "{text}");
     Ok(())
 }
 
@@ -1098,13 +1099,16 @@ fn a_server_that_is_gone_can_be_asked_each_time() {
 
 #[test]
 fn a_server_is_asked_again() -> Result<(), Error> {
-    let fake = Fake::start(&[Act::Replies(vec![b""]), Act::Replies(vec![b"VAL 1\n"])]);
+    let fake = Fake::start(&[
+        Act::Replies(vec![b""]),
+        Act::Replies(vec![b"ERR number\n", b"VAL 1\n"]),
+    ]);
     let options = Options {
-        reply: SHORT,
+        reply: 5 * SHORT,
         ..OPTIONS
     };
     let servers = Servers::new(&[Server::at(&fake.address)], options).expect("it can be taken");
-    let servers = servers.with_retry_after(SHORT);
+    let servers = servers.with_retry_after(5 * SHORT);
     let told = servers.get("a");
     assert!(
         matches!(kind(&told), Some(ErrorKind::ReplyTimeout)),
@@ -1112,7 +1116,12 @@ fn a_server_is_asked_again() -> Result<(), Error> {
     );
     let told = servers.get("a");
     assert!(matches!(kind(&told), Some(ErrorKind::Away)), "{told:?}");
-    thread::sleep(SHORT);
+    thread::sleep(5 * SHORT);
+    let told = servers.each(|pool| pool.incr("n", 1, None));
+    assert!(matches!(
+        kind(&told[0].1),
+        Some(ErrorKind::Server(ServerError::Number))
+    ));
     assert_eq!(servers.get("a")?, Some(b"1".to_vec()));
     drop(servers);
     Ok(())
