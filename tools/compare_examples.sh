@@ -77,3 +77,10 @@ trap 'rm -rf "$folder"' EXIT
 taken=$(python3 tools/take_crates.py "$folder" moka_sync)
 same "how many crates docs/FROM_MOKA.md and tools/take_crates.py take" \
     "$(grep -o 'the [0-9]* crates below it' docs/FROM_MOKA.md | head -n 1)" "the $((${taken%% *} - 1)) crates below it"
+
+# README lists every crate of the kit that crates.txt names, and no other.
+lines=$(sed 's/#.*//' crates.txt | grep ':')
+own=$(sed 's/[ :].*//' <<<"$lines" | sort -u)
+same "the kit's crates in README.md and those in crates.txt" \
+    "$(sed -n 's/^Crates of the kit: //p' README.md | grep -o '`[a-z_0-9]*`' | tr -d '`' | sort)" \
+    "$(sed 's/.*: *//' <<<"$lines" | tr ' ' '\n' | sort -u | comm -23 - <(printf '%s\n' "$own") | sed '/^$/d')"
