@@ -44,8 +44,7 @@ pub sent-behind : (was is : BareSpace) (happened : Event) (s t : Situation) (ent
 sent-behind was is happened s t entry settled turned follows stands =
     let sends : SendsBehind was is = settled.stays.sends in
     let behind = subst (λ u. StandsFor is u) (same_Some turned.next t (sym turned.follows ∙ follows)) turned.stands in
-    let before = sent-is was s stands in
-    (
+    let before = sent-is was s stands in (
       sends.loads,
       record {
         place = was.namespace;
