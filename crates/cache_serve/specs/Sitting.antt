@@ -1,6 +1,6 @@
 -- What the host of a connection of a shared service guarantees, by its seat.
 use Rattle.std.proofs.Common.{◌∙◌, ap, arith, inl, inr}
-use Rattle.std.specs.Prelude.{◌≡◌, ℕ, ◌+◌, Bool, true, false, List, [], ◌∷◌, ◌++◌, Option, Some, None, IfSome, Result, Ok, Err, Vec}
+use Rattle.std.specs.Prelude.{◌≡◌, ℕ, ◌+◌, ◌-◌, ◌^◌, ◌≤◌, Bool, true, false, List, [], ◌∷◌, ◌++◌, Option, Some, None, IfSome, Result, Ok, Err, Vec}
 use Rattle.std.specs.Option.{option_map}
 use Rattle.std.specs.declared.alloc.Global.{Global}
 use Rattle.audit_model.specs.declared.event.Outcome.{Outcome}
@@ -132,6 +132,10 @@ closes-behind conn h m k rests closes =
       one = omega (arith, same, one);
       rises = omega (arith, same, rises);
     }
+
+-- a count that was used up is so later
+pub used-later : (k l : ℕ) → k ≤ l → 2 ^ 64 - 1 ≤ k → 2 ^ 64 - 1 ≤ l
+used-later k l later used = omega (arith, later, used)
 
 pub none-short : IsShortPiece []
 none-short = record {

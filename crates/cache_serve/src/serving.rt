@@ -1,5 +1,5 @@
 //! One connection of a shared service, from its opening to its closing.
-ghost use Rattle.std.specs.Prelude.{◌≡◌, ◌≤◌, ◌↔◌, Ok, IsErrOf, IsTrue};
+ghost use Rattle.std.specs.Prelude.{◌≡◌, ◌≤◌, ◌↔◌, ◌-◌, ◌^◌, Ok, IsErrOf, IsTrue};
 ghost use Rattle.cache_run.specs.Devices.Failures.{HasFailed};
 ghost use Rattle.cache_run.specs.Devices.Watched.{failures};
 ghost use Rattle.cache_run.specs.Devices.Sources.{HasToldLate};
@@ -65,6 +65,7 @@ pub fn serve<L: Seating, C: Shareable, I: Read, O: Write, K: Clock, D: Loader, R
     ensures write { IsErrOf result RunError.Write
         → HasFailed (failures writer.old) (failures writer.new) }
     ensures moment { IsErrOf result RunError.Moment → HasToldLate K.reads clock.new }
+    ensures used_up { IsErrOf result RunError.UsedUp → 2 ^ 64 - 1 ≤ seat.new.count }
     ensures loader { HasAskedSome D.loads loader.old loader.new }
 {
     serve_and_tell(
@@ -114,9 +115,10 @@ pub fn serve_and_tell<
     ensures write { IsErrOf result RunError.Write
         → HasFailed (failures writer.old) (failures writer.new) }
     ensures moment { IsErrOf result RunError.Moment → HasToldLate K.reads clock.new }
+    ensures used_up { IsErrOf result RunError.UsedUp → 2 ^ 64 - 1 ≤ seat.new.count }
     ensures loader { HasAskedSome D.loads loader.old loader.new }
 {
-    let Ok(mut sitting) = Sitting::new(rt, alloc, shared, teller) else {
+    let Ok(mut sitting) = Sitting::new(rt, alloc, shared, teller, true) else {
         return Err(RunError::OutOfMemory);
     };
     let mut session = open(&mut sitting, seat, alloc, namespace)?;

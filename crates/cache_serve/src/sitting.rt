@@ -1,10 +1,10 @@
 //! The host of a connection that has a seat of a shared service.
-ghost use Rattle.std.specs.Prelude.{◌≡◌, ◌≤◌, ◌⊎◌, ◌^◌, true, false, IfOk, IfErr, IfSome, OnOk, OnErr};
+ghost use Rattle.std.specs.Prelude.{◌≡◌, ◌≤◌, ◌⊎◌, ◌-◌, ◌^◌, true, false, IfOk, IfErr, IfSome, OnOk, OnErr};
 ghost use Rattle.audit_model.specs.declared.input.Conn.{Conn};
 ghost use Rattle.cache_run.specs.Driver.Hosting.{Stops};
 ghost use Rattle.cache_serve.specs.Asked.{give_up_input};
 ghost use Rattle.cache_serve.specs.Cutting.{IsShortPiece};
-ghost use Rattle.cache_serve.specs.Sitting.{Closes, Comes, Drops, DropsBy, DropsOne, Gives, Opens, SeatRests, SeatTakes, Settles, TakesIfGiven, closes-behind, none-short, tally};
+ghost use Rattle.cache_serve.specs.Sitting.{Closes, Comes, Drops, DropsBy, DropsOne, Gives, Opens, SeatRests, SeatTakes, Settles, TakesIfGiven, closes-behind, none-short, tally, used-later};
 ghost use Rattle.cache_shared.specs.Events.{IsLate, IsUnfitAnswer, is_of_outcome};
 ghost use Rattle.cache_shared.specs.Looked.{Owes};
 
@@ -31,15 +31,19 @@ pub struct Sitting<'a, L: Seating, C: Shareable, T: Teller, R: Wait> {
     teller: &'a mut T,
     notes: Vec<Note>,
     replied: usize,
+    // whether it waits for loads that are requested from other connections' loaders
+    waits: bool,
 }
 
 impl<'a, L: Seating, C: Shareable, T: Teller, R: Wait> Sitting<'a, L, C, T, R> {
-    /// What a connection is served with, with room for notes if they are received.
+    /// What a connection is served with, with room for notes if they are received. `waits` says whether it waits for loads that are requested
+    /// from other connections' loaders, or only looks.
     pub fn new(
         rt: &'a R,
         alloc: Global,
         shared: &'a SharedService<L, C>,
         teller: &'a mut T,
+        waits: bool,
     ) -> Result<Self, AllocError> {
         let room = if teller.is_told() { NOTES_AT_ONCE } else { 0 };
         Ok(Sitting {
@@ -49,6 +53,7 @@ impl<'a, L: Seating, C: Shareable, T: Teller, R: Wait> Sitting<'a, L, C, T, R> {
             teller,
             notes: Vec::with_capacity(alloc, room)?,
             replied: 0,
+            waits,
         })
     }
 
@@ -99,9 +104,14 @@ impl<'a, L: Seating, C: Shareable, T: Teller, R: Wait> Sitting<'a, L, C, T, R> {
         ensures rests { OnErr result (SeatRests (tally seat.old) (tally seat.new)) }
         ensures late { IfErr result (λ e. e ≡ ServiceError.Moment → IsLate input) }
         ensures unfit { IfErr result (λ e. is_of_outcome e ≡ true → IsUnfitAnswer input) }
+        ensures used_up { IfErr result
+            (λ e. e ≡ ServiceError.UsedUp → seat.old.count ≡ 2 ^ 64 - 1) }
     {
         let Sitting { shared, notes, .. } = self;
-        let turn = shared.turn(self.rt, seat, conn, input, wants_loads, notes)?;
+        let turn = match shared.turn(self.rt, seat, conn, input, wants_loads, notes) {
+            Ok(turn) => turn,
+            Err(refusal) => return Err(refusal.error),
+        };
         self.tell_notes(conn.namespace);
         let is_held = matches!(turn.output, Output::Held);
         Ok(self.give(turn.owed, is_held, wants_loads))
@@ -130,7 +140,8 @@ impl<'a, L: Seating, C: Shareable, T: Teller, R: Wait> Sitting<'a, L, C, T, R> {
             (tally seat.old) (tally seat.new) }
         ensures given { IfOk result
             (λ given. IfSome given (Gives C.spaces C.untaken conn wants_loads)) }
-        ensures why { IfErr result (Stops (Unit {0}) (2 ^ 63 ≤ moment)) }
+        ensures why { IfErr result
+            (Stops (2 ^ 64 - 1 ≤ seat.new.count) (2 ^ 63 ≤ moment)) }
     {
         for _try in self.rt.forever() {
             let input = Input::GiveUp {
@@ -168,7 +179,8 @@ impl<'a, L: Seating, C: Shareable, T: Teller, R: Wait> Sitting<'a, L, C, T, R> {
         ensures rests { OnErr result (SeatRests (tally seat.old) (tally seat.new)) }
         ensures given { IfOk result
             (λ given. IfSome given (Gives C.spaces C.untaken conn wants_loads)) }
-        ensures why { IfErr result (Stops (Unit {0}) (2 ^ 63 ≤ moment)) }
+        ensures why { IfErr result
+            (Stops (2 ^ 64 - 1 ≤ seat.new.count) (2 ^ 63 ≤ moment)) }
     {
         let outcome = match said {
             Some(outcome) => outcome,
@@ -252,7 +264,7 @@ impl<L: Seating, C: Shareable, T: Teller, R: Wait> Host for Sitting<'_, L, C, T,
 
     ghost counted = { λ seat. seat.count };
 
-    ghost exhausts = { λ before after. Unit {0} };
+    ghost exhausts = { λ before after. 2 ^ 64 - 1 ≤ after };
 
     ghost closes = { Closes C.spaces C.untaken C.KEEPS };
 
@@ -308,7 +320,9 @@ impl<L: Seating, C: Shareable, T: Teller, R: Wait> Host for Sitting<'_, L, C, T,
     }
 
     fn await_owed(&mut self, place: &mut Seat<L>, conn: Conn) -> Given {
-        self.shared.await_ready(self.rt, place, conn);
+        if self.waits {
+            self.shared.await_ready(self.rt, place, conn);
+        }
         self.take_owed(conn, true)
     }
 
@@ -343,7 +357,7 @@ impl<L: Seating, C: Shareable, T: Teller, R: Wait> Host for Sitting<'_, L, C, T,
 
     ghost fits_none = { none-short };
 
-    ghost exhausts_within = { λ i j k l below above used. used };
+    ghost exhausts_within = { λ i j k l below above used. used-later k l above used };
 
     ghost closes_behind = { λ conn p q r rests closes.
         closes-behind conn (tally p) (tally q) (tally r) rests closes };

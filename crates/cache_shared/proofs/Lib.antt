@@ -1,2 +1,4 @@
 pub mod Performing
 pub mod Stepping
+pub mod Moving
+pub mod Causes

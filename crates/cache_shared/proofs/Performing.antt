@@ -35,10 +35,6 @@ use Rattle.audit_model.specs.declared.input.ServiceError.TheVariants as error
 use Rattle.cache_shared.specs.Events as events
 
 module _ {T : Type 0} (tape : T → Option Taped) where
-  pub performs : {E : Type 0} (i : Input) (r : Result Output E) (old new : List (Space T)) → IfOk r (λ output. At old new (namespace_of i) (Performs tape i output)) → IfOk r (λ output. events.Performs i output (map (shown tape) old) (map (shown tape) new))
-  performs i (Ok output) old new taken = at-shown (shown tape) old new (namespace_of i) (λ was is p. performs-shown tape i output was is p) taken
-  performs i (Err e) old new taken = taken
-
   pub refused : {A : Type 0} (i : Input) (r : Result A Refusal) (old : List (Space T)) → IfErr r (λ refusal. Refuses old (namespace_of i) refusal.error (RefusedInput i refusal.error))
       → IfErr r (λ refusal. Refuses (map (shown tape) old) (namespace_of i) refusal.error (RefusedInput i refusal.error))
   refused i (Ok a) old cause = cause
@@ -117,45 +113,15 @@ loads-leave n old new (Ok loads) a same =
     ap journals_of a.set ∙ map-set journal_of old n a.is ∙ ap (λ x. slice_set (journals_of old) n (journal_of x)) a.fact.rest ∙ set-same (journals_of old) n (journal_of a.was) (journal-at old n a.was a.at)
 loads-leave n old new (Err e) a same = ap journals_of same
 
--- ---- what is taken of a service that keeps no journal
+-- ---- notes of a service that keeps no journal
 
-module _ {X : Type 0} (of : BareSpace → List X) {F : BareSpace → BareSpace → Type 0} (old new : List BareSpace) (k : ℕ) (a : At old new k F) where
-  -- what is seen of the namespace of which something was taken
-  seen-before : seen_in of old k ≡ of a.was
-  seen-before = ap (λ o. option_map_or of o []) a.at
-
-  seen-behind : seen_in of new k ≡ of a.is
-  seen-behind = ap (λ o. option_map_or of o []) (at-is F old new k a)
-
--- ---- replies
-
-pub untaken-taken : (conn : Conn) (old new : List BareSpace) (r : Result (Vec ℕ Global) ServiceError) → IfOk r (λ text. At old new conn.namespace (λ was is. TakesOutput was is conn.number text.items))
-    → IfOk r (λ text. text.items ≡ untaken_of old conn)
-untaken-taken conn old new (Ok text) a = a.fact.taken ∙ sym (seen-before (λ space. untaken_output space conn.number) old new conn.namespace a)
-untaken-taken conn old new (Err e) taken = taken
-
--- ---- notes
-
-first-note : (note : Option Note) (was is : BareSpace) → TakesNotice was is note → notices_of was ≡ option_to_list note ++ notices_of is
+pub first-note : (note : Option Note) (was is : BareSpace) → TakesNotice was is note → notices_of was ≡ option_to_list note ++ notices_of is
 first-note None was is t = t.taken.0 ∙ sym t.taken.1
 first-note (Some note) was is t = t.taken
 
-no-note : (note : Option Note) (was is : BareSpace) → TakesNotice was is note → IsNone note → notices_of was ≡ []
+pub no-note : (note : Option Note) (was is : BareSpace) → TakesNotice was is note → IsNone note → notices_of was ≡ []
 no-note None was is t none = t.taken.0
 no-note (Some note) was is t none = absurd (let h : true ≡ false = none in cc)
-
-module _ (n : ℕ) (old new : List BareSpace) where
-  abbrev pub Noted : Result (Option Note) ServiceError → Type 0
-  Noted r = IfOk r (λ note. At old new n (λ was is. TakesNotice was is note))
-
-  pub untold-note : (r : Result (Option Note) ServiceError) → Noted r → IfOk r (λ note. untold_of old n ≡ option_to_list note ++ untold_of new n)
-  untold-note (Ok told) a =
-      seen-before notices_of old new n a ∙ first-note told a.was a.is a.fact ∙ ap (λ l. option_to_list told ++ l) (sym (seen-behind notices_of old new n a))
-  untold-note (Err e) taken = taken
-
-  pub untold-none : (r : Result (Option Note) ServiceError) → Noted r → IfOk r (λ note. IsNone note → untold_of old n ≡ [])
-  untold-none (Ok told) a = λ none. seen-before notices_of old new n a ∙ no-note told a.was a.is a.fact none
-  untold-none (Err e) taken = taken
 
 pub untold-refused : (n : ℕ) (old : List BareSpace) (r : Result (Option Note) ServiceError) → IfErr r (λ e. (e ≡ error.NoNamespace) × (length old ≤ n))
     → IfErr r (λ e. Refuses (map (shown bare_tape) old) n e (λ space. e ≡ error.OutOfMemory))

@@ -1,20 +1,16 @@
--- What a step of a seat comes to, and for what one is refused; receipts that grow and that agree.
-use Rattle.std.proofs.Common.{◌≡◌, ℕ, Bool, true, false, List, Some, None, refl, sym, subst, arith, ◌+◌, Vec, Global, ◌∙◌, ap, ◌≢◌, ◌⊎◌, ◌^◌, not, nat_le, Option, is_some, inl, inr, zero, suc, ◌<◌, [], ◌∷◌, ◌++◌, length, get_or, map, cond, ◌≤◌, append_assoc}
+-- What a step of a seat comes to; receipts that grow and that agree.
+use Rattle.std.proofs.Common.{◌≡◌, ℕ, Bool, true, false, List, Some, refl, sym, subst, arith, ◌+◌, Vec, Global, ◌∙◌, ap, ◌≢◌, ◌⊎◌, inl, inr, ◌<◌, [], ◌∷◌, ◌++◌, length, get_or, map, cond, ◌≤◌}
 use Rattle.std.proofs.Math.Logic.{∥∥₁_elim, ∥∥₁_map}
 use Rattle.std.proofs.Math.Nat.{eq-or-lt_of_le}
 use Rattle.std.proofs.Math.Seq.{map-set_same}
 use Rattle.std.proofs.Props.{props}
 use Rattle.std.proofs.lemmas.Bool.{eq-eqb}
 use Rattle.std.proofs.lemmas.List.{get_or-map, get_or-set_other, get_or-set_same, length-map, map-set, append-nil}
-use Rattle.std.proofs.lemmas.Option.{slice_get_within, none-some, same_Some}
+use Rattle.std.proofs.lemmas.Option.{slice_get_within, same_Some}
 use Rattle.std.specs.List.{slice_get}
-use Rattle.std.specs.Option.{option_map_or, option_or}
-use Rattle.std.specs.Prelude.{Result, Ok, Err, IfOk, IsTrue, if◌then◌else◌, OnOk, MatchOption, IfErr, slice_set}
-use Rattle.audit_model.specs.Belongs.{Known, refusal_of, refusal_of_outcome, refusal_where}
-use Rattle.audit_model.specs.declared.config.Config.{Config}
-use Rattle.audit_model.specs.declared.event.Event.{Event}
+use Rattle.std.specs.Prelude.{Result, Ok, Err, IfOk, IsTrue, if◌then◌else◌, OnOk, slice_set}
+use Rattle.audit_model.specs.declared.input.Conn.{Conn}
 use Rattle.audit_model.specs.declared.input.Input.{Input}
-use Rattle.audit_model.specs.declared.input.ServiceError.{ServiceError}
 use Rattle.audit_model.specs.declared.transcript.Note.{Note}
 use Rattle.audit_model.specs.declared.transcript.Step.{Step}
 use Rattle.audit_model.specs.declared.transcript.Transcript.{Transcript}
@@ -24,16 +20,15 @@ use Rattle.audit_laws.specs.declared.receipts.output.Output.TheVariants.{All, He
 use Rattle.audit_laws.specs.declared.receipts.receipt.Receipt.{Receipt}
 use Rattle.cache_core.proofs.connections.Getting.{found-at}
 use Rattle.cache_spaces.proofs.Reaching.{reached-more, asked-is, event_of}
-use Rattle.cache_spaces.specs.Calls.{namespace_of, is_held_for}
+use Rattle.cache_spaces.specs.Calls.{namespace_of}
 use Rattle.cache_spaces.specs.Journals.{IsReached}
-use Rattle.cache_spaces.specs.Spaces.{Shown, shown_tape, config_of, known_of}
-use Rattle.cache_spaces.specs.declared.stepping.Refusal.{Refusal}
-use Rattle.cache_shared.specs.Events.{Performs, is_fed, is_output_for, CountsRecord, StandsAfter, IsUnfitAnswer, RefusesStep, is_of_outcome, IsLastNumber}
+use Rattle.cache_spaces.specs.Spaces.{Shown, shown_tape}
+use Rattle.cache_shared.specs.Events.{Performs, is_fed, is_output_for, CountsRecord, StandsAfter, IsLastNumber}
 use Rattle.cache_shared.specs.Looked.{Moves}
 use Rattle.cache_shared.specs.Marks.{marks, AllMarked}
+use Rattle.cache_shared.specs.Taken.{TakesInput}
 use Rattle.cache_shared.specs.Seats.{Counts, GainsReceipt, SameReceipts, receipts_at, receipt_for, Gains, holders, EachOnce, Agree, AgreeBelow, AgreeAll}
 use Rattle.audit_model.specs.declared.input.Input.TheVariants as input
-use Rattle.audit_model.specs.declared.input.ServiceError.TheVariants as error
 
 -- ---- an input that was taken
 
@@ -59,9 +54,10 @@ came i output old new events r a =
     subst (λ o. IsTrue (is_output_for i o)) (sym h.answers)
     (subst (λ happened. IsTrue (is_output_for i (output_with k happened h.entry.steps))) (asked-is _ i h.entry.event h.event) (fits i _ h.entry.steps))
 
-pub came-result : {E : Type 0} (i : Input) (r : Result Output E) (old new : List Shown) (events : ℕ) → ∥ IsReached old events ∥₁ → IfOk r (λ output. Performs i output old new) → IfOk r (λ output. IsTrue (is_output_for i output))
-came-result i (Ok output) old new events reached done = ∥∥₁_elim reached (Prim.hlevel props) (λ w. came i output old new events w done)
-came-result i (Err e) old new events reached done = done
+pub came-result : {C E : Type 0} (spaces : C → List Shown) (untaken : C → Conn → List ℕ) (untold : C → ℕ → List Note) (i : Input) (r : Result Output E) (old new : C) (events : ℕ) → ∥ IsReached (spaces old) events ∥₁
+    → IfOk r (λ output. TakesInput spaces untaken untold i output old new) → IfOk r (λ output. IsTrue (is_output_for i output))
+came-result spaces untaken untold i (Ok output) old new events reached done = ∥∥₁_elim reached (Prim.hlevel props) (λ w. came i output (spaces old) (spaces new) events w done.performed)
+came-result spaces untaken untold i (Err e) old new events reached done = done
 
 -- the seat counts it, and has a receipt of it if the service keeps journals
 pub counts : {E : Type 0} (Event : Type 0) (keeps : Bool) (i : Input) (r : Result Output E) (count later : ℕ) (before after : List (Vec Receipt Global)) (journals : List Transcript)
@@ -83,79 +79,6 @@ one-further keeps spaces journals i output old new n m stands taken counts is = 
   reached = ∥∥₁_map stands.reached (reached-more shown_tape i output (spaces old) (spaces new) n taken);
   counted = λ kept. counts kept ∙ ap (λ k. k + 1) (stands.counted kept);
 })
-
--- ---- one that was refused for its outcome
-
--- causes of other kinds
-conn-apart : (opened stands : Bool) → option_map_or is_of_outcome (option_or (refusal_where (not opened) error.NoConnection) (refusal_where (not stands) error.Closed)) false ≡ false
-conn-apart false stands = refl
-conn-apart true false = refl
-conn-apart true true = refl
-
-fed-apart : (opened stands late : Bool) → option_map_or is_of_outcome (option_or (option_or (refusal_where (not opened) error.NoConnection) (refusal_where (not stands) error.Closed)) (refusal_where late error.Moment)) false ≡ false
-fed-apart false stands late = refl
-fed-apart true false late = refl
-fed-apart true true false = refl
-fed-apart true true true = refl
-
-load-apart : (under_way late : Bool) → option_map_or is_of_outcome (option_or (refusal_where (not under_way) error.NoLoad) (refusal_where late error.Moment)) false ≡ false
-load-apart false late = refl
-load-apart true false = refl
-load-apart true true = refl
-
--- an answer's other causes come first
-unfit-where : (under_way late : Bool) (refused : Option ServiceError) → option_map_or is_of_outcome (option_or (refusal_where (not under_way) error.NoLoad) (option_or (refusal_where late error.Moment) refused)) false ≡ true → is_some refused ≡ true
-unfit-where false late refused so = let no : false ≡ true = so in cc
-unfit-where true true refused so = let no : false ≡ true = so in cc
-unfit-where true false None so = let no : false ≡ true = so in cc
-unfit-where true false (Some e) so = refl
-
-module _ (e : ServiceError) (so : is_of_outcome e ≡ true) where
-  other : (x : ServiceError) → is_of_outcome x ≡ false → e ≢ x
-  other x unlike is = let h : false ≡ true = sym unlike ∙ ap is_of_outcome (sym is) ∙ so in cc
-
-  memory : (held : Bool) → (e ≡ error.OutOfMemory) ⊎ ((e ≡ error.HeldAgain) × (held ≡ true)) → ⊥
-  memory held (inl full) = other error.OutOfMemory refl full
-  memory held (inr again) = other error.HeldAgain refl again.0
-
-  -- the refusal has that kind
-  kind : (o : Option ServiceError) (held : Bool) → MatchOption o ((e ≡ error.OutOfMemory) ⊎ ((e ≡ error.HeldAgain) × (held ≡ true))) (λ refused. e ≡ refused) → option_map_or is_of_outcome o false ≡ true
-  kind None held cause = absurd (memory held cause)
-  kind (Some refused) held is = ap is_of_outcome (sym is) ∙ so
-
-  never : (o : Option ServiceError) (held : Bool) → option_map_or is_of_outcome o false ≡ false → MatchOption o ((e ≡ error.OutOfMemory) ⊎ ((e ≡ error.HeldAgain) × (held ≡ true))) (λ refused. e ≡ refused) → ⊥
-  never o held unlike cause = let h : false ≡ true = sym unlike ∙ kind o held cause in cc
-
-  module _ (config : Config) (known : Known) (held : Bool) where
-    abbrev Caused : Event → Type 0
-    Caused happened = MatchOption (refusal_of config known happened) ((e ≡ error.OutOfMemory) ⊎ ((e ≡ error.HeldAgain) × (held ≡ true))) (λ refused. e ≡ refused)
-
-    unfit-input : (i : Input) (opened : ℕ) → Caused (event_of opened i) → IsUnfitAnswer i
-    unfit-input (input.Open n) opened cause = absurd (memory held cause)
-    unfit-input (input.Close conn) opened cause = absurd (never _ held (conn-apart (known.was_opened conn.number) (known.is_open conn.number)) cause)
-    unfit-input (input.Feed conn piece moment) opened cause =
-        absurd (never _ held (fed-apart (known.was_opened conn.number) (known.is_open conn.number) (nat_le (2 ^ 63) moment.nanos)) cause)
-    unfit-input (input.Answer load outcome moment) opened cause = (
-      config,
-      unfit-where (known.is_under_way load.number) (nat_le (2 ^ 63) moment.nanos) (refusal_of_outcome config outcome) (kind _ held cause),
-    )
-    unfit-input (input.GiveUp load moment) opened cause = absurd (never _ held (load-apart (known.is_under_way load.number) (nat_le (2 ^ 63) moment.nanos)) cause)
-
--- a step that is refused so
-pub unfit_step : (i : Input) (e : ServiceError) (count : ℕ) (spaces : List Shown) → is_of_outcome e ≡ true → RefusesStep i e count spaces → IsUnfitAnswer i
-unfit_step i e count spaces so (inl full) = absurd (other e so error.UsedUp refl full.0)
-unfit_step i e count spaces so (inr (inl full)) = absurd (other e so error.OutOfMemory refl full)
-unfit_step i e count spaces so (inr (inr (inl none))) = absurd (other e so error.NoNamespace refl none.0)
-unfit_step i e count spaces so (inr (inr (inr there))) =
-    let refused = there.fact in
-    let config = config_of there.space in
-    let known = known_of there.space in
-    let held = is_held_for there.space i in
-    unfit-input e so config known held i _ (subst (Caused e so config known held) (sym (asked-is _ i refused.happened refused.event)) refused.refused)
-
-pub unfit_refused : {A : Type 0} (i : Input) (r : Result A Refusal) (count : ℕ) (spaces : List Shown) → IfErr r (λ refusal. RefusesStep i refusal.error count spaces) → IfErr r (λ refusal. is_of_outcome refusal.error ≡ true → IsUnfitAnswer i)
-unfit_refused i (Ok a) count spaces refused = tt
-unfit_refused i (Err refusal) count spaces refused = λ so. unfit_step i refusal.error count spaces so refused
 
 -- Lists of receipts that grow.
 

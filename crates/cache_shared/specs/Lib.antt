@@ -3,3 +3,4 @@ pub mod Marks
 pub mod Seats
 pub mod Looked
 pub mod Recordings
+pub mod Taken

@@ -43,6 +43,15 @@ pub record HeldAtSomeMoment {C : Type 0} (spaces : C → List Shown) (Fact : Lis
   pub reached : ∥ IsReached (spaces core) events ∥₁
   pub fact : Fact (spaces core)
 
+-- At some moment, in a service to which some journals that obey lead, this was true of it and of what a call made of it.
+pub record HappenedAtSomeMoment {C : Type 0} (spaces : C → List Shown) (Fact : C → C → Type 0) :
+    Type 0 where
+  pub old : C
+  pub new : C
+  pub events : ℕ
+  pub reached : ∥ IsReached (spaces old) events ∥₁
+  pub fact : Fact old new
+
 -- At some moment, in a service to which some journals that obey lead, this was the oldest note of the namespace that was reported and not
 -- taken; none if there was none.
 pub record WasOldestNote {C : Type 0} (spaces : C → List Shown) (untold : C → ℕ → List Note)

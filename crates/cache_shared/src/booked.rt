@@ -1,9 +1,10 @@
 //! What is under the lock.
-ghost use Rattle.std.specs.Prelude.{◌≡◌, ◌≢◌, ◌+◌, ◌≤◌, [], true, false, length, map, sum_by, vec_len, vec_capacity, IfOk, IfErr, OnOk, OnErr};
-ghost use Rattle.cache_shared.specs.Events.{IsLastNumber, Performs, RefusesStep, StandsAfter, TakesNothing};
+ghost use Rattle.std.specs.Prelude.{◌≡◌, ◌≢◌, ◌+◌, ◌-◌, ◌^◌, ◌≤◌, [], true, false, length, map, sum_by, vec_len, vec_capacity, IfOk, IfErr, OnOk, OnErr};
+ghost use Rattle.cache_shared.specs.Events.{IsLastNumber, RefusesStep, StandsAfter, TakesNothing};
 ghost use Rattle.cache_shared.specs.Looked.{HeldAtSomeMoment, RefusesCopy, WereOut, WereUntaken};
 ghost use Rattle.cache_shared.specs.Seats.{AgreeAll, Counts, GainsReceipt, SameReceipts};
-ghost use Rattle.cache_spaces.specs.Calls.{At, Refuses, TakesLoads};
+ghost use Rattle.cache_shared.specs.Taken.{MovesLoads, MovesReplies, TakesInput};
+ghost use Rattle.cache_spaces.specs.Calls.{Refuses};
 
 use crate::judging::agree;
 use crate::seat::{Seat, Seating, make_lists, namespace_of};
@@ -82,8 +83,8 @@ impl<L: Seating, C: Shareable> BookedService<L, C> {
         seat: &mut Seat<L>,
         input: Input,
     ) -> Result<Output, Refusal>
-        ensures taken { IfOk result
-            (λ output. Performs input output (C.spaces self.old.core) (C.spaces self.new.core)) }
+        ensures taken { IfOk result (λ output. TakesInput C.spaces C.untaken C.untold input output
+            self.old.core self.new.core) }
         ensures events { OnOk result (self.new.book.total ≡ self.old.book.total + 1) }
         ensures counted { IfOk result (λ output. Counts C.KEEPS input output seat.old.count
             seat.new.count seat.old.receipts.items seat.new.receipts.items) }
@@ -92,6 +93,8 @@ impl<L: Seating, C: Shareable> BookedService<L, C> {
             seat.new.receipts.items input output) }
         ensures refused { IfErr result (λ refusal. RefusesStep input refusal.error seat.old.count
             (C.spaces self.old.core)) }
+        ensures used_up { IfErr result
+            (λ refusal. refusal.error ≡ ServiceError.UsedUp → seat.old.count ≡ 2 ^ 64 - 1) }
         ensures unchanged { OnErr result
             (TakesNothing self.old.core self.new.core self.old.book.total self.new.book.total
             × (seat.new.count ≡ seat.old.count)
@@ -113,8 +116,8 @@ impl<L: Seating, C: Shareable> BookedService<L, C> {
         input: Input,
     ) -> Result<Output, Refusal>
         requires { C.KEEPS ≡ true }
-        ensures taken { IfOk result
-            (λ output. Performs input output (C.spaces self.old.core) (C.spaces self.new.core)) }
+        ensures taken { IfOk result (λ output. TakesInput C.spaces C.untaken C.untold input output
+            self.old.core self.new.core) }
         ensures count { OnOk result ((self.new.book.total ≡ self.old.book.total + 1)
             × (seat.new.count ≡ seat.old.count + 1)) }
         ensures receipt { IfOk result (λ output. GainsReceipt (C.journals self.new.core)
@@ -173,8 +176,8 @@ impl<L: Seating, C: Shareable> BookedService<L, C> {
     ) -> Result<Output, Refusal>
         requires { (share.old.parts ≡ 1) × (share.old.amount ≡ count.old) }
         ensures share { (share.new.parts ≡ 1) × (share.new.amount ≡ count.new) }
-        ensures taken { IfOk result
-            (λ output. Performs input output (C.spaces self.old.core) (C.spaces self.new.core)) }
+        ensures taken { IfOk result (λ output. TakesInput C.spaces C.untaken C.untold input output
+            self.old.core self.new.core) }
         ensures count { OnOk result
             ((self.new.book.total ≡ self.old.book.total + 1) × (count.new ≡ count.old + 1)) }
         ensures refused { IfErr result (λ refusal. RefusesStep input refusal.error count.old
@@ -251,21 +254,24 @@ impl<L: Seating, C: Shareable> BookedService<L, C> {
 
     /// Returns the reply bytes of a connection since they were last taken, moved out.
     pub fn take_output(&mut self, conn: Conn) -> Result<Vec<u8>, ServiceError>
-        ensures all { IfOk result (λ text. text.items ≡ C.untaken self.old.core conn) }
+        ensures all { IfOk result (λ text. MovesReplies C.spaces C.untaken C.untold self.old.core
+            self.new.core conn text.items) }
         ensures taken { IfOk result (λ text. WereUntaken C.spaces C.untaken conn text.items) }
         ensures refused { IfErr result (λ e. HeldAtSomeMoment C.spaces (λ spaces.
             Refuses spaces conn.namespace e (λ space. RefusesCopy space conn.number e))) }
+        ensures unchanged { OnErr result (self.new.core ≡ self.old.core) }
     {
         self.core.take_output(conn)
     }
 
     /// Returns the loads of a namespace that went out and were not taken, moved out.
     pub fn take_loads(&mut self, namespace: u64) -> Result<Vec<(LoadId, Bytes)>, ServiceError>
-        ensures all { IfOk result (λ loads. At (C.spaces self.old.core) (C.spaces self.new.core)
-            namespace (λ was is. TakesLoads was is loads.items)) }
+        ensures all { IfOk result (λ loads. MovesLoads C.spaces C.untaken C.untold self.old.core
+            self.new.core namespace loads.items) }
         ensures taken { IfOk result (λ loads. WereOut C.spaces namespace loads.items) }
         ensures refused { IfErr result (λ e. HeldAtSomeMoment C.spaces
             (λ spaces. (e ≡ ServiceError.NoNamespace) × (length spaces ≤ namespace))) }
+        ensures unchanged { OnErr result (self.new.core ≡ self.old.core) }
     {
         self.core.take_loads(namespace)
     }

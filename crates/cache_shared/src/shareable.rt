@@ -1,13 +1,13 @@
 //! What a shared service requires of the service under its lock.
-ghost use Rattle.std.specs.Prelude.{◌≡◌, ℕ, ◌++◌, ◌≤◌, Bool, true, List, [], Some, length, IsNone, IfOk, IfErr, OnOk, OnErr};
+ghost use Rattle.std.specs.Prelude.{◌≡◌, ℕ, ◌≤◌, Bool, true, List, Some, length, IfOk, IfErr, OnOk, OnErr};
 ghost use Rattle.std.specs.List.{slice_get};
-ghost use Rattle.std.specs.Option.{option_to_list};
 ghost use Rattle.audit_model.specs.declared.input.Conn.{Conn};
 ghost use Rattle.audit_model.specs.declared.transcript.Note.{Note as Told};
 ghost use Rattle.audit_model.specs.declared.transcript.Transcript.{Transcript};
-ghost use Rattle.cache_shared.specs.Events.{CountsRecord, KeepsStanding, Performs};
+ghost use Rattle.cache_shared.specs.Events.{CountsRecord, KeepsStanding};
 ghost use Rattle.cache_shared.specs.Looked.{RefusesCopy};
-ghost use Rattle.cache_spaces.specs.Calls.{At, InSpace, IsUnknown, Refuses, TakesLoads, RefusedInput, namespace_of};
+ghost use Rattle.cache_shared.specs.Taken.{MovesLoads, MovesNote, MovesReplies, TakesInput};
+ghost use Rattle.cache_spaces.specs.Calls.{InSpace, IsUnknown, Refuses, RefusedInput, namespace_of};
 ghost use Rattle.cache_spaces.specs.Spaces.{Shown, closing_of, is_waiting_for};
 
 use audit_model::{Bytes, Closing, Conn, Input, LoadId, Note, ServiceError, Transcript};
@@ -37,7 +37,7 @@ pub trait Shareable: Drop {
     /// A refused input is returned; then nothing has changed.
     fn step(&mut self, input: Input) -> Result<Output, Refusal>
         ensures taken { IfOk result
-            (λ output. Performs input output (spaces self.old) (spaces self.new)) }
+            (λ output. TakesInput spaces untaken untold input output self.old self.new) }
         ensures one { KEEPS ≡ true
             → OnOk result (CountsRecord (journals self.old) (journals self.new)) }
         ensures refused { IfErr result (λ refusal. Refuses (spaces self.old) (namespace_of input)
@@ -56,29 +56,31 @@ pub trait Shareable: Drop {
     /// Returns the reply bytes of a connection since they were last taken, moved out. Returns `NoNamespace`, then `NoConnection`, then
     /// `OutOfMemory` if taking them needs memory that there is not; then they come the next time.
     fn take_output(&mut self, conn: Conn) -> Result<Vec<u8>, ServiceError>
-        ensures taken { IfOk result (λ text. text.items ≡ untaken self.old conn) }
+        ensures taken { IfOk result
+            (λ text. MovesReplies spaces untaken untold self.old self.new conn text.items) }
         ensures refused { IfErr result (λ e.
             Refuses (spaces self.old) conn.namespace e (λ space. RefusesCopy space conn.number e)) }
+        ensures unchanged { OnErr result (self.new ≡ self.old) }
         ensures standing { KeepsStanding spaces journals self.old self.new };
 
     /// Returns the oldest note of a namespace that was reported and not taken; `None` if there is none. Returns `NoNamespace`, then
     /// `OutOfMemory` if taking it needs memory that there is not; then it comes the next time.
     fn next_notice(&mut self, namespace: u64) -> Result<Option<Note>, ServiceError>
         ensures note { IfOk result
-            (λ note. untold self.old namespace ≡ option_to_list note ++ untold self.new namespace) }
-        ensures none { IfOk result (λ note. IsNone note → untold self.old namespace ≡ []) }
+            (λ note. MovesNote spaces untaken untold self.old self.new namespace note) }
         ensures refused { IfErr result
             (λ e. Refuses (spaces self.old) namespace e (λ space. e ≡ ServiceError.OutOfMemory)) }
-        ensures kept { OnErr result (untold self.new namespace ≡ untold self.old namespace) }
+        ensures unchanged { OnErr result (self.new ≡ self.old) }
         ensures standing { KeepsStanding spaces journals self.old self.new };
 
     /// Returns the loads of a namespace that went out and were not taken, with their keys, in the order in which they were sent, moved out.
     /// Returns `NoNamespace` if there is no such namespace.
     fn take_loads(&mut self, namespace: u64) -> Result<Vec<(LoadId, Bytes)>, ServiceError>
-        ensures loads { IfOk result (λ loads. At (spaces self.old) (spaces self.new) namespace
-            (λ was is. TakesLoads was is loads.items)) }
+        ensures loads { IfOk result
+            (λ loads. MovesLoads spaces untaken untold self.old self.new namespace loads.items) }
         ensures refused { IfErr result
             (λ e. (e ≡ ServiceError.NoNamespace) × (length (spaces self.old) ≤ namespace)) }
+        ensures unchanged { OnErr result (self.new ≡ self.old) }
         ensures standing { KeepsStanding spaces journals self.old self.new };
 
     /// Returns why a connection is closed; `None` while it is open. Returns `NoNamespace`, then `NoConnection`.

@@ -1,9 +1,10 @@
 //! The shared service.
-ghost use Rattle.std.specs.Prelude.{◌≡◌, ◌≤◌, ◌⊎◌, [], length, map, sum_by, true, IfOk, IfErr, IsSome, OnErr};
+ghost use Rattle.std.specs.Prelude.{◌≡◌, ◌≤◌, ◌-◌, ◌^◌, [], length, map, sum_by, IfOk, IfErr, IsSome, OnErr};
 ghost use Rattle.std.specs.Arc.{arc_value};
-ghost use Rattle.cache_shared.specs.Events.{IsLate, IsUnfitAnswer, StandsAfter, is_of_outcome};
-ghost use Rattle.cache_shared.specs.Looked.{HeldAtSomeMoment, Owes, WasOldestNote, WereMoved, RefusesCopy, WereOut, WereUntaken};
+ghost use Rattle.cache_shared.specs.Events.{RefusesStep, StandsAfter};
+ghost use Rattle.cache_shared.specs.Looked.{HappenedAtSomeMoment, HeldAtSomeMoment, Owes, WasOldestNote, WereMoved, RefusesCopy, WereOut, WereUntaken};
 ghost use Rattle.cache_shared.specs.Seats.{AgreeAll, Counts, SameReceipts};
+ghost use Rattle.cache_shared.specs.Taken.{MovesAll, MovesLoads, MovesNote, MovesReplies, TakesInput, TakesTurn};
 ghost use Rattle.cache_spaces.specs.Calls.{InSpace, IsUnknown, Refuses};
 ghost use Rattle.cache_spaces.specs.Spaces.{closing_of, is_waiting_for};
 
@@ -100,10 +101,12 @@ impl<L: Seating, C: Shareable> SharedService<L, C> {
         ensures back { IfErr result (λ refusal. refusal.input ≡ input) }
         ensures unchanged { OnErr result ((seat.new.count ≡ seat.old.count)
             × SameReceipts seat.old.receipts.items seat.new.receipts.items) }
-        ensures late { IfErr result
-            (λ refusal. refusal.error ≡ ServiceError.Moment → IsLate input) }
-        ensures unfit { IfErr result
-            (λ refusal. is_of_outcome refusal.error ≡ true → IsUnfitAnswer input) }
+        ensures taken { IfOk result (λ output. HappenedAtSomeMoment C.spaces (λ old new.
+            TakesInput C.spaces C.untaken C.untold input output old new)) }
+        ensures refused { IfErr result (λ refusal. HeldAtSomeMoment C.spaces
+            (RefusesStep input refusal.error seat.old.count)) }
+        ensures used_up { IfErr result
+            (λ refusal. refusal.error ≡ ServiceError.UsedUp → seat.old.count ≡ 2 ^ 64 - 1) }
     {
         let inner = self.inner();
         let taken = inner.booked.lock(rt).step(self.alloc, seat, input);
@@ -147,6 +150,8 @@ impl<L: Seating, C: Shareable> SharedService<L, C> {
     /// Returns `NoNamespace`, then `NoConnection`, then `OutOfMemory` if the core copies replies; then they come the
     /// next time.
     pub fn take_output(&self, rt: &impl Wait, conn: Conn) -> Result<Vec<u8>, ServiceError>
+        ensures all { IfOk result (λ text. HappenedAtSomeMoment C.spaces (λ old new.
+            MovesReplies C.spaces C.untaken C.untold old new conn text.items)) }
         ensures taken { IfOk result (λ text. WereUntaken C.spaces C.untaken conn text.items) }
         ensures refused { IfErr result (λ e. HeldAtSomeMoment C.spaces (λ spaces.
             Refuses spaces conn.namespace e (λ space. RefusesCopy space conn.number e))) }
@@ -175,10 +180,13 @@ impl<L: Seating, C: Shareable> SharedService<L, C> {
         ensures back { IfErr result (λ refusal. refusal.input ≡ input) }
         ensures unchanged { OnErr result ((seat.new.count ≡ seat.old.count)
             × SameReceipts seat.old.receipts.items seat.new.receipts.items) }
-        ensures late { IfErr result
-            (λ refusal. refusal.error ≡ ServiceError.Moment → IsLate input) }
-        ensures unfit { IfErr result
-            (λ refusal. is_of_outcome refusal.error ≡ true → IsUnfitAnswer input) }
+        ensures taken { IfOk result (λ turn. HappenedAtSomeMoment C.spaces
+            (λ old new. TakesTurn C.spaces C.untaken C.untold old new conn input turn
+            notes.old.items notes.new.items)) }
+        ensures refused { IfErr result (λ refusal. HeldAtSomeMoment C.spaces
+            (RefusesStep input refusal.error seat.old.count)) }
+        ensures used_up { IfErr result
+            (λ refusal. refusal.error ≡ ServiceError.UsedUp → seat.old.count ≡ 2 ^ 64 - 1) }
         ensures moved { WereMoved C.spaces C.untold conn.namespace notes.old.items
             notes.new.items }
     {
@@ -200,6 +208,8 @@ impl<L: Seating, C: Shareable> SharedService<L, C> {
         wants_loads: bool,
         notes: &mut Vec<Note>,
     ) -> Owed
+        ensures all { HappenedAtSomeMoment C.spaces (λ old new. MovesAll C.spaces C.untaken C.untold
+            old new conn result notes.old.items notes.new.items) }
         ensures owed { Owes C.spaces C.untaken conn wants_loads result }
         ensures moved { WereMoved C.spaces C.untold conn.namespace notes.old.items
             notes.new.items }
@@ -234,6 +244,8 @@ impl<L: Seating, C: Shareable> SharedService<L, C> {
         rt: &impl Wait,
         namespace: u64,
     ) -> Result<Vec<(LoadId, Bytes)>, ServiceError>
+        ensures all { IfOk result (λ loads. HappenedAtSomeMoment C.spaces (λ old new.
+            MovesLoads C.spaces C.untaken C.untold old new namespace loads.items)) }
         ensures taken { IfOk result (λ loads. WereOut C.spaces namespace loads.items) }
         ensures refused { IfErr result (λ e. HeldAtSomeMoment C.spaces
             (λ spaces. (e ≡ ServiceError.NoNamespace) × (length spaces ≤ namespace))) }
@@ -245,6 +257,8 @@ impl<L: Seating, C: Shareable> SharedService<L, C> {
     /// and leaves no receipt.
     /// Returns `NoNamespace`, then `OutOfMemory` if the core copies notes; then it comes the next time.
     pub fn next_notice(&self, rt: &impl Wait, namespace: u64) -> Result<Option<Note>, ServiceError>
+        ensures all { IfOk result (λ note. HappenedAtSomeMoment C.spaces (λ old new.
+            MovesNote C.spaces C.untaken C.untold old new namespace note)) }
         ensures note { IfOk result
             (λ note. WasOldestNote C.spaces C.untold namespace note) }
         ensures refused { IfErr result (λ e. HeldAtSomeMoment C.spaces

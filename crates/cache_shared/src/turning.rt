@@ -1,8 +1,9 @@
 //! Turns: an input, and everything that its connection is owed afterwards, in one hold of the lock.
-ghost use Rattle.std.specs.Prelude.{◌≡◌, ◌⊎◌, true, [], IfOk, IfErr, OnOk, OnErr, vec_len, vec_capacity};
-ghost use Rattle.cache_shared.specs.Events.{IsLate, IsUnfitAnswer, is_of_outcome};
-ghost use Rattle.cache_shared.specs.Looked.{HeldAtSomeMoment, Owes, WereMoved};
+ghost use Rattle.std.specs.Prelude.{◌≡◌, ◌⊎◌, ◌-◌, ◌^◌, false, [], None, IfOk, IfErr, IfSome, OnOk, OnErr, MatchOption, vec_len, vec_capacity};
+ghost use Rattle.cache_shared.specs.Events.{RefusesStep, TakesNothing};
+ghost use Rattle.cache_shared.specs.Looked.{HeldAtSomeMoment, Moves, Owes, WereMoved, WereOut, WereUntaken};
 ghost use Rattle.cache_shared.specs.Seats.{Counts, SameReceipts};
+ghost use Rattle.cache_shared.specs.Taken.{MovesAll, MovesLoads, MovesNotesOf, MovesReplies, TakesTurn};
 ghost use Rattle.cache_spaces.specs.Calls.{Refuses};
 
 use crate::booked::BookedService;
@@ -48,15 +49,20 @@ impl<L: Seating, C: Shareable> BookedService<L, C> {
     ) -> Result<Turn, Refusal>
         ensures counted { IfOk result (λ turn. Counts C.KEEPS input turn.output seat.old.count
             seat.new.count seat.old.receipts.items seat.new.receipts.items) }
+        ensures taken { IfOk result (λ turn. TakesTurn C.spaces C.untaken C.untold self.old.core
+            self.new.core conn input turn notes.old.items notes.new.items) }
         ensures owed { IfOk result
             (λ turn. Owes C.spaces C.untaken conn wants_loads turn.owed) }
+        ensures refused { IfErr result (λ refusal. RefusesStep input refusal.error seat.old.count
+            (C.spaces self.old.core)) }
+        ensures used_up { IfErr result
+            (λ refusal. refusal.error ≡ ServiceError.UsedUp → seat.old.count ≡ 2 ^ 64 - 1) }
+        ensures unchanged { OnErr result
+            (TakesNothing self.old.core self.new.core self.old.book.total self.new.book.total
+            × (seat.new.count ≡ seat.old.count)
+            × SameReceipts seat.old.receipts.items seat.new.receipts.items
+            × (notes.new ≡ notes.old)) }
         ensures back { IfErr result (λ refusal. refusal.input ≡ input) }
-        ensures unchanged { OnErr result ((seat.new.count ≡ seat.old.count)
-            × SameReceipts seat.old.receipts.items seat.new.receipts.items) }
-        ensures late { IfErr result
-            (λ refusal. refusal.error ≡ ServiceError.Moment → IsLate input) }
-        ensures unfit { IfErr result
-            (λ refusal. is_of_outcome refusal.error ≡ true → IsUnfitAnswer input) }
         ensures moved { WereMoved C.spaces C.untold conn.namespace notes.old.items
             notes.new.items }
     {
@@ -68,22 +74,51 @@ impl<L: Seating, C: Shareable> BookedService<L, C> {
     /// Returns what a connection is owed, and appends its namespace's oldest notes, as many as there is room for, moved out; nothing if it
     /// is unknown.
     pub fn take_owed(&mut self, conn: Conn, wants_loads: bool, notes: &mut Vec<Note>) -> Owed
+        ensures all { MovesAll C.spaces C.untaken C.untold self.old.core self.new.core conn result
+            notes.old.items notes.new.items }
         ensures owed { Owes C.spaces C.untaken conn wants_loads result }
         ensures moved { WereMoved C.spaces C.untold conn.namespace notes.old.items
             notes.new.items }
     {
         // Notes that are not taken for lack of memory stay.
         let _ = self.take_notices(conn.namespace, notes);
-        let loads = if wants_loads {
-            self.take_loads(conn.namespace).ok()
-        } else {
-            None
-        };
+        let loads = self.take_wanted(conn.namespace, wants_loads);
+        let replies = self.take_replies(conn);
         Owed {
-            replies: self.take_output(conn).ok(),
+            replies,
             loads,
             closing: self.core.closed(conn).unwrap_or(None),
             waits: self.core.waiting(conn).unwrap_or(false),
+        }
+    }
+
+    /// Returns the loads of a namespace that went out and were not taken, moved out, if they are requested and there is such a namespace.
+    fn take_wanted(&mut self, namespace: u64, wants_loads: bool) -> Option<Vec<(LoadId, Bytes)>>
+        ensures all { MatchOption result (self.new.core ≡ self.old.core)
+            (λ loads. MovesLoads C.spaces C.untaken C.untold self.old.core self.new.core namespace
+            loads.items) }
+        ensures taken { IfSome result (λ loads. WereOut C.spaces namespace loads.items) }
+        ensures unwanted { wants_loads ≡ false → result ≡ None }
+    {
+        if !wants_loads {
+            return None;
+        }
+        match self.take_loads(namespace) {
+            Ok(loads) => Some(loads),
+            Err(_) => None,
+        }
+    }
+
+    /// Returns the replies of a connection that were not taken, moved out; `None` if it is unknown, or if there is not enough memory.
+    fn take_replies(&mut self, conn: Conn) -> Option<Vec<u8>>
+        ensures all { MatchOption result (self.new.core ≡ self.old.core)
+            (λ text. MovesReplies C.spaces C.untaken C.untold self.old.core self.new.core conn
+            text.items) }
+        ensures taken { IfSome result (λ text. WereUntaken C.spaces C.untaken conn text.items) }
+    {
+        match self.take_output(conn) {
+            Ok(text) => Some(text),
+            Err(_) => None,
         }
     }
 
@@ -94,7 +129,10 @@ impl<L: Seating, C: Shareable> BookedService<L, C> {
         namespace: u64,
         notes: &mut Vec<Note>,
     ) -> Result<(), ServiceError>
-        ensures moved { WereMoved C.spaces C.untold namespace notes.old.items notes.new.items }
+        ensures moved { Moves notes.old.items notes.new.items (C.untold self.old.core namespace)
+            (C.untold self.new.core namespace) }
+        ensures others { MovesNotesOf C.spaces C.untaken C.untold self.old.core self.new.core
+            namespace }
         ensures all { OnOk result ((C.untold self.new.core namespace ≡ [])
             ⊎ (vec_len notes.new ≡ vec_capacity notes.old)) }
         ensures refused { IfErr result (λ e. HeldAtSomeMoment C.spaces

@@ -2,10 +2,14 @@
 #![tactic(auto)]
 
 mod good;
+mod hosting;
 mod listed;
 mod places;
 mod reading;
+mod unread;
 mod values;
+mod words;
 
-pub use listed::{ConfigError, ConfigFault, HostedNamespace, Listed};
-pub use reading::{check_config, read_config};
+pub use listed::{ConfigError, ConfigFault, ConfigReport, HostedNamespace, Hosting, Listed};
+pub use reading::{Hosted, check_config, check_hosted, read_config, read_hosted};
+pub use unread::Unread;

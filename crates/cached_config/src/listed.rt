@@ -24,13 +24,37 @@ pub struct HostedNamespace {
     pub loads: Vec<Listed>,
 }
 
-/// A fault of a configuration file.
+/// How `bivrangd` serves a namespace.
 #[derive(Drop)]
+pub struct Hosting {
+    /// The IP address on which it listens, or the path of a Unix socket, which begins with `/`.
+    pub bind: String,
+    /// The permissions of the socket at the path, as a number.
+    pub mode: u32,
+    /// How many loops serve it.
+    pub loops: u32,
+    /// How many connections may be open at once.
+    pub connections: u64,
+    /// After so many seconds without a byte a connection is closed.
+    pub idle: Option<u64>,
+}
+
+/// A fault of a configuration file, or a warning.
+#[derive(Debug, Drop)]
 pub struct ConfigFault {
     /// Its line, from 1 on.
     pub line: usize,
     /// What is wrong there, in words.
     pub what: String,
+}
+
+/// What there is to say about a configuration file, in the order of its lines.
+#[derive(Debug, Drop)]
+pub struct ConfigReport {
+    /// Why it is not taken; nothing if it is.
+    pub faults: Vec<ConfigFault>,
+    /// What it may say, and probably should not.
+    pub warnings: Vec<ConfigFault>,
 }
 
 /// Why a file is not taken.

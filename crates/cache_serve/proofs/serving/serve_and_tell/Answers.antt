@@ -4,8 +4,8 @@ use Rattle.cache_run.proofs.devices.Sending.{failed_after}
 use Rattle.cache_run.specs.Driver.Driven.{around}
 use Rattle.cache_run.specs.declared.driver.driving.Progress.TheVariants.{More}
 use Rattle.cache_run.proofs.driver.Exchanges.{fresh-underway}
-use Rattle.cache_run.specs.declared.devices.errors.RunError.TheVariants.{Read, Write, Moment}
-use Rattle.cache_serve.specs.Sitting.{Closes, Comes, tally}
+use Rattle.cache_run.specs.declared.devices.errors.RunError.TheVariants.{Read, Write, Moment, UsedUp}
+use Rattle.cache_serve.specs.Sitting.{Closes, Comes, tally, used-later}
 use Rattle.cache_serve.proofs.Promised.{attended, ended-because, rested, rested-wrote}
 use Rattle.cache_serve.proofs.serving.serve_and_tell.Goals as goal
 
@@ -57,7 +57,7 @@ returns-in-loop-turn g c =
     let counts : c.args.seat.now.count ≤ c.close.new.place.count = omega arith in
     let over : c.converse-ended.result ≢ Ok More = λ is. let no : true ≡ false = sym (c.is_more.ensures.1 is) ∙ c.if-is_more.false in cc in
     let why = ended-because c.converse-ended.result c.close.result (c.close.ensures.same ∙ c.outcome_of.ensures) over (failed_after _ _ _ i.reads c.converse-ended.ensures.forward.0) (failed_after _ _ _ i.writes c.converse-ended.ensures.forward.1)
-    (λ used. used) (λ late. late) c.converse-ended.ensures.why in
+    (λ used. used-later c.converse-ended.new.place.count c.close.new.place.count c.close.ensures.counts used) (λ late. late) c.converse-ended.ensures.why in
     record {
       wrote = all.wrote;
       asked = all.asked;
@@ -65,5 +65,6 @@ returns-in-loop-turn g c =
       read = why Read;
       write = why Write;
       moment = why Moment;
+      used_up = why UsedUp;
       loader = all.loaded;
     }

@@ -1,15 +1,14 @@
-use Rattle.std.proofs.Common.{ap}
-use Rattle.std.proofs.lemmas.Result.{IfOk-weaker, on_err_weaker}
-use Rattle.cache_shared.proofs.Performing.{keeps-standing, cause-shown}
+use Rattle.std.proofs.lemmas.Result.{IfOk-weaker}
+use Rattle.cache_shared.proofs.Moving.{kept-note}
+use Rattle.cache_shared.proofs.Performing.{cause-shown, keeps-standing}
 use Rattle.cache_spaces.specs.Journals.{kept_by}
-use Rattle.cache_spaces.specs.Recorded.{Recorded, TakesNote, untold_in}
+use Rattle.cache_spaces.specs.Recorded.{TakesNote}
 use Rattle.cache_shared.proofs.recorded.RecordedServiceShareable.next_notice.Goals as goal
 
 pub returns : goal.returns
 returns c = record {
-  note = IfOk-weaker c.take_note.result (TakesNote c.args.self.now c.take_note.new.recorded c.args.namespace) _ (λ note t. t.left) c.take_note.ensures.taken;
-  none = IfOk-weaker c.take_note.result (TakesNote c.args.self.now c.take_note.new.recorded c.args.namespace) _ (λ note t. t.none) c.take_note.ensures.taken;
+  note = kept-note c.args.self.now c.take_note.new.recorded c.args.namespace c.take_note.result c.take_note.ensures.taken;
   refused = cause-shown kept_by _ _ c.args.namespace c.args.self.now.spaces c.take_note.result (λ e x full. full) c.take_note.ensures.refused;
-  kept = on_err_weaker c.take_note.result (ap (λ (recorded : Recorded). untold_in recorded c.args.namespace)) c.take_note.ensures.unchanged;
+  unchanged = c.take_note.ensures.unchanged;
   standing = keeps-standing c.take_note.result c.args.self.now c.take_note.new.recorded (IfOk-weaker c.take_note.result (TakesNote c.args.self.now c.take_note.new.recorded c.args.namespace) _ (λ note t. t.spaces) c.take_note.ensures.taken) c.take_note.ensures.unchanged;
 }
