@@ -1,0 +1,4 @@
+pub mod Splits
+pub mod Digits
+pub mod Returns
+pub mod Searches

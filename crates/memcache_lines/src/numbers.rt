@@ -1,0 +1,129 @@
+//! Numbers of a few digits, and expiries.
+ghost use Rattle.std.specs.Prelude.{◌≡◌, ◌≤◌, ◌+◌, ◌-◌, ◌*◌, ◌<◌, ◌^◌, ◌∷◌, SomeIff, IfSome, Some, None, nat_lt, if◌then◌else◌};
+ghost use Rattle.std.specs.List.{list_all};
+ghost use Rattle.memcache_model.specs.Bytes.{is_digit, number_below};
+ghost use Rattle.memcache_model.specs.Grammar.{exptime_in, exptime_by, negative, seconds};
+
+use memcache_model::Exptime;
+
+/// A number has at most this many digits.
+const MAX_DIGITS: usize = 20;
+
+/// The number that at most twenty digits write, if it is below 2^64.
+pub fn number(word: &[u8]) -> Option<u64>
+    ensures { result ≡ number_below (2 ^ 64) word.now }
+{
+    if word.is_empty() || word.len() > MAX_DIGITS {
+        return None;
+    }
+    if !are_digits(word) {
+        return None;
+    }
+    let mut value: u64 = 0;
+    for digit in word {
+        match with_digit(value, *digit) {
+            Some(more) => value = more,
+            None => return None,
+        }
+    }
+    Some(value)
+}
+
+/// Whether each byte is a digit.
+fn are_digits(word: &[u8]) -> bool
+    ensures { result ≡ list_all is_digit word.now }
+{
+    word.iter().all(|b| b.is_ascii_digit())
+}
+
+/// The number with one more digit, if it is below 2^64.
+fn with_digit(value: u64, digit: u8) -> Option<u64>
+    requires { 48 ≤ digit }
+    ensures { SomeIff result (value * 10 + (digit - 48) < 2 ^ 64) (value * 10 + (digit - 48)) }
+{
+    let tens = value.checked_mul(10)?;
+    tens.checked_add(u64::from(digit - b'0'))
+}
+
+/// The number that at most twenty digits write, if it is at most `most`.
+fn number_up_to(most: u64, word: &[u8]) -> Option<u64>
+    ensures number { result ≡ number_below (most + 1) word.now }
+    ensures small { IfSome result (λ value. value ≤ most) }
+{
+    match number(word) {
+        Some(value) => at_most(most, value),
+        None => None,
+    }
+}
+
+/// The number, if it is at most `most`.
+fn at_most(most: u64, value: u64) -> Option<u64>
+    ensures value { result ≡ (if nat_lt value (most + 1) then Some value else None) }
+    ensures small { IfSome result (λ value. value ≤ most) }
+{
+    if value <= most { Some(value) } else { None }
+}
+
+/// The number that at most twenty digits write, if it is below 2^32.
+pub fn short_number(word: &[u8]) -> Option<u32>
+    ensures { result ≡ number_below (2 ^ 32) word.now }
+{
+    match number_up_to(0xffff_ffff, word) {
+        Some(value) => Some(value as u32),
+        None => None,
+    }
+}
+
+/// The size of a data block: a number below 2^31.
+pub fn block_size(word: &[u8]) -> Option<u32>
+    ensures { result ≡ number_below (2 ^ 31) word.now }
+{
+    match number_up_to(0x7fff_ffff, word) {
+        Some(value) => Some(value as u32),
+        None => None,
+    }
+}
+
+/// The expiry that a word says.
+pub fn exptime(word: &[u8]) -> Option<Exptime>
+    ensures { result ≡ exptime_in word.now }
+{
+    match word.split_first() {
+        Some((first, digits)) => exptime_at(*first, digits, word),
+        None => None,
+    }
+}
+
+/// The same, by the first byte and those behind it.
+fn exptime_at(first: u8, digits: &[u8], word: &[u8]) -> Option<Exptime>
+    requires { word.now ≡ first ∷ digits.now }
+    ensures { result ≡ exptime_in word.now }
+{
+    if first == b'-' {
+        exptime_below(digits)
+    } else {
+        exptime_from(word)
+    }
+}
+
+/// The expiry that digits behind a minus say.
+fn exptime_below(digits: &[u8]) -> Option<Exptime>
+    ensures { result ≡ exptime_by negative (number_below (2 ^ 32) digits.now) }
+{
+    match short_number(digits) {
+        None => None,
+        Some(0) => Some(Exptime::Never),
+        Some(_) => Some(Exptime::AtOnce),
+    }
+}
+
+/// The expiry that digits say.
+fn exptime_from(digits: &[u8]) -> Option<Exptime>
+    ensures { result ≡ exptime_by seconds (number_below (2 ^ 32) digits.now) }
+{
+    match short_number(digits) {
+        None => None,
+        Some(0) => Some(Exptime::Never),
+        Some(seconds) => Some(Exptime::Seconds(seconds)),
+    }
+}

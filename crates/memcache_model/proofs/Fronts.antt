@@ -1,0 +1,152 @@
+-- What stands at the front of a stream, and more bytes behind it.
+use Rattle.std.proofs.Common.{◌≡◌, ℕ, zero, suc, ◌+◌, ◌<◌, ◌≤◌, Bool, true, false, cond, List, [], ◌∷◌, ◌++◌, length, take, drop, Option, Some, None, refl, sym, ap, ◌∙◌, subst, arith, ⊎_elim, length-append, length-drop}
+use Rattle.std.specs.Prelude.{not, codes}
+use Rattle.std.specs.Str.{bytes_eq}
+use Rattle.std.specs.List.{position, position_or_len}
+use Rattle.std.proofs.lemmas.Bool.{cond-true, cond-false, lt-ltb, le-ltb, ltb-true, ne_eqb, cases_lt}
+use Rattle.std.proofs.lemmas.List.{take-append-le, drop-append-le, take_all, length-take-le}
+use Rattle.std.proofs.lemmas.List.Folds.{prefix_len-append}
+use Rattle.memcache_model.specs.Bytes.{is_feed, without_return}
+use Rattle.memcache_model.specs.Commands.{Command, Request, store, oversize, meta_set}
+use Rattle.memcache_model.specs.declared.command.Storage.TheVariants.{Set}
+use Rattle.memcache_model.specs.Grammar.{Reading, whole, head, meta_head, Arrived, part, request, Block, too_large, unfinished, broken, filled, has_end, block_in, with_block, behind, line_at, arrived, reading}
+use Rattle.memcache_model.specs.Streams.{IsCutFree, TakesBytes}
+
+-- ---- places
+
+place-append : (p : ℕ → Bool) (xs ys : List ℕ) → position_or_len p xs < length xs → position_or_len p (xs ++ ys) ≡ position_or_len p xs
+place-append p xs ys inside =
+    prefix_len-append (λ x. not (p x)) xs ys ∙ cond-false _ _ _ (ne_eqb (position_or_len p xs) (length xs) (λ same. omega (arith, same, inside)))
+
+found : (n at : ℕ) (b : Bool) → cond b (Some n) None ≡ Some at → (b ≡ true) × (n ≡ at)
+found n at true is = (refl, same is)
+  where
+    same : Some n ≡ Some at → n ≡ at
+    same e = cc
+found n at false is = absurd (no is)
+  where
+    no : None ≡ Some at → ⊥
+    no e = cc
+
+-- what is found is inside
+position-inside : (p : ℕ → Bool) (xs : List ℕ) (at : ℕ) → position p xs ≡ Some at → at < length xs
+position-inside p xs at is =
+    let place = found (position_or_len p xs) at _ is in
+    subst (λ n. n < length xs) place.1 (ltb-true (position_or_len p xs) (length xs) place.0)
+
+-- and is found with more behind it
+position-append : (p : ℕ → Bool) (xs ys : List ℕ) (at : ℕ) → position p xs ≡ Some at → position p (xs ++ ys) ≡ Some at
+position-append p xs ys at is =
+    let place = found (position_or_len p xs) at _ is in
+    let inside = ltb-true (position_or_len p xs) (length xs) place.0 in
+    let same = place-append p xs ys inside in
+    cond-true _ _ _ (lt-ltb (position_or_len p (xs ++ ys)) (length (xs ++ ys)) (omega (arith, same, inside, length-append xs ys))) ∙ ap Some (same ∙ place.1)
+
+-- more than all elements, with more behind them
+take-longer : (n : ℕ) (xs ys : List ℕ) → length xs ≤ n → (zs : List ℕ) × (take n (xs ++ ys) ≡ xs ++ zs)
+take-longer n [] ys long = (take n ys, refl)
+take-longer zero (x ∷ xs) ys long = absurd (omega arith)
+take-longer (suc m) (x ∷ xs) ys long = let rest = take-longer m xs ys (omega arith) in (rest.0, ap (λ l. x ∷ l) rest.1)
+
+-- the first line feed of a window
+feed-append : (n : ℕ) (bytes more : List ℕ) (end : ℕ) → position is_feed (take n bytes) ≡ Some end → position is_feed (take n (bytes ++ more)) ≡ Some end
+feed-append n bytes more end is = ⊎_elim
+    (λ short. let longer = take-longer n bytes more (omega arith) in ap (position is_feed) longer.1 ∙ position-append is_feed bytes longer.0 end (sym (ap (position is_feed) (take_all n bytes (omega arith))) ∙ is))
+    (λ long. ap (position is_feed) (take-append-le n bytes more long) ∙ is)
+    (cases_lt (length bytes) n)
+
+-- it is inside
+feed-inside : (n : ℕ) (bytes : List ℕ) (end : ℕ) → position is_feed (take n bytes) ≡ Some end → end < length bytes
+feed-inside n bytes end is = ⊎_elim
+    (λ short. subst (λ l. end < length l) (take_all n bytes (omega arith)) (position-inside is_feed (take n bytes) end is))
+    (λ long. omega (arith, position-inside is_feed (take n bytes) end is, length-take-le n bytes long))
+    (cases_lt (length bytes) n)
+
+-- ---- data blocks
+
+has_end-append : (size : ℕ) (rest more : List ℕ) → size + 2 ≤ length rest → has_end size (rest ++ more) ≡ has_end size rest
+has_end-append size rest more long =
+    ap (λ l. bytes_eq (take 2 l) (codes "\r\n")) (drop-append-le size rest more (omega arith))
+    ∙ ap (λ l. bytes_eq l (codes "\r\n")) (take-append-le 2 (drop size rest) more (omega (arith, length-drop size rest)))
+
+no_request : (r : Request) (used : ℕ) → part ≡ request r used → ⊥
+no_request r used same = cc
+
+block-append : (most size : ℕ) (rest more : List ℕ) → (block_in most size rest ≡ unfinished → ⊥) → block_in most size (rest ++ more) ≡ block_in most size rest
+block-append most size rest more done = ⊎_elim
+    (λ large. cond-true _ _ _ (lt-ltb most size large) ∙ sym (cond-true _ _ _ (lt-ltb most size large)))
+    (λ fits. cond-false _ _ _ (le-ltb most size fits) ∙ ⊎_elim
+    (λ short. absurd (done (cond-false _ _ _ (le-ltb most size fits) ∙ cond-true _ _ _ (lt-ltb (length rest) (size + 2) short))))
+    (λ long.
+    cond-false _ _ _ (le-ltb (length (rest ++ more)) (size + 2) (omega (arith, length-append rest more)))
+    ∙ ap (λ b. cond b (filled (take size (rest ++ more))) broken) (has_end-append size rest more long)
+    ∙ ap (λ block. cond (has_end size rest) (filled block) broken) (take-append-le size rest more (omega arith))
+    ∙ sym (cond-false _ _ _ (le-ltb (length rest) (size + 2) long)))
+    (cases_lt (length rest) (size + 2))
+    ∙ sym (cond-false _ _ _ (le-ltb most size fits)))
+    (cases_lt most size)
+
+-- a command with its block
+with_block-append : (command : List ℕ → Command) (passed_over : Command) (quiet : Bool) (used most size : ℕ) (rest more : List ℕ) (r : Request) (n : ℕ)
+    → with_block command passed_over quiet used (block_in most size rest) ≡ request r n
+    → with_block command passed_over quiet used (block_in most size (rest ++ more)) ≡ request r n
+with_block-append command passed_over quiet used most size rest more r n is =
+    let does : Block → Arrived = with_block command passed_over quiet used in
+    ap does (block-append most size rest more (λ same. no_request r n (sym (ap does same) ∙ is))) ∙ is
+
+behind-append : (most : ℕ) (line : Reading) (used : ℕ) (rest more : List ℕ) (r : Request) (n : ℕ) → behind most line used rest ≡ request r n → behind most line used (rest ++ more) ≡ request r n
+behind-append most (whole command quiet) used rest more r n is = is
+behind-append most (head storage key flags exptime size quiet) used rest more r n is =
+    with_block-append (store storage key flags exptime) (oversize storage key) quiet (used + size + 2) most size rest more r n is
+behind-append most (meta_head key flags size) used rest more r n is =
+    with_block-append (meta_set key flags) (oversize Set key) false (used + size + 2) most size rest more r n is
+
+-- ---- the front of a stream
+
+pub cuts : IsCutFree
+cuts most bytes more r used is = go (position is_feed (take 65537 bytes)) refl
+  where
+    go : (o : Option ℕ) → position is_feed (take 65537 bytes) ≡ o → arrived most (bytes ++ more) ≡ request r used
+    go None none = ⊎_elim
+        (λ long.
+        ap (line_at most (bytes ++ more)) (ap (position is_feed) (take-append-le 65537 bytes more (omega arith)) ∙ none)
+        ∙ cond-true _ _ _ (lt-ltb 65536 (length (bytes ++ more)) (omega (arith, length-append bytes more)))
+        ∙ sym (cond-true _ _ _ (lt-ltb 65536 (length bytes) long))
+        ∙ sym (ap (line_at most bytes) none) ∙ is)
+        (λ short. absurd (no_request r used (sym (cond-false _ _ _ (le-ltb 65536 (length bytes) short)) ∙ sym (ap (line_at most bytes) none) ∙ is)))
+        (cases_lt 65536 (length bytes))
+    go (Some end) found =
+        let inside = feed-inside 65537 bytes end found in
+        ap (line_at most (bytes ++ more)) (feed-append 65537 bytes more end found)
+        ∙ ap (λ line. behind most (reading (without_return line)) (end + 1) (drop (end + 1) (bytes ++ more))) (take-append-le end bytes more (omega arith))
+        ∙ ap (behind most (reading (without_return (take end bytes))) (end + 1)) (drop-append-le (end + 1) bytes more (omega arith))
+        ∙ behind-append most (reading (without_return (take end bytes))) (end + 1) (drop (end + 1) bytes) more r used (sym (ap (line_at most bytes) found) ∙ is)
+
+-- ---- how many bytes a request takes
+
+same_used : (a b : Request) (m n : ℕ) → request a m ≡ request b n → m ≡ n
+same_used a b m n same = cc
+
+with_block-takes : (command : List ℕ → Command) (passed_over : Command) (quiet : Bool) (used : ℕ) (block : Block) (r : Request) (n : ℕ) → 1 ≤ used → with_block command passed_over quiet used block ≡ request r n → 1 ≤ n
+with_block-takes command passed_over quiet used too_large r n some is = omega (arith, same_used _ r used n is)
+with_block-takes command passed_over quiet used unfinished r n some is = absurd (no_request r n is)
+with_block-takes command passed_over quiet used broken r n some is = omega (arith, same_used _ r used n is)
+with_block-takes command passed_over quiet used (filled block) r n some is = omega (arith, same_used _ r used n is)
+
+behind-takes : (most : ℕ) (line : Reading) (used : ℕ) (rest : List ℕ) (r : Request) (n : ℕ) → 1 ≤ used → behind most line used rest ≡ request r n → 1 ≤ n
+behind-takes most (whole command quiet) used rest r n some is = omega (arith, same_used _ r used n is)
+behind-takes most (head storage key flags exptime size quiet) used rest r n some is =
+    with_block-takes (store storage key flags exptime) (oversize storage key) quiet (used + size + 2) (block_in most size rest) r n (omega arith) is
+behind-takes most (meta_head key flags size) used rest r n some is =
+    with_block-takes (meta_set key flags) (oversize Set key) false (used + size + 2) (block_in most size rest) r n (omega arith) is
+
+pub takes : TakesBytes
+takes most bytes r used is = go (position is_feed (take 65537 bytes)) refl
+  where
+    go : (o : Option ℕ) → position is_feed (take 65537 bytes) ≡ o → 1 ≤ used
+    go None none = ⊎_elim
+        (λ long. omega (arith, same_used _ r 65537 used (sym (cond-true _ _ _ (lt-ltb 65536 (length bytes) long)) ∙ sym (ap (line_at most bytes) none) ∙ is)))
+        (λ short. absurd (no_request r used (sym (cond-false _ _ _ (le-ltb 65536 (length bytes) short)) ∙ sym (ap (line_at most bytes) none) ∙ is)))
+        (cases_lt 65536 (length bytes))
+    go (Some end) found =
+        behind-takes most (reading (without_return (take end bytes))) (end + 1) (drop (end + 1) bytes) r used (omega arith) (sym (ap (line_at most bytes) found) ∙ is)

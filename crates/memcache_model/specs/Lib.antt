@@ -1,0 +1,9 @@
+pub mod Bytes
+pub mod Commands
+pub mod Grammar
+pub mod Streams
+pub mod Items
+pub mod Replies
+pub mod Outcomes
+pub mod Meta
+pub mod Answers

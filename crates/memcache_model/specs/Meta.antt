@@ -1,0 +1,315 @@
+-- The meta commands: which lines are one, and what each replies and leaves.
+use Rattle.std.specs.Prelude.{ℕ, ◌+◌, ◌-◌, ◌/◌, ◌^◌, Bool, true, false, not, ◌&&◌, ◌||◌, ◌==◌, nat_lt, List, [], ◌∷◌, ◌++◌, length, drop, map, Option, Some, None, if◌then◌else◌, is_some, unwrap_or, codes}
+use Rattle.std.specs.Fmt.{decimal}
+use Rattle.std.specs.List.{concat, list_any}
+use Rattle.std.specs.Option.{option_map, option_map_or, option_or}
+use Rattle.memcache_model.specs.Outcomes.{Outcome, says, changes, stores, new_item, counted}
+use Rattle.memcache_model.specs.Bytes.{number_below}
+use Rattle.memcache_model.specs.Grammar.{exptime_in}
+use Rattle.memcache_model.specs.Items.{Item, Stock, deadline_of}
+use Rattle.memcache_model.specs.Replies.{error_text}
+use Rattle.memcache_model.specs.declared.command.Direction.{Direction}
+use Rattle.memcache_model.specs.declared.command.Direction.TheVariants.{Up, Down}
+use Rattle.memcache_model.specs.declared.command.Exptime.{Exptime}
+use Rattle.memcache_model.specs.declared.command.Exptime.TheVariants.{Never}
+use Rattle.memcache_model.specs.declared.command.Meta.{Meta}
+use Rattle.memcache_model.specs.declared.command.Meta.TheVariants.{Get, Delete, Arithmetic}
+use Rattle.memcache_model.specs.declared.fault.ProtocolError.{ProtocolError}
+use Rattle.memcache_model.specs.declared.fault.ProtocolError.TheVariants.{Flag, Token, Mode}
+
+-- ---- flags: a letter, and what stands behind it in its word
+
+-- the letter of a word
+abbrev pub letter_of : List ℕ → ℕ
+letter_of [] = 0
+letter_of (b ∷ bs) = b
+
+-- the letter is one of these
+abbrev pub is_one_of : (letters : List ℕ) → ℕ → Bool
+is_one_of letters letter = list_any (λ l. l == letter) letters
+
+-- what stands behind the letter, in the first word that begins with it
+abbrev pub behind_letter : ℕ → List (List ℕ) → Option (List ℕ)
+behind_letter letter [] = None
+behind_letter letter (word ∷ words) =
+    if letter_of word == letter then Some (drop 1 word) else behind_letter letter words
+
+-- the flag is there
+abbrev pub has_flag : List ℕ → List (List ℕ) → Bool
+has_flag letter words = is_some (behind_letter (letter_of letter) words)
+
+-- numbers behind a letter are below this: flags have 32 bits
+abbrev pub limit_of : ℕ → ℕ
+limit_of letter = if is_one_of (codes "F") letter then 2 ^ 32 else 2 ^ 64
+
+-- the number behind a letter
+abbrev pub number_of : List ℕ → List (List ℕ) → Option ℕ
+number_of letter words = unwrap_or
+    (option_map (number_below (limit_of (letter_of letter)))
+    (behind_letter (letter_of letter) words)) None
+
+-- the expiry behind a letter
+abbrev pub exptime_of : List ℕ → List (List ℕ) → Option Exptime
+exptime_of letter words =
+    unwrap_or (option_map exptime_in (behind_letter (letter_of letter) words)) None
+
+-- what is wrong with a word, if anything is: its letter is none of these, or a number or an expiry behind it is malformed
+abbrev pub word_fault : (letters numbers times : List ℕ) → List ℕ → Option ProtocolError
+word_fault letters numbers times word =
+    if is_one_of letters (letter_of word) then None
+    else (if is_one_of numbers (letter_of word) then
+    (if is_some (number_below (limit_of (letter_of word)) (drop 1 word)) then None
+    else Some Token)
+    else (if is_one_of times (letter_of word) then
+    (if is_some (exptime_in (drop 1 word)) then None else Some Token)
+    else Some Flag))
+
+-- the first fault of the flags
+abbrev pub flags_fault : (letters numbers times : List ℕ) → List (List ℕ) → Option ProtocolError
+flags_fault letters numbers times [] = None
+flags_fault letters numbers times (word ∷ words) =
+    option_or (word_fault letters numbers times word) (flags_fault letters numbers times words)
+
+-- an outcome, unless something is wrong with the flags
+abbrev pub unless_faulty : Option ProtocolError → Outcome → Stock → Outcome
+unless_faulty None outcome stock = outcome
+unless_faulty (Some error) outcome stock = says (error_text error) stock
+
+-- ---- replies
+
+-- the seconds until a deadline
+abbrev pub left_text : ℕ → Option ℕ → List ℕ
+left_text moment None = codes "-1"
+left_text moment (Some deadline) = decimal ((deadline - moment) / 1000)
+
+-- what a word of the request has told of an item
+abbrev pub told_by : ℕ → (key : List ℕ) → Item → List ℕ → List ℕ
+told_by moment key item word =
+    if is_one_of (codes "k") (letter_of word) then codes " k" ++ key
+    else (if is_one_of (codes "O") (letter_of word) then codes " " ++ word
+    else (if is_one_of (codes "s") (letter_of word) then
+    codes " s" ++ decimal (length item.bytes)
+    else (if is_one_of (codes "t") (letter_of word) then
+    codes " t" ++ left_text moment item.deadline
+    else (if is_one_of (codes "c") (letter_of word) then codes " c" ++ decimal item.unique
+    else (if is_one_of (codes "f") (letter_of word) then codes " f" ++ decimal item.flags
+    else [])))))
+
+-- what a word has told where there is no item
+abbrev pub told_alone : (key : List ℕ) → List ℕ → List ℕ
+told_alone key word =
+    if is_one_of (codes "k") (letter_of word) then codes " k" ++ key
+    else (if is_one_of (codes "O") (letter_of word) then codes " " ++ word else [])
+
+-- a code with what is told of no item
+abbrev pub code_alone : List ℕ → List ℕ → List (List ℕ) → List ℕ
+code_alone code key words = code ++ concat (map (told_alone key) words) ++ codes "\r\n"
+
+-- a code with what is told of an item
+abbrev pub code_with : ℕ → List ℕ → List ℕ → Item → List (List ℕ) → List ℕ
+code_with moment code key item words =
+    code ++ concat (map (told_by moment key item) words) ++ codes "\r\n"
+
+-- who holds the lease, as a `mg` tells it
+abbrev pub lease_text : (held stale wins : Bool) → List ℕ
+lease_text held stale wins = (if held then codes " Z" else []) ++ (if stale then codes " X" else [])
+    ++ (if wins then codes " W" else [])
+
+-- an item as a `mg` or `ma` tells it: with its bytes if `v` asks for them
+abbrev pub item_text : ℕ → List ℕ → Item → List (List ℕ) → (lease : List ℕ) → List ℕ
+item_text moment key item words lease =
+    let told = concat (map (told_by moment key item) words) ++ lease ++ codes "\r\n" in
+    if has_flag (codes "v") words then codes "VA " ++ decimal (length item.bytes) ++ told
+    ++ item.bytes ++ codes "\r\n" else codes "HD" ++ told
+
+-- no reply, if the flag `q` leaves it out
+abbrev pub unless_quiet : List (List ℕ) → List ℕ → List ℕ
+unless_quiet words text = if has_flag (codes "q") words then [] else text
+
+-- ---- `mg`: reading, and leases
+
+-- an item with the expiry that a letter gives, if it is there
+abbrev pub retimed_by : ℕ → List ℕ → List (List ℕ) → Item → Item
+retimed_by moment letter words item =
+    option_map_or (λ exptime. record item { deadline = deadline_of moment exptime })
+    (exptime_of letter words) item
+
+-- the item is to be renewed: fewer seconds are left than `R` says
+abbrev pub is_late : ℕ → List (List ℕ) → Item → Bool
+is_late moment words item = option_map_or (λ deadline.
+    option_map_or (λ seconds. nat_lt ((deadline - moment) / 1000) seconds)
+    (number_of (codes "R") words) false) item.deadline false
+
+-- a live item is told. Nobody holds its lease, and it is stale or late: then this client wins it
+abbrev pub meta_get_live : ℕ → List ℕ → List (List ℕ) → Item → Stock → Outcome
+meta_get_live moment key words found stock =
+    let item = retimed_by moment (codes "T") words found in
+    let wins = not item.leased && (item.stale || is_late moment words item) in
+    let text = item_text moment key item words (lease_text item.leased item.stale wins) in
+    changes text key (Some (record item { leased = item.leased || wins })) stock
+
+-- an empty item whose lease this client wins
+abbrev pub vivified : ℕ → (unique : ℕ) → Exptime → Item
+vivified moment unique exptime =
+    record (new_item [] 0 (deadline_of moment exptime)) { unique = unique; leased = true }
+
+-- there is no live item: `N` makes one
+abbrev pub meta_get_none : ℕ → List ℕ → List (List ℕ) → Option Exptime → Stock → Outcome
+meta_get_none moment key words None stock =
+    says (unless_quiet words (code_alone (codes "EN") key words)) stock
+meta_get_none moment key words (Some exptime) stock =
+    let item = vivified moment (stock.uniques + 1) exptime in
+    stores (item_text moment key item words (lease_text false false true)) key item stock
+
+abbrev pub meta_get : ℕ → List ℕ → List (List ℕ) → Option Item → Stock → Outcome
+meta_get moment key words None stock =
+    meta_get_none moment key words (exptime_of (codes "N") words) stock
+meta_get moment key words (Some item) stock = meta_get_live moment key words item stock
+
+-- ---- `ms`: storing
+
+-- what a stored item is told by
+abbrev pub meta_stored : ℕ → List ℕ → List (List ℕ) → Item → Stock → Outcome
+meta_stored moment key words item stock =
+    let kept = record item { unique = stock.uniques + 1 } in
+    stores (unless_quiet words (code_with moment (codes "HD") key kept words)) key item stock
+
+-- nothing is stored, and a code says why
+abbrev pub meta_refuses : List ℕ → List ℕ → List (List ℕ) → Stock → Outcome
+meta_refuses code key words stock = says (code_alone code key words) stock
+
+-- the item of a block: flags by `F` and an expiry by `T`
+abbrev pub meta_item : ℕ → List (List ℕ) → (block : List ℕ) → Item
+meta_item moment words block = new_item block (unwrap_or (number_of (codes "F") words) 0)
+    (deadline_of moment (unwrap_or (exptime_of (codes "T") words) Never))
+
+-- the mode that `M` names, by its letter: to add, append, prepend, replace or set
+abbrev pub mode_of : List (List ℕ) → ℕ
+mode_of words =
+    option_map_or letter_of (behind_letter (letter_of (codes "M")) words) (letter_of (codes "S"))
+
+-- a block is stored by its mode, over what the key has
+abbrev pub meta_put : ℕ → ℕ → (mode : ℕ) → List ℕ → List (List ℕ) → Item → Option Item → Stock
+    → Outcome
+meta_put most moment mode key words item None stock =
+    if is_one_of (codes "SE") mode then
+    meta_stored moment key words item stock
+    else meta_refuses (codes "NS") key words stock
+meta_put most moment mode key words item (Some old) stock =
+    if is_one_of (codes "SR") mode then
+    meta_stored moment key words item stock
+    else (if is_one_of (codes "A") mode then joined (old.bytes ++ item.bytes)
+    else (if is_one_of (codes "P") mode then joined (item.bytes ++ old.bytes)
+    else meta_refuses (codes "NS") key words stock))
+  where
+    joined : List ℕ → Outcome
+    joined bytes = if nat_lt most (length bytes) then meta_refuses (codes "NS") key words stock
+        else meta_stored moment key words (record old { bytes = bytes }) stock
+
+-- `C` names a unique: the item's own; with `I` also an earlier one, for an item that is stale from the start, with the deadline and the
+-- lease of the one before
+abbrev pub meta_compare : ℕ → ℕ → ℕ → List ℕ → List (List ℕ) → Item → Option Item → Stock → Outcome
+meta_compare most moment unique key words item None stock =
+    meta_refuses (codes "NF") key words stock
+meta_compare most moment unique key words item (Some old) stock =
+    if old.unique == unique then
+    meta_put most moment (mode_of words) key words item (Some old) stock
+    else (if has_flag (codes "I") words && nat_lt unique old.unique then
+    meta_stored moment key words (record item
+    { deadline = old.deadline; stale = true; leased = old.leased }) stock
+    else meta_refuses (codes "EX") key words stock)
+
+abbrev pub meta_set : ℕ → ℕ → List ℕ → List (List ℕ) → (block : List ℕ) → Option Item → Stock
+    → Outcome
+meta_set most moment key words block old stock = go (number_of (codes "C") words)
+  where
+    go : Option ℕ → Outcome
+    go None =
+        meta_put most moment (mode_of words) key words (meta_item moment words block) old stock
+    go (Some unique) =
+        meta_compare most moment unique key words (meta_item moment words block) old stock
+
+-- ---- `md`: deleting, and making stale
+
+-- `C` names another unique than the item's
+abbrev pub is_other : List (List ℕ) → Item → Bool
+is_other words item =
+    option_map_or (λ unique. not (item.unique == unique)) (number_of (codes "C") words) false
+
+-- a stale item may be read on, and the next `mg` wins its lease
+abbrev pub meta_delete : ℕ → List ℕ → List (List ℕ) → Option Item → Stock → Outcome
+meta_delete moment key words None stock = meta_refuses (codes "NF") key words stock
+meta_delete moment key words (Some item) stock =
+    if is_other words item then meta_refuses (codes "EX") key words stock
+    else (if has_flag (codes "I") words then
+    stores text key (record (retimed_by moment (codes "T") words item)
+    { stale = true; leased = false }) stock
+    else changes text key None stock)
+  where
+    text : List ℕ
+    text = unless_quiet words (code_alone (codes "HD") key words)
+
+-- ---- `ma`: counting
+
+-- down, if `M` says so
+abbrev pub direction_of : List (List ℕ) → Direction
+direction_of words =
+    let mode = option_map_or letter_of (behind_letter (letter_of (codes "M")) words) 0 in
+    if is_one_of (codes "D-") mode then Down else Up
+
+-- a number is stored, and told
+abbrev pub meta_counted : ℕ → List ℕ → List (List ℕ) → Item → Stock → Outcome
+meta_counted moment key words item stock =
+    let kept = record item { unique = stock.uniques + 1 } in
+    stores (unless_quiet words (item_text moment key kept words [])) key item stock
+
+-- a live item is counted by `D`, or by one
+abbrev pub meta_counts : ℕ → List ℕ → List (List ℕ) → Item → Option ℕ → Stock → Outcome
+meta_counts moment key words item None stock =
+    says (codes "CLIENT_ERROR cannot increment or decrement non-numeric value\r\n") stock
+meta_counts moment key words item (Some number) stock =
+    let count = counted (direction_of words) number (unwrap_or (number_of (codes "D") words) 1) in
+    let timed = retimed_by moment (codes "T") words item in
+    meta_counted moment key words (record timed { bytes = decimal count }) stock
+
+-- there is no live item: `N` makes one, of `J` or of 0
+abbrev pub meta_count_none : ℕ → List ℕ → List (List ℕ) → Option Exptime → Stock → Outcome
+meta_count_none moment key words None stock = meta_refuses (codes "NF") key words stock
+meta_count_none moment key words (Some exptime) stock =
+    let bytes = decimal (unwrap_or (number_of (codes "J") words) 0) in
+    meta_counted moment key words (new_item bytes 0 (deadline_of moment exptime)) stock
+
+abbrev pub meta_arithmetic : ℕ → List ℕ → List (List ℕ) → Option Item → Stock → Outcome
+meta_arithmetic moment key words None stock =
+    meta_count_none moment key words (exptime_of (codes "N") words) stock
+meta_arithmetic moment key words (Some item) stock =
+    if is_other words item then meta_refuses (codes "EX") key words stock
+    else meta_counts moment key words item (number_below (2 ^ 64) item.bytes) stock
+
+-- ---- a request
+
+-- a command on a key, with the flags that it has
+abbrev pub meta_answer : ℕ → Meta → List ℕ → List (List ℕ) → Option Item → Stock → Outcome
+meta_answer moment Get key words item stock =
+    unless_faulty (flags_fault (codes "vkqOstcf") (codes "R") (codes "NT") words)
+    (meta_get moment key words item stock) stock
+meta_answer moment Delete key words item stock =
+    unless_faulty (flags_fault (codes "kqOI") (codes "C") (codes "T") words)
+    (meta_delete moment key words item stock) stock
+meta_answer moment Arithmetic key words item stock =
+    unless_faulty (flags_fault (codes "vkqOstcfM") (codes "CDJ") (codes "NT") words)
+    (meta_arithmetic moment key words item stock) stock
+
+-- what is wrong with the mode of a `ms`, if anything is
+abbrev pub mode_fault : List (List ℕ) → Option ProtocolError
+mode_fault words =
+    if is_one_of (codes "EAPRS") (mode_of words) then None else Some Mode
+
+-- a `ms` with its block
+abbrev pub meta_set_answer : ℕ → ℕ → List ℕ → List (List ℕ) → (block : List ℕ) → Option Item
+    → Stock → Outcome
+meta_set_answer most moment key words block item stock =
+    unless_faulty
+    (option_or (flags_fault (codes "kqOstcfIM") (codes "CF") (codes "T") words)
+    (mode_fault words))
+    (meta_set most moment key words block item stock) stock

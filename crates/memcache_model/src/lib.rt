@@ -1,0 +1,15 @@
+//! What a server of the memcache text protocol is asked and what is right: the types, and the definitions that contracts cite.
+#![tactic(auto)]
+
+mod command;
+mod fault;
+pub mod laws;
+
+pub use command::{Direction, Exptime, Meta, Storage, Verb};
+pub use fault::ProtocolError;
+
+/// A key has at most this many bytes.
+pub const MAX_KEY: usize = 250;
+
+/// A line has at most this many bytes before its line feed.
+pub const MAX_LINE: usize = 65_536;
