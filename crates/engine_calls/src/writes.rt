@@ -170,19 +170,16 @@ pub fn prepare_removal<
 }
 
 /// Removes the key of the record in a place, in the room that was made for it.
-fn remove_at<K: Eq + Hash, V, S: BuildHasher, R: Rules<K, V>, Q: Names<K>>(
+fn remove_at<K: Eq + Hash, V, S: BuildHasher, R: Rules<K, V>>(
     tables: &mut Tables<K, V, S, R>,
     place: usize,
-    key: &Q,
 )
     requires room { removal_rooms tables.old.state.settings ≤ tables.old.state.reserved }
     requires bounded { AreBounded tables.old.state }
-    requires held { (r : Record K V) × (kept_at tables.old place ≡ Some r)
-        × (held_at K.eq tables.old.state.records (Q.named_key key.now) ≡ Some r) }
-    ensures { tables.new.state ≡ with_reserved_removal
-        (held_at K.eq tables.old.state.records (Q.named_key key.now)) tables.old.state }
+    requires there { (r : Record K V) × (kept_at tables.old place ≡ Some r) }
+    ensures { (r : Record K V) → kept_at tables.old place ≡ Some r
+        → tables.new.state ≡ with_reserved_removal (Some r) tables.old.state }
 {
-    let _key = key;
     tables.tickets_last();
     tables.mark_removed(place);
 }
@@ -208,7 +205,7 @@ pub fn remove_reserved<K: Eq + Hash + Drop, Q: Names<K>, V: Drop, S: BuildHasher
         Some(place) => {
             let ticket = tables.next_ticket();
             let entry = entry_of(tables, place, parts.0, parts.1);
-            remove_at(tables, place, key);
+            remove_at(tables, place);
             Some((entry, ticket))
         }
         None => None,

@@ -409,6 +409,7 @@ impl<K, V, O, W, S, R: Rules<K, V>> Backlog<K, V, O, W, S, R> {
     pub fn send(&mut self, ticket: u64) -> Result<(), Refusal>
         ensures ok { OnOk result (self.new ≡ ticket_sent ticket self.old) }
         ensures known { OnOk result (is_some (ticketed_at self.old.unsent ticket) ≡ true) }
+        ensures room { OnOk result (length self.old.writes < 128) }
         ensures err { OnErr result (self.new ≡ self.old) }
         ensures unknown { IsErrOf result Refusal.UnknownTicket
             → ticketed_at self.old.unsent ticket ≡ None }

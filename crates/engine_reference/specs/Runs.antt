@@ -1,5 +1,5 @@
 -- What maintenance does: one run is a chain of steps, each of them just.
-use Rattle.std.specs.Prelude.{◌≡◌, ℕ, ◌+◌, ◌<◌, ◌^◌, nat_lt, nat_le, min, Bool, true, false, not, ◌&&◌, ◌||◌, if◌then◌else◌, List, [], ◌∷◌, Option, Some, None, is_some, remove, slice_get, length}
+use Rattle.std.specs.Prelude.{◌≡◌, ℕ, ◌+◌, ◌<◌, ◌^◌, ◌==◌, nat_lt, nat_le, min, Bool, true, false, not, ◌&&◌, ◌||◌, if◌then◌else◌, List, [], ◌∷◌, Option, Some, None, is_some, remove, slice_get, length}
 use Rattle.std.specs.Int.{IsNextPowerOfTwo}
 use Rattle.policy_base.specs.Counts.{incremented, fresh}
 use Rattle.engine_reference.specs.declared.rules.causes.RemovalCause.{RemovalCause}
@@ -117,6 +117,25 @@ module _ {K V P S R : Type 0} where
   after_write (Put u) s = after_put u (record_at s.records u.number) s
   after_write (Removed number) s = after_removal (record_at s.records number) s
 
+  -- ---- all that is pending
+
+  -- all reads are counted, the oldest first
+  abbrev pub all_counted : List Read → State K V P S R → State K V P S R
+  all_counted [] s = s
+  all_counted (r ∷ rest) s = all_counted rest (after_read r (record s { reads = rest }))
+
+  -- all writes are applied, the oldest first
+  abbrev pub all_written : List Write → State K V P S R → State K V P S R
+  all_written [] s = s
+  all_written (w ∷ rest) s = all_written rest (after_write w (record s { writes = rest }))
+
+  abbrev pub written_through : State K V P S R → State K V P S R
+  written_through s = all_written s.writes s
+
+  -- the reads, and then the writes
+  abbrev pub all_applied : State K V P S R → State K V P S R
+  all_applied s = written_through (all_counted s.reads s)
+
   -- ---- what runs go through
 
   -- the weight of the writes applied in order, with the oldest that is not applied yet
@@ -228,12 +247,11 @@ module _ {K V P S R : Type 0} where
   abbrev pub lacks_table : State K V P S R → Bool
   lacks_table s = wants_table s.settings.capacity s.sketch (admitted_weight s.records)
 
-  -- no settled record too many, no predicate, and the sketch's table where half the capacity is held, unless there was no memory for it
+  -- no settled record too many, and no predicate
   pub record IsDone (s : State K V P S R) : Type 0 where
     pub within : (capacity : ℕ) → s.settings.capacity ≡ Some capacity → 0 < capacity
         → capacity < admitted_weight s.records → settled_in s.records s.access ≡ []
     pub ended : s.predicates ≡ []
-    pub table : s.table_refused ≡ false → lacks_table s ≡ false
 
   -- what a run does about times and clears: it looks at the fronts of the write list and of the access list, and at own expirations once a tick
   pub record IsSwept (now : ℕ) (old new : State K V P S R) : Type 0 where
@@ -256,6 +274,8 @@ module _ {K V P S R : Type 0} (answers : Answers K V P R) where
     pub runs : Runs answers now old new
     pub done : IsDone new
     pub swept : old.unsent ≡ [] → IsSwept now old new
+    -- the sketch's table was refused exactly if it was lacking right after the reads and writes, and is not there now
+    pub table : new.table_refused ≡ (lacks_table (all_applied old) && (new.sketch.words == 0))
 
 -- a run comes where 64 writes or 64 reads are pending, or 300 milliseconds after the last one
 abbrev pub is_due : {K V P S R : Type 0} → State K V P S R → ℕ → Bool

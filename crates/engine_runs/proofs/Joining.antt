@@ -1,23 +1,20 @@
 -- Stretches of a run one after another, and the run that they make.
-use Rattle.std.proofs.Common.{◌≡◌, refl, ap, ◌∙◌, subst, ℕ, true, false, true≢false, List, [], ◌∷◌, ◌++◌}
-use Rattle.std.specs.Prelude.{Result, Ok, Err, OnOk, OnErr, nat_lt}
+use Rattle.std.proofs.Common.{◌≡◌, refl, ap, ◌∙◌, subst, ℕ, true, false, ◌&&◌, List, [], ◌∷◌, ◌++◌}
+use Rattle.std.specs.Prelude.{Result, Ok, Err, OnOk, OnErr, nat_lt, ◌==◌}
 use Rattle.std.specs.Result.{is_err}
 use Rattle.std.proofs.Math.Logic.{∥∥₁_elim, ∥∥₁_map}
 use Rattle.std.proofs.Props.{props}
 use Rattle.engine_reference.specs.Laws.{CountsExactly}
-use Rattle.engine_reference.specs.Runs.{Step, Steps, RunsToEnd}
+use Rattle.engine_reference.specs.Runs.{Step, Steps, RunsToEnd, all_applied, lacks_table}
 use Rattle.engine_reference.specs.Soundness.{IsSound}
 use Rattle.engine_reference.specs.State.{State, Answers}
 use Rattle.engine_reference.specs.Times.{tick_of}
 use Rattle.engine_reference.proofs.SoundSteps.{steps-sound, counts_are_exact}
 use Rattle.engine_cells.specs.Stretches.{Stretch}
+use Rattle.engine_runs.specs.Stretches.{EndsRun}
 use Rattle.engine_runs.proofs.Constant.{Constant, constant_of, steps-constant}
 
 -- what an answer says, where it is known which it is
-pub made-then : {T E : Type 0} (r : Result T E) (X : Type 0) → OnOk r X → is_err r ≡ false → X
-made-then (Ok x) X h e = h
-made-then (Err y) X h e = absurd (true≢false e)
-
 pub ok-then : {T E X : Type 0} (r : Result T E) → (is_err r ≡ false → X) → OnOk r X
 ok-then (Ok x) h = h refl
 ok-then (Err y) h = tt
@@ -46,9 +43,9 @@ module _ {K V P S R : Type 0} (answers : Answers K V P R) (now : ℕ) where
   pub stretch-sound : (s t : State K V P S R) → Stretch answers now s t → ∥ IsSound s ∥₁ → ∥ IsSound t ∥₁
   stretch-sound s t h = λ k. ∥∥₁_map k (λ sound. steps-sound answers now h.stages s t sound h.steps)
 
-  -- a run from where a stretch led is a run
-  pub run-later : (old mid new : State K V P S R) → Stretch answers now old mid → RunsToEnd answers now mid new → RunsToEnd answers now old new
-  run-later old mid new h k =
+  -- the end of a run from where a stretch led, with what is said of the sketch's table, is a run
+  pub run-later : (old mid new : State K V P S R) → Stretch answers now old mid → EndsRun answers now mid new → new.table_refused ≡ (lacks_table (all_applied old) && (new.sketch.words == 0)) → RunsToEnd answers now old new
+  run-later old mid new h k table =
       let same : constant_of mid ≡ constant_of old = steps-constant answers now old h.stages mid h.steps in
       record {
         runs = record { stages = h.stages ++ k.runs.stages; last = k.runs.last; steps = joined h.stages k.runs.stages old mid k.runs.last h.steps k.runs.steps; applied = k.runs.applied; refused = k.runs.refused; after = k.runs.after };
@@ -61,6 +58,7 @@ module _ {K V P S R : Type 0} (answers : Answers K V P R) (now : ℕ) where
               idle = swept.idle;
               own = λ later. swept.own (ap (λ (c : Constant). nat_lt (tick_of c.settings c.ran) (tick_of c.settings now)) same ∙ later);
             };
+        table = table;
       }
 
 module _ {K V P S R : Type 0} (answers : Answers K V P R) (now : ℕ) (old new : State K V P S R) (h : ∥ IsSound old ∥₁) where

@@ -1,12 +1,12 @@
--- The sketch's table: what is made where it is wanted, and that it is not wanted again.
+-- The sketch's table: what is made where it is wanted.
 use Rattle.std.proofs.Common.{◌≡◌, refl, ap, sym, ◌∙◌, subst, ℕ, ◌<◌, ◌≤◌, ◌/◌, ◌^◌, arith, Bool, true, false, cond, ◌&&◌, Option, Some, None}
 use Rattle.std.specs.Prelude.{min, nat_lt, nat_le, ◌==◌}
 use Rattle.std.specs.Int.{IsNextPowerOfTwo}
-use Rattle.std.proofs.lemmas.Bool.{lt-ltb, ne_eqb, eqb-true}
+use Rattle.std.proofs.lemmas.Bool.{lt-ltb, ne_eqb, eq-eqb, eqb-true}
 use Rattle.policy_base.specs.Counts.{Sketch, fresh, grown}
 use Rattle.engine_reference.specs.Admission.{sketch_room, wants_table}
 use Rattle.engine_reference.specs.Records.{admitted_number, admitted_weight}
-use Rattle.engine_reference.specs.Runs.{grows, IsApplied, lacks_table}
+use Rattle.engine_reference.specs.Runs.{grows, IsApplied}
 use Rattle.engine_reference.specs.State.{State, Answers}
 use Rattle.engine_cells.specs.Stretches.{Stretch}
 use Rattle.engine_runs.proofs.Joining.{stretch-step}
@@ -31,15 +31,6 @@ words-some hashes words some h = let up = h.1 in omega arith
 table-made : (sketch : Sketch) (hashes words : ℕ) → sketch.words ≡ 0 → 128 ≤ hashes → IsNextPowerOfTwo (min hashes (2 ^ 24)) words → grown sketch words hashes ≡ fresh words hashes
 table-made sketch hashes words none some h = ap (λ b. cond b (fresh words hashes) sketch) (lt-ltb sketch.words words (let up = words-some hashes words some h in omega arith))
 
-no-second : (a c : Bool) → (a && false && c) ≡ false
-no-second true c = refl
-no-second false c = refl
-
-not-wanted : (capacity : Option ℕ) (sketch : Sketch) (weight : ℕ) → 0 < sketch.words → wants_table capacity sketch weight ≡ false
-not-wanted None sketch weight some = refl
-not-wanted (Some c) sketch weight some =
-    ap (λ b. nat_lt 0 c && b && nat_le (c / 2) weight) (ne_eqb sketch.words 0 (λ e. omega arith)) ∙ no-second (nat_lt 0 c) (nat_le (c / 2) weight)
-
 module _ {K V P S R : Type 0} where
   lacks-none : (hashes : ℕ) (s : State K V P S R) → LacksTableFor hashes s → s.sketch.words ≡ 0
   lacks-none hashes s h = none-lacks s.settings.capacity s.sketch (admitted_weight s.records) h.lacks
@@ -56,7 +47,11 @@ module _ {K V P S R : Type 0} where
   pub grown-applied : (hashes words : ℕ) (s t : State K V P S R) → IsApplied s → t ≡ record s { sketch = grown s.sketch words hashes } → IsApplied t
   grown-applied hashes words s t applied after = subst (λ x. IsApplied x) (sym after) (record { reads = applied.reads; writes = applied.writes })
 
-  pub grown-there : (hashes words : ℕ) (s t : State K V P S R) → LacksTableFor hashes s → IsNextPowerOfTwo (min hashes (2 ^ 24)) words → t ≡ record s { sketch = grown s.sketch words hashes } → lacks_table t ≡ false
+  -- a table that was made is there, and without memory there is none
+  pub grown-there : (hashes words : ℕ) (s t : State K V P S R) → LacksTableFor hashes s → IsNextPowerOfTwo (min hashes (2 ^ 24)) words → t ≡ record s { sketch = grown s.sketch words hashes } → (t.sketch.words == 0) ≡ false
   grown-there hashes words s t lacks size after =
-      ap (λ x. lacks_table x) (after ∙ ap (λ k. record s { sketch = k }) (table-made s.sketch hashes words (lacks-none hashes s lacks) (lacks-some hashes s lacks) size))
-      ∙ not-wanted s.settings.capacity (fresh words hashes) (admitted_weight s.records) (words-some hashes words (lacks-some hashes s lacks) size)
+      ap (λ (x : State K V P S R). x.sketch.words == 0) after ∙ ap (λ (k : Sketch). k.words == 0) (table-made s.sketch hashes words (lacks-none hashes s lacks) (lacks-some hashes s lacks) size)
+      ∙ ne_eqb words 0 (let some = words-some hashes words (lacks-some hashes s lacks) size in λ e. omega (arith, some, e))
+
+  pub none-there : (hashes : ℕ) (s : State K V P S R) → LacksTableFor hashes s → (s.sketch.words == 0) ≡ true
+  none-there hashes s lacks = eq-eqb s.sketch.words 0 (lacks-none hashes s lacks)

@@ -10,7 +10,7 @@ use Rattle.engine_reference.specs.declared.data.Record.{Record}
 use Rattle.engine_reference.specs.declared.data.Read.{Read}
 use Rattle.engine_reference.specs.declared.data.Read.TheVariants.{Hit, Miss}
 use Rattle.engine_reference.specs.Records.{record_at, without_record, without, moved_to_back}
-use Rattle.engine_reference.specs.Runs.{Step, Steps, reads, writes, after_read, after_hit, after_write, after_put, after_removal, with_left, left, all_left, judged, counting, put_off, is_overtaken}
+use Rattle.engine_reference.specs.Runs.{Step, Steps, reads, writes, all_applied, all_counted, all_written, written_through, after_read, after_hit, after_write, after_put, after_removal, with_left, left, all_left, judged, counting, put_off, is_overtaken}
 use Rattle.engine_reference.specs.State.{State, Answers}
 use Rattle.engine_reference.specs.declared.data.Write.{Write}
 use Rattle.engine_reference.specs.declared.data.Write.TheVariants.{Put, Removed}
@@ -96,6 +96,51 @@ module _ {K V P S R : Type 0} where
     writes-apart (Put u) s = put-apart u (record_at s.records u.number) s
     writes-apart (Removed number) s = removal-apart (record_at s.records number) s
 
+-- ---- a walk over those that wait comes to the one at a place
+
+module _ {K V P S R : Type 0} (mid new : State K V P S R) (i : ℕ) where
+  read-first : (r : Read) → slice_get mid.reads i ≡ Some r → drop i mid.reads ≡ r ∷ drop (i + 1) mid.reads
+  read-first r at = drop-there mid.reads i r at ∙ ap (λ k. r ∷ drop k mid.reads) (one_more i)
+
+  read-next : (r : Read) → new ≡ after_read r mid → record new { reads = drop (i + 1) new.reads } ≡ after_read r (record mid { reads = drop (i + 1) mid.reads })
+  read-next r is =
+      ap (λ (s : State K V P S R). record s { reads = drop (i + 1) s.reads }) is ∙ ap (λ rs. record (after_read r mid) { reads = drop (i + 1) rs }) (reads-left r mid) ∙ sym (reads-apart r mid (drop (i + 1) mid.reads))
+
+  write-first : (w : Write) → slice_get mid.writes i ≡ Some w → drop i mid.writes ≡ w ∷ drop (i + 1) mid.writes
+  write-first w at = drop-there mid.writes i w at ∙ ap (λ k. w ∷ drop k mid.writes) (one_more i)
+
+  write-next : (w : Write) → new ≡ after_write w mid → record new { writes = drop (i + 1) new.writes } ≡ after_write w (record mid { writes = drop (i + 1) mid.writes })
+  write-next w is =
+      ap (λ (s : State K V P S R). record s { writes = drop (i + 1) s.writes }) is ∙ ap (λ ws. record (after_write w mid) { writes = drop (i + 1) ws }) (after_write-frame w mid).writes ∙ sym (writes-apart (drop (i + 1) mid.writes) w mid)
+
+-- ---- and what all of them lead to stays the same
+
+module _ {K V P S R : Type 0} where
+  -- where no read waits
+  written-of : (s : State K V P S R) → s.reads ≡ [] → all_applied s ≡ written_through s
+  written-of s none = ap (λ rs. written_through (all_counted rs s)) none
+
+  -- and no write
+  pub nothing-left : (s : State K V P S R) → s.reads ≡ [] → s.writes ≡ [] → all_applied s ≡ s
+  nothing-left s none empty = written-of s none ∙ ap (λ ws. all_written ws s) empty
+
+  pub read-on : (mid new : State K V P S R) (i : ℕ) (r : Read) → slice_get mid.reads i ≡ Some r → new ≡ after_read r mid
+      → all_applied (record new { reads = drop (i + 1) new.reads }) ≡ all_applied (record mid { reads = drop i mid.reads })
+  read-on mid new i r at is =
+      let rest = drop (i + 1) mid.reads in
+      let next = after_read r (record mid { reads = rest }) in
+      ap (λ (s : State K V P S R). all_applied s) (read-next mid new i r is) ∙ ap (λ rs. written_through (all_counted rs next)) (reads-left r (record mid { reads = rest }))
+      ∙ ap (λ rs. all_applied (record mid { reads = rs })) (sym (read-first mid new i r at))
+
+  pub write-on : (mid new : State K V P S R) (i : ℕ) (w : Write) → mid.reads ≡ [] → slice_get mid.writes i ≡ Some w → new ≡ after_write w mid
+      → all_applied (record new { writes = drop (i + 1) new.writes }) ≡ all_applied (record mid { writes = drop i mid.writes })
+  write-on mid new i w none at is =
+      let rest = drop (i + 1) mid.writes in
+      let next = after_write w (record mid { writes = rest }) in
+      let frame = after_write-frame w (record mid { writes = rest }) in
+      ap (λ (s : State K V P S R). all_applied s) (write-next mid new i w is) ∙ written-of next (frame.reads ∙ none) ∙ ap (λ ws. all_written ws next) frame.writes
+      ∙ sym (written-of (record mid { writes = w ∷ rest }) none) ∙ ap (λ ws. all_applied (record mid { writes = ws })) (sym (write-first mid new i w at))
+
 module _ {K V P S R : Type 0} (answers : Answers K V P R) (now : ℕ) where
   pub stretch-start : (s : State K V P S R) → Stretch answers now s s
   stretch-start s = record { stages = []; steps = refl }
@@ -111,13 +156,9 @@ module _ {K V P S R : Type 0} (answers : Answers K V P R) (now : ℕ) where
   pub walk-read : (old mid new : State K V P S R) (i : ℕ) (r : Read) → Stretch answers now old (record mid { reads = drop i mid.reads }) → slice_get mid.reads i ≡ Some r → new ≡ after_read r mid
       → Stretch answers now old (record new { reads = drop (i + 1) new.reads })
   walk-read old mid new i r h at is =
-      let rest = drop (i + 1) mid.reads in
-      stretch-more old (record mid { reads = drop i mid.reads }) _ h (reads r rest (drop-there mid.reads i r at ∙ ap (λ k. r ∷ drop k mid.reads) (one_more i))
-      (ap (λ (s : State K V P S R). record s { reads = drop (i + 1) s.reads }) is ∙ ap (λ rs. record (after_read r mid) { reads = drop (i + 1) rs }) (reads-left r mid) ∙ sym (reads-apart r mid rest)))
+      stretch-more old (record mid { reads = drop i mid.reads }) _ h (reads r (drop (i + 1) mid.reads) (read-first mid new i r at) (read-next mid new i r is))
 
   pub walk-write : (old mid new : State K V P S R) (i : ℕ) (w : Write) → mid.reads ≡ [] → Stretch answers now old (record mid { writes = drop i mid.writes }) → slice_get mid.writes i ≡ Some w → new ≡ after_write w mid
       → Stretch answers now old (record new { writes = drop (i + 1) new.writes })
   walk-write old mid new i w none h at is =
-      let rest = drop (i + 1) mid.writes in
-      stretch-more old (record mid { writes = drop i mid.writes }) _ h (writes w rest none (drop-there mid.writes i w at ∙ ap (λ k. w ∷ drop k mid.writes) (one_more i))
-      (ap (λ (s : State K V P S R). record s { writes = drop (i + 1) s.writes }) is ∙ ap (λ ws. record (after_write w mid) { writes = drop (i + 1) ws }) (after_write-frame w mid).writes ∙ sym (writes-apart rest w mid)))
+      stretch-more old (record mid { writes = drop i mid.writes }) _ h (writes w (drop (i + 1) mid.writes) none (write-first mid new i w at) (write-next mid new i w is))

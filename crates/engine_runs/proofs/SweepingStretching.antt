@@ -1,18 +1,16 @@
 -- The steps of the loop, and what it leaves.
-use Rattle.std.proofs.Common.{◌≡◌, refl, ap, sym, ◌∙◌, subst, ℕ, ◌≤◌, ◌/◌, ◌<◌, arith, Bool, true, false, true≢false, cond, ◌||◌, ◌&&◌, length, List, [], ◌∷◌, ◌++◌, Option, Some, None, is_some, eqb}
-use Rattle.std.specs.Prelude.{min, nat_lt, nat_le}
+use Rattle.std.proofs.Common.{◌≡◌, refl, ap, sym, ◌∙◌, subst, ℕ, ◌<◌, arith, Bool, true, false, cond, ◌||◌, length, List, [], ◌∷◌, ◌++◌, Option, Some, None, is_some, eqb}
+use Rattle.std.specs.Prelude.{min, nat_lt}
 use Rattle.std.specs.List.{list_any}
-use Rattle.std.proofs.lemmas.Bool.{lt-ltb, le-leb, leb-true}
-use Rattle.std.proofs.lemmas.List.Sums.{sum_by-cons}
+use Rattle.std.proofs.lemmas.Bool.{lt-ltb}
 use Rattle.std.proofs.Math.Logic.{∥∥₁_elim}
 use Rattle.std.proofs.Props.{props}
-use Rattle.policy_base.specs.Counts.{Sketch}
 use Rattle.engine_reference.specs.declared.rules.causes.RemovalCause.{RemovalCause}
 use Rattle.engine_reference.specs.declared.data.Record.{Record}
 use Rattle.engine_reference.specs.declared.data.Settings.{Settings}
-use Rattle.engine_reference.specs.Admission.{is_above, wants_table}
-use Rattle.engine_reference.specs.Records.{record_at, without_record, admitted_number, admitted_weight, weight_at, admitted_in, with_admitted}
-use Rattle.engine_reference.specs.Runs.{Step, Steps, leaves, evicts, RunsToEnd, IsDone, IsApplied, IsSwept, lacks_table, is_due_for, left, with_left, first_of, is_later_tick}
+use Rattle.engine_reference.specs.Admission.{is_above}
+use Rattle.engine_reference.specs.Records.{record_at, without_record, admitted_number, admitted_weight, admitted_in, with_admitted}
+use Rattle.engine_reference.specs.Runs.{Step, Steps, leaves, evicts, IsDone, IsApplied, IsSwept, is_due_for, left, with_left, first_of, is_later_tick}
 use Rattle.engine_reference.specs.Soundness.{Each, IsSound, IsAccounted}
 use Rattle.engine_reference.specs.State.{State, Answers}
 use Rattle.engine_reference.specs.Times.{tick_of}
@@ -20,7 +18,7 @@ use Rattle.engine_reference.specs.Visible.{is_covered_by}
 use Rattle.engine_reference.proofs.SoundSteps.{left-is_sound, counted}
 use Rattle.engine_runs.specs.Fronts.{MayLeave, dies, cleared, excess, IsClean}
 use Rattle.engine_cells.specs.Stretches.{Stretch, StepsFor}
-use Rattle.engine_runs.specs.Stretches.{KeepsRest}
+use Rattle.engine_runs.specs.Stretches.{EndsRun, KeepsRest}
 
 module _ {K V : Type 0} where
   pub fewer : (n : ℕ) (rs : List (Record K V)) (r : Record K V) → record_at rs n ≡ Some r → length (without_record n rs) < length rs
@@ -30,14 +28,6 @@ module _ {K V : Type 0} where
       go : (b : Bool) → cond b (Some x) (record_at rs n) ≡ Some r → (record_at rs n ≡ Some r → length (without_record n rs) < length rs) → length (cond b rs (x ∷ without_record n rs)) < length (x ∷ rs)
       go true e later = omega arith
       go false e later = let l = later e in omega arith
-
-  lighter : (n : ℕ) (rs : List (Record K V)) → admitted_weight (without_record n rs) ≤ admitted_weight rs
-  lighter n [] = omega arith
-  lighter n (x ∷ rs) = go (eqb x.number n) (lighter n rs)
-    where
-      go : (b : Bool) → admitted_weight (without_record n rs) ≤ admitted_weight rs → admitted_weight (cond b rs (x ∷ without_record n rs)) ≤ admitted_weight (x ∷ rs)
-      go true later = let all = sum_by-cons weight_at x rs in omega (arith, all)
-      go false later = let all = sum_by-cons weight_at x rs in let rest = sum_by-cons weight_at x (without_record n rs) in omega (arith, all, rest, later)
 
   each-at : (Q : Record K V → Type 0) (rs : List (Record K V)) (n : ℕ) (r : Record K V) → Each Q rs → record_at rs n ≡ Some r → Q r
   each-at Q [] n r h there = absurd (cc)
@@ -59,16 +49,6 @@ module _ {K V : Type 0} where
       go None at h later = later h
       go (Some x) at h later = counts x (is_some x.counts) at h later
 
--- a table that is not wanted at a weight is wanted at no less
-not-wanted : (capacity : Option ℕ) (sketch : Sketch) (more less : ℕ) → less ≤ more → wants_table capacity sketch more ≡ false → wants_table capacity sketch less ≡ false
-not-wanted None sketch more less h off = refl
-not-wanted (Some capacity) sketch more less h off = go (nat_lt 0 capacity && eqb sketch.words 0) (nat_le (capacity / 2) less) refl off
-  where
-    go : (a b : Bool) → nat_le (capacity / 2) less ≡ b → (a && nat_le (capacity / 2) more) ≡ false → (a && b) ≡ false
-    go false b e off = refl
-    go true false e off = refl
-    go true true e off = absurd (true≢false (sym (le-leb (capacity / 2) more (let l = leb-true (capacity / 2) less e in omega arith)) ∙ off))
-
 module _ {K V P S R : Type 0} where
   -- ---- a record leaves
 
@@ -80,20 +60,20 @@ module _ {K V P S R : Type 0} where
       go (Some r) = record { reads = h.reads; writes = h.writes }
 
   pub rest-start : (s : State K V P S R) → KeepsRest s s
-  rest-start s = record { predicates = refl; unsent = refl; ran = refl; settings = refl; table = λ h. h; sound = λ h. h }
+  rest-start s = record { predicates = refl; unsent = refl; ran = refl; settings = refl; sketch = refl; sound = λ h. h }
 
   pub later-alike : (old new : State K V P S R) (now : ℕ) → KeepsRest old new → is_later_tick old now ≡ is_later_tick new now
   later-alike old new now h = ap (λ n. nat_lt (tick_of old.settings n) (tick_of old.settings now)) (sym h.ran) ∙ ap (λ t. nat_lt (tick_of t new.ran) (tick_of t now)) (sym h.settings)
 
   pub rest-more : (old mid new : State K V P S R) → KeepsRest old mid → KeepsRest mid new → KeepsRest old new
-  rest-more old mid new h k = record { predicates = k.predicates ∙ h.predicates; unsent = k.unsent ∙ h.unsent; ran = k.ran ∙ h.ran; settings = k.settings ∙ h.settings; table = λ x. k.table (h.table x); sound = λ x. k.sound (h.sound x) }
+  rest-more old mid new h k = record { predicates = k.predicates ∙ h.predicates; unsent = k.unsent ∙ h.unsent; ran = k.ran ∙ h.ran; settings = k.settings ∙ h.settings; sketch = k.sketch ∙ h.sketch; sound = λ x. k.sound (h.sound x) }
 
   pub rest-left : (why : RemovalCause) (n : ℕ) (s : State K V P S R) → KeepsRest s (left why n s)
   rest-left why n s = go (record_at s.records n) (left-is_sound why n s)
     where
       go : (o : Option (Record K V)) → (IsSound s → IsSound (with_left why s o)) → KeepsRest s (with_left why s o)
-      go None h = record { predicates = refl; unsent = refl; ran = refl; settings = refl; table = λ x. x; sound = h }
-      go (Some r) h = record { predicates = refl; unsent = refl; ran = refl; settings = refl; table = λ x. not-wanted s.settings.capacity s.sketch (admitted_weight s.records) _ (lighter r.number s.records) x; sound = h }
+      go None h = record { predicates = refl; unsent = refl; ran = refl; settings = refl; sketch = refl; sound = h }
+      go (Some r) h = record { predicates = refl; unsent = refl; ran = refl; settings = refl; sketch = refl; sound = h }
 
   pub fewer-left : (why : RemovalCause) (s : State K V P S R) (r : Record K V) → record_at s.records r.number ≡ Some r → length (left why r.number s).records < length s.records
   fewer-left why s r there = subst (λ o. length (with_left why s o).records < length s.records) (sym there) (fewer r.number s.records r there)
@@ -134,17 +114,17 @@ module _ {K V P S R : Type 0} where
     own = λ later r there. clean.fronts.timer (ap (λ (t : Settings). nat_lt (tick_of t last.ran) (tick_of t now)) rest.settings ∙ ap (λ ran. nat_lt (tick_of old.settings ran) (tick_of old.settings now)) rest.ran ∙ later) r there (all-held last sound sent applied r.number r there);
   }
 
-  -- a stretch that leaves the fronts clean, and then the counts, are a run to its end
+  -- a stretch that leaves the fronts clean, and then the counts, end a run
   pub run-from : (answers : Answers K V P R) (now : ℕ) (refused : Bool) (old last new : State K V P S R) → Stretch answers now old last → IsApplied last
       → new ≡ record last { number = admitted_number last.records; weight = min (admitted_weight last.records) 18446744073709551615; ran = now; table_refused = refused }
-      → KeepsRest old last → IsClean now last → old.predicates ≡ [] → ∥ IsSound old ∥₁ → (refused ≡ false → lacks_table old ≡ false) → RunsToEnd answers now old new
-  run-from answers now refused old last new h applied after rest clean none sound table = record {
+      → KeepsRest old last → IsClean now last → old.predicates ≡ [] → ∥ IsSound old ∥₁ → EndsRun answers now old new
+  run-from answers now refused old last new h applied after rest clean none sound = record {
     runs = record { stages = h.stages; last = last; steps = h.steps; applied = applied; refused = refused; after = after };
     done = subst (λ (s : State K V P S R). IsDone s) (sym after) (record {
       within = λ capacity is_set some more. clean.light (ap (λ o. is_above o (admitted_weight last.records)) is_set ∙ lt-ltb capacity (admitted_weight last.records) more);
       ended = rest.predicates ∙ none;
-      table = λ asked. rest.table (table asked);
     });
+    sketch = ap (λ (s : State K V P S R). s.sketch) after ∙ rest.sketch;
     swept = λ sent. subst (λ (s : State K V P S R). IsSwept now old s) (sym after) (record {
       live = λ r first. ∥∥₁_elim sound (Prim.hlevel props) (λ k. (clean-swept now old last (rest.sound k) (rest.unsent ∙ sent) applied rest clean).live r first);
       clear = λ r first. ∥∥₁_elim sound (Prim.hlevel props) (λ k. (clean-swept now old last (rest.sound k) (rest.unsent ∙ sent) applied rest clean).clear r first);

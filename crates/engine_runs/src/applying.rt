@@ -3,7 +3,7 @@ ghost use Rattle.std.specs.Prelude.{◌≡◌, ℕ, ◌<◌, [], length, slice_g
 ghost use Rattle.engine_cells.specs.Kept.{kept_at};
 ghost use Rattle.engine_cells.specs.Noting.{AimsOnlyAt};
 ghost use Rattle.engine_reference.specs.Records.{record_at};
-ghost use Rattle.engine_reference.specs.Runs.{after_put, after_write, IsApplied};
+ghost use Rattle.engine_reference.specs.Runs.{after_put, after_write, all_applied, IsApplied};
 ghost use Rattle.engine_reference.specs.Soundness.{number_of};
 ghost use Rattle.engine_reference.specs.State.{Answers};
 ghost use Rattle.engine_reference.specs.declared.data.Record.{Record};
@@ -71,6 +71,7 @@ pub fn apply_reads<K: Eq + Hash, V, S: BuildHasher, R: Rules<K, V>>(tables: &mut
     ensures stretch { (answers : Answers K V R.Predicate R) (moment : ℕ)
         → Stretch answers moment tables.old.state tables.new.state }
     ensures counted { tables.new.state.reads ≡ [] }
+    ensures all { all_applied tables.new.state ≡ all_applied tables.old.state }
 {
     for index in 0..tables.number_of_reads() {
         tables.apply_read(index);
@@ -101,6 +102,7 @@ pub fn apply_writes<K: Eq + Hash + Drop, V: Drop, S: BuildHasher, R: Rules<K, V>
     ensures stretch { (answers : Answers K V R.Predicate R) (moment : ℕ)
         → Stretch answers moment tables.old.state tables.new.state }
     ensures applied { IsApplied tables.new.state }
+    ensures all { tables.new.state ≡ all_applied tables.old.state }
 {
     for index in 0..tables.number_of_writes() {
         apply_at(tables, index);

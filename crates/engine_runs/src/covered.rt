@@ -1,8 +1,8 @@
 //! Predicates: removes what they cover, and then the predicates.
-ghost use Rattle.std.specs.Prelude.{◌≡◌, ◌+◌, ◌<◌, [], false, length};
+ghost use Rattle.std.specs.Prelude.{◌≡◌, ◌+◌, ◌<◌, ℕ, [], length};
 ghost use Rattle.engine_cells.specs.Kept.{kept_at};
 ghost use Rattle.engine_cells.specs.Stretches.{Stretch, StepsFor};
-ghost use Rattle.engine_reference.specs.Runs.{IsApplied, lacks_table};
+ghost use Rattle.engine_reference.specs.Runs.{IsApplied};
 ghost use Rattle.engine_reference.specs.Soundness.{IsSound};
 ghost use Rattle.engine_reference.specs.State.{Answers};
 ghost use Rattle.engine_runs.specs.Covered.{is_covered_as, IsScanned, NoneIsCovered, CoverNone};
@@ -30,10 +30,10 @@ fn is_covered_at<K: Eq + Hash, V, S: BuildHasher, R: Rules<K, V>>(
 fn leave_covered<K: Eq + Hash + Drop, V: Drop, S: BuildHasher, R: Rules<K, V>>(
     tables: &mut Tables<K, V, S, R>,
     place: usize,
-    now: u64,
 )
     requires { IsApplied tables.old.state }
-    ensures stretch { (answers : Answers K V R.Predicate R) → answers.covers ≡ R.answers.covers
+    ensures stretch { (answers : Answers K V R.Predicate R) (now : ℕ)
+        → answers.covers ≡ R.answers.covers
         → Stretch answers now tables.old.state tables.new.state }
     ensures applied { IsApplied tables.new.state }
     ensures rest { KeepsRest tables.old.state tables.new.state }
@@ -41,7 +41,6 @@ fn leave_covered<K: Eq + Hash + Drop, V: Drop, S: BuildHasher, R: Rules<K, V>>(
         → IsScanned answers place tables.old → IsScanned answers (place + 1) tables.new }
     ensures places { length tables.new.numbers ≡ length tables.old.numbers }
 {
-    let _now = now;
     if is_covered_at(tables, place) {
         tables.leave(place, RemovalCause::Explicit);
     }
@@ -50,10 +49,10 @@ fn leave_covered<K: Eq + Hash + Drop, V: Drop, S: BuildHasher, R: Rules<K, V>>(
 /// All held records that are covered leave, in one walk over the places.
 fn scan<K: Eq + Hash + Drop, V: Drop, S: BuildHasher, R: Rules<K, V>>(
     tables: &mut Tables<K, V, S, R>,
-    now: u64,
 )
     requires { IsApplied tables.old.state }
-    ensures stretch { (answers : Answers K V R.Predicate R) → answers.covers ≡ R.answers.covers
+    ensures stretch { (answers : Answers K V R.Predicate R) (now : ℕ)
+        → answers.covers ≡ R.answers.covers
         → Stretch answers now tables.old.state tables.new.state }
     ensures applied { IsApplied tables.new.state }
     ensures rest { KeepsRest tables.old.state tables.new.state }
@@ -61,67 +60,62 @@ fn scan<K: Eq + Hash + Drop, V: Drop, S: BuildHasher, R: Rules<K, V>>(
         → NoneIsCovered answers tables.new.state }
 {
     for place in 0..tables.places() {
-        leave_covered(tables, place, now);
+        leave_covered(tables, place);
     }
     let _stand = tables.places();
 }
 
 /// Removes the last predicate, which covers nothing.
-fn end_last<K: Eq + Hash, V, S: BuildHasher, R: Rules<K, V>>(
-    tables: &mut Tables<K, V, S, R>,
-    now: u64,
-)
+fn end_last<K: Eq + Hash, V, S: BuildHasher, R: Rules<K, V>>(tables: &mut Tables<K, V, S, R>)
     requires applied { IsApplied tables.old.state }
     requires some { 0 < length tables.old.state.predicates }
     requires none { (answers : Answers K V R.Predicate R) → answers.covers ≡ R.answers.covers
         → CoverNone answers tables.old.state }
-    ensures step { (answers : Answers K V R.Predicate R) → answers.covers ≡ R.answers.covers
+    ensures step { (answers : Answers K V R.Predicate R) (now : ℕ)
+        → answers.covers ≡ R.answers.covers
         → StepsFor answers now tables.old.state tables.new.state }
     ensures applied { IsApplied tables.new.state }
     ensures none { (answers : Answers K V R.Predicate R) → answers.covers ≡ R.answers.covers
         → CoverNone answers tables.new.state }
-    ensures table { lacks_table tables.new.state ≡ lacks_table tables.old.state }
+    ensures sketch { tables.new.state.sketch ≡ tables.old.state.sketch }
     ensures fewer { length tables.new.state.predicates < length tables.old.state.predicates }
 {
-    let _now = now;
     let last = tables.predicates().len() - 1;
     tables.end_predicate(last);
 }
 
 /// Removes all predicates, none of which covers anything.
-fn end_all<K: Eq + Hash, V, S: BuildHasher, R: Rules<K, V>>(
-    tables: &mut Tables<K, V, S, R>,
-    now: u64,
-)
+fn end_all<K: Eq + Hash, V, S: BuildHasher, R: Rules<K, V>>(tables: &mut Tables<K, V, S, R>)
     requires applied { IsApplied tables.old.state }
     requires none { (answers : Answers K V R.Predicate R) → answers.covers ≡ R.answers.covers
         → CoverNone answers tables.old.state }
-    ensures stretch { (answers : Answers K V R.Predicate R) → answers.covers ≡ R.answers.covers
+    ensures stretch { (answers : Answers K V R.Predicate R) (now : ℕ)
+        → answers.covers ≡ R.answers.covers
         → Stretch answers now tables.old.state tables.new.state }
     ensures applied { IsApplied tables.new.state }
     ensures ended { tables.new.state.predicates ≡ [] }
-    ensures table { lacks_table tables.new.state ≡ lacks_table tables.old.state }
+    ensures sketch { tables.new.state.sketch ≡ tables.old.state.sketch }
 {
     while 0 < tables.predicates().len() {
-        end_last(tables, now);
+        end_last(tables);
     }
 }
 
 /// Where there are predicates, all held records that are covered leave, and then the predicates go.
 pub fn end_predicates<K: Eq + Hash + Drop, V: Drop, S: BuildHasher, R: Rules<K, V>>(
     tables: &mut Tables<K, V, S, R>,
-    now: u64,
 )
     requires applied { IsApplied tables.old.state }
     requires sound { ∥ IsSound tables.old.state ∥₁ }
-    ensures stretch { (answers : Answers K V R.Predicate R) → answers.covers ≡ R.answers.covers
+    ensures stretch { (answers : Answers K V R.Predicate R) (now : ℕ)
+        → answers.covers ≡ R.answers.covers
         → Stretch answers now tables.old.state tables.new.state }
     ensures applied { IsApplied tables.new.state }
     ensures ended { tables.new.state.predicates ≡ [] }
-    ensures table { lacks_table tables.old.state ≡ false → lacks_table tables.new.state ≡ false }
+    ensures sketch { tables.new.state.sketch ≡ tables.old.state.sketch }
 {
     if 0 < tables.predicates().len() {
-        scan(tables, now);
-        end_all(tables, now);
+        scan(tables);
+        end_all(tables);
     }
 }

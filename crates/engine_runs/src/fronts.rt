@@ -1,5 +1,5 @@
 //! The fronts at which a run looks.
-ghost use Rattle.std.specs.Prelude.{◌≡◌, [], true, None, IfSome, IfNone};
+ghost use Rattle.std.specs.Prelude.{◌≡◌, ℕ, [], true, None, IfSome, IfNone};
 ghost use Rattle.engine_cells.specs.Kept.{kept_at};
 ghost use Rattle.engine_reference.specs.Runs.{FrontsAreClean, IsTimerClean, IsUsedClean, IsWrittenClean, is_later_tick};
 ghost use Rattle.engine_reference.specs.Times.{end_of, is_reached, tick_of};
@@ -146,17 +146,15 @@ fn timer_leaving<K: Eq + Hash, V, S: BuildHasher, R: Rules<K, V>>(
     }
 }
 
-/// The first settled record of the access list, where the weight is above the capacity. Nothing else has to leave.
+/// The first settled record of the access list, where the weight is above the capacity. It may leave where nothing else has to.
 fn excess_leaving<K: Eq + Hash, V, S: BuildHasher, R: Rules<K, V>>(
     tables: &Tables<K, V, S, R>,
-    now: u64,
 ) -> Option<(usize, RemovalCause)>
-    requires { FrontsAreClean now tables.now.state }
     ensures found { IfSome result (λ due. (r : Record K V) × (kept_at tables.now due.0 ≡ Some r)
-        × MayLeave tables.now.state now r due.1) }
+        × ((now : ℕ) → FrontsAreClean now tables.now.state
+        → MayLeave tables.now.state now r due.1)) }
     ensures none { IfNone result (IsLight tables.now.state) }
 {
-    let _now = now;
     if !tables.is_too_heavy() {
         return None;
     }
@@ -187,7 +185,7 @@ pub fn next_leaving<K: Eq + Hash, V, S: BuildHasher, R: Rules<K, V>>(
     if let Some(found) = timer_leaving(tables, now, is_later) {
         return Some(found);
     }
-    if let Some(found) = excess_leaving(tables, now) {
+    if let Some(found) = excess_leaving(tables) {
         return Some(found);
     }
     None

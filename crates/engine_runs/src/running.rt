@@ -37,8 +37,8 @@ pub fn try_run<K: Eq + Hash + Drop, V: Drop, S: BuildHasher, R: Rules<K, V>>(
     tables.mend_timers();
     apply_reads(tables);
     apply_writes(tables);
-    let grown = grow(tables, now);
-    end_predicates(tables, now);
+    let grown = grow(tables);
+    end_predicates(tables);
     settle(tables, now, grown.is_err());
     grown
 }

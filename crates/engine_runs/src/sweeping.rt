@@ -1,13 +1,13 @@
 //! The loop.
-ghost use Rattle.std.specs.Prelude.{◌≡◌, ◌<◌, length, [], false};
+ghost use Rattle.std.specs.Prelude.{◌≡◌, ◌<◌, ℕ, length, []};
 ghost use Rattle.engine_cells.specs.Kept.{kept_at};
-ghost use Rattle.engine_reference.specs.Runs.{IsApplied, RunsToEnd, lacks_table};
+ghost use Rattle.engine_reference.specs.Runs.{IsApplied};
 ghost use Rattle.engine_reference.specs.Soundness.{IsSound};
 ghost use Rattle.engine_reference.specs.State.{Answers};
 ghost use Rattle.engine_reference.specs.declared.data.Record.{Record};
 ghost use Rattle.engine_runs.specs.Fronts.{MayLeave, IsClean};
 ghost use Rattle.engine_cells.specs.Stretches.{Stretch, StepsFor};
-ghost use Rattle.engine_runs.specs.Stretches.{KeepsRest};
+ghost use Rattle.engine_runs.specs.Stretches.{EndsRun, KeepsRest};
 
 use crate::fronts::{is_in_later_tick, next_leaving};
 use engine_reference::{RemovalCause, Rules};
@@ -19,18 +19,16 @@ fn leave_for<K: Eq + Hash + Drop, V: Drop, S: BuildHasher, R: Rules<K, V>>(
     tables: &mut Tables<K, V, S, R>,
     place: usize,
     cause: RemovalCause,
-    now: u64,
 )
     requires applied { IsApplied tables.old.state }
-    requires due { (r : Record K V) × (kept_at tables.old place ≡ Some r)
-        × MayLeave tables.old.state now r cause }
-    ensures step { (answers : Answers K V R.Predicate R)
+    requires there { (r : Record K V) × (kept_at tables.old place ≡ Some r) }
+    ensures step { (answers : Answers K V R.Predicate R) (now : ℕ) (r : Record K V)
+        → kept_at tables.old place ≡ Some r → MayLeave tables.old.state now r cause
         → StepsFor answers now tables.old.state tables.new.state }
     ensures applied { IsApplied tables.new.state }
     ensures rest { KeepsRest tables.old.state tables.new.state }
     ensures fewer { length tables.new.state.records < length tables.old.state.records }
 {
-    let _now = now;
     tables.leave(place, cause);
 }
 
@@ -49,12 +47,12 @@ pub fn sweep<K: Eq + Hash + Drop, V: Drop, S: BuildHasher, R: Rules<K, V>>(
 {
     let is_later = is_in_later_tick(tables, now);
     while let Some((place, cause)) = next_leaving(tables, now, is_later) {
-        leave_for(tables, place, cause, now);
+        leave_for(tables, place, cause);
     }
 }
 
 /// The rest of a run of what has nothing to apply and no predicate: what is due by the fronts leaves, and the counts are
-/// taken. The sketch's table was made before, where it was wanted, or there was no memory for it, which is taken down.
+/// taken, with whether there was no memory for the sketch's table.
 pub fn settle<K: Eq + Hash + Drop, V: Drop, S: BuildHasher, R: Rules<K, V>>(
     tables: &mut Tables<K, V, S, R>,
     now: u64,
@@ -63,9 +61,8 @@ pub fn settle<K: Eq + Hash + Drop, V: Drop, S: BuildHasher, R: Rules<K, V>>(
     requires applied { IsApplied tables.old.state }
     requires predicates { tables.old.state.predicates ≡ [] }
     requires sound { ∥ IsSound tables.old.state ∥₁ }
-    requires table { table_refused ≡ false → lacks_table tables.old.state ≡ false }
     ensures runs { (answers : Answers K V R.Predicate R)
-        → RunsToEnd answers now tables.old.state tables.new.state }
+        → EndsRun answers now tables.old.state tables.new.state }
     ensures refused { tables.new.state.table_refused ≡ table_refused }
 {
     sweep(tables, now);

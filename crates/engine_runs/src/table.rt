@@ -1,5 +1,6 @@
 //! The sketch's table: when it is made, and for how many hashes.
-ghost use Rattle.std.specs.Prelude.{◌≡◌, false, IfSome, IfNone, OnOk, OnErr};
+ghost use Rattle.std.specs.Prelude.{◌≡◌, ◌==◌, ◌&&◌, ℕ, false, IfSome, IfNone};
+ghost use Rattle.std.specs.Result.{is_err};
 ghost use Rattle.engine_reference.specs.Admission.{sketch_room, wants_table};
 ghost use Rattle.engine_reference.specs.Runs.{IsApplied, lacks_table};
 ghost use Rattle.engine_reference.specs.State.{Answers};
@@ -56,38 +57,35 @@ fn table_wanted<K: Eq + Hash, V, S: BuildHasher, R: Rules<K, V>>(
     None
 }
 
-/// Makes the table for so many hashes.
+/// Makes the table for so many hashes, unless there is no memory for it.
 fn make_table<K: Eq + Hash, V, S: BuildHasher, R: Rules<K, V>>(
     tables: &mut Tables<K, V, S, R>,
     hashes: u32,
-    now: u64,
 ) -> Result<(), AllocError>
     requires applied { IsApplied tables.old.state }
     requires lacks { LacksTableFor hashes tables.old.state }
-    ensures stretch { (answers : Answers K V R.Predicate R)
+    ensures stretch { (answers : Answers K V R.Predicate R) (now : ℕ)
         → Stretch answers now tables.old.state tables.new.state }
     ensures applied { IsApplied tables.new.state }
-    ensures table { OnOk result (lacks_table tables.new.state ≡ false) }
-    ensures err { OnErr result (tables.new ≡ tables.old) }
+    ensures refused { is_err result ≡ (tables.new.state.sketch.words == 0) }
 {
-    let _now = now;
     tables.make_table(hashes)?;
     Ok(())
 }
 
-/// Makes the table, where half the capacity is held and there is none.
+/// Makes the table, where half the capacity is held and there is none. An error says that there is no memory for it.
 pub fn grow<K: Eq + Hash, V, S: BuildHasher, R: Rules<K, V>>(
     tables: &mut Tables<K, V, S, R>,
-    now: u64,
 ) -> Result<(), AllocError>
     requires { IsApplied tables.old.state }
-    ensures stretch { (answers : Answers K V R.Predicate R)
+    ensures stretch { (answers : Answers K V R.Predicate R) (now : ℕ)
         → Stretch answers now tables.old.state tables.new.state }
     ensures applied { IsApplied tables.new.state }
-    ensures table { OnOk result (lacks_table tables.new.state ≡ false) }
+    ensures refused { is_err result
+        ≡ (lacks_table tables.old.state && (tables.new.state.sketch.words == 0)) }
 {
     match table_wanted(tables) {
-        Some(hashes) => make_table(tables, hashes, now),
+        Some(hashes) => make_table(tables, hashes),
         None => Ok(()),
     }
 }

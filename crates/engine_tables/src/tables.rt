@@ -738,6 +738,7 @@ impl<K: Eq + Hash, V, S: BuildHasher, R: Rules<K, V>> Tables<K, V, S, R> {
         ensures ok { OnOk result
             (self.new ≡ record self.old { state = sent ticket self.old.state }) }
         ensures known { OnOk result (is_some (unsent_at self.old.state.unsent ticket) ≡ true) }
+        ensures room { OnOk result (is_full self.old.state ≡ false) }
         ensures err { OnErr result (self.new ≡ self.old) }
         ensures unknown { IsErrOf result Refusal.UnknownTicket
             → unsent_at self.old.state.unsent ticket ≡ None }

@@ -4,7 +4,7 @@ ghost use Rattle.std.specs.Duration.{as_nanos};
 ghost use Rattle.moka.specs.Building.{as_limit, is_too_long, segments_fault, time_fault};
 
 use crate::errors::BuildError;
-use policy_base::duration_to_saturating_nanoseconds;
+use policy_base::Instant;
 use std::time::Duration;
 
 /// The longest time to live or to idle, in nanoseconds: 1000 years of 365 days.
@@ -54,7 +54,7 @@ pub(crate) fn as_limit(time: Option<Duration>) -> Option<u64>
     ensures { result ≡ as_limit time }
 {
     match time {
-        Some(time) => Some(duration_to_saturating_nanoseconds(time)),
+        Some(time) => Some(Instant::duration_to_saturating_nanoseconds(time)),
         None => None,
     }
 }

@@ -222,6 +222,7 @@ impl<K: Eq + Hash, V, S: BuildHasher, R: Rules<K, V>> BaseCache<K, V, S, R> {
     pub fn send(&mut self, ticket: u64) -> Result<(), Refusal>
         ensures ok { OnOk result (self.new ≡ sent ticket self.old) }
         ensures known { OnOk result (is_some (unsent_at self.old.unsent ticket) ≡ true) }
+        ensures room { OnOk result (is_full self.old ≡ false) }
         ensures err { OnErr result (self.new ≡ self.old) }
         ensures unknown { IsErrOf result Refusal.UnknownTicket
             → unsent_at self.old.unsent ticket ≡ None }

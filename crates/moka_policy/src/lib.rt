@@ -7,7 +7,7 @@ pub use deques::Deques;
 pub use policy_base::{
     AccessTime, CacheRegion, DeqNode, DeqNodes, EntryInfo, FrequencySketch, HousekeeperConfig,
     Instant, KeyHash, KeyHashDate, KvEntry, MAX_NANOS, NodeId, OldEntryInfo, ReadOp, Slot, UsedUp,
-    ValueEntry, WriteOp, duration_to_saturating_nanoseconds, sketch_capacity,
+    ValueEntry, WriteOp, sketch_capacity,
 };
 pub use policy_queue::{
     Cursor, Deque, Due, Node, PushError, ReschedulingResult, ReserveError, ScheduleError, Stale,

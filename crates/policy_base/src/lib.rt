@@ -12,7 +12,7 @@ mod sketch;
 pub use cells::{Cells, MOST_CELLS};
 pub use config::{HousekeeperConfig, sketch_capacity};
 pub use entry_info::{EntryInfo, UsedUp};
-pub use moment::{AccessTime, Instant, MAX_NANOS, duration_to_saturating_nanoseconds};
+pub use moment::{AccessTime, Instant, MAX_NANOS};
 pub use name::{CacheRegion, NodeId};
 pub use records::{
     DeqNode, DeqNodes, KeyHash, KeyHashDate, KvEntry, OldEntryInfo, ReadOp, Slot, ValueEntry,

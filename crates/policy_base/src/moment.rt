@@ -38,7 +38,7 @@ impl Instant {
         ensures { result ≡ min (as_nanos duration) MAX_NANOS }
     {
         Instant {
-            nanos: duration_to_saturating_nanoseconds(duration),
+            nanos: Instant::duration_to_saturating_nanoseconds(duration),
         }
     }
 
@@ -50,13 +50,25 @@ impl Instant {
         self.nanos
     }
 
+    /// Returns the nanoseconds of a duration, at most those of the last moment.
+    pub fn duration_to_saturating_nanoseconds(duration: Duration) -> u64
+        ensures { result ≡ min (as_nanos duration) MAX_NANOS }
+    {
+        let nanos = duration.as_nanos();
+        if nanos < MAX_NANOS as u128 {
+            nanos as u64
+        } else {
+            MAX_NANOS
+        }
+    }
+
     /// Returns the moment this much later, at most the last moment.
     pub fn saturating_add(self, duration: Duration) -> Self
         ensures { result ≡ min (self + as_nanos duration) MAX_NANOS }
     {
         let later = self
             .nanos
-            .saturating_add(duration_to_saturating_nanoseconds(duration));
+            .saturating_add(Instant::duration_to_saturating_nanoseconds(duration));
         Instant {
             nanos: later.min(MAX_NANOS),
         }
@@ -67,18 +79,6 @@ impl Instant {
         ensures { as_nanos result ≡ self - earlier }
     {
         Duration::from_nanos(self.nanos.saturating_sub(earlier.nanos))
-    }
-}
-
-/// Returns the nanoseconds of a duration, at most those of the last moment.
-pub fn duration_to_saturating_nanoseconds(duration: Duration) -> u64
-    ensures { result ≡ min (as_nanos duration) MAX_NANOS }
-{
-    let nanos = duration.as_nanos();
-    if nanos < MAX_NANOS as u128 {
-        nanos as u64
-    } else {
-        MAX_NANOS
     }
 }
 

@@ -32,6 +32,6 @@ impl RemovalCause {
 #[derive(Clone, Copy, Debug, PartialEq, Eq, Drop, Error)]
 pub enum PredicateError {
     /// The cache was made without support for predicates.
-    #[error("invalidation closures disabled")]
+    #[error("invalidation closures are disabled")]
     InvalidationClosuresDisabled,
 }

@@ -76,7 +76,6 @@ rows_of_points = record { order = full-order; run = whole; told = refl; kept = r
       done = record {
         within = λ capacity is_set above over. absurd (let same : 2 ≡ capacity = cc in let more : capacity < 2 = over in omega (arith, same, more));
         ended = refl;
-        table = λ e. e;
       };
       swept = λ sent. record {
         live = λ r first. refl;
@@ -84,6 +83,7 @@ rows_of_points = record { order = full-order; run = whole; told = refl; kept = r
         idle = λ r first. refl;
         own = λ later r there. each-at (λ x. is_reached x.entry.expires 9 ≡ false) evicted.records r.number r (refl, (refl, tt)) there;
       };
+      table = refl;
     }
 
     again : IsInOrder (ended 9 evicted)
@@ -128,7 +128,6 @@ rows_of_sweeping = record {
       done = record {
         within = λ capacity is_set above over. absurd (let none : None ≡ Some capacity = is_set in cc);
         ended = refl;
-        table = λ e. e;
       };
       swept = λ sent. record {
         live = λ r first. of_some (λ x. is_reached (end_of x.entry.written (Some 16000000000)) 17000000000) (first_of (admitted_in swept.records swept.order)) r refl first;
@@ -136,4 +135,5 @@ rows_of_sweeping = record {
         idle = λ r first. refl;
         own = λ later r there. each-at (λ x. is_reached x.entry.expires 17000000000 ≡ false) swept.records r.number r (refl, tt) there;
       };
+      table = refl;
     }

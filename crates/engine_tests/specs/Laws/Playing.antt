@@ -5,14 +5,12 @@ use Rattle.engine_reference.specs.declared.rules.causes.RemovalCause.{RemovalCau
 use Rattle.engine_reference.specs.declared.rules.causes.RemovalCause.TheVariants as cause
 use Rattle.engine_reference.specs.declared.rules.settings.EvictionPolicy.{EvictionPolicy}
 use Rattle.engine_reference.specs.declared.data.Record.{Record}
-use Rattle.engine_reference.specs.declared.data.Read.{Read}
-use Rattle.engine_reference.specs.declared.data.Write.{Write}
 use Rattle.engine_reference.specs.declared.data.Notice.{Notice}
 use Rattle.engine_reference.specs.State.{State, Answers}
 use Rattle.engine_reference.specs.Records.{admitted_number, admitted_weight}
 use Rattle.engine_reference.specs.Admission.{is_above, wants_table}
 use Rattle.engine_reference.specs.Visible.{visible_record, visible_value}
-use Rattle.engine_reference.specs.Runs.{after_read, after_write, is_due_for, covers_none, next_to_evict, left}
+use Rattle.engine_reference.specs.Runs.{all_applied, is_due_for, covers_none, next_to_evict, left}
 use Rattle.engine_reference.specs.Calls.{written, sent, with_read, removed_by}
 
 -- each value weighs one (rules 0) or what it is (rules 1); an own expiration of this many nanoseconds (rules above 1)
@@ -93,14 +91,6 @@ seen key now s = shown (visible_value small_answers nat_eq s now key)
 
 -- ---- a run
 
-abbrev read_all : List Read → Small → Small
-read_all [] s = s
-read_all (r ∷ rest) s = read_all rest (after_read r (record s { reads = rest }))
-
-abbrev write_all : List Write → Small → Small
-write_all [] s = s
-write_all (w ∷ rest) s = write_all rest (after_write w (record s { writes = rest }))
-
 -- small capacities have a table of 128 words
 abbrev with_table : Small → Small
 with_table s =
@@ -136,13 +126,10 @@ abbrev counted : ℕ → Small → Small
 counted now s =
     record s { number = admitted_number s.records; weight = admitted_weight s.records; ran = now }
 
-abbrev applied : Small → Small
-applied s = let t = read_all s.reads s in write_all t.writes t
-
 -- everything pending is applied, then what is dead or covered leaves, then the excess
 abbrev pub run : ℕ → Small → Small
 run now s =
-    let t = with_table (applied s) in
+    let t = with_table (all_applied s) in
     counted now (evict 8 (end_predicates (sweep now t.records t)))
 
 -- ---- what is reported, as a number: two digits for each notice, its cause (1 expired, 2 explicit, 3 replaced, 4 size) and its key

@@ -46,7 +46,7 @@ fn is_said(alloc: Global, error: PredicateError, text: &str) -> bool {
 #[test]
 fn text_of_a_refusal(rt: HostRuntime) {
     let refused = PredicateError::InvalidationClosuresDisabled;
-    assert!(rt; is_said(rt.alloc(), refused, "invalidation closures disabled"));
+    assert!(rt; is_said(rt.alloc(), refused, "invalidation closures are disabled"));
 }
 
 fn times_of(times: &ExpirationPolicy) -> (Option<Duration>, Option<Duration>) {

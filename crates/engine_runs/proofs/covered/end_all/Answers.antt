@@ -4,16 +4,16 @@ use Rattle.engine_runs.proofs.covered.end_all.Goals as goal
 
 pub loop-tables-init : goal.loop-tables-init
 loop-tables-init g c = record {
-  stretch = λ answers covers. stretch-start answers c.args.now c.args.tables.now.state;
+  stretch = λ answers now covers. stretch-start answers now c.args.tables.now.state;
   applied = c.requires.applied;
   none = c.requires.none;
-  table = refl;
+  sketch = refl;
 }
 
 pub loop-tables-preserved : goal.loop-tables-preserved
 loop-tables-preserved g c = record {
-  stretch = λ answers covers. stretch-join answers c.args.now c.args.tables.now.state _ _ (c.loop-tables.invariant.stretch answers covers) (stretch-step answers c.args.now _ _ (c.end_last.ensures.step answers covers));
+  stretch = λ answers now covers. stretch-join answers now c.args.tables.now.state _ _ (c.loop-tables.invariant.stretch answers now covers) (stretch-step answers now _ _ (c.end_last.ensures.step answers now covers));
   applied = c.end_last.ensures.applied;
   none = c.end_last.ensures.none;
-  table = c.end_last.ensures.table ∙ c.loop-tables.invariant.table;
+  sketch = c.end_last.ensures.sketch ∙ c.loop-tables.invariant.sketch;
 }

@@ -5,12 +5,12 @@ use Rattle.engine_runs.proofs.Covering.{predicate-ends, cover-fewer, last-there,
 use Rattle.engine_runs.proofs.covered.end_last.Goals as goal
 
 pub returns-clause-step : goal.returns-clause-step
-returns-clause-step g c = λ answers covers.
+returns-clause-step g c = λ answers now covers.
     let s = c.args.tables.now.state in
     let ps = c.predicates.result.now in
     let p = last-there ps (subst (λ xs. 0 < length xs) (sym c.predicates.ensures) c.requires.some) in
     let there = subst (λ xs. slice_get xs (length ps - 1) ≡ Some p.0) c.predicates.ensures p.1 in
-    predicate-ends answers c.args.now s c.end_predicate.new.self.state (length ps - 1) p.0 c.requires.applied there (c.requires.none answers covers) (ap (λ t. t.state) c.end_predicate.ensures)
+    predicate-ends answers now s c.end_predicate.new.self.state (length ps - 1) p.0 c.requires.applied there (c.requires.none answers covers) (ap (λ t. t.state) c.end_predicate.ensures)
 
 pub returns-clause-none : goal.returns-clause-none
 returns-clause-none g c = λ answers covers.

@@ -8,5 +8,5 @@ end_all-requires-clause-none g c = λ answers covers.
     cover-none answers c.scan.new.tables.state (∥∥₁_map c.requires.sound c.scan.ensures.rest.sound) (c.scan.ensures.none answers covers)
 
 pub returns-then-predicates-gt0-clause-stretch : goal.returns-then-predicates-gt0-clause-stretch
-returns-then-predicates-gt0-clause-stretch g c = λ answers covers.
-    stretch-join answers c.args.now c.args.tables.now.state c.scan.new.tables.state c.end_all.new.tables.state (c.scan.ensures.stretch answers covers) (c.end_all.ensures.stretch answers covers)
+returns-then-predicates-gt0-clause-stretch g c = λ answers now covers.
+    stretch-join answers now c.args.tables.now.state c.scan.new.tables.state c.end_all.new.tables.state (c.scan.ensures.stretch answers now covers) (c.end_all.ensures.stretch answers now covers)

@@ -18,12 +18,12 @@ leave-requires g c =
     covered-there a c.args.tables.now.state (kept_at c.args.tables.now c.args.place) (sym (c.is_covered_at.ensures a refl) ∙ c.if-is_covered_at.true)
 
 pub returns-then-is_covered_at-clause-stretch : goal.returns-then-is_covered_at-clause-stretch
-returns-then-is_covered_at-clause-stretch g c = λ answers covers.
+returns-then-is_covered_at-clause-stretch g c = λ answers now covers.
     let s = c.args.tables.now.state in
     let u = c.leave.ensures in
     let covered : is_covered_as answers s (Some u.0) ≡ true = ap (λ o. is_covered_as answers s o) (sym u.1) ∙ sym (c.is_covered_at.ensures answers covers) ∙ c.if-is_covered_at.true in
     let there = kept-number s.records (numbered_at c.args.tables.now.numbers c.args.place) u.0 u.1 in
-    stretch-step answers c.args.now s _ (covered-leaves answers c.args.now s _ u.0 c.requires there covered (ap (λ t. t.state) u.2 ∙ sym (ap (λ o. with_left cause.Explicit s o) there)))
+    stretch-step answers now s _ (covered-leaves answers now s _ u.0 c.requires there covered (ap (λ t. t.state) u.2 ∙ sym (ap (λ o. with_left cause.Explicit s o) there)))
 
 pub returns-then-is_covered_at-clause-rest : goal.returns-then-is_covered_at-clause-rest
 returns-then-is_covered_at-clause-rest g c =

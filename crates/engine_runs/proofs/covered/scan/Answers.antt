@@ -6,7 +6,7 @@ use Rattle.engine_runs.proofs.covered.scan.Goals as goal
 
 pub loop-place-init : goal.loop-place-init
 loop-place-init g c = record {
-  stretch = λ answers covers. stretch-start answers c.args.now c.args.tables.now.state;
+  stretch = λ answers now covers. stretch-start answers now c.args.tables.now.state;
   applied = c.requires;
   rest = rest-start c.args.tables.now.state;
   scanned = λ answers covers i less. absurd (omega arith);
@@ -15,7 +15,7 @@ loop-place-init g c = record {
 
 pub loop-place-preserved : goal.loop-place-preserved
 loop-place-preserved g c = record {
-  stretch = λ answers covers. stretch-join answers c.args.now c.args.tables.now.state _ _ (c.loop-place.invariant.stretch answers covers) (c.leave_covered.ensures.stretch answers covers);
+  stretch = λ answers now covers. stretch-join answers now c.args.tables.now.state _ _ (c.loop-place.invariant.stretch answers now covers) (c.leave_covered.ensures.stretch answers now covers);
   applied = c.leave_covered.ensures.applied;
   rest = rest-more c.args.tables.now.state _ _ c.loop-place.invariant.rest c.leave_covered.ensures.rest;
   scanned = λ answers covers. c.leave_covered.ensures.scanned answers covers (c.loop-place.invariant.scanned answers covers);

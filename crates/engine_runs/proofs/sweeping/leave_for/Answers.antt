@@ -8,14 +8,13 @@ use Rattle.engine_runs.proofs.SweepingStretching.{applied-left, rest-left, fewer
 use Rattle.engine_runs.proofs.sweeping.leave_for.Goals as goal
 
 pub returns-clause-step : goal.returns-clause-step
-returns-clause-step g c = λ answers.
+returns-clause-step g c = λ answers now r there may.
     let s = c.args.tables.now.state in
     let u = c.leave.ensures in
-    let d = c.requires.due in
-    let same : Some d.0 ≡ Some u.0 = sym d.1 ∙ u.1 in
-    let is : d.0 ≡ u.0 = cc in
-    let there = kept-number s.records (numbered_at c.args.tables.now.numbers c.args.place) u.0 u.1 in
-    step-of answers s _ c.args.now u.0 c.args.cause c.requires.applied there (subst (λ r. MayLeave s c.args.now r c.args.cause) is d.2) (ap (λ t. t.state) u.2 ∙ sym (ap (λ o. with_left c.args.cause s o) there))
+    let same : Some r ≡ Some u.0 = sym there ∙ u.1 in
+    let is : r ≡ u.0 = cc in
+    let kept = kept-number s.records (numbered_at c.args.tables.now.numbers c.args.place) u.0 u.1 in
+    step-of answers s _ now u.0 c.args.cause c.requires.applied kept (subst (λ r. MayLeave s now r c.args.cause) is may) (ap (λ t. t.state) u.2 ∙ sym (ap (λ o. with_left c.args.cause s o) kept))
 
 pub returns-clause-applied : goal.returns-clause-applied
 returns-clause-applied g c =

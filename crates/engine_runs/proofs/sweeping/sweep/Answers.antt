@@ -11,7 +11,7 @@ loop-place-init g c = record {
 
 pub loop-place-preserved : goal.loop-place-preserved
 loop-place-preserved g c = record {
-  stretch = λ answers. stretch-more answers c.args.now c.args.tables.now.state _ _ (c.loop-place.invariant.stretch answers) (c.leave_for.ensures.step answers);
+  stretch = λ answers. stretch-more answers c.args.now c.args.tables.now.state _ _ (c.loop-place.invariant.stretch answers) (let due = c.in-Some.ensures.found in c.leave_for.ensures.step answers c.args.now due.0 due.1 due.2);
   applied = c.leave_for.ensures.applied;
   rest = rest-more c.args.tables.now.state _ _ c.loop-place.invariant.rest c.leave_for.ensures.rest;
 }

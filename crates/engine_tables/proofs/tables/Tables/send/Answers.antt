@@ -1,6 +1,6 @@
 use Rattle.std.proofs.Common.{◌≡◌, refl, ap, sym, ◌∙◌, ℕ, Option, Some, None, length, is_some}
 use Rattle.std.specs.Prelude.{option_map}
-use Rattle.std.proofs.lemmas.Bool.{le-leb}
+use Rattle.std.proofs.lemmas.Bool.{le-leb, lt-leb}
 use Rattle.engine_reference.specs.Calls.{unsent_at, is_full}
 use Rattle.engine_pending.proofs.Agreeing.{pending_agrees}
 use Rattle.engine_pending.specs.Pending.{Pending, ticketed_at, with_sent_of, ticket_sent}
@@ -71,3 +71,9 @@ returns-clause-full g c refused =
       ap is_some seen ∙ some-mapped write_of _ ∙ f.0,
       ap (λ t. is_full t.state) (sym c.self.view_is) ∙ agrees.full c.self.inside.backlog ∙ le-leb 128 (length c.self.inside.backlog.writes) f.1,
     )
+
+pub returns-clause-room : goal.returns-clause-room
+returns-clause-room g c =
+    let cells = c.self.inside.cells.slots in
+    let agrees = pending_agrees _ _ _ _ _ _ _ read_of write_of (records_by_number cells) (numbers_in cells c.self.inside.access.indices) (numbers_in cells c.self.inside.order.indices) c.self.inside.next_number in
+    ok-map _ _ (λ room. ap (λ t. is_full t.state) (sym c.self.view_is) ∙ agrees.full c.self.inside.backlog ∙ lt-leb 128 (length c.self.inside.backlog.writes) room) c.send.result c.send.ensures.room
