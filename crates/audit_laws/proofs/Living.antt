@@ -13,7 +13,7 @@ use Rattle.audit_model.specs.Follows.{after_event, tasks_in, placed_step_in, aft
 use Rattle.audit_model.specs.History.{Value}
 use Rattle.audit_model.specs.Obeys.{accepted_values}
 use Rattle.audit_model.specs.Places.{due, first_due, left_after, steps_of}
-use Rattle.audit_model.specs.Situation.{Situation, HeldValue, may_run_in, is_live_at}
+use Rattle.audit_model.specs.Situation.{Situation, HeldValue, may_run_in, is_live_at, live_at}
 use Rattle.audit_model.specs.Steps.{Task, PlacedStep, is_right}
 use Rattle.audit_model.specs.Values.{deadline, has_come}
 use Rattle.audit_model.specs.declared.config.Config.{Config}
@@ -21,10 +21,11 @@ use Rattle.audit_model.specs.declared.event.Event.{Event}
 use Rattle.audit_model.specs.declared.transcript.Note.{Note}
 use Rattle.audit_model.specs.declared.transcript.Record.{Record}
 use Rattle.audit_model.specs.declared.transcript.Step.{Step}
-use Rattle.audit_laws.specs.Placing.{placed_steps_in, placed_in, all_placed_in}
+use Rattle.audit_laws.specs.Placing.{Stage, stage_after, placed_steps_in, placed_in, all_placed_in}
 use Rattle.audit_laws.specs.Laws.{LiveByAcceptance}
 use Rattle.audit_laws.proofs.Told.{Each, each-append, each-map, each-more, each-untold}
 use Rattle.audit_laws.proofs.Following.{passed}
+use Rattle.audit_laws.proofs.Stages.{some_rest}
 use Rattle.audit_laws.proofs.Kept.{held-stepped, latest-stepped, event-ages}
 
 -- ---- what a search finds
@@ -173,10 +174,65 @@ each-all : {X : Type 0} (P : X → Type 0) (xs : List X) → All P xs → Each P
 each-all P [] h = tt
 each-all P (x ∷ xs) h = (All-head P x xs h, each-all P xs (All-tail P x xs h))
 
-pub live_by_acceptance : LiveByAcceptance
-live_by_acceptance config records s t key value e none live =
+-- a key without a live value has none that counts, whatever counts
+none-lives : (config : Config) (key : List ℕ) (Counts : Value → Type 0) (s : Situation) → live_at config s.latest s.held key ≡ None → Lives config key Counts s
+none-lives config key Counts s none = missed (λ h. same key h.value.key && is_live_at config s.latest h) (λ h. h.value) Counts s.held none
+
+-- and if each live value of a key counts, its live value does
+one-counts : (config : Config) (key : List ℕ) (Counts : Value → Type 0) (now : ℕ) (held : List HeldValue) → Each (Stays config key Counts now) held → (value : Value) → live_at config now held key ≡ Some value → Counts value
+one-counts config key Counts now held lives value live = found (λ h. same key h.value.key && is_live_at config now h) (λ h. h.value) Counts held lives value live
+
+nothing : (o : Option Value) → ((value : Value) → o ≡ Some value → ⊥) → o ≡ None
+nothing None never = refl
+nothing (Some value) never = absurd (never value refl)
+
+live-event : (config : Config) (e : Event) (s : Situation) (key : List ℕ) → live_at config s.latest s.held key ≡ None → live_at config (after_event e s).latest (after_event e s).held key ≡ None
+live-event config e s key none =
+    let t = after_event e s in
+    nothing (live_at config t.latest t.held key) (one-counts config key (λ _. ⊥) t.latest t.held (lives-event config key (λ _. ⊥) e s (none-lives config key (λ _. ⊥) s none)))
+
+itself-counts : (o : Option Value) → Each (λ v. o ≡ Some v) (option_to_list o)
+itself-counts None = tt
+itself-counts (Some v) = (refl, tt)
+
+live-step : (config : Config) (s : Situation) (task : Option Task) (step : Step) (key : List ℕ) (value : Value) → live_at config s.latest s.held key ≡ None
+    → (let t = after_step config s task step (placed_step_in config s task step).effect in live_at config t.latest t.held key ≡ Some value) → (placed_step_in config s task step).effect.value ≡ Some value
+live-step config s task step key value none live =
+    let placed = placed_step_in config s task step in
+    let Counts : Value → Type 0 = λ v. placed.effect.value ≡ Some v in
+    let t = after_step config s task step placed.effect in
+    one-counts config key Counts t.latest t.held (lives-step config key Counts s placed (none-lives config key Counts s none) (itself-counts placed.effect.value)) value live
+
+-- steps of one record keep that each live value counts, if those that they accept do
+lives-front : (config : Config) (key : List ℕ) (Counts : Value → Type 0) (front : List Step) (stage reached : Stage) → stage_after config stage front ≡ Some reached
+    → Each Counts (accepted_values (placed_steps_in config stage.situation stage.left front)) → Lives config key Counts stage.situation → Lives config key Counts reached.situation
+lives-front config key Counts [] stage reached e counts lives = let is : stage ≡ reached = cc in subst (λ (u : Stage). Lives config key Counts u.situation) is lives
+lives-front config key Counts (step ∷ front) stage reached e counts lives =
+    let s = stage.situation in
+    let now_due = due (may_run_in s) stage.left in
+    let placed = placed_step_in config s (first_due now_due) step in
+    let next : Stage = record { situation = after_step config s placed.task step placed.effect; left = left_after now_due } in
+    let later = accepted_values (placed_steps_in config next.situation next.left front) in
+    let split = first-counts config key Counts placed.effect.value later (subst (Each Counts) (as_append config key Counts placed.effect.value later) counts) in
+    lives-front config key Counts front next reached (some_rest config (is_right config placed) (stage_after config next front) reached e) split.1 (lives-step config key Counts s placed lives split.0)
+
+itself-contained : (accepted : List Value) → Each (Contains accepted) accepted
+itself-contained accepted = each-all (Contains accepted) accepted (All-contains_itself accepted)
+
+live-steps : (config : Config) (stage reached : Stage) (front : List Step) (key : List ℕ) (value : Value) → stage_after config stage front ≡ Some reached
+    → live_at config stage.situation.latest stage.situation.held key ≡ None → live_at config reached.situation.latest reached.situation.held key ≡ Some value
+    → Contains (accepted_values (placed_steps_in config stage.situation stage.left front)) value
+live-steps config stage reached front key value e none live =
+    let accepted = accepted_values (placed_steps_in config stage.situation stage.left front) in
+    one-counts config key (Contains accepted) reached.situation.latest reached.situation.held
+    (lives-front config key (Contains accepted) front stage reached e (itself-contained accepted) (none-lives config key (Contains accepted) stage.situation none)) value live
+
+live-records : (config : Config) (records : List Record) (s t : Situation) (key : List ℕ) (value : Value) → after_records config s records ≡ Some t
+    → live_at config s.latest s.held key ≡ None → live_at config t.latest t.held key ≡ Some value → Contains (accepted_values (all_placed_in config s records)) value
+live-records config records s t key value e none live =
     let accepted = accepted_values (all_placed_in config s records) in
-    found (λ h. same key h.value.key && is_live_at config t.latest h) (λ h. h.value) (Contains accepted) t.held
-    (lives-records config key (Contains accepted) records s t e (each-all (Contains accepted) accepted (All-contains_itself accepted))
-    (missed (λ h. same key h.value.key && is_live_at config s.latest h) (λ h. h.value) (Contains accepted) s.held none))
-    value live
+    one-counts config key (Contains accepted) t.latest t.held
+    (lives-records config key (Contains accepted) records s t e (itself-contained accepted) (none-lives config key (Contains accepted) s none)) value live
+
+pub live_by_acceptance : LiveByAcceptance
+live_by_acceptance = record { event = live-event; step = live-step; steps = live-steps; records = live-records }

@@ -41,7 +41,7 @@ module _ (config : Config) where
       under_test (is_right config (placed_at stage step)) (after_steps config next.situation next.left (front ++ rest)) (λ reached. after_steps config reached.situation reached.left rest) (stage_after config next front)
       (steps-in_parts front rest next)
 
-  some_rest : (b : Bool) (o : Option Stage) (reached : Stage) → cond b o None ≡ Some reached → o ≡ Some reached
+  pub some_rest : (b : Bool) (o : Option Stage) (reached : Stage) → cond b o None ≡ Some reached → o ≡ Some reached
   some_rest true o reached e = e
   some_rest false o reached e = absurd (true≢false (sym (ap is_some e)))
 

@@ -139,14 +139,26 @@ NothingToldSize =
     (config : Config) (transcript : Transcript) → config.capacity ≡ None → Obeys config transcript
     → IsTrue (list_all (λ entry. none_with_size (notes_of entry)) transcript.records)
 
--- what is not live becomes live only by a newly accepted value: if records lead from one situation to another and a key has no live value
--- in the first, its live value in the second is one that those records accept
-abbrev pub LiveByAcceptance : Type 0
-LiveByAcceptance =
-    (config : Config) (records : List Record) (s t : Situation) (key : List ℕ) (value : Value)
-    → after_records config s records ≡ Some t → live_at config s.latest s.held key ≡ None
-    → live_at config t.latest t.held key ≡ Some value
-    → Contains (accepted_values (all_placed_in config s records)) value
+-- What is not live becomes live only by a newly accepted value. An event makes nothing live, and after a step what a key newly has is what
+-- this very step accepts; so after some steps of one record, and after records, it is a value that these steps or records accept.
+pub record LiveByAcceptance : Type 0 where
+  pub event : (config : Config) (e : Event) (s : Situation) (key : List ℕ)
+      → live_at config s.latest s.held key ≡ None
+      → live_at config (after_event e s).latest (after_event e s).held key ≡ None
+  pub step : (config : Config) (s : Situation) (task : Option Task) (step : Step) (key : List ℕ)
+      (value : Value) → live_at config s.latest s.held key ≡ None
+      → (let t = after_step config s task step (placed_step_in config s task step).effect in
+      live_at config t.latest t.held key ≡ Some value)
+      → (placed_step_in config s task step).effect.value ≡ Some value
+  pub steps : (config : Config) (stage reached : Stage) (front : List Step) (key : List ℕ)
+      (value : Value) → stage_after config stage front ≡ Some reached
+      → live_at config stage.situation.latest stage.situation.held key ≡ None
+      → live_at config reached.situation.latest reached.situation.held key ≡ Some value → Contains
+      (accepted_values (placed_steps_in config stage.situation stage.left front)) value
+  pub records : (config : Config) (records : List Record) (s t : Situation) (key : List ℕ)
+      (value : Value) → after_records config s records ≡ Some t
+      → live_at config s.latest s.held key ≡ None → live_at config t.latest t.held key ≡ Some value
+      → Contains (accepted_values (all_placed_in config s records)) value
 
 -- the values held are orderly at the start, after each deed with true notes, and so in each situation that records lead to and in between
 pub record OrderlyStays : Type 0 where

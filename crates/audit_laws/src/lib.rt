@@ -92,7 +92,8 @@ pub fn nothing_told_size()
     ensures { NothingToldSize }
 {}
 
-/// If records lead from one situation to another, a key that had no live value has one only if those records accepted it.
+/// A key that has no live value gets one only by a step that accepts it: no event does that, and so it is between any two steps of a record,
+/// and between any two situations that records lead to.
 pub fn live_by_acceptance()
     ensures { LiveByAcceptance }
 {}

@@ -1,7 +1,7 @@
 -- What becomes of the loads of a namespace, call by call, and over an exchange.
 use Rattle.std.proofs.Common.{◌≡◌, ℕ, suc, ◌≤◌, true, false, ◌&&◌, ◌==◌, List, [], ◌∷◌, ◌++◌, Option, Some, None, sym, ap, ◌∙◌, subst, arith, nat_lt, refl, IfSome, ◌+◌, ◌-◌, ◌<◌, ◌||◌, not, nat_le, Bool, length, is_some, inl, inr, ◌⊎◌}
 use Rattle.std.proofs.lemmas.Bool.{and_parts, and_from, eq-eqb, eqb-true, lt-ltb, or_left, or_right, cases_lt, leb-true, ltb-true, or_cases}
-use Rattle.std.proofs.lemmas.List.{append-nil}
+use Rattle.std.proofs.lemmas.List.{append_assoc, append-nil}
 use Rattle.std.proofs.lemmas.List.Elements.{All-append, All-cons, All-head, All-nil, All-tail}
 use Rattle.std.proofs.lemmas.List.Folds.{list_any_at, list_any-append}
 use Rattle.std.proofs.lemmas.Option.{same_Some}
@@ -23,42 +23,14 @@ use Rattle.cache_spaces.specs.Services.{BareSpace, bare_tape, IsSound}
 use Rattle.cache_spaces.specs.Calls.{ServesEvent, Settled, TakesLoads, TakesOutput}
 use Rattle.cache_spaces.specs.Spaces.{StandsFor, config_of, outgoing_of, place_of, taken_of, shown_of}
 use Rattle.cache_run.proofs.Happening.{pending-is, sent-is, IsPlain, quiet-steps, happened-so}
-use Rattle.cache_run.proofs.driver.Exchanges.{each-last}
 use Rattle.cache_run.specs.Loading.{AddsNoLoads, UnderWay, is_left, pending_of}
 use Rattle.cache_run.specs.Connected.{HasSituation}
 use Rattle.cache_run.specs.Driver.Drives.{IsOfHand}
 use Rattle.cache_run.specs.Driver.Exchanges.{Doing, EachOut, Keeps, Outs, asks_of, load_number, settling_asking, Exchange, Hands, IsLastOf, Leaves}
-use Rattle.cache_run.specs.Happened.{AskForSent, Sendings, sendings_of, sendings_until}
+use Rattle.cache_run.specs.Happened.{AreSent, AskForSent, Picks}
 use Rattle.cache_run.specs.Lent.{MayGiveLoads, Comes, Does}
 use Rattle.cache_spaces.specs.Calls as served
 use Rattle.cache_run.specs.Driver.Exchanges as did
-
--- each of these loads was sent
-abbrev pub AreAmong : Outs → Sendings → Type 0
-AreAmong outs sent = EachOut (λ load key. sent load key ≡ true) outs
-
-among-by : (outs : Outs) (sent more : Sendings) → ((load : ℕ) (key : List ℕ) → sent load key ≡ true → more load key ≡ true) → AreAmong outs sent → AreAmong outs more
-among-by outs sent more f among = λ k d within. f _ _ (among k d within)
-
-pub among-more : (xs ys : Outs) (sent : Sendings) → AreAmong xs sent → AreAmong ys sent → AreAmong (xs ++ ys) sent
-among-more xs ys sent a b = All-append (λ (out : LoadId × List ℕ). sent out.0.number out.1 ≡ true) xs ys a b
-
-pub among-parts : (xs ys : Outs) (sent : Sendings) → AreAmong (xs ++ ys) sent → AreAmong xs sent × AreAmong ys sent
-among-parts [] ys sent a = (All-nil (λ (out : LoadId × List ℕ). sent out.0.number out.1 ≡ true), a)
-among-parts (x ∷ xs) ys sent a =
-    let Fact : LoadId × List ℕ → Type 0 = λ out. sent out.0.number out.1 ≡ true in
-    let parts = among-parts xs ys sent (All-tail Fact x (xs ++ ys) a) in (All-cons Fact x xs (All-head Fact x (xs ++ ys) a) parts.0, parts.1)
-
--- those that were sent stay so
-pub among-later : (outs : Outs) (s t : Situation) (sent : Sendings) → AreAmong outs sent → AreAmong outs (sendings_until s t sent)
-among-later outs s t sent among =
-    among-by outs sent (sendings_until s t sent) (λ load key e. or_left (sent load key) (nat_lt s.sent load && option_map_or (λ k. same k key) (key_in load t) false) e) among
-
-pub among-own : (outs : Outs) → AreAmong outs (sendings_of outs)
-among-own outs = λ k d within.
-    let out = slice_index_or outs k d in
-    list_any_at (λ (o : LoadId × List ℕ). o.0.number == out.0.number && same o.1 out.1) outs k d within
-    (and_from (out.0.number == out.0.number) (same out.1 out.1) (eq-eqb out.0.number out.0.number refl) (same-refl out.1))
 
 -- loads in turn begin with the next one
 pub in-turn-next : (place before : ℕ) (out : LoadId × List ℕ) (outs : Outs) → are_in_turn place before (out ∷ outs) ≡ true → (out.0.number ≡ suc before) × (are_in_turn place (suc before) outs ≡ true)
@@ -66,43 +38,48 @@ in-turn-next place before out outs turn = grind (arith, and_parts, eqb-true)
 
 -- ---- an event
 
-key-there : (out : LoadId × List ℕ) (t : Situation) → is_sent t.pending out ≡ true → option_map_or (λ k. same k out.1) (key_in out.0.number t) false ≡ true
-key-there out t e = grind arith
-
-among-next : (place before : ℕ) (outs : Outs) (s t : Situation) (sent : Sendings) → are_in_turn place before outs ≡ true → s.sent ≤ before → list_all (is_sent t.pending) outs ≡ true → AreAmong outs (sendings_until s t sent)
-among-next place before [] s t sent turn few keys = All-nil (λ (o : LoadId × List ℕ). sendings_until s t sent o.0.number o.1 ≡ true)
-among-next place before (out ∷ outs) s t sent turn few keys =
-    let ours = in-turn-next place before out outs turn in
-    let is = ours.0 in
-    let there = and_parts (is_sent t.pending out) (list_all (is_sent t.pending) outs) keys in
-    let key = option_map_or (λ k. same k out.1) (key_in out.0.number t) false in
-    All-cons (λ (o : LoadId × List ℕ). sendings_until s t sent o.0.number o.1 ≡ true) out outs
-    (or_right (sent out.0.number out.1) (nat_lt s.sent out.0.number && key) (and_from (nat_lt s.sent out.0.number) key (lt-ltb s.sent out.0.number (omega (arith, is, few))) (key-there out t there.0)))
-    (among-next place (suc before) outs s t sent ours.1 (omega (arith, few)) there.1)
-
--- where those in hand and those that are there to be taken were sent, so were those behind an event
-pub among-behind : (was is : BareSpace) (happened : Event) (s t : Situation) (entry : Record) (hand rest : Outs) (sent : Sendings) → served.Settled bare_tape was is happened → Turned shown_of bare_tape was is s entry → Follows (config_of was) s entry t
-    → StandsFor was s → (AreAmong hand sent → AreAmong rest sent) → AreAmong (hand ++ outgoing_of was) sent → AreAmong (rest ++ outgoing_of is) (sendings_until s t sent)
-among-behind was is happened s t entry hand rest sent settled turned follows stands leaves among =
-    let more = sendings_until s t sent in
+-- the loads that it sends are there to be taken behind those that were
+pub sent-behind : (was is : BareSpace) (happened : Event) (s t : Situation) (entry : Record) → served.Settled bare_tape was is happened → Turned shown_of bare_tape was is s entry → Follows (config_of was) s entry t → StandsFor was s
+    → (more : Outs) × AreSent s t more × (outgoing_of is ≡ outgoing_of was ++ more)
+sent-behind was is happened s t entry settled turned follows stands =
     let sends : SendsBehind was is = settled.stays.sends in
     let behind = subst (λ u. StandsFor is u) (same_Some turned.next t (sym turned.follows ∙ follows)) turned.stands in
     let before = sent-is was s stands in
-    let parts = among-parts hand (outgoing_of was) sent among in
-    among-more rest (outgoing_of is) more (among-later rest s t sent (leaves parts.0))
-    (subst (λ outs. AreAmong outs more) (sym sends.behind)
-    (among-more (outgoing_of was) sends.loads more (among-later (outgoing_of was) s t sent parts.1)
-    (among-next was.namespace was.sent sends.loads s t sent sends.in_turn (omega (arith, before)) (ap (λ l. list_all (is_sent l) sends.loads) (pending-is is t behind) ∙ sends.keys))))
+    (
+      sends.loads,
+      record {
+        place = was.namespace;
+        in_turn = subst (λ n. are_in_turn was.namespace n sends.loads ≡ true) (sym before) sends.in_turn;
+        count = sent-is is t behind ∙ sends.count ∙ ap (λ n. n + length sends.loads) (sym before);
+        keys = ap (λ l. list_all (is_sent l) sends.loads) (pending-is is t behind) ∙ sends.keys;
+      },
+      sends.behind,
+    )
+
+-- a situation that stays sends none
+pub sent-none : (s : Situation) → AreSent s s []
+sent-none s = record { place = 0; in_turn = refl; count = omega arith; keys = refl }
 
 -- ---- the hand
 
+-- the last load in hand is taken out of those that went out
+pub takes-last : (hand outs rest : Outs) (load : ℕ) (key : List ℕ) → IsLastOf hand load key rest → Picks load key (hand ++ outs) (rest ++ outs)
+takes-last hand outs rest load key last = record {
+  front = rest;
+  back = outs;
+  id = last.0;
+  number = last.1;
+  whole = ap (λ h. h ++ outs) last.2 ∙ append_assoc rest ((last.0, key) ∷ []) outs;
+  others = refl;
+}
+
 -- for what was refused the loader was asked by the key of a load in hand
-pub asked-refused : (hand outs : Outs) (refused : Option Doing) (sent : Sendings) → IfSome refused (IsOfHand hand) → AreAmong (hand ++ outs) sent → AskForSent (option_map_or asks_of refused []) sent
-asked-refused hand outs None sent of among = tt
-asked-refused hand outs (Some (did.Fed piece moment held)) sent of among = tt
-asked-refused hand outs (Some (did.Settled settling moment)) sent of among =
-    ((load_number settling, (each-last (λ load key. sent load key ≡ true) hand (load_number settling) (settling_asking settling).key of.0 of.1 (among-parts hand outs sent among).0).1), tt)
-asked-refused hand outs (Some did.Looked) sent of among = tt
+pub asked-refused : (hand outs : Outs) (refused : Option Doing) → IfSome refused (IsOfHand hand) → AskForSent (option_map_or asks_of refused []) (hand ++ outs)
+asked-refused hand outs None of = tt
+asked-refused hand outs (Some (did.Fed piece moment held)) of = tt
+asked-refused hand outs (Some (did.Settled settling moment)) of =
+    (load_number settling, of.0 ++ outs, takes-last hand outs of.0 (load_number settling) (settling_asking settling).key of.1, tt)
+asked-refused hand outs (Some did.Looked) of = tt
 
 -- ---- loads are taken
 

@@ -29,7 +29,7 @@ use Rattle.cache_spaces.proofs.Placing.{at-is, at-map, at-was, at-same, at-more,
 use Rattle.cache_spaces.specs.Services.{BareSpace, bare_tape, IsSound}
 use Rattle.cache_spaces.specs.Calls.{IsOpened, OpensNext, ServesEvent, At, InSpace, IsUnknown, TakesOutput}
 use Rattle.cache_spaces.specs.Spaces.{closing_of, config_of, known_of, notices_of, outgoing_of, untaken_output}
-use Rattle.cache_run.proofs.Accounting.{Accounts, AddsNone, KeepsLoads, accounted-none, accounts-later, adds-no-loads, keeps-quiet, later-kept, AreAmong, among-own, asked-refused}
+use Rattle.cache_run.proofs.Accounting.{Accounts, AddsNone, KeepsLoads, accounted-none, accounts-later, adds-no-loads, keeps-quiet, later-kept, asked-refused}
 use Rattle.cache_run.proofs.Dropping.{goes-more, goes-still, kept-behind, nobody-behind, taken-same, none-behind}
 use Rattle.cache_run.proofs.Happening.{happened-so, listed-is, none-past, opened-is, same-closing, sent-is, situation-of, stays-opened, IsPlain, found-behind, found-last, found-none, plain-steps, quiet-steps, none-of, IsSoundAt, none-where}
 use Rattle.cache_run.proofs.Leading.{Stands, Leads, chain-adds-none, chain-closed, chain-leads}
@@ -44,7 +44,7 @@ use Rattle.cache_run.specs.Driver.Driven.{ClosesAfter, ComesTo, Finished, Stoppe
 use Rattle.cache_run.specs.Driver.Drives.{Outside, Rest, Talks, asked_of, late_of, lost_of}
 use Rattle.cache_run.specs.Driver.Exchanges.{Outs, Answered, Doing, Dropped, GivenUp, Settled, Chain, Exchange, HaveClosed, askings_in, moments_in, pieces_in, replies_in, told_of}
 use Rattle.cache_run.specs.Driver.Hosting.{SettlesBy, Suits, exchange_of}
-use Rattle.cache_run.specs.Happened.{record_of, IsGivenUpFor, sendings_of}
+use Rattle.cache_run.specs.Happened.{record_of, IsGivenUpFor}
 use Rattle.cache_run.specs.Lent.{DropsBoth, IsClosedBefore, AnswersOr, Comes, Does, Gives, GivesUpOr, MayGiveLoads, SettlesAt, ClosesAt, ClosesIt, ComesAt, DropsAt, OpensAt}
 use Rattle.cache_run.specs.Runs.{Closes, EndsRun, Quiet, ServesPartly, ServesWhole, Unfed, RunsPartly, RunsWhole}
 use Rattle.cache_run.specs.declared.devices.errors.RunError.{RunError}
@@ -436,7 +436,7 @@ module _ {C L : Type 0} (reads : C → ℕ → C → Type 0) (loads : L → List
         (λ s m u f g.
         let led = subst (λ k. Led k conn.number m u (notices_of r.opened) (notices_of r.left) (pieces_in t.exchanges) (moments_in t.exchanges) (askings_in t.exchanges) (replies_in t.exchanges) (outgoing_of r.opened) (hand ++ outgoing_of r.left)) first.config (g (All-nil (λ (o : LoadId × List ℕ). IsKnown o.0.number o.1 m))).0 in
         carried-led reads loads (config_of x) conn.number x r.opened r.left s m u a b (pieces_in t.exchanges) (moments_in t.exchanges) (askings_in t.exchanges) (replies_in t.exchanges) (outgoing_of r.opened) (hand ++ outgoing_of r.left) (left_of rest) t.sent f led
-        (subst (λ outs. AreAmong outs (sendings_of (outgoing_of x))) (sym (opens-outgoing x r.opened conn.number r.opens.0 r.opens.1)) (among-own (outgoing_of x))) (λ more among. asked-refused hand (outgoing_of r.left) rest.refused more t.refused among) t.read t.wrote t.replies t.clock t.loader)
+        (opens-outgoing x r.opened conn.number r.opens.0 r.opens.1) (asked-refused hand (outgoing_of r.left) rest.refused t.refused) t.read t.wrote t.replies t.clock t.loader)
 
     closing : Closed conn.number r.left w
     closing = closed-so r.left w conn.number r.closes.sound (record { situation = leads.stands.situation; opened = leads.stands.opened; left = leads.stands.left.0 }) r.closes.closes

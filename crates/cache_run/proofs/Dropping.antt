@@ -32,14 +32,14 @@ use Rattle.cache_core.specs.Turned.{feeding, notes_in}
 use Rattle.cache_spaces.specs.Services.{BareSpace, bare_tape, IsSound}
 use Rattle.cache_spaces.specs.Calls.{IsOpened, TakesOutput, TakesLoads}
 use Rattle.cache_spaces.specs.Spaces.{StandsFor, closing_of, config_of, untaken_output, notices_of, outgoing_of, place_of, taken_of, known_of, shown_of}
-use Rattle.cache_run.proofs.Accounting.{Accounted, adds-no-loads, loads-same, taken-count, taken-or-left, unfound, AreAmong, in-turn-next}
+use Rattle.cache_run.proofs.Accounting.{Accounted, adds-no-loads, loads-same, taken-count, taken-or-left, unfound, in-turn-next}
 use Rattle.cache_run.proofs.Happening.{IsPlain, plain-record, goes-by, pending-is, sent-is, stays-closed, listed-is, none-where, give-up-first}
 use Rattle.cache_run.proofs.Led.{record-one, Led, led-turn, records-more}
 use Rattle.cache_run.specs.Loading.{AddsNoLoads, DropsAll, DropsUnwaited, UnderWay, is_left, pending_of, SameButLoads, AreKnown, GivesLoads, OnlyGivesUp, GivesUpLoads}
 use Rattle.cache_run.specs.Connected.{HasSituation}
 use Rattle.cache_run.specs.Driver.Exchanges.{Outs}
 use Rattle.cache_run.specs.Worlds.{Goes}
-use Rattle.cache_run.specs.Happened.{Fed, Sendings, record_of, sendings_until, AreDrops}
+use Rattle.cache_run.specs.Happened.{Fed, AreSent, record_of, AreDrops}
 use Rattle.cache_run.specs.Lent.{Drops, DropsBoth}
 use Rattle.cache_spaces.specs.Calls as served
 
@@ -126,11 +126,11 @@ goes-output number x y z text F taken goes = record {
 
 -- the turn of a piece that was fed
 pub fed-turn : (config : Config) (number : ℕ) (piece : List ℕ) (moment : ℕ) (entry : Record) (s t : Situation) (before after : List Note) (text : List ℕ) (gone behind : Outs) → Follows config s entry t → entry.event ≡ feeding number piece moment
-    → ((sent : Sendings) → AreAmong gone sent → AreAmong behind (sendings_until s t sent)) → after ≡ before ++ notes_in entry → text ≡ flat_map reply_in entry.steps → Led config number s t before after piece (moment ∷ []) [] text gone behind
-fed-turn config number piece moment entry s t before after text gone behind follows is among notices replies =
+    → (more : Outs) → AreSent s t more → gone ++ more ≡ behind → after ≡ before ++ notes_in entry → text ≡ flat_map reply_in entry.steps → Led config number s t before after piece (moment ∷ []) [] text gone behind
+fed-turn config number piece moment entry s t before after text gone behind follows is more sent whole notices replies =
     let plain = plain-record config s t entry (feeding number piece moment) follows is (subst IsPlain (sym is) tt) in
     let steps = entry.steps in
-    led-turn config number s t before after (Fed piece moment steps) text gone behind tt (λ sent were. (tt, among sent were)) (record-one config s (record_of (feeding number piece moment) steps) t (subst (λ e. Follows config s e t) plain follows))
+    led-turn config number s t before after (Fed piece moment steps) text gone behind tt gone refl more sent whole (record-one config s (record_of (feeding number piece moment) steps) t (subst (λ e. Follows config s e t) plain follows))
     (notices ∙ ap (λ e. before ++ notes_in e) plain ∙ ap (λ z. before ++ z) (sym (append-nil (flat_map (λ step. step.notices) steps)))) (replies ∙ sym (append-nil (flat_map reply_in steps)))
 
 -- Loads that are given up behind a closing, and what is under way behind them.

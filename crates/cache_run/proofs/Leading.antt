@@ -1,6 +1,6 @@
 -- What a chain of exchanges comes to in a namespace.
 use Rattle.std.proofs.Common.{◌≡◌, ℕ, true, false, List, [], ◌∷◌, ◌++◌, Option, None, Some, refl, sym, ap, ◌∙◌, subst, inl, inr, ◌≢◌, MatchOption, unwrap_or}
-use Rattle.std.proofs.lemmas.List.{append-nil}
+use Rattle.std.proofs.lemmas.List.{append_assoc, append-nil}
 use Rattle.audit_model.specs.Follows.{Follows}
 use Rattle.audit_model.specs.Situation.{Situation, key_in}
 use Rattle.audit_model.specs.declared.config.Config.{Config}
@@ -9,6 +9,7 @@ use Rattle.audit_model.specs.declared.transcript.Note.{Note}
 use Rattle.audit_model.specs.declared.transcript.Record.{Record}
 use Rattle.audit_laws.specs.Waiting.Alone.{IsTurnOf}
 use Rattle.audit_laws.specs.Waiting.Keys.{IsKnown}
+use Rattle.audit_laws.specs.Waiting.Sending.{IsSettlingOf}
 use Rattle.cache_core.specs.State.{situation_with}
 use Rattle.cache_core.specs.Turned.{notes_in, replies_to, feeding}
 use Rattle.cache_spaces.specs.Calls as served
@@ -18,7 +19,7 @@ use Rattle.cache_spaces.specs.Services.{BareSpace, bare_tape}
 use Rattle.cache_run.specs.Worlds.{Goes}
 use Rattle.cache_run.specs.Devices.Sources.{Asking}
 use Rattle.cache_run.specs.Happened.{Dropped, IsKeyOf, IsSettledBy, Settled, record_replies}
-use Rattle.cache_run.proofs.Accounting.{AreAmong, among-behind, among-later, among-more, among-parts, gone-same, Accounts, AddsNone, accounted-none, accounts-behind, adds-none}
+use Rattle.cache_run.proofs.Accounting.{gone-same, Accounts, AddsNone, accounted-none, accounts-behind, adds-none, sent-behind, sent-none, takes-last}
 use Rattle.cache_run.proofs.Led.{record-one, Led, led-turn, led-known, led-more, led-none}
 use Rattle.cache_run.proofs.Dropping.{goes-still, output-none, output-stands, still-stands, fed-turn, goes-more, goes-output, goes-same, taken-same, known-given}
 use Rattle.cache_run.proofs.Happening.{goes-by, own-replies, happened-so, situation-behind, stays-fed, stays-opened, none-where}
@@ -42,15 +43,17 @@ settling config asking moment happened (inr p) = λ number. subst (IsTurnOf numb
 
 -- the last of the loads in hand was settled by what the loader said, which was asked by its key
 pub settled-goes : (number : ℕ) (was is : BareSpace) (happened : Event) (asking : Asking) (hand rest : Outs) (load moment : ℕ) (after : List Note) (text : List ℕ) → untaken_output was number ≡ [] → text ≡ untaken_output is number → after ≡ notices_of is
-    → did.IsLastOf hand load asking.key rest → IsSettledBy (config_of was) asking.answer moment happened → ((s t : Situation) (entry : Record) → Follows (config_of was) s entry t → entry.event ≡ happened → IsKnown load asking.key s → IsKeyOf s entry.event asking.key) → served.Settled bare_tape was is happened
+    → did.IsLastOf hand load asking.key rest → IsSettledBy (config_of was) asking.answer moment happened → ((s t : Situation) (entry : Record) → Follows (config_of was) s entry t → entry.event ≡ happened → IsKnown load asking.key s → IsKeyOf s entry.event asking.key) → IsSettlingOf load happened → served.Settled bare_tape was is happened
     → Goes number was is (λ s t. AreKnown hand s → Led (config_of was) number s t (notices_of was) after [] (moment ∷ []) (asking ∷ []) text (hand ++ outgoing_of was) (rest ++ outgoing_of is))
-settled-goes number was is happened asking hand rest load moment after text none texts notes last said keyed settled =
+settled-goes number was is happened asking hand rest load moment after text none texts notes last said keyed of settled =
     goes-by was is happened settled number (settling (config_of was) asking moment happened said number)
     (λ s t. AreKnown hand s → Led (config_of was) number s t (notices_of was) after [] (moment ∷ []) (asking ∷ []) text (hand ++ outgoing_of was) (rest ++ outgoing_of is))
     (λ s t entry event turned follows own stands known.
     let placed = keyed s t entry follows event (each-last (λ n key. IsKnown n key s) hand load asking.key rest last known).1 in
+    let more = sent-behind was is happened s t entry settled turned follows stands in
     led-turn (config_of was) number s t (notices_of was) after (Settled asking moment entry) text (hand ++ outgoing_of was) (rest ++ outgoing_of is) (subst (IsSettledBy (config_of was) asking.answer moment) (sym event) said)
-    (λ sent among. (placed, among-behind was is happened s t entry hand rest sent settled turned follows stands (λ each. (each-last (λ n key. sent n key ≡ true) hand load asking.key rest last each).0) among)) (record-one (config_of was) s entry t follows)
+    (rest ++ outgoing_of was) (placed, (load, subst (IsSettlingOf load) (sym event) of, takes-last hand (outgoing_of was) rest load asking.key last)) more.0 more.1 (append_assoc rest (outgoing_of was) more.0 ∙ ap (λ outs. rest ++ outs) (sym more.2))
+    (record-one (config_of was) s entry t follows)
     (notes ∙ turned.notes ∙ ap (λ l. notices_of was ++ l) (sym (append-nil (notes_in entry))))
     (texts ∙ turned.outputs number ∙ ap (λ o. o ++ replies_to number entry.steps) none ∙ own-replies number entry.steps own ∙ sym (append-nil (record_replies entry))))
 
@@ -65,10 +68,8 @@ dropped-goes number x asking hand rest load moment after text none texts notes l
     goes-still number x (λ s t. AreKnown hand s → Led (config_of x) number s t (notices_of x) after [] (moment ∷ []) (asking ∷ []) text (hand ++ outgoing_of x) (rest ++ outgoing_of x))
     (λ s stands known.
     led-turn (config_of x) number s s (notices_of x) after (Dropped asking moment load) text (hand ++ outgoing_of x) (rest ++ outgoing_of x) tt
-    (λ sent among.
-    let parts = among-parts hand (outgoing_of x) sent among in
-    let own = each-last (λ n key. sent n key ≡ true) hand load asking.key rest last parts.0 in
-    ((unknown-there x s load stands unknown, own.1), among-later (rest ++ outgoing_of x) s s sent (among-more rest (outgoing_of x) sent own.0 parts.1))) refl (notes ∙ sym (append-nil (notices_of x))) (texts ∙ none))
+    (rest ++ outgoing_of x) (unknown-there x s load stands unknown, takes-last hand (outgoing_of x) rest load asking.key last) [] (sent-none s) (append-nil (rest ++ outgoing_of x))
+    refl (notes ∙ sym (append-nil (notices_of x))) (texts ∙ none))
 
 -- ---- how the connection stands
 
@@ -131,15 +132,16 @@ does-led number was is (did.Fed piece moment held) hand rest after text none tex
     goes-by was is (feeding number piece moment) settled number refl
     (λ s t. AreKnown hand s → Led (config_of was) number s t (notices_of was) after piece (moment ∷ []) [] text (hand ++ outgoing_of was) (rest ++ outgoing_of is))
     (λ s t entry event turned follows own stands known.
-    fed-turn (config_of was) number piece moment entry s t (notices_of was) after text (hand ++ outgoing_of was) (rest ++ outgoing_of is) follows event
-    (λ sent among. among-behind was is (feeding number piece moment) s t entry hand rest sent settled turned follows stands (λ each. subst (λ outs. AreAmong outs sent) (sym leaves) each) among) (notes ∙ turned.notes)
+    let more = sent-behind was is (feeding number piece moment) s t entry settled turned follows stands in
+    fed-turn (config_of was) number piece moment entry s t (notices_of was) after text (hand ++ outgoing_of was) (rest ++ outgoing_of is) follows event more.0 more.1
+    (append_assoc hand (outgoing_of was) more.0 ∙ ap (λ outs. hand ++ outs) (sym more.2) ∙ ap (λ outs. outs ++ outgoing_of is) (sym leaves)) (notes ∙ turned.notes)
     (texts ∙ turned.outputs number ∙ ap (λ o. o ++ replies_to number entry.steps) none ∙ own-replies number entry.steps own))
 does-led number was is (did.Settled (did.Answered load key outcome) moment) hand rest after text none texts notes leaves d =
     settled-goes number was is (answering load outcome moment) (record { key = key; answer = Some outcome }) hand rest load moment after text none texts notes leaves (inl (load, outcome, refl, refl))
-    (λ s t entry follows event known. subst (λ h. IsKeyOf s h key) (sym event) (answered-key (config_of was) s t entry load outcome _ key follows event known.1)) d
+    (λ s t entry follows event known. subst (λ h. IsKeyOf s h key) (sym event) (answered-key (config_of was) s t entry load outcome _ key follows event known.1)) refl d
 does-led number was is (did.Settled (did.GivenUp load asking) moment) hand rest after text none texts notes leaves d =
     settled-goes number was is (giving_up load moment) asking hand rest load moment after text none texts notes leaves (inr (load, refl, d.1))
-    (λ s t entry follows event known. subst (λ h. IsKeyOf s h asking.key) (sym event) (given-up-key (config_of was) s t entry load _ asking.key follows event known.1)) d.0
+    (λ s t entry follows event known. subst (λ h. IsKeyOf s h asking.key) (sym event) (given-up-key (config_of was) s t entry load _ asking.key follows event known.1)) refl d.0
 does-led number was is (did.Settled (did.Dropped load asking) moment) hand rest after text none texts notes leaves d =
     subst (λ y. Goes number was y (λ s t. AreKnown hand s → Led (config_of was) number s t (notices_of was) after [] (moment ∷ []) (asking ∷ []) text (hand ++ outgoing_of was) (rest ++ outgoing_of y))) (sym d.0)
     (dropped-goes number was asking hand rest load moment after text none (texts ∙ ap (λ y. untaken_output y number) d.0) (notes ∙ ap notices_of d.0) leaves d.1)

@@ -12,7 +12,7 @@ use Rattle.audit_model.specs.declared.event.Event.TheVariants as event
 use Rattle.audit_model.specs.declared.event.Outcome.{Outcome}
 use Rattle.audit_model.specs.declared.transcript.Note.{Note}
 use Rattle.audit_model.specs.declared.transcript.Record.{Record}
-use Rattle.cache_run.specs.Happened.{record_of, Turn, AreInPlace, AreRight, AskForSent, Sendings, turn_notes, records_in, IsInPlace, IsRight, asked_in, moment_in, piece_in, replies_in, sendings_of, sendings_until}
+use Rattle.cache_run.specs.Happened.{record_of, Turn, AreInPlace, AreRight, AreSent, AskForSent, turn_notes, records_in, IsInPlace, IsRight, asked_in, moment_in, piece_in, replies_in}
 use Rattle.cache_spaces.specs.Spaces.{notices_of, outgoing_of}
 use Rattle.cache_spaces.specs.Services.{BareSpace}
 use Rattle.cache_core.specs.Turned.{notes_in}
@@ -25,7 +25,6 @@ use Rattle.cache_run.specs.Runs.{Quiet}
 use Rattle.cache_run.specs.Loading.{AreKnown}
 use Rattle.cache_run.specs.Driver.Drives.{Outside}
 use Rattle.cache_run.specs.Driver.Exchanges.{Outs}
-use Rattle.cache_run.proofs.Accounting.{AreAmong}
 
 split-through : (f g : Situation → Option Situation) (o : Option Situation) (t : Situation) (rest : Option Situation) → ((m : Situation) → f m ≡ Some t → g m ≡ rest) → option_and_then f o ≡ Some t → option_and_then g o ≡ rest
 split-through f g None t rest h e = absurd (none-some t e)
@@ -49,16 +48,24 @@ pub right-more : (config : Config) (xs ys : List Turn) → AreRight config xs �
 right-more config [] ys p q = q
 right-more config (x ∷ xs) ys p q = (p.0, right-more config xs ys p.1 q)
 
--- turns behind turns, and what is true of the loads that were sent until then
-pub placed-more : (config : Config) (number : ℕ) (First Second : Sendings → Type 0) (sent : Sendings) (s : Situation) (xs : List Turn) (t : Situation) (ys : List Turn)
-    → AreInPlace config number First sent s xs → after_records config s (flat_map (records_in number) xs) ≡ Some t → ((more : Sendings) → First more → AreInPlace config number Second more t ys) → AreInPlace config number Second sent s (xs ++ ys)
-placed-more config number First Second sent s [] t ys p e q = subst (λ m. AreInPlace config number Second sent m ys) (sym (same_Some s t e)) (q sent p)
-placed-more config number First Second sent s (x ∷ xs) t ys p e q =
-    (p.0, λ m f. placed-more config number First Second (sendings_until s m sent) m xs t ys (p.1 m f) (sym (records-split config s (records_in number x) m (flat_map (records_in number) xs) f) ∙ e) q)
+-- turns behind turns, and what is true of the loads that are left then
+pub placed-more : (config : Config) (number : ℕ) (First Second : Outs → Type 0) (outs : Outs) (s : Situation) (xs : List Turn) (t : Situation) (ys : List Turn)
+    → AreInPlace config number First outs s xs → after_records config s (flat_map (records_in number) xs) ≡ Some t → ((left : Outs) → First left → AreInPlace config number Second left t ys) → AreInPlace config number Second outs s (xs ++ ys)
+placed-more config number First Second outs s [] t ys p e q = subst (λ m. AreInPlace config number Second outs m ys) (sym (same_Some s t e)) (q outs p)
+placed-more config number First Second outs s (x ∷ xs) t ys p e q = (
+  p.0,
+  p.1,
+  λ m f.
+      let next = p.2 m f in (
+        next.0,
+        next.1,
+        placed-more config number First Second (p.0 ++ next.0) m xs t ys next.2 (sym (records-split config s (records_in number x) m (flat_map (records_in number) xs) f) ∙ e) q,
+      ),
+)
 
-placed-so : (config : Config) (number : ℕ) (First Second : Sendings → Type 0) (sent : Sendings) (s : Situation) (xs : List Turn) → AreInPlace config number First sent s xs → ((more : Sendings) → First more → Second more) → AreInPlace config number Second sent s xs
-placed-so config number First Second sent s [] p f = f sent p
-placed-so config number First Second sent s (x ∷ xs) p f = (p.0, λ m e. placed-so config number First Second (sendings_until s m sent) m xs (p.1 m e) f)
+placed-so : (config : Config) (number : ℕ) (First Second : Outs → Type 0) (outs : Outs) (s : Situation) (xs : List Turn) → AreInPlace config number First outs s xs → ((left : Outs) → First left → Second left) → AreInPlace config number Second outs s xs
+placed-so config number First Second outs s [] p f = f outs p
+placed-so config number First Second outs s (x ∷ xs) p f = (p.0, p.1, λ m e. let next = p.2 m e in (next.0, next.1, placed-so config number First Second (p.0 ++ next.0) m xs next.2 f))
 
 module _ {C L : Type 0} (config : Config) (number : ℕ) (reads : C → ℕ → C → Type 0) (loads : L → List ℕ → Option Outcome → L → Type 0) where
   -- more records behind what was carried
@@ -103,12 +110,12 @@ module _ {C L : Type 0} (config : Config) (number : ℕ) (reads : C → ℕ → 
       → Carried config number reads loads a (world y u b.outside) opens closes [] left
   carried-still a b y u opens closes left c same notices = carried-drops a b y u opens closes [] [] left c (ap (λ s. Some s) (sym same)) (notices ∙ sym (append-nil b.notices))
 
--- Turns came, for which these pieces were fed, the clock told these moments and the loader was asked so, and those are their replies. Where
--- the loads that had gone out were sent, so were those that have gone out behind them.
+-- Turns came, for which these pieces were fed, the clock told these moments and the loader was asked so, and those are their replies. Of the
+-- loads that had gone out, and of those that were sent since, these are left, for which the loader was not asked.
 pub record Led (config : Config) (number : ℕ) (s t : Situation) (before after : List Note) (pieces moments : List ℕ) (asks : List Asking) (text : List ℕ) (gone behind : Outs) : Type 0 where
   pub turns : List Turn
   pub right : AreRight config turns
-  pub placed : (sent : Sendings) → AreAmong gone sent → AreInPlace config number (AreAmong behind) sent s turns
+  pub placed : AreInPlace config number (λ left. left ≡ behind) gone s turns
   pub follows : after_records config s (flat_map (records_in number) turns) ≡ Some t
   pub notices : after ≡ before ++ flat_map (turn_notes number) turns
   pub fed : flat_map piece_in turns ≡ pieces
@@ -126,7 +133,7 @@ module _ (config : Config) (number : ℕ) where
   led-none s before after text gone behind notices none same = record {
     turns = [];
     right = tt;
-    placed = λ sent among. subst (λ outs. AreAmong outs sent) (sym same) among;
+    placed = sym same;
     follows = refl;
     notices = notices ∙ sym (append-nil before);
     fed = refl;
@@ -137,12 +144,12 @@ module _ (config : Config) (number : ℕ) where
 
   -- one came
   pub led-turn : (s t : Situation) (before after : List Note) (turn : Turn) (text : List ℕ) (gone behind : Outs) → IsRight config turn
-      → ((sent : Sendings) → AreAmong gone sent → IsInPlace sent s turn × AreAmong behind (sendings_until s t sent))
+      → (left : Outs) → IsInPlace gone s turn left → (more : Outs) → AreSent s t more → left ++ more ≡ behind
       → after_records config s (records_in number turn) ≡ Some t → after ≡ before ++ turn_notes number turn → text ≡ replies_in number turn → Led config number s t before after (piece_in turn) (moment_in turn ∷ []) (asked_in turn) text gone behind
-  led-turn s t before after turn text gone behind right placed follows notices replies = record {
+  led-turn s t before after turn text gone behind right left placed more sent whole follows notices replies = record {
     turns = turn ∷ [];
     right = (right, tt);
-    placed = λ sent among. let p = placed sent among in (p.0, λ m e. subst (λ u. AreAmong behind (sendings_until s u sent)) (same_Some t m (sym follows ∙ e)) p.1);
+    placed = (left, placed, λ m e. (more, subst (λ u. AreSent s u more) (same_Some t m (sym follows ∙ e)) sent, whole));
     follows = ap (after_records config s) (append-nil (records_in number turn)) ∙ follows;
     notices = notices ∙ ap (λ z. before ++ z) (sym (append-nil (turn_notes number turn)));
     fed = append-nil (piece_in turn);
@@ -162,7 +169,9 @@ module _ (config : Config) (number : ℕ) where
       record {
         turns = xs ++ ys;
         right = right-more config xs ys x.right y.right;
-        placed = λ sent among. placed-more config number (AreAmong halfway) (AreAmong behind) sent s xs t ys (x.placed sent among) x.follows y.placed;
+        placed =
+            placed-more config number (λ left. left ≡ halfway) (λ left. left ≡ behind) gone s xs t ys x.placed x.follows
+            (λ left same. subst (λ outs. AreInPlace config number (λ more. more ≡ behind) outs t ys) (sym same) y.placed);
         follows = ap (after_records config s) (flat_map-append (records_in number) xs ys) ∙ records-more config s (flat_map (records_in number) xs) t (flat_map (records_in number) ys) u x.follows y.follows;
         notices = y.notices ∙ ap (λ z. z ++ notes ys) x.notices ∙ append_assoc before (notes xs) (notes ys) ∙ ap (λ z. before ++ z) (sym (flat_map-append (turn_notes number) xs ys));
         fed = joined piece_in xs ys pieces more_pieces x.fed y.fed;
@@ -192,20 +201,20 @@ led-known config number s t before after pieces moments asks text gone behind ou
 pub carried-led : {C L : Type 0} (reads : C → ℕ → C → Type 0) (loads : L → List ℕ → Option Outcome → L → Type 0) (config : Config) (number : ℕ) (x y z : BareSpace) (s m t : Situation) (a b : Outside C L)
     (pieces moments : List ℕ) (asks : List Asking) (text : List ℕ) (gone behind : Outs) (left : Left) (sent : List ℕ)
     → Quiet config (event.Open number) s m (notices_of x) (notices_of y) → Led config number m t (notices_of y) (notices_of z) pieces moments asks text gone behind
-    → AreAmong gone (sendings_of (outgoing_of x)) → ((more : Sendings) → AreAmong behind more → AskForSent left.asked more)
+    → gone ≡ outgoing_of x → AskForSent left.asked behind
     → Consumes a.remaining b.remaining (pieces ++ left.lost) → Appends a.contents b.contents sent → sent ++ left.unsent ≡ text
     → Readings reads a.clock (moments ++ left.late) b.clock → Askings loads a.loader (asks ++ left.asked) b.loader
     → Carried config number reads loads (world x s a) (world z t b) true false [] left
-carried-led reads loads config number x y z s m t a b pieces moments asks text gone behind left sent opened l among asked read wrote replies clock loader =
+carried-led reads loads config number x y z s m t a b pieces moments asks text gone behind left sent opened l same asked read wrote replies clock loader =
     let first = record-one config s (record_of (event.Open number) []) m opened.follows in
     let records = flat_map (records_in number) l.turns in
-    let sendings = sendings_of (outgoing_of x) in
     record {
       turns = l.turns;
       right = l.right;
       placed = λ u e.
-          subst (λ k. AreInPlace config number (AskForSent left.asked) sendings k l.turns) (same_Some m u (sym first ∙ e))
-          (placed-so config number (AreAmong behind) (AskForSent left.asked) sendings m l.turns (l.placed sendings among) asked);
+          subst (λ k. AreInPlace config number (AskForSent left.asked) (outgoing_of x) k l.turns) (same_Some m u (sym first ∙ e))
+          (subst (λ outs. AreInPlace config number (AskForSent left.asked) outs m l.turns) same
+          (placed-so config number (λ outs. outs ≡ behind) (AskForSent left.asked) gone m l.turns l.placed (λ outs is. subst (AskForSent left.asked) (sym is) asked)));
       follows = ap (after_records config s) (append-nil (open_records number true ++ records)) ∙ records-more config s (open_records number true) m records t first l.follows;
       notices = l.notices ∙ ap (λ n. n ++ flat_map (turn_notes number) l.turns) opened.notices ∙ sym (append-nil (notices_of x ++ flat_map (turn_notes number) l.turns));
       read = subst (λ bytes. Consumes a.remaining b.remaining (bytes ++ left.lost)) (sym l.fed) read;

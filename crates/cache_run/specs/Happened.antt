@@ -1,9 +1,8 @@
 -- What happens in a run: pieces are fed, and loads are settled by what the loader returns for their keys.
-use Rattle.std.specs.Prelude.{◌≡◌, ℕ, ◌==◌, ◌&&◌, ◌||◌, nat_lt, Bool, true, false, List, [], ◌∷◌, Option, None, Some, IfSome, IsTrue, is_some, ◌⊎◌}
-use Rattle.std.specs.List.{flat_map, list_any}
-use Rattle.std.specs.Option.{option_map_or}
+use Rattle.std.specs.Prelude.{◌≡◌, ℕ, ◌+◌, true, List, [], ◌∷◌, ◌++◌, length, Option, None, Some, IfSome, IsTrue, is_some, ◌⊎◌}
+use Rattle.std.specs.List.{flat_map, list_all}
+use Rattle.audit_laws.specs.Waiting.Sending.{IsSettlingOf}
 use Rattle.audit_model.specs.Belongs.{refusal_of_outcome}
-use Rattle.audit_model.specs.Bytewise.{same}
 use Rattle.audit_model.specs.Follows.{after_records}
 use Rattle.audit_model.specs.Situation.{Situation, key_in}
 use Rattle.audit_model.specs.declared.config.Config.{Config}
@@ -16,7 +15,9 @@ use Rattle.audit_model.specs.declared.transcript.Record.{Record}
 use Rattle.audit_model.specs.declared.transcript.Step.{Step}
 use Rattle.cache_run.specs.Devices.Sources.{Asking}
 use Rattle.cache_core.specs.Settling.{answering, giving_up}
-use Rattle.cache_core.specs.Turned.{feeding, notes_in}
+use Rattle.cache_core.specs.Turned.{feeding, is_sent, notes_in}
+use Rattle.cache_commands.specs.Loads.Keys.{are_in_turn}
+use Rattle.cache_run.specs.Driver.Exchanges.{Outs}
 use Rattle.cache_lines.specs.Gathered.{reply_in}
 
 -- the record of an event that is not an answer
@@ -93,42 +94,47 @@ IsKeyOf s happened key = Unit {0}
 
 -- ---- the loads that were sent
 
--- which loads were sent, by their number and key
-abbrev pub Sendings : Type 0
-Sendings = ℕ → List ℕ → Bool
+-- between two situations these loads were sent: they have the next numbers, and are under way, each with its key
+pub record AreSent (s t : Situation) (outs : Outs) : Type 0 where
+  pub place : ℕ
+  pub in_turn : IsTrue (are_in_turn place s.sent outs)
+  pub count : t.sent ≡ s.sent + length outs
+  pub keys : IsTrue (list_all (is_sent t.pending) outs)
 
--- these loads
-abbrev pub sendings_of : List (LoadId × List ℕ) → Sendings
-sendings_of outs = λ load key. list_any (λ out. out.0.number == load && same out.1 key) outs
+-- of these loads one has this number and this key, and the others are left
+pub record Picks (load : ℕ) (key : List ℕ) (outs left : Outs) : Type 0 where
+  pub front : Outs
+  pub back : Outs
+  pub id : LoadId
+  pub number : id.number ≡ load
+  pub whole : outs ≡ front ++ (id, key) ∷ back
+  pub others : left ≡ front ++ back
 
--- and those that were sent between two situations: their numbers are above those that were sent before, and they are under way, each with
--- its key
-abbrev pub sendings_until : Situation → Situation → Sendings → Sendings
-sendings_until s t sent =
-    λ load key. sent load key
-    || (nat_lt s.sent load && option_map_or (λ k. same k key) (key_in load t) false)
+-- the loader was asked by keys of these loads, once for each load
+abbrev pub AskForSent : List Asking → Outs → Type 0
+AskForSent [] outs = Unit {0}
+AskForSent (asking ∷ askings) outs =
+    (load : ℕ) × (left : Outs) × Picks load asking.key outs left × AskForSent askings left
 
--- the loader was asked by keys with which loads were sent
-abbrev pub AskForSent : List Asking → Sendings → Type 0
-AskForSent [] sent = Unit {0}
-AskForSent (asking ∷ askings) sent =
-    ((load : ℕ) × IsTrue (sent load asking.key)) × AskForSent askings sent
+-- In the situation before it, the key that the loader is asked for is that of the load that is settled; what it returned is dropped only
+-- for a load that is not under way. Either way it is one of the loads that were sent and for which the loader was not asked, with its key;
+-- the others are left.
+abbrev pub IsInPlace : Outs → Situation → Turn → Outs → Type 0
+IsInPlace outs s (Fed piece moment steps) left = left ≡ outs
+IsInPlace outs s (Settled asking moment entry) left =
+    IsKeyOf s entry.event asking.key
+    × ((load : ℕ) × IsSettlingOf load entry.event × Picks load asking.key outs left)
+IsInPlace outs s (Dropped asking moment load) left =
+    (key_in load s ≡ None) × Picks load asking.key outs left
 
--- in the situation before it, the key that the loader is asked for is that of the load that is settled; what it returned is dropped only
--- for a load that is not under way, and that was sent with that key before
-abbrev pub IsInPlace : Sendings → Situation → Turn → Type 0
-IsInPlace sent s (Fed piece moment steps) = Unit {0}
-IsInPlace sent s (Settled asking moment entry) = IsKeyOf s entry.event asking.key
-IsInPlace sent s (Dropped asking moment load) =
-    (key_in load s ≡ None) × IsTrue (sent load asking.key)
-
--- each turn is like this in the situation to which the turns before it lead, after what was sent until then; and that is true of what was
--- sent until the end
-abbrev pub AreInPlace : Config → ℕ → (Sendings → Type 0) → Sendings → Situation → List Turn → Type 0
-AreInPlace config number End sent s [] = End sent
-AreInPlace config number End sent s (turn ∷ turns) =
-    IsInPlace sent s turn × ((t : Situation) → after_records config s (records_in number turn)
-    ≡ Some t → AreInPlace config number End (sendings_until s t sent) t turns)
+-- Each turn is like this in the situation to which the turns before it lead: the loads for which the loader may be asked are these, without
+-- those for which it was, and those that were sent since. And that is true of those that are left at the end.
+abbrev pub AreInPlace : Config → ℕ → (Outs → Type 0) → Outs → Situation → List Turn → Type 0
+AreInPlace config number End outs s [] = End outs
+AreInPlace config number End outs s (turn ∷ turns) =
+    (left : Outs) × IsInPlace outs s turn left
+    × ((t : Situation) → after_records config s (records_in number turn) ≡ Some t
+    → (more : Outs) × AreSent s t more × AreInPlace config number End (left ++ more) t turns)
 
 -- loads given up at moment 0, which counts as the latest
 abbrev pub AreDrops : List Record → Type 0

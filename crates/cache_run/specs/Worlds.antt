@@ -15,7 +15,7 @@ use Rattle.cache_spaces.specs.Services.{BareSpace}
 use Rattle.cache_spaces.specs.Spaces.{StandsFor, config_of, untaken_output, closing_of, notices_of, outgoing_of}
 use Rattle.cache_run.specs.Devices.Sources.{Asking, Askings, Readings}
 use Rattle.cache_run.specs.Driver.Drives.{Outside}
-use Rattle.cache_run.specs.Happened.{Turn, AreDrops, AreInPlace, AreRight, AskForSent, asked_in, moment_in, turn_notes, record_of, piece_in, records_in, replies_in, sendings_of}
+use Rattle.cache_run.specs.Happened.{Turn, AreDrops, AreInPlace, AreRight, AskForSent, asked_in, moment_in, turn_notes, record_of, piece_in, records_in, replies_in}
 use Rattle.cache_run.specs.declared.devices.errors.RunError.{RunError}
 use Rattle.cache_run.specs.declared.devices.errors.RunError.TheVariants.{Moment}
 use Rattle.audit_model.specs.declared.event.Event.TheVariants as event
@@ -83,16 +83,16 @@ abbrev pub nothing_left : Left
 nothing_left = record { late = []; lost = []; asked = []; unsent = [] }
 
 -- From one world to another the records of a connection followed: its pieces, and then what was lost, were read, its replies except for
--- those unsent were written, the clock read its moments, and the loader returned its results. What it returned is dropped only for a load
--- that was outgoing in the first world or was sent since then, with the key for which it was asked; behind the last turn it is asked only
--- by the keys of such loads.
+-- those unsent were written, the clock read its moments, and the loader returned its results. It is asked only for loads that were outgoing
+-- in the first world or were sent since then, by their keys, and for each once, also behind the last turn; what it returned is dropped only
+-- for one that is not under way.
 pub record Carried {C L : Type 0} (config : Config) (number : ℕ) (reads : C → ℕ → C → Type 0)
     (loads : L → List ℕ → Option Outcome → L → Type 0) (a b : World C L) (opens closes : Bool)
     (drops : List Record) (left : Left) : Type 0 where
   pub turns : List Turn
   pub right : AreRight config turns
   pub placed : (s : Situation) → after_records config a.situation (open_records number opens)
-      ≡ Some s → AreInPlace config number (AskForSent left.asked) (sendings_of a.outgoing) s turns
+      ≡ Some s → AreInPlace config number (AskForSent left.asked) a.outgoing s turns
   pub follows : after_records config a.situation (records_of number opens turns closes drops)
       ≡ Some b.situation
   pub notices : b.notices ≡ (a.notices ++ flat_map (turn_notes number) turns)

@@ -179,6 +179,8 @@ impl RecordedService {
     pub fn take_output(&mut self, conn: Conn) -> Result<LentReplies<'_>, ServiceError>
         ensures* taken { sem 𝓛 (Rests the_row self.entry (LendsReplies self.old conn result)) }
         ensures replies { IfOk result (λ replies. lent_replies replies ≡ untaken_in self.old conn) }
+        ensures known { OnOk result
+            (InSpace self.old.spaces conn.namespace (λ space. IsOpened space conn.number)) }
         ensures refused { IfErr result (λ e.
             Refuses self.old.spaces conn.namespace e (λ space. IsUnknown space conn.number e)) }
     {
@@ -256,6 +258,7 @@ impl RecordedService {
         ensures* taken { sem 𝓛 (Rests the_row self.entry (LendsNote self.old namespace result)) }
         ensures note { IfOk result
             (λ note. option_copied note ≡ slice_get (untold_in self.old namespace) 0) }
+        ensures there { OnOk result (namespace < length self.old.spaces) }
         ensures refused { IfErr result
             (λ e. (e ≡ ServiceError.NoNamespace) × (length self.old.spaces ≤ namespace)) }
     {
@@ -269,6 +272,7 @@ impl RecordedService {
         ensures told { IfOk result (λ told. told ≡ (cursor_in self.old namespace).notes) }
         ensures passed { OnOk result
             (TakesNote self.old self.new namespace (slice_get (untold_in self.old namespace) 0)) }
+        ensures there { OnOk result (namespace < length self.old.spaces) }
         ensures refused { IfErr result
             (λ e. (e ≡ ServiceError.NoNamespace) × (length self.old.spaces ≤ namespace)) }
         ensures unchanged { OnErr result (self.new ≡ self.old) }

@@ -1,31 +1,39 @@
 //! Says what is wrong with a configuration file of `cached`, with line and key.
 #![tactic(auto)]
 
-use cached_config::check_config;
+use cached_config::{ConfigReport, Unread, check_config};
 use std::env::Env;
 use std::io::{Eprint, ErrorKind, Print};
 use std::process::ExitCode;
 use std::rt::Files;
 use std::{env, fs, io};
 
-/// Prints each fault of the file at a path, as `PATH:LINE: FAULT`, and returns the status: 0 if there is none, otherwise 1.
-fn check<R: Files + Print + AllocGlobal>(rt: &R, path: &str) -> io::Result<u8> {
-    let text = match fs::read_to_string(rt, path) {
-        Ok(text) => text,
-        Err(error) if error.kind() == ErrorKind::OutOfMemory => return Err(error),
-        Err(_) => {
-            println!(rt; "{path}: cannot be read")?;
-            return Ok(1);
-        }
-    };
-    let faults = check_config(rt.alloc(), text.as_str())?;
-    for fault in &faults {
+/// Prints each fault of a file, as `PATH:LINE: FAULT`, or else each warning, and that it is accepted. Returns the status: 0 if there is no
+/// fault, otherwise 1.
+fn tell<R: Print>(rt: &R, path: &str, report: &ConfigReport) -> io::Result<u8> {
+    for fault in &report.faults {
         println!(rt; "{path}:{}: {}", fault.line, fault.what)?;
     }
-    if faults.is_empty() {
-        println!(rt; "{path}: ok")?;
+    if !report.faults.is_empty() {
+        return Ok(1);
     }
-    Ok(u8::from(!faults.is_empty()))
+    for warning in &report.warnings {
+        println!(rt; "{path}:{}: warning: {}", warning.line, warning.what)?;
+    }
+    println!(rt; "{path}: ok")?;
+    Ok(0)
+}
+
+/// Checks the file at a path, and returns the status.
+fn check<R: Files + Print + AllocGlobal>(rt: &R, path: &str) -> io::Result<u8> {
+    match fs::read_to_string(rt, path) {
+        Ok(text) => tell(rt, path, &check_config(rt.alloc(), text.as_str())?),
+        Err(error) if error.kind() == ErrorKind::OutOfMemory => Err(error),
+        Err(error) => {
+            println!(rt; "{path}: {}", Unread(error))?;
+            Ok(1)
+        }
+    }
 }
 
 /// The program over its words: the file's path.

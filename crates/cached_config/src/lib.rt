@@ -5,7 +5,10 @@ mod good;
 mod listed;
 mod places;
 mod reading;
+mod unread;
 mod values;
+mod words;
 
-pub use listed::{ConfigError, ConfigFault, HostedNamespace, Listed};
+pub use listed::{ConfigError, ConfigFault, ConfigReport, HostedNamespace, Listed};
 pub use reading::{check_config, read_config};
+pub use unread::Unread;

@@ -24,8 +24,8 @@ pub struct HostedNamespace {
     pub loads: Vec<Listed>,
 }
 
-/// A fault of a configuration file.
-#[derive(Drop)]
+/// A fault of a configuration file, or a warning.
+#[derive(Debug, Drop)]
 pub struct ConfigFault {
     /// Its line, from 1 on.
     pub line: usize,
@@ -33,11 +33,20 @@ pub struct ConfigFault {
     pub what: String,
 }
 
+/// What there is to say about a configuration file, in the order of its lines.
+#[derive(Debug, Drop)]
+pub struct ConfigReport {
+    /// Why it is not taken; nothing if it is.
+    pub faults: Vec<ConfigFault>,
+    /// What it may say, and probably should not.
+    pub warnings: Vec<ConfigFault>,
+}
+
 /// Why a file is not taken.
-#[derive(Clone, Copy, Debug, PartialEq, Eq, Drop)]
+#[derive(Debug, Drop)]
 pub enum ConfigError {
-    /// It is no such file.
-    Bad,
+    /// It is no such file: the first of its faults, by line.
+    Bad(ConfigFault),
     /// There was no memory.
     OutOfMemory,
 }

@@ -1,14 +1,19 @@
 //! A configuration file, read, with all that is wrong with it.
-ghost use Rattle.std.specs.Prelude.{◌≡◌, ◌≢◌, [], None, IsErr, IsTrue, IfOk, OnOk};
+ghost use Rattle.std.specs.Prelude.{List, codes, ◌≡◌, ◌≢◌, ◌≤◌, ◌<◌, [], None, Ok, IsErr, IsTrue, IfOk, IsSomeAnd, OnOk, vec_len};
+ghost use Rattle.toml.specs.Data.{table, no_members};
 ghost use Rattle.toml.specs.Parse.{parse_document};
+ghost use Rattle.toml.specs.View.{view, table_view};
 ghost use Rattle.cached_config.specs.Good.{are_good};
+ghost use Rattle.cached_config.specs.Said.{IsConfigOf, Says, SaysAll, SaysLimits, SaysSpace, SaysSpaces, loads_table, said_or};
 
 use crate::good::{MOST, are_good};
-use crate::listed::{ConfigError, ConfigFault, HostedNamespace, Listed};
+use crate::listed::{ConfigError, ConfigFault, ConfigReport, HostedNamespace, Listed};
 use crate::places::{Part, line_at, line_of_header, line_of_key, line_outside};
 use crate::values::{
-    capacity_in, load_in, name_in, parts_in, policy_in, port_in, time_in, weight_in,
+    at_key, capacity_in, deadlines_in, load_in, name_in, parts_in, policy_in, port_in, time_in,
+    weight_in,
 };
+use crate::words::nearest;
 use audit_model::{Bytes, Config, EvictionPolicy, Seq, Weight};
 use std::alloc::{AllocError, Global};
 use std::fmt::Display;
@@ -36,50 +41,65 @@ const KEYS: [&str; 10] = [
 /// `loads` of texts without line ends, of at most 8192 bytes. Anything else is `Bad`. If memory runs out, `OutOfMemory`.
 pub fn read_config(alloc: Global, text: &str) -> Result<Vec<HostedNamespace>, ConfigError>
     ensures ok { IfOk result (λ spaces. IsTrue (are_good spaces.items)) }
+    ensures said { IfOk result (λ spaces. IsConfigOf text.now spaces.items) }
     ensures text { parse_document text.now ≡ None → IsErr result }
 {
-    let Reader { spaces, faults, .. } = read_text(alloc, text)?;
-    if faults.is_empty() {
-        Ok(spaces)
-    } else {
-        Err(ConfigError::Bad)
+    let Read { spaces, report } = read_text(alloc, text)?;
+    match report.faults.into_iter().next() {
+        None => Ok(spaces),
+        Some(first) => Err(ConfigError::Bad(first)),
     }
 }
 
-/// Returns the faults of the text of a configuration file, in its order; none if `read_config` accepts it.
+/// Returns the faults of the text of a configuration file, in the order of its lines, and its warnings; there are no faults if `read_config`
+/// accepts it.
 ///
 /// Of a text that is not TOML only the first fault is reported. A fault of a key is reported with the line of the key, or, if that is not
-/// found (as in a table on one line), with the line of its namespace's header.
-pub fn check_config(alloc: Global, text: &str) -> Result<Vec<ConfigFault>, AllocError>
-    ensures text { parse_document text.now ≡ None → IfOk result (λ faults. faults.items ≢ []) }
+/// found (as in a table on one line), with the line of its namespace's header. There is a warning for each namespace without a capacity.
+pub fn check_config(alloc: Global, text: &str) -> Result<ConfigReport, AllocError>
+    ensures text { parse_document text.now ≡ None
+        → IfOk result (λ report. report.faults.items ≢ []) }
+    // a text without faults says some namespaces, which a file may have
+    ensures good { IfOk result (λ report. report.faults.items ≡ [] → (spaces : List HostedNamespace)
+        × IsTrue (are_good spaces) × IsConfigOf text.now spaces) }
 {
-    Ok(read_text(alloc, text)?.faults)
+    Ok(read_text(alloc, text)?.report)
 }
 
-/// What is read of a text. Without faults a file may have these namespaces.
-fn read_text(alloc: Global, text: &str) -> Result<Reader<'_>, AllocError>
+/// What was read of a text. Without faults a file may have these namespaces.
+#[derive(Drop)]
+struct Read {
+    spaces: Vec<HostedNamespace>,
+    report: ConfigReport,
+}
+
+/// Reads a text.
+fn read_text(alloc: Global, text: &str) -> Result<Read, AllocError>
     ensures good { IfOk result
-        (λ read. read.faults.items ≡ [] → IsTrue (are_good read.spaces.items)) }
-    ensures text { parse_document text.now ≡ None → IfOk result (λ read. read.faults.items ≢ []) }
+        (λ read. read.report.faults.items ≡ [] → IsTrue (are_good read.spaces.items)) }
+    ensures said { IfOk result
+        (λ read. read.report.faults.items ≡ [] → IsConfigOf text.now read.spaces.items) }
 {
     let mut reader = Reader {
         alloc,
         text,
-        spaces: Vec::new(alloc),
         faults: Vec::new(alloc),
+        warnings: Vec::new(alloc),
     };
-    match toml::table_from_str(alloc, text) {
-        Ok(document) => reader.document(&document)?,
-        Err(error) if error.is_memory() => return Err(AllocError),
-        Err(error) => {
-            let line = error.span().map_or(1, |span| line_at(text, span.start));
-            reader.add(line, error.message())?;
-        }
-    }
-    if reader.faults.is_empty() && !are_good(&reader.spaces) {
+    let spaces = reader.text()?;
+    if reader.faults.is_empty() && !are_good(&spaces) {
         reader.add(1, "bad configuration")?;
     }
-    Ok(reader)
+    let Reader {
+        mut faults,
+        warnings,
+        ..
+    } = reader;
+    faults.sort_by_key(|fault| fault.line)?;
+    Ok(Read {
+        spaces,
+        report: ConfigReport { faults, warnings },
+    })
 }
 
 /// The table of a namespace, with its number.
@@ -89,19 +109,19 @@ struct At<'a> {
     table: &'a Table,
 }
 
-/// What was read of a file so far.
+/// What was found wrong with a file so far.
 #[derive(Drop)]
 struct Reader<'a> {
     alloc: Global,
     text: &'a str,
-    spaces: Vec<HostedNamespace>,
     faults: Vec<ConfigFault>,
+    warnings: Vec<ConfigFault>,
 }
 
 impl Reader<'_> {
     /// Adds a fault of a line.
     fn add(&mut self, line: usize, what: impl Display + Drop) -> Result<(), AllocError>
-        ensures { OnOk result (self.new.faults.items ≢ []) }
+        ensures { OnOk result (vec_len self.old.faults < vec_len self.new.faults) }
     {
         let what = format!(in self.alloc; "{what}")?;
         self.faults.push(ConfigFault { line, what })?;
@@ -109,114 +129,251 @@ impl Reader<'_> {
     }
 
     /// Adds a fault of a key of a namespace.
-    fn fault(&mut self, at: At<'_>, part: Part, key: &str, what: &str) -> Result<(), AllocError> {
+    fn fault(&mut self, at: At<'_>, part: Part, key: &str, what: &str) -> Result<(), AllocError>
+        ensures { OnOk result (vec_len self.old.faults < vec_len self.new.faults) }
+    {
         let line = line_of_key(self.text, at.place, part, key);
         self.add(line, format_args!("{key} {what}"))
     }
 
-    /// Reads the document.
-    fn document(&mut self, document: &Table) -> Result<(), AllocError> {
-        for key in document.keys() {
-            if key.as_str() != "namespace" {
-                let line = line_outside(self.text, key.as_str());
-                self.add(line, format_args!("unknown key {key}"))?;
+    /// Adds the fault that a key is not known, and which of the known ones may be meant.
+    fn unknown(&mut self, line: usize, key: &str, known: &[&str]) -> Result<(), AllocError>
+        ensures { OnOk result (vec_len self.old.faults < vec_len self.new.faults) }
+    {
+        match nearest(key, known) {
+            Some(meant) => {
+                self.add(
+                    line,
+                    format_args!("unknown key {key}: did you mean `{meant}`?"),
+                )
             }
-        }
-        match document.get("namespace") {
-            Some(value) => self.array(value),
-            None => self.add(1, "there is no [[namespace]]"),
+            None => self.add(line, format_args!("unknown key {key}")),
         }
     }
 
-    /// Reads the array of namespaces.
-    fn array(&mut self, value: &Value) -> Result<(), AllocError> {
-        let Some(values) = value.as_array() else {
-            let line = line_outside(self.text, "namespace");
-            return self.add(line, "a namespace begins with [[namespace]]");
-        };
-        if values.is_empty() {
-            return self.add(1, "there is no [[namespace]]");
+    /// Reads the text.
+    fn text(&mut self) -> Result<Vec<HostedNamespace>, AllocError>
+        ensures { IfOk result (λ spaces. vec_len self.new.faults ≤ vec_len self.old.faults
+            → IsConfigOf self.old.text.now spaces.items) }
+    {
+        match toml::table_from_str(self.alloc, self.text) {
+            Ok(document) => self.document(&document),
+            Err(error) if error.is_memory() => Err(AllocError),
+            Err(error) => {
+                let line = error
+                    .span()
+                    .map_or(1, |span| line_at(self.text, span.start));
+                self.add(line, error.message())?;
+                Ok(Vec::new(self.alloc))
+            }
         }
-        if values.len() > MOST {
-            let line = line_of_header(self.text, MOST);
-            self.add(line, format_args!("there are more than {MOST} namespaces"))?;
+    }
+
+    /// Reads the document.
+    fn document(&mut self, document: &Table) -> Result<Vec<HostedNamespace>, AllocError>
+        ensures { IfOk result (λ spaces. vec_len self.new.faults ≤ vec_len self.old.faults
+            → SaysAll (table_view document.now) spaces.items) }
+    {
+        self.only(document)?;
+        match at_key(document, "namespace") {
+            Some(value) => self.array(value),
+            None => {
+                self.add(1, "there is no [[namespace]]")?;
+                Ok(Vec::new(self.alloc))
+            }
         }
-        for (place, value) in values.iter().enumerate() {
-            self.value(place, value, &values[..place])?;
+    }
+
+    /// Refuses keys beside `namespace`.
+    fn only(&mut self, document: &Table) -> Result<(), AllocError>
+        ensures { OnOk result (vec_len self.old.faults ≤ vec_len self.new.faults) }
+    {
+        for key in document.keys() {
+            if key.as_str() != "namespace" {
+                let line = line_outside(self.text, key.as_str());
+                self.unknown(line, key.as_str(), &["namespace"])?;
+            }
         }
         Ok(())
     }
 
-    /// Reads a namespace, with those before it.
-    fn value(&mut self, place: usize, value: &Value, before: &[Value]) -> Result<(), AllocError> {
+    /// Reads the array of namespaces.
+    fn array(&mut self, value: &Value) -> Result<Vec<HostedNamespace>, AllocError>
+        ensures { IfOk result (λ spaces. vec_len self.new.faults ≤ vec_len self.old.faults
+            → SaysSpaces (view value.now) spaces.items) }
+    {
+        let mut spaces = Vec::new(self.alloc);
+        let Some(values) = value.as_array() else {
+            let line = line_outside(self.text, "namespace");
+            self.add(line, "a namespace begins with [[namespace]]")?;
+            return Ok(spaces);
+        };
+        self.count(values.len())?;
+        for (place, value) in values.iter().enumerate() {
+            if let Some(space) = self.value(place, value, &values[..place])? {
+                spaces.push(space)?;
+            }
+        }
+        Ok(spaces)
+    }
+
+    /// Refuses that there are no namespaces, or too many.
+    fn count(&mut self, count: usize) -> Result<(), AllocError>
+        ensures { OnOk result (vec_len self.old.faults ≤ vec_len self.new.faults) }
+    {
+        if count == 0 {
+            return self.add(1, "there is no [[namespace]]");
+        }
+        if count > MOST {
+            let line = line_of_header(self.text, MOST);
+            return self.add(line, format_args!("there are more than {MOST} namespaces"));
+        }
+        Ok(())
+    }
+
+    /// Reads a namespace, with those before it; `None` if it is no table.
+    fn value(
+        &mut self,
+        place: usize,
+        value: &Value,
+        before: &[Value],
+    ) -> Result<Option<HostedNamespace>, AllocError>
+        ensures kept { OnOk result (vec_len self.old.faults ≤ vec_len self.new.faults) }
+        ensures said { IfOk result (λ said. vec_len self.new.faults ≤ vec_len self.old.faults
+            → IsSomeAnd said (SaysSpace (view value.now))) }
+    {
         let Some(table) = value.as_table() else {
             let line = line_outside(self.text, "namespace");
-            return self.add(line, "a namespace is a table");
+            self.add(line, "a namespace is a table")?;
+            return Ok(None);
         };
         let at = At { place, table };
         self.known(at)?;
         let space = self.space(at)?;
-        self.spaces.push(space)?;
-        self.twins(at, before)
+        self.twins(at, before)?;
+        Ok(Some(space))
     }
 
     /// Refuses keys that are not known.
-    fn known(&mut self, at: At<'_>) -> Result<(), AllocError> {
+    fn known(&mut self, at: At<'_>) -> Result<(), AllocError>
+        ensures { OnOk result (vec_len self.old.faults ≤ vec_len self.new.faults) }
+    {
         for key in at.table.keys() {
             if !KEYS.contains(&key.as_str()) {
                 let line = line_of_key(self.text, at.place, Part::Own, key.as_str());
-                self.add(line, format_args!("unknown key {key}"))?;
+                self.unknown(line, key.as_str(), &KEYS)?;
             }
         }
         Ok(())
     }
 
     /// Reads the fields of a namespace.
-    fn space(&mut self, at: At<'_>) -> Result<HostedNamespace, AllocError> {
-        let letters = "is a text of 1 to 32 of a to z, 0 to 9, - and _";
-        self.require(at, "name")?;
-        let name = self.field(at, "name", letters, name_in)?;
-        self.require(at, "port")?;
-        let port = self.field(at, "port", "is a number from 1 to 65535", port_in)?;
+    fn space(&mut self, at: At<'_>) -> Result<HostedNamespace, AllocError>
+        ensures kept { OnOk result (vec_len self.old.faults ≤ vec_len self.new.faults) }
+        ensures said { IfOk result (λ space. vec_len self.new.faults ≤ vec_len self.old.faults
+            → Says (table_view at.entry.table.now) space) }
+    {
+        let name = self.said(at, "name", name_in(at.table), "")?;
+        let port = self.said(at, "port", port_in(at.table), 0)?;
         let config = self.config(at)?;
-        if config.own_deadlines && at.table.contains_key("live_ms") {
-            self.fault(at, Part::Own, "deadlines", "does not go with live_ms")?;
-        }
+        self.suits(at, &config)?;
+        let loads = self.loads(at)?;
         Ok(HostedNamespace {
-            name: bytes_of(self.alloc, name.unwrap_or(""))?,
-            port: port.unwrap_or(0),
+            name: bytes_of(self.alloc, name)?,
+            port,
             config,
-            loads: self.loads(at)?,
+            loads,
         })
     }
 
     /// Reads the limits of a namespace.
-    fn config(&mut self, at: At<'_>) -> Result<Config, AllocError> {
-        let time = "is a number of milliseconds from 1 to 999999999999";
-        let capacity = self.field(at, "capacity", "is a number from 0 on", capacity_in)?;
-        let parts = self.field(at, "parts", "is a number from 1 to 256", parts_in)?;
-        let live_ms = self.field(at, "live_ms", time, time_in)?;
-        let idle_ms = self.field(at, "idle_ms", time, time_in)?;
-        let policy = self.field(at, "policy", "is \"tinylfu\" or \"lru\"", policy_in)?;
-        let weight = self.field(at, "weight", "is \"one\" or \"bytes\"", weight_in)?;
-        let own_deadlines = self.field(at, "deadlines", "is true or false", Value::as_bool)?;
+    fn config(&mut self, at: At<'_>) -> Result<Config, AllocError>
+        ensures kept { OnOk result (vec_len self.old.faults ≤ vec_len self.new.faults) }
+        ensures said { IfOk result (λ config. vec_len self.new.faults ≤ vec_len self.old.faults
+            → SaysLimits (table_view at.entry.table.now) config) }
+    {
+        let capacity = self.said(at, "capacity", capacity_in(at.table), None)?;
+        let policy = self.said(at, "policy", policy_in(at.table), EvictionPolicy::TinyLfu)?;
+        let parts = self.said(at, "parts", parts_in(at.table), 1)?;
+        let weight = self.said(at, "weight", weight_in(at.table), Weight::One)?;
+        let live_ms = self.said(at, "live_ms", time_in(at.table, "live_ms"), None)?;
+        let idle_ms = self.said(at, "idle_ms", time_in(at.table, "idle_ms"), None)?;
+        let own_deadlines = self.said(at, "deadlines", deadlines_in(at.table), false)?;
         Ok(Config {
             capacity,
-            parts: parts.unwrap_or(1),
+            policy,
+            parts,
+            weight,
             live_ms,
             idle_ms,
-            policy: policy.unwrap_or(EvictionPolicy::TinyLfu),
-            weight: weight.unwrap_or(Weight::One),
-            own_deadlines: own_deadlines.unwrap_or(false),
+            own_deadlines,
         })
     }
 
+    /// What a key says. If that is not valid, adds a fault, and returns what is given instead.
+    fn said<T: Drop>(
+        &mut self,
+        at: At<'_>,
+        key: &str,
+        said: Result<T, &'static str>,
+        instead: T,
+    ) -> Result<T, AllocError>
+        ensures kept { OnOk result (vec_len self.old.faults ≤ vec_len self.new.faults) }
+        ensures said { IfOk result (λ x. vec_len self.new.faults ≤ vec_len self.old.faults
+            → said.entry ≡ Ok x) }
+    {
+        match said {
+            Ok(said) => Ok(said),
+            Err(what) => {
+                self.fault(at, Part::Own, key, what)?;
+                Ok(instead)
+            }
+        }
+    }
+
+    /// Refuses limits that do not go together, and warns if there is no capacity.
+    fn suits(&mut self, at: At<'_>, config: &Config) -> Result<(), AllocError>
+        ensures { OnOk result (vec_len self.old.faults ≤ vec_len self.new.faults) }
+    {
+        if !at.table.contains_key("capacity") {
+            let what =
+                "no capacity, so nothing leaves for want of room, and the memory has no bound";
+            let what = String::from_str(self.alloc, what)?;
+            let line = line_of_header(self.text, at.place);
+            self.warnings.push(ConfigFault { line, what })?;
+        }
+        if config.own_deadlines && at.table.contains_key("live_ms") {
+            self.fault(at, Part::Own, "deadlines", "does not go with live_ms")?;
+        }
+        Ok(())
+    }
+
     /// Reads what the loads of a namespace find.
-    fn loads(&mut self, at: At<'_>) -> Result<Vec<Listed>, AllocError> {
+    fn loads(&mut self, at: At<'_>) -> Result<Vec<Listed>, AllocError>
+        ensures kept { OnOk result (vec_len self.old.faults ≤ vec_len self.new.faults) }
+        ensures said { IfOk result (λ loads. vec_len self.new.faults ≤ vec_len self.old.faults
+            → said_or (codes "loads") (table no_members) (table_view at.entry.table.now)
+            ≡ table (loads_table loads.items)) }
+    {
+        match at_key(at.table, "loads") {
+            None => Ok(Vec::new(self.alloc)),
+            Some(value) => match value.as_table() {
+                Some(table) => self.listed(at, table),
+                None => {
+                    self.fault(at, Part::Own, "loads", "is a table of texts")?;
+                    Ok(Vec::new(self.alloc))
+                }
+            },
+        }
+    }
+
+    /// Reads a table of what loads find.
+    fn listed(&mut self, at: At<'_>, table: &Table) -> Result<Vec<Listed>, AllocError>
+        ensures kept { OnOk result (vec_len self.old.faults ≤ vec_len self.new.faults) }
+        ensures said { IfOk result (λ loads. vec_len self.new.faults ≤ vec_len self.old.faults
+            → table_view table.now ≡ loads_table loads.items) }
+    {
         let mut loads = Vec::new(self.alloc);
-        let Some(table) = self.field(at, "loads", "is a table of texts", Value::as_table)? else {
-            return Ok(loads);
-        };
         for (key, value) in table.iter() {
             match load_in(value) {
                 Ok(text) => loads.push(Listed {
@@ -229,48 +386,31 @@ impl Reader<'_> {
         Ok(loads)
     }
 
-    /// What a key says, if it is there.
-    fn field<'t, T: Drop, F: Fn(&'t Value) -> Option<T> + Drop>(
-        &mut self,
-        at: At<'t>,
-        key: &str,
-        what: &str,
-        read: F,
-    ) -> Result<Option<T>, AllocError>
-        requires { F.IsAlwaysCallable read }
-    {
-        let Some(value) = at.table.get(key) else {
-            return Ok(None);
-        };
-        let said = read(value);
-        if said.is_none() {
-            self.fault(at, Part::Own, key, what)?;
-        }
-        Ok(said)
-    }
-
-    /// Refuses that a key is not there.
-    fn require(&mut self, at: At<'_>, key: &str) -> Result<(), AllocError> {
-        if at.table.contains_key(key) {
-            return Ok(());
-        }
-        self.fault(at, Part::Own, key, "is missing")
-    }
-
     /// Refuses what a namespace before this one has too.
-    fn twins(&mut self, at: At<'_>, before: &[Value]) -> Result<(), AllocError> {
+    fn twins(&mut self, at: At<'_>, before: &[Value]) -> Result<(), AllocError>
+        ensures { OnOk result (vec_len self.old.faults ≤ vec_len self.new.faults) }
+    {
         for other in before {
-            for key in ["name", "port"] {
-                if at.table.contains_key(key) && at.table.get(key) == other.get(key) {
-                    self.fault(at, Part::Own, key, "is that of another namespace")?;
-                }
-            }
+            self.twin(at, other, "name")?;
+            self.twin(at, other, "port")?;
+        }
+        Ok(())
+    }
+
+    /// Refuses that another namespace has the same at a key.
+    fn twin(&mut self, at: At<'_>, other: &Value, key: &str) -> Result<(), AllocError>
+        ensures { OnOk result (vec_len self.old.faults ≤ vec_len self.new.faults) }
+    {
+        if at.table.contains_key(key) && at.table.get(key) == other.get(key) {
+            return self.fault(at, Part::Own, key, "is that of another namespace");
         }
         Ok(())
     }
 }
 
 /// The bytes of a text.
-fn bytes_of(alloc: Global, text: &str) -> Result<Bytes, AllocError> {
+fn bytes_of(alloc: Global, text: &str) -> Result<Bytes, AllocError>
+    ensures { IfOk result (λ bytes. bytes ≡ text.now) }
+{
     Ok(Seq::from_vec(Vec::from_slice(alloc, text.as_bytes())?))
 }

@@ -1,61 +1,161 @@
-//! What a value may say.
-ghost use Rattle.std.specs.Prelude.{◌≡◌};
+//! What the keys of a namespace's table say. An error is what is wrong with a value, in words that follow its key.
+ghost use Rattle.std.specs.Prelude.{codes, ◌≡◌, false, None, Some, option_map, IfOk, IfSome, IfNone};
+ghost use Rattle.audit_model.specs.declared.config.EvictionPolicy.TheVariants as policy;
+ghost use Rattle.audit_model.specs.declared.config.Weight.TheVariants as weight;
+ghost use Rattle.cached_config.specs.Said.{said_or, whole_number, policy_text, weight_text};
+ghost use Rattle.toml.specs.Data.{string, boolean, get_member};
+ghost use Rattle.toml.specs.View.{view, table_view};
 
 use crate::good::{MOST_BYTES, is_name, is_value};
 use audit_model::{EvictionPolicy, Weight};
-use toml::Value;
+use toml::{Table, Value};
 
-/// The name that a value says.
-pub fn name_in(value: &Value) -> Option<&str> {
-    value.as_str().filter(|name| is_name(name.as_bytes()))
+const LETTERS: &str = "is a text of 1 to 32 of a to z, 0 to 9, - and _";
+
+const PORT: &str = "is a number from 1 to 65535";
+
+const PARTS: &str = "is a number from 1 to 256";
+
+/// The value at a key of a table.
+pub fn at_key<'a>(table: &'a Table, key: &str) -> Option<&'a Value>
+    ensures some { IfSome result
+        (λ value. get_member key.now (table_view table.now) ≡ Some (view value.now)) }
+    ensures none { IfNone result (get_member key.now (table_view table.now) ≡ None) }
+{
+    table.get(key)
 }
 
-/// The port that a value says.
-pub fn port_in(value: &Value) -> Option<u16> {
-    u16::try_from(number_in(value, 1, 65_535)?).ok()
+/// The name that a table says.
+pub fn name_in(table: &Table) -> Result<&str, &'static str>
+    ensures { IfOk result (λ name.
+        get_member (codes "name") (table_view table.now) ≡ Some (string name.now)) }
+{
+    match at_key(table, "name") {
+        None => Err("is missing"),
+        Some(value) => match value.as_str() {
+            Some(name) if is_name(name.as_bytes()) => Ok(name),
+            _ => Err(LETTERS),
+        },
+    }
 }
 
-/// The number of parts that a value says.
-pub fn parts_in(value: &Value) -> Option<u32> {
-    u32::try_from(number_in(value, 1, 256)?).ok()
+/// The port that a table says.
+pub fn port_in(table: &Table) -> Result<u16, &'static str>
+    ensures { IfOk result
+        (λ port. get_member (codes "port") (table_view table.now) ≡ Some (whole_number port)) }
+{
+    match number_at(table, "port", 1, 65_535, PORT)? {
+        None => Err("is missing"),
+        Some(port) => u16::try_from(port).map_err(|_| PORT),
+    }
 }
 
-/// The number of milliseconds that a value says.
-pub fn time_in(value: &Value) -> Option<u64> {
-    number_in(value, 1, 999_999_999_999)
+/// The capacity that a table says, if it does.
+pub fn capacity_in(table: &Table) -> Result<Option<u64>, &'static str>
+    ensures { IfOk result (λ capacity.
+        get_member (codes "capacity") (table_view table.now) ≡ option_map whole_number capacity) }
+{
+    number_at(table, "capacity", 0, u64::MAX, "is a number from 0 on")
 }
 
-/// The capacity that a value says.
-pub fn capacity_in(value: &Value) -> Option<u64> {
-    number_in(value, 0, u64::MAX)
+/// The number of parts that a table says; 1 if it says none.
+pub fn parts_in(table: &Table) -> Result<u32, &'static str>
+    ensures { IfOk result (λ parts.
+        said_or (codes "parts") (whole_number 1) (table_view table.now) ≡ whole_number parts) }
+{
+    match number_at(table, "parts", 1, 256, PARTS)? {
+        None => Ok(1),
+        Some(parts) => u32::try_from(parts).map_err(|_| PARTS),
+    }
 }
 
-/// The number that a value says, if it is within bounds.
-fn number_in(value: &Value, least: u64, most: u64) -> Option<u64> {
-    let number = u64::try_from(value.as_integer()?).ok();
-    number.filter(|number| least <= *number && *number <= most)
+/// The milliseconds that a table says at a key, if it does.
+pub fn time_in(table: &Table, key: &str) -> Result<Option<u64>, &'static str>
+    ensures { IfOk result
+        (λ time. get_member key.now (table_view table.now) ≡ option_map whole_number time) }
+{
+    let what = "is a number of milliseconds from 1 to 999999999999";
+    number_at(table, key, 1, 999_999_999_999, what)
 }
 
-/// The policy that a value says.
-pub fn policy_in(value: &Value) -> Option<EvictionPolicy> {
-    match value.as_str()? {
-        "tinylfu" => Some(EvictionPolicy::TinyLfu),
-        "lru" => Some(EvictionPolicy::Lru),
+/// The number that a table says at a key, if it does; an error if it is not within bounds.
+fn number_at(
+    table: &Table,
+    key: &str,
+    least: u64,
+    most: u64,
+    what: &'static str,
+) -> Result<Option<u64>, &'static str>
+    ensures { IfOk result
+        (λ said. get_member key.now (table_view table.now) ≡ option_map whole_number said) }
+{
+    match at_key(table, key) {
+        None => Ok(None),
+        Some(value) => match number_in(value) {
+            Some(said) if least <= said && said <= most => Ok(Some(said)),
+            _ => Err(what),
+        },
+    }
+}
+
+/// The number that a value is, if it is one from 0 on.
+fn number_in(value: &Value) -> Option<u64>
+    ensures { IfSome result (λ said. view value.now ≡ whole_number said) }
+{
+    match value.as_integer() {
+        Some(said) if said >= 0 => Some(said as u64),
         _ => None,
     }
 }
 
-/// What a value says that values weigh.
-pub fn weight_in(value: &Value) -> Option<Weight> {
-    match value.as_str()? {
-        "one" => Some(Weight::One),
-        "bytes" => Some(Weight::Bytes),
-        _ => None,
+/// The policy that a table says; TinyLFU if it says none.
+pub fn policy_in(table: &Table) -> Result<EvictionPolicy, &'static str>
+    ensures { IfOk result (λ said. said_or (codes "policy") (policy_text policy.TinyLfu)
+        (table_view table.now) ≡ policy_text said) }
+{
+    match at_key(table, "policy") {
+        None => Ok(EvictionPolicy::TinyLfu),
+        Some(value) => match value.as_str() {
+            Some("tinylfu") => Ok(EvictionPolicy::TinyLfu),
+            Some("lru") => Ok(EvictionPolicy::Lru),
+            _ => Err("is \"tinylfu\" or \"lru\""),
+        },
     }
 }
 
-/// The text that a load finds, or what is wrong with it.
-pub fn load_in(value: &Value) -> Result<&str, &'static str> {
+/// What a table says that values weigh; one if it says nothing of it.
+pub fn weight_in(table: &Table) -> Result<Weight, &'static str>
+    ensures { IfOk result (λ said. said_or (codes "weight") (weight_text weight.One)
+        (table_view table.now) ≡ weight_text said) }
+{
+    match at_key(table, "weight") {
+        None => Ok(Weight::One),
+        Some(value) => match value.as_str() {
+            Some("one") => Ok(Weight::One),
+            Some("bytes") => Ok(Weight::Bytes),
+            _ => Err("is \"one\" or \"bytes\""),
+        },
+    }
+}
+
+/// Whether a table says that values have deadlines of their own; not if it says nothing of it.
+pub fn deadlines_in(table: &Table) -> Result<bool, &'static str>
+    ensures { IfOk result (λ said.
+        said_or (codes "deadlines") (boolean false) (table_view table.now) ≡ boolean said) }
+{
+    match at_key(table, "deadlines") {
+        None => Ok(false),
+        Some(value) => match value.as_bool() {
+            Some(said) => Ok(said),
+            None => Err("is true or false"),
+        },
+    }
+}
+
+/// The text that a load finds.
+pub fn load_in(value: &Value) -> Result<&str, &'static str>
+    ensures { IfOk result (λ text. view value.now ≡ string text.now) }
+{
     match value.as_str() {
         None => Err("is a text"),
         Some(text) if text.len() > MOST_BYTES => Err("has more than 8192 bytes"),

@@ -1,7 +1,9 @@
 //! What is read from a configuration, and what is wrong with one.
 use crate::texts::{Lines, text_of};
 use audit_model::{Config, EvictionPolicy, Weight};
-use cached_config::{ConfigError, ConfigFault, HostedNamespace, Listed, check_config, read_config};
+use cached_config::{
+    ConfigError, ConfigFault, ConfigReport, HostedNamespace, Listed, check_config, read_config,
+};
 use std::alloc::{AllocError, Global};
 use std::fmt::Write;
 
@@ -74,6 +76,10 @@ const FILES: &[Row<'static>] = &[
         "1: unknown key other\n1: there is no [[namespace]]\n",
     ),
     (
+        "[[namespaces]]\nname = \"a\"\nport = 1\n",
+        "1: unknown key namespaces: did you mean `namespace`?\n1: there is no [[namespace]]\n",
+    ),
+    (
         "namespace = 3\n",
         "1: a namespace begins with [[namespace]]\n",
     ),
@@ -110,7 +116,7 @@ const FILES: &[Row<'static>] = &[
     ),
     (
         "[[namespace]]\nname = \"main\"\ncapacty = 1000\nport = 7411\n",
-        "3: unknown key capacty\n",
+        "3: unknown key capacty: did you mean `capacity`?\n",
     ),
     (
         "[[namespace]]\nname = \"A\"\nport = 0\nparts = 257\n",
@@ -125,6 +131,25 @@ const BEGUN: Lines<'static> = ("[[namespace]]\nname = \"a\"\nport = 1\n", 1, 1);
 const REST: &[Row<'static>] = &[
     ("", ""),
     ("colour = 1\n", "4: unknown key colour\n"),
+    // a letter more, less or other; two neighbours that changed places
+    (
+        "partss = 1\n",
+        "4: unknown key partss: did you mean `parts`?\n",
+    ),
+    (
+        "olicy = 1\n",
+        "4: unknown key olicy: did you mean `policy`?\n",
+    ),
+    (
+        "laods = 1\n",
+        "4: unknown key laods: did you mean `loads`?\n",
+    ),
+    (
+        "live-ms = 1\n",
+        "4: unknown key live-ms: did you mean `live_ms`?\n",
+    ),
+    ("prts = 1\n", "4: unknown key prts: did you mean `parts`?\n"),
+    ("Capacity_ = 1\n", "4: unknown key Capacity_\n"),
     ("capacity = -1\n", "4: capacity is a number from 0 on\n"),
     ("capacity = 0\n", ""),
     ("capacity = 1.5\n", "4: capacity is a number from 0 on\n"),
@@ -172,7 +197,20 @@ const REST: &[Row<'static>] = &[
     ),
     (
         "idle_ms = 0\ncapacity = -1\n[namespace.loads]\nk = 1\nl = \"a\\nb\"\n",
-        "5: capacity is a number from 0 on\n4: idle_ms is a number of milliseconds from 1 to 999999999999\n7: k is a text\n8: l has a line end\n",
+        "4: idle_ms is a number of milliseconds from 1 to 999999999999\n5: capacity is a number from 0 on\n7: k is a text\n8: l has a line end\n",
+    ),
+];
+
+/// Files without faults, and their warnings.
+const WARNED: &[Row<'static>] = &[
+    (
+        "[[namespace]]\nname = \"a\"\nport = 1\n",
+        "1: no capacity, so nothing leaves for want of room, and the memory has no bound\n",
+    ),
+    ("[[namespace]]\nname = \"a\"\nport = 1\ncapacity = 0\n", ""),
+    (
+        "[[namespace]]\nname = \"a\"\nport = 1\ncapacity = 9\n\n[[namespace]]\nname = \"b\"\nport = 2\n",
+        "6: no capacity, so nothing leaves for want of room, and the memory has no bound\n",
     ),
 ];
 
@@ -247,11 +285,18 @@ fn headers_in(text: &str) -> usize {
     text.lines().filter(|line| *line == "[[namespace]]").count()
 }
 
-/// Whether a file is read, with each namespace that it begins, or is none.
-fn is_judged(alloc: Global, text: &str, is_good: bool) -> bool {
+/// Whether a fault is told first in this text.
+fn is_first(alloc: Global, fault: ConfigFault, faults: &str) -> bool {
+    let mut told = String::new(alloc);
+    add_faults(&mut told, &[fault]).is_ok() && faults.starts_with(told.as_str())
+}
+
+/// Whether a file is read, with each namespace that it begins, or is none for the first of these faults.
+fn is_judged(alloc: Global, text: &str, faults: &str) -> bool {
     match read_config(alloc, text) {
-        Ok(spaces) => is_good && spaces.len() == headers_in(text),
-        Err(error) => !is_good && error == ConfigError::Bad,
+        Ok(spaces) => faults.is_empty() && spaces.len() == headers_in(text),
+        Err(ConfigError::Bad(fault)) => is_first(alloc, fault, faults),
+        Err(ConfigError::OutOfMemory) => false,
     }
 }
 
@@ -272,16 +317,36 @@ fn are_told(alloc: Global, faults: &[ConfigFault], wanted: &str) -> bool {
 /// Whether a file has these faults.
 fn has_faults(alloc: Global, text: &str, wanted: &str) -> bool {
     match check_config(alloc, text) {
-        Ok(faults) => are_told(alloc, faults.as_slice(), wanted),
+        Ok(report) => are_told(alloc, report.faults.as_slice(), wanted),
         Err(_) => false,
     }
+}
+
+/// Whether a file has no faults, and these warnings.
+fn has_warnings(alloc: Global, text: &str, wanted: &str) -> bool {
+    match check_config(alloc, text) {
+        Ok(ConfigReport { faults, warnings }) => {
+            faults.is_empty() && are_told(alloc, warnings.as_slice(), wanted)
+        }
+        Err(_) => false,
+    }
+}
+
+/// Whether each file has its warnings.
+fn all_are_warned(alloc: Global) -> bool {
+    for (text, warnings) in WARNED {
+        if !(has_warnings(alloc, text, warnings) || has_warnings(alloc, text, warnings)) {
+            return false;
+        }
+    }
+    true
 }
 
 /// Whether a file has these faults, and is read just where it has none.
 fn comes_so(alloc: Global, lines: &[Lines<'_>], faults: &str) -> bool {
     match text_of(alloc, lines) {
         Some(text) => has_faults(alloc, text.as_str(), faults)
-            && is_judged(alloc, text.as_str(), faults.is_empty()),
+            && is_judged(alloc, text.as_str(), faults),
         None => false,
     }
 }
@@ -323,10 +388,12 @@ fn all_long_come_so(alloc: Global) -> bool {
 
 /// Whether the first fault of a text that is no configuration is in this line.
 fn is_broken(alloc: Global, text: &str, line: usize) -> bool {
-    match check_config(alloc, text) {
-        Ok(faults) => matches!(faults.as_slice(), [first, ..] if first.line == line)
-            && is_judged(alloc, text, false),
-        Err(_) => false,
+    match (check_config(alloc, text), read_config(alloc, text)) {
+        (Ok(report), Err(ConfigError::Bad(fault))) => {
+            fault.line == line
+                && matches!(report.faults.as_slice(), [first, ..] if first.line == line)
+        }
+        _ => false,
     }
 }
 
@@ -348,6 +415,11 @@ fn namespaces_are_read(rt: HostRuntime) {
 #[test]
 fn faults_are_told_by_lines(rt: HostRuntime) {
     assert!(rt; all_come_so(rt.alloc(), ("", 1, 1), FILES) && all_come_so(rt.alloc(), BEGUN, REST));
+}
+
+#[test]
+fn warnings_are_told_by_lines(rt: HostRuntime) {
+    assert!(rt; all_are_warned(rt.alloc()));
 }
 
 #[test]
