@@ -20,10 +20,10 @@ same() { # what, one text, the other
     fi
 }
 
-# README: the example of the library is the one that crates/cache_tests proves and runs.
-same "README.md's example and crates/cache_tests/src/uses/example.rt" \
+# README: the example of the library is the one that crates/cache_uses proves and runs.
+same "README.md's example and crates/cache_uses/src/uses/example.rt" \
     "$(block README.md '## Use as a library' '```rust')" \
-    "$(tail -n +2 crates/cache_tests/src/uses/example.rt)"
+    "$(tail -n +2 crates/cache_uses/src/uses/example.rt)"
 
 # The protocol's example is the stored run of the program.
 example=$(block docs/PROTOCOL.md '## Example' '```')
