@@ -68,6 +68,9 @@ done
 # The pictures and the tables of figures are those that the file of figures gives.
 PYTHONDONTWRITEBYTECODE=1 python3 benches/plots.py check
 
+# The pages of promises are those that the sources give.
+python3 -B tools/proved.py --check
+
 # The documents' links lead somewhere.
 python3 tools/test_links.py
 
