@@ -52,14 +52,15 @@ same "docs/man/cached.toml.5's keys and docs/PROTOCOL.md's" \
 # The gate checks it: the stored run of cached_check reads a copy.
 same "docs/cached.toml and crates/cached_check/data/cached.toml" "$(cat docs/cached.toml)" "$(cat crates/cached_check/data/cached.toml)"
 
-# FROM_MOKA.md: each of our examples is a region of a module that crates/sync_tests proves and runs, and each region is shown.
+# FROM_MOKA.md: each of our examples is a region of a module that crates/sync_tests proves and runs, and each region is shown, or its file linked.
 uses=crates/sync_tests/src/uses
 region() { # name
     awk -v head="// example: $1" '$0 == head { on = 1; next } $0 == "// end" { on = 0 } on' "$uses"/*.rt
 }
 shown=$(sed -n 's/^<!-- example: \(.*\) -->$/\1/p' docs/FROM_MOKA.md)
+linked=$(for file in $(grep -o "$uses/[a-z]*\.rt" docs/FROM_MOKA.md | sort -u); do sed -n 's|^// example: ||p' "$file"; done)
 same "the names of docs/FROM_MOKA.md's examples and of $uses's regions" \
-    "$(sort <<<"$shown")" "$(sed -n 's|^// example: ||p' "$uses"/*.rt | sort)"
+    "$(printf '%s\n' $shown $linked | sort -u)" "$(sed -n 's|^// example: ||p' "$uses"/*.rt | sort)"
 for name in $shown; do
     same "docs/FROM_MOKA.md's example $name and its region in $uses" \
         "$(block docs/FROM_MOKA.md "<!-- example: $name -->" '```rust')" "$(region "$name")"

@@ -1,7 +1,8 @@
 #!/usr/bin/env python3
 """Makes docs/promises from the sources: for each public call, the names of its clauses and what the sources say of it; and the wrong bodies.
+Makes the table of crates in docs/ARCHITECTURE.md from the first lines of the crates' roots.
 
-    python3 tools/proved.py            writes the pages, one a house, that of the wrong bodies, and an index
+    python3 tools/proved.py            writes the pages, one a house, that of the wrong bodies, an index, and the table
     python3 tools/proved.py --check    says whether they are up to date; tools/compare_examples.sh runs it
 
 A call's sentence is the first of its doc comment, and a clause's the comment right above it. Neither is proved: the clause is. A call
@@ -15,6 +16,7 @@ import api_docs
 
 ROOT = pathlib.Path(__file__).resolve().parent.parent
 FOLDER = ROOT / "docs/promises"
+ARCHITECTURE = ROOT / "docs/ARCHITECTURE.md"
 # Crates with calls that somebody calls from outside: the public ones, and those behind the programs.
 CRATES = [*api_docs.PUBLIC, "cached_server", "cached_config", "transcript_program", "audit_text", "memcache_lines", "memcache_model"]
 MADE = "<!-- Made by tools/proved.py from the sources. Change the doc comments and the comments at clauses there. -->"
@@ -141,6 +143,21 @@ def page(house, about, items):
     return spaced(parts) + "\n", count
 
 
+def with_crates(text):
+    """ARCHITECTURE.md with its table of crates, house by house."""
+    rows = ["| Crate | Contents |", "|-|-|"]
+    for house, about, crates in houses():
+        rows.append(f"| **{house}** | *{about}* |")
+        for crate in crates:
+            source = next(file for file in (ROOT / f"crates/{crate}/src/{name}.rt" for name in ("lib", "main")) if file.exists())
+            docs = [line[3:].removeprefix(" ") for line in source.read_text(encoding="utf-8").split("\n") if line.startswith("//!")]
+            name = f"[`{crate}`](../crates/{crate}/README.md)" if (source.parent.parent / "README.md").exists() else f"`{crate}`"
+            told = " ".join(docs[: docs.index("")] if "" in docs else docs)
+            rows.append(f"| {name}{', public' if crate in api_docs.PUBLIC else ''} | {told} |")
+    table = "\n".join(["<!-- crates: made by tools/proved.py -->", "", *rows, "", "<!-- end of crates -->"])
+    return re.sub(r"(?s)<!-- crates: .*?<!-- end of crates -->", lambda _: table, text)
+
+
 def wrong_bodies():
     """The page of the edits that the prover has to refuse."""
     edits = {}
@@ -159,15 +176,15 @@ def wrong_bodies():
 
 
 def pages():
-    """The pages by their names."""
+    """The texts by their files."""
     items, made, rows = exported(), {}, []
     for house, about, crates in houses():
         own = [found for found in items if found[0].module.crate.name in crates]
         if own:
-            made[f"{house}.md"], count = page(house, about, own)
+            made[FOLDER / f"{house}.md"], count = page(house, about, own)
             rows.append(f"| [{house}]({house}.md) | {about} | {' | '.join(map(str, count))} |")
-    made["wrong_bodies.md"] = wrong_bodies()
-    made["README.md"] = spaced([
+    made[FOLDER / "wrong_bodies.md"] = wrong_bodies()
+    made[FOLDER / "README.md"] = spaced([
         ["# Promises, call by call"],
         [MADE],
         ["Each row is a call of a public crate, or of one behind a program: the first sentence that its source says of it, and the names of"
@@ -178,24 +195,25 @@ def pages():
          " clauses beside the trait's. [PROVED.md](../PROVED.md) says what clauses mean together, and what is open."],
         ["| House | About | Calls with clauses | Clauses | Calls without |", "|-|-|-|-|-|", *rows],
     ]) + "\n"
+    made[ARCHITECTURE] = with_crates(ARCHITECTURE.read_text(encoding="utf-8"))
     return made
 
 
 def main():
     made = pages()
+    there = {file: file.read_text(encoding="utf-8") for file in [*FOLDER.glob("*.md"), ARCHITECTURE]}
+    old = sorted(str(file.relative_to(ROOT)) for file in {*made, *there} if made.get(file) != there.get(file))
     if sys.argv[1:] == ["--check"]:
-        there = {file.name: file.read_text(encoding="utf-8") for file in FOLDER.glob("*.md")}
-        old = sorted(name for name in {*made, *there} if made.get(name) != there.get(name))
         if old:
-            sys.exit(f"docs/promises is not up to date ({', '.join(old)}): python3 tools/proved.py")
+            sys.exit(f"not up to date: {', '.join(old)}; python3 tools/proved.py makes them anew")
     elif sys.argv[1:]:
         sys.exit(__doc__)
     else:
         FOLDER.mkdir(exist_ok=True)
-        for file in FOLDER.glob("*.md"):
+        for file in there.keys() - made.keys():
             file.unlink()
-        for name, text in made.items():
-            (FOLDER / name).write_text(text, encoding="utf-8")
+        for file, text in made.items():
+            file.write_text(text, encoding="utf-8")
 
 
 if __name__ == "__main__":
