@@ -52,24 +52,10 @@ same "docs/man/cached.toml.5's keys and docs/PROTOCOL.md's" \
 # The gate checks it: the stored run of cached_check reads a copy.
 same "docs/cached.toml and crates/cached_check/data/cached.toml" "$(cat docs/cached.toml)" "$(cat crates/cached_check/data/cached.toml)"
 
-# FROM_MOKA.md: each of our examples is a region of a module that crates/sync_tests proves and runs, and each region is shown, or its file linked.
-uses=crates/sync_tests/src/uses
-region() { # name
-    awk -v head="// example: $1" '$0 == head { on = 1; next } $0 == "// end" { on = 0 } on' "$uses"/*.rt
-}
-shown=$(sed -n 's/^<!-- example: \(.*\) -->$/\1/p' docs/FROM_MOKA.md)
-linked=$(for file in $(grep -o "$uses/[a-z]*\.rt" docs/FROM_MOKA.md | sort -u); do sed -n 's|^// example: ||p' "$file"; done)
-same "the names of docs/FROM_MOKA.md's examples and of $uses's regions" \
-    "$(printf '%s\n' $shown $linked | sort -u)" "$(sed -n 's|^// example: ||p' "$uses"/*.rt | sort)"
-for name in $shown; do
-    same "docs/FROM_MOKA.md's example $name and its region in $uses" \
-        "$(block docs/FROM_MOKA.md "<!-- example: $name -->" '```rust')" "$(region "$name")"
-done
-
 # The pictures and the tables of figures are those that the file of figures gives.
 PYTHONDONTWRITEBYTECODE=1 python3 benches/plots.py check
 
-# The pages of promises are those that the sources give.
+# The pages of promises, the table of crates and FROM_MOKA.md's examples are those that the sources give.
 python3 -B tools/proved.py --check
 
 # The documents' links lead somewhere.

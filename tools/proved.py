@@ -1,8 +1,9 @@
 #!/usr/bin/env python3
 """Makes docs/promises from the sources: for each public call, the names of its clauses and what the sources say of it; and the wrong bodies.
-Makes the table of crates in docs/ARCHITECTURE.md from the first lines of the crates' roots.
+Makes the table of crates in docs/ARCHITECTURE.md from the first lines of the crates' roots, and the examples of docs/FROM_MOKA.md from the
+regions between `// example: NAME` and `// end` of the modules that crates/sync_tests proves and runs.
 
-    python3 tools/proved.py            writes the pages, one a house, that of the wrong bodies, an index, and the table
+    python3 tools/proved.py            writes the pages, one a house, that of the wrong bodies, an index, the table, the examples
     python3 tools/proved.py --check    says whether they are up to date; tools/compare_examples.sh runs it
 
 A call's sentence is the first of its doc comment, and a clause's the comment right above it. Neither is proved: the clause is. A call
@@ -17,6 +18,8 @@ import api_docs
 ROOT = pathlib.Path(__file__).resolve().parent.parent
 FOLDER = ROOT / "docs/promises"
 ARCHITECTURE = ROOT / "docs/ARCHITECTURE.md"
+FROM_MOKA = ROOT / "docs/FROM_MOKA.md"
+USES = "crates/sync_tests/src/uses"
 # Crates with calls that somebody calls from outside: the public ones, and those behind the programs.
 CRATES = [*api_docs.PUBLIC, "cached_server", "cached_config", "transcript_program", "audit_text", "memcache_lines", "memcache_model"]
 MADE = "<!-- Made by tools/proved.py from the sources. Change the doc comments and the comments at clauses there. -->"
@@ -158,6 +161,19 @@ def with_crates(text):
     return re.sub(r"(?s)<!-- crates: .*?<!-- end of crates -->", lambda _: table, text)
 
 
+def with_examples(text):
+    """FROM_MOKA.md with its examples. Each region of the uses is shown there, or its file is linked."""
+    regions, linked = {}, set()
+    for file in sorted((ROOT / USES).glob("*.rt")):
+        found = dict(re.findall(r"(?ms)^// example: (\w+)\n(.*?)^// end$", file.read_text(encoding="utf-8")))
+        regions.update(found)
+        linked |= found.keys() if f"{USES}/{file.name}" in text else set()
+    shown = set(re.findall(r"(?m)^<!-- example: (\w+) -->$", text))
+    if regions.keys() != shown | linked:
+        sys.exit(f"docs/FROM_MOKA.md shows or links other examples than {USES} has: {', '.join(sorted(regions.keys() ^ (shown | linked)))}")
+    return re.sub(r"(?ms)^<!-- example: (\w+) -->\n```rust\n.*?^```$", lambda found: f"<!-- example: {found[1]} -->\n```rust\n{regions[found[1]]}```", text)
+
+
 def wrong_bodies():
     """The page of the edits that the prover has to refuse."""
     edits = {}
@@ -196,12 +212,13 @@ def pages():
         ["| House | About | Calls with clauses | Clauses | Calls without |", "|-|-|-|-|-|", *rows],
     ]) + "\n"
     made[ARCHITECTURE] = with_crates(ARCHITECTURE.read_text(encoding="utf-8"))
+    made[FROM_MOKA] = with_examples(FROM_MOKA.read_text(encoding="utf-8"))
     return made
 
 
 def main():
     made = pages()
-    there = {file: file.read_text(encoding="utf-8") for file in [*FOLDER.glob("*.md"), ARCHITECTURE]}
+    there = {file: file.read_text(encoding="utf-8") for file in [*FOLDER.glob("*.md"), ARCHITECTURE, FROM_MOKA]}
     old = sorted(str(file.relative_to(ROOT)) for file in {*made, *there} if made.get(file) != there.get(file))
     if sys.argv[1:] == ["--check"]:
         if old:
