@@ -29,7 +29,7 @@ def houses():
     """The houses of crates.txt, in order: the name, what it is about, its crates."""
     found = []
     for line in (ROOT / "crates.txt").read_text(encoding="utf-8").split("\n")[1:]:
-        head = re.match(r"# ([a-z]+): (.*)", line)
+        head = re.match(r"# ([a-z ]+): (.*)", line)
         if head and head.group(1) != (found[-1][0] if found else ""):
             found.append((head.group(1), head.group(2), []))
         elif ":" in line and not line.startswith("#"):
