@@ -20,6 +20,8 @@ FOLDER = ROOT / "docs/promises"
 ARCHITECTURE = ROOT / "docs/ARCHITECTURE.md"
 FROM_MOKA = ROOT / "docs/FROM_MOKA.md"
 USES = "crates/sync_tests/src/uses"
+# A clause without a name is shown by what it states, up to so many letters.
+SHORT = 100
 # Crates with calls that somebody calls from outside: the public ones, and those behind the programs.
 CRATES = [*api_docs.PUBLIC, "cached_server", "cached_config", "transcript_program", "audit_text", "memcache_lines", "memcache_model"]
 MADE = "<!-- Made by tools/proved.py from the sources. Change the doc comments and the comments at clauses there. -->"
@@ -50,22 +52,22 @@ def sentence(docs):
 
 
 def clauses_of(item):
-    """The clauses of a call: whether it is a premise, its name, what a comment right above it says, and the definition that
-    it begins with."""
+    """The clauses of a call: whether it is a premise, its name, what a comment right above it says, and what it states."""
     for text in api_docs.parts_of(item)[1]:
         lines = text.split("\n")
         told = " ".join(line.strip().lstrip("/ ") for line in lines if line.strip().startswith("//"))
         body = " ".join(line.strip() for line in lines if not line.strip().startswith("//"))
         kind, name, rest = re.match(r"(ensures|requires)\*? ?([A-Za-z_0-9]*) *(.*)", body).groups()
-        cited = re.match(r"\{ (?!If|On|At |Is(?:True|False|Some|None|Ok|Err))([A-Z][A-Za-z]+)\b(?!\.)", rest)
-        yield kind == "requires", name, told.rstrip("."), cited.group(1) if cited else ""
+        stated = re.sub(r"^\{ ?| ?\}$", "", rest)
+        yield kind == "requires", name, told.rstrip("."), stated
 
 
 def told(item):
     """The clauses of a call, in one cell."""
     needs, gives = [], []
-    for is_premise, name, comment, cited in clauses_of(item):
-        word = f"`{name or cited}`" if name or cited else "unnamed"
+    for is_premise, name, comment, stated in clauses_of(item):
+        short = stated if len(stated) <= SHORT else "unnamed"
+        word = f"`{name}`" if name else short if short == "unnamed" else "`" + short.replace("|", "\\|") + "`"
         (needs if is_premise else gives).append(word + (f" ({comment})" if comment else ""))
     return (f"*if* {', '.join(needs)}: " if needs else "") + ", ".join(gives)
 
@@ -206,7 +208,7 @@ def pages():
         ["Each row is a call of a public crate, or of one behind a program: the first sentence that its source says of it, and the names of"
          " its clauses. **Proved are the clauses**, and not the sentence, which may say more. The text of a clause stands at the call in"
          " `crates/` and, with links to the definitions that it cites, in the pages of the API (`python3 tools/api_docs.py FOLDER`). Behind"
-         " *if* stand premises, which a caller shows. A clause without a name goes by the definition with which it begins, if there is one."],
+         " *if* stand premises, which a caller shows. A short clause without a name is shown as it stands."],
         ["No contract says what a call without a clause does. A trait's calls at a type that implements it are listed where they have"
          " clauses beside the trait's. [PROVED.md](../PROVED.md) says what clauses mean together, and what is open."],
         ["| House | About | Calls with clauses | Clauses | Calls without |", "|-|-|-|-|-|", *rows],
