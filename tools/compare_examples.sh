@@ -20,11 +20,6 @@ same() { # what, one text, the other
     fi
 }
 
-# README: the example of the library is the one that crates/cache_tests proves and runs.
-same "README.md's example and crates/cache_tests/src/uses/example.rt" \
-    "$(block README.md '## Use as a library' '```rust')" \
-    "$(tail -n +2 crates/cache_tests/src/uses/example.rt)"
-
 # The protocol's example is the stored run of the program.
 example=$(block docs/PROTOCOL.md '## Example' '```')
 same "docs/PROTOCOL.md's example and crates/cached/stdin" \
@@ -55,7 +50,7 @@ same "docs/cached.toml and crates/cached_check/data/cached.toml" "$(cat docs/cac
 # The pictures and the tables of figures are those that the file of figures gives.
 PYTHONDONTWRITEBYTECODE=1 python3 benches/plots.py check
 
-# The pages of promises, the table of crates and FROM_MOKA.md's examples are those that the sources give.
+# The pages of promises, the table of crates and the examples in Rattle are those that the sources give.
 python3 -B tools/proved.py --check
 
 # The documents' links lead somewhere.

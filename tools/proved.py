@@ -1,7 +1,8 @@
 #!/usr/bin/env python3
 """Makes docs/promises from the sources: for each public call, the names of its clauses and what the sources say of it; and the wrong bodies.
-Makes the table of crates in docs/ARCHITECTURE.md from the first lines of the crates' roots, and the examples of docs/FROM_MOKA.md from the
-regions between `// example: NAME` and `// end` of the modules that crates/sync_tests proves and runs.
+Makes the table of crates in docs/ARCHITECTURE.md from the first lines of the crates' roots, the examples of docs/FROM_MOKA.md from the
+regions between `// example: NAME` and `// end` of the modules that crates/sync_tests proves and runs, and that of README.md from
+crates/cache_tests/src/uses/example.rt.
 
     python3 tools/proved.py            writes the pages, one a house, that of the wrong bodies, an index, the table, the examples
     python3 tools/proved.py --check    says whether they are up to date; tools/compare_examples.sh runs it
@@ -19,6 +20,7 @@ ROOT = pathlib.Path(__file__).resolve().parent.parent
 FOLDER = ROOT / "docs/promises"
 ARCHITECTURE = ROOT / "docs/ARCHITECTURE.md"
 FROM_MOKA = ROOT / "docs/FROM_MOKA.md"
+README = ROOT / "README.md"
 USES = "crates/sync_tests/src/uses"
 # A clause without a name is shown by what it states, up to so many letters.
 SHORT = 100
@@ -176,6 +178,12 @@ def with_examples(text):
     return re.sub(r"(?ms)^<!-- example: (\w+) -->\n```rust\n.*?^```$", lambda found: f"<!-- example: {found[1]} -->\n```rust\n{regions[found[1]]}```", text)
 
 
+def with_service(text):
+    """README.md with its example, a module without its first line."""
+    code = (ROOT / "crates/cache_tests/src/uses/example.rt").read_text(encoding="utf-8").split("\n", 1)[1]
+    return re.sub(r"(?s)(<!-- example: service -->\n```rust\n).*?```", lambda found: f"{found[1]}{code.strip(chr(10))}\n```", text)
+
+
 def wrong_bodies():
     """The page of the edits that the prover has to refuse."""
     edits = {}
@@ -215,12 +223,13 @@ def pages():
     ]) + "\n"
     made[ARCHITECTURE] = with_crates(ARCHITECTURE.read_text(encoding="utf-8"))
     made[FROM_MOKA] = with_examples(FROM_MOKA.read_text(encoding="utf-8"))
+    made[README] = with_service(README.read_text(encoding="utf-8"))
     return made
 
 
 def main():
     made = pages()
-    there = {file: file.read_text(encoding="utf-8") for file in [*FOLDER.glob("*.md"), ARCHITECTURE, FROM_MOKA]}
+    there = {file: file.read_text(encoding="utf-8") for file in [*FOLDER.glob("*.md"), ARCHITECTURE, FROM_MOKA, README]}
     old = sorted(str(file.relative_to(ROOT)) for file in {*made, *there} if made.get(file) != there.get(file))
     if sys.argv[1:] == ["--check"]:
         if old:
