@@ -1,3 +1,5 @@
+pub mod Twice
+pub mod Calling
 pub mod Gathered
 pub mod Telling
 pub mod Scripting

@@ -4,6 +4,8 @@ use Rattle.cache_run.specs.Devices.Failures.{HasFailed}
 use Rattle.cache_run.specs.Devices.Sent.{SentBut}
 use Rattle.cache_run.specs.Devices.Watched.{device, failures}
 use Rattle.cache_run.specs.declared.devices.watched.Watched.{Watched}
+use Rattle.cached_config.specs.declared.listed.ConfigError.{ConfigError}
+use Rattle.cached_config.specs.declared.listed.ConfigError.TheVariants as config
 use Rattle.cached_server.specs.declared.script.faults.Fault.{Fault}
 use Rattle.cached_server.specs.declared.script.faults.Fault.TheVariants as fault
 
@@ -15,6 +17,11 @@ fault_message fault.OutOfMemory = codes "cached: out of memory\n"
 fault_message fault.UsedUp = codes "cached: used up\n"
 fault_message fault.BadConfiguration = codes "cached: bad configuration\n"
 fault_message fault.CannotListen = codes "cached: cannot listen\n"
+
+-- the fault for which a file is not taken
+abbrev pub fault_for : ConfigError → Fault
+fault_for (config.Bad first) = fault.BadConfiguration
+fault_for config.OutOfMemory = fault.OutOfMemory
 
 -- how the program is called
 abbrev pub usage_text : List ℕ

@@ -1,11 +1,10 @@
 //! Why the program ends before its time, and what it then writes.
-ghost use Rattle.std.specs.Prelude.{◌≡◌, ◌≢◌, ◌⊎◌, codes};
+ghost use Rattle.std.specs.Prelude.{◌≡◌, ◌≢◌, ◌++◌, codes};
 ghost use Rattle.cache_run.specs.Devices.Watched.{device, failures};
 ghost use Rattle.cached_server.specs.declared.script.faults.Fault.TheVariants as fault;
 ghost use Rattle.cached_server.specs.Script.Faults.{EndsTelling, Tells, fault_message, usage_text};
 
 use cache_run::{RunError, Watched, send};
-use cached_config::ConfigError;
 use std::alloc::AllocError;
 use std::io::{ErrorKind, Write};
 
@@ -34,21 +33,10 @@ impl From<AllocError> for Fault {
     }
 }
 
-impl From<ConfigError> for Fault {
-    ghost from_gives = { λ _ e. (e ≡ fault.BadConfiguration) ⊎ (e ≡ fault.OutOfMemory) };
-
-    fn from(e: ConfigError) -> Fault {
-        match e {
-            ConfigError::Bad => Fault::BadConfiguration,
-            ConfigError::OutOfMemory => Fault::OutOfMemory,
-        }
-    }
-}
-
 const USAGE: &[u8] = b"usage: cached --script | --config FILE\n";
 
 /// The text of a fault, with its line end.
-fn text_of(fault: Fault) -> &'static [u8]
+pub fn text_of(fault: Fault) -> &'static [u8]
     ensures { result.now ≡ fault_message fault }
 {
     match fault {
@@ -58,6 +46,16 @@ fn text_of(fault: Fault) -> &'static [u8]
         Fault::UsedUp => b"cached: used up\n",
         Fault::BadConfiguration => b"cached: bad configuration\n",
         Fault::CannotListen => b"cached: cannot listen\n",
+    }
+}
+
+/// Writes two texts, the second only if the first was written whole. What cannot be written is lost.
+pub fn send_both<E: Write>(first: &[u8], second: &[u8], errors: &mut Watched<E>)
+    ensures { Tells (first.now ++ second.now) (E.contents (device errors.old))
+        (E.contents (device errors.new)) (failures errors.old) (failures errors.new) }
+{
+    if send(first, errors).is_ok() {
+        let _ = send(second, errors);
     }
 }
 
