@@ -4,7 +4,7 @@ ghost use Rattle.cache_run.specs.Devices.Watched.{device, failures};
 ghost use Rattle.cached_server.specs.declared.script.faults.Fault.TheVariants as fault;
 ghost use Rattle.cached_server.specs.Script.Faults.{Tells, fault_for, fault_message};
 
-use crate::script::{Fault, send_both, text_of};
+use crate::script::{Fault, tell_both, text_of};
 use cache_run::Watched;
 use cached_config::{ConfigError, ConfigFault, Unread};
 use std::alloc::{AllocError, Global};
@@ -95,8 +95,8 @@ impl Ending {
             (failures errors.new) }
     {
         match self.cause.line(alloc, path) {
-            Ok(line) => send_both(text_of(self.fault), line.as_bytes(), errors),
-            Err(_) => send_both(text_of(self.fault), b"", errors),
+            Ok(line) => tell_both(text_of(self.fault), line.as_bytes(), errors),
+            Err(_) => tell_both(text_of(self.fault), b"", errors),
         }
         1
     }

@@ -1,5 +1,5 @@
 //! Why the program ends before its time, and what it then writes.
-ghost use Rattle.std.specs.Prelude.{◌≡◌, ◌≢◌, ◌++◌, codes};
+ghost use Rattle.std.specs.Prelude.{◌≡◌, ◌≢◌, ◌≤◌, ◌++◌, codes};
 ghost use Rattle.cache_run.specs.Devices.Watched.{device, failures};
 ghost use Rattle.cached_server.specs.declared.script.faults.Fault.TheVariants as fault;
 ghost use Rattle.cached_server.specs.Script.Faults.{EndsTelling, Tells, fault_message, usage_text};
@@ -49,13 +49,23 @@ pub fn text_of(fault: Fault) -> &'static [u8]
     }
 }
 
+/// Writes a text. What cannot be written is lost.
+fn tell<E: Write>(text: &[u8], errors: &mut Watched<E>)
+    ensures told { Tells text.now (E.contents (device errors.old)) (E.contents (device errors.new))
+        (failures errors.old) (failures errors.new) }
+    ensures later { failures errors.old ≤ failures errors.new }
+{
+    let _ = send(text, errors);
+}
+
 /// Writes two texts, the second only if the first was written whole. What cannot be written is lost.
-pub fn send_both<E: Write>(first: &[u8], second: &[u8], errors: &mut Watched<E>)
+pub fn tell_both<E: Write>(first: &[u8], second: &[u8], errors: &mut Watched<E>)
     ensures { Tells (first.now ++ second.now) (E.contents (device errors.old))
         (E.contents (device errors.new)) (failures errors.old) (failures errors.new) }
 {
-    if send(first, errors).is_ok() {
-        let _ = send(second, errors);
+    match send(first, errors) {
+        Ok(()) => tell(second, errors),
+        Err(_) => (),
     }
 }
 
@@ -65,7 +75,7 @@ pub fn fail<E: Write>(errors: &mut Watched<E>, fault: Fault) -> u8
     ensures told { Tells (fault_message fault) (E.contents (device errors.old))
         (E.contents (device errors.new)) (failures errors.old) (failures errors.new) }
 {
-    let _ = send(text_of(fault), errors);
+    tell(text_of(fault), errors);
     1
 }
 
@@ -79,7 +89,7 @@ pub fn without_words<E: Write>(cause: ErrorKind, errors: &mut Watched<E>) -> u8
     if cause == ErrorKind::OutOfMemory {
         return fail(errors, Fault::OutOfMemory);
     }
-    let _ = send(USAGE, errors);
+    tell(USAGE, errors);
     2
 }
 
