@@ -1,3 +1,4 @@
+pub mod Ending
 pub mod Twice
 pub mod Calling
 pub mod Gathered

@@ -3,7 +3,7 @@ ghost use Rattle.std.specs.Prelude.{◌≡◌, ◌≢◌, ◌≤◌, ◌⊎◌, 
 ghost use Rattle.toml.specs.Parse.{parse_document};
 ghost use Rattle.cache_run.specs.Devices.Watched.{device, failures};
 ghost use Rattle.cached_server.specs.Script.Called.{call_of};
-ghost use Rattle.cached_server.specs.Script.Faults.{EndsTelling, Tells, fault_message, usage_text};
+ghost use Rattle.cached_server.specs.Script.Faults.{EndsCallBy, MayEnd, Tells, fault_message, usage_text};
 ghost use Rattle.cached_server.specs.Script.Scripts.{ServesStreams};
 
 use crate::announcing::{Outlet, Scribe};
@@ -49,10 +49,10 @@ where
         (E.contents (device errors.new)) (failures errors.old) (failures errors.new) }
     ensures unread { result ≡ 2 → reader.new ≡ reader.old }
     ensures unwritten { result ≡ 2 → writer.new ≡ writer.old }
-    // 2 only for bad words, and bad words always, unless memory runs out
-    ensures words { result ≡ 2 → call_of (map S.text words.now) ≡ None }
-    ensures bad { call_of (map S.text words.now) ≡ None → (result ≡ 2)
-        ⊎ EndsTelling E.contents result 1 (fault_message Fault.OutOfMemory) errors.old errors.new }
+    // 2 only of bad words, 0 only of a script
+    ensures words { MayEnd (call_of (map S.text words.now)) result }
+    ensures stopped { result ≡ 1 → EndsCallBy (call_of (map S.text words.now)) E.contents
+        reader.old reader.new writer.old writer.new errors.old errors.new }
 {
     match take_words(alloc, words) {
         Ok(Chosen::Script) => run_script(alloc, reader, writer, errors),

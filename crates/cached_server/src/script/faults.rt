@@ -2,7 +2,7 @@
 ghost use Rattle.std.specs.Prelude.{◌≡◌, ◌≢◌, ◌≤◌, ◌++◌, codes};
 ghost use Rattle.cache_run.specs.Devices.Watched.{device, failures};
 ghost use Rattle.cached_server.specs.declared.script.faults.Fault.TheVariants as fault;
-ghost use Rattle.cached_server.specs.Script.Faults.{EndsTelling, Tells, fault_message, usage_text};
+ghost use Rattle.cached_server.specs.Script.Faults.{EndsTelling, Tells, fault_after, fault_message, usage_text};
 
 use cache_run::{RunError, Watched, send};
 use std::alloc::AllocError;
@@ -74,6 +74,7 @@ pub fn fail<E: Write>(errors: &mut Watched<E>, fault: Fault) -> u8
     ensures status { result ≡ 1 }
     ensures told { Tells (fault_message fault) (E.contents (device errors.old))
         (E.contents (device errors.new)) (failures errors.old) (failures errors.new) }
+    ensures later { failures errors.old ≤ failures errors.new }
 {
     tell(text_of(fault), errors);
     1
@@ -95,10 +96,7 @@ pub fn without_words<E: Write>(cause: ErrorKind, errors: &mut Watched<E>) -> u8
 
 /// Why the program ends after a connection ended with an error.
 pub fn fault_of(error: RunError) -> Fault
-    ensures read { error ≡ RunError.Read → result ≡ Fault.Read }
-    ensures write { error ≡ RunError.Write → result ≡ Fault.Write }
-    ensures memory { error ≡ RunError.OutOfMemory → result ≡ Fault.OutOfMemory }
-    ensures used_up { error ≡ RunError.UsedUp → result ≡ Fault.UsedUp }
+    ensures { result ≡ fault_after error }
 {
     match error {
         RunError::Read => Fault::Read,
