@@ -1,4 +1,7 @@
+use Rattle.cached_server.proofs.script.Ending.{ends-alone}
 use Rattle.cached_server.proofs.script.Scripting.{both-ok, script-served, where-ok}
+use Rattle.cached_server.proofs.script.Stopping.{script-stopped}
+use Rattle.cached_server.specs.declared.script.faults.Fault.TheVariants as fault
 use Rattle.cached_server.proofs.script.program.run_script.Goals as goal
 
 pub returns-in-Ok-and-clause-served : goal.returns-in-Ok-and-clause-served
@@ -6,3 +9,7 @@ returns-in-Ok-and-clause-served g c = λ zero.
     let well = both-ok c.run-ran.result c.tell_notes-told.result c.and.result _ c.and.ensures c.in-Ok-and.is in
     script-served _ _ _ _ _ _ _ _ _ _ _ c.in-Ok-new.service c.run-ran.new.service _ c.in-Ok-new.ensures.made c.sound.ensures (where-ok c.run-ran.result well.0 c.run-ran.ensures.ok)
     (where-ok c.tell_notes-told.result well.1 c.tell_notes-told.ensures.told)
+
+pub returns-in-Err-and-clause-stopped : goal.returns-in-Err-and-clause-stopped
+returns-in-Err-and-clause-stopped g c = λ one.
+    script-stopped _ _ _ _ _ c.run-ran.result c.tell_notes-told.result c.and.result _ _ _ _ _ c.and.ensures c.in-Err-and.is c.run-ran.ensures.read c.run-ran.ensures.write c.tell_notes-told.ensures.cause c.fail.ensures.later c.fault_of.ensures c.fail.ensures.told
