@@ -5,16 +5,16 @@ use Rattle.cached_server.proofs.script.Ending.{script-ends, script-stops, server
 use Rattle.cached_server.proofs.program.cached.Goals as goal
 
 pub returns-in-Ok-Script-clause-words : goal.returns-in-Ok-Script-clause-words
-returns-in-Ok-Script-clause-words g c = script-ends _ _ (c.in-Ok-Script.ensures.taken ∙ ap (λ (asked : Chosen). Some (path_of asked)) c.in-Ok-Script.is) c.run_script.ensures.status
+returns-in-Ok-Script-clause-words g c = script-ends _ _ (c.in-Ok-Script.ensures.taken ∙ ap (λ (asked : Chosen). Some (path_of asked)) c.in-Ok-Script.field-0-is) c.run_script.ensures.status
 
 pub returns-in-Ok-Script-clause-stopped : goal.returns-in-Ok-Script-clause-stopped
-returns-in-Ok-Script-clause-stopped g c = λ one. script-stops _ _ _ _ _ _ _ _ (c.in-Ok-Script.ensures.taken ∙ ap (λ (asked : Chosen). Some (path_of asked)) c.in-Ok-Script.is) (c.run_script.ensures.stopped one)
+returns-in-Ok-Script-clause-stopped g c = λ one. script-stops _ _ _ _ _ _ _ _ (c.in-Ok-Script.ensures.taken ∙ ap (λ (asked : Chosen). Some (path_of asked)) c.in-Ok-Script.field-0-is) (c.run_script.ensures.stopped one)
 
 pub returns-in-Ok-Config-clause-words : goal.returns-in-Ok-Config-clause-words
-returns-in-Ok-Config-clause-words g c = server-ends _ _ _ (c.in-Ok-Config.ensures.taken ∙ ap (λ (asked : Chosen). Some (path_of asked)) c.in-Ok-Config.is) c.serve_config.ensures.status
+returns-in-Ok-Config-clause-words g c = server-ends _ _ _ (c.in-Ok-Config.ensures.taken ∙ ap (λ (asked : Chosen). Some (path_of asked)) c.in-Ok-Config.field-0-is) c.serve_config.ensures.status
 
 pub returns-in-Ok-Config-clause-stopped : goal.returns-in-Ok-Config-clause-stopped
-returns-in-Ok-Config-clause-stopped g c = λ one. server-stops _ _ _ _ _ _ _ _ _ (c.in-Ok-Config.ensures.taken ∙ ap (λ (asked : Chosen). Some (path_of asked)) c.in-Ok-Config.is) c.serve_config.ensures.told
+returns-in-Ok-Config-clause-stopped g c = λ one. server-stops _ _ _ _ _ _ _ _ _ (c.in-Ok-Config.ensures.taken ∙ ap (λ (asked : Chosen). Some (path_of asked)) c.in-Ok-Config.field-0-is) c.serve_config.ensures.told
 
 pub returns-in-Err-clause-words : goal.returns-in-Err-clause-words
 returns-in-Err-clause-words g c = wordless-ends _ _ _ c.in-Err.ensures.refused (λ e. (c.without_words.ensures.memory e).0) (λ e. (c.without_words.ensures.other e).0)
