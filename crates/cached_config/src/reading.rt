@@ -7,7 +7,8 @@ ghost use Rattle.cached_config.specs.Good.{are_good};
 ghost use Rattle.cached_config.specs.Said.{IsConfigOf, Says, SaysAll, SaysLimits, SaysSpace, SaysSpaces, loads_table, said_or};
 
 use crate::good::{MOST, are_good};
-use crate::listed::{ConfigError, ConfigFault, ConfigReport, HostedNamespace, Listed};
+use crate::hosting::{HOSTING_KEYS, bind_in, connections_in, idle_in, loops_in, mode_in};
+use crate::listed::{ConfigError, ConfigFault, ConfigReport, HostedNamespace, Hosting, Listed};
 use crate::places::{Part, line_at, line_of_header, line_of_key, line_outside};
 use crate::values::{
     at_key, capacity_in, deadlines_in, load_in, name_in, parts_in, policy_in, port_in, time_in,
@@ -33,6 +34,22 @@ const KEYS: [&str; 10] = [
     "loads",
 ];
 
+/// A program that reads configuration files. Each knows its own keys.
+#[derive(Clone, Copy, Debug, PartialEq, Eq, Drop)]
+enum Program {
+    /// `cached`: the keys of `read_config`.
+    Cached,
+    /// `bivrangd`: also those of `read_hosted`.
+    Bivrangd,
+}
+
+/// The namespaces of a configuration file, and how each is hosted, in the same order.
+#[derive(Drop)]
+pub struct Hosted {
+    pub spaces: Vec<HostedNamespace>,
+    pub hostings: Vec<Hosting>,
+}
+
 /// Returns the namespaces of a configuration file, in its order.
 ///
 /// The file is TOML: tables `[[namespace]]`, 1 to 16, each with `name` and `port`, both different from the others', and optionally
@@ -44,9 +61,29 @@ pub fn read_config(alloc: Global, text: &str) -> Result<Vec<HostedNamespace>, Co
     ensures said { IfOk result (λ spaces. IsConfigOf text.now spaces.items) }
     ensures text { parse_document text.now ≡ None → IsErr result }
 {
-    let Read { spaces, report } = read_text(alloc, text)?;
+    let Read { spaces, report, .. } = read_text(alloc, text, Program::Cached)?;
     if report.faults.is_empty() {
         Ok(spaces)
+    } else {
+        Err(ConfigError::Bad)
+    }
+}
+
+/// Like `read_config`, for `bivrangd`. In addition a namespace may have `bind` (an IP address, by default 127.0.0.1, or the path of a Unix
+/// socket, of at most 107 bytes), `mode` (the permissions of that socket, by default `"660"`), `loops` (1 to 64, by default 2),
+/// `max_connections` (1 to 1,000,000, by default 10,000) and `idle_s` (1 to 86,400,000; by default idle connections stay).
+pub fn read_hosted(alloc: Global, text: &str) -> Result<Hosted, ConfigError>
+    ensures ok { IfOk result (λ hosted. IsTrue (are_good hosted.spaces.items)) }
+    ensures said { IfOk result (λ hosted. IsConfigOf text.now hosted.spaces.items) }
+    ensures text { parse_document text.now ≡ None → IsErr result }
+{
+    let Read {
+        spaces,
+        hostings,
+        report,
+    } = read_text(alloc, text, Program::Bivrangd)?;
+    if report.faults.is_empty() {
+        Ok(Hosted { spaces, hostings })
     } else {
         Err(ConfigError::Bad)
     }
@@ -64,18 +101,29 @@ pub fn check_config(alloc: Global, text: &str) -> Result<ConfigReport, AllocErro
     ensures good { IfOk result (λ report. report.faults.items ≡ [] → (spaces : List HostedNamespace)
         × IsTrue (are_good spaces) × IsConfigOf text.now spaces) }
 {
-    Ok(read_text(alloc, text)?.report)
+    Ok(read_text(alloc, text, Program::Cached)?.report)
+}
+
+/// Like `check_config`, for what `read_hosted` accepts.
+pub fn check_hosted(alloc: Global, text: &str) -> Result<ConfigReport, AllocError>
+    ensures text { parse_document text.now ≡ None
+        → IfOk result (λ report. report.faults.items ≢ []) }
+    ensures good { IfOk result (λ report. report.faults.items ≡ [] → (spaces : List HostedNamespace)
+        × IsTrue (are_good spaces) × IsConfigOf text.now spaces) }
+{
+    Ok(read_text(alloc, text, Program::Bivrangd)?.report)
 }
 
 /// What was read of a text. Without faults a file may have these namespaces.
 #[derive(Drop)]
 struct Read {
     spaces: Vec<HostedNamespace>,
+    hostings: Vec<Hosting>,
     report: ConfigReport,
 }
 
 /// Reads a text.
-fn read_text(alloc: Global, text: &str) -> Result<Read, AllocError>
+fn read_text(alloc: Global, text: &str, program: Program) -> Result<Read, AllocError>
     ensures good { IfOk result
         (λ read. read.report.faults.items ≡ [] → IsTrue (are_good read.spaces.items)) }
     ensures said { IfOk result
@@ -84,6 +132,8 @@ fn read_text(alloc: Global, text: &str) -> Result<Read, AllocError>
     let mut reader = Reader {
         alloc,
         text,
+        program,
+        hostings: Vec::new(alloc),
         faults: Vec::new(alloc),
         warnings: Vec::new(alloc),
     };
@@ -92,6 +142,7 @@ fn read_text(alloc: Global, text: &str) -> Result<Read, AllocError>
         reader.add(1, "bad configuration")?;
     }
     let Reader {
+        hostings,
         mut faults,
         warnings,
         ..
@@ -99,6 +150,7 @@ fn read_text(alloc: Global, text: &str) -> Result<Read, AllocError>
     faults.sort_by_key(|fault| fault.line)?;
     Ok(Read {
         spaces,
+        hostings,
         report: ConfigReport { faults, warnings },
     })
 }
@@ -115,6 +167,8 @@ struct At<'a> {
 struct Reader<'a> {
     alloc: Global,
     text: &'a str,
+    program: Program,
+    hostings: Vec<Hosting>,
     faults: Vec<ConfigFault>,
     warnings: Vec<ConfigFault>,
 }
@@ -251,6 +305,7 @@ impl Reader<'_> {
         let at = At { place, table };
         self.known(at)?;
         let space = self.space(at)?;
+        self.hosting(at)?;
         self.twins(at, before)?;
         Ok(Some(space))
     }
@@ -260,11 +315,36 @@ impl Reader<'_> {
         ensures { OnOk result (vec_len self.old.faults ≤ vec_len self.new.faults) }
     {
         for key in at.table.keys() {
-            if !KEYS.contains(&key.as_str()) {
+            if !KEYS.contains(&key.as_str()) && !self.knows_more(key.as_str()) {
                 let line = line_of_key(self.text, at.place, Part::Own, key.as_str());
                 self.unknown(line, key.as_str(), &KEYS)?;
             }
         }
+        Ok(())
+    }
+
+    /// Whether the program knows a key that not all know.
+    fn knows_more(&self, key: &str) -> bool {
+        self.program == Program::Bivrangd && HOSTING_KEYS.contains(&key)
+    }
+
+    /// Reads how a namespace is hosted.
+    fn hosting(&mut self, at: At<'_>) -> Result<(), AllocError>
+        ensures { OnOk result (vec_len self.old.faults ≤ vec_len self.new.faults) }
+    {
+        let bind = self.said(at, "bind", bind_in(at.table), "")?;
+        let mode = self.said(at, "mode", mode_in(at.table), 0)?;
+        let loops = self.said(at, "loops", loops_in(at.table), 1)?;
+        let connections = self.said(at, "max_connections", connections_in(at.table), 1)?;
+        let idle = self.said(at, "idle_s", idle_in(at.table), None)?;
+        let hosting = Hosting {
+            bind: String::from_str(self.alloc, bind)?,
+            mode,
+            loops,
+            connections,
+            idle,
+        };
+        self.hostings.push(hosting)?;
         Ok(())
     }
 

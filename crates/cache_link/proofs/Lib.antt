@@ -1,0 +1,4 @@
+pub mod Closing
+pub mod Dialogues
+pub mod Patience
+pub mod Serving

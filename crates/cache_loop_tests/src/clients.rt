@@ -1,0 +1,84 @@
+//! Clients of a server on a port of this machine.
+use cached_server::Machine;
+use std::io::{Read, Write};
+use std::net::{Ipv4Addr, Shutdown, SocketAddr, TcpListener, TcpStream};
+use std::thread;
+use std::time::Duration;
+
+/// How often a client tries to connect, 5 milliseconds apart.
+const TRIES: u32 = 2000;
+
+/// The address of a port of this machine.
+fn address(port: u16) -> SocketAddr {
+    SocketAddr::from((Ipv4Addr::LOCALHOST, port))
+}
+
+/// A port on which nobody listens.
+pub fn free_port<R: Machine>(rt: &R) -> Option<u16> {
+    let listener = TcpListener::bind(rt, address(0)).ok()?;
+    Some(listener.local_addr().ok()?.port())
+}
+
+/// Connects as soon as somebody listens. No read waits longer than 20 seconds.
+pub fn connect<R: Machine>(rt: &R, port: u16) -> Option<TcpStream> {
+    for _try in 0..TRIES {
+        if let Ok(stream) = TcpStream::connect(rt, address(port)) {
+            stream.set_read_timeout(Some(Duration::from_secs(20))).ok()?;
+            return Some(stream);
+        }
+        thread::sleep(rt, Duration::from_millis(5));
+    }
+    None
+}
+
+/// Sends a text.
+pub fn sends(stream: &mut TcpStream, text: &[u8]) -> bool {
+    stream.write_all(text).is_ok()
+}
+
+/// Says that nothing more is sent.
+pub fn ends(stream: &TcpStream) -> bool {
+    stream.shutdown(Shutdown::Write).is_ok()
+}
+
+/// Whether exactly these bytes are read next.
+pub fn reads(stream: &mut TcpStream, wanted: &[u8]) -> bool {
+    let mut rest = wanted;
+    let mut buffer = [0u8; 4096];
+    for _read in 0..wanted.len() {
+        if rest.is_empty() {
+            break;
+        }
+        let room = rest.len().min(buffer.len());
+        match stream.read(&mut buffer[..room]) {
+            Ok(0) | Err(_) => return false,
+            Ok(count) => {
+                if buffer[..count] != rest[..count] {
+                    return false;
+                }
+                rest = &rest[count..];
+            }
+        }
+    }
+    rest.is_empty()
+}
+
+/// Whether the text is answered so.
+pub fn asks(stream: &mut TcpStream, text: &[u8], wanted: &[u8]) -> bool {
+    sends(stream, text) && reads(stream, wanted)
+}
+
+/// Whether nothing more is read, and that is the end.
+pub fn is_at_end(stream: &mut TcpStream) -> bool {
+    matches!(stream.read(&mut [0u8; 1]), Ok(0))
+}
+
+/// Whether this many times these bytes are read next.
+pub fn reads_times(stream: &mut TcpStream, wanted: &[u8], times: u32) -> bool {
+    for _time in 0..times {
+        if !reads(stream, wanted) {
+            return false;
+        }
+    }
+    true
+}

@@ -1,0 +1,9 @@
+//! Tests of servers whose loops wait for many connections.
+#![tactic(auto)]
+
+#[cfg(test)]
+mod clients;
+#[cfg(test)]
+mod scenes;
+#[cfg(test)]
+mod servers;
