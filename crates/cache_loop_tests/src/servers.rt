@@ -7,13 +7,14 @@ use crossbeam_channel::{Sender, unbounded};
 use std::alloc::Global;
 use std::net::{Net, TcpListener, TcpStream};
 use std::random::RandomSource;
+use std::rt::Files;
 use std::sync::Wait;
 use std::thread;
 use std::thread::Threads;
 use std::time::Clock;
 
 /// Whether a scene comes out as it should with a server on a port, and the server ends well when it is told to stop.
-fn is_served<R: Machine>(rt: R, alloc: Global, port: u16, scene: Scene) -> Option<bool> {
+fn is_served<R: Machine + Files>(rt: R, alloc: Global, port: u16, scene: Scene) -> Option<bool> {
     let text = format!(in alloc;
         "[[namespace]]\nname = \"m\"\nport = {port}\n[namespace.loads]\nk = \"v\"\n"
     ).ok()?;
@@ -30,7 +31,7 @@ fn is_served<R: Machine>(rt: R, alloc: Global, port: u16, scene: Scene) -> Optio
 }
 
 /// The same with a free port.
-fn is_served_once<R: Machine>(rt: R, alloc: Global, scene: Scene) -> bool {
+fn is_served_once<R: Machine + Files>(rt: R, alloc: Global, scene: Scene) -> bool {
     match free_port(&rt) {
         Some(port) => is_served(rt, alloc, port, scene).unwrap_or(false),
         None => false,
@@ -42,6 +43,7 @@ fn all_come_out<R>(rt: R, alloc: Global, scenes: &[Scene]) -> bool
 where
     R: Net<Listener = TcpListener, Stream = TcpStream>
         + Clock
+        + Files
         + RandomSource
         + Threads
         + Wait
